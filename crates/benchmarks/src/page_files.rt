@@ -2,7 +2,7 @@
 
 ghost use Rattle.std.specs.Prelude.{◌≡◌, IsTrue, IfOk};
 ghost use Rattle.page_store.specs.ShelfState.{HasUnit, unit_file};
-ghost use Rattle.page_store.specs.Pages.{HasPages};
+ghost use Rattle.page_store.specs.Pages.{HoldsPages};
 
 use crate::arguments::number;
 use crate::measured_file::{file_name, shelf_over};
@@ -17,7 +17,9 @@ fn fill<S: Shelf>(shelf: &mut S, pages: u32) -> Result<Store, Fault>
     requires unit { HasUnit (S.state shelf.old) 0 }
     ensures unit { HasUnit (S.state shelf.new) 0 }
     ensures named { IfOk result (λ store. store.unit ≡ 0) }
-    ensures pages { IfOk result (λ store. IsTrue (S.state shelf.new).is_honest → HasPages store.pages (unit_file (S.state shelf.new) 0)) }
+    ensures pages { IfOk result
+        (λ store. IsTrue (S.state shelf.new).is_honest
+        → HoldsPages store.pages (unit_file (S.state shelf.new) 0)) }
 {
     let mut store = Store::make(shelf, 0)?;
     for n in 0..pages {
@@ -33,10 +35,12 @@ fn fill<S: Shelf>(shelf: &mut S, pages: u32) -> Result<Store, Fault>
 fn mix<S: Shelf>(shelf: &mut S, store: &mut Store, round: u32, start: u64) -> Result<u64, Fault>
     requires unit { HasUnit (S.state shelf.old) 0 }
     requires named { store.old.unit ≡ 0 }
-    requires pages { IsTrue (S.state shelf.old).is_honest → HasPages store.old.pages (unit_file (S.state shelf.old) 0) }
+    requires pages { IsTrue (S.state shelf.old).is_honest
+        → HoldsPages store.old.pages (unit_file (S.state shelf.old) 0) }
     ensures unit { HasUnit (S.state shelf.new) 0 }
     ensures named { store.new.unit ≡ 0 }
-    ensures pages { IsTrue (S.state shelf.new).is_honest → HasPages store.new.pages (unit_file (S.state shelf.new) 0) }
+    ensures pages { IsTrue (S.state shelf.new).is_honest
+        → HoldsPages store.new.pages (unit_file (S.state shelf.new) 0) }
 {
     let mut sum = start;
     let mut page = [0; 4096];
@@ -66,10 +70,12 @@ fn order(pages: u32, i: u32, round: u32) -> (u32, u32) {
 fn mix_rounds<S: Shelf>(shelf: &mut S, store: &mut Store, rounds: u32) -> Result<u64, Fault>
     requires unit { HasUnit (S.state shelf.old) 0 }
     requires named { store.old.unit ≡ 0 }
-    requires pages { IsTrue (S.state shelf.old).is_honest → HasPages store.old.pages (unit_file (S.state shelf.old) 0) }
+    requires pages { IsTrue (S.state shelf.old).is_honest
+        → HoldsPages store.old.pages (unit_file (S.state shelf.old) 0) }
     ensures unit { HasUnit (S.state shelf.new) 0 }
     ensures named { store.new.unit ≡ 0 }
-    ensures pages { IsTrue (S.state shelf.new).is_honest → HasPages store.new.pages (unit_file (S.state shelf.new) 0) }
+    ensures pages { IsTrue (S.state shelf.new).is_honest
+        → HoldsPages store.new.pages (unit_file (S.state shelf.new) 0) }
 {
     let mut sum = 0;
     for round in 0..rounds {

@@ -7,7 +7,7 @@ use Rattle.tree_node.specs.declared.shape.Shape.{Shape}
 use Rattle.page_bytes.specs.Each.{Each}
 use Rattle.pages.specs.PageMap.{PageMap}
 use Rattle.bplus_tree.specs.declared.collapse.Base.{Base}
-use Rattle.node_balance.specs.Fill.{least}
+use Rattle.node_balance.specs.Fill.{least_entries}
 use Rattle.tree_search.specs.Tree.{TreeOf, page_of, entries_of, pages_of, size_of, IsHalfFull, IsRooted, Bound, IsRow, IsOrdered}
 use Rattle.tree_search.specs.Stored.{Holds, IsInnerAt}
 use Rattle.pages.specs.Owners.{IsOutside, AreApart, ChangesPages}
@@ -41,7 +41,7 @@ collapsed_child : (shape : Shape) (before after : PageMap) (is_sound : Type 0) (
 collapsed_child shape before after is_sound k root child t tree apart filled collapse_inner =
     let one = only (IsOrdered shape.width k) t.1 t.2 collapse_inner.0 tree.ordered.1 in
     let x = one.child in
-    let full = subst (Each (λ c. (least shape k ≤ size_of k c) × IsHalfFull shape k c)) one.is filled in
+    let full = subst (Each (λ c. (least_entries shape k ≤ size_of k c) × IsHalfFull shape k c)) one.is filled in
     let kids : map (page_of k) t.2 ≡ page_of k x ∷ [] = ap (map (page_of k)) one.is in
     let is : page_of k x ≡ child = sym (collapse_inner.1 ∙ ap (λ (l : List ℕ). slice_index l 0) kids) in
     let own : flat_map (pages_of k) t.2 ≡ pages_of k x = ap (flat_map (pages_of k)) one.is ∙ append-nil (pages_of k x) in

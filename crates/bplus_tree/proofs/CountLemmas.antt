@@ -5,7 +5,7 @@ use Rattle.tree_node.specs.declared.shape.Shape.{Shape}
 use Rattle.page_bytes.specs.Each.{Each}
 use Rattle.tree_node.proofs.LeafLemmas.{leaf_room_some}
 use Rattle.tree_node.proofs.InnerLemmas.{inner_room_some}
-use Rattle.node_balance.specs.Fill.{least}
+use Rattle.node_balance.specs.Fill.{least_entries}
 use Rattle.tree_search.specs.Tree.{TreeOf, entries_of, size_of, IsHalfFull, Bound, IsRow, IsOrdered}
 use Rattle.bplus_tree.specs.Count.{fewest, HaveManyEntries}
 use Rattle.tree_search.proofs.RowLemmas.{row_length}
@@ -36,10 +36,10 @@ record IsChild (shape : Shape) (k : ℕ) (t : TreeOf k) : Type 0 where
   pub low : Bound
   pub high : Bound
   pub ordered : IsOrdered shape.width k low high t
-  pub full : (least shape k ≤ size_of k t) × IsHalfFull shape k t
+  pub full : (least_entries shape k ≤ size_of k t) × IsHalfFull shape k t
 
 children_are : (shape : Shape) (k : ℕ) (low : Bound) (ss : List (List ℕ)) (xs : List (TreeOf k)) (high : Bound) → IsRow (IsOrdered shape.width k) low ss xs high
-    → Each (λ c. (least shape k ≤ size_of k c) × IsHalfFull shape k c) xs → Each (IsChild shape k) xs
+    → Each (λ c. (least_entries shape k ≤ size_of k c) × IsHalfFull shape k c) xs → Each (IsChild shape k) xs
 children_are shape k low [] [] high row fill = tt
 children_are shape k low [] (x ∷ []) high row fill = (record { low = low; high = high; ordered = row; full = fill.0 }, tt)
 children_are shape k low [] (x ∷ y ∷ xs) high row fill = absurd row

@@ -21,7 +21,7 @@ use Rattle.tree_search.specs.declared.descent.Look.{Look}
 use Rattle.node_balance.specs.declared.separator.Separator.{Separator}
 use Rattle.bplus_tree.specs.declared.insert.Grown.{Grown}
 use Rattle.bplus_tree.specs.declared.insert.Grown.TheVariants.{Present, Added}
-use Rattle.node_balance.specs.Fill.{least}
+use Rattle.node_balance.specs.Fill.{least_entries}
 use Rattle.tree_search.specs.Tree.{TreeOf, page_of, entries_of, pages_of, size_of, Bound, NotBelow, Below, IsRow, IsOrdered}
 use Rattle.tree_search.specs.Stored.{Holds, IsLeafAt, IsInnerAt}
 use Rattle.bplus_tree.specs.Edits.{with_entry}
@@ -291,7 +291,7 @@ child_same shape before after k page low high e t step whole child new =
     new.changes (row.put new.tree new.stands.ordered) in
     let size = child.size in
     let large = new.large in
-    let full : least shape k ≤ size_of k new.tree = omega arith in
+    let full : least_entries shape k ≤ size_of k new.tree = omega arith in
     record {
       tree = (page, t.1, row.front ++ new.tree ∷ row.back);
       stands = put.stands;

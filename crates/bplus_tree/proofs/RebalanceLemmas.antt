@@ -9,7 +9,7 @@ use Rattle.page_bytes.specs.Each.{Each}
 use Rattle.tree_node.specs.Inner.{separators, children}
 use Rattle.pages.specs.PageMap.{PageMap}
 use Rattle.bplus_tree.specs.declared.rebalance.Pair.{Pair}
-use Rattle.node_balance.specs.Fill.{least}
+use Rattle.node_balance.specs.Fill.{least_entries}
 use Rattle.tree_search.specs.Tree.{TreeOf, page_of, entries_of, pages_of, pages_below, size_of, IsHalfFull, Bound, IsOrdered}
 use Rattle.tree_search.specs.Stored.{Holds, IsInnerAt}
 use Rattle.pages.specs.Owners.{AreApart, ChangesPages}
@@ -47,10 +47,10 @@ pub record Uneven (shape : Shape) (k : ℕ) (front : List (TreeOf k)) (left righ
   pub behind : Each (IsHalfFullWithRoot shape k) back
   pub filled_left : IsHalfFull shape k left
   pub filled_right : IsHalfFull shape k right
-  pub near_left : least shape k ≤ size_of k left + 1
-  pub near_right : least shape k ≤ size_of k right + 1
-  pub enough : least shape k ≤ size_of k left + size_of k right
-  pub uneven : size_of k left ≡ size_of k right → 2 * least shape k ≤ size_of k left + size_of k right → ⊥
+  pub near_left : least_entries shape k ≤ size_of k left + 1
+  pub near_right : least_entries shape k ≤ size_of k right + 1
+  pub enough : least_entries shape k ≤ size_of k left + size_of k right
+  pub uneven : size_of k left ≡ size_of k right → 2 * least_entries shape k ≤ size_of k left + size_of k right → ⊥
 
 uneven_first : (shape : Shape) (k : ℕ) (front : List (TreeOf k)) (left right : TreeOf k) (back : List (TreeOf k)) → Each (IsHalfFullWithRoot shape k) front × LacksOne shape k left × IsHalfFullWithRoot shape k right × Each (IsHalfFullWithRoot shape k) back
     → Uneven shape k front left right back
@@ -193,7 +193,7 @@ node_of shape pages (suc k) page t bytes holds is there =
 -- so the two can be balanced
 pub no_fault : (shape : Shape) (before : PageMap) (k page : ℕ) (low high : Bound) (t : TreeOf (suc k)) (pair : Pair) (left right : List ℕ) (found : Chosen shape before k page low high t pair)
     → before pair.lower ≡ Some left → before pair.upper ≡ Some right
-    → (IsNode shape k left → IsNode shape k right → (count_at shape k left ≡ count_at shape k right) × (2 * least shape k ≤ count_at shape k left + count_at shape k right)) → ⊥
+    → (IsNode shape k left → IsNode shape k right → (count_at shape k left ≡ count_at shape k right) × (2 * least_entries shape k ≤ count_at shape k left + count_at shape k right)) → ⊥
 no_fault shape before k page low high t pair left right found there there' fault =
     let l = node_of shape before k pair.lower found.row.left left found.left_holds found.lower there in
     let r = node_of shape before k pair.upper found.row.right right found.right_holds found.upper there' in
@@ -218,7 +218,7 @@ pub shared : (shape : Shape) (before late : PageMap) (k page : ℕ) (low high : 
     → IsTree shape before (suc k) page low high t → (found : Chosen shape before k page low high t pair)
     → before page ≡ Some node → before pair.lower ≡ Some left → before pair.upper ≡ Some right
     → Shares shape k pair.at node left right node_now left_now right_now → HasShared before late page node_now pair.lower left_now pair.upper right_now
-    → IsTrue short ↔ (length (separators shape node_now) < least shape 1)
+    → IsTrue short ↔ (length (separators shape node_now) < least_entries shape 1)
     → BecomesShort shape before late (suc k) page low high (pages_of (suc k) t) (length t.1 - 1) (entries_of (suc k) t) short
 shared shape before late k page low high t pair node left right node_now left_now right_now short tree found there there_l there_r shares now short_is =
     let row = found.row in
@@ -272,7 +272,7 @@ shared shape before late k page low high t pair node left right node_now left_no
         changes = subst (λ (l : List ℕ). ChangesPages before late l (page ∷ flat_map (pages_of k) xs)) (sym found.own)
             (subst (λ (l : List ℕ). ChangesPages before late (page ∷ two a pair.lower u pair.upper v b) (page ∷ l)) own change);
       };
-      short_is = subst (λ (l : List (List ℕ)). IsTrue short ↔ (length l < least shape 1)) seps short_is;
+      short_is = subst (λ (l : List (List ℕ)). IsTrue short ↔ (length l < least_entries shape 1)) seps short_is;
     }
 
 remove_second : {X : Type 0} (front : List X) (x y : X) (back : List X) (i : ℕ) → length front ≡ i → remove (front ++ x ∷ y ∷ back) (i + 1) ≡ front ++ x ∷ back
@@ -284,7 +284,7 @@ pub joined : (shape : Shape) (before late : PageMap) (k page : ℕ) (low high : 
     → IsTree shape before (suc k) page low high t → (found : Chosen shape before k page low high t pair)
     → before page ≡ Some node → before pair.lower ≡ Some left → before pair.upper ≡ Some right
     → Joins shape k pair.at node left right node_now left_now → HasJoined before late page node_now pair.lower left_now pair.upper
-    → IsTrue short ↔ (length (separators shape node_now) < least shape 1)
+    → IsTrue short ↔ (length (separators shape node_now) < least_entries shape 1)
     → BecomesShort shape before late (suc k) page low high (pages_of (suc k) t) (length t.1 - 1) (entries_of (suc k) t) short
 joined shape before late k page low high t pair node left right node_now left_now short tree found there there_l there_r joins now short_is =
     let row = found.row in
@@ -304,7 +304,7 @@ joined shape before late k page low high t pair node left right node_now left_no
     (ap late found.lower ∙ now.second) found.fill.filled_left found.fill.filled_right still_u in
     let enough = found.fill.enough in
     let large = one.large in
-    let full : least shape k ≤ size_of k one.tree = omega arith in
+    let full : least_entries shape k ≤ size_of k one.tree = omega arith in
     let ss = remove t.1 pair.at in
     let xs = row.front ++ one.tree ∷ row.back in
     let seps : separators shape node_now ≡ ss = joins.parent.separator ∙ ap (λ (l : List (List ℕ)). remove l pair.at) node_.0 in
@@ -348,7 +348,7 @@ joined shape before late k page low high t pair node left right node_now left_no
         changes = subst (λ (l : List ℕ). ChangesPages before late l (page ∷ flat_map (pages_of k) xs)) (sym found.own)
             (subst (λ (l : List ℕ). ChangesPages before late (page ∷ two a pair.lower u pair.upper v b) (page ∷ l)) own change);
       };
-      short_is = subst (λ (l : List (List ℕ)). IsTrue short ↔ (length l < least shape 1)) seps short_is;
+      short_is = subst (λ (l : List (List ℕ)). IsTrue short ↔ (length l < least_entries shape 1)) seps short_is;
     }
 
 -- ---- reading

@@ -22,7 +22,7 @@ use Rattle.tree_search.specs.declared.descent.StepDown.{StepDown}
 use Rattle.tree_search.specs.declared.descent.Look.{Look}
 use Rattle.bplus_tree.specs.declared.remove.Shrunk.{Shrunk}
 use Rattle.bplus_tree.specs.declared.remove.Shrunk.TheVariants.{Absent, Taken}
-use Rattle.node_balance.specs.Fill.{least}
+use Rattle.node_balance.specs.Fill.{least_entries}
 use Rattle.tree_search.specs.Tree.{TreeOf, page_of, entries_of, pages_of, size_of, IsRooted, Bound, IsRow, IsOrdered}
 use Rattle.tree_search.specs.Stored.{Holds, IsLeafAt}
 use Rattle.pages.specs.Owners.{AreApart, ChangesPages}
@@ -167,7 +167,7 @@ leaf_removes shape before mid after is_sound page low high key t look entry resu
     (λ short taken.
     let took = taken.0 in
     let left = leaf_without shape before after page low high key t look.place entry.items tree is.rank was took.leaf (λ n ne. took.others n ne ∙ ap (λ (m : PageMap). m n) same) in
-    ((was, record { becomes = left.becomes; short_is = subst (λ (n : ℕ). IsTrue short ↔ (n < least shape 0)) (sym left.size) took.short_is }), taken.1))
+    ((was, record { becomes = left.becomes; short_is = subst (λ (n : ℕ). IsTrue short ↔ (n < least_entries shape 0)) (sym left.size) took.short_is }), taken.1))
     (out t.1 at here.within)
 
 -- ---- a leaf that has enough still
@@ -184,7 +184,7 @@ leaf_taken : (shape : Shape) (before after : PageMap) (page : ℕ) (low high : B
 leaf_taken shape before after page low high key t entry tree put =
     let taken = put.taken in
     let left = leaf_without shape before after page low high key t taken.place entry tree taken.rank taken.was (subst (IsLeafAt shape after page) taken.left put.leaf) put.others in
-    let enough : least shape zero ≤ size_of zero left.becomes.tree = subst (λ (n : ℕ). least shape zero ≤ n) (ap length taken.left ∙ sym left.size) taken.enough in
+    let enough : least_entries shape zero ≤ size_of zero left.becomes.tree = subst (λ (n : ℕ). least_entries shape zero ≤ n) (ap length taken.left ∙ sym left.size) taken.enough in
     record { was = taken.was; becomes = left.becomes; enough = λ full. enough; rooted = λ r. tt }
 
 pub take_leaf : (shape : Shape) (before after : PageMap) (is_sound : Type 0) (h page : ℕ) (key : List ℕ) (entry : ArrayVec ℕ) (out : Result Bool Fault) → h ≡ 0 → TakesInPlace shape page key entry out before after is_sound
@@ -253,11 +253,11 @@ replaced shape before after k low high page t front here new back tree apart is 
 pub record Child (shape : Shape) (before : PageMap) (k page : ℕ) (low high : Bound) (key : List ℕ) (t : TreeOf (suc k)) (step : StepDown) : Type 0 where
   pub row : RowAt shape.width (TreeOf k) (IsOrdered shape.width k) (entries_of k) low t.1 t.2 high key step.place
   pub whole : IsWhole shape before k step.child row.from row.to row.here
-  pub size : least shape k ≤ size_of k row.here
+  pub size : least_entries shape k ≤ size_of k row.here
   pub in_front : Each (IsHalfFullWithRoot shape k) row.front
   pub behind : Each (IsHalfFullWithRoot shape k) row.back
 
-pub full_rooted : (shape : Shape) (k : ℕ) (t : TreeOf k) → least shape k ≤ size_of k t → IsRooted k t
+pub full_rooted : (shape : Shape) (k : ℕ) (t : TreeOf k) → least_entries shape k ≤ size_of k t → IsRooted k t
 full_rooted shape zero t h = tt
 full_rooted shape (suc k) t h = let room = inner_room_some shape in omega arith
 
@@ -376,14 +376,14 @@ module _ (shape : Shape) (h k page : ℕ) (key : List ℕ) (one : h ≡ suc k) w
         record { answer = ((entry_below shape.width k key low high t.1 t.2 step.place child.row ∙ a.0.0, a.0.1), a.1); no_damage = tt })
 
     -- the child has enough still
-    pub child_taken : (after : PageMap) (is_sound : Type 0) (entry : ArrayVec ℕ) (short few : Bool) → short ≡ false → IsTrue few ↔ (step.count < least shape 1)
+    pub child_taken : (after : PageMap) (is_sound : Type 0) (entry : ArrayVec ℕ) (short few : Bool) → short ≡ false → IsTrue few ↔ (step.count < least_entries shape 1)
         → Removes shape k step.child key (Ok (Taken entry short)) mid after is_sound → Removes shape h page key (Ok (Taken entry few)) before after is_sound
     child_taken after is_sound entry short few enough few_is removes = at_one before after is_sound (Ok (Taken entry few)) (λ t low high whole.
         let child = child_at low high t whole in
         let a = (below_answer after is_sound (Ok (Taken entry short)) low high t whole removes).answer in
         let new = a.0.1.becomes in
         let w = with_child shape before after k page low high key t step whole child new in
-        let full : least shape k ≤ size_of k new.tree = not_short (size_of k new.tree) (least shape k) short enough a.0.1.short_is in
+        let full : least_entries shape k ≤ size_of k new.tree = not_short (size_of k new.tree) (least_entries shape k) short enough a.0.1.short_is in
         let count = (step_of shape before k page low high key t (Ok step) whole.stands steps).answer.count in
         record {
           no_damage = tt;
@@ -399,7 +399,7 @@ module _ (shape : Shape) (h k page : ℕ) (key : List ℕ) (one : h ≡ suc k) w
                   has = w.has;
                   changes = w.put.changes;
                 };
-                short_is = subst (λ (n : ℕ). IsTrue few ↔ (n < least shape 1)) count few_is;
+                short_is = subst (λ (n : ℕ). IsTrue few ↔ (n < least_entries shape 1)) count few_is;
               },
             ),
             a.1,
@@ -421,8 +421,8 @@ module _ (shape : Shape) (h k page : ℕ) (key : List ℕ) (one : h ≡ suc k) w
         let w = with_child shape before after k page low high key t step whole child new in
         let size = child.size in
         let large = new.large in
-        let under : size_of k new.tree < least shape k = a.0.1.short_is.0 (rw lacks refl) in
-        let one_less : least shape k ≡ size_of k new.tree + 1 = omega arith in
+        let under : size_of k new.tree < least_entries shape k = a.0.1.short_is.0 (rw lacks refl) in
+        let one_less : least_entries shape k ≡ size_of k new.tree + 1 = omega arith in
         let xs = child.row.front ++ new.tree ∷ child.row.back in
         let but = but_here (IsHalfFullWithRoot shape k) (LacksOne shape k) child.row.front new.tree child.row.back step.place child.row.at child.in_front (one_less, new.filled) child.behind in
         let m = rebalances a.1 (page, t.1, xs) low high w.put.stands w.put.changes.apart but whole.rooted in

@@ -10,7 +10,7 @@ use Rattle.tree_node.specs.Inner.{separators, children}
 use Rattle.tree_node.proofs.InnerLemmas.{length_separators, length_children}
 use Rattle.tree_node.proofs.OrderLemmas.{Each-weaker, less-trans, less_itself, not_less, compared}
 use Rattle.pages.specs.PageMap.{PageMap}
-use Rattle.node_balance.specs.Fill.{least}
+use Rattle.node_balance.specs.Fill.{least_entries}
 use Rattle.tree_search.specs.Tree.{TreeOf, page_of, entries_of, pages_of, pages_below, size_of, IsHalfFull, Bound, NotBelow, Above, Below, IsRow, IsOrdered}
 use Rattle.tree_search.specs.Stored.{Holds, IsLeafAt, IsInnerAt}
 use Rattle.tree_search.specs.Calls.{IsTree}
@@ -108,7 +108,7 @@ pub record TwoTrees (shape : Shape) (after : PageMap) (k : ℕ) (from to : Bound
   pub lower_pages : pages_of k lower ≡ page_of k left ∷ below_lower
   pub upper_pages : pages_of k upper ≡ page_of k right ∷ below_upper
   pub pages : below_lower ++ below_upper ≡ pages_below k left ++ pages_below k right
-  pub full : least shape k ≤ size_of k left + 1 → least shape k ≤ size_of k right + 1 → (least shape k ≤ size_of k lower) × (least shape k ≤ size_of k upper)
+  pub full : least_entries shape k ≤ size_of k left + 1 → least_entries shape k ≤ size_of k right + 1 → (least_entries shape k ≤ size_of k lower) × (least_entries shape k ≤ size_of k upper)
   pub lower_filled : IsHalfFull shape k lower
   pub upper_filled : IsHalfFull shape k upper
 
@@ -220,7 +220,7 @@ module _ (shape : Shape) (before after : PageMap) (from to : Bound) (s : List �
         has = flat_map-append (entries_of k) left.2 right.2;
         pages = ap (λ (x : List ℕ). left.0 ∷ x) flat;
         large = omega arith;
-        filled = Each-append (λ c. (least shape k ≤ size_of k c) × IsHalfFull shape k c) left.2 right.2 fl fr;
+        filled = Each-append (λ c. (least_entries shape k ≤ size_of k c) × IsHalfFull shape k c) left.2 right.2 fl fr;
       }
 
   pub inners_shared : (k : ℕ) (left right : TreeOf (suc k)) (bl br now now' key : List ℕ) → Holds shape before (suc k) left → Holds shape before (suc k) right
@@ -256,7 +256,7 @@ module _ (shape : Shape) (before after : PageMap) (from to : Bound) (s : List �
       let at' : IsInnerAt shape after right.0 rs (map (page_of k) second) = record { bytes = now'; there = is'; inner = shared.upper; rises = refl; leads = kids_high } in
       let flat = flat_map-append (pages_of k) left.2 right.2 in
       let hold = rows_still shape before after k xs (Each-append (Holds shape before k) left.2 right.2 hl.1 hr.1) (subst (Each (λ n. after n ≡ before n)) (sym flat) still) in
-      let fill = Each-append (λ c. (least shape k ≤ size_of k c) × IsHalfFull shape k c) left.2 right.2 fl fr in
+      let fill = Each-append (λ c. (least_entries shape k ≤ size_of k c) × IsHalfFull shape k c) left.2 right.2 fl fr in
       let low_row : IsRow (IsOrdered shape.width k) from ls first (Some key) = rw (is_low, is_key) at cut.left in
       let high_row : IsRow (IsOrdered shape.width k) (Some key) rs second to = rw (is_high, is_key) at cut.right in
       record {
@@ -281,8 +281,8 @@ module _ (shape : Shape) (before after : PageMap) (from to : Bound) (s : List �
         upper_pages = refl;
         pages = sym (flat_map-append (pages_of k) first second) ∙ ap (flat_map (pages_of k)) (take-append-drop (suc m) xs) ∙ flat;
         full = λ a b. shared.fill (rw l a) (rw r b);
-        lower_filled = each_take (λ c. (least shape k ≤ size_of k c) × IsHalfFull shape k c) (suc m) xs fill;
-        upper_filled = each_drop (λ c. (least shape k ≤ size_of k c) × IsHalfFull shape k c) (suc m) xs fill;
+        lower_filled = each_take (λ c. (least_entries shape k ≤ size_of k c) × IsHalfFull shape k c) (suc m) xs fill;
+        upper_filled = each_drop (λ c. (least_entries shape k ≤ size_of k c) × IsHalfFull shape k c) (suc m) xs fill;
       }
 
 -- ---- of any height

@@ -8,7 +8,7 @@ use Rattle.pages.specs.PageMap.{PageMap}
 use Rattle.pages.specs.ShownPages.{ShownPages}
 use Rattle.bplus_tree.specs.Changes.{CanWrite}
 use Rattle.node_balance.specs.declared.separator.Separator.{Separator}
-use Rattle.node_balance.specs.Fill.{least}
+use Rattle.node_balance.specs.Fill.{least_entries}
 use Rattle.tree_search.specs.Stored.{IsLeafAt, IsInnerAt}
 use Rattle.pages.specs.Answer.{IsAnswer}
 
@@ -33,7 +33,7 @@ pub record HasLeaves (shape : Shape) (before after : PageMap) (page : ℕ) (entr
   pub has : lower ++ upper ≡ entries
   pub first : IsLeafAt shape after page lower
   pub second : IsLeafAt shape after separator.child upper
-  pub full : (least shape 0 ≤ length lower) × (least shape 0 ≤ length upper)
+  pub full : (least_entries shape 0 ≤ length lower) × (least_entries shape 0 ≤ length upper)
   pub key : separator.key.items ≡ take shape.width (slice_index_or upper 0 [])
   pub free : before separator.child ≡ None
   pub others : (n : ℕ) → n ≢ page → n ≢ separator.child → after n ≡ before n
@@ -70,7 +70,7 @@ pub record HasInners (shape : Shape) (before after : PageMap) (page : ℕ) (seps
   pub leads : lower_children ++ upper_children ≡ below
   pub first : IsInnerAt shape after page lower lower_children
   pub second : IsInnerAt shape after separator.child upper upper_children
-  pub full : (least shape 1 ≤ length lower) × (least shape 1 ≤ length upper)
+  pub full : (least_entries shape 1 ≤ length lower) × (least_entries shape 1 ≤ length upper)
   pub free : before separator.child ≡ None
   pub others : (n : ℕ) → n ≢ page → n ≢ separator.child → after n ≡ before n
 

@@ -7,7 +7,7 @@ use Rattle.page_bytes.specs.Each.{Each}
 use Rattle.pages.specs.PageMap.{PageMap}
 use Rattle.bplus_tree.specs.declared.remove.Shrunk.{Shrunk}
 use Rattle.bplus_tree.specs.declared.remove.Shrunk.TheVariants.{Absent, Taken}
-use Rattle.node_balance.specs.Fill.{least}
+use Rattle.node_balance.specs.Fill.{least_entries}
 use Rattle.arrayvec.specs.ArrayVec.{ArrayVec}
 use Rattle.tree_node.specs.Leaf.{IsLeaf, leaf_entries}
 use Rattle.tree_node.specs.Order.{Ascends, IsRank}
@@ -33,7 +33,7 @@ pub record Becomes (shape : Shape) (before after : PageMap) (h page : ℕ) (low 
 pub record BecomesShort (shape : Shape) (before after : PageMap) (h page : ℕ) (low high : Bound)
     (own : List ℕ) (floor : ℕ) (entries : List (List ℕ)) (short : Bool) : Type 0 where
   pub becomes : Becomes shape before after h page low high own floor entries
-  pub short_is : IsTrue short ↔ (size_of h becomes.tree < least shape h)
+  pub short_is : IsTrue short ↔ (size_of h becomes.tree < least_entries shape h)
 
 abbrev pub HasRemovedBelow : (shape : Shape) → PageMap → PageMap → (h page : ℕ) → (low high : Bound)
     → List ℕ → TreeOf h → Shrunk → Type 0
@@ -57,10 +57,10 @@ AreFullBut IsHalfFullWithRoot Lacks (suc place) (x ∷ xs) =
     IsHalfFullWithRoot x × AreFullBut IsHalfFullWithRoot Lacks place xs
 
 abbrev pub IsHalfFullWithRoot : Shape → (h : ℕ) → TreeOf h → Type 0
-IsHalfFullWithRoot shape h t = (least shape h ≤ size_of h t) × IsHalfFull shape h t
+IsHalfFullWithRoot shape h t = (least_entries shape h ≤ size_of h t) × IsHalfFull shape h t
 
 abbrev pub LacksOne : Shape → (h : ℕ) → TreeOf h → Type 0
-LacksOne shape h t = (least shape h ≡ size_of h t + 1) × IsHalfFull shape h t
+LacksOne shape h t = (least_entries shape h ≡ size_of h t + 1) × IsHalfFull shape h t
 
 -- a node one of whose children lacks one
 abbrev pub Rebalances : Shape → ℕ → ℕ → ℕ → Result Bool Fault → PageMap → PageMap → Type 0 → Type 0
@@ -81,7 +81,7 @@ pub record TakesOut (shape : Shape) (before after : PageMap) (page : ℕ) (entri
     (short : Bool) : Type 0 where
   pub leaf : IsLeafAt shape after page entries
   pub others : (n : ℕ) → n ≢ page → after n ≡ before n
-  pub short_is : IsTrue short ↔ (length entries < least shape 0)
+  pub short_is : IsTrue short ↔ (length entries < least_entries shape 0)
 
 abbrev pub OutOfLeaf : Shape → ℕ → ℕ → Result Bool Fault → PageMap → PageMap → Type 0 → Type 0
 OutOfLeaf shape page place result before after is_sound =
@@ -94,7 +94,7 @@ pub record HasTaken (shape : Shape) (before after : PageMap) (h page : ℕ) (low
   pub was : entry_of shape.width key (entries_of h t) ≡ Some entry
   pub becomes : Becomes shape before after h page low high (pages_of h t) (size_of h t - 1)
       (without_key shape.width key (entries_of h t))
-  pub enough : least shape h ≤ size_of h t → least shape h ≤ size_of h becomes.tree
+  pub enough : least_entries shape h ≤ size_of h t → least_entries shape h ≤ size_of h becomes.tree
   pub rooted : IsRooted h t → IsRooted h becomes.tree
 
 abbrev pub HasTakenIf : (shape : Shape) → PageMap → PageMap → (h page : ℕ) → (low high : Bound) → List ℕ
@@ -116,7 +116,7 @@ pub record IsTaken (shape : Shape) (key : List ℕ) (old new : List (List ℕ)) 
   pub rank : IsRank shape.width key old place
   pub was : entry_of shape.width key old ≡ Some entry
   pub left : new ≡ remove old place
-  pub enough : least shape 0 ≤ length new
+  pub enough : least_entries shape 0 ≤ length new
 
 abbrev pub IsTakenIf : Shape → List ℕ → (old new : List (List ℕ)) → ArrayVec ℕ → Bool → Type 0
 IsTakenIf shape key old new entry true = IsTaken shape key old new entry.items

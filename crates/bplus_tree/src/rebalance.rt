@@ -7,7 +7,7 @@ ghost use Rattle.pages.specs.PageCalls.{ReadsPages};
 ghost use Rattle.tree_search.specs.LookUps.{WhenHonest};
 ghost use Rattle.bplus_tree.specs.Changes.{CanWrite, WhereSound, Alters, GivesPages};
 ghost use Rattle.node_balance.specs.Balance.{Balances};
-ghost use Rattle.node_balance.specs.Fill.{least};
+ghost use Rattle.node_balance.specs.Fill.{least_entries};
 ghost use Rattle.bplus_tree.specs.Rebalance.{EndsJoined, EndsShared, IsPairAt, ReadsPair};
 ghost use Rattle.bplus_tree.specs.Remove.{Rebalances};
 
@@ -143,7 +143,7 @@ fn read_pair<P: Pages>(
 /// An inner node has too little for one below another node.
 fn is_short(node: &[u8; PAGE_SIZE], shape: Shape) -> bool
     requires inner { IsInner shape node.now }
-    ensures { IsTrue result ↔ (length (separators shape node.now) < least shape 1) }
+    ensures { IsTrue result ↔ (length (separators shape node.now) < least_entries shape 1) }
 {
     InnerView { page: node, shape }.count() < shape.inner_room() / 2
 }

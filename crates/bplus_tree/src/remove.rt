@@ -2,7 +2,7 @@
 
 ghost use Rattle.std.specs.Prelude.{◌≡◌, ◌+◌, ◌*◌, ◌<◌, ◌≤◌, ◌↔◌, false, IsTrue, length, remove};
 ghost use Rattle.tree_node.specs.Leaf.{IsLeaf, leaf_entries};
-ghost use Rattle.node_balance.specs.Fill.{least};
+ghost use Rattle.node_balance.specs.Fill.{least_entries};
 ghost use Rattle.bplus_tree.specs.Changes.{CanWrite, WhereSound, Alters, EditsPages, EditsDown, GivesPages};
 ghost use Rattle.bplus_tree.specs.Remove.{Removes, HasPlace, OutOfLeaf, TakesBelow, TakesInPlace};
 ghost use Rattle.bplus_tree.specs.Remove.{TakesFromLeaf};
@@ -150,7 +150,7 @@ fn take_out<P: Pages>(pages: &mut P, shape: Shape, page: u32, place: usize) -> R
 fn cut_out(page: &mut [u8; PAGE_SIZE], shape: Shape, place: usize) -> bool
     requires { HasPlace shape place page.old }
     ensures removed { IsLeafOf shape (remove (leaf_entries shape page.old) place) page.new }
-    ensures short { IsTrue result ↔ (length (leaf_entries shape page.new) < least shape 0) }
+    ensures short { IsTrue result ↔ (length (leaf_entries shape page.new) < least_entries shape 0) }
 {
     LeafViewMut { page, shape }.remove_at(place);
     is_short(page, shape)
@@ -159,14 +159,14 @@ fn cut_out(page: &mut [u8; PAGE_SIZE], shape: Shape, place: usize) -> bool
 /// A leaf has too little for one below another node.
 fn is_short(page: &[u8; PAGE_SIZE], shape: Shape) -> bool
     requires leaf { IsLeaf shape page.now }
-    ensures { IsTrue result ↔ (length (leaf_entries shape page.now) < least shape 0) }
+    ensures { IsTrue result ↔ (length (leaf_entries shape page.now) < least_entries shape 0) }
 {
     LeafView { page, shape }.count() < shape.leaf_room() / 2
 }
 
 /// So many separators are too few for an inner node below another one.
 fn is_few(count: usize, shape: Shape) -> bool
-    ensures { IsTrue result ↔ (count < least shape 1) }
+    ensures { IsTrue result ↔ (count < least_entries shape 1) }
 {
     count < shape.inner_room() / 2
 }

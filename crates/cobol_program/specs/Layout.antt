@@ -14,9 +14,9 @@ abbrev pub laid : Form → List ℕ → List ℕ
 laid form line = margin form ++ (line ++ codes "\n")
 
 -- a line fits between columns 8 and 72
-abbrev pub Fits : List ℕ → Type 0
-Fits line = length line ≤ 65
+abbrev pub FitsLine : List ℕ → Type 0
+FitsLine line = length line ≤ 65
 
 -- the text is lines that fit, each behind the margin of the form: so none is past column 72
 abbrev pub IsLaidOut : Form → List ℕ → Type 0
-IsLaidOut form text = (lines : List (List ℕ)) × All Fits lines × (text ≡ flat_map (laid form) lines)
+IsLaidOut form text = (lines : List (List ℕ)) × All FitsLine lines × (text ≡ flat_map (laid form) lines)

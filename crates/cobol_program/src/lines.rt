@@ -1,6 +1,7 @@
 //! The lines of a text in COBOL.
-ghost use Rattle.std.specs.Prelude.{◌≡◌, ◌≤◌, ◌+◌, ◌++◌, [], length, map, flat_map, string_bytes, All, OnOk, IfOk};
-ghost use Rattle.cobol_program.specs.Layout.{laid, Fits, IsLaidOut};
+ghost use Rattle.std.specs.Prelude.{◌≡◌, ◌≤◌, ◌+◌, ◌++◌, [], length, map, flat_map, string_bytes, All, OnOk};
+ghost use Rattle.std.specs.Prelude.{IfOk};
+ghost use Rattle.cobol_program.specs.Layout.{laid, FitsLine, IsLaidOut};
 
 use crate::form::Form;
 use crate::literal::Word;
@@ -29,7 +30,7 @@ pub struct Lines {
 /// Adds a line to a text.
 fn lay(text: &mut String, form: Form, line: &Line) -> Result<(), AllocError>
     ensures text { OnOk result (string_bytes text.new ≡ string_bytes text.old ++ laid form line.now.bytes) }
-    ensures fits { Fits line.now.bytes }
+    ensures fits { FitsLine line.now.bytes }
 {
     let line = line.as_str();
     text.push_str(form.margin())?;

@@ -8,9 +8,9 @@ use Rattle.deck_reader.specs.declared.deck.Deck.{Deck}
 use Rattle.deck_reader.specs.Deck.{IsDeck}
 use Rattle.record_forms.specs.declared.form.Form.{Form}
 use Rattle.record_forms.specs.declared.form.Form.TheVariants.{Text, Csv, Json}
-use Rattle.record_forms.specs.Parts.{Part, part_of, item_parts}
-use Rattle.record_reading.specs.Whole.{AreTiled, IsWhole, AreItemsWhole}
-use Rattle.file_commands.specs.DeckFile.{is_named, IsFileOf}
+use Rattle.record_forms.specs.Parts.{Part, part_of_column, item_parts}
+use Rattle.record_reading.specs.Whole.{AreTiled, IsWholeForm, AreItemsWhole}
+use Rattle.file_commands.specs.DeckFile.{is_named_in_deck, IsFileOf}
 use Rattle.command_line.specs.LoadForm.{IsFormOf}
 
 -- the items of a file are a layout, whose length is the greatest of the file's records
@@ -31,11 +31,11 @@ by_test true f file rest first others is = some_file f file first is
 by_test false f file rest first others is = others is
 
 all_laid : (name : List ℕ) (file : FileDesc) (descriptions : List FileDescription) (storage : List StorageEntry) (names : List (List ℕ)) (entries : List FileControlEntry) (files : List FileDesc) (after : List (List ℕ))
-    → AreFiles descriptions storage names entries files after → find (is_named name) files ≡ Some file → IsLaid file
+    → AreFiles descriptions storage names entries files after → find (is_named_in_deck name) files ≡ Some file → IsLaid file
 all_laid name file descriptions storage names entries [] after h is = absurd (cc)
 all_laid name file descriptions storage names [] (f ∷ files) after h is = let bad : f ∷ files ≡ [] = h.0 in absurd (cc)
 all_laid name file descriptions storage names (entry ∷ entries) (f ∷ files) after h is =
-    by_test (is_named name f) f file (find (is_named name) files) (is_laid names storage entry h.0 f h.2)
+    by_test (is_named_in_deck name f) f file (find (is_named_in_deck name) files) (is_laid names storage entry h.0 f h.2)
     (all_laid name file descriptions storage (with_names names h.0.items) entries files after h.3) is
 
 pub laid_in : (bytes : List ℕ) (deck : Deck) (name : List ℕ) (file : FileDesc) → IsDeck bytes deck → IsFileOf deck.files name file → IsLaid file
@@ -45,14 +45,14 @@ laid_in bytes deck name file is named =
     let divisions = spells.1.0 in
     let contents = spells.1.4 in
     all_laid name file divisions.descriptions divisions.storage [] divisions.entries description.files contents.0 contents.1
-    (subst (λ (files : List FileDesc). find (is_named name) files ≡ Some file) spells.2 named)
+    (subst (λ (files : List FileDesc). find (is_named_in_deck name) files ≡ Some file) spells.2 named)
 
 tiled : (items_whole : AreItemsWhole) (file : FileDesc) → IsLaid file → (parts : List Part) → parts ≡ item_parts file.layout → AreTiled 0 parts file.schema.greatest
 tiled items_whole file laid parts is =
     subst (λ (l : List Part). AreTiled 0 l file.schema.greatest) (sym is)
     (subst (λ (n : ℕ). AreTiled 0 (item_parts file.layout) n) (sym laid.greatest) (items_whole laid.entries file.layout laid.laid))
 
-pub form_is_whole : (items_whole : AreItemsWhole) (word : List ℕ) (file : FileDesc) → IsLaid file → (form : Form) → IsFormOf word file form → IsWhole form file.schema.greatest
+pub form_is_whole : (items_whole : AreItemsWhole) (word : List ℕ) (file : FileDesc) → IsLaid file → (form : Form) → IsFormOf word file form → IsWholeForm form file.schema.greatest
 form_is_whole items_whole word file laid Text is = tt
-form_is_whole items_whole word file laid (Csv columns) is = tiled items_whole file laid (map part_of columns.items) is.1
-form_is_whole items_whole word file laid (Json columns) is = tiled items_whole file laid (map part_of columns.items) is.1
+form_is_whole items_whole word file laid (Csv columns) is = tiled items_whole file laid (map part_of_column columns.items) is.1
+form_is_whole items_whole word file laid (Json columns) is = tiled items_whole file laid (map part_of_column columns.items) is.1

@@ -8,7 +8,7 @@ use Rattle.record_layout.specs.Schema.{Schema}
 use Rattle.shelf_run.specs.ShelfRun.{LeavesFiles}
 use Rattle.record_loading.specs.Loading.{Listing}
 use Rattle.record_loading.specs.declared.end.Load.{Load}
-use Rattle.shelf_loading.specs.Loaded.{Ends, KeepsOthers, IsSafe}
+use Rattle.shelf_loading.specs.Loaded.{EndsLoad, KeepsOtherNames, IsSafeLoad}
 use Rattle.shelf_loading.specs.declared.end.ShelfEnd.{ShelfEnd}
 use Rattle.command_line.specs.Folder.{folder_at_first, folder_after}
 use Rattle.file_commands.specs.Front.{IsFrontOfInput, IsTextNamed, GivesSuch}
@@ -30,24 +30,24 @@ module _ (disk : List ℕ → Unseen) (path : List ℕ) (names : List ArrayStrin
   from_first : (IsSo : ShelfState → ShelfState → Type 0) → IsSo first last → IsSo (folder_at_first disk path) last
   from_first IsSo = subst (λ (old : ShelfState). IsSo old last) (untouched disk path names calls no_names no_calls)
 
-  pub load_ended : (end : ShelfEnd) → Ends name schema load list first end last → KeepsOthers name first last → IsSafe name first last → LoadsFolder disk path name schema load list (Ok end)
+  pub load_ended : (end : ShelfEnd) → EndsLoad name schema load list first end last → KeepsOtherNames name first last → IsSafeLoad name first last → LoadsFolder disk path name schema load list (Ok end)
   load_ended end ends others safe = record {
     names = names_behind;
     calls = calls_behind;
-    ends = from_first (λ old new. Ends name schema load list old end new) ends;
+    ends = from_first (λ old new. EndsLoad name schema load list old end new) ends;
     nothing = tt;
-    others = from_first (KeepsOthers name) others;
-    safe = from_first (IsSafe name) safe;
+    others = from_first (KeepsOtherNames name) others;
+    safe = from_first (IsSafeLoad name) safe;
   }
 
-  pub load_failed : (fault : Fault) → LeavesFiles first last → KeepsOthers name first last → IsSafe name first last → LoadsFolder disk path name schema load list (Err fault)
+  pub load_failed : (fault : Fault) → LeavesFiles first last → KeepsOtherNames name first last → IsSafeLoad name first last → LoadsFolder disk path name schema load list (Err fault)
   load_failed fault nothing others safe = record {
     names = names_behind;
     calls = calls_behind;
     ends = tt;
     nothing = from_first LeavesFiles nothing;
-    others = from_first (KeepsOthers name) others;
-    safe = from_first (IsSafe name) safe;
+    others = from_first (KeepsOtherNames name) others;
+    safe = from_first (IsSafeLoad name) safe;
   }
 
 -- ---- the text of a load

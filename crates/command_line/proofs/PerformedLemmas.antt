@@ -5,7 +5,7 @@ use Rattle.folder_shelf.specs.Events.{Event}
 use Rattle.folder_shelf.specs.Replay.{Unseen}
 use Rattle.deck_words.specs.declared.fault.DeckFault.{DeckFault}
 use Rattle.deck_runner.specs.DeckRun.{IsNoDeck}
-use Rattle.deck_runner.specs.RunEnd.{Told, ToldInPart}
+use Rattle.deck_runner.specs.RunEnd.{TellsLines, ToldInPart}
 use Rattle.deck_runner.specs.declared.run_end.RunEnd.{RunEnd}
 use Rattle.shelf_run.specs.ShelfRun.{OnShelf, IsExactRun, Runs, BreaksOff, LeavesFiles, StaysSound}
 use Rattle.command_line.specs.Folder.{OverFolder}
@@ -24,7 +24,7 @@ module _ (folder : List ℕ) (limit frames : ℕ) (disk : List ℕ → Unseen) (
 
   pub came_to : (end : Result RunEnd Fault)
       → IfOk end (λ e. e.clean ≡ true → OverFolder disk folder names calls (λ first last. IsExactRun bytes first last before behind e))
-      → IfOk end (λ e. OverFolder disk folder names calls (λ first last. OnShelf bytes first last (λ deck. Told before behind e (Runs limit frames first last 0 faults deck))))
+      → IfOk end (λ e. OverFolder disk folder names calls (λ first last. OnShelf bytes first last (λ deck. TellsLines before behind e (Runs limit frames first last 0 faults deck))))
       → IfErr end (λ fault. fault ≡ Output → OverFolder disk folder names calls (λ first last. OnShelf bytes first last (λ deck. ToldInPart before behind (BreaksOff limit frames first last 0 faults deck))))
       → IfErr end (λ fault. fault ≢ Output → (behind ≡ before) × OverFolder disk folder names calls LeavesFiles)
       → IfErr end (λ fault. (told : DeckFault) → fault ≡ Deck told → IsNoDeck bytes told)
@@ -34,7 +34,7 @@ module _ (folder : List ℕ) (limit frames : ℕ) (disk : List ℕ → Unseen) (
     record {
       exact = λ end is clean. let same : e ≡ end = cc in subst (λ (x : RunEnd). x.clean ≡ true → OverFolder disk folder names calls (λ first last. IsExactRun bytes first last before behind x)) same exact clean;
       whole = λ end is. let same : e ≡ end = cc in
-          subst (λ (x : RunEnd). OverFolder disk folder names calls (λ first last. OnShelf bytes first last (λ deck. Told before behind x (Runs limit frames first last 0 faults deck)))) same whole;
+          subst (λ (x : RunEnd). OverFolder disk folder names calls (λ first last. OnShelf bytes first last (λ deck. TellsLines before behind x (Runs limit frames first last 0 faults deck)))) same whole;
       part = λ is. absurd (cc);
       nothing = λ fault is other. absurd (cc);
       refused = λ told is. absurd (cc);

@@ -3,10 +3,10 @@ use Rattle.std.proofs.Common.{◌≡◌, ℕ, List, Option, Some, None, Result, 
 use Rattle.std.specs.Prelude.{IfOk}
 use Rattle.clap.specs.Words.{Text}
 use Rattle.file_control.specs.Description.{FileDesc}
-use Rattle.schema_listing.specs.Listing.{read_in}
+use Rattle.schema_listing.specs.Listing.{read_of_file}
 use Rattle.schema_listing.specs.declared.comparing.Comparison.{Comparison}
 use Rattle.file_commands.specs.DeckFile.{IsDeckFile}
-use Rattle.file_commands.specs.Front.{OfFile}
+use Rattle.file_commands.specs.Front.{OfOpenedFile}
 use Rattle.file_commands.specs.Schema.{TellsAs, ComparesAs, IsOfSchema, IsSchemaDone}
 use Rattle.command_line.specs.Performed.{Begun, Written, CameToEnd, AskForSchema}
 use Rattle.command_line.specs.Right.{Given, AreOfDeck, IsRightOf}
@@ -37,9 +37,9 @@ module _ {File : Type 0} (given : Given File) (words : List Text) (out : Written
 
   -- a schema was told, compared or refused
   pub right_schema : (schema : AskForSchema words) (result : Result Outcome Fault)
-      → IfOk result (λ outcome. IsOfSchema outcome → OfFile given.of_file (λ bytes. TellsAs out.before out.behind (read_in bytes) outcome))
+      → IfOk result (λ outcome. IsOfSchema outcome → OfOpenedFile given.of_file (λ bytes. TellsAs out.before out.behind (read_of_file bytes) outcome))
       → IfOk result (λ outcome. (told : Comparison) → outcome ≡ SchemaCompared told → (described : FileDesc) × IsDeckFile (AreOfDeck given) schema.deck schema.name described
-      × OfFile given.of_file (λ bytes. ComparesAs described.schema out.before out.behind (read_in bytes) outcome))
+      × OfOpenedFile given.of_file (λ bytes. ComparesAs described.schema out.before out.behind (read_of_file bytes) outcome))
       → IfOk result (IsSchemaDone schema.deck schema.name) → IfOk result IsRight
   right_schema schema (Ok SchemaTold) told compared done = told tt
   right_schema schema (Ok (SchemaRefused refusal)) told compared done = told tt

@@ -5,7 +5,7 @@ use Rattle.file_control.specs.Description.{FileDesc}
 use Rattle.record_forms.specs.declared.column.Column.{Column}
 use Rattle.record_forms.specs.declared.form.Form.{Form}
 use Rattle.record_forms.specs.declared.form.Form.TheVariants.{Text, Csv, Json}
-use Rattle.record_forms.specs.Parts.{part_of, item_parts}
+use Rattle.record_forms.specs.Parts.{part_of_column, item_parts}
 use Rattle.file_commands.specs.DeckFile.{IsDeckFault}
 use Rattle.command_outcomes.specs.declared.form_fault.FormFault.TheVariants.{Kind}
 use Rattle.command_outcomes.specs.declared.fault.Fault.{Fault}
@@ -14,10 +14,10 @@ use Rattle.command_line.specs.declared.load_form.FormKind.{FormKind}
 use Rattle.command_line.specs.declared.load_form.FormKind.TheVariants as kinds
 
 -- the word that asks for a form
-abbrev pub word_of : FormKind → Word
-word_of kinds.Text = codes "text"
-word_of kinds.Csv = codes "csv"
-word_of kinds.Json = codes "json"
+abbrev pub form_word : FormKind → Word
+form_word kinds.Text = codes "text"
+form_word kinds.Csv = codes "csv"
+form_word kinds.Json = codes "json"
 
 -- the word asks for none
 abbrev pub IsNoFormWord : Word → Type 0
@@ -25,7 +25,7 @@ IsNoFormWord word = (word ≢ codes "text") × (word ≢ codes "csv") × (word �
 
 -- the columns are the elementary items of the record of a file
 abbrev pub AreColumnsOf : FileDesc → List Column → Type 0
-AreColumnsOf file columns = map part_of columns ≡ item_parts file.layout
+AreColumnsOf file columns = map part_of_column columns ≡ item_parts file.layout
 
 -- the form is the one that the word asks for, with the columns of the file
 abbrev pub IsFormOf : Word → FileDesc → Form → Type 0

@@ -16,13 +16,13 @@ use Rattle.record_loading.specs.Loading.{Listing, listing}
 use Rattle.record_loading.specs.declared.end.Load.{Load}
 use Rattle.record_loading.specs.declared.end.Load.TheVariants.{New, Into}
 use Rattle.shelf_loading.specs.Answer.{answer_of}
-use Rattle.shelf_loading.specs.Loaded.{Ends, KeepsOthers, IsSafe}
+use Rattle.shelf_loading.specs.Loaded.{EndsLoad, KeepsOtherNames, IsSafeLoad}
 use Rattle.shelf_loading.specs.declared.end.ShelfEnd.{ShelfEnd}
 use Rattle.shelf_loading.specs.declared.end.ShelfEnd.TheVariants.{IsThere, Loaded}
 use Rattle.command_line.specs.Folder.{OverFolder}
-use Rattle.command_line.specs.LoadForm.{IsFormOf, IsLoadFault, word_of}
+use Rattle.command_line.specs.LoadForm.{IsFormOf, IsLoadFault, form_word}
 use Rattle.file_commands.specs.DeckFile.{IsFileOf, IsDeckFault}
-use Rattle.file_commands.specs.Front.{IsTextNamed, OfDeck}
+use Rattle.file_commands.specs.Front.{IsTextNamed, OfNamedDeck}
 use Rattle.standard_input.specs.declared.standard_input.StandardInput.{StandardInput}
 use Rattle.command_line.specs.declared.load_form.FormKind.{FormKind}
 use Rattle.command_line.specs.declared.loading.Loading.{Loading}
@@ -44,10 +44,10 @@ pub record LoadsFolder (disk : List ℕ → Unseen) (folder name : List ℕ) (sc
   pub names : List ArrayString
   pub calls : List Event
   pub ends : OverFolder disk folder names calls (λ first last.
-      IfOk result (λ end. Ends name schema load list first end last))
+      IfOk result (λ end. EndsLoad name schema load list first end last))
   pub nothing : OverFolder disk folder names calls (λ first last. OnErr result (LeavesFiles first last))
-  pub others : OverFolder disk folder names calls (KeepsOthers name)
-  pub safe : OverFolder disk folder names calls (IsSafe name)
+  pub others : OverFolder disk folder names calls (KeepsOtherNames name)
+  pub safe : OverFolder disk folder names calls (IsSafeLoad name)
 
 -- so of a load of a text in a form into a file that is described
 abbrev pub LoadsDescribed : (disk : List ℕ → Unseen) → (path : String Global) → FileDesc → Load → Form
@@ -95,13 +95,13 @@ abbrev pub LoadsBytes : {F I W : Type 0} → (F → Option (List ℕ)) → (I �
     → (W → Option (List ℕ)) → (old new : W) → Result Outcome Fault → Type 0
 LoadsBytes remaining left input disk bytes path kind asked contents old new result = ComesOfLoad (λ end.
     LoadsDeck disk (IsTextNamed remaining (left input.reader) asked.text.now) bytes (string_bytes path)
-    asked.file.now (word_of kind) asked.into (contents old) (contents new) end) IsDeckFault old new result
+    asked.file.now (form_word kind) asked.into (contents old) (contents new) end) IsDeckFault old new result
 
 -- into a file of the deck of a path, or of the input where the path is a hyphen
 abbrev pub LoadsAsked : {F I W : Type 0} → (F → Option (List ℕ)) → (I → Option (List ℕ)) → StandardInput I
     → (List ℕ → Unseen) → (deck folder : List ℕ) → Loading → (W → Option (List ℕ)) → (old new : W)
     → Result Outcome Fault → Type 0
 LoadsAsked remaining left input disk deck folder asked contents old new result = ComesOfLoad (λ end.
-    OfDeck remaining (left input.reader) deck (λ bytes.
+    OfNamedDeck remaining (left input.reader) deck (λ bytes.
     LoadsDeck disk (IsTextNamed remaining (left input.reader) asked.text.now) bytes folder asked.file.now
     asked.form.now asked.into (contents old) (contents new) end)) (IsLoadFault asked.form.now) old new result

@@ -13,7 +13,7 @@ use Rattle.folder_shelf.specs.Replay.{Unseen}
 use Rattle.folder_shelf.specs.declared.disk.Disk.{Ghosts as Disks}
 use Rattle.deck_words.specs.declared.fault.DeckFault.{DeckFault}
 use Rattle.deck_runner.specs.DeckRun.{IsNoDeck}
-use Rattle.deck_runner.specs.RunEnd.{Told, ToldInPart}
+use Rattle.deck_runner.specs.RunEnd.{TellsLines, ToldInPart}
 use Rattle.deck_runner.specs.declared.run_end.RunEnd.{RunEnd}
 use Rattle.shelf_run.specs.ShelfRun.{OnShelf, IsExactRun, Runs, BreaksOff, LeavesFiles, StaysSound}
 use Rattle.command_words.specs.Asks.{FormText, AskRun, AskCheck, AskServe, AskSchema, AskExplain, AskDeck}
@@ -99,7 +99,7 @@ pub record CameTo (folder : List ℕ) (limit frames : ℕ) (run : Begun) (out : 
       (λ first last. IsExactRun run.bytes first last out.before out.behind end)
   pub whole : (end : RunEnd) → outcome ≡ Ok (Ended end)
       → OverFolder run.disk folder run.names run.calls (λ first last. OnShelf run.bytes first last (λ deck.
-      Told out.before out.behind end (Runs limit frames first last 0 run.faults deck)))
+      TellsLines out.before out.behind end (Runs limit frames first last 0 run.faults deck)))
   pub part : outcome ≡ Err Output
       → OverFolder run.disk folder run.names run.calls (λ first last. OnShelf run.bytes first last (λ deck.
       ToldInPart out.before out.behind (BreaksOff limit frames first last 0 run.faults deck)))

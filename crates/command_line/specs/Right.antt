@@ -7,19 +7,19 @@ use Rattle.folder_shelf.specs.Replay.{Unseen}
 use Rattle.file_checker.specs.Sound.{IsRight}
 use Rattle.file_checker.specs.declared.verdict.Verdict.{Verdict}
 use Rattle.file_control.specs.Description.{FileDesc}
-use Rattle.file_statistics.specs.Listing.{EndsWith}
+use Rattle.file_statistics.specs.Listing.{EndsStatisticsWith}
 use Rattle.record_forms.specs.declared.form.Form.{Form}
-use Rattle.schema_listing.specs.Listing.{Tells, read_in}
+use Rattle.schema_listing.specs.Listing.{TellsHeader, read_of_file}
 use Rattle.schema_listing.specs.Comparing.{TellsDifferences}
 use Rattle.command_words.specs.Asks.{AskCheck, AskCobol, AskDeck, AskExplain, AskStat}
 use Rattle.file_commands.specs.DeckFile.{IsDeckFile}
 use Rattle.file_commands.specs.Forms.{IsFormAsked}
-use Rattle.file_commands.specs.Front.{IsDeckNamed, IsTextNamed, OfFile, OfWholeFile, OfDeck}
+use Rattle.file_commands.specs.Front.{IsDeckNamed, IsTextNamed, OfOpenedFile, OfWholeFile, OfNamedDeck}
 use Rattle.file_commands.specs.Listed.{WritesList, WritesCobol}
 use Rattle.file_commands.specs.Records.{ListsRecords}
 use Rattle.file_commands.specs.Verdicts.{AreVerdicts}
 use Rattle.explanations.specs.Tables.{explanation}
-use Rattle.command_line.specs.Explained.{WritesText}
+use Rattle.command_line.specs.Explained.{WritesExplanation}
 use Rattle.command_line.specs.Loaded.{LoadsDeck}
 use Rattle.command_line.specs.Performed.{Written, wrote, AskForLoad, AskForRecords, AskForSchema}
 use Rattle.standard_input.specs.declared.standard_input.StandardInput.{StandardInput}
@@ -50,7 +50,7 @@ AreOfDeck given = IsDeckNamed given.of_file given.of_input
 
 -- the verdict is that on some file
 abbrev pub IsVerdict : {File : Type 0} → Given File → Verdict → Type 0
-IsVerdict given verdict = OfFile given.of_file (λ bytes. IsRight bytes verdict)
+IsVerdict given verdict = OfOpenedFile given.of_file (λ bytes. IsRight bytes verdict)
 
 -- the outcome is right, of what was read and of what was written, for words that ask for it. What is so of a
 -- run and of a session is said by `Did` and `ServedAsAsked`, and of the text of help nothing is said.
@@ -66,24 +66,24 @@ IsRightOf given words out (CheckedAll sound) =
     × AreVerdicts (IsVerdict given) (length files) sound
 -- the lines of a file's schema were written
 IsRightOf given words out SchemaTold =
-    OfFile given.of_file (λ bytes. Tells out.before out.behind (read_in bytes) (Ok tt))
+    OfOpenedFile given.of_file (λ bytes. TellsHeader out.before out.behind (read_of_file bytes) (Ok tt))
 -- a file has no schema, for this reason
 IsRightOf given words out (SchemaRefused refusal) =
-    OfFile given.of_file (λ bytes. Tells out.before out.behind (read_in bytes) (Err refusal))
+    OfOpenedFile given.of_file (λ bytes. TellsHeader out.before out.behind (read_of_file bytes) (Err refusal))
 -- the differences of a file's schema from that of the file of a deck that the words name were written
 IsRightOf given words out (SchemaCompared told) =
     (schema : AskForSchema words) × (described : FileDesc)
     × IsDeckFile (AreOfDeck given) schema.deck schema.name described
-    × OfFile given.of_file (λ bytes.
-    TellsDifferences described.schema out.before out.behind (read_in bytes) (Ok told))
+    × OfOpenedFile given.of_file (λ bytes.
+    TellsDifferences described.schema out.before out.behind (read_of_file bytes) (Ok told))
 -- the text of the number that the words name was written
 IsRightOf given words out Explained =
     (kind : Text) × (number : Text) × AskExplain words kind number
-    × WritesText (explanation kind number) out.before out.behind
+    × WritesExplanation (explanation kind number) out.before out.behind
 -- the list of the deck that the words name was written
 IsRightOf given words out Listed =
     (deck : Text) × AskDeck words deck
-    × OfDeck given.of_file given.of_input deck (λ bytes. WritesList bytes out.before out.behind)
+    × OfNamedDeck given.of_file given.of_input deck (λ bytes. WritesList bytes out.before out.behind)
 -- the records that the words ask for were written, in the form that they name, or it is told why not
 IsRightOf given words out (Records list) =
     (asked : AskForRecords words) × (form : Form) × IsFormAsked (AreOfDeck given) asked.form form
@@ -92,17 +92,17 @@ IsRightOf given words out (Records list) =
 -- the deck that the words name was written as a program
 IsRightOf given words out InCobol =
     (deck : Text) × (fixed : Bool) × AskCobol words deck fixed
-    × OfDeck given.of_file given.of_input deck (λ bytes. WritesCobol bytes fixed out.before out.behind)
+    × OfNamedDeck given.of_file given.of_input deck (λ bytes. WritesCobol bytes fixed out.before out.behind)
 -- the text that the words name was loaded, up to this end: into the file of the deck that they name, in the
 -- folder that they name
 IsRightOf given words out (Loaded end) =
-    (load : AskForLoad words) × OfDeck given.of_file given.of_input load.deck (λ bytes.
+    (load : AskForLoad words) × OfNamedDeck given.of_file given.of_input load.deck (λ bytes.
     LoadsDeck given.of_folder (IsTextNamed given.of_file given.of_input load.text)
     bytes load.folder load.file load.form load.into out.before out.behind end)
 -- what a file has was counted and written, or it is told why not
 IsRightOf given words out (Counted end) =
     (path : Text) × AskStat words path
-    × OfWholeFile given.of_file (λ bytes. EndsWith bytes out.before out.behind end)
+    × OfWholeFile given.of_file (λ bytes. EndsStatisticsWith bytes out.before out.behind end)
 
 -- where something was done, it is right of what was read of the files, of the input and of the folder
 abbrev pub RightIfOk : {F I W : Type 0} → (F → Option (List ℕ)) → (I → Option (List ℕ)) → StandardInput I

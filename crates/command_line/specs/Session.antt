@@ -7,7 +7,7 @@ use Rattle.indexed_file.specs.Shown.{Shown}
 use Rattle.shelf_library.specs.Library.{shown_by}
 use Rattle.shelf_library.specs.State.{LibraryState}
 use Rattle.shelf_library.specs.declared.library.ShelfLibrary.{ShelfLibrary}
-use Rattle.shelf_run.specs.ShelfRun.{over}
+use Rattle.shelf_run.specs.ShelfRun.{over_shelf}
 use Rattle.standard_input.specs.Source.{source_of}
 use Rattle.standard_input.specs.declared.standard_input.StandardInput.{StandardInput}
 use Rattle.serve.specs.Serving.{Streams, streams, Served}
@@ -21,7 +21,7 @@ use Rattle.command_outcomes.specs.declared.fault.Fault.TheVariants.{Input, Outpu
 
 -- a library, by what its shelf shows
 abbrev pub library_state : {X : Type 0} → (shelf : Ghosts X) → ShelfLibrary X shelf → LibraryState
-library_state shelf library = over library.limit (non_zero_usize_get library.frames)
+library_state shelf library = over_shelf library.limit (non_zero_usize_get library.frames)
     (shelf.state library.shelf) library.units.items (shelf.fault_count library.shelf)
 
 -- what libraries over such shelves show
@@ -32,7 +32,7 @@ shown_over shelf = shown_by (library_state shelf)
 abbrev pub IsNewOver : {X : Type 0} → (shelf : Ghosts X) → (List ℕ → Unseen) → (path : List ℕ)
     → (limit frames : ℕ) → ShelfLibrary X shelf → Type 0
 IsNewOver shelf disk path limit frames library =
-    library_state shelf library ≡ over limit frames (folder_at_first disk path) [] 0
+    library_state shelf library ≡ over_shelf limit frames (folder_at_first disk path) [] 0
 
 -- what the input of a session gave and what its output took, by what they have left and have
 abbrev pub streams_of : {I W : Type 0} → (I → Option (List ℕ)) → (W → Option (List ℕ))

@@ -10,7 +10,7 @@ use Rattle.folder_shelf.specs.declared.disk.Disk.{Ghosts as Disks}
 use Rattle.folder_shelf.specs.declared.folder_shelf.FolderShelf.{FolderShelf}
 use Rattle.deck_words.specs.declared.fault.DeckFault.{DeckFault}
 use Rattle.deck_runner.specs.DeckRun.{IsNoDeck}
-use Rattle.deck_runner.specs.RunEnd.{Told, ToldInPart}
+use Rattle.deck_runner.specs.RunEnd.{TellsLines, ToldInPart}
 use Rattle.deck_runner.specs.declared.run_end.RunEnd.{RunEnd}
 use Rattle.shelf_run.specs.ShelfRun.{OnShelf, IsExactRun, Runs, BreaksOff, LeavesFiles}
 use Rattle.command_words.specs.declared.limits.Limits.{Limits}
@@ -34,7 +34,7 @@ module _ {R D F E : Type 0} {reads : Reads F} {writes : Writes F} {seeks : Seeks
       → FolderShelf R D F E reads writes seeks entries disks → (bytes : List ℕ) → Limits
       → (W → Option (List ℕ)) → (old new : W) → RunEnd → Type 0
   TellsRun disk path shelf bytes limits contents old new end = OverShelf disk path shelf (λ first last.
-      OnShelf bytes first last (λ deck. Told (contents old) (contents new) end
+      OnShelf bytes first last (λ deck. TellsLines (contents old) (contents new) end
       (Runs limits.pages (non_zero_usize_get limits.frames) first last 0 shelf.faults deck)))
 
   -- where the writer refused a line, lines of it were written, up to that one

@@ -1,6 +1,6 @@
 //! The form of the text of a load.
 ghost use Rattle.std.specs.Prelude.{◌≡◌, codes, IfOk, IfErr, IfSome, None};
-ghost use Rattle.command_line.specs.LoadForm.{word_of, IsNoFormWord, IsFormOf, AreColumnsOf};
+ghost use Rattle.command_line.specs.LoadForm.{form_word, IsNoFormWord, IsFormOf, AreColumnsOf};
 
 use command_outcomes::Fault;
 use file_control::FileDesc;
@@ -17,7 +17,7 @@ pub enum FormKind {
 
 /// The form that a word asks for.
 pub fn kind_of(word: &str) -> Option<FormKind>
-    ensures kind { IfSome result (λ kind. word.now ≡ word_of kind) }
+    ensures kind { IfSome result (λ kind. word.now ≡ form_word kind) }
     ensures none { result ≡ None → IsNoFormWord word.now }
 {
     if word == "text" {
@@ -45,7 +45,7 @@ fn columns_of(alloc: Global, file: &FileDesc) -> Result<Vec<Column>, Fault>
 
 /// The form, with the columns of a file.
 pub fn form_of(alloc: Global, kind: FormKind, file: &FileDesc) -> Result<Form, Fault>
-    ensures form { IfOk result (IsFormOf (word_of kind) file.now) }
+    ensures form { IfOk result (IsFormOf (form_word kind) file.now) }
     ensures fault { IfErr result (λ fault. fault ≡ Fault.Memory) }
 {
     match kind {

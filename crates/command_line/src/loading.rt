@@ -1,7 +1,7 @@
 //! The loading of a text into a file of a deck over a folder.
 ghost use Rattle.std.specs.Prelude.{◌≡◌, [], true, false, codes, IfErr};
 ghost use Rattle.file_commands.specs.Front.{GivesSuch};
-ghost use Rattle.record_reading.specs.Whole.{IsWhole};
+ghost use Rattle.record_reading.specs.Whole.{IsWholeForm};
 ghost use Rattle.command_line.specs.Loaded.{load_of, LoadsDescribed, TellsLoad, LoadsBytes};
 ghost use Rattle.command_outcomes.specs.Status.{status_of};
 
@@ -76,7 +76,7 @@ fn load_over_folder<R: Files, D: Disk, P: Progress>(
 ) -> Result<ShelfEnd, Fault>
 where
     R::File: FileExt + LockFile,
-    requires whole { IsWhole form.now file.now.schema.greatest }
+    requires whole { IsWholeForm form.now file.now.schema.greatest }
     ensures loads { LoadsDescribed D.Disk.unseen folder file.now load form.now text.now result }
     ensures fault { IfErr result (λ fault. status_of fault ≡ 4) }
 {

@@ -5,7 +5,7 @@ use Rattle.clap.specs.declared.error.Error.{Error}
 use Rattle.clap.specs.declared.error.ErrorKind.TheVariants.{OutOfMemory}
 use Rattle.clap.proofs.OnLiterals.{clap_on_literals}
 use Rattle.command_words.specs.CommandLine.{program_app}
-use Rattle.command_words.specs.Asks.{Ask, AskNothing, AreFaultless, IsMet, IsShown}
+use Rattle.command_words.specs.Asks.{Ask, AskNothing, AreFaultless, IsRequestMet, IsHelpText}
 use Rattle.command_words.specs.declared.fault.WordsFault.{WordsFault}
 use Rattle.command_words.specs.declared.fault.WordsFault.TheVariants.{Usage}
 use Rattle.command_words.specs.declared.request.Request.{Request}
@@ -27,7 +27,7 @@ pub simple_and_free : (app : App) → app ≡ program_app → is_simple_and_free
 simple_and_free app is = rw is has_known_faults
 
 -- what was met is what the words ask for
-pub met_asked : (words : List Text) (met : Option (Text × List Row)) (request : Request) → AreFaultless words → met ≡ subcommand_of program_app words → IsMet met request → Ask words request
+pub met_asked : (words : List Text) (met : Option (Text × List Row)) (request : Request) → AreFaultless words → met ≡ subcommand_of program_app words → IsRequestMet met request → Ask words request
 met_asked words met (Run deck folder limits) faultless is h = (faultless, rw (← is) h)
 met_asked words met (Check files quiet) faultless is h = (faultless, rw (← is) h)
 met_asked words met (Serve folder limits) faultless is h = (faultless, rw (← is) h)
@@ -45,19 +45,19 @@ second : {A B : Type 0} → A ⊎ B → (A → ⊥) → B
 second (inl a) never = absurd (never a)
 second (inr b) never = b
 
-shown_is_no_memory : (text : Error) → IsShown text → kind_of text ≡ OutOfMemory → ⊥
+shown_is_no_memory : (text : Error) → IsHelpText text → kind_of text ≡ OutOfMemory → ⊥
 shown_is_no_memory text (inl h) memory = absurd (cc)
 shown_is_no_memory text (inr h) memory = absurd (cc)
 
 -- help is what the words ask for
 pub help_asked : (words : List Text) (result : Result Request WordsFault) (error : Error) → HasKind (fault_of program_app words) error
-    → IfOk result (λ request. (request ≡ Help error) × IsShown error) → IfOk result (Ask words)
+    → IfOk result (λ request. (request ≡ Help error) × IsHelpText error) → IfOk result (Ask words)
 help_asked words (Ok request) error kind h = subst (Ask words) (sym h.0) (second kind (shown_is_no_memory error h.1), h.1)
 help_asked words (Err fault) error kind h = tt
 
 -- nothing is what they ask for
 pub nothing_asked : (words : List Text) (result : Result Request WordsFault) (error : Error) → HasKind (fault_of program_app words) error
-    → IfErr result (λ fault. (text : Error) → fault ≡ Usage text → (text ≡ error) × (IsShown error → ⊥) × (kind_of error ≢ OutOfMemory))
+    → IfErr result (λ fault. (text : Error) → fault ≡ Usage text → (text ≡ error) × (IsHelpText error → ⊥) × (kind_of error ≢ OutOfMemory))
     → IfErr result (λ fault. (text : Error) → fault ≡ Usage text → AskNothing words text)
 nothing_asked words (Ok request) error kind h = tt
 nothing_asked words (Err fault) error kind h = λ text is.

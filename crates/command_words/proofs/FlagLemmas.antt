@@ -8,7 +8,7 @@ use Rattle.clap.specs.Words.{Row, Text, one_of, one_text, rows_of}
 use Rattle.clap.specs.Matches.{ReadsOne}
 use Rattle.clap.specs.declared.parser.matches.Found.{Found}
 use Rattle.clap.proofs.WalkLemmas.{one_text-rows}
-use Rattle.command_words.specs.Asks.{IsFlag, IsQuiet}
+use Rattle.command_words.specs.Asks.{IsFlag, IsQuietRequest}
 
 -- the text of this id is there, and this truth value
 abbrev pub GivenFlag : List Row → Text → Bool → Type 0
@@ -45,7 +45,7 @@ module _ (f : Found) (id : Text) where
 
 -- whether no progress is to be shown, where that was read
 pub quiet_read : (f : Found) (read : Option Bool) → (one_text f (codes "quiet") ≡ None → read ≡ None) → ((t : Text) → one_text f (codes "quiet") ≡ Some t → ReadsOne {E = ParseBoolError} ParsesBool t read)
-    → IfSome read (IsQuiet (rows_of f))
+    → IfSome read (IsQuietRequest (rows_of f))
 quiet_read f None none some = tt
 quiet_read f (Some quiet) none some =
     let given = flag_read f (codes "quiet") (Some quiet) none some quiet refl in

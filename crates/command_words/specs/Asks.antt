@@ -34,7 +34,8 @@ pub record AreLimits (rows : List Row) (pages frames : ℕ) : Type 0 where
   pub most_frames : frames ≤ 4096
 
 -- the subcommand that was met is the run of this deck over this folder, with these limits
-pub record IsRun (met : Option (Text × List Row)) (deck folder : Text) (pages frames : ℕ) : Type 0 where
+pub record IsRunRequest (met : Option (Text × List Row)) (deck folder : Text) (pages frames : ℕ) : Type
+    0 where
   pub rows : List Row
   pub is : met ≡ Some (codes "run", rows)
   pub deck_given : first_of (codes "deck") rows ≡ Some deck
@@ -47,7 +48,7 @@ IsFlag text true = text ≡ codes "true"
 IsFlag text false = text ≡ codes "false"
 
 -- the values ask that no progress is shown, or do not
-pub record IsQuiet (rows : List Row) (quiet : Bool) : Type 0 where
+pub record IsQuietRequest (rows : List Row) (quiet : Bool) : Type 0 where
   pub text : Text
   pub given : one_of (codes "quiet") rows ≡ Some text
   pub is : IsFlag text quiet
@@ -57,7 +58,7 @@ pub record IsCheck (met : Option (Text × List Row)) (files : List Text) (quiet 
   pub rows : List Row
   pub is : met ≡ Some (codes "check", rows)
   pub files_given : all_of (codes "file") rows ≡ Some files
-  pub quiet_is : IsQuiet rows quiet
+  pub quiet_is : IsQuietRequest rows quiet
 
 -- the subcommand that was met is to serve the files of this folder, with these limits
 pub record IsServe (met : Option (Text × List Row)) (folder : Text) (pages frames : ℕ) : Type 0 where
@@ -68,7 +69,8 @@ pub record IsServe (met : Option (Text × List Row)) (folder : Text) (pages fram
 
 -- the subcommand that was met is to tell the schema of this file, or to hold it against that of a
 -- file of a deck
-pub record IsSchema (met : Option (Text × List Row)) (file : Text) (deck name : Option Text) : Type 0 where
+pub record IsSchemaRequest (met : Option (Text × List Row)) (file : Text) (deck name : Option Text) : Type
+    0 where
   pub rows : List Row
   pub is : met ≡ Some (codes "schema", rows)
   pub file_given : first_of (codes "file") rows ≡ Some file
@@ -83,7 +85,7 @@ pub record IsExplain (met : Option (Text × List Row)) (kind number : Text) : Ty
   pub number_given : first_of (codes "number") rows ≡ Some number
 
 -- the subcommand that was met is to list this deck
-pub record IsDeck (met : Option (Text × List Row)) (deck : Text) : Type 0 where
+pub record IsDeckRequest (met : Option (Text × List Row)) (deck : Text) : Type 0 where
   pub rows : List Row
   pub is : met ≡ Some (codes "deck", rows)
   pub deck_given : first_of (codes "deck") rows ≡ Some deck
@@ -127,7 +129,7 @@ pub record IsList (met : Option (Text × List Row)) (file : Text) (key : ℕ) (f
   pub from_is : first_of (codes "from") rows ≡ from
   pub to_is : first_of (codes "to") rows ≡ to
   pub form_is : IsForm rows form
-  pub quiet_is : IsQuiet rows quiet
+  pub quiet_is : IsQuietRequest rows quiet
 
 -- the subcommand that was met is to write this deck in COBOL, in fixed form or not
 pub record IsCobol (met : Option (Text × List Row)) (deck : Text) (fixed : Bool) : Type 0 where
@@ -153,7 +155,7 @@ pub record IsLoad (met : Option (Text × List Row)) (deck folder file text form 
   pub into_given : one_of (codes "into") rows ≡ Some into_text
   pub into_is : IsFlag into_text into
   pub limits : AreLimits rows pages frames
-  pub quiet_is : IsQuiet rows quiet
+  pub quiet_is : IsQuietRequest rows quiet
 
 -- the subcommand that was met is to count what this file has
 pub record IsStat (met : Option (Text × List Row)) (file : Text) : Type 0 where
@@ -162,27 +164,28 @@ pub record IsStat (met : Option (Text × List Row)) (file : Text) : Type 0 where
   pub file_given : first_of (codes "file") rows ≡ Some file
 
 -- the subcommand that was met, with its values, is what is asked for
-abbrev pub IsMet : Option (Text × List Row) → Request → Type 0
-IsMet met (Run deck folder limits) = IsRun met deck.now folder.now limits.pages limits.frames.value
-IsMet met (Check files quiet) = IsCheck met (map (λ file. file.now) files.items) quiet
-IsMet met (Serve folder limits) = IsServe met folder.now limits.pages limits.frames.value
-IsMet met (Schema file deck name) = IsSchema met file.now (option_map (λ text. text.now) deck)
+abbrev pub IsRequestMet : Option (Text × List Row) → Request → Type 0
+IsRequestMet met (Run deck folder limits) =
+    IsRunRequest met deck.now folder.now limits.pages limits.frames.value
+IsRequestMet met (Check files quiet) = IsCheck met (map (λ file. file.now) files.items) quiet
+IsRequestMet met (Serve folder limits) = IsServe met folder.now limits.pages limits.frames.value
+IsRequestMet met (Schema file deck name) = IsSchemaRequest met file.now (option_map (λ text. text.now) deck)
     (option_map (λ text. text.now) name)
-IsMet met (Explain kind number) = IsExplain met kind.now number.now
-IsMet met (Deck deck) = IsDeck met deck.now
-IsMet met (ListRecords file key from to first form quiet) =
+IsRequestMet met (Explain kind number) = IsExplain met kind.now number.now
+IsRequestMet met (Deck deck) = IsDeckRequest met deck.now
+IsRequestMet met (ListRecords file key from to first form quiet) =
     IsList met file.now key (option_map (λ text. text.now) from) (option_map (λ text. text.now) to) first
     (form_text form) quiet
-IsMet met (Cobol deck fixed) = IsCobol met deck.now fixed
-IsMet met (Load deck folder file text form into limits quiet) =
+IsRequestMet met (Cobol deck fixed) = IsCobol met deck.now fixed
+IsRequestMet met (Load deck folder file text form into limits quiet) =
     IsLoad met deck.now folder.now file.now text.now form.now into limits.pages limits.frames.value quiet
-IsMet met (Stat file) = IsStat met file.now
-IsMet met (Help text) = ⊥
+IsRequestMet met (Stat file) = IsStat met file.now
+IsRequestMet met (Help text) = ⊥
 
 -- the subcommand that was met is no run, or its values are none that a run can have; and so of each
 -- other subcommand
 abbrev pub IsNoRun : Option (Text × List Row) → Type 0
-IsNoRun met = (deck folder : Text) (pages frames : ℕ) → ¬ (IsRun met deck folder pages frames)
+IsNoRun met = (deck folder : Text) (pages frames : ℕ) → ¬ (IsRunRequest met deck folder pages frames)
 
 abbrev pub IsNoCheck : Option (Text × List Row) → Type 0
 IsNoCheck met = (files : List Text) (quiet : Bool) → ¬ (IsCheck met files quiet)
@@ -191,13 +194,13 @@ abbrev pub IsNoServe : Option (Text × List Row) → Type 0
 IsNoServe met = (folder : Text) (pages frames : ℕ) → ¬ (IsServe met folder pages frames)
 
 abbrev pub IsNoSchema : Option (Text × List Row) → Type 0
-IsNoSchema met = (file : Text) (deck name : Option Text) → ¬ (IsSchema met file deck name)
+IsNoSchema met = (file : Text) (deck name : Option Text) → ¬ (IsSchemaRequest met file deck name)
 
 abbrev pub IsNoExplain : Option (Text × List Row) → Type 0
 IsNoExplain met = (kind number : Text) → ¬ (IsExplain met kind number)
 
 abbrev pub IsNoDeckList : Option (Text × List Row) → Type 0
-IsNoDeckList met = (deck : Text) → ¬ (IsDeck met deck)
+IsNoDeckList met = (deck : Text) → ¬ (IsDeckRequest met deck)
 
 abbrev pub IsNoList : Option (Text × List Row) → Type 0
 IsNoList met = (file : Text) (key : ℕ) (from to : Option Text) (first : ℕ) (form : FormText)
@@ -247,17 +250,17 @@ abbrev pub IfUsage : (IsSo : Error → Type 0) → WordsFault → Type 0
 IfUsage IsSo fault = (text : Error) → fault ≡ Usage text → IsSo text
 
 -- the text is help or the version
-abbrev pub IsShown : Error → Type 0
-IsShown text = (kind_of text ≡ DisplayHelp) ⊎ (kind_of text ≡ DisplayVersion)
+abbrev pub IsHelpText : Error → Type 0
+IsHelpText text = (kind_of text ≡ DisplayHelp) ⊎ (kind_of text ≡ DisplayVersion)
 
 -- the text that is told is that of the error, which is a mistake and no want of memory
 abbrev pub IsMistake : (error text : Error) → Type 0
-IsMistake error text = (text ≡ error) × (IsShown error → ⊥) × (kind_of error ≢ OutOfMemory)
+IsMistake error text = (text ≡ error) × (IsHelpText error → ⊥) × (kind_of error ≢ OutOfMemory)
 
 -- the words, the program's name first, ask for the run of this deck over this folder, with these limits
 abbrev pub AskRun : List Text → (deck folder : Text) (pages frames : ℕ) → Type 0
 AskRun words deck folder pages frames = AreFaultless words
-    × IsRun (subcommand_of program_app words) deck folder pages frames
+    × IsRunRequest (subcommand_of program_app words) deck folder pages frames
 
 -- for the check of these files, with progress or not
 abbrev pub AskCheck : List Text → (files : List Text) (quiet : Bool) → Type 0
@@ -271,7 +274,7 @@ AskServe words folder pages frames = AreFaultless words
 -- for the schema of this file, or to hold it against that of a file of a deck
 abbrev pub AskSchema : List Text → (file : Text) (deck name : Option Text) → Type 0
 AskSchema words file deck name = AreFaultless words
-    × IsSchema (subcommand_of program_app words) file deck name
+    × IsSchemaRequest (subcommand_of program_app words) file deck name
 
 -- to explain the number of this kind
 abbrev pub AskExplain : List Text → (kind number : Text) → Type 0
@@ -279,7 +282,7 @@ AskExplain words kind number = AreFaultless words × IsExplain (subcommand_of pr
 
 -- to list this deck
 abbrev pub AskDeck : List Text → (deck : Text) → Type 0
-AskDeck words deck = AreFaultless words × IsDeck (subcommand_of program_app words) deck
+AskDeck words deck = AreFaultless words × IsDeckRequest (subcommand_of program_app words) deck
 
 -- to list records of this file in a form, with progress or not
 abbrev pub AskList : List Text → (file : Text) (key : ℕ) (from to : Option Text) (first : ℕ)
@@ -304,7 +307,7 @@ AskStat words file = AreFaultless words × IsStat (subcommand_of program_app wor
 
 -- for help or the version, as the text shows it
 abbrev pub AskHelp : List Text → Error → Type 0
-AskHelp words text = HaveFault words text × IsShown text
+AskHelp words text = HaveFault words text × IsHelpText text
 
 -- for this
 abbrev pub Ask : List Text → Request → Type 0
@@ -326,5 +329,5 @@ Ask words (Help text) = AskHelp words text
 
 -- for nothing, and the text tells why
 abbrev pub AskNothing : List Text → Error → Type 0
-AskNothing words text = (HaveFault words text × (IsShown text → ⊥))
+AskNothing words text = (HaveFault words text × (IsHelpText text → ⊥))
     ⊎ (AreFaultless words × IsNone (subcommand_of program_app words))

@@ -54,10 +54,10 @@ with_form app = with_deck (with_rule (with_rule app (usual_rule (codes "as") (co
     (text_rule (codes "cut")))
 
 -- with the file of a load, and its text
-abbrev pub with_names : App → App
-with_names app = with_rule (with_rule app (option_rule (codes "file"))) (word_rule (codes "text"))
+abbrev pub with_file_words : App → App
+with_file_words app = with_rule (with_rule app (option_rule (codes "file"))) (word_rule (codes "text"))
 
 -- with its options too
 abbrev pub with_text : App → App
-with_text app = with_rule (with_rule (with_names app) (usual_rule (codes "as") (codes "text")))
+with_text app = with_rule (with_rule (with_file_words app) (usual_rule (codes "as") (codes "text")))
     (flag_rule (codes "into"))

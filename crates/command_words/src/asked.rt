@@ -2,7 +2,8 @@
 ghost use Rattle.std.specs.Prelude.{◌≡◌, ℕ, Bool, List, Option, None, IfOk};
 ghost use Rattle.std.specs.Option.{IfSome};
 ghost use Rattle.clap.specs.Words.{found_of, rows_of, subcommand_rows_of};
-ghost use Rattle.command_words.specs.Asks.{AreLimits, IsQuiet, FormText, form_text, IsForm, IsMet, IsNoRun};
+ghost use Rattle.command_words.specs.Asks.{AreLimits, IsQuietRequest, FormText, form_text, IsForm};
+ghost use Rattle.command_words.specs.Asks.{IsRequestMet, IsNoRun};
 ghost use Rattle.command_words.specs.Asks.{IsNoCheck, IsNoServe, IsNoSchema, IsNoExplain, IsNoDeckList};
 ghost use Rattle.command_words.specs.Asks.{IsNoList, IsNoCobol, IsNoLoad, IsNoStat, IsNoRunOrList};
 ghost use Rattle.command_words.specs.Asks.{IsNoRecords, IsNone};
@@ -27,7 +28,7 @@ fn limits_of(files: &ArgMatches<'_>) -> Option<Limits>
 
 /// The run that the matches ask for, if they ask for one.
 fn run_of<'a>(matches: &ArgMatches<'a>) -> Option<Request<'a>>
-    ensures some { IfSome result (IsMet (subcommand_rows_of matches.now)) }
+    ensures some { IfSome result (IsRequestMet (subcommand_rows_of matches.now)) }
     ensures none { result ≡ None → IsNoRun (subcommand_rows_of matches.now) }
 {
     let run = matches.subcommand_matches("run")?;
@@ -43,15 +44,15 @@ fn run_of<'a>(matches: &ArgMatches<'a>) -> Option<Request<'a>>
 
 /// Whether it is asked that no progress is shown.
 fn quiet_of(long: &ArgMatches<'_>) -> Option<bool>
-    ensures some { IfSome result (IsQuiet (rows_of (found_of long.now))) }
-    ensures none { result ≡ None → (quiet : Bool) → IsQuiet (rows_of (found_of long.now)) quiet → ⊥ }
+    ensures some { IfSome result (IsQuietRequest (rows_of (found_of long.now))) }
+    ensures none { result ≡ None → (quiet : Bool) → IsQuietRequest (rows_of (found_of long.now)) quiet → ⊥ }
 {
     long.get_one("quiet")
 }
 
 /// The checks that the matches ask for, if they ask for some.
 fn check_of<'a>(alloc: Global, matches: &ArgMatches<'a>) -> Result<Option<Request<'a>>, AllocError>
-    ensures some { IfOk result (λ found. IfSome found (IsMet (subcommand_rows_of matches.now))) }
+    ensures some { IfOk result (λ found. IfSome found (IsRequestMet (subcommand_rows_of matches.now))) }
     ensures none { IfOk result (λ found. found ≡ None → IsNoCheck (subcommand_rows_of matches.now)) }
 {
     let check = match matches.subcommand_matches("check") {
@@ -73,7 +74,7 @@ fn check_of<'a>(alloc: Global, matches: &ArgMatches<'a>) -> Result<Option<Reques
 
 /// The session that the matches ask for, if they ask for one.
 fn serve_of<'a>(matches: &ArgMatches<'a>) -> Option<Request<'a>>
-    ensures some { IfSome result (IsMet (subcommand_rows_of matches.now)) }
+    ensures some { IfSome result (IsRequestMet (subcommand_rows_of matches.now)) }
     ensures none { result ≡ None → IsNoServe (subcommand_rows_of matches.now) }
 {
     let serve = matches.subcommand_matches("serve")?;
@@ -84,7 +85,7 @@ fn serve_of<'a>(matches: &ArgMatches<'a>) -> Option<Request<'a>>
 
 /// The schema that the matches ask for, if they ask for one.
 fn schema_of<'a>(matches: &ArgMatches<'a>) -> Option<Request<'a>>
-    ensures some { IfSome result (IsMet (subcommand_rows_of matches.now)) }
+    ensures some { IfSome result (IsRequestMet (subcommand_rows_of matches.now)) }
     ensures none { result ≡ None → IsNoSchema (subcommand_rows_of matches.now) }
 {
     let schema = matches.subcommand_matches("schema")?;
@@ -98,7 +99,7 @@ fn schema_of<'a>(matches: &ArgMatches<'a>) -> Option<Request<'a>>
 
 /// The explanation that the matches ask for, if they ask for one.
 fn explain_of<'a>(matches: &ArgMatches<'a>) -> Option<Request<'a>>
-    ensures some { IfSome result (IsMet (subcommand_rows_of matches.now)) }
+    ensures some { IfSome result (IsRequestMet (subcommand_rows_of matches.now)) }
     ensures none { result ≡ None → IsNoExplain (subcommand_rows_of matches.now) }
 {
     let explain = matches.subcommand_matches("explain")?;
@@ -109,7 +110,7 @@ fn explain_of<'a>(matches: &ArgMatches<'a>) -> Option<Request<'a>>
 
 /// The deck whose list the matches ask for, if they ask for one.
 fn deck_of<'a>(matches: &ArgMatches<'a>) -> Option<Request<'a>>
-    ensures some { IfSome result (IsMet (subcommand_rows_of matches.now)) }
+    ensures some { IfSome result (IsRequestMet (subcommand_rows_of matches.now)) }
     ensures none { result ≡ None → IsNoDeckList (subcommand_rows_of matches.now) }
 {
     let listed = matches.subcommand_matches("deck")?;
@@ -133,7 +134,7 @@ fn form_of<'a>(list: &ArgMatches<'a>) -> Option<FormWords<'a>>
 
 /// The list that the matches ask for, if they ask for one.
 fn list_of<'a>(matches: &ArgMatches<'a>) -> Option<Request<'a>>
-    ensures some { IfSome result (IsMet (subcommand_rows_of matches.now)) }
+    ensures some { IfSome result (IsRequestMet (subcommand_rows_of matches.now)) }
     ensures none { result ≡ None → IsNoList (subcommand_rows_of matches.now) }
 {
     let list = matches.subcommand_matches("list")?;
@@ -155,7 +156,7 @@ fn list_of<'a>(matches: &ArgMatches<'a>) -> Option<Request<'a>>
 
 /// The program in COBOL that the matches ask for, if they ask for one.
 fn cobol_of<'a>(matches: &ArgMatches<'a>) -> Option<Request<'a>>
-    ensures some { IfSome result (IsMet (subcommand_rows_of matches.now)) }
+    ensures some { IfSome result (IsRequestMet (subcommand_rows_of matches.now)) }
     ensures none { result ≡ None → IsNoCobol (subcommand_rows_of matches.now) }
 {
     let cobol = matches.subcommand_matches("cobol")?;
@@ -166,7 +167,7 @@ fn cobol_of<'a>(matches: &ArgMatches<'a>) -> Option<Request<'a>>
 
 /// The load that the matches ask for, if they ask for one.
 fn load_of<'a>(matches: &ArgMatches<'a>) -> Option<Request<'a>>
-    ensures some { IfSome result (IsMet (subcommand_rows_of matches.now)) }
+    ensures some { IfSome result (IsRequestMet (subcommand_rows_of matches.now)) }
     ensures none { result ≡ None → IsNoLoad (subcommand_rows_of matches.now) }
 {
     let load = matches.subcommand_matches("load")?;
@@ -192,7 +193,7 @@ fn load_of<'a>(matches: &ArgMatches<'a>) -> Option<Request<'a>>
 
 /// The count that the matches ask for, if they ask for one.
 fn stat_of<'a>(matches: &ArgMatches<'a>) -> Option<Request<'a>>
-    ensures some { IfSome result (IsMet (subcommand_rows_of matches.now)) }
+    ensures some { IfSome result (IsRequestMet (subcommand_rows_of matches.now)) }
     ensures none { result ≡ None → IsNoStat (subcommand_rows_of matches.now) }
 {
     let stat = matches.subcommand_matches("stat")?;
@@ -203,7 +204,7 @@ fn stat_of<'a>(matches: &ArgMatches<'a>) -> Option<Request<'a>>
 /// A run, a session, a schema, an explanation or the list of a deck that the matches ask for, if
 /// they ask for one.
 fn run_or_list_of<'a>(matches: &ArgMatches<'a>) -> Option<Request<'a>>
-    ensures some { IfSome result (IsMet (subcommand_rows_of matches.now)) }
+    ensures some { IfSome result (IsRequestMet (subcommand_rows_of matches.now)) }
     ensures none { result ≡ None → IsNoRunOrList (subcommand_rows_of matches.now) }
 {
     if let Some(run) = run_of(matches) {
@@ -223,7 +224,7 @@ fn run_or_list_of<'a>(matches: &ArgMatches<'a>) -> Option<Request<'a>>
 
 /// A list of records, a program in COBOL, a load or a count that the matches ask for, if they ask for one.
 fn records_of<'a>(matches: &ArgMatches<'a>) -> Option<Request<'a>>
-    ensures some { IfSome result (IsMet (subcommand_rows_of matches.now)) }
+    ensures some { IfSome result (IsRequestMet (subcommand_rows_of matches.now)) }
     ensures none { result ≡ None → IsNoRecords (subcommand_rows_of matches.now) }
 {
     if let Some(list) = list_of(matches) {
@@ -243,7 +244,7 @@ pub fn request_of<'a>(
     alloc: Global,
     matches: &ArgMatches<'a>,
 ) -> Result<Option<Request<'a>>, AllocError>
-    ensures some { IfOk result (λ found. IfSome found (IsMet (subcommand_rows_of matches.now))) }
+    ensures some { IfOk result (λ found. IfSome found (IsRequestMet (subcommand_rows_of matches.now))) }
     ensures none { IfOk result (λ found. found ≡ None → IsNone (subcommand_rows_of matches.now)) }
 {
     if let Some(request) = run_or_list_of(matches) {

@@ -1,6 +1,6 @@
 //! What a command line asks for.
 ghost use Rattle.std.specs.Prelude.{◌≡◌, map, string_bytes, IfOk, IfErr};
-ghost use Rattle.command_words.specs.Asks.{Ask, AskNothing, IsShown, IfUsage, IsMistake};
+ghost use Rattle.command_words.specs.Asks.{Ask, AskNothing, IsHelpText, IfUsage, IsMistake};
 
 use crate::asked::request_of;
 use crate::fault::WordsFault;
@@ -97,7 +97,7 @@ impl Request<'_> {
 
 /// What an error of the parse means: it shows help, or tells a mistake.
 fn without_matches<'a>(error: Error) -> Result<Request<'a>, WordsFault>
-    ensures help { IfOk result (λ request. (request ≡ Request.Help error) × IsShown error) }
+    ensures help { IfOk result (λ request. (request ≡ Request.Help error) × IsHelpText error) }
     ensures mistake { IfErr result (IfUsage (IsMistake error)) }
 {
     if error.kind() == ErrorKind::OutOfMemory {

@@ -2,7 +2,8 @@
 ghost use Rattle.std.specs.Prelude.{◌≡◌, IfOk};
 ghost use Rattle.clap.specs.Words.{app_of};
 ghost use Rattle.command_words.specs.Commands.{IsLocal, IsApp, HasShape, with_files, with_limits, with_quiet};
-ghost use Rattle.command_words.specs.Commands.{with_deck, with_values, with_bounds, with_form, with_names};
+ghost use Rattle.command_words.specs.Commands.{with_deck, with_values, with_bounds, with_form};
+ghost use Rattle.command_words.specs.Commands.{with_file_words};
 ghost use Rattle.command_words.specs.Commands.{with_text};
 ghost use Rattle.command_words.specs.CommandLine.{run_shape, check_shape, serve_shape, schema_shape};
 ghost use Rattle.command_words.specs.CommandLine.{explain_shape, deck_shape, list_shape, cobol_shape};
@@ -241,7 +242,7 @@ fn cobol_command<'a>(alloc: Global) -> Result<Command<'a>, AllocError>
 /// A load with the name of its file, and its text.
 fn with_names<'a>(alloc: Global, load: Command<'a>) -> Result<Command<'a>, AllocError>
     requires { IsLocal load }
-    ensures { IfOk result (IsApp (with_names (app_of load.entry))) }
+    ensures { IfOk result (IsApp (with_file_words (app_of load.entry))) }
 {
     let file = option(
         alloc,

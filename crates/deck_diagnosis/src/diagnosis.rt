@@ -1,6 +1,6 @@
 //! Why a deck is refused, in words.
 ghost use Rattle.std.specs.Prelude.{◌≡◌, ◌≤◌, List, ℕ, length, IfOk};
-ghost use Rattle.deck_walk.specs.Place.{IsPlaceOf};
+ghost use Rattle.deck_walk.specs.Place.{IsPlaceInDeck};
 ghost use Rattle.deck_diagnosis.specs.Told.{TellsOf};
 
 use crate::keys::bad_layout;
@@ -71,7 +71,7 @@ fn line_start(bytes: &[u8], line: u64) -> usize {
 
 /// The place of a deck that a finding tells.
 fn told_place<'a>(bytes: &'a [u8], finding: &Finding<'_>) -> Place<'a>
-    ensures place { IsPlaceOf bytes.now result }
+    ensures place { IsPlaceInDeck bytes.now result }
     ensures short { length result.text.now ≤ 31 }
 {
     match &finding.word {

@@ -6,7 +6,7 @@ use Rattle.std.proofs.lemmas.Option.{same_Some}
 use Rattle.deck_entries.specs.FileControlEntry.{Clauses}
 use Rattle.deck_entries.specs.FileControlEntry.{FileControlEntry}
 use Rattle.deck_words.specs.Word.{Word}
-use Rattle.deck_entries.specs.FileControlEntry.{entry_of, is_assigned, select_word, new_file_name, select_behind}
+use Rattle.deck_entries.specs.FileControlEntry.{control_entry_of, is_assigned, select_word, new_file_name, select_behind}
 use Rattle.deck_words.proofs.TestLemmas.{then_some, map_some}
 
 less : (m n : ℕ) → nat_lt m n ≡ true → m < n
@@ -27,7 +27,7 @@ file_name_apart earlier text words rest s =
     let t = other_taken (is_assigned earlier s.0) s.0 text s.1 in subst (λ name. is_assigned earlier name ≡ false) t.1 t.0
 
 -- an entry has the file name that stands in it
-file_name_of : (parts : Bool × (List ℕ × (List ℕ × Clauses))) (entry : FileControlEntry) → entry_of parts ≡ Some entry → parts.1.1.0 ≡ entry.file_name
+file_name_of : (parts : Bool × (List ℕ × (List ℕ × Clauses))) (entry : FileControlEntry) → control_entry_of parts ≡ Some entry → parts.1.1.0 ≡ entry.file_name
 file_name_of parts entry e =
     let t = then_some parts.1.1.1.indexed _ entry e in
     let m = map_some _ parts.1.1.1.record_key entry t.1 in

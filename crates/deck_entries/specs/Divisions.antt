@@ -12,12 +12,12 @@ use Rattle.deck_entries.specs.FileDescription.{FileDescription, StorageEntry, de
 use Rattle.deck_entries.specs.FileDescription.{storage_item, with_one}
 
 -- two words and a period
-abbrev pub heading : List ℕ → List ℕ → Rule (Unit {0})
-heading first second = the first ▸ the second ▸ period
+abbrev pub division_heading : List ℕ → List ℕ → Rule (Unit {0})
+division_heading first second = the first ▸ the second ▸ period
 
 -- IDENTIFICATION DIVISION . PROGRAM-ID . name .
 unfoldable pub identification : Rule (Unit {0})
-identification = heading (codes "IDENTIFICATION") (codes "DIVISION") ▸ the
+identification = division_heading (codes "IDENTIFICATION") (codes "DIVISION") ▸ the
     (codes "PROGRAM-ID") ▸ period ▸ name ▸ period
 
 unfoldable pub may_identification : Rule (Unit {0})
@@ -35,7 +35,8 @@ entries = each_behind more_entry []
 -- [IDENTIFICATION ..] ENVIRONMENT DIVISION . INPUT-OUTPUT SECTION . FILE-CONTROL . {select}..
 unfoldable pub file_control_paragraph : Rule (List FileControlEntry)
 file_control_paragraph =
-    may_identification ▸ heading (codes "ENVIRONMENT") (codes "DIVISION") ▸ heading (codes "INPUT-OUTPUT")
+    may_identification ▸ division_heading (codes "ENVIRONMENT") (codes "DIVISION")
+    ▸ division_heading (codes "INPUT-OUTPUT")
     (codes "SECTION")
     ▸ the (codes "FILE-CONTROL") ▸ period ▸ entries
 
@@ -51,13 +52,13 @@ descriptions selected = each_behind (more_description selected) []
 -- DATA DIVISION . FILE SECTION . {fd}..
 unfoldable pub file_section : List FileControlEntry → Rule (List FileDescription)
 file_section selected =
-    heading (codes "DATA") (codes "DIVISION") ▸ heading (codes "FILE")
+    division_heading (codes "DATA") (codes "DIVISION") ▸ division_heading (codes "FILE")
     (codes "SECTION") ▸ descriptions selected
 
 -- [WORKING-STORAGE SECTION . {77 item}..?]
 unfoldable pub storage_section : Rule (List StorageEntry)
 storage_section = (λ said. unwrap_or said []) <$> optional
-    (heading (codes "WORKING-STORAGE") (codes "SECTION") ▸ onto with_one [] storage_item)
+    (division_heading (codes "WORKING-STORAGE") (codes "SECTION") ▸ onto with_one [] storage_item)
 
 unfoldable pub data_division : List FileControlEntry → Rule (List FileDescription × List StorageEntry)
 data_division selected = file_section selected ⊗ storage_section

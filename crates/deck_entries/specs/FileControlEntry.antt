@@ -9,7 +9,8 @@ use Rattle.io_state.specs.declared.modes.Access.{Access}
 use Rattle.io_state.specs.declared.modes.Access.TheVariants.{Sequential, Random, Dynamic}
 use Rattle.io_state.specs.FileName.{is_file_name}
 use Rattle.deck_words.specs.Rule.{Rule, optional, some_onto, where_it_gives}
-use Rattle.deck_words.specs.Notation.{the, name, literal, period, ◌▸◌, ◌◂◌, ◌⊗◌, ◌∣◌, ◌<$>◌, is_there, may}
+use Rattle.deck_words.specs.Notation.{the, name, literal, period, ◌▸◌, ◌◂◌, ◌⊗◌, ◌∣◌, ◌<$>◌, is_word_there}
+use Rattle.deck_words.specs.Notation.{may}
 use Rattle.record_layout.specs.SchemaFault.{KeyClause}
 
 -- a file, as its entry describes it: its name in the program, the name of its file in the folder,
@@ -52,7 +53,7 @@ record_key = RecordKey <$> the (codes "RECORD") ▸ may (codes "KEY") ▸ may (c
 
 -- [[WITH] DUPLICATES]
 unfoldable pub duplicates : Rule Bool
-duplicates = is_there <$> optional (may (codes "WITH") ▸ the (codes "DUPLICATES"))
+duplicates = is_word_there <$> optional (may (codes "WITH") ▸ the (codes "DUPLICATES"))
 
 -- ALTERNATE RECORD [KEY] [IS] name [[WITH] DUPLICATES]
 unfoldable pub alternate : Rule Clause
@@ -107,8 +108,8 @@ unfoldable pub file_name : Rule (List ℕ)
 file_name = where_it_gives (λ text. if is_file_name text then Some text else None) literal
 
 -- the entry: INDEXED and RECORD KEY have to stand; access is sequential where no clause says otherwise
-abbrev pub entry_of : Bool × (List ℕ × (List ℕ × Clauses)) → Option FileControlEntry
-entry_of parts =
+abbrev pub control_entry_of : Bool × (List ℕ × (List ℕ × Clauses)) → Option FileControlEntry
+control_entry_of parts =
     let clauses = parts.1.1.1 in
     if clauses.indexed then option_map (λ key. record {
       name = parts.1.0;
@@ -144,6 +145,6 @@ new_file_name earlier = where_it_gives (λ text. if is_assigned earlier text the
 -- SELECT [OPTIONAL] name ASSIGN [TO] literal {clause}.. .
 unfoldable pub select_behind : List FileControlEntry → Rule FileControlEntry
 select_behind earlier =
-    where_it_gives entry_of (select_word earlier ▸ (is_there <$> may (codes "OPTIONAL"))
+    where_it_gives control_entry_of (select_word earlier ▸ (is_word_there <$> may (codes "OPTIONAL"))
     ⊗ new_name earlier ⊗ (the (codes "ASSIGN") ▸ may (codes "TO") ▸ new_file_name earlier)
     ⊗ some_onto with_clause no_clauses clause ◂ period)

@@ -7,7 +7,7 @@ use Rattle.std.specs.List.{list_any}
 use Rattle.std.specs.Str.{bytes_eq}
 use Rattle.record_layout.specs.Layout.{Entry}
 use Rattle.record_layout.specs.Picture.{number}
-use Rattle.record_layout.specs.Reading.{capped}
+use Rattle.record_layout.specs.Reading.{capped_size}
 use Rattle.deck_words.specs.Class.{levels, pictures}
 use Rattle.deck_words.specs.Rule.{Rule, one, optional, onto, some_onto, where_it_gives}
 use Rattle.deck_words.specs.Operand.{digits}
@@ -21,7 +21,7 @@ use Rattle.deck_entries.specs.declared.clauses.Clauses.{Clauses}
 
 -- a number of at most 18 digits, counted up to one past the greatest record
 unfoldable pub count : Rule ℕ
-count = (λ text. capped (number text)) <$> digits
+count = (λ text. capped_size (number text)) <$> digits
 
 -- the number of one or two digits
 unfoldable pub level : Rule ℕ
@@ -81,15 +81,15 @@ abbrev pub no_clauses : Clauses
 no_clauses = record { label = false; block = false; lengths = None }
 
 -- with a record length, unless there is one
-abbrev pub with_length : Clauses → RecordLength → Option RecordLength → Option Clauses
-with_length clauses said None = Some (record clauses { lengths = Some said })
-with_length clauses said (Some other) = None
+abbrev pub with_record_length : Clauses → RecordLength → Option RecordLength → Option Clauses
+with_record_length clauses said None = Some (record clauses { lengths = Some said })
+with_record_length clauses said (Some other) = None
 
 -- with one clause more, unless it is one a second time
 abbrev pub with_clause : Clauses → DescriptionClause → Option Clauses
 with_clause clauses Label = if clauses.label then None else Some (record clauses { label = true })
 with_clause clauses Block = if clauses.block then None else Some (record clauses { block = true })
-with_clause clauses (Record said) = with_length clauses said clauses.lengths
+with_clause clauses (Record said) = with_record_length clauses said clauses.lengths
 
 -- the clause of a rule, beside these
 abbrev pub added_to : Clauses → Rule DescriptionClause → Rule Clauses

@@ -35,7 +35,7 @@ impl Model for Described {
 
 impl Described {
     ghost use Rattle.std.specs.Prelude.{◌≡◌, map};
-    ghost use Rattle.record_layout.specs.Layout.{entry_of};
+    ghost use Rattle.record_layout.specs.Layout.{entry_of_item};
 
     /// The name of the file.
     pub fn name(&self) -> &[u8]
@@ -46,7 +46,7 @@ impl Described {
 
     /// The items of the record.
     pub fn items(&self) -> &[Item]
-        ensures { map entry_of result.now ≡ self.now.items }
+        ensures { map entry_of_item result.now ≡ self.now.items }
     {
         self.items.as_slice()
     }

@@ -1,6 +1,6 @@
 //! A file control entry: SELECT, ASSIGN, and the clauses of an indexed file.
 ghost use Rattle.std.specs.Prelude.{◌≡◌};
-ghost use Rattle.deck_entries.specs.FileControlEntry.{no_clauses, entry_of};
+ghost use Rattle.deck_entries.specs.FileControlEntry.{no_clauses, control_entry_of};
 ghost use Rattle.deck_words.specs.Reading.{Makes};
 
 use deck_words::{Cause, Refusal};
@@ -131,7 +131,7 @@ impl Model for Clauses {
 
 impl Clauses {
     ghost use Rattle.std.specs.Prelude.{◌≡◌};
-    ghost use Rattle.deck_entries.specs.FileControlEntry.{no_clauses, entry_of};
+    ghost use Rattle.deck_entries.specs.FileControlEntry.{no_clauses, control_entry_of};
     ghost use Rattle.deck_words.specs.Reading.{Makes};
 
     pub fn new(alloc: Global) -> Self
@@ -154,7 +154,7 @@ impl Clauses {
         file_name: FileName,
         line: u64,
     ) -> Result<FileControlEntry, Refusal>
-        ensures { Makes (entry_of (optional, (name.bytes, (file_name.bytes, self)))) result }
+        ensures { Makes (control_entry_of (optional, (name.bytes, (file_name.bytes, self)))) result }
     {
         let Clauses {
             indexed,

@@ -1,6 +1,6 @@
 //! The items of a record, as they are described.
 ghost use Rattle.std.specs.Prelude.{◌≡◌, [], option_map};
-ghost use Rattle.record_layout.specs.Layout.{entry_of};
+ghost use Rattle.record_layout.specs.Layout.{entry_of_item};
 ghost use Rattle.deck_words.specs.Class.{begins};
 ghost use Rattle.deck_words.specs.Rule.{optional, some_onto, where_it_gives};
 ghost use Rattle.deck_words.specs.Reading.{Reads, ReadsAs};
@@ -23,16 +23,16 @@ pub struct Items {
 
 impl Model for Items {
     ghost use Rattle.std.specs.Prelude.{List, map};
-    ghost use Rattle.record_layout.specs.Layout.{Entry, entry_of};
+    ghost use Rattle.record_layout.specs.Layout.{Entry, entry_of_item};
 
     ghost Value = { List Entry };
 
-    ghost view = { λ items. map entry_of items.items.items };
+    ghost view = { λ items. map entry_of_item items.items.items };
 }
 
 impl Items {
     ghost use Rattle.std.specs.Prelude.{◌≡◌, [], ◌∷◌, ◌++◌, map, OnOk};
-    ghost use Rattle.record_layout.specs.Layout.{entry_of};
+    ghost use Rattle.record_layout.specs.Layout.{entry_of_item};
 
     pub fn new(alloc: Global) -> Self
         ensures { result ≡ [] }
@@ -48,7 +48,7 @@ impl Items {
         name: Option<Name>,
         picture: Option<Name>,
     ) -> Result<(), AllocError>
-        ensures { OnOk result (self.new ≡ self.old ++ entry_of
+        ensures { OnOk result (self.new ≡ self.old ++ entry_of_item
             (record { level = level; name = name; picture = picture }) ∷ []) }
     {
         self.items.push(Item {
@@ -61,7 +61,7 @@ impl Items {
 
     /// The entries themselves.
     pub fn as_slice(&self) -> &[Item]
-        ensures { map entry_of result.now ≡ self.now }
+        ensures { map entry_of_item result.now ≡ self.now }
     {
         self.items.as_slice()
     }
@@ -125,7 +125,7 @@ fn may_picture_clause(parser: &mut Parser<'_>) -> Result<Option<Name>, Refusal>
 
 #[tactic(auto, unfolding(crate::specs::FileDescription::item))]
 fn item(parser: &mut Parser<'_>) -> Result<Item, Refusal>
-    ensures { ReadsAs entry_of item parser.old result parser.new }
+    ensures { ReadsAs entry_of_item item parser.old result parser.new }
 {
     let level = level(parser)?;
     let name = may_item_name(parser)?;

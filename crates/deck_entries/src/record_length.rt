@@ -1,7 +1,7 @@
 //! The lengths of records, as a RECORD clause says them.
 ghost use Rattle.std.specs.Prelude.{◌≡◌};
 ghost use Rattle.record_layout.specs.Picture.{number};
-ghost use Rattle.record_layout.specs.Reading.{capped};
+ghost use Rattle.record_layout.specs.Reading.{capped_size};
 ghost use Rattle.deck_words.specs.Reading.{Reads};
 ghost use Rattle.deck_entries.specs.FileDescription.{count, fixed, varying, length_clause};
 
@@ -49,7 +49,7 @@ const CAP: u64 = 4001;
 
 /// The number that digits stand for, or the cap where it is more.
 pub fn number_of(digits: &[u8]) -> u64
-    ensures { result ≡ capped (number digits.now) }
+    ensures { result ≡ capped_size (number digits.now) }
 {
     let mut n: u64 = 0;
     for digit in digits {

@@ -2,7 +2,7 @@
 ghost use Rattle.deck_words.specs.Notation.{the, ◌∣◌};
 ghost use Rattle.deck_words.specs.Reading.{Reads};
 ghost use Rattle.deck_entries.specs.FileDescription.{may_one};
-ghost use Rattle.deck_entries.specs.Divisions.{heading};
+ghost use Rattle.deck_entries.specs.Divisions.{division_heading};
 
 use deck_words::{Parser, Refusal};
 
@@ -31,7 +31,7 @@ pub fn eat_one(parser: &mut Parser<'_>, first: &[u8], second: &[u8]) -> Result<(
 /// Takes the heading of a division or section.
 #[tactic(auto, unfolding(deck_words::specs::Notation::the))]
 pub fn heading(parser: &mut Parser<'_>, first: &[u8], second: &[u8]) -> Result<(), Refusal>
-    ensures { Reads ((heading first.now second.now).reads parser.old) result parser.new }
+    ensures { Reads ((division_heading first.now second.now).reads parser.old) result parser.new }
 {
     parser.expect(first)?;
     parser.expect(second)?;

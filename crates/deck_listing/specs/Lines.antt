@@ -13,9 +13,9 @@ use Rattle.deck_listing.specs.Verbs.{Verb}
 
 -- ---- items
 
-abbrev pub item_name : Option (List ℕ) → List ℕ
-item_name None = codes "FILLER"
-item_name (Some name) = name
+abbrev pub name_or_filler : Option (List ℕ) → List ℕ
+name_or_filler None = codes "FILLER"
+name_or_filler (Some name) = name
 
 abbrev pub digits_word : Bool → List ℕ
 digits_word true = codes " digits"
@@ -24,7 +24,7 @@ digits_word false = []
 -- an item: its name, its place from 0, its length, and whether it is of digits
 abbrev pub item_line : Placed → List ℕ
 item_line item =
-    codes "  item " ++ (item_name item.name ++ (codes " offset "
+    codes "  item " ++ (name_or_filler item.name ++ (codes " offset "
     ++ (decimal item.field.offset ++ (codes " length "
     ++ (decimal item.field.length ++ (digits_word item.field.numeric ++ codes "\n"))))))
 
@@ -37,7 +37,7 @@ is_key_item key item = is_some item.name && (item.field.offset == key.offset
 
 -- the name of the first such item
 abbrev pub key_name : List Placed → KeyPart → List ℕ
-key_name layout key = item_name (option_and_then (λ (item : Placed). item.name)
+key_name layout key = name_or_filler (option_and_then (λ (item : Placed). item.name)
     (find (is_key_item key) layout))
 
 abbrev pub key_kind : ℕ → Bool → List ℕ
@@ -81,30 +81,30 @@ heading_with name file lengths access optional =
 -- ---- verbs and paragraphs
 
 -- a verb as the transcript writes it
-abbrev pub verb_text : FileStatement → List ℕ
-verb_text (Open Input) = codes "OPEN INPUT"
-verb_text (Open Output) = codes "OPEN OUTPUT"
-verb_text (Open InputOutput) = codes "OPEN I-O"
-verb_text (Open Extend) = codes "OPEN EXTEND"
-verb_text (Close lock) = codes "CLOSE"
-verb_text ReadNext = codes "READ NEXT"
-verb_text (Read key) = codes "READ"
-verb_text (Start key length relation) = codes "START"
-verb_text Write = codes "WRITE"
-verb_text Rewrite = codes "REWRITE"
-verb_text Delete = codes "DELETE"
+abbrev pub listed_verb_text : FileStatement → List ℕ
+listed_verb_text (Open Input) = codes "OPEN INPUT"
+listed_verb_text (Open Output) = codes "OPEN OUTPUT"
+listed_verb_text (Open InputOutput) = codes "OPEN I-O"
+listed_verb_text (Open Extend) = codes "OPEN EXTEND"
+listed_verb_text (Close lock) = codes "CLOSE"
+listed_verb_text ReadNext = codes "READ NEXT"
+listed_verb_text (Read key) = codes "READ"
+listed_verb_text (Start key length relation) = codes "START"
+listed_verb_text Write = codes "WRITE"
+listed_verb_text Rewrite = codes "REWRITE"
+listed_verb_text Delete = codes "DELETE"
 
 -- a verb: its number, the line of the deck, and what it does to which file
 abbrev pub verb_line : ℕ → Verb → List ℕ
 verb_line line verb =
     codes "verb " ++ (decimal verb.number ++ (codes " line "
-    ++ (decimal line ++ (codes " " ++ (verb_text verb.statement
+    ++ (decimal line ++ (codes " " ++ (listed_verb_text verb.statement
     ++ (codes " " ++ (verb.file ++ codes "\n")))))))
 
 -- the same without a line
 abbrev pub lineless_verb : Verb → List ℕ
 lineless_verb verb = codes "verb " ++ (decimal verb.number
-    ++ (codes " " ++ (verb_text verb.statement ++ (codes " " ++ (verb.file ++ codes "\n")))))
+    ++ (codes " " ++ (listed_verb_text verb.statement ++ (codes " " ++ (verb.file ++ codes "\n")))))
 
 abbrev pub paragraph_line : (line : ℕ) (name : List ℕ) → List ℕ
 paragraph_line line name = codes "paragraph " ++ (name ++ (codes " line " ++ (decimal line ++ codes "\n")))

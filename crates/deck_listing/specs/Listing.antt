@@ -65,11 +65,11 @@ procedure_lines place (word ∷ words) verbs =
 
 -- ---- decks
 
-abbrev pub listing : Deck → List Word → List ℕ
-listing deck words = flat_map file_lines deck.files
+abbrev pub deck_listing_text : Deck → List Word → List ℕ
+deck_listing_text deck words = flat_map file_lines deck.files
     ++ procedure_lines Description words (verbs_behind deck.files [] deck.statements)
 
 -- the text is the list of the deck that the bytes are
 abbrev pub Lists : List ℕ → List ℕ → Type 0
 Lists bytes text = (deck : Deck) × IsDeck bytes deck
-    × ((words : List Word) × HasWords bytes words × (text ≡ listing deck words))
+    × ((words : List Word) × HasWords bytes words × (text ≡ deck_listing_text deck words))

@@ -14,13 +14,13 @@ pub record Verb : Type 0 where
   pub statement : FileStatement
 
 -- the name of the file of a place
-abbrev pub name_at : List FileDesc → ℕ → List ℕ
-name_at files u = option_map_or (λ file. file.name) (slice_get files u) []
+abbrev pub file_name_at : List FileDesc → ℕ → List ℕ
+file_name_at files u = option_map_or (λ file. file.name) (slice_get files u) []
 
 -- these verbs, and the one that a statement is; MOVE and STOP RUN are none
 abbrev pub with_verb : List FileDesc → List Verb → Statement → List Verb
 with_verb files verbs (Perform u statement) = verbs
-    ++ record { number = length verbs + 1; file = name_at files u; statement = statement } ∷ []
+    ++ record { number = length verbs + 1; file = file_name_at files u; statement = statement } ∷ []
 with_verb files verbs (Move u field source) = verbs
 with_verb files verbs (MoveLength i source) = verbs
 with_verb files verbs StopRun = verbs

@@ -1,8 +1,9 @@
 //! The lines of the list of a deck.
 ghost use Rattle.std.specs.Prelude.{◌≡◌, ◌++◌, option_map, string_bytes, OnOk};
 ghost use Rattle.record_layout.specs.Layout.{item_of};
-ghost use Rattle.deck_listing.specs.Lines.{item_name, digits_word, item_line, key_kind, key_line};
-ghost use Rattle.deck_listing.specs.Lines.{access_word, optional_word, lengths_text, heading_with, verb_text};
+ghost use Rattle.deck_listing.specs.Lines.{name_or_filler, digits_word, item_line, key_kind, key_line};
+ghost use Rattle.deck_listing.specs.Lines.{access_word, optional_word, lengths_text, heading_with};
+ghost use Rattle.deck_listing.specs.Lines.{listed_verb_text};
 ghost use Rattle.deck_listing.specs.Lines.{verb_line, lineless_verb, paragraph_line};
 
 use crate::verbs::Verb;
@@ -12,7 +13,7 @@ use std::alloc::AllocError;
 
 /// The name of an item as it is listed.
 pub fn item_name(name: &Option<Name>) -> &str
-    ensures { result.now ≡ item_name (option_map (λ name. name.bytes) name.now) }
+    ensures { result.now ≡ name_or_filler (option_map (λ name. name.bytes) name.now) }
 {
     match name {
         Some(name) => name.as_str(),
@@ -113,7 +114,7 @@ pub fn add_heading(
 
 /// A verb as the transcript writes it.
 fn verb_text(statement: &FileStatement) -> &'static str
-    ensures { result.now ≡ verb_text statement.now }
+    ensures { result.now ≡ listed_verb_text statement.now }
 {
     match statement {
         FileStatement::Open(OpenMode::Input) => "OPEN INPUT",

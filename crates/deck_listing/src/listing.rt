@@ -5,7 +5,7 @@ ghost use Rattle.deck_words.specs.Fault.{IsTold};
 ghost use Rattle.deck_reader.specs.declared.deck.Deck.{Deck as ReadDeck};
 ghost use Rattle.deck_reader.specs.Deck.{IsDeck};
 ghost use Rattle.deck_listing.specs.Lines.{item_line};
-ghost use Rattle.deck_listing.specs.Listing.{key_lines, file_lines, listing, Lists};
+ghost use Rattle.deck_listing.specs.Listing.{key_lines, file_lines, deck_listing_text, Lists};
 
 use crate::key_name::key_name;
 use crate::lines::{add_heading, add_item, add_key};
@@ -72,7 +72,7 @@ fn add_files(text: &mut String, files: &[FileDesc]) -> Result<(), AllocError>
 
 /// The list of a deck that these words are.
 fn listing(alloc: Global, deck: &Deck, words: &Words<'_>) -> Result<String, AllocError>
-    ensures { IfOk result (λ text. string_bytes text ≡ listing deck.now words.now) }
+    ensures { IfOk result (λ text. string_bytes text ≡ deck_listing_text deck.now words.now) }
 {
     let files = deck.files.as_slice();
     let verbs = verbs_of(alloc, files, deck.statements.as_slice())?;

@@ -1,6 +1,6 @@
 //! The verbs of a deck, in their order.
 ghost use Rattle.std.specs.Prelude.{◌≡◌, [], OnOk, IfOk};
-ghost use Rattle.deck_listing.specs.Verbs.{name_at, with_verb, verbs_behind};
+ghost use Rattle.deck_listing.specs.Verbs.{file_name_at, with_verb, verbs_behind};
 
 use file_control::FileDesc;
 use io_state::{FileStatement, Name};
@@ -26,7 +26,7 @@ impl Model for Verb {
 
 /// The name of the file of a place.
 fn name_at(files: &[FileDesc], place: usize) -> Name
-    ensures { result.bytes ≡ name_at files.now place }
+    ensures { result.bytes ≡ file_name_at files.now place }
 {
     match files.get(place) {
         Some(file) => file.name,

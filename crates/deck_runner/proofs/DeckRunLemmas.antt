@@ -5,7 +5,7 @@ use Rattle.deck_words.specs.declared.fault.Cause.TheVariants.{BadWord, Expected,
 use Rattle.deck_words.specs.declared.fault.DeckFault.{DeckFault}
 use Rattle.deck_words.specs.declared.fault.Refusal.{Refusal}
 use Rattle.deck_words.specs.declared.fault.Refusal.TheVariants.{Memory as NoMemory, Fault}
-use Rattle.deck_words.specs.Fault.{code_of, told, IsTold}
+use Rattle.deck_words.specs.Fault.{cause_code, told, IsTold}
 use Rattle.indexed_file.specs.Shown.{Shown}
 use Rattle.deck_reader.specs.declared.deck.Deck.{Deck}
 use Rattle.deck_reader.specs.Deck.{IsDeck}
@@ -13,7 +13,7 @@ use Rattle.deck_runner.specs.declared.fault.RunFault.{RunFault}
 use Rattle.deck_runner.specs.declared.fault.RunFault.TheVariants.{Deck as DeckRefused, Output, Memory}
 use Rattle.deck_runner.specs.declared.run_end.RunEnd.{RunEnd}
 use Rattle.deck_runner.specs.Run.{Run}
-use Rattle.deck_runner.specs.RunEnd.{end_of, Told}
+use Rattle.deck_runner.specs.RunEnd.{end_of, TellsLines}
 use Rattle.deck_runner.specs.Stretches.{IsRunOver}
 use Rattle.deck_runner.specs.Beginning.{run_before, WorldIsLeft, WhereFilesAreTrue, DeckLeads}
 use Rattle.deck_runner.specs.DeckRun.{RunsExactly, IsRefusedDeck}
@@ -22,7 +22,7 @@ use Rattle.deck_runner.proofs.RunLaws.{clean_runs_are_exact, run_of_stretches}
 -- a run whose end is clean is the definition's
 pub exact :
     {S : Type 0} (library : Shown S) (old new : S) (written written_after : Option (List ℕ)) (end : RunEnd) (deck : Deck)
-    → Told written written_after end (DeckLeads library old new deck (IsRunOver library deck.statements)) → end.clean ≡ true
+    → TellsLines written written_after end (DeckLeads library old new deck (IsRunOver library deck.statements)) → end.clean ≡ true
     → WhereFilesAreTrue library old new deck (RunsExactly written written_after (library.world old) (library.world new) end deck)
 exact library old new written written_after end deck run clean = λ honest shown.
     let leads = run.3.steps honest shown in
@@ -36,7 +36,7 @@ exact library old new written written_after end deck run clean = λ honest shown
 
 -- ---- refusals
 
-code_within : (cause : Cause) → (1 ≤ code_of cause) × (code_of cause ≤ 7)
+code_within : (cause : Cause) → (1 ≤ cause_code cause) × (cause_code cause ≤ 7)
 code_within BadWord = (omega arith, omega arith)
 code_within Expected = (omega arith, omega arith)
 code_within Unknown = (omega arith, omega arith)
@@ -52,7 +52,7 @@ refused_by bytes fault result NoMemory is memory deck none =
     let code : fault.code ≡ 8 = ap (λ (f : DeckFault). f.code) is in
     subst (IsRefusedDeck bytes) (sym (memory code)) tt
 refused_by bytes fault result (Fault line cause) is memory deck none =
-    let code : fault.code ≡ code_of cause = ap (λ (f : DeckFault). f.code) is in
+    let code : fault.code ≡ cause_code cause = ap (λ (f : DeckFault). f.code) is in
     let within = code_within cause in
     let least = within.0 in
     let most = within.1 in

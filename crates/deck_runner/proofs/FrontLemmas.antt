@@ -6,7 +6,7 @@ use Rattle.procedure_division.specs.declared.statement.Statement.{Statement}
 use Rattle.procedure_division.specs.declared.statement.Statement.TheVariants.{Perform, Move, MoveLength, StopRun}
 use Rattle.indexed_file.specs.Shown.{Shown}
 use Rattle.deck_runner.specs.Line.{Line, is_clean}
-use Rattle.deck_runner.specs.Run.{RunFile, LengthValue, Run, performed, items_after, line_of, lines_on, after, lines_of, lines_until_stop, run_at_stop, is_stop, is_still_open, closing_lines, lines_of_run}
+use Rattle.deck_runner.specs.Run.{RunFile, LengthValue, Run, performed, items_after, line_of, lines_on, after_statement, lines_of, lines_until_stop, run_at_stop, is_stop, is_still_open, closing_lines, lines_of_run}
 use Rattle.deck_runner.specs.Steps.{IsStepOn, IsStep, AreSteps, until_stop, closes_from}
 use Rattle.deck_runner.specs.Stretches.{CleanFrontsAreExact}
 use Rattle.deck_runner.proofs.RunLaws.{clean_first, clean_rest, clean_one, clean_until_stop, get_behind, change_behind, length_behind, close_keeps_items, of, steps_of}
@@ -15,19 +15,19 @@ use Rattle.deck_runner.proofs.RunLaws.{clean_first, clean_rest, clean_one, clean
 
 abbrev lines_through : List Statement → Run → List Line
 lines_through [] run = []
-lines_through (statement ∷ rest) run = lines_of statement run ++ lines_through rest (after statement run)
+lines_through (statement ∷ rest) run = lines_of statement run ++ lines_through rest (after_statement statement run)
 
 abbrev run_through : List Statement → Run → Run
 run_through [] run = run
-run_through (statement ∷ rest) run = run_through rest (after statement run)
+run_through (statement ∷ rest) run = run_through rest (after_statement statement run)
 
 lines_through_both : (first rest : List Statement) (run : Run) → lines_through (first ++ rest) run ≡ lines_through first run ++ lines_through rest (run_through first run)
 lines_through_both [] rest run = refl
 lines_through_both (statement ∷ first) rest run =
-    rw (lines_through_both first rest (after statement run))
-    (sym (append_assoc (lines_of statement run) (lines_through first (after statement run)) (lines_through rest (run_through first (after statement run)))))
+    rw (lines_through_both first rest (after_statement statement run))
+    (sym (append_assoc (lines_of statement run) (lines_through first (after_statement statement run)) (lines_through rest (run_through first (after_statement statement run)))))
 
-stopping : (statement : Statement) (others : List Statement) (lines : List Line) (run : Run) (stops : Bool) → lines_through others (after statement run) ≡ lines
+stopping : (statement : Statement) (others : List Statement) (lines : List Line) (run : Run) (stops : Bool) → lines_through others (after_statement statement run) ≡ lines
     → lines_through (if stops then [] else statement ∷ others) run ≡ (if stops then [] else lines_of statement run ++ lines)
 stopping statement others lines run true is = refl
 stopping statement others lines run false is = ap (λ (l : List Line). lines_of statement run ++ l) is
@@ -35,7 +35,7 @@ stopping statement others lines run false is = ap (λ (l : List Line). lines_of 
 lines_to_stop : (statements : List Statement) (run : Run) → lines_through (until_stop statements) run ≡ lines_until_stop statements run
 lines_to_stop [] run = refl
 lines_to_stop (statement ∷ rest) run =
-    stopping statement (until_stop rest) (lines_until_stop rest (after statement run)) run (is_stop statement) (lines_to_stop rest (after statement run))
+    stopping statement (until_stop rest) (lines_until_stop rest (after_statement statement run)) run (is_stop statement) (lines_to_stop rest (after_statement statement run))
 
 -- the lines of the closes
 abbrev AreLinesOfCloses : List LengthValue → List RunFile → Type 0
@@ -51,7 +51,7 @@ closes_in items file files more before false =
 closes_in items file files more before true =
     let closed_file = performed (Close false) items file in
     let here = of (before ++ file ∷ files) items in
-    let next : after (Perform (length before) (Close false)) here ≡ of ((before ++ closed_file ∷ []) ++ files) items =
+    let next : after_statement (Perform (length before) (Close false)) here ≡ of ((before ++ closed_file ∷ []) ++ files) items =
     λ i. record {
       files = change_behind (performed (Close false) items) before file files i;
       items = (ap (λ (o : Option RunFile). items_after (Close false) items o) (get_behind before file files) ∙ close_keeps_items items file) i;
@@ -60,7 +60,7 @@ closes_in items file files more before true =
     subst (λ (n : ℕ). lines_through (closes_from n files) (of ((before ++ closed_file ∷ []) ++ files) items) ≡ flat_map (closing_lines items) files) (length_behind before closed_file)
     (more (before ++ closed_file ∷ [])) in
     let first : lines_of (Perform (length before) (Close false)) here ≡ line_of (Close false) items file ∷ [] = ap (λ (o : Option RunFile). lines_on (Close false) items o) (get_behind before file files) in
-    let others : lines_through (closes_from (suc (length before)) files) (after (Perform (length before) (Close false)) here) ≡ flat_map (closing_lines items) files =
+    let others : lines_through (closes_from (suc (length before)) files) (after_statement (Perform (length before) (Close false)) here) ≡ flat_map (closing_lines items) files =
     ap (λ (r : Run). lines_through (closes_from (suc (length before)) files) r) next ∙ rest in
     λ i. first i ++ others i
 
@@ -119,13 +119,13 @@ front_of (statement ∷ others) run front rest next steps clean =
         | inl none ↦ (lines_through (statement ∷ others) run, rw none refl)
         | inr all ↦
             let one = clean_one statement run steps.0 steps.1 steps.3 (rw all.0 at clean) in
-            begins_all front (lines_of statement run) (lines_through others (after statement run)) (all.0 ∙ one.0)
+            begins_all front (lines_of statement run) (lines_through others (after_statement statement run)) (all.0 ∙ one.0)
       ]
       | inr h ↦
           let both = rw h.1 at clean in
           let one = clean_one statement run steps.0 steps.1 steps.3 (clean_first steps.0 h.0 both) in
           let more = front_of others steps.1 h.0 rest next (rw h.2 at steps.4) (clean_rest steps.0 h.0 both) in
-          begins_then front steps.0 h.0 (lines_of statement run) (lines_through others (after statement run)) h.1 one.0 (subst (λ (r : Run). Begins h.0 (lines_through others r)) one.1 more)
+          begins_then front steps.0 h.0 (lines_of statement run) (lines_through others (after_statement statement run)) h.1 one.0 (subst (λ (r : Run). Begins h.0 (lines_through others r)) one.1 more)
     ]
 
 -- ---- a run

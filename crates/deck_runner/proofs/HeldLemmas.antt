@@ -5,8 +5,8 @@ use Rattle.std.proofs.KnownBytes.{Appends-trans}
 use Rattle.std.proofs.lemmas.Grind.{flat_map-append}
 use Rattle.std.proofs.lemmas.List.Elements.{All-nil, All-cons, All-append, All-tail}
 use Rattle.io_state.specs.declared.statement.FileStatement.{FileStatement}
-use Rattle.deck_runner.specs.Line.{Line, text_of}
-use Rattle.held_text.specs.Output.{AppendsFront, Adds}
+use Rattle.deck_runner.specs.Line.{Line, transcript_line}
+use Rattle.held_text.specs.Output.{AppendsFront, AddsText}
 use Rattle.deck_runner.specs.Reads.{only_reads, IsOfReading}
 use Rattle.deck_runner.specs.HeldLines.{MakesWay, SoFar, so_far, ReadBehindFirst, AreHeld, GoOut, AreRefused}
 
@@ -15,16 +15,16 @@ use Rattle.deck_runner.specs.HeldLines.{MakesWay, SoFar, so_far, ReadBehindFirst
 pub none_held : (held : List ℕ) → held ≡ [] → AreHeld held []
 none_held held none = record { text = none; reads = tt }
 
-one_held : (held : List ℕ) (line : Line) → held ≡ text_of line → AreHeld held (line ∷ [])
-one_held held line is = record { text = is ∙ sym (append-nil (text_of line)); reads = All-nil IsOfReading }
+one_held : (held : List ℕ) (line : Line) → held ≡ transcript_line line → AreHeld held (line ∷ [])
+one_held held line is = record { text = is ∙ sym (append-nil (transcript_line line)); reads = All-nil IsOfReading }
 
 reads_more : (lines : List Line) (line : Line) → ReadBehindFirst lines → IsOfReading line → ReadBehindFirst (lines ++ line ∷ [])
 reads_more [] line all reads = All-nil IsOfReading
 reads_more (first ∷ lines) line all reads = All-append IsOfReading lines (line ∷ []) all (All-cons IsOfReading line [] reads (All-nil IsOfReading))
 
-one_more_held : (held after : List ℕ) (lines : List Line) (line : Line) → AreHeld held lines → after ≡ held ++ text_of line → IsOfReading line → AreHeld after (lines ++ line ∷ [])
+one_more_held : (held after : List ℕ) (lines : List Line) (line : Line) → AreHeld held lines → after ≡ held ++ transcript_line line → IsOfReading line → AreHeld after (lines ++ line ∷ [])
 one_more_held held after lines line are is reads = record {
-  text = is ∙ ap (λ (l : List ℕ). l ++ text_of line) are.text ∙ ap (λ (l : List ℕ). flat_map text_of lines ++ l) (sym (append-nil (text_of line))) ∙ sym (flat_map-append text_of lines (line ∷ []));
+  text = is ∙ ap (λ (l : List ℕ). l ++ transcript_line line) are.text ∙ ap (λ (l : List ℕ). flat_map transcript_line lines ++ l) (sym (append-nil (transcript_line line))) ∙ sym (flat_map-append transcript_line lines (line ∷ []));
   reads = reads_more lines line are.reads reads;
 }
 
@@ -38,9 +38,9 @@ record IsCut (lines : List Line) (front : List ℕ) : Type 0 where
   part : List ℕ
   rest : List ℕ
   lines_are : lines ≡ taken ++ failed ∷ behind
-  text : text_of failed ≡ part ++ rest
+  text : transcript_line failed ≡ part ++ rest
   some : 0 < length rest
-  front_is : front ≡ flat_map text_of taken ++ part
+  front_is : front ≡ flat_map transcript_line taken ++ part
 
 -- where a list stands before another in the same list as two others
 cut : (xs ys zs ws : List ℕ) → xs ++ ys ≡ zs ++ ws
@@ -53,9 +53,9 @@ cut (x ∷ xs) ys (z ∷ zs) ws e =
     elim (cut xs ys zs ws rest) [ inl h ↦ inl (h.0, rw same (ap (λ (l : List ℕ). z ∷ l) h.1), h.2) | inr h ↦ inr (h.0, rw same (ap (λ (l : List ℕ). z ∷ l) h.1), h.2) ]
 
 abbrev Cuts : List Line → Type 0
-Cuts lines = (front rest : List ℕ) → flat_map text_of lines ≡ front ++ rest → 0 < length rest → IsCut lines front
+Cuts lines = (front rest : List ℕ) → flat_map transcript_line lines ≡ front ++ rest → 0 < length rest → IsCut lines front
 
-cut_behind : (line : Line) (lines : List Line) (front more : List ℕ) → front ≡ text_of line ++ more → IsCut lines more → IsCut (line ∷ lines) front
+cut_behind : (line : Line) (lines : List Line) (front more : List ℕ) → front ≡ transcript_line line ++ more → IsCut lines more → IsCut (line ∷ lines) front
 cut_behind line lines front more is next = record {
   taken = line ∷ next.taken;
   failed = next.failed;
@@ -65,12 +65,12 @@ cut_behind line lines front more is next = record {
   lines_are = ap (λ (l : List Line). line ∷ l) next.lines_are;
   text = next.text;
   some = next.some;
-  front_is = is ∙ ap (λ (l : List ℕ). text_of line ++ l) next.front_is ∙ sym (append_assoc (text_of line) (flat_map text_of next.taken) next.part);
+  front_is = is ∙ ap (λ (l : List ℕ). transcript_line line ++ l) next.front_is ∙ sym (append_assoc (transcript_line line) (flat_map transcript_line next.taken) next.part);
 }
 
-cut_here : (line : Line) (lines : List Line) (front rest : List ℕ) → Cuts lines → (left : List ℕ) → text_of line ≡ front ++ left → rest ≡ left ++ flat_map text_of lines → 0 < length rest → IsCut (line ∷ lines) front
+cut_here : (line : Line) (lines : List Line) (front rest : List ℕ) → Cuts lines → (left : List ℕ) → transcript_line line ≡ front ++ left → rest ≡ left ++ flat_map transcript_line lines → 0 < length rest → IsCut (line ∷ lines) front
 cut_here line lines front rest more [] text is some =
-    cut_behind line lines front [] (sym (append-nil front) ∙ sym text ∙ sym (append-nil (text_of line))) (more [] rest (sym is) some)
+    cut_behind line lines front [] (sym (append-nil front) ∙ sym text ∙ sym (append-nil (transcript_line line))) (more [] rest (sym is) some)
 cut_here line lines front rest more (byte ∷ left) text is some = record {
   taken = [];
   failed = line;
@@ -86,7 +86,7 @@ cut_here line lines front rest more (byte ∷ left) text is some = record {
 cuts : (lines : List Line) → Cuts lines
 cuts [] front rest e some = absurd (let none : 0 ≡ length front + length rest = ap (λ (l : List ℕ). length l) e ∙ length-append front rest in omega (arith, some, none))
 cuts (line ∷ lines) front rest e some =
-    elim (cut (text_of line) (flat_map text_of lines) front rest e) [
+    elim (cut (transcript_line line) (flat_map transcript_line lines) front rest e) [
       | inl h ↦ cut_behind line lines front h.0 h.1 (cuts lines h.0 rest h.2 some)
       | inr h ↦ cut_here line lines front rest (cuts lines) h.0 h.1 h.2 some
     ]
@@ -139,7 +139,7 @@ module _ (a b c : Option (List ℕ)) (old between : List ℕ) (statement : FileS
   reads_too reads = ap only_reads is ∙ reads
 
   -- its line goes behind those that are held, or is held alone
-  pub line_goes : (new text : List ℕ) → text ≡ text_of line → MakesWay a b old between statement → Adds b c between new text
+  pub line_goes : (new text : List ℕ) → text ≡ transcript_line line → MakesWay a b old between statement → AddsText b c between new text
       → (held : List Line) → AreHeld old held → GoOut (so_far a old) (so_far c new) (held ++ line ∷ [])
   line_goes new text text_is (inl (reads, kept, same)) (inl (added, after)) held are = record {
     taken = [];
@@ -187,8 +187,8 @@ go_then a b c held xs ys first more =
       kept = next.kept;
       lines_are = sym (append_assoc held xs ys) ∙ ap (λ (l : List Line). l ++ ys) first.lines_are ∙ append_assoc first.taken first.kept ys
           ∙ ap (λ (l : List Line). first.taken ++ l) next.lines_are ∙ sym (append_assoc first.taken next.taken next.kept);
-      appends = rw (flat_map-append text_of first.taken next.taken)
-          (Appends-trans a.written b.written c.written (flat_map text_of first.taken) (flat_map text_of next.taken) first.appends next.appends);
+      appends = rw (flat_map-append transcript_line first.taken next.taken)
+          (Appends-trans a.written b.written c.written (flat_map transcript_line first.taken) (flat_map transcript_line next.taken) first.appends next.appends);
       held = next.held;
     }
 
@@ -206,7 +206,7 @@ refused_then a b c held xs ys first more =
           ∙ ap (λ (l : List Line). first.taken ++ l) next.lines_are ∙ sym (append_assoc first.taken next.taken (next.failed ∷ next.behind));
       text = next.text;
       some = next.some;
-      appends = rw (flat_map-append text_of first.taken next.taken, append_assoc (flat_map text_of first.taken) (flat_map text_of next.taken) next.front)
-          (Appends-trans a.written b.written c (flat_map text_of first.taken) (flat_map text_of next.taken ++ next.front) first.appends next.appends);
+      appends = rw (flat_map-append transcript_line first.taken next.taken, append_assoc (flat_map transcript_line first.taken) (flat_map transcript_line next.taken) next.front)
+          (Appends-trans a.written b.written c (flat_map transcript_line first.taken) (flat_map transcript_line next.taken ++ next.front) first.appends next.appends);
       reads = next.reads;
     }

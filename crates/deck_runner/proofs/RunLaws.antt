@@ -12,7 +12,7 @@ use Rattle.verbs.specs.Opening.{ended, closed, close_in}
 use Rattle.procedure_division.specs.declared.statement.Statement.{Statement}
 use Rattle.procedure_division.specs.declared.statement.Statement.TheVariants.{Perform, Move, MoveLength, StopRun}
 use Rattle.deck_runner.specs.Line.{Line, is_clean}
-use Rattle.deck_runner.specs.Run.{RunFile, LengthValue, Run, change_at, record_length, outcome_on, performed, items_after_read, line_of, lines_on, items_after, after, lines_of, lines_until_stop, run_at_stop, is_stop, is_still_open, closing_lines, closed_at_end}
+use Rattle.deck_runner.specs.Run.{RunFile, LengthValue, Run, change_at, record_length, outcome_on, performed, items_after_read, line_of, lines_on, items_after, after_statement, lines_of, lines_until_stop, run_at_stop, is_stop, is_still_open, closing_lines, closed_at_end}
 use Rattle.deck_runner.specs.Steps.{line_by, left_by, IsStepOn, IsStep, AreSteps, until_stop, closes_from, IsRun, CleanRunsAreExact}
 use Rattle.deck_runner.specs.Stretches.{Point, AreStretches, IsRunOver}
 use Rattle.indexed_file.specs.Shown.{Shown}
@@ -68,7 +68,7 @@ clean_on statement u (Some file) run lines next is step clean =
 
 -- a clean step
 pub clean_one : (statement : Statement) (run : Run) (lines : List Line) (next : Run) → IsStep statement run lines next → list_all is_clean lines ≡ true
-    → (lines ≡ lines_of statement run) × (next ≡ after statement run)
+    → (lines ≡ lines_of statement run) × (next ≡ after_statement statement run)
 clean_one (Perform u statement) run lines next step clean = clean_on statement u (slice_get run.files u) run lines next refl step clean
 clean_one (Move u field source) run lines next step clean = step
 clean_one (MoveLength i source) run lines next step clean = step
@@ -82,8 +82,8 @@ AreExactUntilStop statements =
 
 clean_more : (statement : Statement) (rest : List Statement) → AreExactUntilStop rest → (run : Run) (lines : List Line) (next : Run) (stops : Bool)
     → AreSteps (if stops then [] else statement ∷ until_stop rest) run lines next → list_all is_clean lines ≡ true
-    → (lines ≡ (if stops then [] else lines_of statement run ++ lines_until_stop rest (after statement run)))
-    × (next ≡ (if stops then run else run_at_stop rest (after statement run)))
+    → (lines ≡ (if stops then [] else lines_of statement run ++ lines_until_stop rest (after_statement statement run)))
+    × (next ≡ (if stops then run else run_at_stop rest (after_statement statement run)))
 clean_more statement rest more run lines next true steps clean = steps
 clean_more statement rest more run lines next false steps clean =
     let all = rw steps.5 at clean in

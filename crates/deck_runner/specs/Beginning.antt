@@ -17,7 +17,7 @@ use Rattle.deck_runner.specs.declared.running_deck.RunningDeck.{RunningDeck}
 use Rattle.deck_runner.specs.Run.{RunFile, LengthValue, Run}
 use Rattle.deck_runner.specs.Running.{Running, unit_names}
 use Rattle.deck_runner.specs.Stretches.{Point}
-use Rattle.deck_runner.specs.State.{state, run_in, names_in, IsSafeIn, IsTrustedIn, AreLinesOf}
+use Rattle.deck_runner.specs.State.{state, run_in, file_names_in, IsSafeIn, IsTrustedIn, AreLinesOf}
 use Rattle.deck_runner.specs.Conditions.{IsStatementIn}
 
 -- ---- before the first statement
@@ -120,7 +120,7 @@ pub record IsBegun {S : Type 0} (library : Shown S) (old new : S) (deck : Deck)
   pub keeps : Keeps library old new
   pub run : run_in library (state new begun) ≡ run_before (library.world old) deck
   pub many : length begun.files.items ≡ length deck.files
-  pub names : names_in begun ≡ program_names deck
+  pub names : file_names_in begun ≡ program_names deck
   pub units : unit_names (library.world new) ≡ file_names deck.files
   pub safe : IsSafeIn library (state new begun)
   pub statements : All (IsStatementIn begun) deck.statements

@@ -3,7 +3,7 @@ use Rattle.std.specs.Prelude.{◌≡◌, ◌<◌, ◌⊎◌, ℕ, List, [], ◌�
 use Rattle.std.specs.Io.KnownBytes.{Appends}
 use Rattle.io_state.specs.declared.statement.FileStatement.{FileStatement}
 use Rattle.deck_runner.specs.declared.run_end.RunEnd.{RunEnd}
-use Rattle.deck_runner.specs.Line.{Line, text_of}
+use Rattle.deck_runner.specs.Line.{Line, transcript_line}
 use Rattle.deck_runner.specs.Reads.{only_reads, IsOfReading}
 use Rattle.deck_runner.specs.RunEnd.{end_of}
 
@@ -29,7 +29,7 @@ ReadBehindFirst (line ∷ lines) = All IsOfReading lines
 
 -- the text that is held is that of these lines
 pub record AreHeld (held : List ℕ) (lines : List Line) : Type 0 where
-  pub text : held ≡ flat_map text_of lines
+  pub text : held ≡ flat_map transcript_line lines
   pub reads : ReadBehindFirst lines
 
 -- of these lines, which were held or have come since, the writer took the first ones, and the others are held
@@ -37,7 +37,7 @@ pub record GoOut (old new : SoFar) (lines : List Line) : Type 0 where
   pub taken : List Line
   pub kept : List Line
   pub lines_are : lines ≡ taken ++ kept
-  pub appends : Appends old.written new.written (flat_map text_of taken)
+  pub appends : Appends old.written new.written (flat_map transcript_line taken)
   pub held : AreHeld new.held kept
 
 -- of these lines the writer took the first ones, and then a proper front of one; those behind that
@@ -49,9 +49,9 @@ pub record AreRefused (old new : Option (List ℕ)) (lines : List Line) : Type 0
   pub front : List ℕ
   pub rest : List ℕ
   pub lines_are : lines ≡ taken ++ failed ∷ behind
-  pub text : text_of failed ≡ front ++ rest
+  pub text : transcript_line failed ≡ front ++ rest
   pub some : 0 < length rest
-  pub appends : Appends old new (flat_map text_of taken ++ front)
+  pub appends : Appends old new (flat_map transcript_line taken ++ front)
   pub reads : All IsOfReading behind
 
 -- lines of which this is so came behind those that were held, and this is told of them

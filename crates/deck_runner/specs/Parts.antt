@@ -13,7 +13,7 @@ use Rattle.deck_runner.specs.Stretches.{Point, IsStretch, AreStretches, AreStret
 use Rattle.deck_runner.specs.Stretches.{ClosesAtInPart, ClosesFiles, ClosesInPart, IsRunOver, IsBrokenOff}
 use Rattle.deck_runner.specs.Conditions.{CanPerform, IsStatementIn}
 use Rattle.deck_runner.specs.State.{State, state, IsSafeIn, GoesOn, Leads}
-use Rattle.deck_runner.specs.RunEnd.{Told, ToldInPart}
+use Rattle.deck_runner.specs.RunEnd.{TellsLines, ToldInPart}
 use Rattle.deck_runner.specs.HeldLines.{so_far, Come, ComeInPart}
 
 -- a statement on the file of a place; any statement; the statements up to STOP RUN; the close of the
@@ -87,7 +87,7 @@ pub record RunsAll {S W : Type 0} (shown : Shown S) (contents : W → Option (Li
     (library_after : S) (deck_after : RunningDeck) (out_after : W)
     (result : Result RunEnd Refused) : Type 0 where
   pub goes : GoesOn shown (state library deck) (state library_after deck_after)
-  pub done : IfOk result (λ end. Told (contents out) (contents out_after) end
+  pub done : IfOk result (λ end. TellsLines (contents out) (contents out_after) end
       (Leads shown (state library deck) (state library_after deck_after) (IsRunOver shown statements)))
   pub refused : OnErr result (ToldInPart (contents out) (contents out_after)
       (Leads shown (state library deck) (state library_after deck_after) (IsBrokenOff shown statements)))

@@ -29,8 +29,8 @@ abbrev pub point_in : {S : Type 0} → Shown S → State S → Point S
 point_in library s = record { run = run_in library s; library = s.library }
 
 -- the names of the files in the deck
-abbrev pub names_in : RunningDeck → List (List ℕ)
-names_in deck = map (λ file. file.name) deck.files.items
+abbrev pub file_names_in : RunningDeck → List (List ℕ)
+file_names_in deck = map (λ file. file.name) deck.files.items
 
 -- what a run needs of a library that is not to be believed
 abbrev pub IsSafeIn : {S : Type 0} → Shown S → State S → Type 0
@@ -49,7 +49,7 @@ IsTrustedIn library s = IsTrusted (library.IsShownTruly s.library)
 pub record GoesOn {S : Type 0} (library : Shown S) (old new : State S) : Type 0 where
   pub keeps : Keeps library old.library new.library
   pub safe : IsSafeIn library new
-  pub names : names_in new.deck ≡ names_in old.deck
+  pub names : file_names_in new.deck ≡ file_names_in old.deck
   pub schemas : map schema_of new.deck.files.items ≡ map schema_of old.deck.files.items
   pub items : length new.deck.items.items ≡ length old.deck.items.items
   pub units : unit_names (library.world new.library) ≡ unit_names (library.world old.library)
@@ -84,4 +84,4 @@ pub record Leads {S : Type 0} (library : Shown S) (old new : State S) (AreSuch :
     → Point S → Type 0) (lines : List Line) : Type 0 where
   pub steps : IsTrue (library.is_honest new.library) → IsTrustedIn library old
       → AreSuch (point_in library old) lines (point_in library new)
-  pub lines_are : AreLinesOf library (names_in old.deck) old.library new.library lines
+  pub lines_are : AreLinesOf library (file_names_in old.deck) old.library new.library lines

@@ -11,7 +11,8 @@ use Rattle.procedure_division.specs.declared.statement.Statement.{Statement}
 use Rattle.procedure_division.specs.declared.statement.Statement.TheVariants.{Perform, Move, MoveLength}
 use Rattle.procedure_division.specs.declared.statement.Statement.TheVariants.{StopRun}
 use Rattle.deck_runner.specs.Line.{Line, is_clean}
-use Rattle.deck_runner.specs.Run.{RunFile, Run, change_at, record_length, items_after_read, after, is_stop}
+use Rattle.deck_runner.specs.Run.{RunFile, Run, change_at, record_length, items_after_read, after_statement}
+use Rattle.deck_runner.specs.Run.{is_stop}
 use Rattle.deck_runner.specs.Run.{is_still_open, lines_of_run, after_run}
 
 -- ---- a statement
@@ -42,8 +43,10 @@ IsStepOn statement u (Some file) run lines next =
 -- a statement with its lines: a MOVE has none, and no fault mars it
 abbrev pub IsStep : Statement → Run → List Line → Run → Type 0
 IsStep (Perform u statement) run lines next = IsStepOn statement u (slice_get run.files u) run lines next
-IsStep (Move u field source) run lines next = (lines ≡ []) × (next ≡ after (Move u field source) run)
-IsStep (MoveLength i source) run lines next = (lines ≡ []) × (next ≡ after (MoveLength i source) run)
+IsStep (Move u field source) run lines next = (lines ≡ [])
+    × (next ≡ after_statement (Move u field source) run)
+IsStep (MoveLength i source) run lines next = (lines ≡ [])
+    × (next ≡ after_statement (MoveLength i source) run)
 IsStep StopRun run lines next = (lines ≡ []) × (next ≡ run)
 
 -- statements one after another, with their lines, where each is a step of this kind

@@ -1,10 +1,10 @@
 //! A file of a run.
 ghost use Rattle.std.specs.Prelude.{◌≡◌, ◌≤◌, ◌+◌, length as count_of, IsTrue, is_some, option_map, IfSome};
 ghost use Rattle.record_layout.specs.Area.{is_taken_by, moved, sent};
-ghost use Rattle.verbs.specs.Held.{record_in};
+ghost use Rattle.verbs.specs.Held.{record_delivered};
 ghost use Rattle.verbs.specs.Fits.{Fits, HasOperands};
 ghost use Rattle.verbs.specs.Performed.{IsPerformed};
-ghost use Rattle.deck_runner.specs.Running.{schema_of, file_in, SameFile};
+ghost use Rattle.deck_runner.specs.Running.{schema_of, running_file_in, SameFile};
 
 use indexed_file::Library;
 use io_state::{FileStatement, Name};
@@ -86,7 +86,7 @@ impl RunningFile {
 
     /// The record of this length that a READ has delivered into the area.
     pub fn delivered(&self, length: Option<u16>) -> Option<&[u8]>
-        ensures record { option_map (λ bytes. bytes.now) result ≡ record_in self.now.area «length» }
+        ensures record { option_map (λ bytes. bytes.now) result ≡ record_delivered self.now.area «length» }
         ensures short { IfSome result (λ bytes. count_of bytes.now ≤ 4000) }
     {
         let length = length?;
@@ -103,8 +103,9 @@ impl RunningFile {
     ) -> Answer
         requires fits { Fits self.old.held (L.shown.world library.old) u }
         requires key { HasOperands (schema_of self.old) statement.now }
-        ensures performed { IsPerformed L.shown u statement.now «length» (file_in self.old library.old)
-            result (file_in self.new library.new) }
+        ensures performed { IsPerformed L.shown u statement.now «length»
+            (running_file_in self.old library.old)
+            result (running_file_in self.new library.new) }
         ensures same { SameFile self.old self.new }
         ensures limit { (schema_of self.old).greatest ≤ 4000 }
         ensures short { count_of self.old.area ≤ 4000 }

@@ -1,6 +1,6 @@
 //! A place of a deck.
 ghost use Rattle.std.specs.Prelude.{◌≡◌, ◌≤◌, ◌++◌, length};
-ghost use Rattle.deck_walk.specs.Place.{line_feeds, IsPlaceOf};
+ghost use Rattle.deck_walk.specs.Place.{line_feeds, IsPlaceInDeck};
 
 /// A line of a deck, from 1, and bytes of the deck that begin there.
 #[derive(Clone, Copy)]
@@ -26,7 +26,7 @@ fn parted(bytes: &[u8], at: usize) -> (&[u8], &[u8])
 
 /// The bytes of a deck from a place on, at most so many of them, and their line.
 pub fn place_of(bytes: &[u8], start: usize, most: usize) -> Place<'_>
-    ensures place { IsPlaceOf bytes.now result }
+    ensures place { IsPlaceInDeck bytes.now result }
     ensures short { length result.text.now ≤ most }
 {
     let (before, behind) = parted(bytes, start);

@@ -10,7 +10,7 @@ use Rattle.std.proofs.lemmas.Bool.Decides.{nat_tests}
 use Rattle.io_state.specs.FileName.{is_capital}
 use Rattle.deck_words.specs.ByteClass.{is_of_name}
 use Rattle.deck_words.specs.Name.{is_number}
-use Rattle.deck_words.specs.Class.{Texts, Only, Names, Numbers, Levels, Pictures, Any, has, only_text, has_capitals, lacks, differ, are_texts_apart, Class, is_in, begins, are_apart, all_apart}
+use Rattle.deck_words.specs.Class.{Texts, Only, Names, Numbers, Levels, Pictures, Any, has_text, only_text, has_capitals, lacks_text, differ, are_texts_apart, Class, is_in, begins, are_classes_apart, all_apart}
 use Rattle.deck_words.specs.Word.{Word, WordKind, is_same_kind}
 use Rattle.deck_words.specs.Word as kind
 use Rattle.deck_words.proofs.TestLemmas.{both_true, either_true, neither_true, not_is, and_false}
@@ -22,7 +22,7 @@ any_of_map p f (x ∷ xs) = ap (λ v. p (f x) || v) (any_of_map p f xs)
 
 -- ---- texts
 
-only_of : (texts : Texts) (only text : List ℕ) → only_text texts ≡ Some only → has texts text ≡ true → text ≡ only
+only_of : (texts : Texts) (only text : List ℕ) → only_text texts ≡ Some only → has_text texts text ≡ true → text ≡ only
 only_of (Only t) only text e i = sym ((bytes_eq-Decides t text).0 i) ∙ same_Some t only e
 only_of Names only text e i = absurd (cc)
 only_of Numbers only text e i = absurd (cc)
@@ -30,9 +30,9 @@ only_of Levels only text e i = absurd (cc)
 only_of Pictures only text e i = absurd (cc)
 only_of Any only text e i = absurd (cc)
 
-lacked : (texts : Texts) (only : Option (List ℕ)) (text : List ℕ) → lacks texts only ≡ true → ((t : List ℕ) → only ≡ Some t → text ≡ t) → has texts text ≡ false
+lacked : (texts : Texts) (only : Option (List ℕ)) (text : List ℕ) → lacks_text texts only ≡ true → ((t : List ℕ) → only ≡ Some t → text ≡ t) → has_text texts text ≡ false
 lacked texts None text e same = absurd (false≢true e)
-lacked texts (Some t) text e same = subst (λ u. has texts u ≡ false) (sym (same t refl)) (not_is (has texts t) e)
+lacked texts (Some t) text e same = subst (λ u. has_text texts u ≡ false) (sym (same t refl)) (not_is (has_text texts t) e)
 
 digit_no_capital : (b : ℕ) → is_ascii_digit b ≡ true → is_capital b ≡ false
 digit_no_capital b e = grind (arith, nat_tests)
@@ -49,7 +49,7 @@ name_has_capital : (any all first last unreserved : Bool) → (any && all && fir
 name_has_capital true all first last unreserved e = refl
 name_has_capital false all first last unreserved e = e
 
-capitals_are : (texts : Texts) (text : List ℕ) (v : Bool) → has_capitals texts ≡ Some v → has texts text ≡ true → list_any is_capital text ≡ v
+capitals_are : (texts : Texts) (text : List ℕ) (v : Bool) → has_capitals texts ≡ Some v → has_text texts text ≡ true → list_any is_capital text ≡ v
 capitals_are (Only t) text v e i = absurd (cc)
 capitals_are Names text v e i = name_has_capital (list_any is_capital text) (list_all is_of_name text) _ _ _ i ∙ same_Some true v e
 capitals_are Numbers text v e i = number_no_capital text i ∙ same_Some false v e
@@ -69,11 +69,11 @@ refuted : (v : Bool) → (v ≡ true → ⊥) → v ≡ false
 refuted true no_truth = absurd (no_truth refl)
 refuted false no_truth = refl
 
-texts_apart : (some others : Texts) (text : List ℕ) → are_texts_apart some others ≡ true → has some text ≡ true → has others text ≡ false
+texts_apart : (some others : Texts) (text : List ℕ) → are_texts_apart some others ≡ true → has_text some text ≡ true → has_text others text ≡ false
 texts_apart some others text e i =
-    elim (either_true (lacks others (only_text some)) (lacks some (only_text others) || differ (has_capitals some) (has_capitals others)) e) [
+    elim (either_true (lacks_text others (only_text some)) (lacks_text some (only_text others) || differ (has_capitals some) (has_capitals others)) e) [
       | inl p ↦ lacked others (only_text some) text p (λ t q. only_of some t text q i)
-      | inr r ↦ refuted (has others text) (λ j. elim (either_true (lacks some (only_text others)) (differ (has_capitals some) (has_capitals others)) r) [
+      | inr r ↦ refuted (has_text others text) (λ j. elim (either_true (lacks_text some (only_text others)) (differ (has_capitals some) (has_capitals others)) r) [
         | inl p ↦ false≢true (sym (lacked some (only_text others) text p (λ t q. only_of others t text q j)) ∙ i)
         | inr p ↦ no_difference (has_capitals some) (has_capitals others) (list_any is_capital text) (λ w q. capitals_are some text w q i) (λ w q. capitals_are others text w q j) p
       ])
@@ -105,24 +105,24 @@ other_kind k l m e i =
     let same : m ≡ l = sym (same_kind l m j) in
     false≢true (sym e ∙ subst (λ n. is_same_kind k n ≡ true) same i))
 
-apart_in : (class other : Class) (word : Word) → are_apart class other ≡ true → is_in class word ≡ true → is_in other word ≡ false
+apart_in : (class other : Class) (word : Word) → are_classes_apart class other ≡ true → is_in class word ≡ true → is_in other word ≡ false
 apart_in class other word e i =
-    let p = both_true (is_same_kind class.kind word.kind) (has class.texts word.text) i in
+    let p = both_true (is_same_kind class.kind word.kind) (has_text class.texts word.text) i in
     elim (either_true (not (is_same_kind class.kind other.kind)) (are_texts_apart class.texts other.texts) e) [
-      | inl q ↦ ap (λ v. v && has other.texts word.text) (other_kind class.kind other.kind word.kind (not_is _ q) p.0)
+      | inl q ↦ ap (λ v. v && has_text other.texts word.text) (other_kind class.kind other.kind word.kind (not_is _ q) p.0)
       | inr q ↦ ap (λ v. is_same_kind other.kind word.kind && v) (texts_apart class.texts other.texts word.text q p.1) ∙ and_false _
     ]
 
-one_apart : (class : Class) (others : List Class) (word : Word) → list_all (are_apart class) others ≡ true → is_in class word ≡ true → list_any (λ other. is_in other word) others ≡ false
+one_apart : (class : Class) (others : List Class) (word : Word) → list_all (are_classes_apart class) others ≡ true → is_in class word ≡ true → list_any (λ other. is_in other word) others ≡ false
 one_apart class [] word e i = refl
 one_apart class (other ∷ others) word e i =
-    let p = both_true (are_apart class other) (list_all (are_apart class) others) e in
+    let p = both_true (are_classes_apart class other) (list_all (are_classes_apart class) others) e in
     rw (apart_in class other word p.0 i) (one_apart class others word p.1 i)
 
 any_apart : (some others : List Class) (word : Word) → all_apart some others ≡ true → list_any (λ class. is_in class word) some ≡ true → list_any (λ class. is_in class word) others ≡ false
 any_apart [] others word e i = absurd (false≢true i)
 any_apart (class ∷ some) others word e i =
-    let p = both_true (list_all (are_apart class) others) (all_apart some others) e in
+    let p = both_true (list_all (are_classes_apart class) others) (all_apart some others) e in
     elim (either_true (is_in class word) (list_any (λ class. is_in class word) some) i) [
       | inl q ↦ one_apart class others word p.0 q
       | inr q ↦ any_apart some others word p.1 q

@@ -6,7 +6,7 @@ use Rattle.deck_words.specs.declared.fault.Cause.{Cause}
 use Rattle.deck_words.specs.declared.fault.Cause.TheVariants.{BadWord, Expected, Unknown, Twice, NotAllowed, Limit, Layout}
 use Rattle.deck_words.specs.declared.fault.Refusal.{Refusal}
 use Rattle.deck_words.specs.declared.fault.Refusal.TheVariants.{Memory, Fault}
-use Rattle.deck_words.specs.Words.{Piece, written, GivesWords, line_after, Rest, rest_of, IsCutIntoWords, HasWordsUpTo, HasWords, IsStuck, RefusesWords}
+use Rattle.deck_words.specs.Words.{Piece, written_piece, GivesWords, line_after, Rest, rest_of, IsCutIntoWords, HasWordsUpTo, HasWords, IsStuck, RefusesWords}
 use Rattle.deck_words.specs.Front.{Next, piece_at}
 use Rattle.deck_words.proofs.FrontLemmas.{piece_sound, piece_complete, none_at_end}
 
@@ -32,7 +32,7 @@ IsLast rest = piece_at rest ≡ None
 abbrev IsSame : List Word → Rest → List Word → Rest → Type 0
 IsSame words end others last = (words ≡ others) × (end ≡ last)
 
-none_stands : (rest : Rest) (piece : Piece) (after : List ℕ) (new : List Word) → IsLast rest → rest.bytes ≡ written piece ++ after → GivesWords rest.line piece after new → ⊥
+none_stands : (rest : Rest) (piece : Piece) (after : List ℕ) (new : List Word) → IsLast rest → rest.bytes ≡ written_piece piece ++ after → GivesWords rest.line piece after new → ⊥
 none_stands rest piece after new e s g =
     let k : ◌≡◌ {A = Option Next} None (Some (new, rest_of (line_after rest.line piece) after)) = sym e ∙ piece_complete rest piece after new s g in cc
 

@@ -8,7 +8,7 @@ use Rattle.std.proofs.lemmas.Bool.Decides.{nat_tests}
 use Rattle.deck_words.specs.Word.{Word, word_of}
 use Rattle.deck_words.specs.Word.{Literal}
 use Rattle.deck_words.specs.ByteClass.{is_space, is_mark, is_of_run}
-use Rattle.deck_words.specs.Words.{run_words, doubled, EndsLiteral, Piece, Space, Quoted, Run, written, GivesWords, line_after, Rest, rest_of}
+use Rattle.deck_words.specs.Words.{run_words, doubled, EndsLiteral, Piece, Space, Quoted, Run, written_piece, GivesWords, line_after, Rest, rest_of}
 use Rattle.deck_words.specs.Literal.{cut_literal}
 use Rattle.deck_words.specs.Front.{ends_literal, ends_run, is_literal_cut, Next, literal_at, run_at, front_of, piece_at}
 use Rattle.deck_words.proofs.TestLemmas.{both_true, not_is, third, then_some, map_some}
@@ -56,7 +56,7 @@ no_third mark (c ∷ rest) i ends b more e =
 -- a piece stands at the front, gives the words that were found, and what is left is what is behind it
 pub record IsFront (rest : Rest) (next : Next) : Type 0 where
   pub piece : Piece
-  pub there : rest.bytes ≡ written piece ++ next.1.bytes
+  pub there : rest.bytes ≡ written_piece piece ++ next.1.bytes
   pub gives : GivesWords rest.line piece next.1.bytes next.0
   pub line : next.1.line ≡ line_after rest.line piece
 
@@ -102,7 +102,7 @@ piece_sound rest next e = front_sound rest.line rest.bytes next e
 
 -- ---- what stands there is found
 
-front_complete : (line : ℕ) (piece : Piece) (bytes after : List ℕ) (new : List Word) → bytes ≡ written piece ++ after → GivesWords line piece after new → front_of line bytes ≡ Some (new, rest_of (line_after line piece) after)
+front_complete : (line : ℕ) (piece : Piece) (bytes after : List ℕ) (new : List Word) → bytes ≡ written_piece piece ++ after → GivesWords line piece after new → front_of line bytes ≡ Some (new, rest_of (line_after line piece) after)
 front_complete line (Space b) bytes after new e f = rw (e, f.0, f.1)
 front_complete line (Quoted mark text) bytes after new e f =
     let c = ap (cut_literal mark) (append_assoc (doubled mark text) (mark ∷ []) after) ∙ cut_complete mark text after f.1.2 (no_third mark after f.0 f.2) in
@@ -113,7 +113,7 @@ front_complete line (Run (b ∷ run)) bytes after new e f =
     let step = third {A = Option Next} (is_space b) (is_mark b) (Some ([], rest_of (cond (eqb b 10) (line + 1) line) (run ++ after))) (literal_at line (cut_literal b (run ++ after))) (run_at line (b ∷ (run ++ after))) classes.0 classes.1 in
     ap (front_of line) e ∙ (step ∙ run_complete line (b ∷ run) after new f.1 f.2 f.3)
 
-pub piece_complete : (rest : Rest) (piece : Piece) (after : List ℕ) (new : List Word) → rest.bytes ≡ written piece ++ after → GivesWords rest.line piece after new → piece_at rest ≡ Some (new, rest_of (line_after rest.line piece) after)
+pub piece_complete : (rest : Rest) (piece : Piece) (after : List ℕ) (new : List Word) → rest.bytes ≡ written_piece piece ++ after → GivesWords rest.line piece after new → piece_at rest ≡ Some (new, rest_of (line_after rest.line piece) after)
 unfolding piece_at
 piece_complete rest piece after new e f = front_complete rest.line piece rest.bytes after new e f
 

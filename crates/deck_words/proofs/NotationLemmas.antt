@@ -1,7 +1,7 @@
 -- The steps that read one word are read as they are spelled.
 use Rattle.std.proofs.Common.{◌≡◌, ℕ, Bool, true, false, refl, List}
 use Rattle.deck_words.specs.Class.{this, names, literals, periods}
-use Rattle.deck_words.specs.Notation.{the, name, literal, period, is_there, eaten}
+use Rattle.deck_words.specs.Notation.{the, name, literal, period, is_word_there, eaten}
 use Rattle.deck_words.proofs.RuleLemmas.{Lawful, lawful_one, lawful_turn, lawful_optional, lawful_either, lawful_as}
 use Rattle.deck_words.proofs.RepeatLemmas.{lawful_onto, lawful_some}
 
@@ -23,6 +23,6 @@ lawful_period = lawful_as _ _ (lawful_one periods)
 
 pub ruleset steps = (lawful_the, lawful_name, lawful_literal, lawful_period, lawful_one, lawful_turn, lawful_optional, lawful_either, lawful_onto, lawful_some, lawful_as)
 
-pub there_eaten : (b : Bool) → is_there (eaten b) ≡ b
+pub there_eaten : (b : Bool) → is_word_there (eaten b) ≡ b
 there_eaten true = refl
 there_eaten false = refl

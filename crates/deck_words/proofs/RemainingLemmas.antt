@@ -5,7 +5,7 @@ use Rattle.std.specs.Prelude.{slice_index, drop, MatchOption}
 use Rattle.std.proofs.lemmas.Option.{same_Some}
 use Rattle.deck_words.specs.ByteClass.{capital}
 use Rattle.deck_words.specs.Word.{Word, word_of, Plain, Sign, Period}
-use Rattle.deck_words.specs.Words.{Piece, Space, Quoted, Run, is_sign, is_plain_text, written, GivesWords, line_after, body_words, run_words, Rest, rest_of, HasWords}
+use Rattle.deck_words.specs.Words.{Piece, Space, Quoted, Run, is_sign, is_plain_text, written_piece, GivesWords, line_after, body_words, run_words, Rest, rest_of, HasWords}
 use Rattle.deck_words.specs.Front.{Next, piece_at}
 use Rattle.deck_words.specs.Remaining.{with_more, words_within, words_from}
 use Rattle.deck_words.proofs.TestLemmas.{map_some}
@@ -58,7 +58,7 @@ line_by : (v : Bool) (line : ℕ) → cond v (line + 1) line ≤ line + 1
 line_by true line = omega arith
 line_by false line = omega arith
 
-paid : (line : ℕ) (piece : Piece) (after : List ℕ) (words : List Word) → GivesWords line piece after words → IsPaid line (written piece) words (line_after line piece)
+paid : (line : ℕ) (piece : Piece) (after : List ℕ) (words : List Word) → GivesWords line piece after words → IsPaid line (written_piece piece) words (line_after line piece)
 paid line (Space byte) after words g = record { some = omega arith; few = rw g.1 (omega arith); lines = line_by _ line }
 paid line (Quoted mark text) after words g = record { some = omega arith; few = rw g.3 (omega arith); lines = omega arith }
 paid line (Run run) after words g = record { some = g.0; few = run_few line run words g.0 g.3; lines = omega arith }
@@ -72,7 +72,7 @@ pub takes : (rest : Rest) (next : Next) → piece_at rest ≡ Some next → Take
 takes rest next e =
     let front = piece_sound rest next e in
     let p = paid rest.line front.piece next.1.bytes next.0 front.gives in
-    let total : length rest.bytes ≡ length (written front.piece) + length next.1.bytes = ap (λ (bs : List ℕ). length bs) front.there ∙ length-append (written front.piece) next.1.bytes in
+    let total : length rest.bytes ≡ length (written_piece front.piece) + length next.1.bytes = ap (λ (bs : List ℕ). length bs) front.there ∙ length-append (written_piece front.piece) next.1.bytes in
     record {
       fewer = omega (arith, total, p.some);
       few = omega (arith, total, p.few);

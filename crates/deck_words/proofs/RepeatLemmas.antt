@@ -6,7 +6,7 @@ use Rattle.std.specs.Option.{option_map}
 use Rattle.std.proofs.lemmas.Bool.{false≢true}
 use Rattle.deck_words.specs.Word.{Word}
 use Rattle.deck_words.specs.Class.{begins, all_apart}
-use Rattle.deck_words.specs.Rule.{Rule, many, where_it_gives, reads_many_from, SpellsMany, onto, some_onto, added, reads_onto_from}
+use Rattle.deck_words.specs.Rule.{Rule, many, where_it_gives, reads_many_from, SpellsMany, onto, some_onto, added_in_turn, reads_onto_from}
 use Rattle.deck_words.proofs.TestLemmas.{both_true, not_is, bind_some, bind_is, bind_same, map_some, none_mapped}
 use Rattle.deck_words.proofs.ClassLemmas.{begins_apart, neither_begins}
 use Rattle.deck_words.proofs.RuleLemmas.{Lawful}
@@ -72,14 +72,14 @@ module _ {A S : Type 0} (add : S → A → Option S) (p : Rule A) (lawful_p : La
       let a = bind_some (λ a. option_and_then (λ u. reads_onto_from add p turns u a.1) (add s a.0)) (p.reads words) (t, rest) e in
       let b = bind_some (λ u. reads_onto_from add p turns u a.0.1) (add s a.0.0) (t, rest) a.2 in
       let more = again b.0 t a.0.1 rest b.2 in
-      (a.0.0 ∷ more.0, bind_is (λ u. added add u more.0) (add s a.0.0) b.0 (Some t) b.1 more.1, (a.0.1, lawful_p.sound a.0.0 words a.0.1 a.1, more.2))
+      (a.0.0 ∷ more.0, bind_is (λ u. added_in_turn add u more.0) (add s a.0.0) b.0 (Some t) b.1 more.1, (a.0.1, lawful_p.sound a.0.0 words a.0.1 a.1, more.2))
   onto_sound_by false turns again s t words rest e = let k = some_pair_parts {A = S} s t words rest e in ([], ap (λ (v : S). Some v) k.0, k.1)
 
   onto_sound : (turns : ℕ) (s t : S) (words rest : List Word) → reads_onto_from add p turns s words ≡ Some (t, rest) → (onto add s p).Spells t words rest
   onto_sound zero s t words rest e = let k = some_pair_parts {A = S} s t words rest e in ([], ap (λ (v : S). Some v) k.0, k.1)
   onto_sound (suc turns) s t words rest e = onto_sound_by (begins p.starts words) turns (onto_sound turns) s t words rest e
 
-  onto_complete : (many p).is_fit ≡ true → (turns : ℕ) (s t : S) (xs : List A) (words rest : List Word) → length words ≤ turns → added add s xs ≡ Some t → SpellsMany p xs words rest → begins (p.starts ++ p.goes_on) rest ≡ false → reads_onto_from add p turns s words ≡ Some (t, rest)
+  onto_complete : (many p).is_fit ≡ true → (turns : ℕ) (s t : S) (xs : List A) (words rest : List Word) → length words ≤ turns → added_in_turn add s xs ≡ Some t → SpellsMany p xs words rest → begins (p.starts ++ p.goes_on) rest ≡ false → reads_onto_from add p turns s words ≡ Some (t, rest)
   onto_complete fit zero s t [] words rest enough e m no_more = rw m (ap (λ (v : S). Some (v, rest)) (same_Some s t e))
   onto_complete fit zero s t (x ∷ xs) words rest enough e m no_more =
       elim (lawful_p.first (many_fit p lawful_p fit).0 x words m.0 m.1) [
@@ -94,7 +94,7 @@ module _ {A S : Type 0} (add : S → A → Option S) (p : Rule A) (lawful_p : La
         | inl h ↦ begins_apart p.starts p.goes_on m.0 fits.2 h.0
         | inr h ↦ subst (λ ws. begins p.goes_on ws ≡ false) (sym h.1) (neither_begins p.starts p.goes_on rest no_more).1
       ] in
-      let b = bind_some (λ u. added add u xs) (add s x) t e in
+      let b = bind_some (λ u. added_in_turn add u xs) (add s x) t e in
       elim (lawful_p.first fits.0 x words m.0 m.1) [
         | inl h ↦ rw (h.0, lawful_p.complete fits.0 x words m.0 m.1 stops, b.1, onto_complete fit turns b.0 t xs m.0 rest (omega (arith, h.1, enough)) b.2 m.2 no_more)
         | inr h ↦ absurd (false≢true (sym fits.1 ∙ h.0))
@@ -112,7 +112,7 @@ module _ {A S : Type 0} (add : S → A → Option S) (p : Rule A) (lawful_p : La
       let a = bind_some (λ a. option_and_then (λ u. reads_onto_from add p (length a.1) u a.1) (add s a.0)) (p.reads words) (t, rest) e in
       let b = bind_some (λ u. reads_onto_from add p (length a.0.1) u a.0.1) (add s a.0.0) (t, rest) a.2 in
       let more = onto_sound (length a.0.1) b.0 t a.0.1 rest b.2 in
-      (a.0.0, more.0, bind_is (λ u. added add u more.0) (add s a.0.0) b.0 (Some t) b.1 more.1, (a.0.1, lawful_p.sound a.0.0 words a.0.1 a.1, more.2))
+      (a.0.0, more.0, bind_is (λ u. added_in_turn add u more.0) (add s a.0.0) b.0 (Some t) b.1 more.1, (a.0.1, lawful_p.sound a.0.0 words a.0.1 a.1, more.2))
 
   some_complete : (many p).is_fit ≡ true → (s t : S) (words rest : List Word) → (some_onto add s p).Spells t words rest → begins (p.starts ++ p.goes_on) rest ≡ false → (some_onto add s p).reads words ≡ Some (t, rest)
   some_complete fit s t words rest m no_more =
@@ -123,7 +123,7 @@ module _ {A S : Type 0} (add : S → A → Option S) (p : Rule A) (lawful_p : La
         | inl h ↦ begins_apart p.starts p.goes_on spelled.0 fits.2 h.0
         | inr h ↦ subst (λ ws. begins p.goes_on ws ≡ false) (sym h.1) (neither_begins p.starts p.goes_on rest no_more).1
       ] in
-      let b = bind_some (λ u. added add u m.1) (add s m.0) t m.2 in
+      let b = bind_some (λ u. added_in_turn add u m.1) (add s m.0) t m.2 in
       rw (lawful_p.complete fits.0 m.0 words spelled.0 spelled.1 stops, b.1, onto_complete fit (length spelled.0) b.0 t m.1 spelled.0 rest (omega arith) b.2 spelled.2 no_more)
 
   some_first : (many p).is_fit ≡ true → (s t : S) (words rest : List Word) → (some_onto add s p).Spells t words rest → ((begins p.starts words ≡ true) × (length rest < length words)) ⊎ ((false ≡ true) × (words ≡ rest))

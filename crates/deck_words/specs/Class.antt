@@ -19,13 +19,13 @@ pub data Texts : Type 0 where
   Any : Texts
 
 -- a level is a number of one or two digits, and a picture is any text but IS
-abbrev pub has : Texts → List ℕ → Bool
-has (Only text) other = bytes_eq text other
-has Names text = is_name text
-has Numbers text = is_number text
-has Levels text = is_number text && nat_le (length text) 2
-has Pictures text = not (bytes_eq (codes "IS") text)
-has Any text = true
+abbrev pub has_text : Texts → List ℕ → Bool
+has_text (Only text) other = bytes_eq text other
+has_text Names text = is_name text
+has_text Numbers text = is_number text
+has_text Levels text = is_number text && nat_le (length text) 2
+has_text Pictures text = not (bytes_eq (codes "IS") text)
+has_text Any text = true
 
 -- the only text
 abbrev pub only_text : Texts → Option (List ℕ)
@@ -45,9 +45,9 @@ has_capitals Levels = Some false
 has_capitals Pictures = None
 has_capitals Any = None
 
-abbrev pub lacks : Texts → Option (List ℕ) → Bool
-lacks texts None = false
-lacks texts (Some text) = not (has texts text)
+abbrev pub lacks_text : Texts → Option (List ℕ) → Bool
+lacks_text texts None = false
+lacks_text texts (Some text) = not (has_text texts text)
 
 abbrev pub differ : Option Bool → Option Bool → Bool
 differ None other = false
@@ -59,7 +59,7 @@ differ (Some false) (Some other) = other
 -- no text is both of these: one is a text that the other lacks, or one has capitals and the other none
 abbrev pub are_texts_apart : Texts → Texts → Bool
 are_texts_apart some others =
-    lacks others (only_text some) || (lacks some (only_text others)
+    lacks_text others (only_text some) || (lacks_text some (only_text others)
     || differ (has_capitals some) (has_capitals others))
 
 -- ---- words
@@ -94,7 +94,7 @@ abbrev pub periods : Class
 periods = record { kind = kind.Period; texts = Any }
 
 abbrev pub is_in : Class → Word → Bool
-is_in class word = is_same_kind class.kind word.kind && has class.texts word.text
+is_in class word = is_same_kind class.kind word.kind && has_text class.texts word.text
 
 -- whether there is a next word, of one of these classes
 abbrev pub begins : List Class → List Word → Bool
@@ -102,8 +102,9 @@ begins classes [] = false
 begins classes (word ∷ words) = list_any (λ class. is_in class word) classes
 
 -- whether no word is of both classes
-abbrev pub are_apart : Class → Class → Bool
-are_apart class other = not (is_same_kind class.kind other.kind) || are_texts_apart class.texts other.texts
+abbrev pub are_classes_apart : Class → Class → Bool
+are_classes_apart class other = not (is_same_kind class.kind other.kind)
+    || are_texts_apart class.texts other.texts
 
 abbrev pub all_apart : List Class → List Class → Bool
-all_apart some others = list_all (λ class. list_all (are_apart class) others) some
+all_apart some others = list_all (λ class. list_all (are_classes_apart class) others) some

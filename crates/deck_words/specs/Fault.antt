@@ -7,19 +7,19 @@ use Rattle.deck_words.specs.declared.fault.DeckFault.{DeckFault}
 use Rattle.deck_words.specs.declared.fault.Refusal.{Refusal}
 use Rattle.deck_words.specs.declared.fault.Refusal.TheVariants.{Memory, Fault}
 
-abbrev pub code_of : Cause → ℕ
-code_of BadWord = 1
-code_of Expected = 2
-code_of Unknown = 3
-code_of Twice = 4
-code_of NotAllowed = 5
-code_of Limit = 6
-code_of Layout = 7
+abbrev pub cause_code : Cause → ℕ
+cause_code BadWord = 1
+cause_code Expected = 2
+cause_code Unknown = 3
+cause_code Twice = 4
+cause_code NotAllowed = 5
+cause_code Limit = 6
+cause_code Layout = 7
 
 -- a fault is told by its line and its code, and want of memory by line 0 and code 8
 abbrev pub told : Refusal → DeckFault
 told Memory = record { line = 0; code = 8 }
-told (Fault line cause) = record { line = line; code = code_of cause }
+told (Fault line cause) = record { line = line; code = cause_code cause }
 
 abbrev pub IsFault : Refusal → Type 0
 IsFault Memory = ⊥

@@ -42,9 +42,9 @@ abbrev pub ◌<$>◌ : {A B : Type 0} → (A → B) → Rule A → Rule B
 f <$> p = where_it_gives (λ x. Some (f x)) p
 
 -- whether it is there
-abbrev pub is_there : Option (Unit {0}) → Bool
-is_there None = false
-is_there (Some _) = true
+abbrev pub is_word_there : Option (Unit {0}) → Bool
+is_word_there None = false
+is_word_there (Some _) = true
 
 -- what was read of a word that may be left out
 abbrev pub eaten : Bool → Option (Unit {0})

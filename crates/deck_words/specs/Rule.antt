@@ -108,9 +108,9 @@ many p = record {
 -- ---- any number of times, each value added to what there is
 
 -- what there is after these values, where each can be added
-abbrev pub added : {A S : Type 0} → (S → A → Option S) → S → List A → Option S
-added add s [] = Some s
-added add s (x ∷ xs) = option_and_then (λ t. added add t xs) (add s x)
+abbrev pub added_in_turn : {A S : Type 0} → (S → A → Option S) → S → List A → Option S
+added_in_turn add s [] = Some s
+added_in_turn add s (x ∷ xs) = option_and_then (λ t. added_in_turn add t xs) (add s x)
 
 abbrev pub reads_onto_from : {A S : Type 0} → (S → A → Option S) → Rule A → ℕ → S → List Word
     → Option (S × List Word)
@@ -121,7 +121,7 @@ reads_onto_from add p (suc turns) s words = if begins p.starts words then option
 
 abbrev pub onto : {A S : Type 0} → (S → A → Option S) → S → Rule A → Rule S
 onto add s p = record {
-  Spells = λ t words rest. (xs : _) × (added add s xs ≡ Some t) × SpellsMany p xs words rest;
+  Spells = λ t words rest. (xs : _) × (added_in_turn add s xs ≡ Some t) × SpellsMany p xs words rest;
   reads = λ words. reads_onto_from add p (length words) s words;
   starts = p.starts;
   goes_on = p.starts ++ p.goes_on;
@@ -133,7 +133,7 @@ onto add s p = record {
 
 abbrev pub some_onto : {A S : Type 0} → (S → A → Option S) → S → Rule A → Rule S
 some_onto add s p = record {
-  Spells = λ t words rest. (x : _) × (xs : _) × (added add s (x ∷ xs) ≡ Some t)
+  Spells = λ t words rest. (x : _) × (xs : _) × (added_in_turn add s (x ∷ xs) ≡ Some t)
       × SpellsMany p (x ∷ xs) words rest;
   reads = λ words. option_and_then (λ a.
       option_and_then (λ t. reads_onto_from add p (length a.1) t a.1) (add s a.0)) (p.reads words);

@@ -27,17 +27,17 @@ sign_text Greater = codes ">"
 sign_text GreaterOrEqual = codes ">="
 sign_text Less = codes "<"
 
-abbrev pub kind_of : WordText → WordKind
-kind_of (says.Plain name) = Plain
-kind_of (says.Literal text) = Literal
-kind_of (says.Sign sign) = Sign
-kind_of says.Period = Period
+abbrev pub kind_of_word : WordText → WordKind
+kind_of_word (says.Plain name) = Plain
+kind_of_word (says.Literal text) = Literal
+kind_of_word (says.Sign sign) = Sign
+kind_of_word says.Period = Period
 
-abbrev pub text_of : WordText → List ℕ
-text_of (says.Plain name) = name.bytes
-text_of (says.Literal text) = text
-text_of (says.Sign sign) = sign_text sign
-text_of says.Period = codes "."
+abbrev pub text_of_word : WordText → List ℕ
+text_of_word (says.Plain name) = name.bytes
+text_of_word (says.Literal text) = text
+text_of_word (says.Sign sign) = sign_text sign
+text_of_word says.Period = codes "."
 
 abbrev pub is_same_kind : WordKind → WordKind → Bool
 is_same_kind Plain Plain = true

@@ -78,10 +78,10 @@ pub data Piece : Type 0 where
   Run : List ℕ → Piece
 
 -- the bytes of a piece
-abbrev pub written : Piece → List ℕ
-written (Space byte) = byte ∷ []
-written (Quoted mark text) = mark ∷ doubled mark text ++ mark ∷ []
-written (Run run) = run
+abbrev pub written_piece : Piece → List ℕ
+written_piece (Space byte) = byte ∷ []
+written_piece (Quoted mark text) = mark ∷ doubled mark text ++ mark ∷ []
+written_piece (Run run) = run
 
 -- a piece at this line gives these words, where these bytes come after it
 abbrev pub GivesWords : ℕ → Piece → List ℕ → List Word → Type 0
@@ -111,7 +111,7 @@ rest_of line bytes = record { line = line; bytes = bytes }
 abbrev pub IsCutIntoWords : Rest → List Piece → List Word → Rest → Type 0
 IsCutIntoWords from [] words end = (from ≡ end) × (words ≡ [])
 IsCutIntoWords from (piece ∷ pieces) words end =
-    (new : List Word) × (more : List Word) × (after : List ℕ) × (from.bytes ≡ written piece ++ after)
+    (new : List Word) × (more : List Word) × (after : List ℕ) × (from.bytes ≡ written_piece piece ++ after)
     × GivesWords from.line piece after new × (words ≡ new ++ more)
     × IsCutIntoWords (rest_of (line_after from.line piece) after) pieces more end
 
@@ -128,7 +128,7 @@ HasWords bytes words = (line : ℕ) × HasWordsUpTo bytes words (rest_of line []
 abbrev pub IsStuck : Rest → Type 0
 IsStuck rest =
     (0 < length rest.bytes)
-    × ((piece : Piece) (after : List ℕ) (words : List Word) → rest.bytes ≡ written piece ++ after
+    × ((piece : Piece) (after : List ℕ) (words : List Word) → rest.bytes ≡ written_piece piece ++ after
     → GivesWords rest.line piece after words → ⊥)
 
 -- why a deck has no words: it is too long, or what is left behind some pieces begins with none; or

@@ -1,6 +1,6 @@
 //! Why a deck is refused.
 ghost use Rattle.std.specs.Prelude.{◌≡◌};
-ghost use Rattle.deck_words.specs.Fault.{code_of, told};
+ghost use Rattle.deck_words.specs.Fault.{cause_code, told};
 
 use std::alloc::{AllocError, AllocFailed};
 use thiserror::Error;
@@ -46,7 +46,7 @@ pub enum Refusal {
 impl Cause {
     /// Its code in a `DeckFault`.
     fn code(self) -> u8
-        ensures { result ≡ code_of self }
+        ensures { result ≡ cause_code self }
     {
         match self {
             Cause::BadWord => 1,

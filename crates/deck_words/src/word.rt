@@ -34,11 +34,11 @@ pub struct Word<'a> {
 }
 
 impl<'a> Model for Word<'a> {
-    ghost use Rattle.deck_words.specs.Word.{Word as Seen, word_of, kind_of, text_of};
+    ghost use Rattle.deck_words.specs.Word.{Word as Seen, word_of, kind_of_word, text_of_word};
 
     ghost Value = { Seen };
 
-    ghost view = { λ word. word_of word.line (kind_of word.text) (text_of word.text) };
+    ghost view = { λ word. word_of word.line (kind_of_word word.text) (text_of_word word.text) };
 }
 
 impl Sign {

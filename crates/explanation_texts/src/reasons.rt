@@ -5,7 +5,8 @@
 macro_rules! reasons {
     ($then:ident $($with:tt)*) => {
         $then! { [$($with)*]
-Short "1" ["short: fewer bytes than a page, or than its pages need;" "it was cut, or it is no file of cobix"] "
+Short "1" ["short: fewer bytes than a page, or than its pages need;" "it was cut, or it is no file of cobix"]
+    "
 Meaning
   A part of the file is missing at its end; or it is no file of cobix.
 

@@ -1,6 +1,6 @@
 -- A table as the code has it, and as the definitions have it.
 use Rattle.std.proofs.Common.{◌≡◌, ℕ, Bool, true, false, List, [], ◌∷◌, Option, Some, map, option_map, if◌then◌else◌, refl}
-use Rattle.explanations.specs.Explained.{text_in, text_of}
+use Rattle.explanations.specs.Explained.{text_in, text_in_table}
 use Rattle.std.specs.Str.{bytes_eq}
 use denote.Ref.{Bor}
 
@@ -12,6 +12,6 @@ first_or true row more others same = refl
 first_or false row more others same = same
 
 -- the text is the same in both
-pub same_text : (rows : List (Bor (List ℕ) × Bor (List ℕ))) (number : List ℕ) → text_of rows number ≡ text_in (map (λ row. (row.0.now, row.1.now)) rows) number
+pub same_text : (rows : List (Bor (List ℕ) × Bor (List ℕ))) (number : List ℕ) → text_in_table rows number ≡ text_in (map (λ row. (row.0.now, row.1.now)) rows) number
 same_text [] number = refl
 same_text (row ∷ rows) number = first_or (bytes_eq row.0.now number) row _ _ (same_text rows number)

@@ -12,8 +12,8 @@ abbrev pub text_in : Table → List ℕ → Option (List ℕ)
 text_in rows number = option_map (λ row. row.1) (find (λ row. bytes_eq row.0 number) rows)
 
 -- the same in a table as the code has it
-abbrev pub text_of : List (Bor (List ℕ) × Bor (List ℕ)) → List ℕ → Option (List ℕ)
-text_of rows number = option_map (λ row. row.1.now) (find (λ row. bytes_eq row.0.now number) rows)
+abbrev pub text_in_table : List (Bor (List ℕ) × Bor (List ℕ)) → List ℕ → Option (List ℕ)
+text_in_table rows number = option_map (λ row. row.1.now) (find (λ row. bytes_eq row.0.now number) rows)
 
 -- the text that two words name: the kind, and the number as it is written
 abbrev pub explained : (statuses faults reasons : Table) → (kind number : List ℕ) → Option (List ℕ)

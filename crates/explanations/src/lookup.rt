@@ -3,14 +3,14 @@ ghost use Rattle.std.specs.Prelude.{◌≡◌, option_map, IsSome};
 ghost use Rattle.io_state.specs.declared.status.Status.{Status};
 ghost use Rattle.io_state.specs.Status.{digits_of};
 ghost use Rattle.deck_words.specs.declared.fault.Cause.{Cause};
-ghost use Rattle.deck_words.specs.Fault.{code_of};
-ghost use Rattle.explanations.specs.Explained.{text_of, text_in, digit_of};
+ghost use Rattle.deck_words.specs.Fault.{cause_code};
+ghost use Rattle.explanations.specs.Explained.{text_in_table, text_in, digit_of};
 ghost use Rattle.explanations.specs.Tables.{table_of, status_table, fault_table, explanation};
 
 use crate::tables::{FAULTS, REASONS, STATUSES};
 
 fn text_of(rows: &[(&'static str, &'static str)], number: &str) -> Option<&'static str>
-    ensures { option_map (λ text. text.now) result ≡ text_of rows.now number.now }
+    ensures { option_map (λ text. text.now) result ≡ text_in_table rows.now number.now }
 {
     let row = rows.iter().find(|row| row.0 == number)?;
     Some(row.1)
@@ -39,5 +39,5 @@ pub fn explanation_of(kind: &str, number: &str) -> Option<&'static str>
 /// Each status is explained, and each cause for which a deck is refused.
 pub fn all_are_explained()
     ensures statuses { (status : Status) → IsSome (text_in status_table (digits_of status)) }
-    ensures causes { (cause : Cause) → IsSome (text_in fault_table (digit_of (code_of cause))) }
+    ensures causes { (cause : Cause) → IsSome (text_in fault_table (digit_of (cause_code cause))) }
 {}

@@ -17,14 +17,14 @@ use Rattle.indexed_file.proofs.SoundLemmas.{added_is_file}
 use Rattle.page_bytes.specs.Each.{Each}
 use Rattle.pages.specs.PageMap.{PageMap}
 use Rattle.record_heap.specs.declared.shape.Place.{Place}
-use Rattle.record_heap.specs.Chain.{put}
+use Rattle.record_heap.specs.Chain.{put_slot}
 use Rattle.record_heap.proofs.ChainLemmas.{put_here, put_there}
 use Rattle.key_index.specs.Entries.{with_alt, with_prime, has_rank, has_prime}
 use Rattle.open_file.specs.InOrder.{in_order, alt_entry, alt_entries, prime_entries}
 use Rattle.open_file.specs.Stored.{stored}
 use Rattle.open_file.specs.Parts.{Parts}
 use Rattle.open_file.specs.Stands.{Stands, IsShaped}
-use Rattle.file_changes.specs.Adding.{added_below, entry_of, stamp_in, AreFree}
+use Rattle.file_changes.specs.Adding.{added_below, entry_of_record, stamp_in, AreFree}
 use Rattle.open_file.specs.declared.open_file.OpenFile.{OpenFile}
 use Rattle.open_file.proofs.RowLemmas.{row_total, put_each}
 use Rattle.open_file.proofs.RepeatLemmas.{find_mapped}
@@ -40,7 +40,7 @@ reversed Equal = refl
 reversed Greater = refl
 
 -- the new record's entry in an alternate index
-entry_is : (schema : Schema) (stamp : ℕ) (bytes : List ℕ) (j : ℕ) → j + 1 < length schema.keys → alt_entry schema (j + 1) (new_row schema stamp bytes) ≡ entry_of schema stamp bytes j
+entry_is : (schema : Schema) (stamp : ℕ) (bytes : List ℕ) (j : ℕ) → j + 1 < length schema.keys → alt_entry schema (j + 1) (new_row schema stamp bytes) ≡ entry_of_record schema stamp bytes j
 entry_is schema stamp bytes j lt =
     let same = new_stamp schema stamp bytes j lt in
     λ i. record { value = record { items = value_of schema (j + 1) bytes }; stamp = same i; prime = record { items = prime_of schema bytes } }
@@ -106,7 +106,7 @@ free_prime u pages file bytes stands is clash =
 pub added_stands : (u v : OpenFile) (before after : PageMap) (file : File) (bytes : List ℕ) (place : Place) (stands : Stands u before file) → IsShaped u → u.schema.least ≤ length bytes → length bytes ≤ u.schema.greatest
     → clashes u.schema bytes file.rows ≡ false → v.schema ≡ u.schema → v.next_stamp ≡ u.next_stamp + 1 → u.next_stamp < 2 ^ 63 → v.path ≡ None → length v.alternates.items ≡ length u.alternates.items
     → stands.slots place ≡ None
-    → Parts v.heap v.prime v.alternates.items after (put stands.slots place (Some (stored u.schema (new_row u.schema u.next_stamp bytes))))
+    → Parts v.heap v.prime v.alternates.items after (put_slot stands.slots place (Some (stored u.schema (new_row u.schema u.next_stamp bytes))))
     (with_prime (record { value = record { items = prime_of u.schema bytes }; place = place }) (prime_entries u.schema stands.places file.rows))
     (added_below u.schema u.next_stamp bytes (length u.alternates.items) (λ j. alt_entries u.schema (j + 1) file.rows))
     → Stands v after (added u.schema bytes file)
@@ -116,8 +116,8 @@ added_stands u v before after file bytes place stands shaped least greatest clas
     let fit : is_length u.schema (length bytes) ≡ true = and_from _ _ (le-leb _ _ least) (le-leb _ _ greatest) in
     let sound = added_is_file u.schema bytes file shaped.is_schema stands.sound fit clash in
     let here = put_here stands.slots place slot ∙ ap (λ s. Some (stored u.schema (new_row u.schema s bytes))) stands.stamp in
-    let placed = placed_with u.schema stands.slots (put stands.slots place slot) new place stands.places file.rows free here (λ p other. put_there stands.slots place p slot other) stands.placed in
-    let parts_said = said_so v.heap v.prime v.alternates.items after (put stands.slots place slot) _ _ parts
+    let placed = placed_with u.schema stands.slots (put_slot stands.slots place slot) new place stands.places file.rows free here (λ p other. put_there stands.slots place p slot other) stands.placed in
+    let parts_said = said_so v.heap v.prime v.alternates.items after (put_slot stands.slots place slot) _ _ parts
     (prime_entries u.schema (places_with u.schema new place stands.places file.rows) (added u.schema bytes file).rows)
     (λ j. alt_entries u.schema (j + 1) (added u.schema bytes file).rows)
     (prime_entries_with u.schema stands.slots new place stands.places file.rows stands.placed.rows_at)
@@ -128,7 +128,7 @@ added_stands u v before after file bytes place stands shaped least greatest clas
       stamp = stamp ∙ ap (λ n. n + 1) stands.stamp;
       few = omega (arith, stamp, few);
       places = places_with u.schema new place stands.places file.rows;
-      slots = put stands.slots place slot;
+      slots = put_slot stands.slots place slot;
       placed = rw schema placed;
       parts = rw schema parts_said;
       on_path = rw path tt;

@@ -8,7 +8,7 @@ use Rattle.indexed_file.specs.File.{Row}
 use Rattle.key_index.specs.declared.entry.AltEntry.{AltEntry}
 use Rattle.key_index.specs.Entries.{with_alt}
 use Rattle.open_file.specs.Parts.{but_at}
-use Rattle.file_changes.specs.Adding.{entry_of}
+use Rattle.file_changes.specs.Adding.{entry_of_record}
 use Rattle.file_changes.specs.Replacing.{stays, freed, changed_in, changed_below}
 use Rattle.open_file.proofs.OrderLemmas.{either}
 use Rattle.open_file.proofs.PartsLemmas.{from_eq, from_ne}
@@ -39,7 +39,7 @@ changed_skip schema stamp old bytes j entries same i =
     (λ yes.
     let e = from_eq i j yes in
     let one : changed_below schema stamp old bytes (j + 1) entries i ≡ changed_in schema stamp old bytes i (entries i) = rw (lt_next i j e) refl in
-    let two : changed_in schema stamp old bytes i (entries i) ≡ entries i = ap (λ b. if b then entries i else with_alt (entry_of schema stamp bytes i) (freed schema old i (entries i))) (ap (λ m. stays schema old.bytes bytes m) e ∙ same) in
+    let two : changed_in schema stamp old bytes i (entries i) ≡ entries i = ap (λ b. if b then entries i else with_alt (entry_of_record schema stamp bytes i) (freed schema old i (entries i))) (ap (λ m. stays schema old.bytes bytes m) e ∙ same) in
     let three : changed_below schema stamp old bytes j entries i ≡ entries i = ap (λ m. changed_below schema stamp old bytes j entries m) e ∙ changed_here schema stamp old bytes j entries ∙ ap entries (sym e) in
     one ∙ two ∙ sym three)
     (λ no. let ne = from_ne i j no in rw (lt_other i j ne) refl)
@@ -47,16 +47,16 @@ changed_skip schema stamp old bytes j entries same i =
 -- one that does
 pub changed_step : (schema : Schema) (stamp : ℕ) (old : Row) (bytes : List ℕ) (j : ℕ) (entries : ℕ → List AltEntry) → stays schema old.bytes bytes j ≡ false
     → (i : ℕ) → changed_below schema stamp old bytes (j + 1) entries i
-    ≡ but_at j (with_alt (entry_of schema stamp bytes j) (freed schema old j (changed_below schema stamp old bytes j entries j))) (changed_below schema stamp old bytes j entries) i
+    ≡ but_at j (with_alt (entry_of_record schema stamp bytes j) (freed schema old j (changed_below schema stamp old bytes j entries j))) (changed_below schema stamp old bytes j entries) i
 changed_step schema stamp old bytes j entries moves i =
-    let now = with_alt (entry_of schema stamp bytes j) (freed schema old j (changed_below schema stamp old bytes j entries j)) in
+    let now = with_alt (entry_of_record schema stamp bytes j) (freed schema old j (changed_below schema stamp old bytes j entries j)) in
     either (i == j) (changed_below schema stamp old bytes (j + 1) entries i ≡ but_at j now (changed_below schema stamp old bytes j entries) i)
     (λ yes.
     let e = from_eq i j yes in
     let one : changed_below schema stamp old bytes (j + 1) entries i ≡ changed_in schema stamp old bytes i (entries i) = rw (lt_next i j e) refl in
     let two : changed_in schema stamp old bytes i (entries i) ≡ changed_in schema stamp old bytes j (entries j) = ap (λ m. changed_in schema stamp old bytes m (entries m)) e in
-    let three : changed_in schema stamp old bytes j (entries j) ≡ with_alt (entry_of schema stamp bytes j) (freed schema old j (entries j)) =
-    ap (λ b. if b then entries j else with_alt (entry_of schema stamp bytes j) (freed schema old j (entries j))) moves in
-    let four : with_alt (entry_of schema stamp bytes j) (freed schema old j (entries j)) ≡ now = ap (λ es. with_alt (entry_of schema stamp bytes j) (freed schema old j es)) (sym (changed_here schema stamp old bytes j entries)) in
+    let three : changed_in schema stamp old bytes j (entries j) ≡ with_alt (entry_of_record schema stamp bytes j) (freed schema old j (entries j)) =
+    ap (λ b. if b then entries j else with_alt (entry_of_record schema stamp bytes j) (freed schema old j (entries j))) moves in
+    let four : with_alt (entry_of_record schema stamp bytes j) (freed schema old j (entries j)) ≡ now = ap (λ es. with_alt (entry_of_record schema stamp bytes j) (freed schema old j es)) (sym (changed_here schema stamp old bytes j entries)) in
     one ∙ two ∙ three ∙ four ∙ sym (ap (λ b. if b then now else changed_below schema stamp old bytes j entries i) yes))
     (λ no. let ne = from_ne i j no in rw (no, lt_other i j ne) refl)

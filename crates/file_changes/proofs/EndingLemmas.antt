@@ -12,7 +12,7 @@ use Rattle.pages.specs.Cause.{IsCaused}
 use Rattle.pages.specs.ShownPages.{ShownPages}
 use Rattle.open_file.specs.Stands.{Stands, IsShaped, heights_of, room_of}
 use Rattle.indexed_file.specs.Room.{most_to_change}
-use Rattle.file_changes.specs.Adding.{levels_in}
+use Rattle.file_changes.specs.Adding.{index_levels}
 use Rattle.open_file.specs.declared.open_file.OpenFile.{OpenFile}
 use Rattle.indexed_file.specs.FileChange.{FileChange}
 use Rattle.file_changes.specs.Changes.{HasChanged, KeepsFile, Changes, MayBreak}
@@ -183,7 +183,7 @@ broken_breaks shown held broken takes reads = record {
 
 pub found_kept : {S : Type 0} (shown : ShownPages S) (before after : FileInPages S) → after.file.schema ≡ before.file.schema → after.file.broken ≡ before.file.broken → IsShaped after.file
     → shown.Begins before.pages after.pages
-    → (shown.state after.pages).asked ≤ (shown.state before.pages).asked + 2 * sum_by (λ height. height) (heights_of before.file) + 1 + 16 * levels_in before.file.alternates.items
+    → (shown.state after.pages).asked ≤ (shown.state before.pages).asked + 2 * sum_by (λ height. height) (heights_of before.file) + 1 + 16 * index_levels before.file.alternates.items
     → KeepsFound shown before after
 found_kept shown before after schema broken shaped begins asked = record { schema = schema; broken = broken; shaped = shaped; begins = begins; asked = asked }
 

@@ -11,7 +11,7 @@ use Rattle.indexed_file.specs.Room.{is_full_to_replace, is_full_at, need_of_chan
 use Rattle.pages.specs.PageMap.{PageMap}
 use Rattle.key_index.specs.declared.alt_index.AltIndex.{AltIndex}
 use Rattle.key_index.specs.Standing.{prime_height, alt_height}
-use Rattle.file_changes.specs.Adding.{levels_in}
+use Rattle.file_changes.specs.Adding.{index_levels}
 use Rattle.open_file.specs.Stands.{Stands, IsShaped, room_of}
 use Rattle.file_changes.specs.Replacing.{need_in_indexes, is_full_for}
 use Rattle.open_file.specs.declared.open_file.OpenFile.{OpenFile}
@@ -59,15 +59,15 @@ pub stamp_is : (u : OpenFile) (available : ℕ) (old new : List ℕ) → is_full
 stamp_is u available old new none taken = limited (nat_lt available (need_in_indexes u.schema old new u.alternates.items)) (takes_stamp u.schema old new) u.next_stamp none taken
 
 -- no more pages are needed than the trees have levels, with one more of each
-need_few : (parts : List KeyPart) (old new : List ℕ) (indexes : List AltIndex) → need_of_changed parts old new (map alt_height indexes) ≤ levels_in indexes
+need_few : (parts : List KeyPart) (old new : List ℕ) (indexes : List AltIndex) → need_of_changed parts old new (map alt_height indexes) ≤ index_levels indexes
 need_few [] old new indexes = omega arith
 need_few (part ∷ parts) old new [] = omega arith
 need_few (part ∷ parts) old new (index ∷ indexes) =
     let rest = need_few parts old new indexes in
     let levels = sum_by-cons (λ (i : AltIndex). alt_height i + 1) index indexes in
-    either (bytes_eq (part_of part old) (part_of part new)) (need_of_changed (part ∷ parts) old new (map alt_height (index ∷ indexes)) ≤ levels_in (index ∷ indexes))
+    either (bytes_eq (part_of part old) (part_of part new)) (need_of_changed (part ∷ parts) old new (map alt_height (index ∷ indexes)) ≤ index_levels (index ∷ indexes))
     (λ yes. rw yes (omega (arith, rest, levels)))
     (λ no. rw no (omega (arith, rest, levels)))
 
-pub need_within : (u : OpenFile) (old new : List ℕ) → need_in_indexes u.schema old new u.alternates.items ≤ levels_in u.alternates.items
+pub need_within : (u : OpenFile) (old new : List ℕ) → need_in_indexes u.schema old new u.alternates.items ≤ index_levels u.alternates.items
 need_within u old new = need_few (drop 1 u.schema.keys) old new u.alternates.items

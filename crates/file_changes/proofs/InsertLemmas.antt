@@ -11,7 +11,7 @@ use Rattle.indexed_file.specs.Rank.{row_cmp}
 use Rattle.indexed_file.specs.Change.{inserted}
 use Rattle.page_bytes.specs.Each.{Each}
 use Rattle.key_index.specs.Entries.{with_alt}
-use Rattle.open_file.specs.InOrder.{put, in_order, alt_entry, alt_entries}
+use Rattle.open_file.specs.InOrder.{put_row, in_order, alt_entry, alt_entries}
 use Rattle.open_file.proofs.OrderLemmas.{either, not_below, not_back}
 use Rattle.open_file.proofs.RowLemmas.{row_total}
 
@@ -28,42 +28,42 @@ clash : {b : Bool} → b ≡ true → b ≡ false → ⊥
 clash e k = let both : true ≡ false = sym e ∙ k in cc
 
 -- two rows that are not tied may be put in either order
-put_put : (schema : Schema) (k : ℕ) (a b : Row) → is_eq (row_cmp schema k a b) ≡ false → is_eq (row_cmp schema k b a) ≡ false → (rows : List Row) → put schema k a (put schema k b rows) ≡ put schema k b (put schema k a rows)
+put_put : (schema : Schema) (k : ℕ) (a b : Row) → is_eq (row_cmp schema k a b) ≡ false → is_eq (row_cmp schema k b a) ≡ false → (rows : List Row) → put_row schema k a (put_row schema k b rows) ≡ put_row schema k b (put_row schema k a rows)
 put_put schema k a b ab ba [] =
-    either (is_lt (row_cmp schema k b a)) (put schema k a (put schema k b []) ≡ put schema k b (put schema k a []))
+    either (is_lt (row_cmp schema k b a)) (put_row schema k a (put_row schema k b []) ≡ put_row schema k b (put_row schema k a []))
     (λ yes. rw (yes, not_back (row_cmp schema k) (row_total schema k) b a yes) refl)
     (λ no. rw (no, other_way schema k b a ba no) refl)
 put_put schema k a b ab ba (x ∷ rows) =
     let R = row_cmp schema k in
     let total = row_total schema k in
-    either (is_lt (R x a)) (put schema k a (put schema k b (x ∷ rows)) ≡ put schema k b (put schema k a (x ∷ rows)))
-    (λ xa. either (is_lt (R x b)) (put schema k a (put schema k b (x ∷ rows)) ≡ put schema k b (put schema k a (x ∷ rows)))
+    either (is_lt (R x a)) (put_row schema k a (put_row schema k b (x ∷ rows)) ≡ put_row schema k b (put_row schema k a (x ∷ rows)))
+    (λ xa. either (is_lt (R x b)) (put_row schema k a (put_row schema k b (x ∷ rows)) ≡ put_row schema k b (put_row schema k a (x ∷ rows)))
     (λ xb. rw (xb, xa, xb) (ap (λ rest. x ∷ rest) (put_put schema k a b ab ba rows)))
     (λ xb.
     let low : is_lt (R b a) ≡ true = either (is_lt (R b a)) (is_lt (R b a) ≡ true) (λ yes. yes) (λ no. absurd (clash xa (not_below R total x b a xb no))) in
     rw (xb, low, xa, xb) refl))
-    (λ xa. either (is_lt (R x b)) (put schema k a (put schema k b (x ∷ rows)) ≡ put schema k b (put schema k a (x ∷ rows)))
+    (λ xa. either (is_lt (R x b)) (put_row schema k a (put_row schema k b (x ∷ rows)) ≡ put_row schema k b (put_row schema k a (x ∷ rows)))
     (λ xb.
     let low : is_lt (R a b) ≡ true = either (is_lt (R a b)) (is_lt (R a b) ≡ true) (λ yes. yes) (λ no. absurd (clash xb (not_below R total x a b xa no))) in
     rw (xb, xa, low, xb) refl)
-    (λ xb. either (is_lt (R b a)) (put schema k a (put schema k b (x ∷ rows)) ≡ put schema k b (put schema k a (x ∷ rows)))
+    (λ xb. either (is_lt (R b a)) (put_row schema k a (put_row schema k b (x ∷ rows)) ≡ put_row schema k b (put_row schema k a (x ∷ rows)))
     (λ yes. rw (xb, yes, xa, not_back R total b a yes) refl)
     (λ no. rw (xb, no, xa, other_way schema k b a ba no, xb) refl)))
 
 -- the rows with one more, in order, are the rows in order with one more
 pub in_order_inserted : (schema : Schema) (k : ℕ) (row : Row) (rows : List Row) → Each (λ other. is_eq (row_cmp schema k other row) ≡ false) rows → Each (λ other. is_eq (row_cmp schema k row other) ≡ false) rows
-    → in_order schema k (inserted schema row rows) ≡ put schema k row (in_order schema k rows)
+    → in_order schema k (inserted schema row rows) ≡ put_row schema k row (in_order schema k rows)
 in_order_inserted schema k row [] one two = refl
 in_order_inserted schema k row (next ∷ rows) one two =
-    either (is_lt (value_cmp (prime_of schema row.bytes) (prime_of schema next.bytes))) (in_order schema k (inserted schema row (next ∷ rows)) ≡ put schema k row (in_order schema k (next ∷ rows)))
+    either (is_lt (value_cmp (prime_of schema row.bytes) (prime_of schema next.bytes))) (in_order schema k (inserted schema row (next ∷ rows)) ≡ put_row schema k row (in_order schema k (next ∷ rows)))
     (λ yes. rw yes refl)
-    (λ no. rw no (ap (put schema k next) (in_order_inserted schema k row rows one.1 two.1) ∙ put_put schema k next row one.0 two.0 (in_order schema k rows)))
+    (λ no. rw no (ap (put_row schema k next) (in_order_inserted schema k row rows one.1 two.1) ∙ put_put schema k next row one.0 two.0 (in_order schema k rows)))
 
 -- an index with the entry of one more row has the entries of the rows with that row
-with_put : (schema : Schema) (k : ℕ) (row : Row) (rows : List Row) → map (alt_entry schema k) (put schema k row rows) ≡ with_alt (alt_entry schema k row) (map (alt_entry schema k) rows)
+with_put : (schema : Schema) (k : ℕ) (row : Row) (rows : List Row) → map (alt_entry schema k) (put_row schema k row rows) ≡ with_alt (alt_entry schema k row) (map (alt_entry schema k) rows)
 with_put schema k row [] = refl
 with_put schema k row (next ∷ rows) =
-    either (is_lt (row_cmp schema k next row)) (map (alt_entry schema k) (put schema k row (next ∷ rows)) ≡ with_alt (alt_entry schema k row) (map (alt_entry schema k) (next ∷ rows)))
+    either (is_lt (row_cmp schema k next row)) (map (alt_entry schema k) (put_row schema k row (next ∷ rows)) ≡ with_alt (alt_entry schema k row) (map (alt_entry schema k) (next ∷ rows)))
     (λ yes. rw (yes, with_put schema k row rows) refl)
     (λ no. rw no refl)
 

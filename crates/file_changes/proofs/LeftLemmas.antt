@@ -12,7 +12,7 @@ use Rattle.page_bytes.specs.Each.{Each}
 use Rattle.key_index.specs.declared.entry.PrimeEntry.{PrimeEntry}
 use Rattle.key_index.specs.Entries.{has_prime, without_prime}
 use Rattle.record_heap.specs.declared.shape.Place.{Place}
-use Rattle.record_heap.specs.Chain.{Slots, put}
+use Rattle.record_heap.specs.Chain.{Slots, put_slot}
 use Rattle.record_heap.proofs.ChainLemmas.{put_here, put_there}
 use Rattle.open_file.specs.InOrder.{prime_entries}
 use Rattle.open_file.specs.Stored.{AreAt, stored, stamp_bytes, stamps_length}
@@ -59,14 +59,14 @@ other_place schema slots next prime old row place q one two has other here there
 
 -- the other rows stay where they are
 at_left : (schema : Schema) (slots : Slots) (next : ℕ) (prime : List ℕ) (old : Row) (place : Place) (places : List Place) (rows : List Row) → is_row schema next old ≡ true → has_value schema 0 prime old ≡ true
-    → slots place ≡ Some (stored schema old) → are_rows schema next rows ≡ true → AreAt schema slots places rows → AreAt schema (put slots place None) (places_left schema prime places rows) (others_in schema prime rows)
+    → slots place ≡ Some (stored schema old) → are_rows schema next rows ≡ true → AreAt schema slots places rows → AreAt schema (put_slot slots place None) (places_left schema prime places rows) (others_in schema prime rows)
 at_left schema slots next prime old place [] [] fit has here sound at = tt
 at_left schema slots next prime old place [] (row ∷ rows) fit has here sound at = absurd at
 at_left schema slots next prime old place (q ∷ places) [] fit has here sound at = absurd at
 at_left schema slots next prime old place (q ∷ places) (row ∷ rows) fit has here sound at =
     let parts = rows_parts schema next row rows sound in
     let rest = at_left schema slots next prime old place places rows fit has here parts.2 at.1 in
-    either (has_value schema 0 prime row) (AreAt schema (put slots place None) (places_left schema prime (q ∷ places) (row ∷ rows)) (others_in schema prime (row ∷ rows)))
+    either (has_value schema 0 prime row) (AreAt schema (put_slot slots place None) (places_left schema prime (q ∷ places) (row ∷ rows)) (others_in schema prime (row ∷ rows)))
     (λ yes. rw yes rest)
     (λ no. rw no (put_there slots place q None (other_place schema slots next prime old row place q fit parts.0 has no here at.0) ∙ at.0, rest))
 
@@ -97,14 +97,14 @@ found_left schema slots next prime place test (q ∷ places) (row ∷ rows) fail
 -- the rows that are left are at the places that are left, and no other slot is in use
 pub placed_left : (schema : Schema) (slots : Slots) (next : ℕ) (prime : List ℕ) (old : Row) (place : Place) (places : List Place) (rows : List Row) → is_row schema next old ≡ true → has_value schema 0 prime old ≡ true
     → slots place ≡ Some (stored schema old) → option_map (λ (e : PrimeEntry). e.place) (find (has_prime prime) (prime_entries schema places rows)) ≡ Some place → are_rows schema next rows ≡ true
-    → IsPlaced schema slots places rows → IsPlaced schema (put slots place None) (places_left schema prime places rows) (others_in schema prime rows)
+    → IsPlaced schema slots places rows → IsPlaced schema (put_slot slots place None) (places_left schema prime places rows) (others_in schema prime rows)
 placed_left schema slots next prime old place places rows fit has here leads sound placed = record {
   rows_at = at_left schema slots next prime old place places rows fit has here sound placed.rows_at;
   no_more = λ p some.
       either (is_same p place) (IsSome (find (is_same p) (places_left schema prime places rows)))
       (λ yes.
       let e = same_place p place yes in
-      absurd (empty _ some (ap (put slots place None) e ∙ put_here slots place None)))
+      absurd (empty _ some (ap (put_slot slots place None) e ∙ put_here slots place None)))
       (λ no.
       let other : p ≢ place = λ e. differ (ap (λ q. is_same q place) e ∙ same_itself place) no in
       found_left schema slots next prime place (is_same p) places rows no sound placed.rows_at leads

@@ -12,14 +12,14 @@ use Rattle.key_index.specs.declared.alt_index.AltIndex.{AltIndex}
 use Rattle.key_index.specs.declared.entry.AltEntry.{AltEntry}
 use Rattle.key_index.specs.Entries.{with_alt}
 use Rattle.open_file.specs.Parts.{but_at}
-use Rattle.file_changes.specs.Adding.{levels_in, entry_of, added_below}
+use Rattle.file_changes.specs.Adding.{index_levels, entry_of_record, added_below}
 use Rattle.open_file.proofs.OrderLemmas.{either}
 use Rattle.open_file.proofs.LookLemmas.{all_dropped}
 use Rattle.open_file.proofs.PartsLemmas.{from_eq, from_ne}
 
-pub levels_dropped : (indexes : List AltIndex) (j : ℕ) (index : AltIndex) → j < length indexes → index ≡ slice_index_or indexes j index → levels_in (drop j indexes) ≡ (alt_height index + 1) + levels_in (drop (j + 1) indexes)
+pub levels_dropped : (indexes : List AltIndex) (j : ℕ) (index : AltIndex) → j < length indexes → index ≡ slice_index_or indexes j index → index_levels (drop j indexes) ≡ (alt_height index + 1) + index_levels (drop (j + 1) indexes)
 levels_dropped [] j index within is = absurd (omega (arith, within))
-levels_dropped (x ∷ xs) zero index within is = sum_by-cons (λ (i : AltIndex). alt_height i + 1) x xs ∙ ap (λ (i : AltIndex). (alt_height i + 1) + levels_in xs) (sym is)
+levels_dropped (x ∷ xs) zero index within is = sum_by-cons (λ (i : AltIndex). alt_height i + 1) x xs ∙ ap (λ (i : AltIndex). (alt_height i + 1) + index_levels xs) (sym is)
 levels_dropped (x ∷ xs) (suc j) index within is = let e : suc j + 1 ≡ suc (j + 1) = omega arith in rw e (levels_dropped xs j index (omega (arith, within)) is)
 
 pub not_lt_self : (j : ℕ) → nat_lt j j ≡ false
@@ -40,32 +40,32 @@ below_here schema stamp bytes j entries = rw (not_lt_self j) refl
 
 -- one more index has the new entry
 pub below_step : (schema : Schema) (stamp : ℕ) (bytes : List ℕ) (j : ℕ) (entries : ℕ → List AltEntry) (i : ℕ) →
-    added_below schema stamp bytes (j + 1) entries i ≡ but_at j (with_alt (entry_of schema stamp bytes j) (added_below schema stamp bytes j entries j)) (added_below schema stamp bytes j entries) i
+    added_below schema stamp bytes (j + 1) entries i ≡ but_at j (with_alt (entry_of_record schema stamp bytes j) (added_below schema stamp bytes j entries j)) (added_below schema stamp bytes j entries) i
 below_step schema stamp bytes j entries i =
-    either (i == j) (added_below schema stamp bytes (j + 1) entries i ≡ but_at j (with_alt (entry_of schema stamp bytes j) (added_below schema stamp bytes j entries j)) (added_below schema stamp bytes j entries) i)
-    (λ yes. let e = from_eq i j yes in rw (yes, lt_next i j e, not_lt_self j) (ap (λ m. with_alt (entry_of schema stamp bytes m) (entries m)) e))
+    either (i == j) (added_below schema stamp bytes (j + 1) entries i ≡ but_at j (with_alt (entry_of_record schema stamp bytes j) (added_below schema stamp bytes j entries j)) (added_below schema stamp bytes j entries) i)
+    (λ yes. let e = from_eq i j yes in rw (yes, lt_next i j e, not_lt_self j) (ap (λ m. with_alt (entry_of_record schema stamp bytes m) (entries m)) e))
     (λ no. let ne = from_ne i j no in rw (no, lt_other i j ne) refl)
 
-levels_mapped : (indexes : List AltIndex) → sum_by (λ height. height + 1) (map alt_height indexes) ≡ levels_in indexes
+levels_mapped : (indexes : List AltIndex) → sum_by (λ height. height + 1) (map alt_height indexes) ≡ index_levels indexes
 levels_mapped [] = refl
 levels_mapped (x ∷ xs) =
     sum_by-cons (λ height. height + 1) (alt_height x) (map alt_height xs) ∙ ap (λ n. (alt_height x + 1) + n) (levels_mapped xs) ∙ sym (sum_by-cons (λ (i : AltIndex). alt_height i + 1) x xs)
 
 -- what a new record needs
-pub need_in : (prime : PrimeIndex) (indexes : List AltIndex) → need_of_add (heights_in prime indexes) ≡ 1 + ((prime_height prime + 1) + levels_in indexes)
+pub need_in : (prime : PrimeIndex) (indexes : List AltIndex) → need_of_add (heights_in prime indexes) ≡ 1 + ((prime_height prime + 1) + index_levels indexes)
 need_in prime indexes = ap (λ n. 1 + n) (sum_by-cons (λ height. height + 1) (prime_height prime) (map alt_height indexes) ∙ ap (λ n. (prime_height prime + 1) + n) (levels_mapped indexes))
 
-heights_mapped : (indexes : List AltIndex) → sum_by (λ height. height) (map alt_height indexes) ≤ levels_in indexes
+heights_mapped : (indexes : List AltIndex) → sum_by (λ height. height) (map alt_height indexes) ≤ index_levels indexes
 heights_mapped [] = omega arith
 heights_mapped (x ∷ xs) =
     omega (arith, sum_by-cons (λ height. height) (alt_height x) (map alt_height xs), heights_mapped xs, sum_by-cons (λ (i : AltIndex). alt_height i + 1) x xs)
 
 -- the heights together are fewer
-pub heights_few : (prime : PrimeIndex) (indexes : List AltIndex) → sum_by (λ height. height) (heights_in prime indexes) ≤ (prime_height prime + 1) + levels_in indexes
+pub heights_few : (prime : PrimeIndex) (indexes : List AltIndex) → sum_by (λ height. height) (heights_in prime indexes) ≤ (prime_height prime + 1) + index_levels indexes
 heights_few prime indexes = omega (arith, sum_by-cons (λ height. height) (prime_height prime) (map alt_height indexes), heights_mapped indexes)
 
-pub levels_of_all : (prime : PrimeIndex) (indexes : List AltIndex) → sum_by (λ height. height + 1) (heights_in prime indexes) ≡ (prime_height prime + 1) + levels_in indexes
+pub levels_of_all : (prime : PrimeIndex) (indexes : List AltIndex) → sum_by (λ height. height + 1) (heights_in prime indexes) ≡ (prime_height prime + 1) + index_levels indexes
 levels_of_all prime indexes = sum_by-cons (λ height. height + 1) (prime_height prime) (map alt_height indexes) ∙ ap (λ n. (prime_height prime + 1) + n) (levels_mapped indexes)
 
-pub levels_past : (indexes : List AltIndex) (j : ℕ) → length indexes ≤ j → levels_in (drop j indexes) ≡ 0
-levels_past indexes j past = ap levels_in (all_dropped indexes j past)
+pub levels_past : (indexes : List AltIndex) (j : ℕ) → length indexes ≤ j → index_levels (drop j indexes) ≡ 0
+levels_past indexes j past = ap index_levels (all_dropped indexes j past)

@@ -7,7 +7,7 @@ use Rattle.indexed_file.specs.File.{Row}
 use Rattle.indexed_file.specs.Rank.{row_cmp}
 use Rattle.page_bytes.specs.Each.{Each}
 use Rattle.key_index.specs.declared.entry.AltEntry.{AltEntry}
-use Rattle.open_file.specs.InOrder.{put, in_order, alt_entry, alt_entries}
+use Rattle.open_file.specs.InOrder.{put_row, in_order, alt_entry, alt_entries}
 use Rattle.open_file.proofs.OrderLemmas.{either, not_below}
 use Rattle.open_file.proofs.RowLemmas.{AreSorted, in_order_sorted, row_total}
 use Rattle.open_file.proofs.PartsLemmas.{each_map}
@@ -19,24 +19,24 @@ each_filter P test (x ∷ xs) h =
     (λ yes. rw yes (h.0, each_filter P test xs h.1))
     (λ no. rw no (each_filter P test xs h.1))
 
-put_first : (schema : Schema) (k : ℕ) (row : Row) (rows : List Row) → Each (λ other. is_lt (row_cmp schema k other row) ≡ false) rows → put schema k row rows ≡ row ∷ rows
+put_first : (schema : Schema) (k : ℕ) (row : Row) (rows : List Row) → Each (λ other. is_lt (row_cmp schema k other row) ≡ false) rows → put_row schema k row rows ≡ row ∷ rows
 put_first schema k row [] h = refl
 put_first schema k row (next ∷ rows) h = rw h.0 refl
 
-filter_put_no : (schema : Schema) (k : ℕ) (test : Row → Bool) (row : Row) (rows : List Row) → test row ≡ false → filter test (put schema k row rows) ≡ filter test rows
+filter_put_no : (schema : Schema) (k : ℕ) (test : Row → Bool) (row : Row) (rows : List Row) → test row ≡ false → filter test (put_row schema k row rows) ≡ filter test rows
 filter_put_no schema k test row [] h = rw h refl
 filter_put_no schema k test row (next ∷ rows) h =
-    either (is_lt (row_cmp schema k next row)) (filter test (put schema k row (next ∷ rows)) ≡ filter test (next ∷ rows))
-    (λ yes. rw yes (either (test next) (filter test (next ∷ put schema k row rows) ≡ filter test (next ∷ rows))
+    either (is_lt (row_cmp schema k next row)) (filter test (put_row schema k row (next ∷ rows)) ≡ filter test (next ∷ rows))
+    (λ yes. rw yes (either (test next) (filter test (next ∷ put_row schema k row rows) ≡ filter test (next ∷ rows))
     (λ t. rw t (ap (λ (r : List Row). next ∷ r) (filter_put_no schema k test row rows h)))
     (λ f. rw f (filter_put_no schema k test row rows h))))
     (λ no. rw no (rw h refl))
 
-filter_put_yes : (schema : Schema) (k : ℕ) (test : Row → Bool) (row : Row) (rows : List Row) → AreSorted schema k rows → test row ≡ true → filter test (put schema k row rows) ≡ put schema k row (filter test rows)
+filter_put_yes : (schema : Schema) (k : ℕ) (test : Row → Bool) (row : Row) (rows : List Row) → AreSorted schema k rows → test row ≡ true → filter test (put_row schema k row rows) ≡ put_row schema k row (filter test rows)
 filter_put_yes schema k test row [] sorted h = rw h refl
 filter_put_yes schema k test row (next ∷ rows) sorted h =
-    either (is_lt (row_cmp schema k next row)) (filter test (put schema k row (next ∷ rows)) ≡ put schema k row (filter test (next ∷ rows)))
-    (λ yes. rw yes (either (test next) (filter test (next ∷ put schema k row rows) ≡ put schema k row (filter test (next ∷ rows)))
+    either (is_lt (row_cmp schema k next row)) (filter test (put_row schema k row (next ∷ rows)) ≡ put_row schema k row (filter test (next ∷ rows)))
+    (λ yes. rw yes (either (test next) (filter test (next ∷ put_row schema k row rows) ≡ put_row schema k row (filter test (next ∷ rows)))
     (λ t. rw (t, yes) (ap (λ (r : List Row). next ∷ r) (filter_put_yes schema k test row rows sorted.1 h)))
     (λ f. rw f (filter_put_yes schema k test row rows sorted.1 h))))
     (λ no.
@@ -53,8 +53,8 @@ pub in_order_filtered : (schema : Schema) (k : ℕ) (test : Row → Bool) (rows 
 in_order_filtered schema k test [] = refl
 in_order_filtered schema k test (row ∷ rows) =
     let rest = in_order_filtered schema k test rows in
-    either (test row) (in_order schema k (filter test (row ∷ rows)) ≡ filter test (put schema k row (in_order schema k rows)))
-    (λ yes. rw yes (ap (put schema k row) rest ∙ sym (filter_put_yes schema k test row (in_order schema k rows) (in_order_sorted schema k rows) yes)))
+    either (test row) (in_order schema k (filter test (row ∷ rows)) ≡ filter test (put_row schema k row (in_order schema k rows)))
+    (λ yes. rw yes (ap (put_row schema k row) rest ∙ sym (filter_put_yes schema k test row (in_order schema k rows) (in_order_sorted schema k rows) yes)))
     (λ no. rw no (rest ∙ sym (filter_put_no schema k test row (in_order schema k rows) no)))
 
 filter_mapped : {X Y : Type 0} (f : X → Y) (test : Y → Bool) (xs : List X) → filter test (map f xs) ≡ map f (filter (λ x. test (f x)) xs)

@@ -13,7 +13,7 @@ use Rattle.pages.specs.PageMap.{PageMap}
 use Rattle.key_index.specs.declared.entry.PrimeEntry.{PrimeEntry}
 use Rattle.key_index.specs.Entries.{without_prime}
 use Rattle.record_heap.specs.declared.shape.Place.{Place}
-use Rattle.record_heap.specs.Chain.{put}
+use Rattle.record_heap.specs.Chain.{put_slot}
 use Rattle.open_file.specs.InOrder.{alt_entries, prime_entries}
 use Rattle.open_file.specs.Parts.{Parts}
 use Rattle.open_file.specs.Stands.{Stands, IsShaped}
@@ -77,7 +77,7 @@ same_many u v one two same = let l = ap (λ (s : Schema). length s.keys) same in
 pub removed_stands : (u v : OpenFile) (before after : PageMap) (file : File) (prime : List ℕ) (place : Place) (row : Row) (stands : Stands u before file) → IsShaped u
     → IsOldAt u.schema stands.slots (prime_entries u.schema stands.places file.rows) file prime place row
     → v.schema ≡ u.schema → v.next_stamp ≡ u.next_stamp → v.path ≡ None → length v.alternates.items ≡ length u.alternates.items
-    → Parts v.heap v.prime v.alternates.items after (put stands.slots place None) (without_prime (prime_of u.schema row.bytes) (prime_entries u.schema stands.places file.rows))
+    → Parts v.heap v.prime v.alternates.items after (put_slot stands.slots place None) (without_prime (prime_of u.schema row.bytes) (prime_entries u.schema stands.places file.rows))
     (without_below u.schema row (length u.alternates.items) (λ j. alt_entries u.schema (j + 1) file.rows))
     → Stands v after (removed u.schema prime file)
 removed_stands u v before after file prime place row stands shaped at schema stamp path many parts =
@@ -87,7 +87,7 @@ removed_stands u v before after file prime place row stands shaped at schema sta
     let placed = placed_left u.schema stands.slots file.next_stamp prime row place stands.places file.rows one.fit one.has at.here at.leads rows stands.placed in
     let first : prime_entries u.schema left (others u.schema prime file) ≡ without_prime (prime_of u.schema row.bytes) (prime_entries u.schema stands.places file.rows) =
     sym (prime_entries_left u.schema stands.slots prime stands.places file.rows stands.placed.rows_at) ∙ ap (λ p. without_prime p (prime_entries u.schema stands.places file.rows)) (sym one.same) in
-    let said = said_so v.heap v.prime v.alternates.items after (put stands.slots place None) _ _ parts (prime_entries u.schema left (others u.schema prime file))
+    let said = said_so v.heap v.prime v.alternates.items after (put_slot stands.slots place None) _ _ parts (prime_entries u.schema left (others u.schema prime file))
     (λ j. alt_entries u.schema (j + 1) (others u.schema prime file)) first
     (λ j lt.
     let within : j < length u.alternates.items = omega (arith, lt, many) in
@@ -98,7 +98,7 @@ removed_stands u v before after file prime place row stands shaped at schema sta
       stamp = stamp ∙ stands.stamp;
       few = rw stamp stands.few;
       places = left;
-      slots = put stands.slots place None;
+      slots = put_slot stands.slots place None;
       placed = rw schema placed;
       parts = rw schema said;
       on_path = rw path tt;
@@ -108,7 +108,7 @@ removed_stands u v before after file prime place row stands shaped at schema sta
 pub has_removed : (u v : OpenFile) (before after : PageMap) (is_sound : Type 0) (file : File) (prime : List ℕ) (place : Place) (row : Row) (stands : Stands u before file) → IsShaped u → IsShaped v
     → IsOldAt u.schema stands.slots (prime_entries u.schema stands.places file.rows) file prime place row
     → v ≡ record u { heap = v.heap; prime = v.prime; alternates = v.alternates; path = None }
-    → Parts v.heap v.prime v.alternates.items after (put stands.slots place None) (without_prime (prime_of u.schema row.bytes) (prime_entries u.schema stands.places file.rows))
+    → Parts v.heap v.prime v.alternates.items after (put_slot stands.slots place None) (without_prime (prime_of u.schema row.bytes) (prime_entries u.schema stands.places file.rows))
     (without_below u.schema row (length u.alternates.items) (λ j. alt_entries u.schema (j + 1) file.rows)) × is_sound
     → HasChanged (Stands v after) is_sound (removal u.schema prime) file true
 has_removed u v before after is_sound file prime place row stands one two at rest parts =

@@ -12,7 +12,7 @@ use Rattle.page_bytes.specs.Each.{Each}
 use Rattle.key_index.specs.declared.entry.PrimeEntry.{PrimeEntry}
 use Rattle.key_index.specs.Entries.{has_prime}
 use Rattle.record_heap.specs.declared.shape.Place.{Place}
-use Rattle.record_heap.specs.Chain.{Slots, put}
+use Rattle.record_heap.specs.Chain.{Slots, put_slot}
 use Rattle.record_heap.proofs.ChainLemmas.{put_here, put_there}
 use Rattle.open_file.specs.InOrder.{prime_entries}
 use Rattle.open_file.specs.Stored.{AreAt, stored}
@@ -70,7 +70,7 @@ prime_entries_renewed schema slots next bytes (place ∷ places) (row ∷ rows) 
 -- rows of other prime values stay where they are
 at_others : (schema : Schema) (slots : Slots) (next : ℕ) (bytes : List ℕ) (old : Row) (place : Place) (now : Option (List ℕ)) (places : List Place) (rows : List Row) → is_row schema next old ≡ true
     → has_value schema 0 (prime_of schema bytes) old ≡ true → slots place ≡ Some (stored schema old) → are_rows schema next rows ≡ true → Each (λ row. has_value schema 0 (prime_of schema bytes) row ≡ false) rows
-    → AreAt schema slots places rows → AreAt schema (put slots place now) places (map (renewed schema next bytes) rows)
+    → AreAt schema slots places rows → AreAt schema (put_slot slots place now) places (map (renewed schema next bytes) rows)
 at_others schema slots next bytes old place now [] [] fit has here sound none at = tt
 at_others schema slots next bytes old place now [] (row ∷ rows) fit has here sound none at = absurd at
 at_others schema slots next bytes old place now (q ∷ places) [] fit has here sound none at = absurd at
@@ -84,7 +84,7 @@ at_others schema slots next bytes old place now (q ∷ places) (row ∷ rows) fi
 at_renewed : (schema : Schema) (slots : Slots) (next : ℕ) (bytes : List ℕ) (old : Row) (place : Place) (places : List Place) (rows : List Row) → is_row schema next old ≡ true
     → has_value schema 0 (prime_of schema bytes) old ≡ true → slots place ≡ Some (stored schema old) → are_rows schema next rows ≡ true → find (has_value schema 0 (prime_of schema bytes)) rows ≡ Some old
     → option_map (λ (e : PrimeEntry). e.place) (find (has_prime (prime_of schema bytes)) (prime_entries schema places rows)) ≡ Some place
-    → AreAt schema slots places rows → AreAt schema (put slots place (Some (stored schema (changed_row schema next bytes old)))) places (map (renewed schema next bytes) rows)
+    → AreAt schema slots places rows → AreAt schema (put_slot slots place (Some (stored schema (changed_row schema next bytes old)))) places (map (renewed schema next bytes) rows)
 at_renewed schema slots next bytes old place [] [] fit has here sound found leads at = tt
 at_renewed schema slots next bytes old place [] (row ∷ rows) fit has here sound found leads at = absurd at
 at_renewed schema slots next bytes old place (q ∷ places) [] fit has here sound found leads at = absurd at
@@ -92,12 +92,12 @@ at_renewed schema slots next bytes old place (q ∷ places) (row ∷ rows) fit h
     let parts = rows_parts schema next row rows sound in
     let prime = prime_of schema bytes in
     let now = Some (stored schema (changed_row schema next bytes old)) in
-    either (has_value schema 0 prime row) (AreAt schema (put slots place now) (q ∷ places) (map (renewed schema next bytes) (row ∷ rows)))
+    either (has_value schema 0 prime row) (AreAt schema (put_slot slots place now) (q ∷ places) (map (renewed schema next bytes) (row ∷ rows)))
     (λ yes.
     let same : row ≡ old = from_some row old (rw yes at found) in
     let where_it_is : q ≡ place = from_some q place (rw yes at leads) in
     rw yes (
-      ap (put slots place now) where_it_is ∙ put_here slots place now ∙ ap (λ (r : Row). Some (stored schema (changed_row schema next bytes r))) (sym same),
+      ap (put_slot slots place now) where_it_is ∙ put_here slots place now ∙ ap (λ (r : Row). Some (stored schema (changed_row schema next bytes r))) (sym same),
       at_others schema slots next bytes old place now places rows fit has here parts.2 (none_after schema prime row rows yes parts.1) at.1,
     ))
     (λ no.
@@ -110,7 +110,7 @@ at_renewed schema slots next bytes old place (q ∷ places) (row ∷ rows) fit h
 pub placed_renewed : (schema : Schema) (slots : Slots) (next : ℕ) (bytes : List ℕ) (old : Row) (place : Place) (places : List Place) (rows : List Row) → is_row schema next old ≡ true
     → has_value schema 0 (prime_of schema bytes) old ≡ true → slots place ≡ Some (stored schema old) → are_rows schema next rows ≡ true → find (has_value schema 0 (prime_of schema bytes)) rows ≡ Some old
     → option_map (λ (e : PrimeEntry). e.place) (find (has_prime (prime_of schema bytes)) (prime_entries schema places rows)) ≡ Some place
-    → IsPlaced schema slots places rows → IsPlaced schema (put slots place (Some (stored schema (changed_row schema next bytes old)))) places (map (renewed schema next bytes) rows)
+    → IsPlaced schema slots places rows → IsPlaced schema (put_slot slots place (Some (stored schema (changed_row schema next bytes old)))) places (map (renewed schema next bytes) rows)
 placed_renewed schema slots next bytes old place places rows fit has here sound found leads placed = record {
   rows_at = at_renewed schema slots next bytes old place places rows fit has here sound found leads placed.rows_at;
   no_more = λ p some.

@@ -16,10 +16,10 @@ use Rattle.pages.specs.PageMap.{PageMap}
 use Rattle.key_index.specs.declared.entry.AltEntry.{AltEntry}
 use Rattle.key_index.specs.Entries.{has_rank, with_alt}
 use Rattle.record_heap.specs.declared.shape.Place.{Place}
-use Rattle.record_heap.specs.Chain.{put}
+use Rattle.record_heap.specs.Chain.{put_slot}
 use Rattle.open_file.specs.InOrder.{alt_entry, alt_entries, prime_entries}
 use Rattle.open_file.specs.Stored.{stored}
-use Rattle.file_changes.specs.Adding.{entry_of, stamp_in}
+use Rattle.file_changes.specs.Adding.{entry_of_record, stamp_in}
 use Rattle.open_file.specs.Parts.{Parts}
 use Rattle.open_file.specs.Stands.{Stands, IsShaped}
 use Rattle.file_changes.specs.Old.{IsOldAt}
@@ -77,7 +77,7 @@ entry_stays schema next bytes old j lt fit prime same =
     λ i. record { value = record { items = value i }; stamp = stamp i; prime = record { items = first i } }
 
 entry_moves : (schema : Schema) (next : ℕ) (bytes : List ℕ) (old : Row) (j : ℕ) → j + 1 < length schema.keys → is_row schema next old ≡ true → stays schema old.bytes bytes j ≡ false
-    → alt_entry schema (j + 1) (changed_row schema next bytes old) ≡ entry_of schema next bytes j
+    → alt_entry schema (j + 1) (changed_row schema next bytes old) ≡ entry_of_record schema next bytes j
 entry_moves schema next bytes old j lt fit moves =
     let stamp = stamp_moves schema next bytes old j lt fit moves in
     λ i. record { value = record { items = value_of schema (j + 1) bytes }; stamp = stamp i; prime = record { items = prime_of schema bytes } }
@@ -129,7 +129,7 @@ change_said schema bytes file old j lt change =
     (λ same. rw same (split ∙ ap (λ (e : AltEntry). with_alt e others) (entry_stays schema next bytes old j lt change.one.fit change.one.same same)
     ∙ sym (entries_split schema next (j + 1) prime old file.rows lt change.rows change.one.first)))
     (λ moves. rw moves (split ∙ ap (λ (e : AltEntry). with_alt e others) (entry_moves schema next bytes old j lt change.one.fit moves)
-    ∙ ap (with_alt (entry_of schema next bytes j)) (sym (entries_left schema next (j + 1) prime old file.rows lt change.rows change.one.first))))
+    ∙ ap (with_alt (entry_of_record schema next bytes j)) (sym (entries_left schema next (j + 1) prime old file.rows lt change.rows change.one.first))))
 
 -- the parts of a file can take the record in the place of its row
 pub can_put_over : (u : OpenFile) (pages : PageMap) (bytes : List ℕ) (file : File) (place : Place) (old : Row) (stands : Stands u pages file) → IsShaped u
@@ -151,14 +151,14 @@ pub replaced_stands : (u v : OpenFile) (before after : PageMap) (bytes : List �
     → IsOldAt u.schema stands.slots (prime_entries u.schema stands.places file.rows) file (prime_of u.schema bytes) place old → IsChange u.schema bytes file old
     → (takes_stamp u.schema old.bytes bytes ≡ true → u.next_stamp < 2 ^ 63)
     → v.schema ≡ u.schema → v.next_stamp ≡ next_after u.schema u.next_stamp old.bytes bytes → v.path ≡ None → length v.alternates.items ≡ length u.alternates.items
-    → Parts v.heap v.prime v.alternates.items after (put stands.slots place (Some (stored u.schema (changed_row u.schema u.next_stamp bytes old)))) (prime_entries u.schema stands.places file.rows)
+    → Parts v.heap v.prime v.alternates.items after (put_slot stands.slots place (Some (stored u.schema (changed_row u.schema u.next_stamp bytes old)))) (prime_entries u.schema stands.places file.rows)
     (changed_below u.schema u.next_stamp old bytes (length u.alternates.items) (λ j. alt_entries u.schema (j + 1) file.rows))
     → Stands v after (replaced u.schema bytes old file)
 replaced_stands u v before after bytes file place old stands shaped at change limit schema stamp path many parts =
     let next = file.next_stamp in
     let rows = (replaced u.schema bytes old file).rows in
-    let slots = put stands.slots place (Some (stored u.schema (changed_row u.schema next bytes old))) in
-    let had = subst (λ s. Parts v.heap v.prime v.alternates.items after (put stands.slots place (Some (stored u.schema (changed_row u.schema s bytes old)))) (prime_entries u.schema stands.places file.rows)
+    let slots = put_slot stands.slots place (Some (stored u.schema (changed_row u.schema next bytes old))) in
+    let had = subst (λ s. Parts v.heap v.prime v.alternates.items after (put_slot stands.slots place (Some (stored u.schema (changed_row u.schema s bytes old)))) (prime_entries u.schema stands.places file.rows)
     (changed_below u.schema s old bytes (length u.alternates.items) (λ j. alt_entries u.schema (j + 1) file.rows))) stands.stamp parts in
     let placed = placed_renewed u.schema stands.slots next bytes old place stands.places file.rows change.one.fit change.one.has at.here change.rows change.one.first at.leads stands.placed in
     let said = said_so v.heap v.prime v.alternates.items after slots _ _ had (prime_entries u.schema stands.places rows) (λ j. alt_entries u.schema (j + 1) rows)
@@ -184,7 +184,7 @@ pub has_replaced : (u v : OpenFile) (before after : PageMap) (is_sound : Type 0)
     → clashes_with_others u.schema bytes file ≡ false → (takes_stamp u.schema old.bytes bytes ≡ true → u.next_stamp < 2 ^ 63)
     → v ≡ record u { alternates = v.alternates; path = None; next_stamp = next_after u.schema u.next_stamp old.bytes bytes }
     → answer ≡ replaced_answer_at u.schema bytes file (Some old)
-    → Parts v.heap v.prime v.alternates.items after (put stands.slots place (Some (stored u.schema (changed_row u.schema u.next_stamp bytes old)))) (prime_entries u.schema stands.places file.rows)
+    → Parts v.heap v.prime v.alternates.items after (put_slot stands.slots place (Some (stored u.schema (changed_row u.schema u.next_stamp bytes old)))) (prime_entries u.schema stands.places file.rows)
     (changed_below u.schema u.next_stamp old bytes (length u.alternates.items) (λ j. alt_entries u.schema (j + 1) file.rows)) × is_sound
     → HasChanged (Stands v after) is_sound (replacement u.schema bytes) file answer
 has_replaced u v before after is_sound bytes file place old answer stands one two at change clash limit rest told parts =

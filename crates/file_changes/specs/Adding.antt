@@ -5,7 +5,7 @@ use Rattle.io_state.specs.declared.fault.Fault.{Fault}
 use Rattle.pages.specs.Answer.{IsAnswer}
 use Rattle.pages.specs.ShownPages.{ShownPages}
 use Rattle.file_changes.specs.InPages.{FileInPages, in_pages}
-use Rattle.file_changes.specs.Contents.{Holds, PartsStep}
+use Rattle.file_changes.specs.Contents.{PartsHold, PartsStep}
 use Rattle.file_changes.specs.Steps.{AnswersFor, TakesPages}
 use Rattle.record_layout.specs.Schema.{Schema, key_at, value_of, prime_of}
 use Rattle.indexed_file.specs.File.{File}
@@ -21,7 +21,7 @@ use Rattle.key_index.specs.Entries.{with_alt, with_prime, has_rank, has_prime}
 use Rattle.key_index.specs.Standing.{alt_height, prime_height}
 use Rattle.record_heap.specs.declared.heap.Heap.{Heap}
 use Rattle.record_heap.specs.declared.shape.Place.{Place}
-use Rattle.record_heap.specs.Chain.{Slots, put}
+use Rattle.record_heap.specs.Chain.{Slots, put_slot}
 use Rattle.open_file.specs.Parts.{Parts, but_at}
 use Rattle.open_file.specs.Stored.{stored}
 use Rattle.open_file.specs.Stands.{Stands}
@@ -32,8 +32,8 @@ abbrev pub stamp_in : Schema → ℕ → ℕ → ℕ
 stamp_in schema stamp j = if (key_at schema (j + 1)).duplicates then stamp else 0
 
 -- the entry of a new record in alternate index j
-abbrev pub entry_of : Schema → ℕ → List ℕ → ℕ → AltEntry
-entry_of schema stamp bytes j =
+abbrev pub entry_of_record : Schema → ℕ → List ℕ → ℕ → AltEntry
+entry_of_record schema stamp bytes j =
     record {
       value = record { items = value_of schema (j + 1) bytes };
       stamp = stamp_in schema stamp j;
@@ -42,7 +42,8 @@ entry_of schema stamp bytes j =
 
 -- the alternate indexes below i have the entry of the new record, and the others do not have it yet
 abbrev pub added_below : Schema → ℕ → List ℕ → ℕ → (ℕ → List AltEntry) → ℕ → List AltEntry
-added_below schema stamp bytes i entries j = if nat_lt j i then with_alt (entry_of schema stamp bytes j)
+added_below schema stamp bytes i entries j =
+    if nat_lt j i then with_alt (entry_of_record schema stamp bytes j)
     (entries j) else entries j
 
 -- no alternate index has an entry of its value and stamp
@@ -51,15 +52,15 @@ AreFree schema stamp bytes count entries = (j : ℕ) → j < count
     → find (has_rank (value_of schema (j + 1) bytes) (stamp_in schema stamp j)) (entries j) ≡ None
 
 -- the levels of these trees, with one more of each
-abbrev pub levels_in : List AltIndex → ℕ
-levels_in indexes = sum_by (λ index. alt_height index + 1) indexes
+abbrev pub index_levels : List AltIndex → ℕ
+index_levels indexes = sum_by (λ index. alt_height index + 1) indexes
 
 -- the heap has these bytes at a place that was free, and all other parts are as they were
 pub record RowPut (heap : Heap) (prime : PrimeIndex) (alternates : List AltIndex) (pages : PageMap)
     (slots : Slots) (primes : List PrimeEntry) (entries : ℕ → List AltEntry) (place : Place)
     (bytes : List ℕ) : Type 0 where
   pub free : slots place ≡ None
-  pub parts : Parts heap prime alternates pages (put slots place (Some bytes)) primes entries
+  pub parts : Parts heap prime alternates pages (put_slot slots place (Some bytes)) primes entries
 
 -- where the parts were sound, a row of these bytes was put into the heap
 abbrev pub PutsRow : {S : Type 0} → ShownPages S → List ℕ → (old new : OpenFile) → (before after : S)
@@ -67,7 +68,7 @@ abbrev pub PutsRow : {S : Type 0} → ShownPages S → List ℕ → (old new : O
 PutsRow shown bytes old new before after result =
     IsTrue (shown.state after).is_honest → IsTrue (shown.state before).is_sound
     → (slots : Slots) (primes : List PrimeEntry) (entries : ℕ → List AltEntry)
-    → Holds shown (in_pages old before) (record { slots = slots; primes = primes; entries = entries })
+    → PartsHold shown (in_pages old before) (record { slots = slots; primes = primes; entries = entries })
     → IsAnswer result (λ place. RowPut new.heap new.prime new.alternates.items
     (shown.state after).live slots primes entries place bytes
     × IsTrue (shown.state after).is_sound)
@@ -93,7 +94,7 @@ entry_added bytes j file = record {
       (stamp_in file.schema file.next_stamp j)) (held.entries j) ≡ None;
   leaves = λ held. record held {
     entries = but_at j
-        (with_alt (entry_of file.schema file.next_stamp bytes j) (held.entries j)) held.entries;
+        (with_alt (entry_of_record file.schema file.next_stamp bytes j) (held.entries j)) held.entries;
   };
 }
 

@@ -17,8 +17,8 @@ pub record Contents : Type 0 where
   pub entries : ℕ → List AltEntry
 
 -- the parts hold this
-abbrev pub Holds : {S : Type 0} → ShownPages S → FileInPages S → Contents → Type 0
-Holds shown held what = Parts held.file.heap held.file.prime held.file.alternates.items
+abbrev pub PartsHold : {S : Type 0} → ShownPages S → FileInPages S → Contents → Type 0
+PartsHold shown held what = Parts held.file.heap held.file.prime held.file.alternates.items
     (shown.state held.pages).live what.slots what.primes what.entries
 
 -- a step of a change: what it asks of what they hold, and what they hold after it
@@ -32,8 +32,8 @@ abbrev pub TakesStep : {S : Type 0} → ShownPages S → (OpenFile → PartsStep
 TakesStep shown step old new before after result =
     IsTrue (shown.state after).is_honest → IsTrue (shown.state before).is_sound
     → (slots : Slots) (primes : List PrimeEntry) (entries : ℕ → List AltEntry)
-    → Holds shown (in_pages old before) (record { slots = slots; primes = primes; entries = entries })
+    → PartsHold shown (in_pages old before) (record { slots = slots; primes = primes; entries = entries })
     → (step old).Asks (record { slots = slots; primes = primes; entries = entries })
-    → IsAnswer result (λ u. Holds shown (in_pages new after) ((step old).leaves
+    → IsAnswer result (λ u. PartsHold shown (in_pages new after) ((step old).leaves
     (record { slots = slots; primes = primes; entries = entries }))
     × IsTrue (shown.state after).is_sound)

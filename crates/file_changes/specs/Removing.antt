@@ -5,7 +5,7 @@ use Rattle.io_state.specs.declared.fault.Fault.{Fault}
 use Rattle.pages.specs.ShownPages.{ShownPages}
 use Rattle.key_index.specs.declared.alt_index.AltIndex.{AltIndex}
 use Rattle.key_index.specs.Standing.{prime_height}
-use Rattle.file_changes.specs.Adding.{levels_in}
+use Rattle.file_changes.specs.Adding.{index_levels}
 use Rattle.file_changes.specs.Steps.{CanChangeWith}
 use Rattle.record_layout.specs.Schema.{Schema, value_of, prime_of}
 use Rattle.indexed_file.specs.File.{Row, stamp_of}
@@ -13,7 +13,7 @@ use Rattle.key_index.specs.declared.entry.AltEntry.{AltEntry}
 use Rattle.key_index.specs.declared.entry.PrimeEntry.{PrimeEntry}
 use Rattle.key_index.specs.Entries.{has_prime, has_rank, without_prime, without_rank}
 use Rattle.record_heap.specs.declared.shape.Place.{Place}
-use Rattle.record_heap.specs.Chain.{Slots, put}
+use Rattle.record_heap.specs.Chain.{Slots, put_slot}
 use Rattle.open_file.specs.Parts.{but_at}
 use Rattle.open_file.specs.declared.open_file.OpenFile.{OpenFile}
 use Rattle.file_changes.specs.Contents.{Contents, PartsStep, TakesStep}
@@ -41,7 +41,7 @@ without_below schema row i entries j =
 -- the parts without the row
 abbrev pub without_row : Schema → Row → Place → ℕ → Contents → Contents
 without_row schema row place count held = record {
-  slots = put held.slots place None;
+  slots = put_slot held.slots place None;
   primes = without_prime (prime_of schema row.bytes) held.primes;
   entries = without_below schema row count held.entries;
 }
@@ -57,7 +57,7 @@ prime_lost bytes file = record {
 abbrev pub slot_freed : Place → OpenFile → PartsStep
 slot_freed place file = record {
   Asks = λ held. IsSome (held.slots place);
-  leaves = λ held. record held { slots = put held.slots place None };
+  leaves = λ held. record held { slots = put_slot held.slots place None };
 }
 
 -- alternate index j loses the entry of a record, of this stamp
@@ -110,7 +110,7 @@ KeepsOtherIndexes j old new = (i : ℕ) (index : AltIndex) → i ≢ j
 
 -- the most pages that taking a record out asks for
 abbrev pub most_to_take_out : OpenFile → ℕ
-most_to_take_out file = 8 * ((prime_height file.prime + 1) + levels_in file.alternates.items) + 1
+most_to_take_out file = 8 * ((prime_height file.prime + 1) + index_levels file.alternates.items) + 1
 
 -- the alternate indexes lose the entries of a record
 abbrev pub LosesEntries : {S : Type 0} → ShownPages S → (bytes stamps : List ℕ) → (old new : OpenFile)

@@ -17,9 +17,9 @@ use Rattle.key_index.specs.declared.entry.AltEntry.{AltEntry}
 use Rattle.key_index.specs.declared.alt_index.AltIndex.{AltIndex}
 use Rattle.key_index.specs.Entries.{has_rank, with_alt, without_rank}
 use Rattle.key_index.specs.Standing.{alt_height}
-use Rattle.file_changes.specs.Adding.{stamp_in, entry_of, levels_in}
+use Rattle.file_changes.specs.Adding.{stamp_in, entry_of_record, index_levels}
 use Rattle.record_heap.specs.declared.shape.Place.{Place}
-use Rattle.record_heap.specs.Chain.{Slots, put}
+use Rattle.record_heap.specs.Chain.{Slots, put_slot}
 use Rattle.open_file.specs.Stored.{stored}
 use Rattle.open_file.specs.Parts.{but_at}
 use Rattle.open_file.specs.Stands.{Stands, IsShaped, heights_of, room_of}
@@ -55,7 +55,7 @@ AreFreed schema stamp old bytes count entries = (j : ℕ) → j < count → IsFa
 -- the place of the old row's
 abbrev pub changed_in : Schema → ℕ → Row → List ℕ → ℕ → List AltEntry → List AltEntry
 changed_in schema stamp old bytes j entries =
-    if stays schema old.bytes bytes j then entries else with_alt (entry_of schema stamp bytes j)
+    if stays schema old.bytes bytes j then entries else with_alt (entry_of_record schema stamp bytes j)
     (freed schema old j entries)
 
 -- the alternate indexes below i have changed, and the others have not yet
@@ -74,7 +74,7 @@ slot_after schema stamp old bytes = stored schema (changed_row schema stamp byte
 -- the parts with the new record in the place of the old row
 abbrev pub with_row : Schema → ℕ → Row → List ℕ → Place → ℕ → Contents → Contents
 with_row schema stamp old bytes place count held = record {
-  slots = put held.slots place (Some (slot_after schema stamp old bytes));
+  slots = put_slot held.slots place (Some (slot_after schema stamp old bytes));
   primes = held.primes;
   entries = changed_below schema stamp old bytes count held.entries;
 }
@@ -90,7 +90,7 @@ pub record CanChangeEntry (schema : Schema) (next : ℕ) (old : List ℕ) (stamp
 -- and then it has the new record's entry in the place of that one
 abbrev pub changed_entries : Schema → ℕ → List ℕ → ℕ → List ℕ → ℕ → List AltEntry → List AltEntry
 changed_entries schema next old stamp bytes j entries =
-    with_alt (entry_of schema next bytes j) (without_rank (value_of schema (j + 1) old) stamp entries)
+    with_alt (entry_of_record schema next bytes j) (without_rank (value_of schema (j + 1) old) stamp entries)
 
 -- the heap has the old row at this place, each alternate index has its entry, and where a value
 -- changes, room for the new record's
@@ -111,7 +111,7 @@ abbrev pub slot_put : OldRecord → (was bytes : List ℕ) → OpenFile → Part
 slot_put old was bytes file = record {
   Asks = λ held. IsSome (held.slots old.place);
   leaves = λ held. record held {
-    slots = put held.slots old.place
+    slots = put_slot held.slots old.place
         (Some (slot_after file.schema file.next_stamp (row_with was old.stamps.items) bytes));
   };
 }
@@ -219,7 +219,7 @@ pub record KeepsFound {S : Type 0} (shown : ShownPages S) (before after : FileIn
   pub begins : shown.Begins before.pages after.pages
   pub asked : (shown.state after.pages).asked
       ≤ (shown.state before.pages).asked + 2 * sum_by (λ height. height)
-      (heights_of before.file) + 1 + 16 * levels_in before.file.alternates.items
+      (heights_of before.file) + 1 + 16 * index_levels before.file.alternates.items
 
 -- what `Changes` says of a replacement, where its row was found before: it had these bytes
 pub record ReplacesFound {S : Type 0} (shown : ShownPages S) (old : OldRecord) (was bytes : List ℕ)

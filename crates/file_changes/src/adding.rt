@@ -6,7 +6,8 @@ ghost use Rattle.pages.specs.PageCalls.{ReadsPages, WritesPages};
 ghost use Rattle.open_file.specs.Stands.{heights_of};
 ghost use Rattle.file_changes.specs.Contents.{TakesStep};
 ghost use Rattle.file_changes.specs.InPages.{in_pages, MakesAddition, AddsRecord};
-ghost use Rattle.file_changes.specs.Adding.{levels_in, PutsRow, LeavesAdded, AnswersAdding, TakesPagesOfPrime};
+ghost use Rattle.file_changes.specs.Adding.{index_levels, PutsRow, LeavesAdded, AnswersAdding};
+ghost use Rattle.file_changes.specs.Adding.{TakesPagesOfPrime};
 ghost use Rattle.file_changes.specs.Adding.{new_slot, prime_added, entry_added, entries_added};
 ghost use Rattle.file_changes.specs.Steps.{CanTakeRecord, CanLookFor, CanChangeWith, CanChangeIndex};
 ghost use Rattle.file_changes.specs.Steps.{CanStore, HasRoomFor, KeepsMark, KeepsMade, ChangesHeap};
@@ -133,11 +134,11 @@ fn add_to_alternates<P: Pages>(
     bytes: &[u8],
 ) -> Result<(), Fault>
     requires can { CanChangeWith P.shown opened.old pages.old bytes.now }
-    requires room { levels_in opened.old.alternates.items ≤ (P.shown.state pages.old).available }
+    requires room { index_levels opened.old.alternates.items ≤ (P.shown.state pages.old).available }
     ensures added { TakesStep P.shown (entries_added bytes.now) opened.old opened.new
         pages.old pages.new result }
     ensures file { ChangesAlternates opened.old opened.new }
-    ensures writes { WritesPages P.shown (8 * levels_in opened.old.alternates.items) ⊥ pages.old pages.new
+    ensures writes { WritesPages P.shown (8 * index_levels opened.old.alternates.items) ⊥ pages.old pages.new
         result }
 {
     for j in 0..opened.alternates.len() {

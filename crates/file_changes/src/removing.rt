@@ -6,7 +6,7 @@ ghost use Rattle.pages.specs.PageCalls.{WritesPages};
 ghost use Rattle.key_index.specs.Standing.{prime_height};
 ghost use Rattle.open_file.specs.Stands.{IsShaped};
 ghost use Rattle.open_file.specs.Lent.{LendsToChange};
-ghost use Rattle.file_changes.specs.Adding.{levels_in};
+ghost use Rattle.file_changes.specs.Adding.{index_levels};
 ghost use Rattle.file_changes.specs.Contents.{TakesStep};
 ghost use Rattle.file_changes.specs.InPages.{in_pages, IsReadyIn, MakesRemoval, RemovesRecord};
 ghost use Rattle.file_changes.specs.Removing.{CanTakeOut, ChangesParts, KeepsOtherIndexes, most_to_take_out};
@@ -116,7 +116,7 @@ fn remove_from_alternates<P: Pages>(
     ensures removed { LosesEntries P.shown bytes.now stamps.now opened.old opened.new
         pages.old pages.new result }
     ensures file { ChangesAlternates opened.old opened.new }
-    ensures writes { WritesPages P.shown (8 * levels_in opened.old.alternates.items) ⊥ pages.old pages.new
+    ensures writes { WritesPages P.shown (8 * index_levels opened.old.alternates.items) ⊥ pages.old pages.new
         result }
 {
     for j in 0..opened.alternates.len() {

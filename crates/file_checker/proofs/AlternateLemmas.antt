@@ -13,7 +13,7 @@ use Rattle.page_marks.specs.Parted.{own_at, all_of}
 use Rattle.page_marks.proofs.MarksLemmas.{marks_on}
 use Rattle.page_marks.proofs.PartLemmas.{low_or_not}
 use Rattle.page_walks.specs.declared.spot.Spot.{Spot}
-use Rattle.page_walks.specs.Spots.{entry_at}
+use Rattle.page_walks.specs.Spots.{entry_at_spot}
 use Rattle.page_walks.specs.TreeWalk.{TreeWalked}
 use Rattle.key_index.specs.declared.alt_index.AltIndex.{AltIndex}
 use Rattle.open_file.specs.declared.open_file.OpenFile.{OpenFile}
@@ -26,7 +26,7 @@ entries_rise tree pages entries own stands =
 
 -- a tree has as many entries as places were found
 pub spots_many : (tree : Tree) (list : List (List ℕ)) (before after : ℕ → Bool) (spots : List Spot) → TreeWalked tree list before after spots → length spots ≡ tree.count
-spots_many tree list before after spots walked = sym (walked.stands.count ∙ length-map spots (entry_at tree.shape list))
+spots_many tree list before after spots walked = sym (walked.stands.count ∙ length-map spots (entry_at_spot tree.shape list))
 
 own_left : (owns : List (List ℕ)) (own : List ℕ) (j : ℕ) → j < length owns → own_at owns j ≡ own_at (owns ++ own ∷ []) j
 own_left owns own j within = sym (get_or_append_left owns (own ∷ []) [] j within)

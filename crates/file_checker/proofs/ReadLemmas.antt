@@ -10,8 +10,8 @@ use borrow.Rule.Slice.PartMut.{put_mid, post_of}
 use Rattle.std.specs.Io.KnownBytes.{Consumes, Keeps}
 use Rattle.page_bytes.specs.Each.{Each}
 use Rattle.page_marks.proofs.EachLemmas.{each_join}
-use Rattle.page_store.specs.Pages.{page_of}
-use Rattle.file_checker.specs.Bytes.{HasLess, HasGiven, HasGivenLess, HasGivenPages, bytes_of, AreRead, AreFirstPages, ReadsOrEnds}
+use Rattle.page_store.specs.Pages.{page_of_bytes}
+use Rattle.file_checker.specs.Bytes.{HasLess, HasGiven, HasGivenLess, HasGivenPages, bytes_of_pages, AreRead, AreFirstPages, ReadsOrEnds}
 
 -- bytes that came, and then these
 pub consumes_on : (a b c : Option (List ℕ)) (xs ys zs : List ℕ) → Consumes a b xs → Consumes b c ys → zs ≡ xs ++ ys → Consumes a c zs
@@ -83,13 +83,13 @@ given_more a b c page n m had came long e = record {
 pub read_more : (a b c : Option (List ℕ)) (list : List (List ℕ)) (page : List ℕ) → AreRead a b list → Consumes b c page → length page ≡ 4096
     → AreRead a c (list ++ page ∷ [])
 read_more a b c list page had came long = record {
-  given = consumes_on a b c (bytes_of list) page (bytes_of (list ++ page ∷ [])) had.given came (flat_map-append (λ p. p) list (page ∷ []) ∙ ap (λ l. bytes_of list ++ l) (append-nil page));
+  given = consumes_on a b c (bytes_of_pages list) page (bytes_of_pages (list ++ page ∷ [])) had.given came (flat_map-append (λ p. p) list (page ∷ []) ∙ ap (λ l. bytes_of_pages list ++ l) (append-nil page));
   whole = each_join (λ p. length p ≡ 4096) list (page ∷ []) had.whole (long, tt);
 }
 
-pub pages_long : (list : List (List ℕ)) → Each (λ page. length page ≡ 4096) list → length (bytes_of list) ≡ 4096 * length list
+pub pages_long : (list : List (List ℕ)) → Each (λ page. length page ≡ 4096) list → length (bytes_of_pages list) ≡ 4096 * length list
 pages_long [] whole = refl
-pages_long (page ∷ list) whole = length-append page (bytes_of list) ∙ (let one = whole.0 in let rest = pages_long list whole.1 in omega arith)
+pages_long (page ∷ list) whole = length-append page (bytes_of_pages list) ∙ (let one = whole.0 in let rest = pages_long list whole.1 in omega arith)
 
 -- pages that came, and one more
 pub pages_more : (a b c : Option (List ℕ)) (list : List (List ℕ)) (page : List ℕ) (most : ℕ) → AreRead a b list → Consumes b c page → length page ≡ 4096
@@ -98,24 +98,24 @@ pages_more a b c list page most had came long few = record {
   count = length list + 1;
   some = omega arith;
   few = omega arith;
-  given = given_more a b c page (4096 * length list) (4096 * (length list + 1)) (record { bytes = bytes_of list; given = had.given; many = pages_long list had.whole }) came long (omega arith);
+  given = given_more a b c page (4096 * length list) (4096 * (length list + 1)) (record { bytes = bytes_of_pages list; given = had.given; many = pages_long list had.whole }) came long (omega arith);
 }
 
 -- page n of the bytes of pages
-page_is : (list : List (List ℕ)) (rest : List ℕ) (n : ℕ) → Each (λ page. length page ≡ 4096) list → n < length list → page_of (bytes_of list ++ rest) n ≡ slice_index_or list n []
+page_is : (list : List (List ℕ)) (rest : List ℕ) (n : ℕ) → Each (λ page. length page ≡ 4096) list → n < length list → page_of_bytes (bytes_of_pages list ++ rest) n ≡ slice_index_or list n []
 page_is [] rest n whole inside = absurd (omega arith)
-page_is (page ∷ list) rest zero whole inside = ap (take 4096) (append_assoc page (bytes_of list) rest) ∙ take_at page (bytes_of list ++ rest) 4096 whole.0
+page_is (page ∷ list) rest zero whole inside = ap (take 4096) (append_assoc page (bytes_of_pages list) rest) ∙ take_at page (bytes_of_pages list ++ rest) 4096 whole.0
 page_is (page ∷ list) rest (suc n) whole inside =
-    let past : drop (4096 * suc n) ((page ++ bytes_of list) ++ rest) ≡ drop (4096 * n) (bytes_of list ++ rest) =
-    subst (λ (m : ℕ). drop m ((page ++ bytes_of list) ++ rest) ≡ drop (4096 * n) (bytes_of list ++ rest)) (let one = whole.0 in omega arith)
-    (ap (drop (length page + 4096 * n)) (append_assoc page (bytes_of list) rest) ∙ drop-append-add page (bytes_of list ++ rest) (4096 * n)) in
+    let past : drop (4096 * suc n) ((page ++ bytes_of_pages list) ++ rest) ≡ drop (4096 * n) (bytes_of_pages list ++ rest) =
+    subst (λ (m : ℕ). drop m ((page ++ bytes_of_pages list) ++ rest) ≡ drop (4096 * n) (bytes_of_pages list ++ rest)) (let one = whole.0 in omega arith)
+    (ap (drop (length page + 4096 * n)) (append_assoc page (bytes_of_pages list) rest) ∙ drop-append-add page (bytes_of_pages list ++ rest) (4096 * n)) in
     ap (take 4096) past ∙ page_is list rest n whole.1 (omega arith)
 
 pub first_pages : (bytes : List ℕ) (after : Option (List ℕ)) (list : List (List ℕ)) → AreRead (Some bytes) after list → AreFirstPages bytes list
 first_pages bytes None list had = absurd had.given
 first_pages bytes (Some rest) list had = record {
-  enough = let all : length bytes ≡ length (bytes_of list) + length rest = ap length had.given ∙ length-append (bytes_of list) rest in
+  enough = let all : length bytes ≡ length (bytes_of_pages list) + length rest = ap length had.given ∙ length-append (bytes_of_pages list) rest in
       let many = pages_long list had.whole in
       omega arith;
-  each = λ n inside. ap (λ l. page_of l n) had.given ∙ page_is list rest n had.whole inside;
+  each = λ n inside. ap (λ l. page_of_bytes l n) had.given ∙ page_is list rest n had.whole inside;
 }

@@ -6,10 +6,10 @@ use Rattle.std.specs.Prelude.{Result, Ok, Err, IsErrAnd}
 use Rattle.std.specs.Option.{IfSome}
 use Rattle.std.specs.Io.KnownBytes.{Consumes}
 use Rattle.pages.specs.PageMap.{PageMap}
-use Rattle.page_store.specs.Pages.{page_of}
+use Rattle.page_store.specs.Pages.{page_of_bytes}
 use Rattle.page_alloc.specs.Chain.{chain, used}
 use Rattle.page_walks.specs.FreeWalk.{page_in}
-use Rattle.page_walks.specs.WholeFile.{used_in}
+use Rattle.page_walks.specs.WholeFile.{pages_used_in}
 use Rattle.file_header.specs.declared.header.Header.{Header}
 use Rattle.file_header.specs.Reading.{number_in, numbers_in, header_in, IsFirstPage}
 use Rattle.file_header.proofs.ReadLemmas.{first_numbers, first_read}
@@ -21,12 +21,12 @@ use Rattle.file_checker.specs.declared.verdict.Reason.{Reason}
 use Rattle.file_checker.specs.declared.verdict.Reason.TheVariants.{Short, Gate, Header as NoHeader, Shared, Node, Order, Heap, Index, Lost}
 use Rattle.file_checker.specs.declared.verdict.Verdict.{Verdict}
 use Rattle.file_checker.specs.declared.verdict.Verdict.TheVariants.{Unsound}
-use Rattle.file_checker.specs.Bytes.{HasLess, HasGiven, HasGivenLess, HasGivenPages, AreRead, AreFirstPages, BreaksOff, bytes_of}
+use Rattle.file_checker.specs.Bytes.{HasLess, HasGiven, HasGivenLess, HasGivenPages, AreRead, AreFirstPages, ReadingBreaksOff, bytes_of_pages}
 use Rattle.file_checker.specs.Later.{IsMetIn}
 use Rattle.file_checker.specs.Parts.{PagesStand}
 use Rattle.file_checker.specs.declared.verdict.CheckFault.{CheckFault}
 use Rattle.file_checker.specs.declared.verdict.CheckFault.TheVariants.{Input, Memory}
-use Rattle.file_checker.specs.Sound.{IsSound, IsLong, HasPages, HasReason, GivesUp, ExaminesBehind, counted_in, asked_in}
+use Rattle.file_checker.specs.Sound.{IsSound, IsLong, HasPages, HasReason, CheckGivesUp, ExaminesBehind, counted_in, asked_in}
 use Rattle.file_checker.proofs.ReadLemmas.{consumes_on, less_given, pages_long}
 
 -- what holds of the bytes that are known, if they are
@@ -36,19 +36,19 @@ of_known (Some bytes) P f = f bytes refl
 
 -- a fault is told as it was met, and nothing else
 pub no_verdict : {X : Type 0} {first : List ℕ} {verdict : X → Verdict} {before after : Option (List ℕ)} (r : Result X CheckFault) (fault : CheckFault) → IsErrAnd r (λ e. e ≡ fault)
-    → ((bytes : List ℕ) → Consumes (Some bytes) before first → GivesUp bytes after fault) → ExaminesBehind first verdict before after r
+    → ((bytes : List ℕ) → Consumes (Some bytes) before first → CheckGivesUp bytes after fault) → ExaminesBehind first verdict before after r
 no_verdict (Ok x) fault is up = absurd is
 no_verdict {after = after} (Err e) fault is up = record {
   right = λ bytes came. tt;
   read = λ bytes came. tt;
-  fault = λ bytes came. subst (GivesUp bytes after) (sym is) (up bytes came);
+  fault = λ bytes came. subst (CheckGivesUp bytes after) (sym is) (up bytes came);
 }
 
 -- ---- the first page
 
-pub first_is : (bytes first : List ℕ) (after : Option (List ℕ)) → Consumes (Some bytes) after first → length first ≡ 4096 → page_of bytes 0 ≡ first
+pub first_is : (bytes first : List ℕ) (after : Option (List ℕ)) → Consumes (Some bytes) after first → length first ≡ 4096 → page_of_bytes bytes 0 ≡ first
 first_is bytes first None came long = absurd came
-first_is bytes first (Some rest) came long = ap (λ (l : List ℕ). page_of l 0) came ∙ take_at first rest 4096 long
+first_is bytes first (Some rest) came long = ap (λ (l : List ℕ). page_of_bytes l 0) came ∙ take_at first rest 4096 long
 
 pub first_byte : (bytes first : List ℕ) (after : Option (List ℕ)) → Consumes (Some bytes) after first → length first ≡ 4096 → slice_index bytes 0 ≡ slice_index first 0
 first_byte bytes first None came long = absurd came
@@ -63,7 +63,7 @@ behind bytes first (Some rest) came long = (rest, refl, ap length came ∙ lengt
 pub first_read_alone : (bytes first : List ℕ) (after : Option (List ℕ)) → Consumes (Some bytes) after first → length first ≡ 4096 → AreRead (Some bytes) after (first ∷ [])
 first_read_alone bytes first after came long = record { given = subst (Consumes (Some bytes) after) (sym (append-nil first)) came; whole = (long, tt) }
 
-pub counted_is : (bytes first : List ℕ) (header : Header) → page_of bytes 0 ≡ first → IsFirstPage header first → counted_in bytes ≡ header.pages
+pub counted_is : (bytes first : List ℕ) (header : Header) → page_of_bytes bytes 0 ≡ first → IsFirstPage header first → counted_in bytes ≡ header.pages
 unfolding numbers_in
 counted_is bytes first header page is = ap (λ (p : List ℕ). number_in p 12 4) page ∙ ap (λ (h : Header). h.pages) (first_numbers header first is)
 
@@ -131,7 +131,7 @@ shown bytes header list Heap all met = (header, all.accepted)
 shown bytes header list Index all met = (header, all.accepted)
 shown bytes header list Lost all met = (header, list, all, met)
 
-module _ (bytes first : List ℕ) (header : Header) (page : page_of bytes 0 ≡ first) (is : IsFirstPage header first) where
+module _ (bytes first : List ℕ) (header : Header) (page : page_of_bytes bytes 0 ≡ first) (is : IsFirstPage header first) where
   pub too_few : HasLess (4096 * header.pages) (Some bytes) → HasReason bytes Short
   too_few less = inr (subst (λ (n : ℕ). length bytes < 4096 * n) (sym (counted_is bytes first header page is)) less)
 
@@ -141,7 +141,7 @@ module _ (bytes first : List ℕ) (header : Header) (page : page_of bytes 0 ≡ 
   asked : 4096 * header.pages ≡ asked_in bytes
   asked = subst (λ (n : ℕ). 4096 * header.pages ≡ 4096 + 4096 * (n - 1)) (sym (counted_is bytes first header page is)) (let some = counted in omega arith)
 
-  pub gives_up : (end : Option (List ℕ)) (fault : CheckFault) → BreaksOff (Some bytes) end header.pages fault → GivesUp bytes end fault
+  pub gives_up : (end : Option (List ℕ)) (fault : CheckFault) → ReadingBreaksOff (Some bytes) end header.pages fault → CheckGivesUp bytes end fault
   gives_up end Input less = subst (HasGivenLess (Some bytes) end) asked less
   gives_up end Memory some =
       (subst (HasGivenPages (Some bytes) end) (sym (counted_is bytes first header page is)) some, (header, ap header_in page ∙ first_read header first is))
@@ -156,12 +156,12 @@ module _ (bytes first : List ℕ) (header : Header) (page : page_of bytes 0 ≡ 
     count = header.pages;
     some = counted;
     few = omega arith;
-    given = record { bytes = bytes_of list; given = had.given; many = pages_long list had.whole ∙ ap (λ (n : ℕ). 4096 * n) many };
+    given = record { bytes = bytes_of_pages list; given = had.given; many = pages_long list had.whole ∙ ap (λ (n : ℕ). 4096 * n) many };
   }
 
   pub pages_read : (end : Option (List ℕ)) (list : List (List ℕ)) → AreRead (Some bytes) end list → length list ≡ header.pages → HasGiven (Some bytes) end (asked_in bytes)
   pages_read end list had many = record {
-    bytes = bytes_of list;
+    bytes = bytes_of_pages list;
     given = had.given;
     many = pages_long list had.whole ∙ ap (λ (n : ℕ). 4096 * n) many ∙ asked;
   }
@@ -173,24 +173,24 @@ module _ (bytes first : List ℕ) (header : Header) (page : page_of bytes 0 ≡ 
         let enough = pages.enough in
         let whole : nat_lt (length bytes) 4096 ≡ false = le-ltb (length bytes) 4096 (omega arith) in
         let all : nat_lt (length bytes) (4096 * header.pages) ≡ false = le-ltb (length bytes) (4096 * header.pages) (rw many at enough) in
-        let read : header_in (page_of bytes 0) ≡ Some header = ap header_in page ∙ first_read header first is in
+        let read : header_in (page_of_bytes bytes 0) ≡ Some header = ap header_in page ∙ first_read header first is in
         rw (whole, read, all) refl
 
     pub all_pages : HasPages bytes header list
     all_pages = record { accepted = accepted; pages = pages; many = many }
 
-    alike : AreAlike header.pages (page_of bytes) (page_in list)
+    alike : AreAlike header.pages (page_of_bytes bytes) (page_in list)
     alike n inside =
         let below : n < header.pages = ltb-true n header.pages (and_parts (ltb 0 n) (ltb n header.pages) inside).1 in
         pages.each n (omega arith)
 
-    live_is : live_in header bytes ≡ used_in list header.first_free header.free
-    live_is = same_live (page_of bytes) (page_in list) header.pages alike header.first_free header.free
+    live_is : live_in header bytes ≡ pages_used_in list header.first_free header.free
+    live_is = same_live (page_of_bytes bytes) (page_in list) header.pages alike header.first_free header.free
         ∙ ap (λ (count : ℕ). used (page_in list) count (chain (page_in list) count header.first_free header.free)) (sym many)
 
     chain_is : chain (page_in list) (length list) header.first_free header.free ≡ free_in header bytes
     chain_is = ap (λ (count : ℕ). chain (page_in list) count header.first_free header.free) many
-        ∙ sym (same_chain (page_of bytes) (page_in list) header.pages alike header.first_free header.free)
+        ∙ sym (same_chain (page_of_bytes bytes) (page_in list) header.pages alike header.first_free header.free)
 
     pub is_sound : PagesStand header list → IsSound bytes header.records header.pages
     is_sound found = record {

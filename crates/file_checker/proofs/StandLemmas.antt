@@ -12,7 +12,7 @@ use Rattle.page_walks.specs.declared.spot.Spot.{Spot}
 use Rattle.page_walks.specs.Spots.{entries_at}
 use Rattle.page_walks.specs.TreeWalk.{TreeWalked}
 use Rattle.page_walks.specs.FreeWalk.{FreeWalked}
-use Rattle.page_walks.specs.WholeFile.{used_in, FileParted}
+use Rattle.page_walks.specs.WholeFile.{pages_used_in, FileParted}
 use Rattle.page_walks.proofs.FileLemmas.{trees_stay, walks_part_the_file}
 use Rattle.record_heap.specs.Standing.{HeapStands}
 use Rattle.record_heap.specs.Walk.{slots_of}
@@ -97,7 +97,7 @@ module _ (header : Header) (list : List (List ℕ)) (opened : OpenFile) (own : L
 
   module _ (all : (n : ℕ) → n < length list → final n ≡ true) where
     abbrev live : PageMap
-    live = used_in list header.first_free header.free
+    live = pages_used_in list header.first_free header.free
 
     abbrev owns : List (List ℕ)
     owns = own ∷ found.prime.own ∷ found.alternates.owns

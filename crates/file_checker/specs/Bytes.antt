@@ -4,7 +4,7 @@ use Rattle.std.specs.Prelude.{IfOk, IfErr, length, take, flat_map, slice_index_o
 use Rattle.std.specs.Option.{IfSome}
 use Rattle.std.specs.Io.KnownBytes.{Consumes, IsAtEnd, Keeps}
 use Rattle.page_bytes.specs.Each.{Each}
-use Rattle.page_store.specs.Pages.{page_of}
+use Rattle.page_store.specs.Pages.{page_of_bytes}
 use Rattle.file_checker.specs.declared.verdict.CheckFault.{CheckFault}
 use Rattle.file_checker.specs.declared.verdict.CheckFault.TheVariants.{Input, Memory}
 
@@ -66,17 +66,17 @@ pub record HasGivenPages (before after : Option (List ℕ)) (most : ℕ) : Type 
 
 -- Where the reading of so many pages ends without an answer, what was read: for want of input,
 -- fewer bytes than they have; for want of memory, whole pages.
-abbrev pub BreaksOff : Option (List ℕ) → Option (List ℕ) → ℕ → CheckFault → Type 0
-BreaksOff before after count Input = HasGivenLess before after (4096 * count)
-BreaksOff before after count Memory = HasGivenPages before after count
+abbrev pub ReadingBreaksOff : Option (List ℕ) → Option (List ℕ) → ℕ → CheckFault → Type 0
+ReadingBreaksOff before after count Input = HasGivenLess before after (4096 * count)
+ReadingBreaksOff before after count Memory = HasGivenPages before after count
 
 -- the bytes of pages, one page after another
-abbrev pub bytes_of : List (List ℕ) → List ℕ
-bytes_of list = flat_map (λ page. page) list
+abbrev pub bytes_of_pages : List (List ℕ) → List ℕ
+bytes_of_pages list = flat_map (λ page. page) list
 
 -- it had these pages, which were read
 pub record AreRead (before after : Option (List ℕ)) (list : List (List ℕ)) : Type 0 where
-  pub given : Consumes before after (bytes_of list)
+  pub given : Consumes before after (bytes_of_pages list)
   pub whole : Each (λ page. length page ≡ 4096) list
 
 -- where these pages are all that came before, this is so of what there was
@@ -103,9 +103,9 @@ FindsTooFew count before old result =
 abbrev pub BreaksOffAt : (count : ℕ) → (before after : Option (List ℕ)) → (old : List (List ℕ))
     → Result Bool CheckFault → Type 0
 BreaksOffAt count before after old result =
-    IfErr result (λ fault. WhereRead before old (λ known. BreaksOff known after count fault))
+    IfErr result (λ fault. WhereRead before old (λ known. ReadingBreaksOff known after count fault))
 
 -- these are the first pages of a file
 pub record AreFirstPages (bytes : List ℕ) (list : List (List ℕ)) : Type 0 where
   pub enough : 4096 * length list ≤ length bytes
-  pub each : (n : ℕ) → n < length list → page_of bytes n ≡ slice_index_or list n []
+  pub each : (n : ℕ) → n < length list → page_of_bytes bytes n ≡ slice_index_or list n []

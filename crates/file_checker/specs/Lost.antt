@@ -15,8 +15,8 @@ use Rattle.open_file.specs.declared.open_file.OpenFile.{OpenFile}
 use Rattle.open_file.specs.Headers.{IsOpenedBy}
 
 -- the tree stands in these pages
-abbrev pub IsTreeIn : Tree → List (List ℕ) → List ℕ → Type 0
-IsTreeIn tree list own = (entries : List (List ℕ)) × TreeStands tree (pages_in list) entries own
+abbrev pub IsTreeInList : Tree → List (List ℕ) → List ℕ → Type 0
+IsTreeInList tree list own = (entries : List (List ℕ)) × TreeStands tree (pages_in list) entries own
 
 -- Each part of the file stands in pages of its own, and this page is in none of them; nor is it the
 -- first page, or free. Part 0 is the heap, part 1 the prime index, part j + 2 alternate index j.
@@ -32,10 +32,10 @@ pub record LeavesOut (header : Header) (list : List (List ℕ)) (n : ℕ) : Type
   pub owners : length owns ≡ length opened.alternates.items + 2
   pub heap : HeapStands opened.heap (pages_in list)
       (slots_of opened.heap.shape (pages_in list) (own_at owns 0)) (own_at owns 0)
-  pub prime : IsTreeIn opened.prime.tree list (own_at owns 1)
+  pub prime : IsTreeInList opened.prime.tree list (own_at owns 1)
   pub alternates : (j : ℕ) (index : AltIndex) → j < length opened.alternates.items
       → index ≡ slice_index_or opened.alternates.items j index
-      → IsTreeIn index.tree list (own_at owns (j + 2))
+      → IsTreeInList index.tree list (own_at owns (j + 2))
   pub outside : IsOutside (all_of owns) n
 
 abbrev pub HasLostPage : Header → List (List ℕ) → Type 0

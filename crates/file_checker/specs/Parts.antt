@@ -8,7 +8,7 @@ use Rattle.page_alloc.specs.Chain.{chain}
 use Rattle.page_walks.specs.declared.spot.Spot.{Spot}
 use Rattle.page_walks.specs.Spots.{entries_at}
 use Rattle.page_walks.specs.FreeWalk.{page_in}
-use Rattle.page_walks.specs.WholeFile.{used_in}
+use Rattle.page_walks.specs.WholeFile.{pages_used_in}
 use Rattle.bplus_tree.specs.Standing.{TreeStands}
 use Rattle.key_index.specs.declared.alt_index.AltIndex.{AltIndex}
 use Rattle.file_header.specs.declared.header.Header.{Header}
@@ -49,7 +49,7 @@ pub record PagesStand (header : Header) (list : List (List ℕ)) : Type 0 where
   pub opened : OpenFile
   pub by_header : IsOpenedBy header opened
   pub file : File
-  pub stands : Stands opened (used_in list header.first_free header.free) file
+  pub stands : Stands opened (pages_used_in list header.first_free header.free) file
   pub sound : IsSome (chain (page_in list) (length list) header.first_free header.free)
   pub records_are : length file.rows ≡ header.records
 

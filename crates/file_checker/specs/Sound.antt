@@ -4,7 +4,7 @@ use Rattle.std.specs.Prelude.{Option, Some, None, Result, IfOk, IfErr}
 use Rattle.std.specs.Option.{IfSome}
 use Rattle.std.specs.Io.KnownBytes.{Consumes, IsAtEnd}
 use Rattle.indexed_file.specs.File.{File}
-use Rattle.page_store.specs.Pages.{page_of}
+use Rattle.page_store.specs.Pages.{page_of_bytes}
 use Rattle.file_header.specs.declared.header.Header.{Header}
 use Rattle.file_header.specs.Reading.{header_in, number_in}
 use Rattle.shelf_file.specs.declared.look.Look.TheVariants.{Accepted}
@@ -35,7 +35,7 @@ IsAccepted bytes = (header : Header) × (look_of (Some bytes) ≡ Accepted heade
 
 -- how many pages the first page counts, whether or not it is accepted
 abbrev pub counted_in : List ℕ → ℕ
-counted_in bytes = number_in (page_of bytes 0) 12 4
+counted_in bytes = number_in (page_of_bytes bytes 0) 12 4
 
 -- there are as many bytes as a page has, and as the page count needs
 pub record IsLong (bytes : List ℕ) : Type 0 where
@@ -57,7 +57,8 @@ IsShown bytes P = (header : Header) × (list : List (List ℕ)) × HasPages byte
 abbrev pub HasReason : List ℕ → Reason → Type 0
 HasReason bytes Short = (length bytes < 4096) ⊎ (length bytes < 4096 * counted_in bytes)
 HasReason bytes Gate = IsLong bytes × (slice_index bytes 0 ≢ 67)
-HasReason bytes NoHeader = IsLong bytes × (slice_index bytes 0 ≡ 67) × (header_in (page_of bytes 0) ≡ None)
+HasReason bytes NoHeader = IsLong bytes × (slice_index bytes 0 ≡ 67)
+    × (header_in (page_of_bytes bytes 0) ≡ None)
 HasReason bytes Shared = IsAccepted bytes
 HasReason bytes Node = IsAccepted bytes
 HasReason bytes Order = IsAccepted bytes
@@ -81,10 +82,10 @@ pub record IsReadFor (bytes : List ℕ) (after : Option (List ℕ)) (verdict : V
 
 -- What was read where no verdict is told: for want of input, fewer bytes than are asked for; for
 -- want of memory, whole pages of a file whose first page is accepted.
-abbrev pub GivesUp : List ℕ → Option (List ℕ) → CheckFault → Type 0
-GivesUp bytes after Input = HasGivenLess (Some bytes) after (asked_in bytes)
-GivesUp bytes after Memory = HasGivenPages (Some bytes) after (counted_in bytes)
-    × ((header : Header) × (header_in (page_of bytes 0) ≡ Some header))
+abbrev pub CheckGivesUp : List ℕ → Option (List ℕ) → CheckFault → Type 0
+CheckGivesUp bytes after Input = HasGivenLess (Some bytes) after (asked_in bytes)
+CheckGivesUp bytes after Memory = HasGivenPages (Some bytes) after (counted_in bytes)
+    × ((header : Header) × (header_in (page_of_bytes bytes 0) ≡ Some header))
 
 -- What a call tells of a file whose bytes are known, where what it finds tells the verdict: it is
 -- right, and what was read is what it asks for; a fault tells where the reading ended.
@@ -92,7 +93,7 @@ pub record Examines {X : Type 0} (verdict : X → Verdict) (before after : Optio
     (result : Result X CheckFault) : Type 0 where
   pub right : IfSome before (λ bytes. IfOk result (λ found. IsRight bytes (verdict found)))
   pub read : IfSome before (λ bytes. IfOk result (λ found. IsReadFor bytes after (verdict found)))
-  pub fault : IfSome before (λ bytes. IfErr result (GivesUp bytes after))
+  pub fault : IfSome before (λ bytes. IfErr result (CheckGivesUp bytes after))
 
 -- the same where the first page was read already
 pub record ExaminesBehind {X : Type 0} (first : List ℕ) (verdict : X → Verdict)
@@ -101,7 +102,7 @@ pub record ExaminesBehind {X : Type 0} (first : List ℕ) (verdict : X → Verdi
       → IfOk result (λ found. IsRight bytes (verdict found))
   pub read : (bytes : List ℕ) → Consumes (Some bytes) before first
       → IfOk result (λ found. IsReadFor bytes after (verdict found))
-  pub fault : (bytes : List ℕ) → Consumes (Some bytes) before first → IfErr result (GivesUp bytes after)
+  pub fault : (bytes : List ℕ) → Consumes (Some bytes) before first → IfErr result (CheckGivesUp bytes after)
 
 -- so a file is refused by its first page
 abbrev pub RefusesBehind : (first : List ℕ) → (before after : Option (List ℕ)) → Result Reason CheckFault

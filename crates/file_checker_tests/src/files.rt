@@ -1,6 +1,6 @@
 //! Files of numbered records, and their bytes.
 
-ghost use Rattle.page_store.specs.MemShelves.{state_of};
+ghost use Rattle.page_store.specs.MemShelves.{mem_state_of};
 ghost use Rattle.shelf_file.specs.Standing.{IsReady};
 
 use crate::checks::{assert_equal_for, assert_that};

@@ -1,7 +1,7 @@
 -- Why a deck is not listed, and what follows where it is.
 use Rattle.std.proofs.Common.{◌≡◌, ℕ, List, Result, Ok, Err, IfOk, IfErr, refl, ap, subst}
 use Rattle.command_outcomes.specs.Status.{status_of}
-use Rattle.file_commands.specs.Listed.{IsListFault, TellsDeck, AreRefused}
+use Rattle.file_commands.specs.Listed.{IsListFault, TellsDeck, IsDeckRefused}
 use Rattle.file_listing.specs.declared.listing.FileList.{FileList}
 use Rattle.record_listing.specs.declared.end.ListFault.{ListFault}
 use Rattle.command_outcomes.specs.declared.outcome.Outcome.{Outcome}
@@ -58,7 +58,7 @@ module _ {W : Type 0} {IsRead IsWritten : List ℕ → Type 0} {told : Outcome} 
     fault = not_read fault four;
   }
 
-  pub deck_refused : (bytes : List ℕ) → IsRead bytes → (fault : Fault) → ((why : RefusedDeck) → fault ≡ NotListed why → AreRefused bytes why) → IsListFault fault
+  pub deck_refused : (bytes : List ℕ) → IsRead bytes → (fault : Fault) → ((why : RefusedDeck) → fault ≡ NotListed why → IsDeckRefused bytes why) → IsListFault fault
       → TellsDeck IsRead IsWritten told old old (Err fault)
   deck_refused bytes read fault refused listed = record {
     done = tt;

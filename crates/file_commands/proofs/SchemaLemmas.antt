@@ -4,7 +4,7 @@ use Rattle.std.specs.Option.{IfSome}
 use Rattle.record_layout.specs.Schema.{Schema}
 use Rattle.file_header.specs.declared.header.Header.{Header}
 use Rattle.schema_listing.specs.Comparing.{TellsDifferences}
-use Rattle.schema_listing.specs.Listing.{Tells, read_in}
+use Rattle.schema_listing.specs.Listing.{TellsHeader, read_of_file}
 use Rattle.schema_listing.specs.declared.first_page.Refusal.{Refusal}
 use Rattle.file_commands.specs.DeckFile.{IsDeckFault}
 use Rattle.file_commands.specs.Front.{word_in}
@@ -16,14 +16,14 @@ use Rattle.command_outcomes.specs.declared.outcome.Outcome.TheVariants.{SchemaCo
 
 -- why a page is none is told alike, with a deck or without
 same_refusal : (deck : Schema) (before after : Option (List ℕ)) (read : Result Header Refusal) (refusal : Refusal) → TellsDifferences deck before after read (Err refusal)
-    → Tells before after read (Err refusal)
+    → TellsHeader before after read (Err refusal)
 same_refusal deck before after (Ok header) refusal is = is
 same_refusal deck before after (Err why) refusal is = is
 
-known_refusal : (deck : Schema) (before after known : Option (List ℕ)) (refusal : Refusal) → IfSome known (λ bytes. TellsDifferences deck before after (read_in bytes) (Err refusal))
-    → IfSome known (λ bytes. Tells before after (read_in bytes) (Err refusal))
+known_refusal : (deck : Schema) (before after known : Option (List ℕ)) (refusal : Refusal) → IfSome known (λ bytes. TellsDifferences deck before after (read_of_file bytes) (Err refusal))
+    → IfSome known (λ bytes. TellsHeader before after (read_of_file bytes) (Err refusal))
 known_refusal deck before after None refusal is = tt
-known_refusal deck before after (Some bytes) refusal is = same_refusal deck before after (read_in bytes) refusal is
+known_refusal deck before after (Some bytes) refusal is = same_refusal deck before after (read_of_file bytes) refusal is
 
 module _ {F I W : Type 0} (remaining : F → Option (List ℕ)) (left : I → Option (List ℕ)) (input : I) (deck name : Bor (List ℕ)) (contents : W → Option (List ℕ)) (old new : W) where
   refused_as : (schema : Schema) (refusal : Refusal) → ComparesFile remaining schema contents old new (SchemaRefused refusal) → TellsFile remaining contents old new (SchemaRefused refusal)

@@ -8,18 +8,18 @@ use Rattle.deck_reader.specs.declared.deck.Deck.{Deck}
 use Rattle.deck_reader.specs.Deck.{IsDeck}
 use Rattle.deck_runner.specs.DeckRun.{IsNoDeck}
 use Rattle.deck_words.specs.declared.fault.DeckFault.{DeckFault}
-use Rattle.file_commands.specs.Front.{OfDeck}
+use Rattle.file_commands.specs.Front.{OfNamedDeck}
 use Rattle.command_outcomes.specs.declared.fault.Fault.{Fault}
 use Rattle.command_outcomes.specs.declared.fault.Fault.TheVariants.{Deck as DeckRefused, NoSuchFile, Input}
 use Rattle.command_outcomes.specs.declared.fault.Fault.TheVariants.{Output, Memory}
 
 -- the name is that of the file in its deck, in capitals or small letters
-abbrev pub is_named : (name : List ℕ) → FileDesc → Bool
-is_named name file = bytes_eq (map to_ascii_lowercase name) (map to_ascii_lowercase file.name)
+abbrev pub is_named_in_deck : (name : List ℕ) → FileDesc → Bool
+is_named_in_deck name file = bytes_eq (map to_ascii_lowercase name) (map to_ascii_lowercase file.name)
 
 -- the file is the one of these that has the name
 abbrev pub IsFileOf : List FileDesc → (name : List ℕ) → FileDesc → Type 0
-IsFileOf files name file = find (is_named name) files ≡ Some file
+IsFileOf files name file = find (is_named_in_deck name) files ≡ Some file
 
 -- bytes of which this is so are a deck, and the file is that of this name in it
 pub record IsOfDeck (IsRead : List ℕ → Type 0) (name : Word) (file : FileDesc) : Type 0 where
@@ -60,7 +60,7 @@ IsDeckFault fault = ⊥
 -- the deck is that of a path, or of the input where the path is a hyphen
 abbrev pub IsDeckAt : {F I : Type 0} → (F → Option (List ℕ)) → (I → Option (List ℕ)) → I → (path : List ℕ)
     → Deck → Type 0
-IsDeckAt remaining left input path deck = OfDeck remaining (left input) path (λ bytes. IsDeck bytes deck)
+IsDeckAt remaining left input path deck = OfNamedDeck remaining (left input) path (λ bytes. IsDeck bytes deck)
 
 -- what came of a file of a deck is so; or nothing did
 pub record ComesOfDeck {X : Type 0} (IsSo : X → Type 0) (result : Result X Fault) : Type 0 where

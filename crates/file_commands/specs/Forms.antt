@@ -7,7 +7,7 @@ use Rattle.file_control.specs.Description.{FileDesc}
 use Rattle.record_forms.specs.declared.column.Column.{Column}
 use Rattle.record_forms.specs.declared.form.Form.{Form}
 use Rattle.record_forms.specs.declared.form.Form.TheVariants.{Text, Csv, Json}
-use Rattle.record_forms.specs.Parts.{part_of, do_rise, cut_parts, item_parts, whole_part}
+use Rattle.record_forms.specs.Parts.{part_of_column, do_rise, cut_parts, item_parts, whole_part}
 use Rattle.command_words.specs.Asks.{FormText, IsNumber, form_text}
 use Rattle.command_words.specs.declared.form_words.FormWords.{FormWords}
 use Rattle.file_commands.specs.Cuts.{AreCuts}
@@ -24,17 +24,17 @@ use Rattle.command_outcomes.specs.declared.fault.Fault.TheVariants.{Memory}
 -- the columns are those between the cuts of a text, which rise from 1 on
 abbrev pub IsCutInto : Word → List Column → Type 0
 IsCutInto text columns = (cuts : List ℕ) × AreCuts text cuts × (do_rise 0 cuts ≡ true)
-    × (map part_of columns ≡ cut_parts 1 0 cuts)
+    × (map part_of_column columns ≡ cut_parts 1 0 cuts)
 
 -- the columns are the elementary items of the record of the file of this name in a deck
 abbrev pub AreItemsOf : (IsRead : List ℕ → Type 0) → (name : Word) → List Column → Type 0
 AreItemsOf IsRead name columns = (file : FileDesc) × IsOfDeck IsRead name file
-    × (map part_of columns ≡ item_parts file.layout)
+    × (map part_of_column columns ≡ item_parts file.layout)
 
 -- the columns are those that are asked for: by cuts, by a deck and the name of a file in it, or by nothing
 abbrev pub AreColumns : (IsRead : Word → List ℕ → Type 0) → (cut deck name : Option Word) → List Column
     → Type 0
-AreColumns IsRead None None None columns = map part_of columns ≡ whole_part ∷ []
+AreColumns IsRead None None None columns = map part_of_column columns ≡ whole_part ∷ []
 AreColumns IsRead (Some text) None None columns = IsCutInto text columns
 AreColumns IsRead None (Some deck) (Some name) columns = AreItemsOf (IsRead deck) name columns
 AreColumns IsRead None None (Some name) columns = ⊥

@@ -24,8 +24,8 @@ WritesList bytes before behind = (text : List ℕ) × Lists bytes text × Append
 
 -- the bytes are no deck, the fault is not want of memory, and the word that is told stands in them,
 -- at the line that is told
-abbrev pub AreRefused : List ℕ → RefusedDeck → Type 0
-AreRefused bytes refused =
+abbrev pub IsDeckRefused : List ℕ → RefusedDeck → Type 0
+IsDeckRefused bytes refused =
     (refused.fault.code ≢ 8) × ((deck : Deck) → IsDeck bytes deck → ⊥) × TellsOf bytes refused.diagnosis
 
 -- the form that a flag asks for
@@ -52,7 +52,7 @@ IsListFault fault = ⊥
 
 -- a fault by which a deck is refused is one of these bytes
 abbrev pub IsRefusalOf : List ℕ → Fault → Type 0
-IsRefusalOf bytes fault = (told : RefusedDeck) → fault ≡ NotListed told → AreRefused bytes told
+IsRefusalOf bytes fault = (told : RefusedDeck) → fault ≡ NotListed told → IsDeckRefused bytes told
 
 -- a text of the deck that the bytes are, or the fault by which it is refused
 pub record GivesText (IsText : List ℕ → Type 0) (bytes : List ℕ)
@@ -69,7 +69,7 @@ pub record TellsDeck {W : Type 0} (IsRead IsWritten : List ℕ → Type 0) (told
   pub done : IfOk result (λ outcome. outcome ≡ told)
   pub written : IfOk result (λ _. (bytes : List ℕ) × IsRead bytes × IsWritten bytes)
   pub refused : IfErr result (λ fault. (why : RefusedDeck) → fault ≡ NotListed why
-      → (bytes : List ℕ) × IsRead bytes × AreRefused bytes why)
+      → (bytes : List ℕ) × IsRead bytes × IsDeckRefused bytes why)
   pub untouched : IfErr result (λ fault. status_of fault ≢ 4 → new ≡ old)
   pub fault : IfErr result IsListFault
 

@@ -9,12 +9,12 @@ use Rattle.schema_listing.specs.declared.listing.ListingFault.{ListingFault}
 use Rattle.schema_listing.specs.declared.listing.ListingFault.TheVariants.{Input as Unread}
 use Rattle.schema_listing.specs.declared.listing.ListingFault.TheVariants.{Output as Unwritten}
 use Rattle.schema_listing.specs.declared.listing.ListingFault.TheVariants.{Memory as NoMemory}
-use Rattle.schema_listing.specs.Listing.{Tells, read_in}
+use Rattle.schema_listing.specs.Listing.{TellsHeader, read_of_file}
 use Rattle.schema_listing.specs.declared.comparing.Comparison.{Comparison}
 use Rattle.file_control.specs.Description.{FileDesc}
 use Rattle.schema_listing.specs.Comparing.{TellsDifferences}
 use Rattle.file_commands.specs.DeckFile.{IsOfDeck, IsDeckAsked, IsDeckFile, IsHalf, IsDeckFault}
-use Rattle.file_commands.specs.Front.{IsDeckNamed, OfFile, GivesSuch, word_in}
+use Rattle.file_commands.specs.Front.{IsDeckNamed, OfOpenedFile, GivesSuch, word_in}
 use Rattle.command_outcomes.specs.Status.{status_of}
 use Rattle.command_outcomes.specs.declared.form_fault.FormFault.TheVariants.{HalfDeck}
 use Rattle.command_outcomes.specs.declared.fault.Fault.{Fault}
@@ -32,8 +32,8 @@ listing_told_as NoMemory = Memory
 
 -- its lines were written, or it was told why the page is none
 abbrev pub TellsAs : (before after : Option (List ℕ)) → Result Header Refusal → Outcome → Type 0
-TellsAs before after read SchemaTold = Tells before after read (Ok tt)
-TellsAs before after read (SchemaRefused refusal) = Tells before after read (Err refusal)
+TellsAs before after read SchemaTold = TellsHeader before after read (Ok tt)
+TellsAs before after read (SchemaRefused refusal) = TellsHeader before after read (Err refusal)
 TellsAs before after read outcome = ⊥
 
 -- this was done for the schema of a file
@@ -78,23 +78,23 @@ IsSchemaFault deck name fault = ⊥
 abbrev pub TellsReader : {W : Type 0} → (known : Option (List ℕ)) → (W → Option (List ℕ)) → (old new : W)
     → Outcome → Type 0
 TellsReader known contents old new outcome = IfSome known (λ bytes.
-    TellsAs (contents old) (contents new) (read_in bytes) outcome)
+    TellsAs (contents old) (contents new) (read_of_file bytes) outcome)
 
-abbrev pub ComparesReader : {W : Type 0} → (known : Option (List ℕ)) → Schema → (W → Option (List ℕ))
+abbrev pub ComparesWithReader : {W : Type 0} → (known : Option (List ℕ)) → Schema → (W → Option (List ℕ))
     → (old new : W) → Outcome → Type 0
-ComparesReader known deck contents old new outcome = IfSome known (λ bytes.
-    ComparesAs deck (contents old) (contents new) (read_in bytes) outcome)
+ComparesWithReader known deck contents old new outcome = IfSome known (λ bytes.
+    ComparesAs deck (contents old) (contents new) (read_of_file bytes) outcome)
 
 -- of some file that was opened
 abbrev pub TellsFile : {F W : Type 0} → (F → Option (List ℕ)) → (W → Option (List ℕ)) → (old new : W)
     → Outcome → Type 0
-TellsFile remaining contents old new outcome = OfFile remaining (λ bytes.
-    TellsAs (contents old) (contents new) (read_in bytes) outcome)
+TellsFile remaining contents old new outcome = OfOpenedFile remaining (λ bytes.
+    TellsAs (contents old) (contents new) (read_of_file bytes) outcome)
 
 abbrev pub ComparesFile : {F W : Type 0} → (F → Option (List ℕ)) → Schema → (W → Option (List ℕ))
     → (old new : W) → Outcome → Type 0
-ComparesFile remaining deck contents old new outcome = OfFile remaining (λ bytes.
-    ComparesAs deck (contents old) (contents new) (read_in bytes) outcome)
+ComparesFile remaining deck contents old new outcome = OfOpenedFile remaining (λ bytes.
+    ComparesAs deck (contents old) (contents new) (read_of_file bytes) outcome)
 
 -- of some file, with the file of a name in the deck of a path
 abbrev pub ComparesWithDeck : {F I W : Type 0} → (F → Option (List ℕ)) → (I → Option (List ℕ)) → I

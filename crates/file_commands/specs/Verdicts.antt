@@ -4,7 +4,7 @@ use Rattle.std.specs.List.{list_all}
 use Rattle.file_checker.specs.declared.verdict.Verdict.{Verdict}
 use Rattle.file_checker.specs.declared.verdict.Verdict.TheVariants.{Sound, Unsound}
 use Rattle.file_checker.specs.Sound.{IsRight}
-use Rattle.file_commands.specs.Front.{OfFile}
+use Rattle.file_commands.specs.Front.{OfOpenedFile}
 use Rattle.command_outcomes.specs.declared.outcome.Outcome.{Outcome}
 use Rattle.command_outcomes.specs.declared.outcome.Outcome.TheVariants.{Checked, CheckedAll}
 
@@ -20,7 +20,7 @@ AreVerdicts IsSuch count sound =
 
 -- the verdict is right of some file that was opened
 abbrev pub IsOnFile : {F : Type 0} → (F → Option (List ℕ)) → Verdict → Type 0
-IsOnFile remaining verdict = OfFile remaining (λ bytes. IsRight bytes verdict)
+IsOnFile remaining verdict = OfOpenedFile remaining (λ bytes. IsRight bytes verdict)
 
 -- the verdict on a file was told
 abbrev pub ChecksFile : {F : Type 0} → (F → Option (List ℕ)) → Outcome → Type 0

@@ -1,5 +1,5 @@
 //! The schema of a file, held against that of a file of a deck.
-ghost use Rattle.file_commands.specs.Schema.{ComparesReader, ComparesFile, IsOfComparison, ComesOfFile};
+ghost use Rattle.file_commands.specs.Schema.{ComparesWithReader, ComparesFile, IsOfComparison, ComesOfFile};
 ghost use Rattle.file_commands.specs.Schema.{ComparesPaths};
 
 use crate::deck::{deck_at, file_in};
@@ -22,7 +22,7 @@ fn write_differences<R: Read + Drop, W: Write>(
     out: &mut W,
 ) -> Result<Outcome, Fault>
     ensures { ComesOfFile IsOfComparison
-        (ComparesReader (R.remaining reader) deck.now W.contents out.old out.new) result }
+        (ComparesWithReader (R.remaining reader) deck.now W.contents out.old out.new) result }
 {
     match compare_schema(alloc, reader, deck, out) {
         Ok(Ok(told)) => Ok(Outcome::SchemaCompared(told)),

@@ -1,6 +1,6 @@
 //! The count of what the file of a path has.
 ghost use Rattle.std.specs.Prelude.{◌≡◌};
-ghost use Rattle.file_commands.specs.Counted.{CountsFile};
+ghost use Rattle.file_commands.specs.Counted.{CountsSomeFile};
 ghost use Rattle.file_commands.specs.Front.{DoesSuch};
 ghost use Rattle.command_outcomes.specs.Status.{status_of};
 
@@ -33,7 +33,7 @@ pub fn count_path<R: Files, W: Write>(
 ) -> Result<Outcome, Fault>
 where
     R::File: LockFile,
-    ensures { DoesSuch (CountsFile R.File.remaining W.contents out.old out.new) result }
+    ensures { DoesSuch (CountsSomeFile R.File.remaining W.contents out.old out.new) result }
 {
     let bytes = match read_file(rt, alloc, path, &mut Silent) {
         Ok(bytes) => bytes,

@@ -1,6 +1,6 @@
 //! The deck in a file, and a file of it.
 ghost use Rattle.std.specs.Prelude.{◌≡◌, None, find, option_map, IfOk, IfErr};
-ghost use Rattle.file_commands.specs.DeckFile.{is_named, IsFileOf, IsDeckAt, ComesOfDeck, GivesDeck};
+ghost use Rattle.file_commands.specs.DeckFile.{is_named_in_deck, IsFileOf, IsDeckAt, ComesOfDeck, GivesDeck};
 
 use crate::file_bytes::read_deck_bytes;
 use command_outcomes::Fault;
@@ -24,14 +24,14 @@ pub fn deck_of(alloc: Global, bytes: &[u8]) -> Result<Deck, Fault>
 #[tactic(auto, using(crate::proofs::DeckLemmas::same_test))]
 /// Whether a file has a name, in capitals or small letters.
 fn is_named(file: &FileDesc, name: &str) -> bool
-    ensures { result ≡ is_named name.now file.now }
+    ensures { result ≡ is_named_in_deck name.now file.now }
 {
     name.eq_ignore_ascii_case(file.name.as_str())
 }
 
 /// The file of a name, if one has it.
 pub fn file_named<'a>(files: &'a [FileDesc], name: &str) -> Option<&'a FileDesc>
-    ensures { option_map (λ file. file.now) result ≡ find (is_named name.now) files.now }
+    ensures { option_map (λ file. file.now) result ≡ find (is_named_in_deck name.now) files.now }
 {
     files.iter().find(|file| is_named(file, name))
 }
@@ -55,7 +55,7 @@ pub fn deck_at<R: Files, I: Read>(
 /// The file of a name in a deck.
 pub fn file_in<'a>(deck: &'a Deck, name: &str) -> Result<&'a FileDesc, Fault>
     ensures file { IfOk result (λ file. IsFileOf deck.now.files name.now file.now) }
-    ensures none { IfErr result (λ fault. find (is_named name.now) deck.now.files ≡ None) }
+    ensures none { IfErr result (λ fault. find (is_named_in_deck name.now) deck.now.files ≡ None) }
     ensures fault { IfErr result (λ fault. fault ≡ Fault.NoSuchFile) }
 {
     match file_named(deck.files.as_slice(), name) {

@@ -1,6 +1,6 @@
 //! The form in which records are listed, as the words ask for it.
 ghost use Rattle.std.specs.Prelude.{◌≡◌, ◌∷◌, [], map, codes};
-ghost use Rattle.record_forms.specs.Parts.{part_of, whole_part};
+ghost use Rattle.record_forms.specs.Parts.{part_of_column, whole_part};
 ghost use Rattle.file_commands.specs.Cuts.{AreNoCuts};
 ghost use Rattle.file_commands.specs.DeckFile.{ComesOfDeck};
 ghost use Rattle.file_commands.specs.Forms.{IsCutInto, AreItemsAt, AreColumnsAsked, IsFormAsked};
@@ -57,7 +57,7 @@ fn columns_in<R: Files, I: Read>(
 
 /// The record as one column.
 fn whole(alloc: Global) -> Result<Vec<Column>, Fault>
-    ensures { WantsOnlyMemory (λ columns. map part_of columns.items ≡ whole_part ∷ []) result }
+    ensures { WantsOnlyMemory (λ columns. map part_of_column columns.items ≡ whole_part ∷ []) result }
 {
     match whole_column(alloc) {
         Ok(columns) => Ok(columns),

@@ -1,7 +1,7 @@
 //! The data names of a deck.
 ghost use Rattle.std.specs.Prelude.{◌≡◌, map, option_map};
 ghost use Rattle.std.specs.List.{list_all};
-ghost use Rattle.record_layout.specs.Layout.{entry_of};
+ghost use Rattle.record_layout.specs.Layout.{entry_of_item};
 ghost use Rattle.file_control.specs.Description.{is_new, are_new};
 
 use io_state::Name;
@@ -31,7 +31,7 @@ impl<'a> Model for DataNames<'a> {
 
 impl<'a> DataNames<'a> {
     ghost use Rattle.std.specs.Prelude.{◌≡◌, [], ◌∷◌, ◌++◌, map, option_map, OnOk};
-    ghost use Rattle.record_layout.specs.Layout.{entry_of};
+    ghost use Rattle.record_layout.specs.Layout.{entry_of_item};
     ghost use Rattle.file_control.specs.Description.{has_name, is_new, with_name, with_names};
 
     pub fn new(alloc: Global) -> Self
@@ -84,7 +84,7 @@ impl<'a> DataNames<'a> {
 
     /// Adds the names of items.
     pub fn add_all(&mut self, items: &'a [Item]) -> Result<(), AllocError>
-        ensures { OnOk result (self.new ≡ with_names self.old (map entry_of items.now)) }
+        ensures { OnOk result (self.new ≡ with_names self.old (map entry_of_item items.now)) }
     {
         let mut rest = items;
         'more: while let Some((item, after)) = rest.split_first() {
@@ -96,7 +96,7 @@ impl<'a> DataNames<'a> {
 }
 
 fn each_is_new(names: &DataNames<'_>, items: &[Item]) -> bool
-    ensures { result ≡ list_all (λ item. is_new names.now (entry_of item).name) items.now }
+    ensures { result ≡ list_all (λ item. is_new names.now (entry_of_item item).name) items.now }
 {
     items.iter().all(|item| names.is_new(&item.name))
 }
@@ -104,7 +104,7 @@ fn each_is_new(names: &DataNames<'_>, items: &[Item]) -> bool
 /// Whether none of the items has a name that is there.
 #[tactic(auto, using(crate::proofs::NameLemmas::all_of_map))]
 pub fn are_new(names: &DataNames<'_>, items: &[Item]) -> bool
-    ensures { result ≡ are_new names.now (map entry_of items.now) }
+    ensures { result ≡ are_new names.now (map entry_of_item items.now) }
 {
     each_is_new(names, items)
 }

@@ -1,7 +1,7 @@
 //! A file, as its entry and its description describe it.
 ghost use Rattle.std.specs.Prelude.{◌≡◌, ◌≤◌, ◌≢◌, ℕ, false, List, Option, map, option_map, OnErr, IfOk};
 ghost use Rattle.std.specs.Prelude.{IfErr};
-ghost use Rattle.record_layout.specs.Layout.{Placed as PlacedItem, entry_of, IsLayout, length_of};
+ghost use Rattle.record_layout.specs.Layout.{Placed as PlacedItem, entry_of_item, IsLayout, length_of};
 ghost use Rattle.record_layout.specs.Schema.{Schema as Keys, IsSchema};
 ghost use Rattle.record_layout.specs.SchemaFault.{GivesSchema};
 ghost use Rattle.record_layout.specs.declared.fault.LayoutFault.{LayoutFault};
@@ -83,7 +83,7 @@ fn layout_refusal(line: u64, fault: LayoutFault) -> Refusal
 }
 
 fn layout_of(alloc: Global, line: u64, items: &[Item]) -> Result<Layout, Refusal>
-    ensures { GivesOrRefuses (IsLayout (map entry_of items.now)) result }
+    ensures { GivesOrRefuses (IsLayout (map entry_of_item items.now)) result }
 {
     one_outcome();
     match Layout::build(alloc, items) {
@@ -197,7 +197,7 @@ fn schema_of(
 
 /// The name of the record, which is the first item.
 fn record_name(items: &[Item]) -> Option<Name>
-    ensures { option_map (λ name. name.bytes) result ≡ record_name (map entry_of items.now) }
+    ensures { option_map (λ name. name.bytes) result ≡ record_name (map entry_of_item items.now) }
 {
     match items.first() {
         Some(item) => item.name,
@@ -214,7 +214,7 @@ fn file_of(
     depends_on: Option<usize>,
 ) -> FileDesc
     requires { AreFields fields layout }
-    ensures { result ≡ described_by entry.now (map entry_of items.now) layout schema depends_on }
+    ensures { result ≡ described_by entry.now (map entry_of_item items.now) layout schema depends_on }
 {
     FileDesc {
         name: entry.name,

@@ -10,7 +10,7 @@ use Rattle.record_layout.proofs.PartsLemmas.{first_below, later_rise}
 use Rattle.file_header.specs.declared.header.Header.{Header}
 use Rattle.file_header.specs.declared.header.TreeNumbers.{TreeNumbers}
 use Rattle.file_header.specs.Bounds.{AreTreeNumbers, AreLinksWithin, FitsItsBytes, IsHeader}
-use Rattle.file_header.specs.BoundTests.{is_tree, is_within, has_room, is_key, rise, are_keys, is_schema, is_header}
+use Rattle.file_header.specs.BoundTests.{is_tree, are_numbers_within, has_room, is_key, rise, are_keys, is_schema, is_header}
 
 le : (a b : ℕ) → Decides (nat_le a b) (a ≤ b)
 le a b = elim (leb_tells a b) [
@@ -30,9 +30,9 @@ is_tree-Decides pages tree =
     Decides-like (is_tree pages tree) (λ p. record { some = p.0.0.0; low = p.0.0.1; behind = p.0.1; within = p.1 }) (λ t. (((t.some, t.low), t.behind), t.within))
     (Decides-and _ _ (Decides-and _ _ (Decides-and _ _ (le 1 tree.height) (le tree.height 20)) (le 1 tree.root)) (Decides-ltb tree.root pages))
 
-is_within-Decides : (header : Header) → Decides (is_within header) (AreLinksWithin header)
+is_within-Decides : (header : Header) → Decides (are_numbers_within header) (AreLinksWithin header)
 is_within-Decides header =
-    Decides-like (is_within header)
+    Decides-like (are_numbers_within header)
     (λ p. record { counted = p.0.0.0.0.0.0.0; trees = p.0.0.0.0.0.0.1; first_free = p.0.0.0.0.0.1; free = p.0.0.0.0.1; first_heap = p.0.0.0.1; free_slot = p.0.0.1; stamped = p.0.1; limit = p.1 })
     (λ w. (((((((w.counted, w.trees), w.first_free), w.free), w.first_heap), w.free_slot), w.stamped), w.limit))
     (Decides-and _ _ (Decides-and _ _ (Decides-and _ _ (Decides-and _ _ (Decides-and _ _ (Decides-and _ _ (Decides-and _ _

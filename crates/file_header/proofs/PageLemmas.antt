@@ -4,7 +4,7 @@ use Rattle.std.proofs.lemmas.List.{append-nil, take_at, drop_all}
 use Rattle.std.proofs.lemmas.Slice.{take-put_mid, drop-put_mid}
 use borrow.Rule.Slice.PartMut.{mid_of, put_mid, post_of, Post-is, mid_len, same_len_mid}
 use Rattle.file_header.specs.declared.header.Header.{Header}
-use Rattle.file_header.specs.FirstPage.{filled, first_bytes}
+use Rattle.file_header.specs.FirstPage.{filled_page, first_bytes}
 
 -- the page behind two writes
 abbrev begun : List ℕ → List ℕ → List ℕ → ℕ → List ℕ
@@ -12,7 +12,7 @@ begun page first rows m = put_mid 64 (m - 64) (put_mid 0 64 page first) rows
 
 pub page_filled : (page first rows z : List ℕ) (m : ℕ) → length page ≡ 4096 → length first ≡ 64 → m ≡ 64 + length rows → m ≤ 4096
     → z ≡ replicate (length (mid_of m (4096 - m) (begun page first rows m))) 0
-    → put_mid m (4096 - m) (begun page first rows m) z ≡ filled (first ++ rows)
+    → put_mid m (4096 - m) (begun page first rows m) z ≡ filled_page (first ++ rows)
 page_filled page first rows z m size front at fits is =
     let long : length (first ++ drop 64 page) ≡ 4096 = length-append first (drop 64 page) ∙ omega (arith, length-drop 64 page) in
     let whole : take m (begun page first rows m) ≡ first ++ rows =

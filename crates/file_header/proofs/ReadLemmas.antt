@@ -9,7 +9,7 @@ use Rattle.file_header.specs.declared.header.Header.{Header}
 use Rattle.file_header.specs.Bounds.{FitsItsBytes, AreLinksWithin}
 use Rattle.file_header.specs.BoundTests.{is_header}
 use Rattle.file_header.specs.FirstPage.{closed_page}
-use Rattle.file_header.specs.Reading.{numbers_in, header_in, part_in, tree_in, rows_in, key_count_in, IsFirstPage}
+use Rattle.file_header.specs.Reading.{numbers_in, header_in, part_in, tree_in, key_rows_in, key_count_in, IsFirstPage}
 use Rattle.file_header.proofs.BoundsLemmas.{is_header-Decides}
 use Rattle.file_header.proofs.BackLemmas.{numbers_back}
 
@@ -61,7 +61,7 @@ pub accepted : (page : List ℕ) (header : Header) → header ≡ numbers_in pag
     → page ≡ closed_page header → IsFirstPage header page
 unfolding numbers_in
 accepted page header same schema room within bytes =
-    let rows = rows_in page (key_count_in page) in
+    let rows = key_rows_in page (key_count_in page) in
     let many : length (map tree_in rows) ≡ length (map part_in rows) = length-map rows tree_in ∙ sym (length-map rows part_in) in
     let trees : length header.trees.items ≡ length header.schema.keys =
     ap (λ (h : Header). length h.trees.items) same ∙ many ∙ ap (λ (h : Header). length h.schema.keys) (sym same) in

@@ -5,14 +5,14 @@ use Rattle.page_bytes.proofs.ChunkLemmas.{chunks-add}
 use Rattle.page_bytes.specs.Chunks.{chunks}
 use Rattle.record_layout.specs.declared.schema.KeyPart.{KeyPart}
 use Rattle.file_header.specs.declared.header.TreeNumbers.{TreeNumbers}
-use Rattle.file_header.specs.FirstPage.{row_of, rows_from}
-use Rattle.file_header.specs.Reading.{rows_in}
+use Rattle.file_header.specs.FirstPage.{key_row_bytes, key_rows_bytes}
+use Rattle.file_header.specs.Reading.{key_rows_in}
 
 one_chunk : (bytes : List ℕ) → chunks 16 1 bytes ≡ take 16 bytes ∷ []
 unfolding chunks
 one_chunk bytes = refl
 
-pub row_more : (page : List ℕ) (k : ℕ) → rows_in page (k + 1) ≡ rows_in page k ++ slice_range page (64 + 16 * k) (64 + 16 * k + 16) ∷ []
+pub row_more : (page : List ℕ) (k : ℕ) → key_rows_in page (k + 1) ≡ key_rows_in page k ++ slice_range page (64 + 16 * k) (64 + 16 * k + 16) ∷ []
 row_more page k =
     let at : 64 + k * 16 ≡ 64 + 16 * k = omega arith in
     let size : 64 + 16 * k + 16 - (64 + 16 * k) ≡ 16 = omega arith in
@@ -21,32 +21,32 @@ row_more page k =
 
 -- one row more is read
 pub read_more : {X : Type 0} (f : List ℕ → X) (page : List ℕ) (k : ℕ)
-    → map f (rows_in page (k + 1)) ≡ map f (rows_in page k) ++ f (slice_range page (64 + 16 * k) (64 + 16 * k + 16)) ∷ []
-read_more f page k = ap (map f) (row_more page k) ∙ map-append f (rows_in page k) _
+    → map f (key_rows_in page (k + 1)) ≡ map f (key_rows_in page k) ++ f (slice_range page (64 + 16 * k) (64 + 16 * k + 16)) ∷ []
+read_more f page k = ap (map f) (row_more page k) ∙ map-append f (key_rows_in page k) _
 
 -- one row more is written
 pub write_more : (keys : List KeyPart) (trees : List TreeNumbers) (k : ℕ) (part : KeyPart) (tree : TreeNumbers) (rows : List ℕ)
     → k < length keys → k < length trees
-    → (rows ++ row_of k (get_or keys k part) (get_or trees k tree)) ++ rows_from (k + 1) (drop (k + 1) keys) (drop (k + 1) trees) ≡ rows ++ rows_from k (drop k keys) (drop k trees)
-unfolding rows_from
+    → (rows ++ key_row_bytes k (get_or keys k part) (get_or trees k tree)) ++ key_rows_bytes (k + 1) (drop (k + 1) keys) (drop (k + 1) trees) ≡ rows ++ key_rows_bytes k (drop k keys) (drop k trees)
+unfolding key_rows_bytes
 write_more keys trees k part tree rows in_keys in_trees =
     rw (drop_more keys k part in_keys, drop_more trees k tree in_trees) (append_assoc rows _ _)
 
-pub row_none : (page : List ℕ) → rows_in page 0 ≡ []
+pub row_none : (page : List ℕ) → key_rows_in page 0 ≡ []
 unfolding chunks
 row_none page = refl
 
-pub length-row : (k : ℕ) (part : KeyPart) (tree : TreeNumbers) → length (row_of k part tree) ≡ 16
-unfolding row_of
+pub length-row : (k : ℕ) (part : KeyPart) (tree : TreeNumbers) → length (key_row_bytes k part tree) ≡ 16
+unfolding key_row_bytes
 length-row k part tree = refl
 
-no_rows : (k : ℕ) (keys : List KeyPart) (trees : List TreeNumbers) → min (length keys) (length trees) ≡ 0 → rows_from k keys trees ≡ []
-unfolding rows_from
+no_rows : (k : ℕ) (keys : List KeyPart) (trees : List TreeNumbers) → min (length keys) (length trees) ≡ 0 → key_rows_bytes k keys trees ≡ []
+unfolding key_rows_bytes
 no_rows k [] trees h = refl
 no_rows k (key ∷ keys) [] h = refl
 no_rows k (key ∷ keys) (tree ∷ trees) h = absurd (omega arith)
 
 -- behind the last of them there are no more
-pub rows_end : (k : ℕ) (keys : List KeyPart) (trees : List TreeNumbers) → min (length keys) (length trees) ≤ k → rows_from k (drop k keys) (drop k trees) ≡ []
+pub rows_end : (k : ℕ) (keys : List KeyPart) (trees : List TreeNumbers) → min (length keys) (length trees) ≤ k → key_rows_bytes k (drop k keys) (drop k trees) ≡ []
 rows_end k keys trees h =
     no_rows k (drop k keys) (drop k trees) (omega (arith, length-drop k keys, length-drop k trees))

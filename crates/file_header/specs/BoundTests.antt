@@ -13,8 +13,8 @@ is_tree pages tree = nat_le 1 tree.height && nat_le tree.height 20 && nat_le 1 t
     && nat_lt tree.root pages
 
 -- whether the numbers are within their bounds
-abbrev pub is_within : Header → Bool
-is_within header =
+abbrev pub are_numbers_within : Header → Bool
+are_numbers_within header =
     nat_le (1 + length header.schema.keys) header.pages
     && list_all (is_tree header.pages) header.trees.items
     && nat_lt header.first_free header.pages
@@ -57,5 +57,6 @@ is_schema schema =
 -- whether it is a header that a file may have
 unfoldable pub is_header : Header → Bool
 is_header header =
-    is_schema header.schema && (length header.trees.items == length header.schema.keys) && is_within header
+    is_schema header.schema && (length header.trees.items == length header.schema.keys)
+    && are_numbers_within header
     && has_room header

@@ -42,15 +42,15 @@ first_bytes header = concat (
     ∷ [])
 
 -- the kind of key k: 0 the prime key, 1 an alternate key whose values are unique, 2 one with duplicates
-abbrev pub kind_of : ℕ → Bool → ℕ
-kind_of k duplicates = if k == 0 then 0 else if duplicates then 2 else 1
+abbrev pub kind_of_key : ℕ → Bool → ℕ
+kind_of_key k duplicates = if k == 0 then 0 else if duplicates then 2 else 1
 
 -- the 16 bytes of key k and of its tree
-unfoldable pub row_of : ℕ → KeyPart → TreeNumbers → List ℕ
-row_of k part tree = concat (
+unfoldable pub key_row_bytes : ℕ → KeyPart → TreeNumbers → List ℕ
+key_row_bytes k part tree = concat (
     big_bytes 2 part.offset
     ∷ big_bytes 2 part.length
-    ∷ (kind_of k part.duplicates ∷ [])
+    ∷ (kind_of_key k part.duplicates ∷ [])
     ∷ (tree.height ∷ [])
     ∷ zeros 2
     ∷ big_bytes 4 tree.root
@@ -58,18 +58,20 @@ row_of k part tree = concat (
     ∷ [])
 
 -- the rows of the keys from key k on, each with its tree
-unfoldable pub rows_from : ℕ → List KeyPart → List TreeNumbers → List ℕ
-rows_from k [] trees = []
-rows_from k (part ∷ parts) [] = []
-rows_from k (part ∷ parts) (tree ∷ trees) = row_of k part tree ++ rows_from (k + 1) parts trees
+unfoldable pub key_rows_bytes : ℕ → List KeyPart → List TreeNumbers → List ℕ
+key_rows_bytes k [] trees = []
+key_rows_bytes k (part ∷ parts) [] = []
+key_rows_bytes k (part ∷ parts) (tree ∷ trees) = key_row_bytes k part tree
+    ++ key_rows_bytes (k + 1) parts trees
 
 -- all bytes of a page, up to its 4,096th
-abbrev pub filled : List ℕ → List ℕ
-filled bytes = bytes ++ zeros (4096 - length bytes)
+abbrev pub filled_page : List ℕ → List ℕ
+filled_page bytes = bytes ++ zeros (4096 - length bytes)
 
 -- the first page of a file with this header, as it is written: its gate is open
 unfoldable pub header_bytes : Header → List ℕ
-header_bytes header = filled (first_bytes header ++ rows_from 0 header.schema.keys header.trees.items)
+header_bytes header = filled_page
+    (first_bytes header ++ key_rows_bytes 0 header.schema.keys header.trees.items)
 
 -- the first page of a file that was closed with this header: its gate is closed
 abbrev pub closed_page : Header → List ℕ

@@ -34,8 +34,8 @@ abbrev pub key_count_in : List ℕ → ℕ
 key_count_in page = min (slice_index page 34) 9
 
 -- the rows of the keys
-abbrev pub rows_in : List ℕ → ℕ → List (List ℕ)
-rows_in page count = chunks 16 count (drop 64 page)
+abbrev pub key_rows_in : List ℕ → ℕ → List (List ℕ)
+key_rows_in page count = chunks 16 count (drop 64 page)
 
 -- the part of a record that a row tells
 abbrev pub part_in : List ℕ → KeyPart
@@ -50,18 +50,18 @@ abbrev pub tree_in : List ℕ → TreeNumbers
 tree_in row = record { height = slice_index row 5; root = number_in row 8 4 }
 
 -- the lengths and the keys that a page tells
-abbrev pub schema_in : List ℕ → Schema
-schema_in page =
+abbrev pub schema_in_page : List ℕ → Schema
+schema_in_page page =
     record {
       least = least_in page;
       greatest = greatest_in page;
-      keys = map part_in (rows_in page (key_count_in page));
+      keys = map part_in (key_rows_in page (key_count_in page));
     }
 
 -- what stands at the places of the table, whether or not the page is a first page
 unfoldable pub numbers_in : List ℕ → Header
 numbers_in page = record {
-  schema = schema_in page;
+  schema = schema_in_page page;
   pages = number_in page 12 4;
   first_free = number_in page 16 4;
   free = number_in page 20 4;
@@ -70,7 +70,7 @@ numbers_in page = record {
   free_slot = number_in page 32 2;
   next_stamp = number_in page 40 8;
   records = number_in page 48 8;
-  trees = record { items = map tree_in (rows_in page (key_count_in page)) };
+  trees = record { items = map tree_in (key_rows_in page (key_count_in page)) };
 }
 
 -- the header of a file, by its first page: where the page is the one that its numbers make

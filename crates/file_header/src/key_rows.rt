@@ -10,8 +10,8 @@
 //! | 8 to 11 | root page |
 //! | 12 to 15 | zero |
 ghost use Rattle.std.specs.Prelude.{◌≡◌, ◌≤◌, length, map};
-ghost use Rattle.file_header.specs.FirstPage.{kind_of, row_of, rows_from};
-ghost use Rattle.file_header.specs.Reading.{part_in, tree_in, rows_in};
+ghost use Rattle.file_header.specs.FirstPage.{kind_of_key, key_row_bytes, key_rows_bytes};
+ghost use Rattle.file_header.specs.Reading.{part_in, tree_in, key_rows_in};
 
 use crate::header::TreeNumbers;
 use crate::numbers::END;
@@ -38,7 +38,7 @@ const ROW: usize = 16;
 /// The rows of the keys, with their trees.
 pub fn key_rows(keys: &[KeyPart], trees: &[TreeNumbers]) -> ArrayVec<u8, 144>
     requires { length trees.now ≤ 9 }
-    ensures { result.items ≡ rows_from 0 keys.now trees.now }
+    ensures { result.items ≡ key_rows_bytes 0 keys.now trees.now }
 {
     let mut rows = ArrayVec::new();
     for k in 0..keys.len().min(trees.len()) {
@@ -49,7 +49,7 @@ pub fn key_rows(keys: &[KeyPart], trees: &[TreeNumbers]) -> ArrayVec<u8, 144>
 
 /// The kind of key k.
 fn kind(k: usize, duplicates: bool) -> u8
-    ensures { result ≡ kind_of k duplicates }
+    ensures { result ≡ kind_of_key k duplicates }
 {
     match (k, duplicates) {
         (0, _) => 0,
@@ -60,7 +60,7 @@ fn kind(k: usize, duplicates: bool) -> u8
 
 /// The row of key k.
 fn row(k: usize, part: KeyPart, tree: TreeNumbers) -> [u8; ROW]
-    ensures { result ≡ row_of k part tree }
+    ensures { result ≡ key_row_bytes k part tree }
 {
     let mut bytes = [0; ROW];
     BigEndian::write_u16(&mut bytes[OFFSET..LENGTH], part.offset);
@@ -74,7 +74,7 @@ fn row(k: usize, part: KeyPart, tree: TreeNumbers) -> [u8; ROW]
 /// The parts of the records that the first `count` keys are.
 pub fn parts_in(page: &[u8; PAGE_SIZE], count: usize) -> ArrayVec<KeyPart, 9>
     requires { count ≤ 9 }
-    ensures { result.items ≡ map part_in (rows_in page.now count) }
+    ensures { result.items ≡ map part_in (key_rows_in page.now count) }
 {
     let mut parts = ArrayVec::new();
     for k in 0..count {
@@ -86,7 +86,7 @@ pub fn parts_in(page: &[u8; PAGE_SIZE], count: usize) -> ArrayVec<KeyPart, 9>
 /// The trees of the first `count` keys.
 pub fn trees_in(page: &[u8; PAGE_SIZE], count: usize) -> ArrayVec<TreeNumbers, 9>
     requires { count ≤ 9 }
-    ensures { result.items ≡ map tree_in (rows_in page.now count) }
+    ensures { result.items ≡ map tree_in (key_rows_in page.now count) }
 {
     let mut trees = ArrayVec::new();
     for k in 0..count {

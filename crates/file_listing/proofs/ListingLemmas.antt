@@ -15,25 +15,25 @@ use Rattle.record_listing.specs.declared.asked.Asked.{Asked}
 use Rattle.record_listing.specs.declared.end.ListEnd.{ListEnd}
 use Rattle.record_listing.specs.declared.end.ListEnd.TheVariants.{Listed as LinesWritten, Absent, Unsound as Refused, NoKey as HasNoKey, Damaged}
 use Rattle.record_listing.specs.declared.end.ListFault.{ListFault}
-use Rattle.record_listing.specs.Listing.{Ends as EndsNamed}
-use Rattle.file_listing.specs.Shelf.{state_of}
+use Rattle.record_listing.specs.Listing.{EndsList as EndsNamed}
+use Rattle.file_listing.specs.Shelf.{shelf_state_of}
 use Rattle.file_listing.specs.Listing.{EndsWithIn, BreaksOffIn}
 use Rattle.file_listing.specs.declared.file_bytes.FileBytes.{FileBytes}
 use Rattle.file_listing.specs.declared.listing.FileList.TheVariants.{Listed, NoKey}
 
 -- a library over these bytes, to which no name is attached, shows the file for which they stand under the empty name
 module _ (shelf : FileBytes) (held : List Held) (bytes : List ℕ) (schema : Schema) (file : File) (closed : AreClosed schema file bytes)
-    (none : (state_of shelf).names ≡ []) (empty : held ≡ []) (same : shelf.bytes.items ≡ bytes) where
+    (none : (shelf_state_of shelf).names ≡ []) (empty : held ≡ []) (same : shelf.bytes.items ≡ bytes) where
   stands : Represents (Some shelf.bytes.items) (Closed schema file)
   stands = (bytes, ap (λ (b : List ℕ). Some b) same, closed)
 
-  pub truly : IsShownTruly (state_of shelf) held []
-  truly = rw empty (shown_truly (state_of shelf) [] none (sound_of (Some shelf.bytes.items) (Closed schema file) stands))
+  pub truly : IsShownTruly (shelf_state_of shelf) held []
+  truly = rw empty (shown_truly (shelf_state_of shelf) [] none (sound_of (Some shelf.bytes.items) (Closed schema file) stands))
 
-  pub named : named_in (world_of (state_of shelf) held) [] ≡ Closed schema file
+  pub named : named_in (world_of (shelf_state_of shelf) held) [] ≡ Closed schema file
   named =
       rw empty
-      (ap (λ (world : World). named_in world []) (world_at_first (state_of shelf) none) ∙ named_is (Some shelf.bytes.items) (Closed schema file) stands)
+      (ap (λ (world : World). named_in world []) (world_at_first (shelf_state_of shelf) none) ∙ named_is (Some shelf.bytes.items) (Closed schema file) stands)
 
 -- what the end of a list of the file of the name means for its bytes
 abbrev pub MeansFor : Form → List ℕ → Asked → (before behind : Option (List ℕ)) → Result ListEnd ListFault → Type 0
@@ -54,14 +54,14 @@ means form bytes asked before behind schema file closed (Ok Damaged) is = is
 means form bytes asked before behind schema file closed (Err fault) (inl nothing) = inl nothing
 means form bytes asked before behind schema file closed (Err fault) (inr front) = inr (schema, file, closed, front)
 
-pub meant : (form : Form) (shelf : FileBytes) (held : List Held) (name bytes : List ℕ) (records pages : ℕ) → IsSound bytes records pages → (state_of shelf).names ≡ [] → held ≡ [] → shelf.bytes.items ≡ bytes
+pub meant : (form : Form) (shelf : FileBytes) (held : List Held) (name bytes : List ℕ) (records pages : ℕ) → IsSound bytes records pages → (shelf_state_of shelf).names ≡ [] → held ≡ [] → shelf.bytes.items ≡ bytes
     → name ≡ [] → (asked : Asked) (before behind : Option (List ℕ)) (result : Result ListEnd ListFault)
-    → (IsShownTruly (state_of shelf) held name → EndsNamed form asked (named_in (world_of (state_of shelf) held) name) before behind result)
+    → (IsShownTruly (shelf_state_of shelf) held name → EndsNamed form asked (named_in (world_of (shelf_state_of shelf) held) name) before behind result)
     → MeansFor form bytes asked before behind result
 meant form shelf held name bytes records pages sound none empty same unnamed asked before behind result ends =
     let closed : AreClosed sound.header.schema sound.file bytes = record { header = sound.header; accepted = sound.accepted; schema_is = refl; stands = sound.stands } in
-    let shown = subst (λ (n : List ℕ). IsShownTruly (state_of shelf) held n) (sym unnamed) (truly shelf held bytes sound.header.schema sound.file closed none empty same) in
-    let stands_for = subst (λ (n : List ℕ). named_in (world_of (state_of shelf) held) n ≡ Closed sound.header.schema sound.file) (sym unnamed)
+    let shown = subst (λ (n : List ℕ). IsShownTruly (shelf_state_of shelf) held n) (sym unnamed) (truly shelf held bytes sound.header.schema sound.file closed none empty same) in
+    let stands_for = subst (λ (n : List ℕ). named_in (world_of (shelf_state_of shelf) held) n ≡ Closed sound.header.schema sound.file) (sym unnamed)
     (named shelf held bytes sound.header.schema sound.file closed none empty same) in
     means form bytes asked before behind sound.header.schema sound.file closed result
     (subst (λ (n : Named). EndsNamed form asked n before behind result) stands_for (ends shown))

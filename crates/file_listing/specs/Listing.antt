@@ -39,8 +39,9 @@ EndsIn form bytes asked before behind (Ok end) = EndsWithIn form bytes asked bef
 EndsIn form bytes asked before behind (Err fault) = BreaksOffIn form bytes asked before behind
 
 -- the same of a list as text
-abbrev pub EndsWith : List ℕ → Asked → (before behind : Option (List ℕ)) → FileList → Type 0
-EndsWith bytes asked before behind end = EndsWithIn Text bytes asked before behind end
+abbrev pub EndsFileListWith : List ℕ → Asked → (before behind : Option (List ℕ)) → FileList → Type 0
+EndsFileListWith bytes asked before behind end = EndsWithIn Text bytes asked before behind end
 
-abbrev pub Ends : List ℕ → Asked → (before behind : Option (List ℕ)) → Result FileList ListFault → Type 0
-Ends bytes asked before behind result = EndsIn Text bytes asked before behind result
+abbrev pub EndsFileList : List ℕ → Asked → (before behind : Option (List ℕ)) → Result FileList ListFault
+    → Type 0
+EndsFileList bytes asked before behind result = EndsIn Text bytes asked before behind result

@@ -17,8 +17,8 @@ abbrev pub file_under : List ℕ → (name : List ℕ) → DeviceFile
 file_under bytes [] = file_of_bytes bytes
 file_under bytes (byte ∷ name) = absent
 
-abbrev pub state_of : FileBytes → ShelfState
-state_of shelf = record {
+abbrev pub shelf_state_of : FileBytes → ShelfState
+shelf_state_of shelf = record {
   names = map (λ name. name.bytes) shelf.units.items;
   file = file_under shelf.bytes.items;
   is_honest = true;

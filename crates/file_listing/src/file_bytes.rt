@@ -20,11 +20,11 @@ pub struct FileBytes {
 
 impl FileBytes {
     ghost use Rattle.std.specs.Prelude.{◌≡◌, []};
-    ghost use Rattle.file_listing.specs.Shelf.{state_of};
+    ghost use Rattle.file_listing.specs.Shelf.{shelf_state_of};
 
     /// The shelf of these bytes.
     pub fn new(alloc: Global, bytes: Vec<u8>) -> FileBytes
-        ensures units { (state_of result).names ≡ [] }
+        ensures units { (shelf_state_of result).names ≡ [] }
         ensures bytes { result.bytes ≡ bytes }
     {
         FileBytes {
@@ -63,10 +63,10 @@ fn copy_from(file: &[u8], at: usize, bytes: &mut [u8])
 }
 
 impl Shelf for FileBytes {
-    ghost use Rattle.file_listing.specs.Shelf.{state_of};
+    ghost use Rattle.file_listing.specs.Shelf.{shelf_state_of};
     ghost use Rattle.file_listing.specs.ShelfLaws.{left_as_read};
 
-    ghost state = { state_of };
+    ghost state = { shelf_state_of };
 
     ghost fault_count = { λ shelf. shelf.faults };
 

@@ -1,7 +1,7 @@
 //! The list of the bytes.
 ghost use Rattle.std.specs.Prelude.{◌≡◌, ℕ, IfOk, IfErr};
 ghost use Rattle.file_checker.specs.Sound.{IsSound};
-ghost use Rattle.file_listing.specs.Listing.{Ends, EndsIn};
+ghost use Rattle.file_listing.specs.Listing.{EndsFileList, EndsIn};
 
 use crate::file_bytes::FileBytes;
 use file_checker::{CheckFault, Reason, Verdict, check_file};
@@ -82,7 +82,7 @@ pub fn list_file<W: Write>(
     asked: Asked,
     out: &mut W,
 ) -> Result<FileList, ListFault>
-    ensures ends { Ends bytes.items asked (W.contents out.old) (W.contents out.new) result }
+    ensures ends { EndsFileList bytes.items asked (W.contents out.old) (W.contents out.new) result }
 {
     list_file_as(alloc, bytes, asked, &Form::Text, out)
 }

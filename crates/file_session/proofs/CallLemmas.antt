@@ -12,13 +12,13 @@ use Rattle.indexed_file.specs.Shown.{Shown}
 use Rattle.verbs.specs.declared.answer.Answer.{Answer}
 use Rattle.verbs.specs.Held.{silent}
 use Rattle.request_frames.specs.Request.{Described, Performed}
-use Rattle.file_session.specs.Files.{NumberedFile, Files, AreFiles, IsOrder, file_at, is_open, is_open_in, is_free, is_named, has_name, without, order_after}
-use Rattle.file_session.specs.Steps.{PerformsAt, Performs, ClosesAt, ClosesFirst, ReleasesAt, Releases, Describes, IsDescribedOver, CanBeDescribed, close_of}
+use Rattle.file_session.specs.Files.{NumberedFile, Files, AreNumberedFiles, IsOrder, file_of_number, is_open_file, is_open_in, is_free_number, is_named_file, has_file_name, without, order_after}
+use Rattle.file_session.specs.Steps.{PerformsAt, PerformsRequest, ClosesPlace, ClosesFirst, ReleasesAt, Releases, Describes, IsDescribedOver, CanBeDescribed, close_request}
 use Rattle.file_session.proofs.FilesLemmas.{place_after, files_with, files_without, or_true, first_known, first_below, first_open, without_first, none_some}
 
 -- the file of a number is that of its place
-pub place_is : {S : Type 0} (files : Files S) (i number : ℕ) (place : Option (NumberedFile S)) → AreFiles files → i ≡ number → number < 64
-    → place ≡ slice_index_or files.places i place → file_at files number ≡ place
+pub place_is : {S : Type 0} (files : Files S) (i number : ℕ) (place : Option (NumberedFile S)) → AreNumberedFiles files → i ≡ number → number < 64
+    → place ≡ slice_index_or files.places i place → file_of_number files number ≡ place
 place_is files i number place are is below at =
     get_or_default files.places number None place (omega (arith, are.places, below))
     ∙ ap (λ k. slice_index_or files.places k place) (sym is) ∙ sym at
@@ -27,16 +27,16 @@ abbrev pub changed_to : {S : Type 0} → Files S → ℕ → Option (NumberedFil
 changed_to files i place opened = record { places = slice_set files.places i place; opened = opened }
 
 pub performed_keeps : {S : Type 0} (shown : Shown S) (p : Performed) (files : Files S) (i : ℕ) (now new : Option (NumberedFile S)) (answer : Answer) (opened : List ℕ)
-    → AreFiles files → i ≡ p.file → p.file < 64 → now ≡ slice_index_or files.places i now → PerformsAt shown p now answer new
-    → opened ≡ order_after p.file (is_open_in new) files.opened → AreFiles (changed_to files i new opened)
+    → AreNumberedFiles files → i ≡ p.file → p.file < 64 → now ≡ slice_index_or files.places i now → PerformsAt shown p now answer new
+    → opened ≡ order_after p.file (is_open_in new) files.opened → AreNumberedFiles (changed_to files i new opened)
 performed_keeps shown p files i now new answer opened are is below at does order =
-    subst (λ (k : ℕ). AreFiles (changed_to files k new opened)) (sym is)
+    subst (λ (k : ℕ). AreNumberedFiles (changed_to files k new opened)) (sym is)
     (place_after files p.file does.before does.after new opened are below (place_is files i p.file now are is below at ∙ does.was) does.is does.name
     (order ∙ ap (λ (b : Bool). order_after p.file b files.opened) (ap is_open_in does.is)))
 
 pub performed_performs : {S : Type 0} (shown : Shown S) (p : Performed) (files : Files S) (i : ℕ) (now new : Option (NumberedFile S)) (answer : Answer) (opened : List ℕ)
-    → AreFiles files → i ≡ p.file → p.file < 64 → now ≡ slice_index_or files.places i now → PerformsAt shown p now answer new
-    → opened ≡ order_after p.file (is_open_in new) files.opened → Performs shown p files answer (changed_to files i new opened)
+    → AreNumberedFiles files → i ≡ p.file → p.file < 64 → now ≡ slice_index_or files.places i now → PerformsAt shown p now answer new
+    → opened ≡ order_after p.file (is_open_in new) files.opened → PerformsRequest shown p files answer (changed_to files i new opened)
 performed_performs shown p files i now new answer opened are is below at does order = record {
   before = does.before;
   after = does.after;
@@ -50,20 +50,20 @@ performed_performs shown p files i now new answer opened are is below at does or
 -- ---- the file that was opened first
 
 closing : {S : Type 0} {shown : Shown S} {old : Option (NumberedFile S)} {status : Status} {new : Option (NumberedFile S)} (number : ℕ)
-    → ClosesAt shown old status new → PerformsAt shown (close_of number) old (silent status) new
+    → ClosesPlace shown old status new → PerformsAt shown (close_request number) old (silent status) new
 closing number does = record { before = does.before; after = does.after; was = does.was; is = does.is; name = does.name; performed = does.performed }
 
 order_of_close : {S : Type 0} (shown : Shown S) (files : Files S) (number : ℕ) (now new : Option (NumberedFile S)) (status : Status) (opened : List ℕ)
-    → ClosesAt shown now status new → opened ≡ order_after number false files.opened → opened ≡ order_after number (is_open_in new) files.opened
+    → ClosesPlace shown now status new → opened ≡ order_after number false files.opened → opened ≡ order_after number (is_open_in new) files.opened
 order_of_close shown files number now new status opened does order =
     order ∙ ap (λ (b : Bool). order_after number b files.opened) (sym (ap is_open_in does.is ∙ does.closed))
 
-pub first_is_number : {S : Type 0} (files : Files S) (number : ℕ) → AreFiles files → Some number ≡ slice_get files.opened 0 → number < 64
+pub first_is_number : {S : Type 0} (files : Files S) (number : ℕ) → AreNumberedFiles files → Some number ≡ slice_get files.opened 0 → number < 64
 first_is_number files number are first =
     let known = first_known files.opened number (sym first) in
     first_below files.opened number known.0 are.order known.1
 
-pub first_is_there : {S : Type 0} (files : Files S) (i number : ℕ) (now : Option (NumberedFile S)) → AreFiles files → i ≡ number
+pub first_is_there : {S : Type 0} (files : Files S) (i number : ℕ) (now : Option (NumberedFile S)) → AreNumberedFiles files → i ≡ number
     → Some number ≡ slice_get files.opened 0 → now ≡ slice_index_or files.places i now → now ≡ None → ⊥
 first_is_there files i number now are is first at none =
     let known = first_known files.opened number (sym first) in
@@ -71,14 +71,14 @@ first_is_there files i number now are is first at none =
     ∙ ap is_open_in (place_is files i number now are is (first_is_number files number are first) at ∙ none))
 
 pub close_keeps : {S : Type 0} (shown : Shown S) (files : Files S) (i number : ℕ) (now new : Option (NumberedFile S)) (status : Status) (opened : List ℕ)
-    → AreFiles files → i ≡ number → Some number ≡ slice_get files.opened 0 → now ≡ slice_index_or files.places i now → ClosesAt shown now status new
-    → opened ≡ order_after number false files.opened → AreFiles (changed_to files i new opened)
+    → AreNumberedFiles files → i ≡ number → Some number ≡ slice_get files.opened 0 → now ≡ slice_index_or files.places i now → ClosesPlace shown now status new
+    → opened ≡ order_after number false files.opened → AreNumberedFiles (changed_to files i new opened)
 close_keeps shown files i number now new status opened are is first at does order =
-    performed_keeps shown (close_of number) files i now new (silent status) opened are is (first_is_number files number are first) at (closing number does)
+    performed_keeps shown (close_request number) files i now new (silent status) opened are is (first_is_number files number are first) at (closing number does)
     (order_of_close shown files number now new status opened does order)
 
 pub close_closes : {S : Type 0} (shown : Shown S) (files : Files S) (i number : ℕ) (now new : Option (NumberedFile S)) (status : Status) (opened : List ℕ)
-    → AreFiles files → i ≡ number → Some number ≡ slice_get files.opened 0 → now ≡ slice_index_or files.places i now → ClosesAt shown now status new
+    → AreNumberedFiles files → i ≡ number → Some number ≡ slice_get files.opened 0 → now ≡ slice_index_or files.places i now → ClosesPlace shown now status new
     → opened ≡ order_after number false files.opened → ClosesFirst shown files status (changed_to files i new opened)
 close_closes shown files i number now new status opened are is first at does order =
     let known = first_known files.opened number (sym first) in
@@ -86,7 +86,7 @@ close_closes shown files i number now new status opened are is first at does ord
       first = number;
       rest = known.0;
       was = known.1;
-      closed = performed_performs shown (close_of number) files i now new (silent status) opened are is (first_is_number files number are first) at
+      closed = performed_performs shown (close_request number) files i now new (silent status) opened are is (first_is_number files number are first) at
           (closing number does) (order_of_close shown files number now new status opened does order);
       opened = order ∙ ap (without number) known.1 ∙ without_first number known.0 (subst IsOrder known.1 are.order);
     }
@@ -98,17 +98,17 @@ same_places : {S : Type 0} (files : Files S) (i : ℕ) (now new : Option (Number
 same_places files i now new at same = ap (slice_set files.places i) (same ∙ at) ∙ set-get_or files.places i now
 
 pub release_keeps : {S : Type 0} (result : Result S Refusal) (files : Files S) (i number : ℕ) (now new : Option (NumberedFile S))
-    → AreFiles files → i ≡ number → number < 64 → now ≡ slice_index_or files.places i now
-    → IfOk result (λ library. ReleasesAt now library new) → OnErr result (new ≡ now) → AreFiles (changed_to files i new files.opened)
+    → AreNumberedFiles files → i ≡ number → number < 64 → now ≡ slice_index_or files.places i now
+    → IfOk result (λ library. ReleasesAt now library new) → OnErr result (new ≡ now) → AreNumberedFiles (changed_to files i new files.opened)
 release_keeps (Ok library) files i number now new are is below at does kept =
-    subst (λ (k : ℕ). AreFiles (changed_to files k new files.opened)) (sym is)
-    (subst (λ (p : Option (NumberedFile _)). AreFiles (changed_to files number p files.opened)) (sym does.is)
+    subst (λ (k : ℕ). AreNumberedFiles (changed_to files k new files.opened)) (sym is)
+    (subst (λ (p : Option (NumberedFile _)). AreNumberedFiles (changed_to files number p files.opened)) (sym does.is)
     (files_without files number does.file are below (place_is files i number now are is below at ∙ does.was) does.closed))
 release_keeps (Err why) files i number now new are is below at does kept =
-    subst (λ (places : List (Option (NumberedFile _))). AreFiles (record { places = places; opened = files.opened })) (sym (same_places files i now new at kept)) are
+    subst (λ (places : List (Option (NumberedFile _))). AreNumberedFiles (record { places = places; opened = files.opened })) (sym (same_places files i now new at kept)) are
 
 pub release_releases : {S : Type 0} (result : Result S Refusal) (files : Files S) (i number : ℕ) (now new : Option (NumberedFile S))
-    → AreFiles files → i ≡ number → number < 64 → now ≡ slice_index_or files.places i now
+    → AreNumberedFiles files → i ≡ number → number < 64 → now ≡ slice_index_or files.places i now
     → IfOk result (λ library. ReleasesAt now library new) → IfOk result (λ library. Releases number files library (changed_to files i new files.opened))
 release_releases (Ok library) files i number now new are is below at does = record {
   file = does.file;
@@ -121,12 +121,12 @@ release_releases (Err why) files i number now new are is below at does = tt
 -- ---- a file is described
 
 named_from : {S : Type 0} (name : List ℕ) (places : List (Option (NumberedFile S))) (number : ℕ) (file : NumberedFile S)
-    → slice_index_or places number None ≡ Some file → bytes_eq name file.name ≡ true → list_any (has_name name) places ≡ true
+    → slice_index_or places number None ≡ Some file → bytes_eq name file.name ≡ true → list_any (has_file_name name) places ≡ true
 named_from name [] number file at same = absurd (none_some (sym (get_or-eq_default [] None {n = number} (omega arith)) ∙ at))
 named_from name (place ∷ places) zero file at same =
-    ap (λ (p : Option (NumberedFile _)). has_name name p || list_any (has_name name) places) at ∙ ap (λ b. b || list_any (has_name name) places) same
+    ap (λ (p : Option (NumberedFile _)). has_file_name name p || list_any (has_file_name name) places) at ∙ ap (λ b. b || list_any (has_file_name name) places) same
 named_from name (place ∷ places) (suc number) file at same =
-    ap (λ b. has_name name place || b) (named_from name places number file at same) ∙ or_true (has_name name place)
+    ap (λ b. has_file_name name place || b) (named_from name places number file at same) ∙ or_true (has_file_name name place)
 
 and_left : (a b : Bool) → (a && b) ≡ true → a ≡ true
 and_left true b both = refl
@@ -140,18 +140,18 @@ none_from : {S : Type 0} (place : Option (NumberedFile S)) → is_none place ≡
 none_from None is = refl
 none_from (Some file) is = absurd (true≢false (sym is))
 
-pub free_below : {S : Type 0} (files : Files S) (number : ℕ) → is_free files number ≡ true → number < 64
-free_below files number free = ltb-true number 64 (and_left (nat_lt number 64) (is_none (file_at files number)) free)
+pub free_below : {S : Type 0} (files : Files S) (number : ℕ) → is_free_number files number ≡ true → number < 64
+free_below files number free = ltb-true number 64 (and_left (nat_lt number 64) (is_none (file_of_number files number)) free)
 
 pub describe_keeps : {S : Type 0} (shown : Shown S) (d : Described) (given : S) (files : Files S) (i : ℕ) (file : NumberedFile S) (new : Option (NumberedFile S))
-    → AreFiles files → i ≡ d.file → is_free files d.file ≡ true → is_named files d.name ≡ false → IsDescribedOver shown d given file → new ≡ Some file
-    → AreFiles (changed_to files i new files.opened)
+    → AreNumberedFiles files → i ≡ d.file → is_free_number files d.file ≡ true → is_named_file files d.name ≡ false → IsDescribedOver shown d given file → new ≡ Some file
+    → AreNumberedFiles (changed_to files i new files.opened)
 describe_keeps shown d given files i file new are is free named over put =
-    subst (λ (k : ℕ). AreFiles (changed_to files k new files.opened)) (sym is)
-    (subst (λ (p : Option (NumberedFile _)). AreFiles (changed_to files d.file p files.opened)) (sym put)
+    subst (λ (k : ℕ). AreNumberedFiles (changed_to files k new files.opened)) (sym is)
+    (subst (λ (p : Option (NumberedFile _)). AreNumberedFiles (changed_to files d.file p files.opened)) (sym put)
     (files_with files d.file file are (free_below files d.file free)
-    (none_from (file_at files d.file) (and_right (nat_lt d.file 64) (is_none (file_at files d.file)) free))
-    (ap (λ (f : NumberedFile _). is_open f) over.is)
+    (none_from (file_of_number files d.file) (and_right (nat_lt d.file 64) (is_none (file_of_number files d.file)) free))
+    (ap (λ (f : NumberedFile _). is_open_file f) over.is)
     (λ other a at same. true≢false (sym (named_from d.name files.places other a at
     (ap (bytes_eq d.name) (same ∙ ap (λ (f : NumberedFile _). f.name) over.is) ∙ nat_list_eq_equiv.refl d.name)) ∙ named))))
 

@@ -7,7 +7,7 @@ use Rattle.std.proofs.lemmas.List.Folds.{list_any-append}
 use Rattle.std.proofs.lemmas.Cmp.{nat_eq_equiv}
 use Rattle.std.proofs.lemmas.Map.Keys.{IsDistinct-head}
 use Rattle.std.proofs.lemmas.Map.Views.{any-filter_same}
-use Rattle.file_session.specs.Files.{NumberedFile, Files, AreFiles, IsOrder, file_at, is_open, is_open_in, without, order_after}
+use Rattle.file_session.specs.Files.{NumberedFile, Files, AreNumberedFiles, IsOrder, file_of_number, is_open_file, is_open_in, without, order_after}
 use Rattle.file_session.proofs.OrderLemmas.{order_without, order_with}
 
 eqb_same : (n : ℕ) → eqb n n ≡ true
@@ -46,10 +46,10 @@ record Changes {S : Type 0} (files : Files S) (number : ℕ) (file : Option (Num
   pub order : IsOrder opened
   pub here : list_any (eqb number) opened ≡ is_open_in file
   pub there : (other : ℕ) → other ≢ number → list_any (eqb other) opened ≡ list_any (eqb other) files.opened
-  pub name : (other : ℕ) (a b : NumberedFile S) → other ≢ number → file_at files other ≡ Some a → file ≡ Some b → a.name ≡ b.name → ⊥
+  pub name : (other : ℕ) (a b : NumberedFile S) → other ≢ number → file_of_number files other ≡ Some a → file ≡ Some b → a.name ≡ b.name → ⊥
 
 changed_names : {S : Type 0} (files : Files S) (number : ℕ) (file : Option (NumberedFile S)) (opened : List ℕ)
-    → AreFiles files → Changes files number file opened
+    → AreNumberedFiles files → Changes files number file opened
     → (m n : ℕ) (a b : NumberedFile S) → (m ≡ number) ⊎ (m ≢ number) → (n ≡ number) ⊎ (n ≢ number)
     → slice_index_or (slice_set files.places number file) m None ≡ Some a
     → slice_index_or (slice_set files.places number file) n None ≡ Some b → a.name ≡ b.name → m ≡ n
@@ -64,7 +64,7 @@ changed_names files number file opened are change m n a b (inr far) (inr apart) 
     are.names m n a b (sym (at_other files.places number m file far) ∙ x) (sym (at_other files.places number n file apart) ∙ y) same
 
 changed_opened : {S : Type 0} (files : Files S) (number : ℕ) (file : Option (NumberedFile S)) (opened : List ℕ)
-    → AreFiles files → Changes files number file opened
+    → AreNumberedFiles files → Changes files number file opened
     → (other : ℕ) → (other ≡ number) ⊎ (other ≢ number)
     → list_any (eqb other) opened ≡ is_open_in (slice_index_or (slice_set files.places number file) other None)
 changed_opened files number file opened are change other (inl here) =
@@ -75,7 +75,7 @@ changed_opened files number file opened are change other (inr apart) =
     change.there other apart ∙ are.opened other ∙ ap is_open_in (sym (at_other files.places number other file apart))
 
 changed : {S : Type 0} (files : Files S) (number : ℕ) (file : Option (NumberedFile S)) (opened : List ℕ)
-    → AreFiles files → Changes files number file opened → AreFiles (record { places = slice_set files.places number file; opened = opened })
+    → AreNumberedFiles files → Changes files number file opened → AreNumberedFiles (record { places = slice_set files.places number file; opened = opened })
 changed files number file opened are change = record {
   places = length-set files.places number file ∙ are.places;
   names = λ m n a b x y same. changed_names files number file opened are change m n a b (cases_eq m number) (cases_eq n number) x y same;
@@ -132,22 +132,22 @@ there_noted number other false opened apart =
     any_without number other opened ∙ ap (λ b. not b && list_any (eqb other) opened) (ne_eqb number other (λ same. apart (sym same)))
 
 -- a file of the number has performed a statement: it has its name, and its place in the order
-pub files_after : {S : Type 0} (files : Files S) (number : ℕ) (before after : NumberedFile S) → AreFiles files → number < 64
-    → file_at files number ≡ Some before → after.name ≡ before.name
-    → AreFiles (record { places = slice_set files.places number (Some after); opened = order_after number (is_open after) files.opened })
-files_after files number before after are below was name = changed files number (Some after) (order_after number (is_open after) files.opened) are (record {
+pub files_after : {S : Type 0} (files : Files S) (number : ℕ) (before after : NumberedFile S) → AreNumberedFiles files → number < 64
+    → file_of_number files number ≡ Some before → after.name ≡ before.name
+    → AreNumberedFiles (record { places = slice_set files.places number (Some after); opened = order_after number (is_open_file after) files.opened })
+files_after files number before after are below was name = changed files number (Some after) (order_after number (is_open_file after) files.opened) are (record {
   below = below;
-  order = order_noted number (is_open after) files.opened below are.order;
-  here = here_noted number (is_open after) files.opened;
-  there = λ other apart. there_noted number other (is_open after) files.opened apart;
+  order = order_noted number (is_open_file after) files.opened below are.order;
+  here = here_noted number (is_open_file after) files.opened;
+  there = λ other apart. there_noted number other (is_open_file after) files.opened apart;
   name = λ other a b apart at is same. apart (are.names other number a before at was (same ∙ sym (some_name after b is) ∙ name));
 })
 
 -- a free number has got a file that is not open, with a name that no other has
-pub files_with : {S : Type 0} (files : Files S) (number : ℕ) (file : NumberedFile S) → AreFiles files → number < 64
-    → file_at files number ≡ None → is_open file ≡ false
-    → ((other : ℕ) (a : NumberedFile S) → file_at files other ≡ Some a → a.name ≡ file.name → ⊥)
-    → AreFiles (record { places = slice_set files.places number (Some file); opened = files.opened })
+pub files_with : {S : Type 0} (files : Files S) (number : ℕ) (file : NumberedFile S) → AreNumberedFiles files → number < 64
+    → file_of_number files number ≡ None → is_open_file file ≡ false
+    → ((other : ℕ) (a : NumberedFile S) → file_of_number files other ≡ Some a → a.name ≡ file.name → ⊥)
+    → AreNumberedFiles (record { places = slice_set files.places number (Some file); opened = files.opened })
 files_with files number file are below free closed name = changed files number (Some file) files.opened are (record {
   below = below;
   order = are.order;
@@ -157,9 +157,9 @@ files_with files number file are below free closed name = changed files number (
 })
 
 -- a file that is not open has gone
-pub files_without : {S : Type 0} (files : Files S) (number : ℕ) (file : NumberedFile S) → AreFiles files → number < 64
-    → file_at files number ≡ Some file → is_open file ≡ false
-    → AreFiles (record { places = slice_set files.places number None; opened = files.opened })
+pub files_without : {S : Type 0} (files : Files S) (number : ℕ) (file : NumberedFile S) → AreNumberedFiles files → number < 64
+    → file_of_number files number ≡ Some file → is_open_file file ≡ false
+    → AreNumberedFiles (record { places = slice_set files.places number None; opened = files.opened })
 files_without files number file are below was closed = changed files number None files.opened are (record {
   below = below;
   order = are.order;
@@ -172,12 +172,12 @@ files_without files number file are below was closed = changed files number None
 
 -- a statement was performed on the file of a place
 pub place_after : {S : Type 0} (files : Files S) (number : ℕ) (before after : NumberedFile S) (place : Option (NumberedFile S)) (opened : List ℕ)
-    → AreFiles files → number < 64 → file_at files number ≡ Some before → place ≡ Some after → after.name ≡ before.name
-    → opened ≡ order_after number (is_open after) files.opened
-    → AreFiles (record { places = slice_set files.places number place; opened = opened })
+    → AreNumberedFiles files → number < 64 → file_of_number files number ≡ Some before → place ≡ Some after → after.name ≡ before.name
+    → opened ≡ order_after number (is_open_file after) files.opened
+    → AreNumberedFiles (record { places = slice_set files.places number place; opened = opened })
 place_after files number before after place opened are below was is name order =
-    subst (λ (p : Option (NumberedFile _)). AreFiles (record { places = slice_set files.places number p; opened = opened })) (sym is)
-    (subst (λ (o : List ℕ). AreFiles (record { places = slice_set files.places number (Some after); opened = o })) (sym order)
+    subst (λ (p : Option (NumberedFile _)). AreNumberedFiles (record { places = slice_set files.places number p; opened = opened })) (sym is)
+    (subst (λ (o : List ℕ). AreNumberedFiles (record { places = slice_set files.places number (Some after); opened = o })) (sym order)
     (files_after files number before after are below was name))
 
 -- ---- the file that was opened first
@@ -207,7 +207,7 @@ without_first first rest order =
 pub first_below : (opened : List ℕ) (first : ℕ) (rest : List ℕ) → IsOrder opened → opened ≡ first ∷ rest → first < 64
 first_below opened first rest order is = (subst IsOrder is order).below 0 0 (omega arith)
 
-pub first_open : {S : Type 0} (files : Files S) (first : ℕ) (rest : List ℕ) → AreFiles files → files.opened ≡ first ∷ rest
-    → is_open_in (file_at files first) ≡ true
+pub first_open : {S : Type 0} (files : Files S) (first : ℕ) (rest : List ℕ) → AreNumberedFiles files → files.opened ≡ first ∷ rest
+    → is_open_in (file_of_number files first) ≡ true
 first_open files first rest are is =
     sym (are.opened first) ∙ ap (list_any (eqb first)) is ∙ ap (λ b. b || list_any (eqb first) rest) (eqb_same first)

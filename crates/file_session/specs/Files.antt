@@ -23,38 +23,38 @@ pub record Files (S : Type 0) : Type 0 where
   pub places : List (Option (NumberedFile S))
   pub opened : List ℕ
 
-abbrev pub no_files : {S : Type 0} → Files S
-no_files = record { places = replicate number_limit None; opened = [] }
+abbrev pub no_numbered_files : {S : Type 0} → Files S
+no_numbered_files = record { places = replicate number_limit None; opened = [] }
 
 -- the file of a number
-abbrev pub file_at : {S : Type 0} → Files S → ℕ → Option (NumberedFile S)
-file_at files number = slice_index_or files.places number None
+abbrev pub file_of_number : {S : Type 0} → Files S → ℕ → Option (NumberedFile S)
+file_of_number files number = slice_index_or files.places number None
 
 -- the files with another one of this number
 abbrev pub with_file : {S : Type 0} → Files S → ℕ → Option (NumberedFile S) → Files S
 with_file files number file = record files { places = slice_set files.places number file }
 
-abbrev pub schema_of : {S : Type 0} → NumberedFile S → Schema
-schema_of file = file.memory.held.connector.schema
+abbrev pub schema_of_file : {S : Type 0} → NumberedFile S → Schema
+schema_of_file file = file.memory.held.connector.schema
 
-abbrev pub is_open : {S : Type 0} → NumberedFile S → Bool
-is_open file = is_some file.memory.held.connector.session
+abbrev pub is_open_file : {S : Type 0} → NumberedFile S → Bool
+is_open_file file = is_some file.memory.held.connector.session
 
 abbrev pub is_open_in : {S : Type 0} → Option (NumberedFile S) → Bool
 is_open_in None = false
-is_open_in (Some file) = is_open file
+is_open_in (Some file) = is_open_file file
 
 -- a number of a session that is of no file
-abbrev pub is_free : {S : Type 0} → Files S → ℕ → Bool
-is_free files number = nat_lt number number_limit && is_none (file_at files number)
+abbrev pub is_free_number : {S : Type 0} → Files S → ℕ → Bool
+is_free_number files number = nat_lt number number_limit && is_none (file_of_number files number)
 
-abbrev pub has_name : {S : Type 0} → List ℕ → Option (NumberedFile S) → Bool
-has_name name None = false
-has_name name (Some file) = bytes_eq name file.name
+abbrev pub has_file_name : {S : Type 0} → List ℕ → Option (NumberedFile S) → Bool
+has_file_name name None = false
+has_file_name name (Some file) = bytes_eq name file.name
 
 -- a file of the session has the name
-abbrev pub is_named : {S : Type 0} → Files S → List ℕ → Bool
-is_named files name = list_any (has_name name) files.places
+abbrev pub is_named_file : {S : Type 0} → Files S → List ℕ → Bool
+is_named_file files name = list_any (has_file_name name) files.places
 
 -- ---- the order of opening
 
@@ -77,14 +77,15 @@ pub record IsOrder (opened : List ℕ) : Type 0 where
 -- the connector goes with its library, and the area has the greatest length of a record
 pub record IsNumberedFile {S : Type 0} (shown : Shown S) (file : NumberedFile S) : Type 0 where
   pub fits : Fits file.memory.held (shown.world file.memory.library) 0
-  pub area : length file.memory.area ≡ (schema_of file).greatest
+  pub area : length file.memory.area ≡ (schema_of_file file).greatest
   pub short : length file.memory.area ≤ 4000
 
 -- there are 64 places; no two files have one name; and the open files are those in the order of
 -- opening, each once
-pub record AreFiles {S : Type 0} (files : Files S) : Type 0 where
+pub record AreNumberedFiles {S : Type 0} (files : Files S) : Type 0 where
   pub places : length files.places ≡ number_limit
-  pub names : (m n : ℕ) → (a b : NumberedFile S) → file_at files m ≡ Some a → file_at files n ≡ Some b
+  pub names : (m n : ℕ) → (a b : NumberedFile S) → file_of_number files m ≡ Some a → file_of_number files n
+      ≡ Some b
       → a.name ≡ b.name → m ≡ n
-  pub opened : (number : ℕ) → list_any (eqb number) files.opened ≡ is_open_in (file_at files number)
+  pub opened : (number : ℕ) → list_any (eqb number) files.opened ≡ is_open_in (file_of_number files number)
   pub order : IsOrder files.opened

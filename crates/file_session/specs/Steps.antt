@@ -12,7 +12,7 @@ use Rattle.indexed_file.specs.World.{attached, named_in}
 use Rattle.indexed_file.specs.Images.{AllStay}
 use Rattle.indexed_file.specs.Calls.{Keeps}
 use Rattle.verbs.specs.declared.answer.Answer.{Answer}
-use Rattle.verbs.specs.Held.{held_at_start, record_in, silent}
+use Rattle.verbs.specs.Held.{held_at_start, record_delivered, silent}
 use Rattle.verbs.specs.Performed.{FileInMemory, IsPerformed}
 use Rattle.io_state.specs.FileName.{is_file_name}
 use Rattle.request_frames.specs.Request.{Described, Performed}
@@ -20,8 +20,9 @@ use Rattle.request_frames.specs.declared.Refusal.{Refusal}
 use Rattle.request_frames.specs.declared.Refusal.TheVariants.{NoRequest, TooLong, Number, Description, Name}
 use Rattle.request_frames.specs.declared.Refusal.TheVariants.{Memory, Key}
 use Rattle.request_frames.specs.declared.Refusal.TheVariants.{Open as IsOpen}
-use Rattle.file_session.specs.Files.{NumberedFile, Files, file_at, with_file, schema_of, is_open, is_free}
-use Rattle.file_session.specs.Files.{is_named, order_after}
+use Rattle.file_session.specs.Files.{NumberedFile, Files, file_of_number, with_file, schema_of_file}
+use Rattle.file_session.specs.Files.{is_open_file, is_free_number}
+use Rattle.file_session.specs.Files.{is_named_file, order_after}
 
 -- why a call was refused, if it was
 abbrev pub refusal_in : {X : Type 0} → Result X Refusal → Option Refusal
@@ -40,17 +41,18 @@ pub record CanBeFile (d : Described) : Type 0 where
 
 -- the number is free, a file can be so, and no file of the session has the name
 pub record CanBeDescribed {S : Type 0} (files : Files S) (d : Described) : Type 0 where
-  pub free : IsTrue (is_free files d.file)
+  pub free : IsTrue (is_free_number files d.file)
   pub file : CanBeFile d
-  pub name : IsFalse (is_named files d.name)
+  pub name : IsFalse (is_named_file files d.name)
 
 -- why a description is refused: the first that is amiss; but want of memory may refuse any
 abbrev pub RefusesDescription : {S : Type 0} → Files S → Described → Refusal → Type 0
 RefusesDescription files d NoRequest = ⊥
 RefusesDescription files d TooLong = ⊥
-RefusesDescription files d Number = IsFalse (is_free files d.file)
-RefusesDescription files d Description = IsTrue (is_free files d.file) × (CanBeFile d → ⊥)
-RefusesDescription files d Name = IsTrue (is_free files d.file) × CanBeFile d × IsTrue (is_named files d.name)
+RefusesDescription files d Number = IsFalse (is_free_number files d.file)
+RefusesDescription files d Description = IsTrue (is_free_number files d.file) × (CanBeFile d → ⊥)
+RefusesDescription files d Name = IsTrue (is_free_number files d.file) × CanBeFile d
+    × IsTrue (is_named_file files d.name)
 RefusesDescription files d IsOpen = ⊥
 RefusesDescription files d Memory = CanBeDescribed files d
 RefusesDescription files d Key = ⊥
@@ -106,12 +108,12 @@ is_of_keys schema Delete = true
 abbrev pub refusal_by : {S : Type 0} → Option (NumberedFile S) → Performed → Option Refusal
 refusal_by None p = Some Number
 refusal_by (Some file) p =
-    if not (is_of_keys (schema_of file) p.statement) then Some Key
+    if not (is_of_keys (schema_of_file file) p.statement) then Some Key
     else if nat_lt (length file.memory.area) (length p.bytes) then Some NoRequest
     else None
 
 abbrev pub refusal_of_verb : {S : Type 0} → Files S → Performed → Option Refusal
-refusal_of_verb files p = refusal_by (file_at files p.file) p
+refusal_of_verb files p = refusal_by (file_of_number files p.file) p
 
 -- these bytes are put into the beginning of the record area, and the rest stays
 abbrev pub with_bytes : {S : Type 0} → List ℕ → FileInMemory S → FileInMemory S
@@ -136,21 +138,21 @@ pub record PerformsAt {S : Type 0} (shown : Shown S) (p : Performed) (old : Opti
 
 -- the file of the number has performed the statement, with the bytes put into its area. Every other
 -- number has the file that it had
-pub record Performs {S : Type 0} (shown : Shown S) (p : Performed) (old : Files S) (answer : Answer)
+pub record PerformsRequest {S : Type 0} (shown : Shown S) (p : Performed) (old : Files S) (answer : Answer)
     (new : Files S) : Type 0 where
   pub before : NumberedFile S
   pub after : NumberedFile S
-  pub file : file_at old p.file ≡ Some before
+  pub file : file_of_number old p.file ≡ Some before
   pub name : after.name ≡ before.name
   pub performed : IsPerformed shown 0 p.statement p.length
       (with_bytes p.bytes before.memory) answer after.memory
   pub places : new.places ≡ (with_file old p.file (Some after)).places
-  pub opened : new.opened ≡ order_after p.file (is_open after) old.opened
+  pub opened : new.opened ≡ order_after p.file (is_open_file after) old.opened
 
 -- a verb was performed, or refused, and then nothing was changed
 pub record PerformsOrRefuses {S : Type 0} (shown : Shown S) (p : Performed) (old new : Files S)
     (result : Result Answer Refusal) : Type 0 where
-  pub performed : IfOk result (λ answer. Performs shown p old answer new)
+  pub performed : IfOk result (λ answer. PerformsRequest shown p old answer new)
   pub refused : refusal_in result ≡ refusal_of_verb old p
   pub err : OnErr result (new ≡ old)
 
@@ -162,30 +164,30 @@ pub record ShowsRecord (bytes shown : List ℕ) : Type 0 where
 -- the record that an answer has delivered into the area of a file: no bytes where it delivered none
 abbrev pub record_by : {S : Type 0} → Option (NumberedFile S) → Option ℕ → List ℕ
 record_by None length = []
-record_by (Some file) length = unwrap_or (record_in file.memory.area length) []
+record_by (Some file) length = unwrap_or (record_delivered file.memory.area length) []
 
 -- ---- a file is given up
 
 abbrev pub refusal_of_file : {S : Type 0} → Option (NumberedFile S) → Option Refusal
 refusal_of_file None = Some Number
-refusal_of_file (Some file) = if is_open file then Some IsOpen else None
+refusal_of_file (Some file) = if is_open_file file then Some IsOpen else None
 
 abbrev pub refusal_of_release : {S : Type 0} → Files S → ℕ → Option Refusal
-refusal_of_release files number = refusal_of_file (file_at files number)
+refusal_of_release files number = refusal_of_file (file_of_number files number)
 
 -- the place is empty, and its library given back
 pub record ReleasesAt {S : Type 0} (old : Option (NumberedFile S)) (library : S)
     (new : Option (NumberedFile S)) : Type 0 where
   pub file : NumberedFile S
   pub was : old ≡ Some file
-  pub closed : is_open file ≡ false
+  pub closed : is_open_file file ≡ false
   pub given : library ≡ file.memory.library
   pub is : new ≡ None
 
 -- the number is free, and its library given back
 pub record Releases {S : Type 0} (number : ℕ) (old : Files S) (library : S) (new : Files S) : Type 0 where
   pub file : NumberedFile S
-  pub was : file_at old number ≡ Some file
+  pub was : file_of_number old number ≡ Some file
   pub given : library ≡ file.memory.library
   pub files : new ≡ with_file old number None
 
@@ -198,18 +200,18 @@ pub record ReleasesOrRefuses {S : Type 0} (number : ℕ) (old new : Files S)
 
 -- ---- the file that was opened first is closed
 
-abbrev pub close_of : ℕ → Performed
-close_of number = record { file = number; statement = Close false; length = 0; bytes = [] }
+abbrev pub close_request : ℕ → Performed
+close_request number = record { file = number; statement = Close false; length = 0; bytes = [] }
 
 -- the file of a place has performed CLOSE
-pub record ClosesAt {S : Type 0} (shown : Shown S) (old : Option (NumberedFile S)) (status : Status)
+pub record ClosesPlace {S : Type 0} (shown : Shown S) (old : Option (NumberedFile S)) (status : Status)
     (new : Option (NumberedFile S)) : Type 0 where
   pub before : NumberedFile S
   pub after : NumberedFile S
   pub was : old ≡ Some before
   pub is : new ≡ Some after
   pub name : after.name ≡ before.name
-  pub closed : is_open after ≡ false
+  pub closed : is_open_file after ≡ false
   pub performed : IsPerformed shown 0 (Close false) 0 (with_bytes [] before.memory)
       (silent status) after.memory
 
@@ -219,5 +221,5 @@ pub record ClosesFirst {S : Type 0} (shown : Shown S) (old : Files S) (status : 
   pub first : ℕ
   pub rest : List ℕ
   pub was : old.opened ≡ first ∷ rest
-  pub closed : Performs shown (close_of first) old (silent status) new
+  pub closed : PerformsRequest shown (close_request first) old (silent status) new
   pub opened : new.opened ≡ rest

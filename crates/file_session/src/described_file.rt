@@ -2,10 +2,10 @@
 ghost use Rattle.std.specs.Prelude.{◌≡◌, ◌≤◌, ◌++◌, drop, length as count_of, true, false, not, nat_lt};
 ghost use Rattle.std.specs.Prelude.{bytes_eq, unwrap_or, [], None};
 ghost use Rattle.io_state.specs.declared.statement.FileStatement.TheVariants.{Close};
-ghost use Rattle.verbs.specs.Held.{record_in, silent};
+ghost use Rattle.verbs.specs.Held.{record_delivered, silent};
 ghost use Rattle.verbs.specs.Fits.{Fits};
 ghost use Rattle.verbs.specs.Performed.{in_memory};
-ghost use Rattle.file_session.specs.Files.{NumberedFile, schema_of, is_open};
+ghost use Rattle.file_session.specs.Files.{NumberedFile, schema_of_file, is_open_file};
 ghost use Rattle.file_session.specs.Steps.{is_of_keys, PerformsWith, ShowsRecord};
 
 use indexed_file::Library;
@@ -78,14 +78,14 @@ impl<L: Library + Drop> DescribedFile<L> {
 
     /// Whether it is open.
     pub fn is_open(&self) -> bool
-        ensures { result ≡ is_open self.now }
+        ensures { result ≡ is_open_file self.now }
     {
         self.connector.is_open()
     }
 
     /// Whether the key of a READ or START is one of the file.
     pub fn has_key(&self, statement: &FileStatement) -> bool
-        ensures { result ≡ is_of_keys (schema_of self.now) statement.now }
+        ensures { result ≡ is_of_keys (schema_of_file self.now) statement.now }
     {
         match *statement {
             FileStatement::Read { key } => usize::from(key) < self.key_count,
@@ -103,7 +103,7 @@ impl<L: Library + Drop> DescribedFile<L> {
 
     /// Puts the bytes into the beginning of the record area, and performs a statement.
     pub fn perform(&mut self, statement: &FileStatement, length: u16, bytes: &[u8]) -> Answer
-        requires key { is_of_keys (schema_of self.old) statement.now ≡ true }
+        requires key { is_of_keys (schema_of_file self.old) statement.now ≡ true }
         requires room { count_of bytes.now ≤ count_of self.old.memory.area }
         ensures { PerformsWith L.shown statement.now «length» bytes.now self.old result self.new }
     {
@@ -115,14 +115,14 @@ impl<L: Library + Drop> DescribedFile<L> {
     /// Performs CLOSE.
     pub fn close(&mut self) -> Status
         ensures closes { PerformsWith L.shown (Close false) 0 [] self.old (silent result) self.new }
-        ensures closed { is_open self.new ≡ false }
+        ensures closed { is_open_file self.new ≡ false }
     {
         self.connector.close(&mut self.library, 0, false)
     }
 
     /// The record that an answer has delivered into the area, of no bytes where it delivered none.
     pub fn record(&self, length: Option<u16>) -> &[u8]
-        ensures { ShowsRecord (unwrap_or (record_in self.now.memory.area «length») []) result.now }
+        ensures { ShowsRecord (unwrap_or (record_delivered self.now.memory.area «length») []) result.now }
     {
         match length {
             Some(length) => &self.area[..usize::from(length).min(self.area.len())],

@@ -1,7 +1,7 @@
 //! Files are described, and given up.
 ghost use Rattle.std.specs.Prelude.{◌≡◌, OnOk, IfOk, IfSome, IfErr, OnErr, replicate, length as count_of};
 ghost use Rattle.request_frames.specs.Request.{described_of};
-ghost use Rattle.file_session.specs.Files.{is_free, is_named};
+ghost use Rattle.file_session.specs.Files.{is_free_number, is_named_file};
 ghost use Rattle.file_session.specs.Steps.{Describes, RefusesDescription, ReleasesOrRefuses};
 ghost use Rattle.file_session.specs.Steps.{schema_described, IsDescribedOver};
 
@@ -47,14 +47,14 @@ fn described_file<L: Library + Drop>(
 impl<L: Library + Drop> Session<L> {
     /// Whether the number is one of a session, and of no file.
     fn is_free(&self, number: u8) -> bool
-        ensures { result ≡ is_free self.now number }
+        ensures { result ≡ is_free_number self.now number }
     {
         self.has_place(number) && self.files[usize::from(number)].is_none()
     }
 
     /// Whether a file has the name.
     fn is_named(&self, name: &[u8]) -> bool
-        ensures { result ≡ is_named self.now name.now }
+        ensures { result ≡ is_named_file self.now name.now }
     {
         self.files.iter().any(|place| place::has_name(place, name))
     }

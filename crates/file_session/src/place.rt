@@ -1,8 +1,8 @@
 //! The place of a number: its file, or none where the number is free.
 ghost use Rattle.std.specs.Prelude.{◌≡◌, None, Some, IfOk, IfSome, OnErr};
 ghost use Rattle.request_frames.specs.Request.{performed_of};
-ghost use Rattle.file_session.specs.Files.{is_open_in, has_name};
-ghost use Rattle.file_session.specs.Steps.{PerformsAt, ClosesAt, ReleasesAt, refusal_in, refusal_by};
+ghost use Rattle.file_session.specs.Files.{is_open_in, has_file_name};
+ghost use Rattle.file_session.specs.Steps.{PerformsAt, ClosesPlace, ReleasesAt, refusal_in, refusal_by};
 ghost use Rattle.file_session.specs.Steps.{refusal_of_file, record_by, ShowsRecord};
 
 use crate::described_file::DescribedFile;
@@ -23,7 +23,7 @@ pub fn is_open<L: Library + Drop>(place: &Option<DescribedFile<L>>) -> bool
 
 /// Whether a file is there that has the name.
 pub fn has_name<L: Library + Drop>(place: &Option<DescribedFile<L>>, name: &[u8]) -> bool
-    ensures { result ≡ has_name name.now place.now }
+    ensures { result ≡ has_file_name name.now place.now }
 {
     match place {
         Some(file) => file.has_name(name),
@@ -76,7 +76,7 @@ pub fn perform<L: Library + Drop>(
 
 /// Closes the file.
 pub fn close<L: Library + Drop>(place: &mut Option<DescribedFile<L>>) -> Option<Status>
-    ensures closed { IfSome result (λ status. ClosesAt L.shown place.old status place.new) }
+    ensures closed { IfSome result (λ status. ClosesPlace L.shown place.old status place.new) }
     ensures none { result ≡ None → (place.old ≡ None) × (place.new ≡ place.old) }
 {
     match place {

@@ -1,6 +1,6 @@
 //! The files of a session.
 ghost use Rattle.std.specs.Prelude.{◌≡◌, ◌≤◌, nat_lt, false, None, length, IfOk};
-ghost use Rattle.file_session.specs.Files.{AreFiles, no_files, file_at};
+ghost use Rattle.file_session.specs.Files.{AreNumberedFiles, no_numbered_files, file_of_number};
 ghost use Rattle.file_session.specs.Steps.{record_by, ShowsRecord};
 
 use crate::described_file::DescribedFile;
@@ -22,19 +22,20 @@ pub struct Session<L: Library + Drop> {
 }
 
 impl<L: Library + Drop> Model for Session<L> {
-    ghost use Rattle.file_session.specs.Files.{Files, AreFiles};
+    ghost use Rattle.file_session.specs.Files.{Files, AreNumberedFiles};
 
     ghost Value = { Files L };
 
     ghost view = { λ session. record { places = session.files.items; opened = session.order } };
 
-    ghost invariant = { λ session. AreFiles (record { places = session.files.items; opened = session.order }) };
+    ghost invariant = { λ session. AreNumberedFiles
+        (record { places = session.files.items; opened = session.order }) };
 }
 
 impl<L: Library + Drop> Session<L> {
     /// A session in which no file is described.
     pub fn new(alloc: Global) -> Result<Session<L>, AllocError>
-        ensures { IfOk result (λ session. session ≡ no_files) }
+        ensures { IfOk result (λ session. session ≡ no_numbered_files) }
     {
         let mut files = Vec::new(alloc);
         for _ in 0..NUMBER_LIMIT {
@@ -50,7 +51,7 @@ impl<L: Library + Drop> Session<L> {
     /// Whether a file can have the number.
     pub(crate) fn has_place(&self, number: u8) -> bool
         ensures within { result ≡ nat_lt number 64 }
-        ensures none { result ≡ false → file_at self.now number ≡ None }
+        ensures none { result ≡ false → file_of_number self.now number ≡ None }
     {
         usize::from(number) < self.files.len()
     }
@@ -59,14 +60,14 @@ impl<L: Library + Drop> Session<L> {
     pub fn open_count(&self) -> usize
         ensures count { result ≡ length self.now.opened }
         ensures limit { result ≤ 64 }
-        ensures files { AreFiles self.now }
+        ensures files { AreNumberedFiles self.now }
     {
         self.order.count()
     }
 
     /// The record that an answer has delivered into the area of a file, of no bytes where it delivered none.
     pub fn record(&self, number: u8, length: Option<u16>) -> &[u8]
-        ensures { ShowsRecord (record_by (file_at self.now number) «length») result.now }
+        ensures { ShowsRecord (record_by (file_of_number self.now number) «length») result.now }
     {
         if !self.has_place(number) {
             return &[];

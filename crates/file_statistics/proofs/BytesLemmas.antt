@@ -2,7 +2,7 @@
 use Rattle.std.proofs.Common.{◌≡◌, ℕ, zero, suc, ◌+◌, ◌*◌, ◌/◌, ◌<◌, ◌≤◌, nat_lt, List, [], length, take, drop, slice_index_or, Option, Some, None, IsSome, refl, ap, sym, ◌∙◌, arith, subst, inl, inr, Result, Ok, Err, IfOk}
 use Rattle.std.proofs.lemmas.Bool.{cases_Bool, ltb-false}
 use Rattle.std.specs.Simd.{first_chunks}
-use Rattle.page_store.specs.Pages.{page_of}
+use Rattle.page_store.specs.Pages.{page_of_bytes}
 use Rattle.page_alloc.specs.Chain.{chain}
 use Rattle.page_alloc.proofs.ChainLemmas.{in_use}
 use Rattle.file_header.specs.declared.header.Header.{Header}
@@ -17,12 +17,12 @@ use Rattle.indexed_file.specs.File.{File}
 use Rattle.open_file.specs.declared.open_file.OpenFile.{OpenFile}
 use Rattle.file_statistics.specs.declared.statistics.FileStatistics.{FileStatistics}
 use Rattle.file_statistics.specs.Statistics.{live_by, StandBy, HasFile, HasStatistics}
-use Rattle.file_statistics.specs.Lines.{text_of}
+use Rattle.file_statistics.specs.Lines.{statistics_text}
 use Rattle.file_statistics.specs.Listing.{IsTextFor}
 use Rattle.std.proofs.lemmas.List.{drop-drop}
 use Rattle.file_statistics.proofs.FileLemmas.{page_within}
 
-pub chunk_at : (bytes : List ℕ) (count n : ℕ) → n < count → slice_index_or (first_chunks 4096 count bytes) n [] ≡ page_of bytes n
+pub chunk_at : (bytes : List ℕ) (count n : ℕ) → n < count → slice_index_or (first_chunks 4096 count bytes) n [] ≡ page_of_bytes bytes n
 chunk_at bytes zero n inside = absurd (omega arith)
 chunk_at bytes (suc count) zero inside = refl
 chunk_at bytes (suc count) (suc n) inside =
@@ -48,7 +48,7 @@ are_long bytes header looks = elim (cases_Bool (nat_lt (length bytes) 4096)) [
   | inl short ↦ let h = rw short at looks in absurd (cc)
   | inr whole ↦ record {
     first = omega (arith, ltb-false (length bytes) 4096 whole);
-    counted = by_header bytes (header_in (page_of bytes 0)) header (rw whole at looks);
+    counted = by_header bytes (header_in (page_of_bytes bytes 0)) header (rw whole at looks);
   }
 ]
 
@@ -57,11 +57,11 @@ pub live_shown : (bytes : List ℕ) (header : Header) (list : List (List ℕ)) (
     → AreShown (live_in header bytes) list
 live_shown bytes header list count is many enough n page there =
     let live : IsSome (live_in header bytes n) = rw there refl in
-    let found = in_use (page_of bytes) header.pages n (chain (page_of bytes) header.pages header.first_free header.free) live in
+    let found = in_use (page_of_bytes bytes) header.pages n (chain (page_of_bytes bytes) header.pages header.first_free header.free) live in
     let within = page_within header.pages n found.2 in
     let low = within.1 in
-    let same : Some (page_of bytes n) ≡ Some page = sym (rw (found.1, found.2, found.3) refl) ∙ there in
-    (omega (arith, many, enough, low), ap (λ (l : List (List ℕ)). slice_index_or l n []) is ∙ chunk_at bytes count n (omega (arith, enough, low)) ∙ (let e : page_of bytes n ≡ page = cc in e))
+    let same : Some (page_of_bytes bytes n) ≡ Some page = sym (rw (found.1, found.2, found.3) refl) ∙ there in
+    (omega (arith, many, enough, low), ap (λ (l : List (List ℕ)). slice_index_or l n []) is ∙ chunk_at bytes count n (omega (arith, enough, low)) ∙ (let e : page_of_bytes bytes n ≡ page = cc in e))
 
 pub if_ok : {X E : Type 0} (P Q : X → Type 0) (r : Result X E) → ((x : X) → P x → Q x) → IfOk r P → IfOk r Q
 if_ok P Q (Ok x) f h = f x h
@@ -82,23 +82,23 @@ module _ (bytes : List ℕ) (records pages : ℕ) (sound : IsSound bytes records
   same =
       let l = long.first in
       let some : 1 ≤ length bytes / 4096 = (le-div_iff_mul-le {k = 4096} {x = 1} {y = length bytes} (omega arith)).1 (omega (arith, l)) in
-      let page : slice_index_or list 0 [] ≡ page_of bytes 0 = ap (λ (l : List (List ℕ)). slice_index_or l 0 []) is ∙ chunk_at bytes count 0 (omega (arith, some, counted)) in
+      let page : slice_index_or list 0 [] ≡ page_of_bytes bytes 0 = ap (λ (l : List (List ℕ)). slice_index_or l 0 []) is ∙ chunk_at bytes count 0 (omega (arith, some, counted)) in
       let both : Some sound.header ≡ Some header = sym (accepted_page bytes sound.header sound.accepted) ∙ sym (ap header_in page) ∙ sym first in
       cc
 
-  standing : StandBy (page_of bytes) sound.header sound.stands.opened sound.file
+  standing : StandBy (page_of_bytes bytes) sound.header sound.stands.opened sound.file
   standing = record { by_header = sound.stands.by_header; stands = sound.stands.stands; sound = sound.stands.sound }
 
-  shown : AreShown (live_by (page_of bytes) sound.header) list
+  shown : AreShown (live_by (page_of_bytes bytes) sound.header) list
   shown = live_shown bytes sound.header list count is many enough
 
   pub has_file : HasFile header list
   has_file = subst (λ (h : Header). HasFile h list) same
-      (record { page = page_of bytes; opened = sound.stands.opened; file = sound.file; standing = standing; shown = shown })
+      (record { page = page_of_bytes bytes; opened = sound.stands.opened; file = sound.file; standing = standing; shown = shown })
 
   pub text_for : (counts : FileStatistics) (text : List ℕ)
       → ((page : ℕ → List ℕ) (opened : OpenFile) (file : File) → StandBy page header opened file → AreShown (live_by page header) list → HasStatistics page header file counts)
-      → text ≡ text_of counts → IsTextFor bytes text
+      → text ≡ statistics_text counts → IsTextFor bytes text
   text_for counts text told text_is =
       let back = subst (λ (h : Header). (page : ℕ → List ℕ) (opened : OpenFile) (file : File) → StandBy page h opened file → AreShown (live_by page h) list → HasStatistics page h file counts)
       (sym same) told in
@@ -107,6 +107,6 @@ module _ (bytes : List ℕ) (records pages : ℕ) (sound : IsSound bytes records
         file = sound.file;
         closed = record { header = sound.header; accepted = sound.accepted; schema_is = refl; stands = sound.stands };
         counts = counts;
-        counted = back (page_of bytes) sound.stands.opened sound.file standing shown;
+        counted = back (page_of_bytes bytes) sound.stands.opened sound.file standing shown;
         text_is = text_is;
       }

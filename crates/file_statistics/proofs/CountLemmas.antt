@@ -7,7 +7,7 @@ use Rattle.tree_search.specs.Tree.{TreeOf}
 use Rattle.bplus_tree.specs.declared.tree.Tree.{Tree}
 use Rattle.bplus_tree.specs.Standing.{TreeStands}
 use Rattle.page_counts.specs.declared.level.TreeCounts.{TreeCounts}
-use Rattle.page_counts.specs.Rows.{IsLeafIn, entries_in}
+use Rattle.page_counts.specs.Rows.{IsLeafIn, entries_in_row}
 use Rattle.page_counts.specs.Levels.{IsTreeIn, AreShown, AreCounts, LevelsHaveAllPages}
 use Rattle.page_counts.specs.Levels.{levels_of, all_pages}
 use Rattle.page_counts.specs.Runs.{values_of, AreTogether, IsGreatestCount, TreesKeepTogether}
@@ -58,7 +58,7 @@ module _ (tree : Tree) (list : List (List ℕ)) (known : HasTreeStanding tree li
   leaves_are = known_are.leaves
 
   -- the entries of the leaves can be counted
-  pub few_entries : length (entries_in tree.shape list counts.leaves.items) < 2 ^ 64
+  pub few_entries : length (entries_in_row tree.shape list counts.leaves.items) < 2 ^ 64
   few_entries =
       let same = ap length (known_are.entries ∙ known.stands.has) in
       let few = known.counted in
@@ -66,7 +66,7 @@ module _ (tree : Tree) (list : List (List ℕ)) (known : HasTreeStanding tree li
 
   -- and their values stand together
   pub values_together : (width : ℕ) → width ≤ tree.shape.width → TreesKeepTogether
-      → AreTogether (values_of width (entries_in tree.shape list counts.leaves.items))
+      → AreTogether (values_of width (entries_in_row tree.shape list counts.leaves.items))
   values_together width narrow law =
       let ordered = known.stands.whole.stands.ordered in
       subst (λ (es : List (List ℕ)). AreTogether (values_of width es)) (sym known_are.entries)
@@ -76,7 +76,7 @@ module _ (tree : Tree) (list : List (List ℕ)) (known : HasTreeStanding tree li
       (stands : TreeStands tree pages entries own) → AreShown pages list → LevelsHaveAllPages
       → (key : KeyStatistics) → key.levels.items ≡ counts.levels.items
       → key.pages ≡ all_pages counts.levels.items → key.entries ≡ tree.count
-      → IsGreatestCount (values_of width (entries_in tree.shape list counts.leaves.items)) key.longest
+      → IsGreatestCount (values_of width (entries_in_row tree.shape list counts.leaves.items)) key.longest
       → AreKeyCounts tree width pages entries own stands key
   key_counts width pages entries own stands shown law key levels many count longest =
       let here = are pages entries own stands shown in

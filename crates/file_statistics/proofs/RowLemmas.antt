@@ -11,10 +11,10 @@ use Rattle.indexed_file.specs.Rank.{row_cmp}
 use Rattle.record_heap.specs.Chain.{Slots}
 use Rattle.record_heap.specs.declared.shape.Place.{Place}
 use Rattle.key_index.specs.Stored.{prime_bytes, alt_bytes, IsPrimeEntry, IsAltEntry}
-use Rattle.open_file.specs.InOrder.{put, in_order, alt_entry, alt_entries, prime_entries}
+use Rattle.open_file.specs.InOrder.{put_row, in_order, alt_entry, alt_entries, prime_entries}
 use Rattle.open_file.specs.Stored.{AreAt}
 use Rattle.open_file.proofs.OrderLemmas.{either}
-use Rattle.page_counts.specs.Runs.{values_of, count_of, IsGreatestCount}
+use Rattle.page_counts.specs.Runs.{values_of, count_of_value, IsGreatestCount}
 use Rattle.page_counts.proofs.RunLemmas.{one_if, count_step}
 use Rattle.file_statistics.specs.Statistics.{values_in}
 
@@ -50,7 +50,7 @@ alt_values schema k width prime (row ∷ rows) each =
 module _ (schema : Schema) (k : ℕ) (value : List ℕ) where
   -- how many of these rows have the value
   abbrev count_in : List Row → ℕ
-  count_in rows = count_of value (values_in schema k rows)
+  count_in rows = count_of_value value (values_in schema k rows)
 
   abbrev one_of : Row → ℕ
   one_of row = one_if (bytes_eq value (value_of schema k row.bytes))
@@ -60,14 +60,14 @@ module _ (schema : Schema) (k : ℕ) (value : List ℕ) where
       count_step value (value_of schema k row.bytes) (values_in schema k rows)
 
   count_put : (row : Row) (rows : List Row)
-      → count_in (put schema k row rows) ≡ one_of row + count_in rows
+      → count_in (put_row schema k row rows) ≡ one_of row + count_in rows
   count_put row [] = count_first row []
   count_put row (next ∷ rows) =
-      let before = count_first next (put schema k row rows) in
+      let before = count_first next (put_row schema k row rows) in
       let after = count_first next rows in
       let rest = count_put row rows in
       either (is_lt (row_cmp schema k next row))
-      (count_in (put schema k row (next ∷ rows)) ≡ one_of row + count_in (next ∷ rows))
+      (count_in (put_row schema k row (next ∷ rows)) ≡ one_of row + count_in (next ∷ rows))
       (λ yes. rw yes (omega (arith, before, after, rest)))
       (λ no. rw no (count_first row (next ∷ rows)))
 

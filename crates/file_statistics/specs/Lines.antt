@@ -45,13 +45,13 @@ abbrev pub key_start : ℕ → KeyStatistics → List ℕ
 key_start k key =
     count_text (codes "key ") k ++ (count_text (codes " pages ") key.pages ++ key_entries key)
 
-abbrev pub key_text : ℕ → KeyStatistics → List ℕ
-key_text k key = key_start k key ++ level_lines key.levels.items
+abbrev pub key_statistics_text : ℕ → KeyStatistics → List ℕ
+key_statistics_text k key = key_start k key ++ level_lines key.levels.items
 
 -- the keys from key k on
 abbrev pub keys_text : ℕ → List KeyStatistics → List ℕ
 keys_text k [] = []
-keys_text k (key ∷ keys) = key_text k key ++ keys_text (k + 1) keys
+keys_text k (key ∷ keys) = key_statistics_text k key ++ keys_text (k + 1) keys
 
 abbrev pub other_pages : FileStatistics → List ℕ
 other_pages counts = count_text (codes ", keys ") counts.trees
@@ -72,5 +72,5 @@ slot_line counts =
     ++ (count_text (codes ", free ") (counts.slots - counts.records) ++ codes "\n"))
 
 -- all lines
-abbrev pub text_of : FileStatistics → List ℕ
-text_of counts = page_line counts ++ (slot_line counts ++ keys_text 0 counts.keys.items)
+abbrev pub statistics_text : FileStatistics → List ℕ
+statistics_text counts = page_line counts ++ (slot_line counts ++ keys_text 0 counts.keys.items)

@@ -3,14 +3,14 @@ use Rattle.std.specs.Prelude.{◌≡◌, ℕ, List, Option}
 use Rattle.std.specs.Io.KnownBytes.{Appends}
 use Rattle.record_layout.specs.Schema.{Schema}
 use Rattle.indexed_file.specs.File.{File}
-use Rattle.page_store.specs.Pages.{page_of}
+use Rattle.page_store.specs.Pages.{page_of_bytes}
 use Rattle.shelf_file.specs.Shelves.{AreClosed}
 use Rattle.file_checker.specs.Sound.{IsSound, IsRight}
 use Rattle.file_checker.specs.declared.verdict.Verdict.TheVariants.{Unsound as IsRefused}
 use Rattle.file_statistics.specs.declared.statistics.FileStatistics.{FileStatistics}
 use Rattle.file_statistics.specs.declared.listing.FileStatisticsEnd.{FileStatisticsEnd}
 use Rattle.file_statistics.specs.declared.listing.FileStatisticsEnd.TheVariants.{Listed, Unsound}
-use Rattle.file_statistics.specs.Lines.{text_of}
+use Rattle.file_statistics.specs.Lines.{statistics_text}
 use Rattle.file_statistics.specs.Statistics.{HasStatistics}
 
 -- the bytes stand for a file of a schema, and this text tells what is counted of it
@@ -19,8 +19,8 @@ pub record IsTextFor (bytes text : List ℕ) : Type 0 where
   pub file : File
   pub closed : AreClosed schema file bytes
   pub counts : FileStatistics
-  pub counted : HasStatistics (page_of bytes) closed.header file counts
-  pub text_is : text ≡ text_of counts
+  pub counted : HasStatistics (page_of_bytes bytes) closed.header file counts
+  pub text_is : text ≡ statistics_text counts
 
 -- such a text was written
 abbrev pub WritesText : List ℕ → (before behind : Option (List ℕ)) → Type 0
@@ -31,6 +31,7 @@ abbrev pub AreSound : List ℕ → Type 0
 AreSound bytes = (records : ℕ) × (pages : ℕ) × IsSound bytes records pages
 
 -- It ends so: the text of a sound file was written; or nothing was, since a check tells this reason.
-abbrev pub EndsWith : List ℕ → (before behind : Option (List ℕ)) → FileStatisticsEnd → Type 0
-EndsWith bytes before behind Listed = WritesText bytes before behind
-EndsWith bytes before behind (Unsound reason place) = IsRight bytes (IsRefused reason) × (behind ≡ before)
+abbrev pub EndsStatisticsWith : List ℕ → (before behind : Option (List ℕ)) → FileStatisticsEnd → Type 0
+EndsStatisticsWith bytes before behind Listed = WritesText bytes before behind
+EndsStatisticsWith bytes before behind (Unsound reason place) = IsRight bytes (IsRefused reason)
+    × (behind ≡ before)

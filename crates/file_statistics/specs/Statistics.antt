@@ -63,7 +63,8 @@ all_key_pages (key ∷ keys) = key.pages + all_key_pages keys
 
 -- what is counted of the trees of a file that stands: the prime key's, and those of the first
 -- alternate keys, so many
-pub record AreKeys (opened : OpenFile) (pages : PageMap) (file : File) (stands : Stands opened pages file)
+pub record AreKeyStatistics (opened : OpenFile) (pages : PageMap) (file : File)
+    (stands : Stands opened pages file)
     (count : ℕ) (keys : List KeyStatistics) : Type 0 where
   pub prime : (key : KeyStatistics) → key ≡ slice_index_or keys 0 key
       → AreKeyCounts opened.prime.tree opened.prime.width pages
@@ -93,7 +94,7 @@ pub record KeysCounted (opened : OpenFile) (list : List (List ℕ)) (count : ℕ
     (keys : List KeyStatistics) : Type 0 where
   pub many : length keys ≡ count + 1
   pub are : (pages : PageMap) (file : File) (stands : Stands opened pages file) → AreShown pages list
-      → AreKeys opened pages file stands count keys
+      → AreKeyStatistics opened pages file stands count keys
 
 -- the values of key k that these rows have
 abbrev pub values_in : Schema → ℕ → List Row → List (List ℕ)
@@ -112,7 +113,7 @@ pub record AreStatistics (header : Header) (opened : OpenFile) (pages : PageMap)
   pub slots_are : counts.slots ≡ counts.heap * room opened.heap.shape
   pub records_are : counts.records ≡ length file.rows
   pub many : length counts.keys.items ≡ length opened.schema.keys
-  pub keys : AreKeys opened pages file stands (length opened.alternates.items) counts.keys.items
+  pub keys : AreKeyStatistics opened pages file stands (length opened.alternates.items) counts.keys.items
   pub longest : (k : ℕ) (key : KeyStatistics) → k < length counts.keys.items
       → key ≡ slice_index_or counts.keys.items k key
       → IsGreatestCount (values_in opened.schema k file.rows) key.longest

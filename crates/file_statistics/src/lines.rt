@@ -2,9 +2,10 @@
 ghost use Rattle.std.specs.Prelude.{◌≡◌, ◌++◌, ◌+◌, ◌<◌, ◌≤◌, ◌^◌, length, replicate, decimal, OnOk, IfOk};
 ghost use Rattle.page_counts.specs.declared.level.Level.{Level};
 ghost use Rattle.file_statistics.specs.Lines.{bar_of, level_place, level_fill, level_line, level_lines};
-ghost use Rattle.file_statistics.specs.Lines.{key_entries, key_start, key_text, keys_text, number_behind};
+ghost use Rattle.file_statistics.specs.Lines.{key_entries, key_start, key_statistics_text, keys_text};
+ghost use Rattle.file_statistics.specs.Lines.{number_behind};
 ghost use Rattle.file_statistics.specs.Lines.{count_text, other_pages, kinds_text, page_line, slot_line};
-ghost use Rattle.file_statistics.specs.Lines.{text_of};
+ghost use Rattle.file_statistics.specs.Lines.{statistics_text};
 
 use crate::statistics::{FileStatistics, KeyStatistics};
 use itoa::Buffer;
@@ -110,7 +111,7 @@ fn add_key_start(lines: &mut Vec<u8>, k: u64, key: &KeyStatistics) -> Result<(),
 
 /// Adds the lines of key k.
 fn add_key(lines: &mut Vec<u8>, k: u64, key: &KeyStatistics) -> Result<(), AllocError>
-    ensures { OnOk result (lines.new.items ≡ lines.old.items ++ key_text k key.now) }
+    ensures { OnOk result (lines.new.items ≡ lines.old.items ++ key_statistics_text k key.now) }
 {
     add_key_start(lines, k, key)?;
     add_levels(lines, &key.levels)
@@ -169,7 +170,7 @@ fn add_slot_line(lines: &mut Vec<u8>, counts: &FileStatistics) -> Result<(), All
 
 /// The lines that tell what is counted of a file.
 pub fn statistics_lines(alloc: Global, counts: &FileStatistics) -> Result<Vec<u8>, AllocError>
-    ensures { IfOk result (λ lines. lines.items ≡ text_of counts.now) }
+    ensures { IfOk result (λ lines. lines.items ≡ statistics_text counts.now) }
 {
     let mut lines = Vec::new(alloc);
     add_page_line(&mut lines, counts)?;

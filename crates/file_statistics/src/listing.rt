@@ -1,6 +1,6 @@
 //! What is told of the bytes of a file.
 ghost use Rattle.std.specs.Prelude.{◌≡◌, ◌≢◌, IfOk, IfErr};
-ghost use Rattle.file_statistics.specs.Listing.{AreSound, IsTextFor, WritesText, EndsWith};
+ghost use Rattle.file_statistics.specs.Listing.{AreSound, IsTextFor, WritesText, EndsStatisticsWith};
 
 use crate::counting::count_file;
 use crate::lines::statistics_lines;
@@ -73,7 +73,7 @@ pub fn list_statistics<W: Write>(
     bytes: &[u8],
     out: &mut W,
 ) -> Result<FileStatisticsEnd, StatisticsFault>
-    ensures ends { IfOk result (EndsWith bytes.now (W.contents out.old) (W.contents out.new)) }
+    ensures ends { IfOk result (EndsStatisticsWith bytes.now (W.contents out.old) (W.contents out.new)) }
     ensures fault { IfErr result (λ fault. fault ≢ StatisticsFault.Output
         → W.contents out.new ≡ W.contents out.old) }
 {

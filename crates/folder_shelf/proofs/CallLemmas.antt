@@ -4,18 +4,18 @@ use Rattle.std.proofs.lemmas.Bool.{cases_Bool, and_parts, le-leb}
 use Rattle.std.proofs.Common.{eq-eqb}
 use Rattle.std.proofs.lemmas.Slice.Eq.{bytes_eq-Decides}
 use Rattle.page_store.specs.DeviceFile.{DeviceFile, IsWithin, IsThere, overlay, content, created, wrote}
-use Rattle.page_store.specs.Calls.{ReadsBytes, Created, CreateFails, Written, WriteFails, Synced, SyncFails}
+use Rattle.page_store.specs.Calls.{ReadsBytes, Created, CreateFails, WrittenAt, WriteFails, Synced, SyncFails}
 use Rattle.page_store.specs.ShelfState.{ShelfState, unit_file, ChangesOnly}
 use Rattle.page_store.proofs.TornLemmas.{part_torn}
 use Rattle.folder_shelf.specs.Events.{Event, folder_path, named, made, read, held, written, flushed, asked}
-use Rattle.folder_shelf.specs.Replay.{Unseen, replay, has, left_of, folder_state}
+use Rattle.folder_shelf.specs.Replay.{Unseen, replay, is_long_enough, left_by_write, folder_state}
 use Rattle.folder_shelf.specs.ReplayLaws.{length_left}
 
 pub on_err : {T E : Type 0} (r : Result T E) (P : Type 0) → P → OnErr r P
 on_err (Ok v) P p = tt
 on_err (Err e) P p = p
 
-all_left : (n : ℕ) (bytes torn : List ℕ) → (n == length bytes) ≡ true → left_of n bytes torn ≡ bytes
+all_left : (n : ℕ) (bytes torn : List ℕ) → (n == length bytes) ≡ true → left_by_write n bytes torn ≡ bytes
 all_left n bytes torn all = rw all refl
 
 -- a call on the file of a unit
@@ -73,7 +73,7 @@ module _ (disks : List ℕ → Unseen) (names : List (List ℕ)) (events : List 
       go : (d : Bool) → d ≡ true → IsTrue (new (read d at bytes)).is_honest → ReadsBytes f at bytes
       go true is h =
           let p = and_parts old.is_honest _ h in
-          let q = and_parts (has f (at + length bytes)) _ p.1 in
+          let q = and_parts (is_long_enough f (at + length bytes)) _ p.1 in
           record { is = (bytes_eq-Decides bytes (take (length bytes) (drop at (content f)))).0 q.1 }
       go false is h = absurd (cc)
 
@@ -85,26 +85,26 @@ module _ (disks : List ℕ → Unseen) (names : List (List ℕ)) (events : List 
   torn = disk.torn (asked (held true) name events)
 
   written_file : (at n : ℕ) (bytes : List ℕ) → unit_file (wrote_held at n bytes) unit
-      ≡ record { seen = Some (overlay (content f) at (left_of n bytes torn)); log = f.log ++ wrote at (length bytes) ∷ [] }
+      ≡ record { seen = Some (overlay (content f) at (left_by_write n bytes torn)); log = f.log ++ wrote at (length bytes) ∷ [] }
   written_file at n bytes = rw same refl
 
   pub written_all : (at n : ℕ) (bytes : List ℕ) (calls : List Event) → calls ≡ written at n bytes ∷ asked (held true) name events → n ≡ length bytes
-      → Written at bytes f (noted calls)
-  written_all at n bytes calls is all = subst (λ (c : List Event). Written at bytes f (noted c)) (sym is) (record {
+      → WrittenAt at bytes f (noted calls)
+  written_all at n bytes calls is all = subst (λ (c : List Event). WrittenAt at bytes f (noted c)) (sym is) (record {
     is = written_file at n bytes
         ∙ ap (λ (l : List ℕ). record { seen = Some (overlay (content f) at l); log = f.log ++ wrote at (length bytes) ∷ [] }) (all_left n bytes torn (eq-eqb n (length bytes) all));
   })
 
   pub written_any : (at n : ℕ) (bytes : List ℕ) (calls : List Event) → calls ≡ written at n bytes ∷ asked (held true) name events → WriteFails at (length bytes) f (noted calls)
   written_any at n bytes calls is =
-      let left = left_of n bytes torn in
+      let left = left_by_write n bytes torn in
       subst (λ (c : List Event). WriteFails at (length bytes) f (noted c)) (sym is)
       (inr (overlay (content f) at left, part_torn (content f) at bytes left (length_left n bytes torn), written_file at n bytes))
 
   pub written_only : (at n : ℕ) (bytes : List ℕ) → (IsTrue old.is_honest → IsWithin at f) → ChangesOnly unit old (wrote_held at n bytes)
   written_only at n bytes within = record { names = refl; others = λ m differs. rw (other m differs) refl; honest = both old.is_honest within }
     where
-      both : (honest : Bool) → (IsTrue honest → IsWithin at f) → (honest && (true && has f at)) ≡ honest
+      both : (honest : Bool) → (IsTrue honest → IsWithin at f) → (honest && (true && is_long_enough f at)) ≡ honest
       both true there = let w = there refl in rw (w.there, le-leb at (length (content f)) w.long) refl
       both false there = refl
 

@@ -3,11 +3,11 @@ use Rattle.std.proofs.Common.{◌≡◌, ◌<◌, ℕ, ◌==◌, Bool, true, Lis
 use Rattle.std.proofs.lemmas.Bool.{ne_eqb}
 use Rattle.std.proofs.lemmas.Grind.{common_steps}
 use Rattle.folder_shelf.specs.Events.{Event, in_folder, named, made, measured, read, held, written, flushed, looked}
-use Rattle.folder_shelf.specs.Replay.{Unseen, Folder, after, replay}
+use Rattle.folder_shelf.specs.Replay.{Unseen, Folder, after_event, replay}
 use Rattle.folder_shelf.specs.FolderLaws.{disk_so, folder_with, each_disk_goes_so, each_way_has_its_disk}
 
 -- of a disk a call meets what it does then, and nothing else
-one_step : (disk : Unseen) (earlier : List Event) (event : Event) (m : Folder) → after disk earlier event m ≡ after (disk_so m (disk.came earlier) (disk.torn earlier)) [] event m
+one_step : (disk : Unseen) (earlier : List Event) (event : Event) (m : Folder) → after_event disk earlier event m ≡ after_event (disk_so m (disk.came earlier) (disk.torn earlier)) [] event m
 one_step disk earlier (in_folder path) m = refl
 one_step disk earlier (named name) m = refl
 one_step disk earlier (made ok) m = refl
@@ -30,10 +30,10 @@ each_disk disk (event ∷ earlier) = (
 
 -- a call that meets the same leads to the same
 same_step : (disk : Unseen) (earlier : List Event) (event : Event) (m : Folder) (came : Bool) (torn : List ℕ) → disk.came earlier ≡ came → disk.torn earlier ≡ torn
-    → after disk earlier event m ≡ after (disk_so m came torn) [] event m
+    → after_event disk earlier event m ≡ after_event (disk_so m came torn) [] event m
 same_step disk earlier event m came torn is also =
-    one_step disk earlier event m ∙ ap (λ (c : Bool). after (disk_so m c (disk.torn earlier)) [] event m) is
-    ∙ ap (λ (t : List ℕ). after (disk_so m came t) [] event m) also
+    one_step disk earlier event m ∙ ap (λ (c : Bool). after_event (disk_so m c (disk.torn earlier)) [] event m) is
+    ∙ ap (λ (t : List ℕ). after_event (disk_so m came t) [] event m) also
 
 -- disks that do the same after so few calls
 abbrev Agree : ℕ → Unseen → Unseen → Type 0
@@ -45,7 +45,7 @@ same_replay one other (event ∷ earlier) first agree =
     let here = agree earlier (omega arith) in
     let rest = same_replay one other earlier first (λ calls few. agree calls (omega (arith, few))) in
     same_step one earlier event (replay one earlier) (other.came earlier) (other.torn earlier) here.0 here.1
-    ∙ sym (one_step other earlier event (replay one earlier)) ∙ ap (after other earlier event) rest
+    ∙ sym (one_step other earlier event (replay one earlier)) ∙ ap (after_event other earlier event) rest
 
 -- ---- a disk that does this after so many calls
 
@@ -75,6 +75,6 @@ each_way files (event ∷ earlier) folder way =
     (λ calls few. (before (length calls) (length earlier) step.came (rest.0.came calls) few, before (length calls) (length earlier) step.torn (rest.0.torn calls) few)) ∙ rest.2 in (
       disk,
       rest.1,
-      ap (after disk earlier event) still
+      ap (after_event disk earlier event) still
           ∙ same_step disk earlier event way.0 step.came step.torn (here (length earlier) step.came (rest.0.came earlier)) (here (length earlier) step.torn (rest.0.torn earlier)) ∙ sym step.is,
     )

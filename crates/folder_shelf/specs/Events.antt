@@ -52,19 +52,19 @@ abbrev pub file_path : List Event → List ℕ → List ℕ
 file_path calls name = folder_path calls ++ codes "/" ++ name
 
 -- what was asked for was not done, or not told
-abbrev pub is_failed : Event → Bool
-is_failed (in_folder path) = false
-is_failed (named name) = false
-is_failed (made done) = not done
-is_failed (measured size) = not (is_some size)
-is_failed (read done at bytes) = not done
-is_failed (held done) = not done
-is_failed (written at n bytes) = not (n == length bytes)
-is_failed (flushed done) = not done
-is_failed (looked found) = not (is_some found)
+abbrev pub is_failed_call : Event → Bool
+is_failed_call (in_folder path) = false
+is_failed_call (named name) = false
+is_failed_call (made done) = not done
+is_failed_call (measured size) = not (is_some size)
+is_failed_call (read done at bytes) = not done
+is_failed_call (held done) = not done
+is_failed_call (written at n bytes) = not (n == length bytes)
+is_failed_call (flushed done) = not done
+is_failed_call (looked found) = not (is_some found)
 
 -- how many calls failed, as far as 64 bits can count
 abbrev pub failed_calls : List Event → ℕ
 failed_calls [] = 0
-failed_calls (call ∷ earlier) = if is_failed call then min (failed_calls earlier + 1)
+failed_calls (call ∷ earlier) = if is_failed_call call then min (failed_calls earlier + 1)
     (2 ^ 64 - 1) else failed_calls earlier

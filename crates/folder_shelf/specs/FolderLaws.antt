@@ -3,7 +3,7 @@
 use Rattle.std.specs.Prelude.{◌≡◌, ℕ, Bool, true, false, List, [], ◌∷◌}
 use Rattle.page_store.specs.DeviceFile.{DeviceFile}
 use Rattle.folder_shelf.specs.Events.{Event}
-use Rattle.folder_shelf.specs.Replay.{Unseen, Folder, after, replay}
+use Rattle.folder_shelf.specs.Replay.{Unseen, Folder, after_event, replay}
 
 -- a disk on which a file that could not be made is there, or is not, and a write that failed leaves
 -- these bytes
@@ -14,7 +14,7 @@ disk_so folder came torn = record { first = folder.file; came = λ earlier. came
 pub record MayLeadTo (event : Event) (before next : Folder) : Type 0 where
   pub came : Bool
   pub torn : List ℕ
-  pub is : next ≡ after (disk_so before came torn) [] event before
+  pub is : next ≡ after_event (disk_so before came torn) [] event before
 
 -- a folder with these files, before the first call
 abbrev pub folder_with : (List ℕ → DeviceFile) → Folder

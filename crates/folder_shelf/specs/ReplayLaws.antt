@@ -11,42 +11,45 @@ use Rattle.page_store.proofs.FileLemmas.{some_bytes}
 use Rattle.page_store.proofs.MadeLemmas.{made_image}
 use Rattle.folder_shelf.specs.Events.{Event, in_folder, named, made, measured, read, held, written, flushed}
 use Rattle.folder_shelf.specs.Events.{looked}
-use Rattle.folder_shelf.specs.Replay.{Unseen, Folder, put, now, has, left_of, after, replay}
+use Rattle.folder_shelf.specs.Replay.{Unseen, Folder, put_file, now, is_long_enough, left_by_write}
+use Rattle.folder_shelf.specs.Replay.{after_event, replay}
 
 abbrev Sound : DeviceFile → Type 0
 Sound f = Leaves f f.seen
 
 put_sound : (files : List ℕ → DeviceFile) (name : List ℕ) (f : DeviceFile)
-    → ((other : List ℕ) → Sound (files other)) → Sound f → (other : List ℕ) → Sound (put files name f other)
+    → ((other : List ℕ) → Sound (files other)) → Sound f → (other : List ℕ)
+    → Sound (put_file files name f other)
 put_sound files name f all one other = elim (cases_Bool
     (bytes_eq other name)) [ inl e ↦ rw e one | inr e ↦ rw e (all other) ]
 
 there : (f : DeviceFile) → is_some f.seen ≡ true → Sound f → Leaves f (Some (content f))
 there f some sound = subst (λ (o : Option (List ℕ)). Leaves f o) (some_bytes f.seen some) sound
 
-pub length_left : (n : ℕ) (bytes torn : List ℕ) → length (left_of n bytes torn) ≤ length bytes
+pub length_left : (n : ℕ) (bytes torn : List ℕ) → length (left_by_write n bytes torn) ≤ length bytes
 length_left n bytes torn = elim (cases_Bool (n == length bytes)) [
   | inl e ↦ rw e
       (omega arith)
   | inr e ↦ rw e (omega (arith, length-take (length bytes) torn))
 ]
 
-written_sound : (f : DeviceFile) (at n : ℕ) (bytes torn : List ℕ) → has f at ≡ true → Sound f
+written_sound : (f : DeviceFile) (at n : ℕ) (bytes torn : List ℕ) → is_long_enough f at ≡ true → Sound f
     → Sound (record {
-      seen = Some (overlay (content f) at (left_of n bytes torn));
+      seen = Some (overlay (content f) at (left_by_write n bytes torn));
       log = f.log ++ wrote at (length bytes) ∷ [];
     })
 written_sound f at n bytes torn fits sound =
     let parts = and_parts (is_some f.seen) (nat_le at (length (content f))) fits in
     let low = leb-true at (length (content f)) parts.1 in
-    leaves_written f.log (content f) (overlay (content f) at (left_of n bytes torn)) at (length bytes) low
-    (part_torn (content f) at bytes (left_of n bytes torn) (length_left n bytes torn))
+    leaves_written f.log (content f) (overlay (content f) at (left_by_write n bytes torn)) at (length bytes)
+    low
+    (part_torn (content f) at bytes (left_by_write n bytes torn) (length_left n bytes torn))
     (there f parts.0 sound)
 
 module _ (disk : Unseen) (earlier : List Event) (m : Folder) (all : (name : List ℕ)
     → Sound (m.file name)) where
-  one_call : (e : Event) → IsTrue (after disk earlier e m).is_honest → (name : List ℕ)
-      → Sound ((after disk earlier e m).file name)
+  one_call : (e : Event) → IsTrue (after_event disk earlier e m).is_honest → (name : List ℕ)
+      → Sound ((after_event disk earlier e m).file name)
   one_call (in_folder path) h = all
   one_call (named name) h = all
   one_call (made ok) h =
@@ -57,8 +60,8 @@ module _ (disk : Unseen) (earlier : List Event) (m : Folder) (all : (name : List
   one_call (read ok at bytes) h = all
   one_call (held ok) h = all
   one_call (written at n bytes) h =
-      let p = and_parts m.is_honest (m.is_held && has (now m) at) h in
-      let q = and_parts m.is_held (has (now m) at) p.1 in
+      let p = and_parts m.is_honest (m.is_held && is_long_enough (now m) at) h in
+      let q = and_parts m.is_held (is_long_enough (now m) at) p.1 in
       put_sound m.file m.current _ all (written_sound (now m) at n bytes (disk.torn earlier) q.1
       (all m.current))
   one_call (flushed true) h = put_sound m.file m.current _ all (leaves_synced (now m).log (content (now m)))
@@ -67,7 +70,7 @@ module _ (disk : Unseen) (earlier : List Event) (m : Folder) (all : (name : List
   one_call (looked (Some there)) h = all
 
 was_honest : (disk : Unseen) (earlier : List Event) (m : Folder) (e : Event)
-    → IsTrue (after disk earlier e m).is_honest → IsTrue m.is_honest
+    → IsTrue (after_event disk earlier e m).is_honest → IsTrue m.is_honest
 was_honest disk earlier m (in_folder path) h = h
 was_honest disk earlier m (named name) h = h
 was_honest disk earlier m (made ok) h = (and_parts m.is_honest _ h).0

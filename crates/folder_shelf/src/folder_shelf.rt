@@ -54,7 +54,8 @@ where
 {
     ghost use Rattle.folder_shelf.specs.ReplayLaws.{replay_sound};
 
-    ghost state = { λ shelf. folder_state D.Disk.unseen (map (λ name. name.bytes) shelf.units.items) shelf.folder.calls.events };
+    ghost state = { λ shelf. folder_state D.Disk.unseen (map (λ name. name.bytes) shelf.units.items)
+        shelf.folder.calls.events };
 
     ghost fault_count = { λ shelf. shelf.faults };
 

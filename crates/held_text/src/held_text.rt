@@ -1,6 +1,6 @@
 //! The text that is on its way to a writer.
 ghost use Rattle.std.specs.Prelude.{◌≡◌, ◌<◌, ◌≤◌, [], ◌++◌, length, true, false, IfOk, OnOk, OnErr};
-ghost use Rattle.held_text.specs.Output.{AppendsFront, HandsHeldOver, Adds, Holds};
+ghost use Rattle.held_text.specs.Output.{AppendsFront, HandsHeldOver, AddsText, HoldsText};
 
 use crate::output::{Refused, write_text};
 use std::alloc::{AllocError, Global};
@@ -57,7 +57,7 @@ impl HeldText {
     /// first. A refusal is as for `hand_over`.
     pub fn add<W: Write>(&mut self, text: &[u8], out: &mut W) -> Result<(), Refused>
         requires { length text.now ≤ 65536 }
-        ensures added { OnOk result (Adds (W.contents out.old)
+        ensures added { OnOk result (AddsText (W.contents out.old)
             (W.contents out.new) self.old self.new text.now) }
         ensures refused { OnErr result (AppendsFront (W.contents out.old) (W.contents out.new) self.old) }
     {
@@ -71,7 +71,7 @@ impl HeldText {
     /// Holds one more piece of text, of any length. One that is longer than all that can be held is
     /// written at once, after what was held. A refusal leaves a proper front of both in the writer.
     pub fn hold<W: Write>(&mut self, text: &[u8], out: &mut W) -> Result<(), Refused>
-        ensures held { OnOk result (Holds (W.contents out.old)
+        ensures held { OnOk result (HoldsText (W.contents out.old)
             (W.contents out.new) self.old self.new text.now) }
         ensures refused { OnErr result (AppendsFront (W.contents out.old) (W.contents out.new)
             (self.old ++ text.now)) }

@@ -14,7 +14,8 @@ use Rattle.indexed_file.specs.declared.answer.Found.{Found}
 use Rattle.indexed_file.specs.declared.answer.Seen.{Seen}
 use Rattle.indexed_file.specs.Answers.{area_after, seen_of}
 use Rattle.indexed_file.specs.FileChange.{FileChange, has_room_for, LacksRoomFor}
-use Rattle.indexed_file.specs.UnitAnswers.{found_at, world_changed, row_by_key, row_next, row_sought, key_at}
+use Rattle.indexed_file.specs.UnitAnswers.{found_at, world_changed, row_by_key, row_next, row_sought}
+use Rattle.indexed_file.specs.UnitAnswers.{key_of_row_at}
 use Rattle.indexed_file.specs.UnitAnswers.{highest_at}
 use Rattle.indexed_file.specs.Room.{most_to_read, most_to_change, room_of_new}
 use Rattle.indexed_file.specs.Shown.{Shown}
@@ -173,7 +174,8 @@ module _ {S : Type 0} (shown : Shown S) where
     abbrev pub FindsValue : (k : ℕ) → Relation → (operand : List ℕ) → S → S
         → Result (Option (ArrayVec ℕ)) Fault → Type 0
     FindsValue k relation operand old new result = Believed shown u old new (IfOk result
-        (λ found. found ≡ key_at (shown.world old) u k (row_sought (shown.world old) u k relation operand)))
+        (λ found. found ≡ key_of_row_at (shown.world old) u k
+        (row_sought (shown.world old) u k relation operand)))
 
     abbrev pub FindsHighest : S → S → Result (Option (ArrayVec ℕ)) Fault → Type 0
     FindsHighest old new result = Believed shown u old new (IfOk result

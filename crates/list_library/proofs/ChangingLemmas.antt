@@ -13,7 +13,7 @@ use Rattle.indexed_file.specs.World.{FileUnit, World, Holding, Shut, Looked, Ope
 use Rattle.indexed_file.specs.Calls.{OnlyReads, LeavesBroken, MayAnswer}
 use Rattle.indexed_file.specs.UnitCalls.{ChangesUnit}
 use Rattle.list_library.specs.declared.library.ListLibrary.{ListLibrary}
-use Rattle.list_library.specs.ListWorld.{world_of, shown_in_memory}
+use Rattle.list_library.specs.ListWorld.{list_world_of, shown_in_memory}
 use Rattle.list_library.specs.Units.{named_among, unit_changed, ChangesHeld}
 use Rattle.indexed_file.proofs.TestLemmas.{either}
 use Rattle.list_library.proofs.KeptLemmas.{IsKept, change_keeps, unit_set, only_set}
@@ -30,27 +30,27 @@ broken_holds (Broken schema) broken = refl
 module _
     {X : Type 0} (change : Schema → FileChange X) (old new : ListLibrary) (u : ℕ) (before after : FileUnit) (result : Result X Fault)
     (within : u < length old.units.items) (read : before ≡ slice_index_or old.units.items u before)
-    (set : world_of new ≡ record { units = slice_set old.units.items u after; elsewhere = named_among old.others.items })
+    (set : list_world_of new ≡ record { units = slice_set old.units.items u after; elsewhere = named_among old.others.items })
     (opened : IsTrue (is_open before.holding))
     (full : (file : File) → LacksRoomFor Endless (change (schema_in before.holding)) file → IsTrue (change (schema_in before.holding)).takes_pages)
     (held : ChangesHeld (change (schema_in before.holding)) before after result) where
   abbrev start : World
-  start = world_of old
+  start = list_world_of old
 
   was : unit_at start u ≡ before
   was = unit_read old.units.items (named_among old.others.items) u before within read
 
-  is : unit_at (world_of new) u ≡ after
+  is : unit_at (list_world_of new) u ≡ after
   is = ap (λ (world : World). unit_at world u) set ∙ unit_set old.units.items (named_among old.others.items) u after within
 
   abbrev with_unit_set : FileUnit → World
   with_unit_set unit = record start { units = slice_set start.units u unit }
 
   -- where the unit stays, the world does
-  stays : after ≡ before → world_of new ≡ start
+  stays : after ≡ before → list_world_of new ≡ start
   stays same = set ∙ (ap with_unit_set (same ∙ sym was) ∙ same_world start u)
 
-  reads : after ≡ before → OnlyReads u true start (world_of new)
+  reads : after ≡ before → OnlyReads u true start (list_world_of new)
   reads same =
       subst (λ (world : World). OnlyReads u true start world) (sym (stays same))
       (record { only = sym (same_world start u); state = record { opened = refl; broken = refl }; schema = refl; same = λ honest. refl })
@@ -59,7 +59,7 @@ module _
   kept = change_keeps (change (schema_in before.holding)) result before after opened held
 
   faults : (r : Result X Fault) → ChangesHeld (change (schema_in before.holding)) before after r
-      → IfErr r (λ fault. fault ≢ Full → LeavesBroken u true start (world_of new) × MayAnswer shown_in_memory u old new fault)
+      → IfErr r (λ fault. fault ≢ Full → LeavesBroken u true start (list_world_of new) × MayAnswer shown_in_memory u old new fault)
   faults (Ok x) held = tt
   faults (Err Device) held = absurd held.fault
   faults (Err Memory) held = λ other. (record { holding = ap (λ (unit : FileUnit). unit.holding) (is ∙ held.fault.1) ∙ ap (λ (unit : FileUnit). Broken (schema_in unit.holding)) (sym was); named = λ honest. first_of (search rules, grind (arith, common_steps)) }, subst (λ (unit : FileUnit). IsFalse (is_broken unit.holding)) (sym was) held.fault.0)

@@ -6,7 +6,7 @@ use Rattle.io_state.specs.declared.fault.Fault.{Fault}
 use Rattle.io_state.specs.declared.fault.Fault.TheVariants.{Device, Memory, Full, Damage, Broken as BrokenUnit}
 use Rattle.indexed_file.specs.FileChange.{FileChange}
 use Rattle.indexed_file.specs.World.{FileUnit, World, Named, Absent, Shut, OnlyAt, unit_at, is_open, schema_in}
-use Rattle.list_library.specs.Units.{rows_in, unit_changed, ChangesHeld}
+use Rattle.list_library.specs.Units.{file_or_empty, unit_changed, ChangesHeld}
 use Rattle.indexed_file.proofs.TestLemmas.{either}
 use Rattle.list_library.proofs.UnitWorldLemmas.{unit_read}
 
@@ -21,7 +21,7 @@ kept_itself unit opened = record { name = refl; opened = opened; schema = refl }
 
 changed_keeps : {X : Type 0} (change : FileChange X) (unit : FileUnit) → IsTrue (is_open unit.holding) → IsKept unit (unit_changed change unit)
 changed_keeps change unit opened =
-    either (change.is_made (change.answer (rows_in unit.holding))) (IsKept unit (unit_changed change unit))
+    either (change.is_made (change.answer (file_or_empty unit.holding))) (IsKept unit (unit_changed change unit))
     (λ made. rw made (record { name = refl; opened = refl; schema = refl }))
     (λ none. rw none (kept_itself unit opened))
 

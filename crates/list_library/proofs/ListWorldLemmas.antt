@@ -1,14 +1,14 @@
 -- A library in memory shows files.
 use Rattle.std.proofs.Common.{ℕ, List, [], ◌∷◌, Option, Some, None, refl, arith}
 use Rattle.list_library.specs.declared.library.ListLibrary.{ListLibrary}
-use Rattle.list_library.specs.ListWorld.{world_of, shown_in_memory}
+use Rattle.list_library.specs.ListWorld.{list_world_of, shown_in_memory}
 use Rattle.indexed_file.specs.Calls.{Keeps}
 use Rattle.indexed_file.specs.Images.{Trace, Stays, AllStay, LibraryMayLeave, LeavesOnly, ImagesGo}
 use Rattle.indexed_file.specs.World.{Named}
 use Rattle.indexed_file.specs.SoundWorld.{ShowsFiles}
 use Rattle.list_library.proofs.ShownLemmas.{all_show_files}
 
-pub shows_all : (library : ListLibrary) (name : List ℕ) → ShowsFiles (world_of library) name
+pub shows_all : (library : ListLibrary) (name : List ℕ) → ShowsFiles (list_world_of library) name
 shows_all library name = all_show_files library.units.items library.others.items library.sound library.others_sound name
 
 -- whatever a call did

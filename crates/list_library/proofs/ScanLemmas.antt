@@ -5,7 +5,7 @@ use Rattle.std.specs.Prelude.{slice_get, is_some, IfSome}
 use Rattle.record_layout.specs.Schema.{Schema, prime_of}
 use Rattle.indexed_file.specs.File.{Row}
 use Rattle.indexed_file.specs.Rank.{lowest, lower_of, highest_of, greater_of}
-use Rattle.list_library.specs.Scans.{row_at}
+use Rattle.list_library.specs.Scans.{row_of_place}
 
 -- the rows from the i-th on
 pub from_row : (rows : List Row) (i : ℕ) (row : Row) → i < length rows → row ≡ slice_index_or rows i row → drop i rows ≡ row ∷ drop (i + 1) rows
@@ -26,7 +26,7 @@ pub scan_failed :
 scan_failed schema k test rows i row h e t = rw (from_row rows i row h e, ← t) refl
 
 -- the row at its place
-pub row_here : (rows : List Row) (i : ℕ) (row : Row) → i < length rows → row ≡ slice_index_or rows i row → row_at rows (Some i) ≡ Some row
+pub row_here : (rows : List Row) (i : ℕ) (row : Row) → i < length rows → row ≡ slice_index_or rows i row → row_of_place rows (Some i) ≡ Some row
 row_here rows i row h e = rw (slice_get-get_or rows i row h) (rw (← e) refl)
 
 -- the greatest prime value from the i-th row on
@@ -36,7 +36,7 @@ pub highest_from :
 highest_from schema rows i row h e = rw (from_row rows i row h e) refl
 
 -- there is a row at a place
-pub some_row : (rows : List Row) (place : Option ℕ) → IfSome place (λ i. i < length rows) → is_some (row_at rows place) ≡ is_some place
+pub some_row : (rows : List Row) (place : Option ℕ) → IfSome place (λ i. i < length rows) → is_some (row_of_place rows place) ≡ is_some place
 some_row rows None h = refl
 some_row rows (Some i) h = some_at rows i h
   where

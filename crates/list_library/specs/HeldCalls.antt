@@ -7,7 +7,7 @@ use Rattle.indexed_file.specs.Answers.{area_after}
 use Rattle.indexed_file.specs.World.{Holding, is_open, schema_in}
 use Rattle.indexed_file.specs.declared.answer.Found.{Found}
 use Rattle.list_library.specs.declared.wanted.Wanted.{Wanted}
-use Rattle.list_library.specs.Units.{rows_in, AnswersBroken}
+use Rattle.list_library.specs.Units.{file_or_empty, AnswersBroken}
 use Rattle.list_library.specs.Wanted.{first_wanted, found_wanted, key_wanted}
 
 -- a value of key k may be looked for in what the open unit holds
@@ -31,14 +31,14 @@ pub record MayPutInto (holding : Holding) (bytes : List ℕ) : Type 0 where
 -- the area stays where the unit is broken
 pub record FindsWanted (holding : Holding) (k : ℕ) (wanted : Wanted) (before after : List ℕ)
     (result : Result (Option Found) Fault) : Type 0 where
-  pub found : IfOk result (λ found. found ≡ found_wanted (schema_in holding) k wanted (rows_in holding))
+  pub found : IfOk result (λ found. found ≡ found_wanted (schema_in holding) k wanted (file_or_empty holding))
   pub area : OnOk result
-      (after ≡ area_after before (first_wanted (schema_in holding) k wanted (rows_in holding)))
+      (after ≡ area_after before (first_wanted (schema_in holding) k wanted (file_or_empty holding)))
   pub err : OnErr result (after ≡ before)
   pub fault : AnswersBroken holding result
 
 -- the full value of key k of that row is told
 pub record SeeksWanted (holding : Holding) (k : ℕ) (wanted : Wanted)
     (result : Result (Option (ArrayVec ℕ)) Fault) : Type 0 where
-  pub found : IfOk result (λ found. found ≡ key_wanted (schema_in holding) k wanted (rows_in holding))
+  pub found : IfOk result (λ found. found ≡ key_wanted (schema_in holding) k wanted (file_or_empty holding))
   pub fault : AnswersBroken holding result

@@ -7,16 +7,16 @@ use Rattle.indexed_file.specs.Room.{Endless}
 use Rattle.indexed_file.specs.Shown.{Shown}
 use Rattle.list_library.specs.Units.{named_among}
 
-abbrev pub world_of : ListLibrary → World
-world_of library = record { units = library.units.items; elsewhere = named_among library.others.items }
+abbrev pub list_world_of : ListLibrary → World
+list_world_of library = record { units = library.units.items; elsewhere = named_among library.others.items }
 
 -- it is always honest, and what it shows of a name is true where the name stands for a file; no
 -- device fails, its files have no limits and no pages, and a crash leaves nothing of them
 abbrev pub shown_in_memory : Shown ListLibrary
 shown_in_memory = record {
-  world = world_of;
+  world = list_world_of;
   is_honest = λ library. true;
-  IsShownTruly = λ library name. ShowsFiles (world_of library) name;
+  IsShownTruly = λ library name. ShowsFiles (list_world_of library) name;
   fault_count = λ library. 0;
   page_limit = λ library. None;
   frames = λ library. None;

@@ -17,20 +17,20 @@ use Rattle.indexed_file.specs.World.{Named, Absent, Closed, Unsound, Holding, Sh
 use Rattle.indexed_file.specs.World.{FileUnit, file_in, schema_in, is_broken}
 
 -- a name stands for its file, unless that was changed since
-abbrev pub named_by : Bool → Option Stored → Named
-named_by true file = Unsound
-named_by false None = Absent
-named_by false (Some file) = Closed file.schema file.file
+abbrev pub named_by_change : Bool → Option Stored → Named
+named_by_change true file = Unsound
+named_by_change false None = Absent
+named_by_change false (Some file) = Closed file.schema file.file
 
 -- what a unit in this state holds
-abbrev pub held_by : UnitState → Option Stored → Holding
-held_by IsShut file = Shut
-held_by IsLooked None = Shut
-held_by IsLooked (Some file) = Looked file.schema
-held_by IsOpened None = Shut
-held_by IsOpened (Some file) = Opened file.schema file.file
-held_by IsBroken None = Shut
-held_by IsBroken (Some file) = Broken file.schema
+abbrev pub holding_by_state : UnitState → Option Stored → Holding
+holding_by_state IsShut file = Shut
+holding_by_state IsLooked None = Shut
+holding_by_state IsLooked (Some file) = Looked file.schema
+holding_by_state IsOpened None = Shut
+holding_by_state IsOpened (Some file) = Opened file.schema file.file
+holding_by_state IsBroken None = Shut
+holding_by_state IsBroken (Some file) = Broken file.schema
 
 abbrev pub is_looked_state : UnitState → Bool
 is_looked_state IsShut = false
@@ -42,8 +42,8 @@ is_looked_state IsBroken = false
 abbrev pub unit_by : List ℕ → Option Stored → Bool → UnitState → FileUnit
 unit_by name file changed state = record {
   name = name;
-  named = named_by changed file;
-  holding = held_by state file;
+  named = named_by_change changed file;
+  holding = holding_by_state state file;
 }
 
 -- what a name stands for among these units
@@ -72,12 +72,12 @@ pub record TakesPlace (own : List ℕ) (now : FileUnit) (old new : List FileUnit
   pub sound : IsTrue (list_all is_sound_unit old) → IsTrue (list_all is_sound_unit new)
 
 -- the file that a unit holds, with no rows where there is none
-abbrev pub rows_in : Holding → File
-rows_in holding = unwrap_or (file_in holding) empty_file
+abbrev pub file_or_empty : Holding → File
+file_or_empty holding = unwrap_or (file_in holding) empty_file
 
 -- the greatest prime value of what a unit holds
 abbrev pub highest_in : Holding → Option (List ℕ)
-highest_in holding = highest_of (schema_in holding) (rows_in holding).rows
+highest_in holding = highest_of (schema_in holding) (file_or_empty holding).rows
 
 -- a broken unit answers so, and no other unit does
 pub record AnswersBroken {X : Type 0} (holding : Holding) (result : Result X Fault) : Type 0 where
@@ -91,13 +91,13 @@ with_rows unit file = record unit { named = Unsound; holding = Opened (schema_in
 -- the unit after a change of its file: where nothing was made it stays
 abbrev pub unit_changed : {X : Type 0} → FileChange X → FileUnit → FileUnit
 unit_changed change unit =
-    if change.is_made (change.answer (rows_in unit.holding)) then with_rows unit
-    (change.leaves (rows_in unit.holding)) else unit
+    if change.is_made (change.answer (file_or_empty unit.holding)) then with_rows unit
+    (change.leaves (file_or_empty unit.holding)) else unit
 
 -- the unit after it was closed
 abbrev pub unit_after_shut : FileUnit → FileUnit
 unit_after_shut unit = record unit {
-  named = Closed (schema_in unit.holding) (rows_in unit.holding);
+  named = Closed (schema_in unit.holding) (file_or_empty unit.holding);
   holding = Shut;
 }
 
@@ -114,8 +114,8 @@ FailsChange old new is_full Damage = ⊥
 -- this change was made of the file that the unit holds, or failed
 pub record ChangesHeld {X : Type 0} (change : FileChange X) (old new : FileUnit)
     (result : Result X Fault) : Type 0 where
-  pub answer : IfOk result (λ answer. answer ≡ change.answer (rows_in old.holding))
+  pub answer : IfOk result (λ answer. answer ≡ change.answer (file_or_empty old.holding))
   pub unit : OnOk result (new ≡ unit_changed change old)
-  pub room : OnOk result (IsTrue (has_room_for Endless change (rows_in old.holding)))
-  pub fault : IfErr result (FailsChange old new (LacksRoomFor Endless change (rows_in old.holding)))
+  pub room : OnOk result (IsTrue (has_room_for Endless change (file_or_empty old.holding)))
+  pub fault : IfErr result (FailsChange old new (LacksRoomFor Endless change (file_or_empty old.holding)))
   pub broken : IsTrue (is_broken old.holding) → result ≡ Err BrokenUnit

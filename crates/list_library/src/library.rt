@@ -29,12 +29,12 @@ impl ListLibrary {
     ghost use Rattle.std.specs.Prelude.{◌≡◌, ℕ, List, [], IsTrue};
     ghost use Rattle.indexed_file.specs.World.{Absent, named_in};
     ghost use Rattle.list_library.specs.declared.library.ListLibrary.{ListLibrary as InMemory};
-    ghost use Rattle.list_library.specs.ListWorld.{world_of, shown_in_memory};
+    ghost use Rattle.list_library.specs.ListWorld.{list_world_of, shown_in_memory};
 
     /// A library without files. Every library in memory is honest, and what it shows of every name is true.
     pub fn new(alloc: Global) -> Self
-        ensures units { (world_of result).units ≡ [] }
-        ensures named { (name : List ℕ) → named_in (world_of result) name ≡ Absent }
+        ensures units { (list_world_of result).units ≡ [] }
+        ensures named { (name : List ℕ) → named_in (list_world_of result) name ≡ Absent }
         ensures honest { (library : InMemory) → IsTrue (shown_in_memory.is_honest library) }
         ensures truly { (library : InMemory) (name : List ℕ) → shown_in_memory.IsShownTruly library name }
     {

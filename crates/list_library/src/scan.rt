@@ -1,7 +1,8 @@
 //! Scans of all rows.
 ghost use Rattle.std.specs.Prelude.{◌≡◌, ◌<◌, true, false, Some, Option, length, IfSome};
 ghost use Rattle.indexed_file.specs.Rank.{lower_of};
-ghost use Rattle.list_library.specs.Scans.{row_at, IsGreater, IsNotGreater, IsLowestPlace, IsHighestPlace};
+ghost use Rattle.list_library.specs.Scans.{row_of_place, IsGreater, IsNotGreater, IsLowestPlace};
+ghost use Rattle.list_library.specs.Scans.{IsHighestPlace};
 
 use crate::list_row::ListRow;
 use crate::wanted::{Wanted, comes_before, value};
@@ -10,9 +11,9 @@ use record_layout::Schema;
 /// Whether a row is lower, by key k, than the row of a place, or there is no place.
 fn is_lower(schema: &Schema, k: u8, row: &ListRow, rows: &[ListRow], best: Option<usize>) -> bool
     requires { IfSome best (λ i. i < length rows.now) }
-    ensures yes { result ≡ true → lower_of schema.now k row.now (row_at rows.now best) ≡ row.now }
-    ensures no { result ≡ false → Some (lower_of schema.now k row.now (row_at rows.now best))
-        ≡ row_at rows.now best }
+    ensures yes { result ≡ true → lower_of schema.now k row.now (row_of_place rows.now best) ≡ row.now }
+    ensures no { result ≡ false → Some (lower_of schema.now k row.now (row_of_place rows.now best))
+        ≡ row_of_place rows.now best }
 {
     match best {
         None => true,

@@ -4,7 +4,7 @@ use Rattle.std.specs.Prelude.{length, remove, slice_set, slice_index_or, Some, N
 use Rattle.tree_node.specs.declared.shape.Shape.{Shape}
 use Rattle.tree_node.specs.Leaf.{IsLeaf, leaf_entries, leaf_room, LeavesInOrder}
 use Rattle.tree_node.specs.Inner.{IsInner, separators, children, InnersInOrder}
-use Rattle.node_balance.specs.Fill.{least}
+use Rattle.node_balance.specs.Fill.{least_entries}
 
 -- the separator at this place left, and the child to its right
 pub record LosesSeparator (shape : Shape) (at : ℕ) (old new : List ℕ) : Type 0 where
@@ -57,10 +57,10 @@ pub record LeavesShared (shape : Shape) (left right left_now right_now key : Lis
   pub some : (1 ≤ length (leaf_entries shape left_now)) × (1 ≤ length (leaf_entries shape right_now))
   pub even : (length (leaf_entries shape left_now) ≤ length (leaf_entries shape right_now) + 1)
       × (length (leaf_entries shape right_now) ≤ length (leaf_entries shape left_now) + 1)
-  pub fill : least shape 0 ≤ length (leaf_entries shape left) + 1
-      → least shape 0 ≤ length (leaf_entries shape right) + 1
-      → (least shape 0 ≤ length (leaf_entries shape left_now))
-      × (least shape 0 ≤ length (leaf_entries shape right_now))
+  pub fill : least_entries shape 0 ≤ length (leaf_entries shape left) + 1
+      → least_entries shape 0 ≤ length (leaf_entries shape right) + 1
+      → (least_entries shape 0 ≤ length (leaf_entries shape left_now))
+      × (least_entries shape 0 ≤ length (leaf_entries shape right_now))
 
 -- the first node has the separators and children of both, and the separator that stood between them
 pub record InnersJoined (shape : Shape) (between left right left_now : List ℕ) : Type 0 where
@@ -76,10 +76,10 @@ pub record InnersShared (shape : Shape) (between left right left_now right_now k
       ++ between ∷ separators shape right
   pub below : children shape left_now ++ children shape right_now ≡ children shape left
       ++ children shape right
-  pub fill : least shape 1 ≤ length (separators shape left) + 1
-      → least shape 1 ≤ length (separators shape right) + 1
-      → (least shape 1 ≤ length (separators shape left_now))
-      × (least shape 1 ≤ length (separators shape right_now))
+  pub fill : least_entries shape 1 ≤ length (separators shape left) + 1
+      → least_entries shape 1 ≤ length (separators shape right) + 1
+      → (least_entries shape 1 ≤ length (separators shape left_now))
+      × (least_entries shape 1 ≤ length (separators shape right_now))
 
 -- a leaf has room for n entries of another one, which has them to give
 pub record CanTake (shape : Shape) (n : ℕ) (page other : List ℕ) : Type 0 where
@@ -128,4 +128,4 @@ pub record Balances (shape : Shape) (k at : ℕ) (node left right node_now left_
   pub shared : result ≡ Some false → Shares shape k at node left right node_now left_now right_now
   pub neither : result ≡ None → IsNode shape k left → IsNode shape k right
       → (count_at shape k left ≡ count_at shape k right)
-      × (2 * least shape k ≤ count_at shape k left + count_at shape k right)
+      × (2 * least_entries shape k ≤ count_at shape k left + count_at shape k right)

@@ -7,7 +7,7 @@ use Rattle.tree_node.specs.Leaf.{IsLeaf, leaf_entries, LeafHas}
 use Rattle.tree_node.specs.Inner.{IsInner, separators, children, InnerHas}
 use Rattle.tree_node.specs.Split.{IsCut, IsSplit}
 use Rattle.node_balance.specs.declared.separator.Separator.{Separator}
-use Rattle.node_balance.specs.Fill.{least}
+use Rattle.node_balance.specs.Fill.{least_entries}
 
 -- two leaves have these entries, both at least half full, and the key is the first of the second one
 pub record LeavesHave (shape : Shape) (page upper : List ℕ) (entries : List (List ℕ))
@@ -16,8 +16,8 @@ pub record LeavesHave (shape : Shape) (page upper : List ℕ) (entries : List (L
   pub upper_leaf : IsLeaf shape upper
   pub middle : ℕ
   pub cut : IsCut middle entries (leaf_entries shape page) (leaf_entries shape upper)
-  pub full : (least shape 0 ≤ length (leaf_entries shape page))
-      × (least shape 0 ≤ length (leaf_entries shape upper))
+  pub full : (least_entries shape 0 ≤ length (leaf_entries shape page))
+      × (least_entries shape 0 ≤ length (leaf_entries shape upper))
   pub first : key ≡ take shape.width (slice_index_or (leaf_entries shape upper) 0 [])
   pub width : length key ≡ shape.width
 
@@ -34,8 +34,8 @@ pub record InnersHave (shape : Shape) (page upper : List ℕ) (seps : List (List
   pub middle : ℕ
   pub split : IsSplit middle seps (separators shape page) key (separators shape upper)
   pub cut : IsCut (middle + 1) below (children shape page) (children shape upper)
-  pub full : (least shape 1 ≤ length (separators shape page))
-      × (least shape 1 ≤ length (separators shape upper))
+  pub full : (least_entries shape 1 ≤ length (separators shape page))
+      × (least_entries shape 1 ≤ length (separators shape upper))
   pub width : length key ≡ shape.width
 
 -- the node has these separators and children; or, where a key is answered, two nodes have them

@@ -19,7 +19,7 @@ use Rattle.key_index.specs.Standing.{alt_height}
 use Rattle.key_index.specs.Stored.{prime_bytes, alt_bytes}
 use Rattle.record_heap.specs.declared.shape.Place.{Place}
 use Rattle.record_heap.specs.Chain.{Slots}
-use Rattle.open_file.specs.InOrder.{put, in_order, alt_entries, prime_entries}
+use Rattle.open_file.specs.InOrder.{put_row, in_order, alt_entries, prime_entries}
 use Rattle.page_marks.specs.Parted.{own_at}
 use Rattle.open_file.specs.Stored.{AreAt}
 use Rattle.open_file.specs.Stands.{Stands, heights_of}
@@ -31,10 +31,10 @@ use Rattle.open_file.proofs.HeightLemmas.{heights_many, mapped_at}
 
 -- ---- entries and rows
 
-put_long : (schema : Schema) (k : ℕ) (row : Row) (rows : List Row) → length (put schema k row rows) ≡ suc (length rows)
+put_long : (schema : Schema) (k : ℕ) (row : Row) (rows : List Row) → length (put_row schema k row rows) ≡ suc (length rows)
 put_long schema k row [] = refl
 put_long schema k row (next ∷ rows) =
-    either (is_lt (row_cmp schema k next row)) (length (put schema k row (next ∷ rows)) ≡ suc (length (next ∷ rows)))
+    either (is_lt (row_cmp schema k next row)) (length (put_row schema k row (next ∷ rows)) ≡ suc (length (next ∷ rows)))
     (λ yes. rw yes (ap suc (put_long schema k row rows)))
     (λ no. rw no refl)
 

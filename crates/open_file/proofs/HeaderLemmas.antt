@@ -27,7 +27,7 @@ use Rattle.record_heap.specs.declared.shape.Place.{Place}
 use Rattle.record_heap.specs.declared.shape.Shape.{Shape as SlotShape}
 use Rattle.record_heap.specs.Chain.{Slots}
 use Rattle.record_heap.specs.Standing.{HeapStands}
-use Rattle.open_file.specs.InOrder.{put, in_order, alt_entries, prime_entries}
+use Rattle.open_file.specs.InOrder.{put_row, in_order, alt_entries, prime_entries}
 use Rattle.open_file.specs.Stored.{AreAt, stamps_length}
 use Rattle.open_file.specs.Parts.{Parts}
 use Rattle.page_marks.specs.Parted.{own_at}
@@ -106,10 +106,10 @@ heap_moved old new pages slots own shape first page slot s =
 
 -- ---- an entry for each record
 
-put_more : (schema : Schema) (k : ℕ) (row : Row) (rows : List Row) → length (put schema k row rows) ≡ length rows + 1
+put_more : (schema : Schema) (k : ℕ) (row : Row) (rows : List Row) → length (put_row schema k row rows) ≡ length rows + 1
 put_more schema k row [] = refl
 put_more schema k row (next ∷ rows) =
-    either (is_lt (row_cmp schema k next row)) (length (put schema k row (next ∷ rows)) ≡ length (next ∷ rows) + 1)
+    either (is_lt (row_cmp schema k next row)) (length (put_row schema k row (next ∷ rows)) ≡ length (next ∷ rows) + 1)
     (λ yes. rw yes (let more = put_more schema k row rows in omega (arith, more)))
     (λ no. rw no (omega arith))
 

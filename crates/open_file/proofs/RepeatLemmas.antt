@@ -17,7 +17,7 @@ use Rattle.io_state.specs.Rank.{rank_cmp, value_cmp}
 use Rattle.indexed_file.specs.Rank.{row_cmp, has_value, is_repeated}
 use Rattle.key_index.specs.declared.entry.AltEntry.{AltEntry}
 use Rattle.key_index.specs.Entries.{after_rank}
-use Rattle.open_file.specs.InOrder.{put, in_order, alt_entry, alt_entries}
+use Rattle.open_file.specs.InOrder.{put_row, in_order, alt_entry, alt_entries}
 use Rattle.open_file.proofs.OrderLemmas.{either}
 use Rattle.open_file.proofs.RowLemmas.{AreSorted, in_order_sorted}
 
@@ -36,10 +36,10 @@ either_way false true c = refl
 either_way false false c = refl
 
 -- some row passes, in whatever order
-any_put : (schema : Schema) (k : ℕ) (test : Row → Bool) (row : Row) (rows : List Row) → list_any test (put schema k row rows) ≡ list_any test (row ∷ rows)
+any_put : (schema : Schema) (k : ℕ) (test : Row → Bool) (row : Row) (rows : List Row) → list_any test (put_row schema k row rows) ≡ list_any test (row ∷ rows)
 any_put schema k test row [] = refl
 any_put schema k test row (next ∷ rows) =
-    either (is_lt (row_cmp schema k next row)) (list_any test (put schema k row (next ∷ rows)) ≡ list_any test (row ∷ next ∷ rows))
+    either (is_lt (row_cmp schema k next row)) (list_any test (put_row schema k row (next ∷ rows)) ≡ list_any test (row ∷ next ∷ rows))
     (λ yes. rw (yes, any_put schema k test row rows) (either_way (test next) (test row) (list_any test rows)))
     (λ no. rw no refl)
 

@@ -16,7 +16,7 @@ use Rattle.indexed_file.specs.Rank.{row_cmp, lower_of, lowest, least, has_value}
 use Rattle.indexed_file.specs.Sound.{is_row, is_stamp, are_rows, are_apart, is_file}
 use Rattle.indexed_file.proofs.RowLemmas.{are_stamps, row_parts}
 use Rattle.page_bytes.specs.Each.{Each}
-use Rattle.open_file.specs.InOrder.{put, in_order}
+use Rattle.open_file.specs.InOrder.{put_row, in_order}
 use Rattle.open_file.proofs.OrderLemmas.{either, not_below, not_back}
 use Rattle.open_file.proofs.PartsLemmas.{from_eq}
 
@@ -28,10 +28,10 @@ abbrev pub AreSorted : Schema → ℕ → List Row → Type 0
 AreSorted schema k [] = ⊤
 AreSorted schema k (row ∷ rows) = Each (λ other. is_lt (row_cmp schema k other row) ≡ false) rows × AreSorted schema k rows
 
-pub put_each : (schema : Schema) (k : ℕ) (P : Row → Type 0) (row : Row) (rows : List Row) → P row → Each P rows → Each P (put schema k row rows)
+pub put_each : (schema : Schema) (k : ℕ) (P : Row → Type 0) (row : Row) (rows : List Row) → P row → Each P rows → Each P (put_row schema k row rows)
 put_each schema k P row [] p ps = (p, tt)
 put_each schema k P row (next ∷ rows) p ps =
-    either (is_lt (row_cmp schema k next row)) (Each P (put schema k row (next ∷ rows)))
+    either (is_lt (row_cmp schema k next row)) (Each P (put_row schema k row (next ∷ rows)))
     (λ yes. rw yes (ps.0, put_each schema k P row rows p ps.1))
     (λ no. rw no (p, ps))
 
@@ -39,10 +39,10 @@ each_weaker : {X : Type 0} (P Q : X → Type 0) → ((x : X) → P x → Q x) �
 each_weaker P Q f [] h = tt
 each_weaker P Q f (x ∷ xs) h = (f x h.0, each_weaker P Q f xs h.1)
 
-pub put_sorted : (schema : Schema) (k : ℕ) (row : Row) (rows : List Row) → AreSorted schema k rows → AreSorted schema k (put schema k row rows)
+pub put_sorted : (schema : Schema) (k : ℕ) (row : Row) (rows : List Row) → AreSorted schema k rows → AreSorted schema k (put_row schema k row rows)
 put_sorted schema k row [] h = (tt, tt)
 put_sorted schema k row (next ∷ rows) h =
-    either (is_lt (row_cmp schema k next row)) (AreSorted schema k (put schema k row (next ∷ rows)))
+    either (is_lt (row_cmp schema k next row)) (AreSorted schema k (put_row schema k row (next ∷ rows)))
     (λ yes. rw yes (put_each schema k (λ other. is_lt (row_cmp schema k other next) ≡ false) row rows (not_back (row_cmp schema k) (row_total schema k) next row yes) h.0, put_sorted schema k row rows h.1))
     (λ no. rw no (
       (
@@ -58,11 +58,11 @@ in_order_sorted schema k [] = tt
 in_order_sorted schema k (row ∷ rows) = put_sorted schema k row (in_order schema k rows) (in_order_sorted schema k rows)
 
 -- a row that fails is not the first
-find_put_no : (schema : Schema) (k : ℕ) (test : Row → Bool) (row : Row) (rows : List Row) → test row ≡ false → find test (put schema k row rows) ≡ find test rows
+find_put_no : (schema : Schema) (k : ℕ) (test : Row → Bool) (row : Row) (rows : List Row) → test row ≡ false → find test (put_row schema k row rows) ≡ find test rows
 find_put_no schema k test row [] h = rw h refl
 find_put_no schema k test row (next ∷ rows) h =
-    either (is_lt (row_cmp schema k next row)) (find test (put schema k row (next ∷ rows)) ≡ find test (next ∷ rows))
-    (λ yes. rw yes (either (test next) (find test (next ∷ put schema k row rows) ≡ find test (next ∷ rows)) (λ t. rw t refl) (λ f. rw f (find_put_no schema k test row rows h))))
+    either (is_lt (row_cmp schema k next row)) (find test (put_row schema k row (next ∷ rows)) ≡ find test (next ∷ rows))
+    (λ yes. rw yes (either (test next) (find test (next ∷ put_row schema k row rows) ≡ find test (next ∷ rows)) (λ t. rw t refl) (λ f. rw f (find_put_no schema k test row rows h))))
     (λ no. rw no (rw h refl))
 
 -- of rows none of which is below this one, the first that passes is not lower
@@ -73,11 +73,11 @@ lower_kept schema k test row (next ∷ rows) h =
     (λ t. rw t (rw h.0 refl))
     (λ f. rw f (lower_kept schema k test row rows h.1))
 
-find_put_yes : (schema : Schema) (k : ℕ) (test : Row → Bool) (row : Row) (rows : List Row) → AreSorted schema k rows → test row ≡ true → find test (put schema k row rows) ≡ Some (lower_of schema k row (find test rows))
+find_put_yes : (schema : Schema) (k : ℕ) (test : Row → Bool) (row : Row) (rows : List Row) → AreSorted schema k rows → test row ≡ true → find test (put_row schema k row rows) ≡ Some (lower_of schema k row (find test rows))
 find_put_yes schema k test row [] sorted h = rw h refl
 find_put_yes schema k test row (next ∷ rows) sorted h =
-    either (is_lt (row_cmp schema k next row)) (find test (put schema k row (next ∷ rows)) ≡ Some (lower_of schema k row (find test (next ∷ rows))))
-    (λ yes. rw yes (either (test next) (find test (next ∷ put schema k row rows) ≡ Some (lower_of schema k row (find test (next ∷ rows))))
+    either (is_lt (row_cmp schema k next row)) (find test (put_row schema k row (next ∷ rows)) ≡ Some (lower_of schema k row (find test (next ∷ rows))))
+    (λ yes. rw yes (either (test next) (find test (next ∷ put_row schema k row rows) ≡ Some (lower_of schema k row (find test (next ∷ rows))))
     (λ t. rw t (rw yes refl))
     (λ f. rw f (find_put_yes schema k test row rows sorted.1 h))))
     (λ no. let low : Each (λ other. is_lt (row_cmp schema k other row) ≡ false) (next ∷ rows) = (
@@ -93,7 +93,7 @@ pub least_is_first : (schema : Schema) (k : ℕ) (test : Row → Bool) (rows : L
 least_is_first schema k test [] = refl
 least_is_first schema k test (row ∷ rows) =
     let rest = least_is_first schema k test rows in
-    either (test row) (lowest schema k (filter test (row ∷ rows)) ≡ find test (put schema k row (in_order schema k rows)))
+    either (test row) (lowest schema k (filter test (row ∷ rows)) ≡ find test (put_row schema k row (in_order schema k rows)))
     (λ yes. rw (find_put_yes schema k test row (in_order schema k rows) (in_order_sorted schema k rows) yes, yes, rest) refl)
     (λ no. rw (find_put_no schema k test row (in_order schema k rows) no, no) rest)
 
@@ -107,7 +107,7 @@ then_lt Equal b h = absurd (cc)
 then_lt Greater b h = absurd (cc)
 
 put_front : (schema : Schema) (row : Row) (rows : List Row) → list_all (λ other. is_lt (value_cmp (prime_of schema row.bytes) (prime_of schema other.bytes)) && are_apart schema row other) rows ≡ true
-    → put schema 0 row rows ≡ row ∷ rows
+    → put_row schema 0 row rows ≡ row ∷ rows
 put_front schema row [] h = refl
 put_front schema row (next ∷ rows) h =
     let first = both _ _ h in

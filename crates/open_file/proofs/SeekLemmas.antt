@@ -16,7 +16,7 @@ use Rattle.record_heap.specs.declared.shape.Place.{Place}
 use Rattle.record_heap.specs.Chain.{Slots}
 use Rattle.open_file.specs.InOrder.{in_order, alt_entry, alt_entries, prime_entries}
 use Rattle.open_file.specs.Stored.{AreAt}
-use Rattle.open_file.specs.Steps.{leads_prime, leads_alt, is_wanted}
+use Rattle.open_file.specs.Steps.{leads_prime, leads_alt, is_wanted_value}
 use Rattle.open_file.proofs.RowLemmas.{in_order_sorted, least_is_first, prime_order}
 use Rattle.open_file.proofs.FirstLemmas.{kept, row_of_entry}
 use Rattle.open_file.proofs.StartLemmas.{first_wanted}
@@ -24,7 +24,7 @@ use Rattle.open_file.proofs.EntryLemmas.{prime_entry, prime_some, prime_none, al
 
 -- the value that was found, where it is wanted
 abbrev pub wanted_of : Relation → List ℕ → ArrayVec ℕ → Option (ArrayVec ℕ)
-wanted_of relation w value = if is_wanted relation w value.items then Some value else None
+wanted_of relation w value = if is_wanted_value relation w value.items then Some value else None
 
 -- what START answers of a row
 abbrev pub key_sought : Schema → ℕ → Relation → List ℕ → File → Option (ArrayVec ℕ)
@@ -37,18 +37,18 @@ mapped_if schema k false row = refl
 -- by the first row that START begins with
 by_first : (schema : Schema) (k : ℕ) (relation : Relation) (w : List ℕ) (file : File) (found : Option Row)
     → find (λ row. leads_alt relation w (alt_entry schema k row)) (in_order schema k file.rows) ≡ found
-    → key_sought schema k relation w file ≡ option_map (key_of_row schema k) (kept (λ row. is_wanted relation w (value_of schema k row.bytes)) found)
+    → key_sought schema k relation w file ≡ option_map (key_of_row schema k) (kept (λ row. is_wanted_value relation w (value_of schema k row.bytes)) found)
 by_first schema k relation w file found is =
     ap (option_map (key_of_row schema k))
     (least_is_first schema k (satisfies schema k relation w) file.rows
     ∙ first_wanted schema k relation w (in_order schema k file.rows) (in_order_sorted schema k file.rows)
-    ∙ ap (kept (λ row. is_wanted relation w (value_of schema k row.bytes))) is)
+    ∙ ap (kept (λ row. is_wanted_value relation w (value_of schema k row.bytes))) is)
 
 by_row : (schema : Schema) (k : ℕ) (relation : Relation) (w : List ℕ) (file : File) (row : Row) (value : ArrayVec ℕ) → value ≡ key_of_row schema k row
     → find (λ row. leads_alt relation w (alt_entry schema k row)) (in_order schema k file.rows) ≡ Some row → key_sought schema k relation w file ≡ wanted_of relation w value
 by_row schema k relation w file row value same is =
     by_first schema k relation w file (Some row) is
-    ∙ mapped_if schema k (is_wanted relation w (value_of schema k row.bytes)) row
+    ∙ mapped_if schema k (is_wanted_value relation w (value_of schema k row.bytes)) row
     ∙ ap (wanted_of relation w) (sym same)
 
 pub alt_sought : (schema : Schema) (k : ℕ) (relation : Relation) (w : List ℕ) (file : File) (entry : AltEntry)

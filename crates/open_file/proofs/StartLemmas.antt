@@ -15,7 +15,7 @@ use Rattle.io_state.specs.Rank.{value_cmp}
 use Rattle.indexed_file.specs.Rank.{row_cmp, satisfies}
 use Rattle.page_bytes.specs.Each.{Each}
 use Rattle.open_file.specs.InOrder.{alt_entry}
-use Rattle.open_file.specs.Steps.{leads_alt, is_wanted}
+use Rattle.open_file.specs.Steps.{leads_alt, is_wanted_value}
 use Rattle.open_file.proofs.OrderLemmas.{either}
 use Rattle.open_file.proofs.RowLemmas.{AreSorted}
 use Rattle.open_file.proofs.FirstLemmas.{kept}
@@ -121,7 +121,7 @@ kept_all (Some row) = refl
 -- the first row that START asks for is the first that it begins with, if that one is wanted
 pub first_wanted : (schema : Schema) (k : ℕ) (relation : Relation) (w : List ℕ) (rows : List Row) → AreSorted schema k rows
     → find (satisfies schema k relation w) rows
-    ≡ kept (λ row. is_wanted relation w (value_of schema k row.bytes)) (find (λ row. leads_alt relation w (alt_entry schema k row)) rows)
+    ≡ kept (λ row. is_wanted_value relation w (value_of schema k row.bytes)) (find (λ row. leads_alt relation w (alt_entry schema k row)) rows)
 first_wanted schema k ForEqual w rows sorted = first_begins schema k w rows sorted
 first_wanted schema k ForGreater w rows sorted = kept_all (find (satisfies schema k ForGreater w) rows)
 first_wanted schema k ForNotLess w rows sorted =

@@ -9,15 +9,16 @@ use Rattle.key_index.specs.declared.entry.PrimeEntry.{PrimeEntry}
 use Rattle.record_heap.specs.declared.shape.Place.{Place}
 
 -- rows in order, with one more
-abbrev pub put : Schema → ℕ → Row → List Row → List Row
-put schema k row [] = row ∷ []
-put schema k row (next ∷ rows) = if is_lt (row_cmp schema k next row) then next ∷ put schema k row rows
+abbrev pub put_row : Schema → ℕ → Row → List Row → List Row
+put_row schema k row [] = row ∷ []
+put_row schema k row (next ∷ rows) = if is_lt (row_cmp schema k next row) then next
+    ∷ put_row schema k row rows
     else row ∷ next ∷ rows
 
 -- these rows, in order by key k
 abbrev pub in_order : Schema → ℕ → List Row → List Row
 in_order schema k [] = []
-in_order schema k (row ∷ rows) = put schema k row (in_order schema k rows)
+in_order schema k (row ∷ rows) = put_row schema k row (in_order schema k rows)
 
 -- what alternate index k has of a row
 abbrev pub alt_entry : Schema → ℕ → Row → AltEntry

@@ -52,10 +52,10 @@ leads_alt Greater operand entry = past_value operand entry
 leads_alt NotLess operand entry = from_value operand entry
 
 -- the value is one that START wants: for EQUAL it begins with the operand
-abbrev pub is_wanted : Relation → List ℕ → List ℕ → Bool
-is_wanted Equal operand value = bytes_eq (take (length operand) value) operand
-is_wanted Greater operand value = true
-is_wanted NotLess operand value = true
+abbrev pub is_wanted_value : Relation → List ℕ → List ℕ → Bool
+is_wanted_value Equal operand value = bytes_eq (take (length operand) value) operand
+is_wanted_value Greater operand value = true
+is_wanted_value NotLess operand value = true
 
 -- the first entry of the prime index that passes a test
 abbrev pub GivesPrime : OpenFile → PageMap → (PrimeEntry → Bool) → Result (Option PrimeEntry) Fault → Type 0
@@ -70,9 +70,10 @@ GivesAlt opened pages k test result =
     (λ found. found ≡ find test (alt_entries opened.schema k file.rows))
 
 -- the first entry that passes a test in whatever pages hold the prime index
-abbrev pub FindsInPrime : {S : Type 0} → ShownPages S → PrimeIndex → (PrimeEntry → Bool) → (before after : S)
+abbrev pub FindsInPrimePages : {S : Type 0} → ShownPages S → PrimeIndex → (PrimeEntry → Bool)
+    → (before after : S)
     → Result (Option PrimeEntry) Fault → Type 0
-FindsInPrime shown index test before after result = OfHonestPages shown before after (λ live.
+FindsInPrimePages shown index test before after result = OfHonestPages shown before after (λ live.
     PrimeFinds index live (find test) result)
 
 -- the same of the index of an alternate key

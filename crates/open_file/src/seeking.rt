@@ -6,7 +6,8 @@ ghost use Rattle.key_index.specs.Standing.{prime_height, alt_height};
 ghost use Rattle.open_file.specs.Lent.{LendsByKey, LendsByAlternate};
 ghost use Rattle.open_file.specs.Asked.{OfHonestPages, pages_to_seek};
 ghost use Rattle.open_file.specs.Reading.{Seeks};
-ghost use Rattle.open_file.specs.Steps.{FindsInPrime, FindsInAlternate, leads_prime, leads_alt, is_wanted};
+ghost use Rattle.open_file.specs.Steps.{FindsInPrimePages, FindsInAlternate, leads_prime, leads_alt};
+ghost use Rattle.open_file.specs.Steps.{is_wanted_value};
 ghost use Rattle.open_file.specs.Calls.{SeeksByKey};
 
 use crate::open_file::OpenFile;
@@ -85,7 +86,7 @@ impl OpenFile {
         relation: Relation,
     ) -> Result<Option<PrimeEntry>, Fault>
         requires ready { P.shown.IsReady pages.old }
-        ensures found { FindsInPrime P.shown self.now.prime (leads_prime relation operand.now)
+        ensures found { FindsInPrimePages P.shown self.now.prime (leads_prime relation operand.now)
             pages.old pages.new result }
         ensures reads { ReadsPages P.shown (2 * prime_height self.now.prime) pages.old pages.new result }
     {
@@ -116,7 +117,7 @@ fn first_in_alternate<P: Pages>(
 
 /// The value that was found, where it is wanted: by EQUAL where it begins with the operand.
 fn wanted(value: Key, operand: &[u8], relation: Relation) -> Option<Key>
-    ensures { result ≡ (if is_wanted relation operand.now value.items then Some value else None) }
+    ensures { result ≡ (if is_wanted_value relation operand.now value.items then Some value else None) }
 {
     match relation {
         Relation::Equal if !value.as_slice().starts_with(operand) => None,

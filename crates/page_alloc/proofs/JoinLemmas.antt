@@ -5,7 +5,7 @@ use Rattle.io_state.specs.declared.fault.Fault.{Fault}
 use Rattle.io_state.specs.declared.fault.Fault.TheVariants.{Device, Memory, Full, Damage, Broken}
 use Rattle.page_store.specs.ShelfState.{ShelfState, FaultHasCause}
 use Rattle.page_cache.specs.declared.cache.Cache.{Cache}
-use Rattle.page_cache.specs.Cached.{frame_of, is_counted, pages_of, IsOver}
+use Rattle.page_cache.specs.Cached.{frame_of, is_counted_page, cached_pages_of, IsOver}
 use Rattle.page_cache.specs.Calls.{KeepsStore, OnlyLooks, KeepsPages}
 use Rattle.page_cache.specs.Quietly.{GoesQuietly}
 use Rattle.page_cache.proofs.QuietLemmas.{goes_nowhere}
@@ -16,18 +16,18 @@ use Rattle.pages.specs.PagesState.{Shows, Rests, LeavesPage}
 use Rattle.pages.specs.ShownPages.{ShownPages}
 use Rattle.pages.specs.PageChanges.{TakesUnused, GivesBack}
 use Rattle.page_alloc.specs.Chain.{chain, used}
-use Rattle.page_alloc.specs.Joining.{free_pages, pages_state, IsJoined, PartsGo, HasFailed}
-use Rattle.page_alloc.specs.Taking.{Taken, Given, CallFails}
+use Rattle.page_alloc.specs.Joining.{free_pages, pages_state, IsJoined, PartsGo, FaultsRose}
+use Rattle.page_alloc.specs.Taking.{Taken, GivenBack, CallFails}
 use Rattle.pages.specs.Cause.{IsCaused}
 use Rattle.page_store.proofs.OpenLemmas.{open_kept}
 use Rattle.page_store.specs.ShelfState.{unit_file}
 use Rattle.page_store.specs.Gate.{AllOpen}
 use Rattle.page_alloc.specs.declared.paged_file.PagedFile.{PagedFile}
 use Rattle.page_alloc.specs.PagedFile.{IsOpenOver}
-use Rattle.page_alloc.specs.Steps.{Goes, ReadsPages, state_of}
+use Rattle.page_alloc.specs.Steps.{Goes, ReadsFilePages, pages_state_of}
 use Rattle.page_alloc.proofs.ChainLemmas.{in_use, use_kept, same_chain}
 
-pub counted_page : (c : Cache) (p : Pager) (s : ShelfState) (n : ℕ) → IsJoined c p s → (n ≡ 0 → ⊥) → n < p.count → IsTrue (is_counted c n)
+pub counted_page : (c : Cache) (p : Pager) (s : ShelfState) (n : ℕ) → IsJoined c p s → (n ≡ 0 → ⊥) → n < p.count → IsTrue (is_counted_page c n)
 counted_page c p s n joined positive low =
     let counted = joined.counted in
     and_from (ltb 0 n) (ltb n c.store.pages) (lt-ltb 0 n (omega arith)) (lt-ltb n c.store.pages (omega arith))
@@ -36,7 +36,7 @@ pub joined_after : (c d : Cache) (p : Pager) (s t : ShelfState) → IsJoined c p
 joined_after c d p s t joined same over = record { over = over; counted = subst (λ x. p.count ≤ x.pages) (sym same) joined.counted; header = joined.header }
 
 -- no page of the list has changed
-pub rested : (c d : Cache) (p : Pager) (s t : ShelfState) → (IsTrue t.is_honest → pages_of d t ≡ pages_of c s) → (IsTrue t.is_honest → IsTrue s.is_honest) → Rests (pages_state c p s) (pages_state d p t)
+pub rested : (c d : Cache) (p : Pager) (s t : ShelfState) → (IsTrue t.is_honest → cached_pages_of d t ≡ cached_pages_of c s) → (IsTrue t.is_honest → IsTrue s.is_honest) → Rests (pages_state c p s) (pages_state d p t)
 rested c d p s t same honest = record {
   live = λ h. ap (λ pages. used pages p.count (chain pages p.count p.first p.free)) (same h);
   sound = λ h. ap (λ pages. is_some (chain pages p.count p.first p.free)) (same h);
@@ -44,16 +44,16 @@ rested c d p s t same honest = record {
   honest = honest;
 }
 
-pub left : (n : ℕ) (w : List ℕ) (c d e : Cache) (p : Pager) (s t : ShelfState) → FrameSet n w d e → (IsTrue t.is_honest → pages_of d t ≡ pages_of c s) → (IsTrue t.is_honest → IsTrue s.is_honest)
+pub left : (n : ℕ) (w : List ℕ) (c d e : Cache) (p : Pager) (s t : ShelfState) → FrameSet n w d e → (IsTrue t.is_honest → cached_pages_of d t ≡ cached_pages_of c s) → (IsTrue t.is_honest → IsTrue s.is_honest)
     → LeavesPage n w (pages_state c p s) (pages_state e p t)
 left n w c d e p s t set same honest = record {
-  live = λ h there. use_kept (pages_of c s) (pages_of e t) p.count n p.first p.free (others h) there w (set_page n w d e set t);
-  sound = λ h there. ap is_some (same_chain (pages_of c s) (pages_of e t) p.count n p.first p.free (others h) there);
+  live = λ h there. use_kept (cached_pages_of c s) (cached_pages_of e t) p.count n p.first p.free (others h) there w (set_page n w d e set t);
+  sound = λ h there. ap is_some (same_chain (cached_pages_of c s) (cached_pages_of e t) p.count n p.first p.free (others h) there);
   available = refl;
   honest = honest;
 }
   where
-    others : IsTrue t.is_honest → (k : ℕ) → k ≢ n → pages_of e t k ≡ pages_of c s k
+    others : IsTrue t.is_honest → (k : ℕ) → k ≢ n → cached_pages_of e t k ≡ cached_pages_of c s k
     others h k differs = set_others n w d e set t k differs ∙ ap (λ pages. pages k) (same h)
 
 pub parts_after : (c d : Cache) (s t : ShelfState) (i j : ℕ) → KeepsStore c d → GoesQuietly c.store.unit s t → c.asked ≤ d.asked → i ≤ j → PartsGo c d s t i j
@@ -119,7 +119,7 @@ takes_unused shown a b (Err e) taken kept fails honest asked step = record {
 }
 
 -- page n was given back, or all pages are as they were
-pub gives_back : {S X : Type 0} (shown : ShownPages S) (n : ℕ) (a b : S) (r : Result X Fault) → OnOk r (Given (shown.state a) (shown.state b) n) → OnErr r (Rests (shown.state a) (shown.state b))
+pub gives_back : {S X : Type 0} (shown : ShownPages S) (n : ℕ) (a b : S) (r : Result X Fault) → OnOk r (GivenBack (shown.state a) (shown.state b) n) → OnErr r (Rests (shown.state a) (shown.state b))
     → IfErr r (CallFails (IsTrue (shown.state b).is_honest × IsSome ((shown.state a).live n)) (shown.HasFailed a b) ⊥)
     → (IsTrue (shown.state b).is_honest → IsTrue (shown.state a).is_honest) → (shown.state b).asked ≤ (shown.state a).asked + 1 → shown.Writes a b → GivesBack shown n a b r
 gives_back shown n a b (Ok x) given kept fails honest asked step = record {
@@ -144,7 +144,7 @@ gives_back shown n a b (Err e) given kept fails honest asked step = record {
 }
 
 -- a page of the cache is lent, or could not be loaded
-pub reads_after : (a b : PagedFile) (s t : ShelfState) (i j : ℕ) → b.pager ≡ a.pager → b.changed ≡ a.changed → KeepsPages a.cache b.cache s t → OnlyLooks a.cache b.cache s t → a.cache.asked ≤ b.cache.asked → i ≤ j → ReadsPages a b s t i j
+pub reads_after : (a b : PagedFile) (s t : ShelfState) (i j : ℕ) → b.pager ≡ a.pager → b.changed ≡ a.changed → KeepsPages a.cache b.cache s t → OnlyLooks a.cache b.cache s t → a.cache.asked ≤ b.cache.asked → i ≤ j → ReadsFilePages a b s t i j
 reads_after a b s t i j pager gate kept looks asked faults = record {
   goes = record {
     parts = parts_after a.cache b.cache s t i j kept.keeps kept.goes asked faults;
@@ -158,7 +158,7 @@ reads_after a b s t i j pager gate kept looks asked faults = record {
     still = λ r shut. looks.file (r.clean shut);
   };
   pager = pager;
-  rests = subst (λ x. Rests (state_of a s) (pages_state b.cache x t)) (sym pager) (rested a.cache b.cache a.pager s t kept.pages kept.goes.others.honest);
+  rests = subst (λ x. Rests (pages_state_of a s) (pages_state b.cache x t)) (sym pager) (rested a.cache b.cache a.pager s t kept.pages kept.goes.others.honest);
 }
   where
     gate_open : IsOpenOver a s → a.changed ≡ true → IsTrue t.is_honest → AllOpen (unit_file t b.cache.store.unit)
@@ -181,9 +181,9 @@ goes_after a b s t i j changed gate limit parts joined = record {
 }
 
 -- a page that is held is the page in use
-pub shown : (c d : Cache) (p : Pager) (s t : ShelfState) (n : ℕ) (bytes : List ℕ) → pages_of d t ≡ pages_of c s → option_map (λ frame. frame.page.value) (frame_of d n) ≡ Some bytes → Shows (pages_state c p s) n bytes
+pub shown : (c d : Cache) (p : Pager) (s t : ShelfState) (n : ℕ) (bytes : List ℕ) → cached_pages_of d t ≡ cached_pages_of c s → option_map (λ frame. frame.page.value) (frame_of d n) ≡ Some bytes → Shows (pages_state c p s) n bytes
 shown c d p s t n bytes same held there =
-    let u = in_use (pages_of c s) p.count n (free_pages c p s) there in rw (u.1, u.2, u.3) (ap Some (sym (ap (λ pages. pages n) same) ∙ held_page d t n bytes held))
+    let u = in_use (cached_pages_of c s) p.count n (free_pages c p s) there in rw (u.1, u.2, u.3) (ap Some (sym (ap (λ pages. pages n) same) ∙ held_page d t n bytes held))
 
 pub no_fault : {X : Type 0} (r : Result X Fault) (P : Fault → Type 0) → is_ok r ≡ true → IfErr r P
 no_fault (Ok x) P ok = tt
@@ -193,7 +193,7 @@ pub damaged : (failed full : Type 0) → IsCaused failed full Damage
 damaged failed full = record { device = λ e. absurd (cc); full = λ e. absurd (cc); not_broken = λ e. cc }
 
 -- a fault of the cache
-pub fails_as : (x : Fault) (i j : ℕ) (P full : Type 0) → FaultHasCause {T = Unit {0}} i j (Err x) → CallFails P (HasFailed i j) full x
+pub fails_as : (x : Fault) (i j : ℕ) (P full : Type 0) → FaultHasCause {T = Unit {0}} i j (Err x) → CallFails P (FaultsRose i j) full x
 fails_as x i j P full cause = record {
   caused = record {
     device = λ is. cause.device (ap Err is);
@@ -209,5 +209,5 @@ fails_as x i j P full cause = record {
     neither : (y : Fault) → x ≡ y → (y ≡ Device → ⊥) → (y ≡ Memory → ⊥) → ⊥
     neither y is a b = elim cause.kinds [ inl d ↦ a (sym is ∙ bare Device d) | inr m ↦ b (sym is ∙ bare Memory m) ]
 
-pub counted_after : (c d : Cache) (n : ℕ) → d.store ≡ c.store → IsTrue (is_counted c n) → IsTrue (is_counted d n)
-counted_after c d n same is = subst (λ x. IsTrue (is_counted (record c { store = x }) n)) (sym same) is
+pub counted_after : (c d : Cache) (n : ℕ) → d.store ≡ c.store → IsTrue (is_counted_page c n) → IsTrue (is_counted_page d n)
+counted_after c d n same is = subst (λ x. IsTrue (is_counted_page (record c { store = x }) n)) (sym same) is

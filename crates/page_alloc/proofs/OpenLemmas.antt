@@ -8,12 +8,12 @@ use Rattle.page_store.specs.Moments.{Throughout, Quiet}
 use Rattle.page_store.proofs.MomentLemmas.{throughout_weaker, throughout_then, quiet_then}
 use Rattle.page_store.proofs.OpenLemmas.{quiet_open, open_kept, refused_open, all_refused}
 use Rattle.page_store.specs.Gate.{IsRefused, IsOpen, AllOpen, AllRefused, with_gate, ClosedOrRefused, WasOrRefused}
-use Rattle.page_store.specs.Pages.{page_of}
+use Rattle.page_store.specs.Pages.{page_of_bytes}
 use Rattle.page_store.specs.PageFacts.{page_over}
 use Rattle.page_store.specs.ShelfState.{ShelfState, unit_file}
 use Rattle.page_cache.specs.declared.frame.Frame.{Frame}
 use Rattle.page_cache.specs.declared.cache.Cache.{Cache}
-use Rattle.page_cache.specs.Cached.{frame_of, pages_of, is_counted, IsOver, IsClean}
+use Rattle.page_cache.specs.Cached.{frame_of, cached_pages_of, is_counted_page, IsOver, IsClean}
 use Rattle.page_cache.proofs.HeaderLemmas.{gate_page}
 use Rattle.page_alloc.specs.PagedFile.{IsClosedWith, ClosedWith, ClosesPages}
 
@@ -31,15 +31,15 @@ header_closed n (x ∷ old) header [] low is = absurd (cc)
 header_closed n (x ∷ old) header (y ∷ now) low is = ap (λ l. 67 ∷ drop 1 l) is
 
 -- a cache without changed pages shows those of the file
-pub clean_shows : (c : Cache) (s : ShelfState) (k : ℕ) → IsOver c s → IsClean c → IsTrue s.is_honest → IsTrue (is_counted c k) → pages_of c s k ≡ page_of (content (unit_file s c.store.unit)) k
+pub clean_shows : (c : Cache) (s : ShelfState) (k : ℕ) → IsOver c s → IsClean c → IsTrue s.is_honest → IsTrue (is_counted_page c k) → cached_pages_of c s k ≡ page_of_bytes (content (unit_file s c.store.unit)) k
 clean_shows c s k over clean honest counted = go (frame_of c k) refl
   where
-    go : (o : Option Frame) → frame_of c k ≡ o → pages_of c s k ≡ page_of (content (unit_file s c.store.unit)) k
+    go : (o : Option Frame) → frame_of c k ≡ o → cached_pages_of c s k ≡ page_of_bytes (content (unit_file s c.store.unit)) k
     go None is = rw (is, counted) refl
     go (Some frame) is = rw is (over.clean honest k frame is (clean.clean k frame is))
 
-module _ (header : List ℕ) (c d : Cache) (s t : ShelfState) (f before g h : DeviceFile) (whole : 1 ≤ length (content before)) (written : page_of (content g) 0 ≡ page_over 0 (content before) header)
-    (pages : (k : ℕ) → IsTrue (is_counted c k) → page_of (content g) k ≡ pages_of c s k) (long : 4096 * c.store.pages ≤ length (content g)) where
+module _ (header : List ℕ) (c d : Cache) (s t : ShelfState) (f before g h : DeviceFile) (whole : 1 ≤ length (content before)) (written : page_of_bytes (content g) 0 ≡ page_over 0 (content before) header)
+    (pages : (k : ℕ) → IsTrue (is_counted_page c k) → page_of_bytes (content g) k ≡ cached_pages_of c s k) (long : 4096 * c.store.pages ≤ length (content g)) where
   pub closed_with : IsClosedWith header c s (with_gate 67 (content g))
   closed_with = record {
     closed = refl;
@@ -63,24 +63,24 @@ module _ (header : List ℕ) (c d : Cache) (s t : ShelfState) (f before g h : De
 
 -- a flush, the header, and the gate: d is the cache after the flush, t, u and v the shelf after each of the three
 module _ (header : List ℕ) (c d : Cache) (s t u v : ShelfState) (store : d.store ≡ c.store) (over1 : IsOver d t) (over2 : IsOver d u) (clean : IsClean d) (h1 : IsTrue t.is_honest) (h2 : IsTrue u.is_honest)
-    (p1 : pages_of d t ≡ pages_of c s) (p2 : pages_of d u ≡ pages_of d t)
-    (written : page_of (content (unit_file u d.store.unit)) 0 ≡ page_over 0 (content (unit_file t d.store.unit)) header)
+    (p1 : cached_pages_of d t ≡ cached_pages_of c s) (p2 : cached_pages_of d u ≡ cached_pages_of d t)
+    (written : page_of_bytes (content (unit_file u d.store.unit)) 0 ≡ page_over 0 (content (unit_file t d.store.unit)) header)
     (q1 : Quiet (unit_file s c.store.unit) (unit_file t c.store.unit)) (q2 : Quiet (unit_file t d.store.unit) (unit_file u d.store.unit))
     (all : AllOpen (unit_file s c.store.unit)) where
   unit : d.store.unit ≡ c.store.unit
   unit = ap (λ x. x.unit) store
 
-  pages : (k : ℕ) → IsTrue (is_counted c k) → page_of (content (unit_file u c.store.unit)) k ≡ pages_of c s k
+  pages : (k : ℕ) → IsTrue (is_counted_page c k) → page_of_bytes (content (unit_file u c.store.unit)) k ≡ cached_pages_of c s k
   pages k counted =
-      ap (λ n. page_of (content (unit_file u n)) k) (sym unit)
-      ∙ sym (clean_shows d u k over2 clean h2 (subst (λ x. IsTrue (is_counted (record c { store = x }) k)) (sym store) counted))
+      ap (λ n. page_of_bytes (content (unit_file u n)) k) (sym unit)
+      ∙ sym (clean_shows d u k over2 clean h2 (subst (λ x. IsTrue (is_counted_page (record c { store = x }) k)) (sym store) counted))
       ∙ ap (λ (p : ℕ → List ℕ). p k) (p2 ∙ p1)
 
   whole : 1 ≤ length (content (unit_file t c.store.unit))
   whole = let l = (over1.pages h1).long in subst (λ n. 1 ≤ length (content (unit_file t n))) unit (omega arith)
 
-  here : page_of (content (unit_file u c.store.unit)) 0 ≡ page_over 0 (content (unit_file t c.store.unit)) header
-  here = subst (λ n. page_of (content (unit_file u n)) 0 ≡ page_over 0 (content (unit_file t n)) header) unit written
+  here : page_of_bytes (content (unit_file u c.store.unit)) 0 ≡ page_over 0 (content (unit_file t c.store.unit)) header
+  here = subst (λ n. page_of_bytes (content (unit_file u n)) 0 ≡ page_over 0 (content (unit_file t n)) header) unit written
 
   long : 4096 * c.store.pages ≤ length (content (unit_file u c.store.unit))
   long = subst (λ x. 4096 * x.pages ≤ length (content (unit_file u x.unit))) store (let l = (over2.pages h2).long in omega arith)

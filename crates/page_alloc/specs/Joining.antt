@@ -2,7 +2,7 @@
 use Rattle.std.specs.Prelude.{◌≡◌, ℕ, ◌+◌, ◌-◌, ◌^◌, ◌<◌, ◌≤◌, min, is_some, List, Option}
 use Rattle.page_store.specs.ShelfState.{ShelfState}
 use Rattle.page_cache.specs.declared.cache.Cache.{Cache}
-use Rattle.page_cache.specs.Cached.{pages_of, IsOver}
+use Rattle.page_cache.specs.Cached.{cached_pages_of, IsOver}
 use Rattle.page_cache.specs.Quietly.{GoesQuietly}
 use Rattle.pages.specs.PagesState.{PagesState}
 use Rattle.page_alloc.specs.declared.pager.Pager.{Pager}
@@ -10,7 +10,7 @@ use Rattle.page_alloc.specs.Chain.{chain, used}
 
 -- the free pages, the one to be taken next first; nothing where the chain is not what it should be
 abbrev pub free_pages : Cache → Pager → ShelfState → Option (List ℕ)
-free_pages cache pager shelf = chain (pages_of cache shelf) pager.count pager.first pager.free
+free_pages cache pager shelf = chain (cached_pages_of cache shelf) pager.count pager.first pager.free
 
 -- how many pages can be taken: the free ones, and the new ones up to the limit
 abbrev pub available_of : Pager → ℕ
@@ -21,7 +21,7 @@ HasNoRoom pager = available_of pager ≡ 0
 
 abbrev pub pages_state : Cache → Pager → ShelfState → PagesState
 pages_state cache pager shelf = record {
-  live = used (pages_of cache shelf) pager.count (free_pages cache pager shelf);
+  live = used (cached_pages_of cache shelf) pager.count (free_pages cache pager shelf);
   available = available_of pager;
   asked = cache.asked;
   is_sound = is_some (free_pages cache pager shelf);
@@ -56,5 +56,5 @@ pub record PartsGo (old new : Cache) (before after : ShelfState) (failed fails :
   pub faults : failed ≤ fails
 
 -- the count of the device's faults rose, or stands at its greatest value
-abbrev pub HasFailed : ℕ → ℕ → Type 0
-HasFailed before after = min (before + 1) (2 ^ 64 - 1) ≤ after
+abbrev pub FaultsRose : ℕ → ℕ → Type 0
+FaultsRose before after = min (before + 1) (2 ^ 64 - 1) ≤ after

@@ -5,14 +5,14 @@ use Rattle.page_alloc.specs.declared.pager.Pager.{Pager}
 
 -- page n is the first of the free ones, and the others are left; or where none is free, it is the
 -- next new one
-abbrev pub TakesFirst : Pager → Pager → List ℕ → Option (List ℕ) → ℕ → Type 0
-TakesFirst old new [] left n = (n ≡ old.count) × (new.count ≡ old.count + 1) × (left ≡ Some [])
-TakesFirst old new (p ∷ free) left n = (n ≡ p) × (new.count ≡ old.count) × (left ≡ Some free)
+abbrev pub TakesFirstPage : Pager → Pager → List ℕ → Option (List ℕ) → ℕ → Type 0
+TakesFirstPage old new [] left n = (n ≡ old.count) × (new.count ≡ old.count + 1) × (left ≡ Some [])
+TakesFirstPage old new (p ∷ free) left n = (n ≡ p) × (new.count ≡ old.count) × (left ≡ Some free)
 
 -- a call that takes the first free page, and a new one only where none is free
 abbrev pub TakesInOrder : Pager → Pager → Option (List ℕ) → Option (List ℕ) → Result ℕ Fault → Type 0
 TakesInOrder old new before after result = (free : List ℕ) → before ≡ Some free
-    → IfOk result (TakesFirst old new free after)
+    → IfOk result (TakesFirstPage old new free after)
 
 -- a call that puts page n before the free ones
 abbrev pub GivesInOrder : {X : Type 0} → ℕ → Pager → Pager → Option (List ℕ) → Option (List ℕ)

@@ -5,11 +5,11 @@ use Rattle.page_store.specs.DeviceFile.{DeviceFile, content}
 use Rattle.page_store.specs.Images.{IsSettled}
 use Rattle.page_store.specs.Moments.{Throughout}
 use Rattle.page_store.specs.Gate.{IsClosed, IsRefused, AllOpen, AllRefused, SameOrRefused}
-use Rattle.page_store.specs.Pages.{page_of, HasPages}
+use Rattle.page_store.specs.Pages.{page_of_bytes, HoldsPages}
 use Rattle.page_store.specs.ShelfState.{ShelfState, HasUnit, unit_file, WhereHonest}
 use Rattle.page_store.specs.declared.store.Store.{Store}
 use Rattle.page_cache.specs.declared.cache.Cache.{Cache}
-use Rattle.page_cache.specs.Cached.{pages_of, is_counted, IsClean}
+use Rattle.page_cache.specs.Cached.{cached_pages_of, is_counted_page, IsClean}
 use Rattle.page_alloc.specs.declared.pager.Pager.{Pager}
 use Rattle.page_alloc.specs.declared.paged_file.PagedFile.{PagedFile}
 use Rattle.page_alloc.specs.Joining.{IsJoined}
@@ -36,8 +36,9 @@ StandsOrRefused old new = SameOrRefused old new ⊎ AllRefused new
 pub record IsClosedWith (page : List ℕ) (cache : Cache) (shelf : ShelfState) (bytes : List ℕ) : Type 0 where
   pub closed : IsClosed bytes
   pub long : 4096 * cache.store.pages ≤ length bytes
-  pub header : page_of bytes 0 ≡ 67 ∷ drop 1 page
-  pub pages : (k : ℕ) → IsTrue (is_counted cache k) → page_of bytes k ≡ pages_of cache shelf k
+  pub header : page_of_bytes bytes 0 ≡ 67 ∷ drop 1 page
+  pub pages : (k : ℕ) → IsTrue (is_counted_page cache k) → page_of_bytes bytes k
+      ≡ cached_pages_of cache shelf k
 
 -- the file has them, and a crash leaves nothing else
 pub record ClosedWith (header : List ℕ) (cache : Cache) (shelf : ShelfState)
@@ -71,6 +72,6 @@ pub record IsOldPagedFile (stored : Store) (most : ℕ) (numbers : Pager) (held 
   pub asked : held.cache.asked ≡ 0
   pub frames : held.cache.frames.cap ≡ most
   pub ready : (shelf : ShelfState) → HasUnit shelf stored.unit
-      → WhereHonest shelf stored.unit (HasPages stored.pages) → IsOpenOver held shelf
-  pub pages : (shelf : ShelfState) (n : ℕ) → pages_of held.cache shelf n
-      ≡ (if is_counted held.cache n then page_of (content (unit_file shelf stored.unit)) n else [])
+      → WhereHonest shelf stored.unit (HoldsPages stored.pages) → IsOpenOver held shelf
+  pub pages : (shelf : ShelfState) (n : ℕ) → cached_pages_of held.cache shelf n
+      ≡ (if is_counted_page held.cache n then page_of_bytes (content (unit_file shelf stored.unit)) n else [])

@@ -3,20 +3,20 @@ use Rattle.std.specs.Prelude.{◌≡◌, ℕ, ◌+◌, ◌≤◌, IsTrue, IsSome
 use Rattle.io_state.specs.declared.fault.Fault.{Fault}
 use Rattle.page_store.specs.ShelfState.{ShelfState}
 use Rattle.page_cache.specs.declared.cache.Cache.{Cache}
-use Rattle.page_cache.specs.Cached.{pages_of}
+use Rattle.page_cache.specs.Cached.{cached_pages_of}
 use Rattle.page_cache.specs.Calls.{KeepsPages}
 use Rattle.pages.specs.PagesState.{Rests}
 use Rattle.page_alloc.specs.declared.pager.Pager.{Pager}
 use Rattle.page_alloc.specs.FreePage.{is_free, next_of}
-use Rattle.page_alloc.specs.Joining.{pages_state, free_pages, HasNoRoom, IsJoined, PartsGo, HasFailed}
+use Rattle.page_alloc.specs.Joining.{pages_state, free_pages, HasNoRoom, IsJoined, PartsGo, FaultsRose}
 use Rattle.page_alloc.specs.Order.{TakesInOrder, GivesInOrder}
-use Rattle.page_alloc.specs.Taking.{Taken, Given, CallFails}
+use Rattle.page_alloc.specs.Taking.{Taken, GivenBack, CallFails}
 
 module _ {H : Type 0} (count : H → ℕ) where
   -- a fault of the call is no Damage where the pages were sound, and Full only where room was lacking
   abbrev pub FailsOnly : {X : Type 0} → Type 0 → Type 0 → H → H → Result X Fault → Type 0
   FailsOnly sound lacks_room before after result =
-      IfErr result (CallFails sound (HasFailed (count before) (count after)) lacks_room)
+      IfErr result (CallFails sound (FaultsRose (count before) (count after)) lacks_room)
 
 -- of shelves that show this state and count their faults so
 module _ {H : Type 0} (state : H → ShelfState) (count : H → ℕ) where
@@ -46,12 +46,12 @@ module _ {H : Type 0} (state : H → ShelfState) where
   -- the shelf is honest after a call before which page n was marked as a free one
   abbrev pub WasMarked : ℕ → Cache → H → H → Type 0
   WasMarked n cache before after = IsTrue (state after).is_honest
-      × IsTrue (is_free (pages_of cache (state before) n))
+      × IsTrue (is_free (cached_pages_of cache (state before) n))
 
   -- where the shelf is honest, the page that a free page links to is answered
   abbrev pub AnswersNext : {X : Type 0} → ℕ → Cache → H → H → Result ℕ X → Type 0
   AnswersNext n cache before after result = IsTrue (state after).is_honest
-      → IfOk result (λ next. next ≡ next_of (pages_of cache (state before) n))
+      → IfOk result (λ next. next ≡ next_of (cached_pages_of cache (state before) n))
 
   -- a call that takes a page, or leaves all of them as they were
   pub record TakesPage (old new : Cache) (from to : Pager) (before after : H)
@@ -64,7 +64,8 @@ module _ {H : Type 0} (state : H → ShelfState) where
   -- a call that gives page n back, or leaves all pages as they were
   pub record GivesPage {X : Type 0} (n : ℕ) (old new : Cache) (from to : Pager) (before after : H)
       (result : Result X Fault) : Type 0 where
-    pub given : OnOk result (Given (pages_state old from (state before)) (pages_state new to (state after)) n)
+    pub given : OnOk result (GivenBack (pages_state old from (state before))
+        (pages_state new to (state after)) n)
     pub kept : OnErr result (Rests (pages_state old from (state before)) (pages_state new to (state after)))
     pub order : IsTrue (state after).is_honest → IsSome ((pages_state old from (state before)).live n)
         → GivesInOrder n from to (free_pages old from (state before)) (free_pages new to (state after)) result

@@ -13,9 +13,9 @@ use Rattle.page_cache.specs.declared.cache.Cache.{Cache}
 use Rattle.page_cache.specs.Quietly.{GoesQuietly}
 use Rattle.page_cache.proofs.QuietLemmas.{goes_nowhere, goes_then}
 use Rattle.page_alloc.specs.declared.paged_file.PagedFile.{PagedFile}
-use Rattle.page_alloc.specs.Joining.{PartsGo, HasFailed}
+use Rattle.page_alloc.specs.Joining.{PartsGo, FaultsRose}
 use Rattle.page_alloc.specs.PagedFile.{IsOpenOver, StandsOrRefused}
-use Rattle.page_alloc.specs.Steps.{Goes, ReadsPages, Moves}
+use Rattle.page_alloc.specs.Steps.{Goes, ReadsFilePages, Moves}
 
 pub parts_stay : (c : Cache) (s : ShelfState) (n : ℕ) → PartsGo c c s s n n
 parts_stay c s n = record {
@@ -38,10 +38,10 @@ parts_then c d e x y z i j k cd de = record {
   faults = let p = cd.faults in let q = de.faults in omega arith;
 }
 
-pub failed_before : (i j k : ℕ) → HasFailed i j → j ≤ k → HasFailed i k
+pub failed_before : (i j k : ℕ) → FaultsRose i j → j ≤ k → FaultsRose i k
 failed_before i j k p q = omega arith
 
-pub failed_after : (i j k : ℕ) → i ≤ j → HasFailed j k → HasFailed i k
+pub failed_after : (i j k : ℕ) → i ≤ j → FaultsRose j k → FaultsRose i k
 failed_after i j k p q = omega arith
 
 pub goes_nothing : (a : PagedFile) (s : ShelfState) (n : ℕ) → Goes a a s s n n
@@ -63,15 +63,15 @@ goes_on a b c x y z i j k ab bc = record {
   still = λ r shut. bc.still (ab.ready r) (ab.gate ∙ shut) ∙ ab.still r shut;
 }
 
-pub reads_nothing : (a : PagedFile) (s : ShelfState) (n : ℕ) → ReadsPages a a s s n n
+pub reads_nothing : (a : PagedFile) (s : ShelfState) (n : ℕ) → ReadsFilePages a a s s n n
 reads_nothing a s n = record {
   goes = goes_nothing a s n;
   pager = refl;
   rests = record { live = λ h. refl; sound = λ h. refl; available = refl; honest = λ h. h };
 }
 
-pub reads_on : (a b c : PagedFile) (x y z : ShelfState) (i j k : ℕ) → ReadsPages a b x y i j
-    → ReadsPages b c y z j k → ReadsPages a c x z i k
+pub reads_on : (a b c : PagedFile) (x y z : ShelfState) (i j k : ℕ) → ReadsFilePages a b x y i j
+    → ReadsFilePages b c y z j k → ReadsFilePages a c x z i k
 reads_on a b c x y z i j k ab bc = record {
   goes = goes_on a b c x y z i j k ab.goes bc.goes;
   pager = bc.pager ∙ ab.pager;

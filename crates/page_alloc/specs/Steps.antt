@@ -8,8 +8,8 @@ use Rattle.page_alloc.specs.Joining.{pages_state, PartsGo}
 use Rattle.page_alloc.specs.PagedFile.{IsOpenOver, StandsOrRefused}
 
 -- what the pages of an open file show
-abbrev pub state_of : PagedFile → ShelfState → PagesState
-state_of held shelf = pages_state held.cache held.pager shelf
+abbrev pub pages_state_of : PagedFile → ShelfState → PagesState
+pages_state_of held shelf = pages_state held.cache held.pager shelf
 
 -- a call that leaves the gate and the limit of pages: behind a closed gate nothing is written,
 -- behind an open one each crash image begins as some image before did
@@ -21,10 +21,10 @@ pub record Goes (old new : PagedFile) (before after : ShelfState) (failed fails 
   pub still : IsOpenOver old before → old.changed ≡ false → after.file ≡ before.file
 
 -- a call that only reads
-pub record ReadsPages (old new : PagedFile) (before after : ShelfState) (failed fails : ℕ) : Type 0 where
+pub record ReadsFilePages (old new : PagedFile) (before after : ShelfState) (failed fails : ℕ) : Type 0 where
   pub goes : Goes old new before after failed fails
   pub pager : new.pager ≡ old.pager
-  pub rests : Rests (state_of old before) (state_of new after)
+  pub rests : Rests (pages_state_of old before) (pages_state_of new after)
 
 -- a call that may open the gate: at each moment a crash leaves what it could leave before, or a
 -- refused file. As many frames stay, and the limit of pages; the count of pages asked for does not

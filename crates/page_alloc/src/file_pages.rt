@@ -16,18 +16,19 @@ pub struct FilePages<'a, S: Shelf> {
 impl<'a, S: Shelf> Pages for FilePages<'a, S> {
     ghost use Rattle.std.specs.Prelude.{◌≡◌, true, refl};
     ghost use Rattle.std.proofs.Common.{◌∙◌};
-    ghost use Rattle.page_alloc.specs.Joining.{HasFailed as Failed};
+    ghost use Rattle.page_alloc.specs.Joining.{FaultsRose as Failed};
     ghost use Rattle.page_alloc.specs.PagedFile.{IsOpenOver};
-    ghost use Rattle.page_alloc.specs.Steps.{state_of, ReadsPages, Goes as GoesOn, Moves as MovesOn};
+    ghost use Rattle.page_alloc.specs.Steps.{pages_state_of, ReadsFilePages, Goes as GoesOn};
+    ghost use Rattle.page_alloc.specs.Steps.{Moves as MovesOn};
     ghost use Rattle.page_alloc.specs.StepLaws.{goes_nothing, goes_on, goes_moves, reads_nothing, reads_on};
     ghost use Rattle.page_alloc.specs.StepLaws.{moves_on, failed_before, failed_after};
 
     ghost shown = { record {
-      state = λ p. state_of p.file.now (S.Shelf.state p.shelf.now);
+      state = λ p. pages_state_of p.file.now (S.Shelf.state p.shelf.now);
       IsReady = λ p. IsOpenOver p.file.now (S.Shelf.state p.shelf.now);
       CanChange = λ p. p.file.now.changed ≡ true;
       Reads = λ a b. (b.file.ghost_name ≡ a.file.ghost_name) × (b.shelf.ghost_name ≡ a.shelf.ghost_name)
-          × ReadsPages a.file.now b.file.now (S.Shelf.state a.shelf.now) (S.Shelf.state b.shelf.now)
+          × ReadsFilePages a.file.now b.file.now (S.Shelf.state a.shelf.now) (S.Shelf.state b.shelf.now)
           (S.Shelf.fault_count a.shelf.now) (S.Shelf.fault_count b.shelf.now);
       Writes = λ a b. (b.file.ghost_name ≡ a.file.ghost_name) × (b.shelf.ghost_name ≡ a.shelf.ghost_name)
           × GoesOn a.file.now b.file.now (S.Shelf.state a.shelf.now) (S.Shelf.state b.shelf.now)
@@ -38,9 +39,11 @@ impl<'a, S: Shelf> Pages for FilePages<'a, S> {
       HasFailed = λ a b. Failed (S.Shelf.fault_count a.shelf.now) (S.Shelf.fault_count b.shelf.now);
     } };
 
-    ghost reads_nothing = { λ a. (refl, refl, reads_nothing a.file.now (S.Shelf.state a.shelf.now) (S.Shelf.fault_count a.shelf.now)) };
+    ghost reads_nothing = { λ a.
+        (refl, refl, reads_nothing a.file.now (S.Shelf.state a.shelf.now) (S.Shelf.fault_count a.shelf.now)) };
 
-    ghost reads_on = { λ a b c ab bc. (bc.0 ∙ ab.0, bc.1 ∙ ab.1, reads_on a.file.now b.file.now c.file.now _ _ _ _ _ _ ab.2 bc.2) };
+    ghost reads_on = { λ a b c ab bc.
+        (bc.0 ∙ ab.0, bc.1 ∙ ab.1, reads_on a.file.now b.file.now c.file.now _ _ _ _ _ _ ab.2 bc.2) };
 
     ghost reads_writes = { λ a b reads. (reads.0, reads.1, reads.2.goes) };
 
@@ -50,9 +53,11 @@ impl<'a, S: Shelf> Pages for FilePages<'a, S> {
 
     ghost reads_available = { λ a b reads. reads.2.rests.available };
 
-    ghost writes_nothing = { λ a. (refl, refl, goes_nothing a.file.now (S.Shelf.state a.shelf.now) (S.Shelf.fault_count a.shelf.now)) };
+    ghost writes_nothing = { λ a.
+        (refl, refl, goes_nothing a.file.now (S.Shelf.state a.shelf.now) (S.Shelf.fault_count a.shelf.now)) };
 
-    ghost writes_on = { λ a b c ab bc. (bc.0 ∙ ab.0, bc.1 ∙ ab.1, goes_on a.file.now b.file.now c.file.now _ _ _ _ _ _ ab.2 bc.2) };
+    ghost writes_on = { λ a b c ab bc.
+        (bc.0 ∙ ab.0, bc.1 ∙ ab.1, goes_on a.file.now b.file.now c.file.now _ _ _ _ _ _ ab.2 bc.2) };
 
     ghost writes_begins = { λ a b goes. (goes.0, goes.1, goes_moves a.file.now b.file.now _ _ _ _ goes.2) };
 
@@ -65,12 +70,15 @@ impl<'a, S: Shelf> Pages for FilePages<'a, S> {
     ghost writes_counts = { λ a b goes. goes.2.parts.asked };
 
     ghost failed_before = { λ a b c failed goes. failed_before
-        (S.Shelf.fault_count a.shelf.now) (S.Shelf.fault_count b.shelf.now) (S.Shelf.fault_count c.shelf.now) failed goes.2.parts.faults };
+        (S.Shelf.fault_count a.shelf.now) (S.Shelf.fault_count b.shelf.now) (S.Shelf.fault_count c.shelf.now)
+        failed goes.2.parts.faults };
 
     ghost failed_after = { λ a b c goes failed. failed_after
-        (S.Shelf.fault_count a.shelf.now) (S.Shelf.fault_count b.shelf.now) (S.Shelf.fault_count c.shelf.now) goes.2.parts.faults failed };
+        (S.Shelf.fault_count a.shelf.now) (S.Shelf.fault_count b.shelf.now) (S.Shelf.fault_count c.shelf.now)
+        goes.2.parts.faults failed };
 
-    ghost begins_on = { λ a b c ab bc. (bc.0 ∙ ab.0, bc.1 ∙ ab.1, moves_on a.file.now b.file.now c.file.now _ _ _ _ _ _ ab.2 bc.2) };
+    ghost begins_on = { λ a b c ab bc.
+        (bc.0 ∙ ab.0, bc.1 ∙ ab.1, moves_on a.file.now b.file.now c.file.now _ _ _ _ _ _ ab.2 bc.2) };
 
     ghost begins_honestly = { λ a b moves. moves.2.others.honest };
 
@@ -79,10 +87,12 @@ impl<'a, S: Shelf> Pages for FilePages<'a, S> {
     ghost begins_counts = { λ a b moves. moves.2.asked };
 
     ghost failed_earlier = { λ a b c failed moves. failed_before
-        (S.Shelf.fault_count a.shelf.now) (S.Shelf.fault_count b.shelf.now) (S.Shelf.fault_count c.shelf.now) failed moves.2.faults };
+        (S.Shelf.fault_count a.shelf.now) (S.Shelf.fault_count b.shelf.now) (S.Shelf.fault_count c.shelf.now)
+        failed moves.2.faults };
 
     ghost failed_later = { λ a b c moves failed. failed_after
-        (S.Shelf.fault_count a.shelf.now) (S.Shelf.fault_count b.shelf.now) (S.Shelf.fault_count c.shelf.now) moves.2.faults failed };
+        (S.Shelf.fault_count a.shelf.now) (S.Shelf.fault_count b.shelf.now) (S.Shelf.fault_count c.shelf.now)
+        moves.2.faults failed };
 
     fn page(&mut self, n: u32) -> Result<&[u8; PAGE_SIZE], Fault> {
         if n == 0 || n >= self.file.pager.count {

@@ -4,7 +4,7 @@ use Rattle.std.specs.Prelude.{MatchResult}
 use Rattle.std.specs.Option.{option_map_or}
 use Rattle.std.proofs.lemmas.Bool.{cases_Bool, and_parts, and_from, ltb-true, ltb-false, lt-ltb, le-ltb, both_ways, and_right}
 use Rattle.page_store.specs.DeviceFile.{DeviceFile, content}
-use Rattle.page_store.specs.Pages.{page_of, HasPages, PageWritten, PageFails}
+use Rattle.page_store.specs.Pages.{page_of_bytes, HoldsPages, PageWritten, PageFails}
 use Rattle.page_store.proofs.PageLemmas.{written_is_read, others_read, others_kept}
 use Rattle.io_state.specs.declared.fault.Fault.{Fault}
 use Rattle.page_cache.proofs.WriteLemmas.{over_positive, same_unit}
@@ -12,7 +12,7 @@ use Rattle.page_store.specs.ShelfState.{ShelfState, HasUnit, unit_file, WhereHon
 use Rattle.page_store.specs.declared.store.Store.{Store}
 use Rattle.page_cache.specs.declared.frame.Frame.{Frame}
 use Rattle.page_cache.specs.declared.cache.Cache.{Cache}
-use Rattle.page_cache.specs.Cached.{frame_of, is_counted, pages_of, IsOver}
+use Rattle.page_cache.specs.Cached.{frame_of, is_counted_page, cached_pages_of, IsOver}
 use Rattle.page_cache.specs.Calls.{KeepsPages, Zeroed, MayGoOn}
 use Rattle.page_cache.specs.Quietly.{GoesQuietly}
 use Rattle.page_cache.proofs.QuietLemmas.{goes_then}
@@ -23,7 +23,7 @@ use Rattle.lru.specs.LruCache.{IsValid, lru_cache, put_entries}
 use Rattle.std.specs.Cmp.{nat_eq_equiv}
 use Rattle.std.proofs.lemmas.Map.Entries.{lookup_from_place}
 
-parts : (c : Cache) (k : ℕ) → is_counted c k ≡ true → (0 < k) × (k < c.store.pages)
+parts : (c : Cache) (k : ℕ) → is_counted_page c k ≡ true → (0 < k) × (k < c.store.pages)
 parts c k is = let p = and_parts (ltb 0 k) (ltb k c.store.pages) is in (ltb-true 0 k p.0, ltb-true k c.store.pages p.1)
 
 -- d has the same frames over a store of as many pages, or one more
@@ -35,32 +35,32 @@ module _ (c d : Cache) (s t : ShelfState) (frames : d.frames ≡ c.frames) (ext 
   over_added = record {
     attached = subst (λ u. HasUnit t u) (sym ext.unit) ext.attached;
     counted = λ k frame is. let low = parts c k (over.counted k frame (sym (same_frame k) ∙ is)) in and_from (ltb 0 k) (ltb k d.store.pages) (lt-ltb 0 k low.0) (lt-ltb k d.store.pages (let l = low.1 in omega arith));
-    pages = λ h. subst (λ u. HasPages d.store.pages (unit_file t u)) (sym ext.unit) (ext.pages h);
+    pages = λ h. subst (λ u. HoldsPages d.store.pages (unit_file t u)) (sym ext.unit) (ext.pages h);
     clean = λ h k frame is clean.
         let was = sym (same_frame k) ∙ is in
         let low = parts c k (over.counted k frame was) in
-        over.clean (honest h) k frame was clean ∙ sym (ext.others h k low.1) ∙ ap (λ u. page_of (content (unit_file t u)) k) (sym ext.unit);
+        over.clean (honest h) k frame was clean ∙ sym (ext.others h k low.1) ∙ ap (λ u. page_of_bytes (content (unit_file t u)) k) (sym ext.unit);
   }
 
   -- a page that both count, or neither
-  pub page_kept : IsTrue t.is_honest → (k : ℕ) → is_counted d k ≡ is_counted c k → pages_of d t k ≡ pages_of c s k
+  pub page_kept : IsTrue t.is_honest → (k : ℕ) → is_counted_page d k ≡ is_counted_page c k → cached_pages_of d t k ≡ cached_pages_of c s k
   page_kept h k both =
-      ap (λ o. option_map_or (λ (f : Frame). f.page.value) o (if is_counted d k then page_of (content (unit_file t d.store.unit)) k else [])) (same_frame k)
+      ap (λ o. option_map_or (λ (f : Frame). f.page.value) o (if is_counted_page d k then page_of_bytes (content (unit_file t d.store.unit)) k else [])) (same_frame k)
       ∙ ap (option_map_or (λ (f : Frame). f.page.value) (frame_of c k)) stored
     where
-      stored : (if is_counted d k then page_of (content (unit_file t d.store.unit)) k else []) ≡ (if is_counted c k then page_of (content (unit_file s c.store.unit)) k else [])
-      stored = elim (cases_Bool (is_counted c k)) [
-        | inl counted ↦ rw (both, counted) (ap (λ u. page_of (content (unit_file t u)) k) ext.unit ∙ ext.others h k (parts c k counted).1)
+      stored : (if is_counted_page d k then page_of_bytes (content (unit_file t d.store.unit)) k else []) ≡ (if is_counted_page c k then page_of_bytes (content (unit_file s c.store.unit)) k else [])
+      stored = elim (cases_Bool (is_counted_page c k)) [
+        | inl counted ↦ rw (both, counted) (ap (λ u. page_of_bytes (content (unit_file t u)) k) ext.unit ∙ ext.others h k (parts c k counted).1)
         | inr past ↦ rw (both, past) refl
       ]
 
   -- the page that was added
-  pub page_added : (n : ℕ) → is_counted c n ≡ false → is_counted d n ≡ true → pages_of d t n ≡ page_of (content (unit_file t c.store.unit)) n
+  pub page_added : (n : ℕ) → is_counted_page c n ≡ false → is_counted_page d n ≡ true → cached_pages_of d t n ≡ page_of_bytes (content (unit_file t c.store.unit)) n
   page_added n past counted = go (frame_of c n) refl
     where
-      go : (o : Option Frame) → frame_of c n ≡ o → pages_of d t n ≡ page_of (content (unit_file t c.store.unit)) n
-      go (Some frame) is = absurd (both_ways (is_counted c n) past (over.counted n frame is))
-      go None is = rw (same_frame n ∙ is, counted) (ap (λ u. page_of (content (unit_file t u)) n) ext.unit)
+      go : (o : Option Frame) → frame_of c n ≡ o → cached_pages_of d t n ≡ page_of_bytes (content (unit_file t c.store.unit)) n
+      go (Some frame) is = absurd (both_ways (is_counted_page c n) past (over.counted n frame is))
+      go None is = rw (same_frame n ∙ is, counted) (ap (λ u. page_of_bytes (content (unit_file t u)) n) ext.unit)
 
 zeros_get : (n i : ℕ) → ◌≡◌ {A = ℕ} (get_or (replicate n 0) i 0) 0
 zeros_get zero i = refl
@@ -70,28 +70,28 @@ zeros_get (suc n) (suc i) = zeros_get n i
 pub zeros_page : (page : List ℕ) (n : ℕ) → ◌≡◌ {A = List ℕ} page (replicate n 0) → length page ≡ 4096 → IsZeros page
 zeros_page page n is whole = record { whole = whole; each = λ i. ap (λ l. get_or l i 0) is ∙ zeros_get n i }
 
-pub page_written : (f g : DeviceFile) (n : ℕ) (page : List ℕ) → 0 < n → HasPages n f → PageWritten n page f g → length page ≡ 4096 → page_of (content g) n ≡ page
+pub page_written : (f g : DeviceFile) (n : ℕ) (page : List ℕ) → 0 < n → HoldsPages n f → PageWritten n page f g → length page ≡ 4096 → page_of_bytes (content g) n ≡ page
 page_written f g n page low has w whole = written_is_read f g n page has whole w ∙ over_positive n (content f) page low
 
 pub adds : (old new : Store) (n : ℕ) (page : List ℕ) (t : ShelfState) (r : Result (Unit {0}) Fault) → max old.pages (n + 1) ≡ n + 1 → OnOk r (new ≡ record old { pages = max old.pages (n + 1) })
-    → OnErr r (new ≡ old) → OnOk r (IsTrue t.is_honest → page_of (content (unit_file t old.unit)) n ≡ page) → MatchResult r (λ _. AddsPage n page old new t) (λ _. new ≡ old)
+    → OnErr r (new ≡ old) → OnOk r (IsTrue t.is_honest → page_of_bytes (content (unit_file t old.unit)) n ≡ page) → MatchResult r (λ _. AddsPage n page old new t) (λ _. new ≡ old)
 adds old new n page t (Ok x) most added kept written = record { store = added ∙ ap (λ p. record old { pages = p }) most; written = written }
 adds old new n page t (Err x) most added kept written = kept
 
-pub extended : (old new : Store) (n : ℕ) (s t : ShelfState) (page : List ℕ) → HasUnit s old.unit → n ≡ old.pages → WhereHonest s old.unit (HasPages old.pages) → length page ≡ 4096 → ChangesOnly old.unit s t
-    → (r : Result (Unit {0}) Fault) → OnOk r (new ≡ record old { pages = max old.pages (n + 1) }) → OnErr r (new ≡ old) → WhereHonest t new.unit (HasPages new.pages)
+pub extended : (old new : Store) (n : ℕ) (s t : ShelfState) (page : List ℕ) → HasUnit s old.unit → n ≡ old.pages → WhereHonest s old.unit (HoldsPages old.pages) → length page ≡ 4096 → ChangesOnly old.unit s t
+    → (r : Result (Unit {0}) Fault) → OnOk r (new ≡ record old { pages = max old.pages (n + 1) }) → OnErr r (new ≡ old) → WhereHonest t new.unit (HoldsPages new.pages)
     → OnOk r (PageWritten n page (unit_file s old.unit) (unit_file t old.unit)) → OnErr r (PageFails n (unit_file s old.unit) (unit_file t old.unit))
     → Extends old new s t
 extended old new n s t page unit last has whole only (Ok x) added kept pages written failed = record {
   attached = same_unit old.unit s t only unit;
   unit = ap (λ x. x.unit) added;
-  pages = λ honest. subst (λ u. HasPages new.pages (unit_file t u)) (ap (λ x. x.unit) added) (pages honest);
+  pages = λ honest. subst (λ u. HoldsPages new.pages (unit_file t u)) (ap (λ x. x.unit) added) (pages honest);
   others = λ honest m below. others_read (unit_file s old.unit) (unit_file t old.unit) old.pages n m page (has (sym only.honest ∙ honest)) (omega arith) below (λ same. omega arith) whole written;
 }
 extended old new n s t page unit last has whole only (Err x) added kept pages written failed = record {
   attached = same_unit old.unit s t only unit;
   unit = ap (λ x. x.unit) kept;
-  pages = λ honest. subst (λ u. HasPages new.pages (unit_file t u)) (ap (λ x. x.unit) kept) (pages honest);
+  pages = λ honest. subst (λ u. HoldsPages new.pages (unit_file t u)) (ap (λ x. x.unit) kept) (pages honest);
   others = λ honest m below. others_kept (unit_file s old.unit) (unit_file t old.unit) old.pages n m (has (sym only.honest ∙ honest)) below (λ same. omega arith) failed;
 }
 
@@ -115,7 +115,7 @@ counted_same n k differs = elim (cases_Bool (ltb k n)) [
 ]
 
 pub all_added : (c d : Cache) (s t : ShelfState) (n : ℕ) → 0 < n → n ≡ c.store.pages → d.frames ≡ c.frames → Extends c.store d.store s t → IsOver c s → GoesQuietly c.store.unit s t
-    → (r : Result (Unit {0}) Fault) → OnOk r (d.store ≡ record c.store { pages = n + 1 }) → OnErr r (d.store ≡ c.store) → OnOk r (IsTrue t.is_honest → IsZeros (page_of (content (unit_file t c.store.unit)) n))
+    → (r : Result (Unit {0}) Fault) → OnOk r (d.store ≡ record c.store { pages = n + 1 }) → OnErr r (d.store ≡ c.store) → OnOk r (IsTrue t.is_honest → IsZeros (page_of_bytes (content (unit_file t c.store.unit)) n))
     → Added n r c d s t
 all_added c d s t n low last frames ext over goes (Ok x) added kept zeros =
     let pages : d.store.pages ≡ n + 1 = ap (λ x. x.pages) added in
@@ -163,13 +163,13 @@ module _ (c e d : Cache) (t u : ShelfState) (n : ℕ) (frame : Frame) (low : 0 <
         let was = ap (λ f. slice_get f.entries (f.cap - 1)) (sym frames) ∙ is in
         let held = lookup_from_place nat_eq_equiv c.frames.entries (c.frames.cap - 1) m other valid.0 was in
         let below = (parts c m (over.counted m other held)).1 in
-        room.settled (goes.others.honest honest) m other was ∙ sym (ext.others honest m below) ∙ ap (λ x. page_of (content (unit_file u x)) m) (sym unit);
+        room.settled (goes.others.honest honest) m other was ∙ sym (ext.others honest m below) ∙ ap (λ x. page_of_bytes (content (unit_file u x)) m) (sym unit);
   }
 
   pages : e.store.pages ≡ n + 1
   pages = ap (λ x. x.pages) adds.store
 
-  counted : IsTrue (is_counted e n)
+  counted : IsTrue (is_counted_page e n)
   counted = rw pages (and_from (ltb 0 n) (ltb n (n + 1)) (lt-ltb 0 n low) (lt-ltb n (n + 1) (omega arith)))
 
   absent : frame_of e n ≡ None
@@ -181,7 +181,7 @@ module _ (c e d : Cache) (t u : ShelfState) (n : ℕ) (frame : Frame) (low : 0 <
 
   held : Brought n r e d u u
   held = brought e d u u n frame added.goes_on.over room_kept (subst (λ f. length f.entries ≤ f.cap) (sym frames) valid.1) counted absent store (record { names = refl; file = refl; honest = λ h. h }) unchanged
-      (λ h. sym (adds.written h) ∙ ap (λ x. page_of (content (unit_file u x)) n) (sym unit)) r put kept
+      (λ h. sym (adds.written h) ∙ ap (λ x. page_of_bytes (content (unit_file u x)) n) (sym unit)) r put kept
 
   pub zeroed_put : Zeroed n c d t u
   zeroed_put = record {

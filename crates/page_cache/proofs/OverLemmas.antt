@@ -3,33 +3,33 @@ use Rattle.std.proofs.Common.{◌≡◌, ◌≢◌, inl, inr, ℕ, ltb, ◌&&◌
 use Rattle.std.specs.Option.{option_map_or}
 use Rattle.std.proofs.lemmas.Bool.{cases_eq, both_ways}
 use Rattle.page_store.specs.DeviceFile.{content}
-use Rattle.page_store.specs.Pages.{page_of, HasPages}
+use Rattle.page_store.specs.Pages.{page_of_bytes, HoldsPages}
 use Rattle.page_store.specs.ShelfState.{ShelfState, HasUnit, unit_name, unit_file, OnlyAnswers}
 use Rattle.page_cache.specs.declared.frame.Frame.{Frame}
 use Rattle.page_cache.specs.declared.cache.Cache.{Cache}
 use Rattle.page_cache.specs.Lending.{FrameSet}
-use Rattle.page_cache.specs.Cached.{frame_of, is_counted, pages_of, IsOver, IsClean}
+use Rattle.page_cache.specs.Cached.{frame_of, is_counted_page, cached_pages_of, IsOver, IsClean}
 use Rattle.page_cache.specs.Calls.{KeepsPages}
 use Rattle.page_cache.proofs.QuietLemmas.{goes_nowhere}
 
 pub over_same : (c d : Cache) (s : ShelfState) → d.store ≡ c.store → ((k : ℕ) → frame_of d k ≡ frame_of c k) → IsOver c s → IsOver d s
 over_same c d s store same over = record {
   attached = subst (λ unit. HasUnit s unit) (sym (ap (λ x. x.unit) store)) over.attached;
-  counted = λ n frame is. subst (λ x. IsTrue (is_counted (record c { store = x }) n)) (sym store) (over.counted n frame (sym (same n) ∙ is));
-  pages = λ honest. subst (λ x. HasPages x.pages (unit_file s x.unit)) (sym store) (over.pages honest);
-  clean = λ honest n frame is unchanged. over.clean honest n frame (sym (same n) ∙ is) unchanged ∙ ap (λ x. page_of (content (unit_file s x.unit)) n) (sym store);
+  counted = λ n frame is. subst (λ x. IsTrue (is_counted_page (record c { store = x }) n)) (sym store) (over.counted n frame (sym (same n) ∙ is));
+  pages = λ honest. subst (λ x. HoldsPages x.pages (unit_file s x.unit)) (sym store) (over.pages honest);
+  clean = λ honest n frame is unchanged. over.clean honest n frame (sym (same n) ∙ is) unchanged ∙ ap (λ x. page_of_bytes (content (unit_file s x.unit)) n) (sym store);
 }
 
 pub clean_same : (c d : Cache) → ((k : ℕ) → frame_of d k ≡ frame_of c k) → IsClean c → IsClean d
 clean_same c d same clean = record { clean = λ n frame is. clean.clean n frame (sym (same n) ∙ is) }
 
-pages_same_at : (c d : Cache) (s : ShelfState) (k : ℕ) → d.store ≡ c.store → frame_of d k ≡ frame_of c k → pages_of d s k ≡ pages_of c s k
+pages_same_at : (c d : Cache) (s : ShelfState) (k : ℕ) → d.store ≡ c.store → frame_of d k ≡ frame_of c k → cached_pages_of d s k ≡ cached_pages_of c s k
 pages_same_at c d s k store same =
-    ap (λ o. option_map_or (λ (frame : Frame). frame.page.value) o (if is_counted d k then page_of (content (unit_file s d.store.unit)) k else [])) same
-    ∙ ap (λ x. option_map_or (λ (frame : Frame). frame.page.value) (frame_of c k) (if ltb 0 k && ltb k x.pages then page_of (content (unit_file s x.unit)) k else [])) store
+    ap (λ o. option_map_or (λ (frame : Frame). frame.page.value) o (if is_counted_page d k then page_of_bytes (content (unit_file s d.store.unit)) k else [])) same
+    ∙ ap (λ x. option_map_or (λ (frame : Frame). frame.page.value) (frame_of c k) (if ltb 0 k && ltb k x.pages then page_of_bytes (content (unit_file s x.unit)) k else [])) store
 
 -- the same frames show the same pages
-pub pages_same : (c d : Cache) (s : ShelfState) → d.store ≡ c.store → ((k : ℕ) → frame_of d k ≡ frame_of c k) → pages_of d s ≡ pages_of c s
+pub pages_same : (c d : Cache) (s : ShelfState) → d.store ≡ c.store → ((k : ℕ) → frame_of d k ≡ frame_of c k) → cached_pages_of d s ≡ cached_pages_of c s
 pages_same c d s store same = λ i k. pages_same_at c d s k store (same k) i
 
 mapped : (o : Option Frame) (w rest : List ℕ) → option_map (λ frame. frame.page.value) o ≡ Some w → option_map_or (λ frame. frame.page.value) o rest ≡ w
@@ -37,7 +37,7 @@ mapped None w rest is = absurd (cc)
 mapped (Some frame) w rest is = cc
 
 -- a held page is what the cache shows
-pub held_page : (c : Cache) (s : ShelfState) (n : ℕ) (w : List ℕ) → option_map (λ frame. frame.page.value) (frame_of c n) ≡ Some w → pages_of c s n ≡ w
+pub held_page : (c : Cache) (s : ShelfState) (n : ℕ) (w : List ℕ) → option_map (λ frame. frame.page.value) (frame_of c n) ≡ Some w → cached_pages_of c s n ≡ w
 held_page c s n w is = mapped (frame_of c n) w _ is
 
 changed_at : (o : Option Frame) (frame : Frame) → option_map (λ frame. frame.changed) o ≡ Some true → o ≡ Some frame → frame.changed ≡ true
@@ -45,21 +45,21 @@ changed_at None frame is at = absurd (cc)
 changed_at (Some g) frame is at = cc
 
 module _ (n : ℕ) (w : List ℕ) (c d : Cache) (set : FrameSet n w c d) where
-  pub set_page : (s : ShelfState) → pages_of d s n ≡ w
+  pub set_page : (s : ShelfState) → cached_pages_of d s n ≡ w
   set_page s = held_page d s n w set.this
 
-  pub set_others : (s : ShelfState) (k : ℕ) → k ≢ n → pages_of d s k ≡ pages_of c s k
+  pub set_others : (s : ShelfState) (k : ℕ) → k ≢ n → cached_pages_of d s k ≡ cached_pages_of c s k
   set_others s k differs = pages_same_at c d s k set.store (set.others k differs)
 
-  pub over_set : (s : ShelfState) → IsTrue (is_counted c n) → IsOver c s → IsOver d s
+  pub over_set : (s : ShelfState) → IsTrue (is_counted_page c n) → IsOver c s → IsOver d s
   over_set s here over = record {
     attached = subst (λ unit. HasUnit s unit) (sym (ap (λ x. x.unit) set.store)) over.attached;
-    counted = λ k frame is. subst (λ x. IsTrue (is_counted (record c { store = x }) k)) (sym set.store)
+    counted = λ k frame is. subst (λ x. IsTrue (is_counted_page (record c { store = x }) k)) (sym set.store)
         (elim (cases_eq k n) [ inl same ↦ rw same here | inr differs ↦ over.counted k frame (sym (set.others k differs) ∙ is) ]);
-    pages = λ honest. subst (λ x. HasPages x.pages (unit_file s x.unit)) (sym set.store) (over.pages honest);
+    pages = λ honest. subst (λ x. HoldsPages x.pages (unit_file s x.unit)) (sym set.store) (over.pages honest);
     clean = λ honest k frame is unchanged. elim (cases_eq k n) [
       | inl same ↦ absurd (both_ways frame.changed unchanged (changed_at (frame_of d n) frame set.changed (ap (frame_of d) (sym same) ∙ is)))
-      | inr differs ↦ over.clean honest k frame (sym (set.others k differs) ∙ is) unchanged ∙ ap (λ x. page_of (content (unit_file s x.unit)) k) (sym set.store)
+      | inr differs ↦ over.clean honest k frame (sym (set.others k differs) ∙ is) unchanged ∙ ap (λ x. page_of_bytes (content (unit_file s x.unit)) k) (sym set.store)
     ];
   }
 
@@ -68,8 +68,8 @@ module _ (c : Cache) (t u : ShelfState) (only : OnlyAnswers t u) where
   pub file_read : unit_file u c.store.unit ≡ unit_file t c.store.unit
   file_read = ap (λ file. file (unit_name u c.store.unit)) only.file ∙ ap (λ names. t.file (unit_name (record t { names = names }) c.store.unit)) only.names
 
-  pub pages_read : pages_of c u ≡ pages_of c t
-  pages_read = λ i k. option_map_or (λ (f : Frame). f.page.value) (frame_of c k) (if is_counted c k then page_of (content (file_read i)) k else [])
+  pub pages_read : cached_pages_of c u ≡ cached_pages_of c t
+  pages_read = λ i k. option_map_or (λ (f : Frame). f.page.value) (frame_of c k) (if is_counted_page c k then page_of_bytes (content (file_read i)) k else [])
 
   pub over_read : IsOver c t → IsOver c u
   over_read over = record {

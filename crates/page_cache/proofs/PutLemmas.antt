@@ -11,11 +11,11 @@ use Rattle.std.specs.Map.{lookup}
 use Rattle.std.proofs.lemmas.Bool.{cases_Bool, cases_eq, both_ways, eqb-true, ne_eqb}
 use Rattle.lru.specs.LruCache.{LruCache, lru_cache, put_entries}
 use Rattle.page_store.specs.DeviceFile.{content}
-use Rattle.page_store.specs.Pages.{page_of, HasPages}
+use Rattle.page_store.specs.Pages.{page_of_bytes, HoldsPages}
 use Rattle.page_store.specs.ShelfState.{ShelfState, unit_name, unit_file, OnlyAnswers}
 use Rattle.page_cache.specs.declared.frame.Frame.{Frame}
 use Rattle.page_cache.specs.declared.cache.Cache.{Cache}
-use Rattle.page_cache.specs.Cached.{frame_of, is_counted, pages_of, IsOver, IsClean}
+use Rattle.page_cache.specs.Cached.{frame_of, is_counted_page, cached_pages_of, IsOver, IsClean}
 use Rattle.page_cache.specs.Turning.{HasRoom}
 use Rattle.page_cache.proofs.FrameLemmas.{put_front}
 
@@ -41,7 +41,7 @@ module _ {X : Type 0} where
   ]
 
 -- the frame stands in front of the others, of which the last may be gone
-module _ (c d : Cache) (t u : ShelfState) (n : ℕ) (frame : Frame) (over : IsOver c t) (room : HasRoom c t) (fits : length c.frames.entries ≤ c.frames.cap) (counted : IsTrue (is_counted c n))
+module _ (c d : Cache) (t u : ShelfState) (n : ℕ) (frame : Frame) (over : IsOver c t) (room : HasRoom c t) (fits : length c.frames.entries ≤ c.frames.cap) (counted : IsTrue (is_counted_page c n))
     (absent : frame_of c n ≡ None) (store : d.store ≡ c.store) (put : d.frames ≡ lru_cache (put_entries nat_eq c.frames n frame) c.frames.cap) (only : OnlyAnswers t u) where
   entries : d.frames.entries ≡ (n, frame) ∷ take (c.frames.cap - 1) c.frames.entries
   entries = ap (λ frames. frames.entries) put ∙ put_front c.frames n frame absent
@@ -74,19 +74,19 @@ module _ (c d : Cache) (t u : ShelfState) (n : ℕ) (frame : Frame) (over : IsOv
   one_frame : (other : Frame) → frame_of d n ≡ Some other → other ≡ frame
   one_frame other is = let e : Some other ≡ Some frame = sym is ∙ put_here in cc
 
-  counted_in : (k : ℕ) → IsTrue (is_counted c k) → IsTrue (is_counted d k)
-  counted_in k is = subst (λ x. IsTrue (is_counted (record c { store = x }) k)) (sym store) is
+  counted_in : (k : ℕ) → IsTrue (is_counted_page c k) → IsTrue (is_counted_page d k)
+  counted_in k is = subst (λ x. IsTrue (is_counted_page (record c { store = x }) k)) (sym store) is
 
   -- the frame is that of the file, or counts as changed
-  pub over_put : (IsTrue u.is_honest → frame.changed ≡ false → frame.page.value ≡ page_of (content (unit_file t c.store.unit)) n) → IsOver d u
+  pub over_put : (IsTrue u.is_honest → frame.changed ≡ false → frame.page.value ≡ page_of_bytes (content (unit_file t c.store.unit)) n) → IsOver d u
   over_put bytes = record {
     attached = record { attached = subst (λ names. d.store.unit < length names) (sym only.names) (subst (λ x. x.unit < length t.names) (sym store) over.attached.attached) };
     counted = λ k other is. counted_in k (elim (cases_eq k n) [ inl same ↦ rw same counted | inr differs ↦ over.counted k other (was_held k other differs is) ]);
-    pages = λ honest. rw file_same (subst (λ x. HasPages x.pages (unit_file t c.store.unit)) (sym store) (over.pages (only.honest honest)));
+    pages = λ honest. rw file_same (subst (λ x. HoldsPages x.pages (unit_file t c.store.unit)) (sym store) (over.pages (only.honest honest)));
     clean = λ honest k other is clean. rw file_same (elim (cases_eq k n) [
       | inl same ↦
           let one = one_frame other (ap (frame_of d) (sym same) ∙ is) in
-          ap (λ (x : Frame). x.page.value) one ∙ bytes honest (sym (ap (λ (x : Frame). x.changed) one) ∙ clean) ∙ ap (page_of (content (unit_file t c.store.unit))) (sym same)
+          ap (λ (x : Frame). x.page.value) one ∙ bytes honest (sym (ap (λ (x : Frame). x.changed) one) ∙ clean) ∙ ap (page_of_bytes (content (unit_file t c.store.unit))) (sym same)
       | inr differs ↦ over.clean (only.honest honest) k other (was_held k other differs is) clean
     ]);
   }
@@ -99,25 +99,25 @@ module _ (c d : Cache) (t u : ShelfState) (n : ℕ) (frame : Frame) (over : IsOv
     ];
   }
 
-  stored : (k : ℕ) → (if is_counted d k then page_of (content (unit_file u d.store.unit)) k else []) ≡ (if is_counted c k then page_of (content (unit_file t c.store.unit)) k else [])
-  stored k = ap (λ file. if is_counted d k then page_of (content file) k else []) file_same ∙ ap (λ x. if is_counted (record c { store = x }) k then page_of (content (unit_file t c.store.unit)) k else []) store
+  stored : (k : ℕ) → (if is_counted_page d k then page_of_bytes (content (unit_file u d.store.unit)) k else []) ≡ (if is_counted_page c k then page_of_bytes (content (unit_file t c.store.unit)) k else [])
+  stored k = ap (λ file. if is_counted_page d k then page_of_bytes (content file) k else []) file_same ∙ ap (λ x. if is_counted_page (record c { store = x }) k then page_of_bytes (content (unit_file t c.store.unit)) k else []) store
 
-  of_frame : (k : ℕ) (o q : Option Frame) → frame_of d k ≡ o → frame_of c k ≡ q → option_map_or (λ (f : Frame). f.page.value) o (if is_counted d k then page_of (content (unit_file u d.store.unit)) k else []) ≡ option_map_or (λ (f : Frame). f.page.value) q (if is_counted c k then page_of (content (unit_file t c.store.unit)) k else []) → pages_of d u k ≡ pages_of c t k
+  of_frame : (k : ℕ) (o q : Option Frame) → frame_of d k ≡ o → frame_of c k ≡ q → option_map_or (λ (f : Frame). f.page.value) o (if is_counted_page d k then page_of_bytes (content (unit_file u d.store.unit)) k else []) ≡ option_map_or (λ (f : Frame). f.page.value) q (if is_counted_page c k then page_of_bytes (content (unit_file t c.store.unit)) k else []) → cached_pages_of d u k ≡ cached_pages_of c t k
   of_frame k o q d_is c_is same = rw (d_is, c_is) same
 
-  pub page_here : pages_of d u n ≡ frame.page.value
-  page_here = ap (λ o. option_map_or (λ (f : Frame). f.page.value) o (if is_counted d n then page_of (content (unit_file u d.store.unit)) n else [])) put_here
+  pub page_here : cached_pages_of d u n ≡ frame.page.value
+  page_here = ap (λ o. option_map_or (λ (f : Frame). f.page.value) o (if is_counted_page d n then page_of_bytes (content (unit_file u d.store.unit)) n else [])) put_here
 
-  pub pages_apart : IsTrue u.is_honest → (k : ℕ) → k ≢ n → pages_of d u k ≡ pages_of c t k
+  pub pages_apart : IsTrue u.is_honest → (k : ℕ) → k ≢ n → cached_pages_of d u k ≡ cached_pages_of c t k
   pages_apart honest k differs = elim (put_other k differs) [
-    | inl kept ↦ ap (λ o. option_map_or (λ (f : Frame). f.page.value) o (if is_counted d k then page_of (content (unit_file u d.store.unit)) k else [])) kept ∙ ap (option_map_or (λ (f : Frame). f.page.value) (frame_of c k)) (stored k)
+    | inl kept ↦ ap (λ o. option_map_or (λ (f : Frame). f.page.value) o (if is_counted_page d k then page_of_bytes (content (unit_file u d.store.unit)) k else [])) kept ∙ ap (option_map_or (λ (f : Frame). f.page.value) (frame_of c k)) (stored k)
     | inr gone ↦ of_frame k None (Some gone.1.0) gone.0 gone.1.2 (stored k ∙ rw (over.counted k gone.1.0 gone.1.2) (sym (room.settled (only.honest honest) k gone.1.0 gone.1.1)))
   ]
 
-  pub pages_put : (IsTrue u.is_honest → frame.page.value ≡ page_of (content (unit_file t c.store.unit)) n) → IsTrue u.is_honest → pages_of d u ≡ pages_of c t
+  pub pages_put : (IsTrue u.is_honest → frame.page.value ≡ page_of_bytes (content (unit_file t c.store.unit)) n) → IsTrue u.is_honest → cached_pages_of d u ≡ cached_pages_of c t
   pages_put bytes honest = λ i k. at k i
     where
-      at : (k : ℕ) → pages_of d u k ≡ pages_of c t k
+      at : (k : ℕ) → cached_pages_of d u k ≡ cached_pages_of c t k
       at k = elim (cases_eq k n) [
         | inl same ↦ of_frame k (Some frame) None (ap (frame_of d) same ∙ put_here) (ap (frame_of c) same ∙ absent) (bytes honest ∙ rw (same, counted) refl)
         | inr differs ↦ pages_apart honest k differs
@@ -127,11 +127,11 @@ module _ (c d : Cache) (t u : ShelfState) (n : ℕ) (frame : Frame) (over : IsOv
 pub record Brought (n : ℕ) (r : Result (Unit {0}) Fault) (c d : Cache) (t u : ShelfState) : Type 0 where
   pub held : OnOk r (IsSome (frame_of d n))
   pub over : IsOver d u
-  pub pages : IsTrue u.is_honest → pages_of d u ≡ pages_of c t
+  pub pages : IsTrue u.is_honest → cached_pages_of d u ≡ cached_pages_of c t
   pub clean : IsClean c → IsClean d
 
-pub brought : (c d : Cache) (t u : ShelfState) (n : ℕ) (frame : Frame) → IsOver c t → HasRoom c t → length c.frames.entries ≤ c.frames.cap → IsTrue (is_counted c n) → frame_of c n ≡ None → d.store ≡ c.store
-    → OnlyAnswers t u → frame.changed ≡ false → (IsTrue u.is_honest → frame.page.value ≡ page_of (content (unit_file t c.store.unit)) n)
+pub brought : (c d : Cache) (t u : ShelfState) (n : ℕ) (frame : Frame) → IsOver c t → HasRoom c t → length c.frames.entries ≤ c.frames.cap → IsTrue (is_counted_page c n) → frame_of c n ≡ None → d.store ≡ c.store
+    → OnlyAnswers t u → frame.changed ≡ false → (IsTrue u.is_honest → frame.page.value ≡ page_of_bytes (content (unit_file t c.store.unit)) n)
     → (r : Result (Unit {0}) Fault) → OnOk r (d.frames ≡ lru_cache (put_entries nat_eq c.frames n frame) c.frames.cap) → OnErr r (d.frames ≡ c.frames) → Brought n r c d t u
 brought c d t u n frame over room fits counted absent store only unchanged bytes (Ok x) put kept = record {
   held = ap is_some (put_here c d t u n frame over room fits counted absent store put only);
@@ -158,7 +158,7 @@ pub record Blanked (n : ℕ) (r : Result (Unit {0}) Fault) (c d : Cache) (t : Sh
   pub kept : OnErr r (KeepsPages c d t t)
   pub over : IsOver d t
 
-pub blanked : (c d : Cache) (t : ShelfState) (n : ℕ) (frame : Frame) → IsOver c t → HasRoom c t → length c.frames.entries ≤ c.frames.cap → IsTrue (is_counted c n) → frame_of c n ≡ None → d.store ≡ c.store
+pub blanked : (c d : Cache) (t : ShelfState) (n : ℕ) (frame : Frame) → IsOver c t → HasRoom c t → length c.frames.entries ≤ c.frames.cap → IsTrue (is_counted_page c n) → frame_of c n ≡ None → d.store ≡ c.store
     → frame.changed ≡ true → IsZeros frame.page.value
     → (r : Result (Unit {0}) Fault) → OnOk r (d.frames ≡ lru_cache (put_entries nat_eq c.frames n frame) c.frames.cap) → OnErr r (d.frames ≡ c.frames) → Blanked n r c d t
 blanked c d t n frame over room fits counted absent store changed zeros (Ok x) put kept =

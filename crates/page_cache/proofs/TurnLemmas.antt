@@ -10,10 +10,10 @@ use Rattle.page_cache.specs.declared.frame.Frame.{Frame}
 use Rattle.std.proofs.lemmas.List.{length-take}
 use Rattle.lru.specs.LruCache.{lru_cache}
 use Rattle.page_store.specs.DeviceFile.{content}
-use Rattle.page_store.specs.Pages.{page_of, HasPages}
+use Rattle.page_store.specs.Pages.{page_of_bytes, HoldsPages}
 use Rattle.page_store.specs.ShelfState.{ShelfState, HasUnit, unit_file}
 use Rattle.page_cache.specs.declared.cache.Cache.{Cache}
-use Rattle.page_cache.specs.Cached.{frame_of, is_counted, pages_of, IsOver, IsClean}
+use Rattle.page_cache.specs.Cached.{frame_of, is_counted_page, cached_pages_of, IsOver, IsClean}
 use Rattle.std.proofs.lemmas.Map.Entries.{place_from_lookup}
 use Rattle.page_cache.proofs.FrameLemmas.{set_here, set_apart, lookup-lookup_entry, entry_none}
 use Rattle.page_cache.specs.Turning.{settled, settle_found, Turned}
@@ -123,7 +123,7 @@ module _ (c d : Cache) (n : ℕ) (frame : Frame) (found : frame_of c n ≡ Some 
     | inr differs ↦ ap (option_map (λ (f : Frame). f.page.value)) (settled_other k differs)
   ]
 
-  pub pages_settled : (s : ShelfState) → d.store ≡ c.store → pages_of d s ≡ pages_of c s
+  pub pages_settled : (s : ShelfState) → d.store ≡ c.store → cached_pages_of d s ≡ cached_pages_of c s
   pages_settled s store = λ i k. at k i
     where
       by_map : (o q : Option Frame) (rest more : List ℕ) → option_map (λ (f : Frame). f.page.value) o ≡ option_map (λ (f : Frame). f.page.value) q → rest ≡ more
@@ -133,22 +133,22 @@ module _ (c d : Cache) (n : ℕ) (frame : Frame) (found : frame_of c n ≡ Some 
       by_map (Some f) None rest more same e = absurd (cc)
       by_map (Some f) (Some g) rest more same e = ap (λ (o : Option (List ℕ)). option_map_or (λ v. v) o f.page.value) same
 
-      at : (k : ℕ) → pages_of d s k ≡ pages_of c s k
-      at k = by_map (frame_of d k) (frame_of c k) _ _ (shows_same k) (ap (λ x. if ltb 0 k && ltb k x.pages then page_of (content (unit_file s x.unit)) k else []) store)
+      at : (k : ℕ) → cached_pages_of d s k ≡ cached_pages_of c s k
+      at k = by_map (frame_of d k) (frame_of c k) _ _ (shows_same k) (ap (λ x. if ltb 0 k && ltb k x.pages then page_of_bytes (content (unit_file s x.unit)) k else []) store)
 
-  pub over_settled : (s : ShelfState) → d.store ≡ c.store → IsOver c s → (IsTrue s.is_honest → frame.page.value ≡ page_of (content (unit_file s c.store.unit)) n) → IsOver d s
+  pub over_settled : (s : ShelfState) → d.store ≡ c.store → IsOver c s → (IsTrue s.is_honest → frame.page.value ≡ page_of_bytes (content (unit_file s c.store.unit)) n) → IsOver d s
   over_settled s store over same = record {
     attached = subst (λ unit. HasUnit s unit) (sym (ap (λ x. x.unit) store)) over.attached;
-    counted = λ k other is. subst (λ x. IsTrue (is_counted (record c { store = x }) k)) (sym store) (elim (cases_eq k n) [
+    counted = λ k other is. subst (λ x. IsTrue (is_counted_page (record c { store = x }) k)) (sym store) (elim (cases_eq k n) [
       | inl here ↦ rw here (over.counted n frame found)
       | inr differs ↦ over.counted k other (sym (settled_other k differs) ∙ is)
     ]);
-    pages = λ honest. subst (λ x. HasPages x.pages (unit_file s x.unit)) (sym store) (over.pages honest);
+    pages = λ honest. subst (λ x. HoldsPages x.pages (unit_file s x.unit)) (sym store) (over.pages honest);
     clean = λ honest k other is clean. elim (cases_eq k n) [
       | inl here ↦
           let one : Some (record frame { changed = false }) ≡ Some other = sym settled_here ∙ ap (frame_of d) (sym here) ∙ is in
-          sym (ap (λ (o : Option Frame). option_map_or (λ (f : Frame). f.page.value) o []) one) ∙ same honest ∙ ap (λ x. page_of (content (unit_file s x.unit)) n) (sym store) ∙ ap (page_of (content (unit_file s d.store.unit))) (sym here)
-      | inr differs ↦ over.clean honest k other (sym (settled_other k differs) ∙ is) clean ∙ ap (λ x. page_of (content (unit_file s x.unit)) k) (sym store)
+          sym (ap (λ (o : Option Frame). option_map_or (λ (f : Frame). f.page.value) o []) one) ∙ same honest ∙ ap (λ x. page_of_bytes (content (unit_file s x.unit)) n) (sym store) ∙ ap (page_of_bytes (content (unit_file s d.store.unit))) (sym here)
+      | inr differs ↦ over.clean honest k other (sym (settled_other k differs) ∙ is) clean ∙ ap (λ x. page_of_bytes (content (unit_file s x.unit)) k) (sym store)
     ];
   }
 

@@ -7,34 +7,34 @@ use Rattle.std.proofs.lemmas.Map.Entries.{lookup_from_place}
 use Rattle.std.proofs.lemmas.Bool.{cases_Bool, both_ways, and_parts, ltb-true}
 use Rattle.lru.specs.LruCache.{IsValid, last_entry}
 use Rattle.page_store.specs.DeviceFile.{DeviceFile, content}
-use Rattle.page_store.specs.Pages.{page_of, HasPages, PageWritten, PageFails}
+use Rattle.page_store.specs.Pages.{page_of_bytes, HoldsPages, PageWritten, PageFails}
 use Rattle.page_store.specs.PageFacts.{page_over}
 use Rattle.page_store.proofs.PageLemmas.{written_is_read, others_read, others_kept}
 use Rattle.page_store.specs.ShelfState.{ShelfState, HasUnit, unit_file, WhereHonest, ChangesOnly, FaultHasCause}
 use Rattle.page_store.specs.declared.store.Store.{Store}
 use Rattle.page_cache.specs.declared.frame.Frame.{Frame}
 use Rattle.page_cache.specs.declared.cache.Cache.{Cache}
-use Rattle.page_cache.specs.Cached.{frame_of, is_counted, pages_of, IsOver}
+use Rattle.page_cache.specs.Cached.{frame_of, is_counted_page, cached_pages_of, IsOver}
 use Rattle.page_cache.specs.Turning.{HasRoom, IsLastWritten}
 use Rattle.page_cache.specs.Calls.{OnlyLooks, LooksUp}
 use Rattle.page_cache.specs.Quietly.{GoesQuietly}
 use Rattle.page_cache.specs.Rewrites.{Rewrites}
 
-pub fewer : (n pages : ℕ) (f : DeviceFile) → n ≤ pages → HasPages pages f → HasPages n f
+pub fewer : (n pages : ℕ) (f : DeviceFile) → n ≤ pages → HoldsPages pages f → HoldsPages n f
 fewer n pages f le has = record { there = has.there; long = let l = has.long in omega arith }
 
 pub over_positive : (n : ℕ) (old page : List ℕ) → 0 < n → page_over n old page ≡ page
 over_positive zero old page low = absurd (omega arith)
 over_positive (suc n) old page low = refl
 
-pub written_here : (f g : DeviceFile) (n pages : ℕ) (page : List ℕ) → 0 < n → n < pages → HasPages pages f → length page ≡ 4096 → PageWritten n page f g → page_of (content g) n ≡ page
+pub written_here : (f g : DeviceFile) (n pages : ℕ) (page : List ℕ) → 0 < n → n < pages → HoldsPages pages f → length page ≡ 4096 → PageWritten n page f g → page_of_bytes (content g) n ≡ page
 written_here f g n pages page low within has whole w = written_is_read f g n page (fewer n pages f (omega arith) has) whole w ∙ over_positive n (content f) page low
 
 pub same_unit : (unit : ℕ) (s t : ShelfState) → ChangesOnly unit s t → HasUnit s unit → HasUnit t unit
 same_unit unit s t only has = record { attached = subst (λ names. unit < length names) (sym only.names) has.attached }
 
-pub rewritten : (store : Store) (n : ℕ) (s t : ShelfState) (page : List ℕ) → HasUnit s store.unit → 0 < n → n < store.pages → WhereHonest s store.unit (HasPages store.pages) → length page ≡ 4096
-    → ChangesOnly store.unit s t → WhereHonest t store.unit (HasPages store.pages)
+pub rewritten : (store : Store) (n : ℕ) (s t : ShelfState) (page : List ℕ) → HasUnit s store.unit → 0 < n → n < store.pages → WhereHonest s store.unit (HoldsPages store.pages) → length page ≡ 4096
+    → ChangesOnly store.unit s t → WhereHonest t store.unit (HoldsPages store.pages)
     → PageWritten n page (unit_file s store.unit) (unit_file t store.unit) ⊎ PageFails n (unit_file s store.unit) (unit_file t store.unit)
     → Rewrites store n s t
 rewritten store n s t page unit low within has whole only pages how = record {
@@ -52,7 +52,7 @@ rewritten store n s t page unit low within has whole only pages how = record {
 pub last_held : (c : Cache) (n : ℕ) (frame : Frame) → IsValid nat_eq c.frames → last_entry c.frames.entries ≡ Some (n, frame) → frame_of c n ≡ Some frame
 last_held c n frame valid is = lookup_from_place nat_eq_equiv c.frames.entries (length c.frames.entries - 1) n frame valid.0 is
 
-pub counted_low : (c : Cache) (n : ℕ) → IsTrue (is_counted c n) → (0 < n) × (n < c.store.pages)
+pub counted_low : (c : Cache) (n : ℕ) → IsTrue (is_counted_page c n) → (0 < n) × (n < c.store.pages)
 counted_low c n counted =
     let parts = and_parts (ltb 0 n) (ltb n c.store.pages) counted in
     (ltb-true 0 n parts.0, ltb-true n c.store.pages parts.1)
@@ -78,9 +78,9 @@ module _ (c : Cache) (s t : ShelfState) (n : ℕ) (frame : Frame) (over : IsOver
   }
 
   shows : (h : IsTrue t.is_honest) (k : ℕ) (o : Option Frame) → frame_of c k ≡ o
-      → option_map_or (λ (x : Frame). x.page.value) o (if is_counted c k then page_of (content (unit_file t c.store.unit)) k else []) ≡ option_map_or (λ (x : Frame). x.page.value) o (if is_counted c k then page_of (content (unit_file s c.store.unit)) k else [])
+      → option_map_or (λ (x : Frame). x.page.value) o (if is_counted_page c k then page_of_bytes (content (unit_file t c.store.unit)) k else []) ≡ option_map_or (λ (x : Frame). x.page.value) o (if is_counted_page c k then page_of_bytes (content (unit_file s c.store.unit)) k else [])
   shows h k (Some other) at = refl
-  shows h k None at = elim (cases_Bool (is_counted c k)) [
+  shows h k None at = elim (cases_Bool (is_counted_page c k)) [
     | inl counted ↦ rw counted (w.others h k (counted_low c k counted).1 (λ same. differs (sym at ∙ ap (frame_of c) same ∙ is)))
     | inr past ↦ rw past refl
   ]
@@ -88,13 +88,13 @@ module _ (c : Cache) (s t : ShelfState) (n : ℕ) (frame : Frame) (over : IsOver
       differs : None ≡ Some frame → ⊥
       differs e = cc
 
-  pub pages_rewritten : IsTrue t.is_honest → pages_of c t ≡ pages_of c s
+  pub pages_rewritten : IsTrue t.is_honest → cached_pages_of c t ≡ cached_pages_of c s
   pages_rewritten h = λ i k. at k i
     where
-      at : (k : ℕ) → pages_of c t k ≡ pages_of c s k
+      at : (k : ℕ) → cached_pages_of c t k ≡ cached_pages_of c s k
       at k = rw_at k (frame_of c k) refl
         where
-          rw_at : (k : ℕ) (o : Option Frame) → frame_of c k ≡ o → pages_of c t k ≡ pages_of c s k
+          rw_at : (k : ℕ) (o : Option Frame) → frame_of c k ≡ o → cached_pages_of c t k ≡ cached_pages_of c s k
           rw_at k o is = rw is (shows h k o is)
 
 pub either : {P Q : Type 0} (r : Result (Unit {0}) Fault) → OnOk r P → OnErr r Q → P ⊎ Q
@@ -126,13 +126,13 @@ room_made c t valid full last = record {
 }
 
 pub last_written : (c : Cache) (t : ShelfState) (k : ℕ) (frame : Frame) → last_entry c.frames.entries ≡ Some (k, frame)
-    → (IsTrue t.is_honest → frame.page.value ≡ page_of (content (unit_file t c.store.unit)) k) → IsLastWritten c t
+    → (IsTrue t.is_honest → frame.page.value ≡ page_of_bytes (content (unit_file t c.store.unit)) k) → IsLastWritten c t
 last_written c t k frame last same = record {
   settled = λ honest n other is.
       let pair : Some (n, other) ≡ Some (k, frame) = sym is ∙ last in
       let number : n ≡ k = ap (λ (o : Option (ℕ × Frame)). option_map_or (λ p. p.0) o n) pair in
       let bytes : other ≡ frame = ap (λ (o : Option (ℕ × Frame)). option_map_or (λ p. p.1) o other) pair in
-      ap (λ (x : Frame). x.page.value) bytes ∙ same honest ∙ ap (page_of (content (unit_file t c.store.unit))) (sym number);
+      ap (λ (x : Frame). x.page.value) bytes ∙ same honest ∙ ap (page_of_bytes (content (unit_file t c.store.unit))) (sym number);
 }
 
 -- the page was written, so the shelf is honest after where it was before

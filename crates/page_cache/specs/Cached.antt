@@ -6,7 +6,7 @@ use Rattle.std.specs.Map.{lookup}
 use Rattle.lru.specs.LruCache.{lru_cache}
 use Rattle.page_store.specs.declared.store.Store.{Store}
 use Rattle.page_store.specs.DeviceFile.{DeviceFile, content}
-use Rattle.page_store.specs.Pages.{page_of, HasPages}
+use Rattle.page_store.specs.Pages.{page_of_bytes, HoldsPages}
 use Rattle.page_store.specs.ShelfState.{ShelfState, HasUnit, unit_file, WhereHonest}
 use Rattle.page_cache.specs.declared.frame.Frame.{Frame}
 use Rattle.page_cache.specs.declared.cache.Cache.{Cache}
@@ -16,38 +16,39 @@ abbrev pub frame_of : Cache → ℕ → Option Frame
 frame_of cache n = lookup (nat_eq n) cache.frames.entries
 
 -- n is a page of the store, and not the header
-abbrev pub is_counted : Cache → ℕ → Bool
-is_counted cache n = ltb 0 n && ltb n cache.store.pages
+abbrev pub is_counted_page : Cache → ℕ → Bool
+is_counted_page cache n = ltb 0 n && ltb n cache.store.pages
 
 -- each page of the store as the cache shows it over a file; the header and what is past the last
 -- page have no bytes here
-abbrev pub pages_in : Cache → DeviceFile → ℕ → List ℕ
-pages_in cache file n = option_map_or (λ frame. frame.page.value) (frame_of cache n)
-    (if is_counted cache n then page_of (content file) n else [])
+abbrev pub cached_pages_in : Cache → DeviceFile → ℕ → List ℕ
+cached_pages_in cache file n = option_map_or (λ frame. frame.page.value) (frame_of cache n)
+    (if is_counted_page cache n then page_of_bytes (content file) n else [])
 
 -- the pages over the unit's file
-abbrev pub pages_of : Cache → ShelfState → ℕ → List ℕ
-pages_of cache shelf = pages_in cache (unit_file shelf cache.store.unit)
+abbrev pub cached_pages_of : Cache → ShelfState → ℕ → List ℕ
+cached_pages_of cache shelf = cached_pages_in cache (unit_file shelf cache.store.unit)
 
 -- what a cache needs of the shelf that it is over
 pub record IsOver (cache : Cache) (shelf : ShelfState) : Type 0 where
   pub attached : HasUnit shelf cache.store.unit
   -- a frame is of a page of the store
-  pub counted : (n : ℕ) (frame : Frame) → frame_of cache n ≡ Some frame → IsTrue (is_counted cache n)
-  pub pages : WhereHonest shelf cache.store.unit (HasPages cache.store.pages)
+  pub counted : (n : ℕ) (frame : Frame) → frame_of cache n ≡ Some frame → IsTrue (is_counted_page cache n)
+  pub pages : WhereHonest shelf cache.store.unit (HoldsPages cache.store.pages)
   -- a page that was not changed is that of the file
   pub clean : IsTrue shelf.is_honest → (n : ℕ) (frame : Frame) → frame_of cache n ≡ Some frame
-      → frame.changed ≡ false → frame.page.value ≡ page_of (content (unit_file shelf cache.store.unit)) n
+      → frame.changed ≡ false → frame.page.value
+      ≡ page_of_bytes (content (unit_file shelf cache.store.unit)) n
 
 -- so, and n is a page of the store
 pub record IsOverPage (n : ℕ) (cache : Cache) (shelf : ShelfState) : Type 0 where
   pub over : IsOver cache shelf
-  pub page : IsTrue (is_counted cache n)
+  pub page : IsTrue (is_counted_page cache n)
 
 -- so, and it is not in memory
 pub record IsOverMissing (n : ℕ) (cache : Cache) (shelf : ShelfState) : Type 0 where
   pub over : IsOver cache shelf
-  pub page : IsTrue (is_counted cache n)
+  pub page : IsTrue (is_counted_page cache n)
   pub absent : frame_of cache n ≡ None
 
 -- so, and n is the page behind the last one
@@ -72,9 +73,9 @@ pub record IsEmptyCache (store : Store) (most : ℕ) (cache : Cache) : Type 0 wh
   pub frames : cache.frames ≡ lru_cache [] most
   pub asked : cache.asked ≡ 0
   pub over : (shelf : ShelfState) → HasUnit shelf store.unit
-      → WhereHonest shelf store.unit (HasPages store.pages) → IsOver cache shelf
-  pub pages : (shelf : ShelfState) (n : ℕ) → pages_of cache shelf n
-      ≡ (if is_counted cache n then page_of (content (unit_file shelf store.unit)) n else [])
+      → WhereHonest shelf store.unit (HoldsPages store.pages) → IsOver cache shelf
+  pub pages : (shelf : ShelfState) (n : ℕ) → cached_pages_of cache shelf n
+      ≡ (if is_counted_page cache n then page_of_bytes (content (unit_file shelf store.unit)) n else [])
 
 -- no page in memory was changed since it was written
 pub record IsClean (cache : Cache) : Type 0 where

@@ -7,7 +7,7 @@ use Rattle.io_state.specs.declared.fault.Fault.TheVariants.{Memory}
 use Rattle.page_store.specs.ShelfState.{ShelfState, OnlyAnswers, FaultHasCause}
 use Rattle.page_cache.specs.declared.cache.Cache.{Cache}
 use Rattle.page_cache.specs.declared.frame.Frame.{Frame}
-use Rattle.page_cache.specs.Cached.{frame_of, pages_of, IsOver, IsClean}
+use Rattle.page_cache.specs.Cached.{frame_of, cached_pages_of, IsOver, IsClean}
 use Rattle.page_cache.specs.HeaderCalls.{WasPage}
 use Rattle.page_cache.specs.Pushing.{Pushes}
 use Rattle.page_cache.specs.Quietly.{GoesQuietly}
@@ -45,19 +45,20 @@ pub record PutsFrame {X : Type 0} (n : ℕ) (frame : Frame) (old new : Cache)
 -- it shows the pages that it showed, and may go on over its shelf
 pub record ShowsSame (old new : Cache) (before after : ShelfState) : Type 0 where
   pub over : IsOver new after
-  pub pages : IsTrue after.is_honest → pages_of new after ≡ pages_of old before
+  pub pages : IsTrue after.is_honest → cached_pages_of new after ≡ cached_pages_of old before
 
 -- so, of the same store, and nothing was written but quietly
 pub record KeepsPages (old new : Cache) (before after : ShelfState) : Type 0 where
   pub over : IsOver new after
-  pub pages : IsTrue after.is_honest → pages_of new after ≡ pages_of old before
+  pub pages : IsTrue after.is_honest → cached_pages_of new after ≡ cached_pages_of old before
   pub keeps : KeepsStore old new
   pub goes : GoesQuietly old.store.unit before after
 
 -- page n holds zeros, and every other page what it held
 pub record Zeroed (n : ℕ) (old new : Cache) (before after : ShelfState) : Type 0 where
-  pub zeros : IsTrue after.is_honest → IsZeros (pages_of new after n)
-  pub others : IsTrue after.is_honest → (k : ℕ) → k ≢ n → pages_of new after k ≡ pages_of old before k
+  pub zeros : IsTrue after.is_honest → IsZeros (cached_pages_of new after n)
+  pub others : IsTrue after.is_honest → (k : ℕ) → k ≢ n → cached_pages_of new after k
+      ≡ cached_pages_of old before k
   pub store : new.store ≡ record old.store { pages = max old.store.pages (n + 1) }
 
 -- it may go on over its shelf with as many frames, and nothing was written but quietly

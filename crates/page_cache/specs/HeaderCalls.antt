@@ -5,17 +5,18 @@ use Rattle.page_store.specs.DeviceFile.{DeviceFile, content}
 use Rattle.page_store.specs.Images.{IsSettled}
 use Rattle.page_store.specs.Moments.{Throughout}
 use Rattle.page_store.specs.Gate.{AllRefused, with_gate, WasOrRefused, ClosedOrRefused}
-use Rattle.page_store.specs.Pages.{page_of}
+use Rattle.page_store.specs.Pages.{page_of_bytes}
 use Rattle.page_store.specs.PageFacts.{page_over}
 use Rattle.page_store.specs.ShelfState.{ShelfState, unit_file, FileGoes, KeepsOthers, FaultHasCause}
 
 -- where the shelf is honest after a read, these are the bytes that the unit's file had as page n before
 abbrev pub WasPage : ℕ → ℕ → ShelfState → ShelfState → List ℕ → Type 0
-WasPage unit n before after page = IsTrue after.is_honest → page ≡ page_of (content (unit_file before unit)) n
+WasPage unit n before after page = IsTrue after.is_honest → page
+    ≡ page_of_bytes (content (unit_file before unit)) n
 
 -- where the shelf is honest, these are the bytes of page n of the unit's file
 abbrev pub HoldsPage : ℕ → ℕ → ShelfState → List ℕ → Type 0
-HoldsPage unit n shelf page = IsTrue shelf.is_honest → page_of (content (unit_file shelf unit)) n ≡ page
+HoldsPage unit n shelf page = IsTrue shelf.is_honest → page_of_bytes (content (unit_file shelf unit)) n ≡ page
 
 -- these bytes as the header of the unit's file, with the gate that it has
 abbrev pub header_with : ℕ → ShelfState → List ℕ → List ℕ

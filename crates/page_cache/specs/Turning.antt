@@ -4,7 +4,7 @@ use Rattle.std.specs.Prelude.{Some, None}
 use Rattle.std.specs.Map.{lookup, set_value}
 use Rattle.lru.specs.LruCache.{last_entry, promoted}
 use Rattle.page_store.specs.DeviceFile.{content}
-use Rattle.page_store.specs.Pages.{page_of}
+use Rattle.page_store.specs.Pages.{page_of_bytes}
 use Rattle.page_store.specs.ShelfState.{ShelfState, unit_file}
 use Rattle.page_cache.specs.declared.frame.Frame.{Frame}
 use Rattle.page_cache.specs.declared.cache.Cache.{Cache}
@@ -30,10 +30,10 @@ pub record Turned (old new : Cache) : Type 0 where
 pub record HasRoom (cache : Cache) (shelf : ShelfState) : Type 0 where
   pub settled : IsTrue shelf.is_honest → (n : ℕ) (frame : Frame)
       → slice_get cache.frames.entries (cache.frames.cap - 1) ≡ Some (n, frame)
-      → frame.page.value ≡ page_of (content (unit_file shelf cache.store.unit)) n
+      → frame.page.value ≡ page_of_bytes (content (unit_file shelf cache.store.unit)) n
 
 -- the last frame is in the file
 pub record IsLastWritten (cache : Cache) (shelf : ShelfState) : Type 0 where
   pub settled : IsTrue shelf.is_honest → (n : ℕ) (frame : Frame)
       → last_entry cache.frames.entries ≡ Some (n, frame)
-      → frame.page.value ≡ page_of (content (unit_file shelf cache.store.unit)) n
+      → frame.page.value ≡ page_of_bytes (content (unit_file shelf cache.store.unit)) n

@@ -6,7 +6,7 @@ use Rattle.tree_node.specs.Leaf.{leaf_entries}
 use Rattle.tree_node.specs.Inner.{separators, children}
 use Rattle.tree_node.proofs.InnerLemmas.{length_separators, length_children}
 use Rattle.page_bytes.specs.Each.{Each}
-use Rattle.page_counts.specs.Rows.{IsInnerIn, page_at, children_in, separators_in, entries_in}
+use Rattle.page_counts.specs.Rows.{IsInnerIn, page_at, children_in, separators_in, entries_in_row}
 
 -- the nodes of a row have a child more than separators, each
 pub children_many : (shape : Shape) (list : List (List ℕ)) (row : List ℕ) → length (children_in shape list row) ≡ length (separators_in shape list row) + length row
@@ -21,9 +21,9 @@ children_many shape list (n ∷ row) =
 
 -- the entries from leaf k on are those of the leaf, and those behind it
 pub entries_behind : (shape : Shape) (list : List (List ℕ)) (row : List ℕ) (k m : ℕ) → m ≡ suc k → k < length row
-    → length (entries_in shape list (drop k row)) ≡ length (leaf_entries shape (page_at list (slice_index_or row k 0))) + length (entries_in shape list (drop m row))
+    → length (entries_in_row shape list (drop k row)) ≡ length (leaf_entries shape (page_at list (slice_index_or row k 0))) + length (entries_in_row shape list (drop m row))
 entries_behind shape list [] k m e inside = absurd (omega arith)
-entries_behind shape list (n ∷ row) zero m e inside = rw e (length-append (leaf_entries shape (page_at list n)) (entries_in shape list row))
+entries_behind shape list (n ∷ row) zero m e inside = rw e (length-append (leaf_entries shape (page_at list n)) (entries_in_row shape list row))
 entries_behind shape list (n ∷ row) (suc k) m e inside = rw e (entries_behind shape list row k (suc k) refl (omega arith))
 
 -- a row up to node k, and that node, lead to the children of both

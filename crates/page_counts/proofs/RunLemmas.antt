@@ -12,32 +12,32 @@ use Rattle.tree_node.specs.Leaf.{leaf_entries}
 use Rattle.tree_search.specs.Calls.{last_of}
 use Rattle.tree_search.proofs.SearchLemmas.{last_index}
 use Rattle.page_counts.specs.declared.runs.Run.{Run}
-use Rattle.page_counts.specs.Rows.{page_at, entries_in}
-use Rattle.page_counts.specs.Runs.{values_of, count_of, AreTogether, RunOf, CanGoOn}
+use Rattle.page_counts.specs.Rows.{page_at, entries_in_row}
+use Rattle.page_counts.specs.Runs.{values_of, count_of_value, AreTogether, RunOf, CanGoOn}
 
 abbrev pub one_if : Bool → ℕ
 one_if true = 1
 one_if false = 0
 
-pub count_step : (v y : List ℕ) (ys : List (List ℕ)) → count_of v (y ∷ ys) ≡ one_if (bytes_eq v y) + count_of v ys
+pub count_step : (v y : List ℕ) (ys : List (List ℕ)) → count_of_value v (y ∷ ys) ≡ one_if (bytes_eq v y) + count_of_value v ys
 count_step v y ys = by_test (bytes_eq v y) refl
   where
-    by_test : (b : Bool) → bytes_eq v y ≡ b → count_of v (y ∷ ys) ≡ one_if (bytes_eq v y) + count_of v ys
+    by_test : (b : Bool) → bytes_eq v y ≡ b → count_of_value v (y ∷ ys) ≡ one_if (bytes_eq v y) + count_of_value v ys
     by_test true is = rw is (omega arith)
     by_test false is = rw is (omega arith)
 
-count_more : (v x : List ℕ) (xs : List (List ℕ)) → count_of v (xs ++ x ∷ []) ≡ count_of v xs + one_if (bytes_eq v x)
+count_more : (v x : List ℕ) (xs : List (List ℕ)) → count_of_value v (xs ++ x ∷ []) ≡ count_of_value v xs + one_if (bytes_eq v x)
 count_more v x [] = let s = count_step v x [] in omega (arith, s)
 count_more v x (y ∷ ys) = let a = count_step v y (ys ++ x ∷ []) in let b = count_step v y ys in omega (arith, a, b, count_more v x ys)
 
 same_is : (x y : List ℕ) → x ≡ y → one_if (bytes_eq x y) ≡ 1
 same_is x y e = rw ((bytes_eq-Decides x y).1 e) refl
 
-count_long : (v : List ℕ) (xs : List (List ℕ)) → count_of v xs ≤ length xs
+count_long : (v : List ℕ) (xs : List (List ℕ)) → count_of_value v xs ≤ length xs
 count_long v [] = omega arith
 count_long v (y ∷ ys) = by_test (bytes_eq v y) refl (count_long v ys)
   where
-    by_test : (b : Bool) → bytes_eq v y ≡ b → count_of v ys ≤ length ys → count_of v (y ∷ ys) ≤ suc (length ys)
+    by_test : (b : Bool) → bytes_eq v y ≡ b → count_of_value v ys ≤ length ys → count_of_value v (y ∷ ys) ≤ suc (length ys)
     by_test true is rest = let s = count_step v y ys in let one : one_if (bytes_eq v y) ≡ 1 = ap one_if is in omega (arith, s, one, rest)
     by_test false is rest = let s = count_step v y ys in let one : one_if (bytes_eq v y) ≡ 0 = ap one_if is in omega (arith, s, one, rest)
 
@@ -73,11 +73,11 @@ record FoundAt (v : List ℕ) (xs : List (List ℕ)) : Type 0 where
   pub inside : i < length xs
   pub is : slice_index_or xs i [] ≡ v
 
-found : (v : List ℕ) (xs : List (List ℕ)) → 1 ≤ count_of v xs → FoundAt v xs
+found : (v : List ℕ) (xs : List (List ℕ)) → 1 ≤ count_of_value v xs → FoundAt v xs
 found v [] some = absurd (omega arith)
 found v (y ∷ ys) some = by_test (bytes_eq v y) refl (λ more. found v ys more)
   where
-    by_test : (b : Bool) → bytes_eq v y ≡ b → (1 ≤ count_of v ys → FoundAt v ys) → FoundAt v (y ∷ ys)
+    by_test : (b : Bool) → bytes_eq v y ≡ b → (1 ≤ count_of_value v ys → FoundAt v ys) → FoundAt v (y ∷ ys)
     by_test true is behind = record { i = 0; inside = omega arith; is = sym ((bytes_eq-Decides v y).0 is) }
     by_test false is behind =
         let s = count_step v y ys in
@@ -86,7 +86,7 @@ found v (y ∷ ys) some = by_test (bytes_eq v y) refl (λ more. found v ys more)
         record { i = suc rest.i; inside = (let h = rest.inside in omega arith); is = rest.is }
 
 -- a value that stands together with its equals is the last one so far, or new
-new_in : (xs : List (List ℕ)) (x : List ℕ) → AreTogether (xs ++ x ∷ []) → 1 ≤ count_of x xs → last_of xs ≡ Some x
+new_in : (xs : List (List ℕ)) (x : List ℕ) → AreTogether (xs ++ x ∷ []) → 1 ≤ count_of_value x xs → last_of xs ≡ Some x
 new_in xs x together some =
     let at = found x xs some in
     let some_long = at.inside in
@@ -100,7 +100,7 @@ new_in xs x together some =
     last_index xs n back ∙ ap Some (sym at_n ∙ same ∙ end)
 
 -- one value more
-pub run_more : (xs : List (List ℕ)) (x : List ℕ) (run new : Run) → RunOf xs run → new.length ≡ count_of x xs + 1 → option_copied new.last ≡ Some x
+pub run_more : (xs : List (List ℕ)) (x : List ℕ) (run new : Run) → RunOf xs run → new.length ≡ count_of_value x xs + 1 → option_copied new.last ≡ Some x
     → new.longest ≡ max run.longest new.length → RunOf (xs ++ x ∷ []) new
 run_more xs x run new so_far many last longest =
     let left = le-max_left run.longest new.length in
@@ -108,19 +108,19 @@ run_more xs x run new so_far many last longest =
     record {
       last = last ∙ sym (last_more xs x);
       length_is = λ v e. let same : x ≡ v = some_same x v (sym (last_more xs x) ∙ e) in
-          subst (λ (w : List ℕ). new.length ≡ count_of w (xs ++ x ∷ [])) same (let m = count_more x x xs in let one = same_is x x refl in omega (arith, m, one, many));
+          subst (λ (w : List ℕ). new.length ≡ count_of_value w (xs ++ x ∷ [])) same (let m = count_more x x xs in let one = same_is x x refl in omega (arith, m, one, many));
       longest = record {
         most = λ v. most v (bytes_eq v x) refl left right;
         some = some (le_or run.longest new.length);
       };
     }
   where
-    most : (v : List ℕ) (b : Bool) → bytes_eq v x ≡ b → run.longest ≤ max run.longest new.length → new.length ≤ max run.longest new.length → count_of v (xs ++ x ∷ []) ≤ new.longest
+    most : (v : List ℕ) (b : Bool) → bytes_eq v x ≡ b → run.longest ≤ max run.longest new.length → new.length ≤ max run.longest new.length → count_of_value v (xs ++ x ∷ []) ≤ new.longest
     most v true is left right =
         let same : v ≡ x = (bytes_eq-Decides v x).0 is in
         let m = count_more v x xs in
         let one : one_if (bytes_eq v x) ≡ 1 = ap one_if is in
-        let e : count_of v xs ≡ count_of x xs = ap (λ (w : List ℕ). count_of w xs) same in
+        let e : count_of_value v xs ≡ count_of_value x xs = ap (λ (w : List ℕ). count_of_value w xs) same in
         omega (arith, m, one, e, many, longest, right)
     most v false is left right =
         let m = count_more v x xs in
@@ -137,7 +137,7 @@ run_more xs x run new so_far many last longest =
         next (inl h) = inl (omega arith)
         next (inr h) = inr (omega arith)
 
-    some : (run.longest ≤ new.length) ⊎ (new.length < run.longest) → (v : List ℕ) × (count_of v (xs ++ x ∷ []) ≡ new.longest)
+    some : (run.longest ≤ new.length) ⊎ (new.length < run.longest) → (v : List ℕ) × (count_of_value v (xs ++ x ∷ []) ≡ new.longest)
     some (inl h) =
         let m = count_more x x xs in
         let one = same_is x x refl in
@@ -148,10 +148,10 @@ run_more xs x run new so_far many last longest =
         let top : max run.longest new.length ≡ run.longest = max-eq_left (omega arith) in
         (old.0, kept old.0 old.1 (bytes_eq old.0 x) refl top h)
       where
-        kept : (v : List ℕ) → count_of v xs ≡ run.longest → (b : Bool) → bytes_eq v x ≡ b → max run.longest new.length ≡ run.longest → new.length < run.longest → count_of v (xs ++ x ∷ []) ≡ new.longest
+        kept : (v : List ℕ) → count_of_value v xs ≡ run.longest → (b : Bool) → bytes_eq v x ≡ b → max run.longest new.length ≡ run.longest → new.length < run.longest → count_of_value v (xs ++ x ∷ []) ≡ new.longest
         kept v old true is top h =
             let same : v ≡ x = (bytes_eq-Decides v x).0 is in
-            let e : count_of v xs ≡ count_of x xs = ap (λ (w : List ℕ). count_of w xs) same in
+            let e : count_of_value v xs ≡ count_of_value x xs = ap (λ (w : List ℕ). count_of_value w xs) same in
             absurd (omega (arith, old, e, many, h))
         kept v old false is top h =
             let m = count_more v x xs in
@@ -159,13 +159,13 @@ run_more xs x run new so_far many last longest =
             omega (arith, m, one, old, longest, top)
 
 -- the length of the run that goes on, and of one that begins
-pub goes_on : (xs : List (List ℕ)) (x : List ℕ) (run : Run) → RunOf xs run → option_copied run.last ≡ Some x → run.length ≡ count_of x xs
+pub goes_on : (xs : List (List ℕ)) (x : List ℕ) (run : Run) → RunOf xs run → option_copied run.last ≡ Some x → run.length ≡ count_of_value x xs
 goes_on xs x run so_far last = so_far.length_is x (sym so_far.last ∙ last)
 
-pub begins : (xs : List (List ℕ)) (x : List ℕ) (run : Run) → RunOf xs run → AreTogether (xs ++ x ∷ []) → (option_copied run.last ≡ Some x → ⊥) → count_of x xs ≡ 0
-begins xs x run so_far together other = by_count (count_of x xs) refl
+pub begins : (xs : List (List ℕ)) (x : List ℕ) (run : Run) → RunOf xs run → AreTogether (xs ++ x ∷ []) → (option_copied run.last ≡ Some x → ⊥) → count_of_value x xs ≡ 0
+begins xs x run so_far together other = by_count (count_of_value x xs) refl
   where
-    by_count : (n : ℕ) → count_of x xs ≡ n → count_of x xs ≡ 0
+    by_count : (n : ℕ) → count_of_value x xs ≡ n → count_of_value x xs ≡ 0
     by_count zero is = is
     by_count (suc n) is = absurd (other (so_far.last ∙ new_in xs x together (omega arith)))
 
@@ -258,42 +258,42 @@ run_none run none zero' = record {
 
 module _ (width : ℕ) (shape : Shape) (list : List (List ℕ)) (row : List ℕ) where
   leaf_values : (k m : ℕ) → m ≡ suc k → k < length row
-      → values_of width (entries_in shape list (take m row)) ≡ values_of width (entries_in shape list (take k row)) ++ values_of width (leaf_entries shape (page_at list (slice_index_or row k 0)))
+      → values_of width (entries_in_row shape list (take m row)) ≡ values_of width (entries_in_row shape list (take k row)) ++ values_of width (leaf_entries shape (page_at list (slice_index_or row k 0)))
   leaf_values k m e inside =
       let n = slice_index_or row k 0 in
-      let one : entries_in shape list (take (suc k) row) ≡ entries_in shape list (take k row) ++ leaf_entries shape (page_at list n) =
-      ap (entries_in shape list) (take-suc row k 0 inside) ∙ flat_map-append (λ (n : ℕ). leaf_entries shape (page_at list n)) (take k row) (n ∷ [])
-      ∙ ap (λ (l : List (List ℕ)). entries_in shape list (take k row) ++ l) (append-nil (leaf_entries shape (page_at list n))) in
-      rw e (ap (values_of width) one ∙ map-append (take width) (entries_in shape list (take k row)) (leaf_entries shape (page_at list n)))
+      let one : entries_in_row shape list (take (suc k) row) ≡ entries_in_row shape list (take k row) ++ leaf_entries shape (page_at list n) =
+      ap (entries_in_row shape list) (take-suc row k 0 inside) ∙ flat_map-append (λ (n : ℕ). leaf_entries shape (page_at list n)) (take k row) (n ∷ [])
+      ∙ ap (λ (l : List (List ℕ)). entries_in_row shape list (take k row) ++ l) (append-nil (leaf_entries shape (page_at list n))) in
+      rw e (ap (values_of width) one ∙ map-append (take width) (entries_in_row shape list (take k row)) (leaf_entries shape (page_at list n)))
 
-  whole_values : (k m : ℕ) → m ≡ suc k → k < length row → values_of width (entries_in shape list row)
-      ≡ (values_of width (entries_in shape list (take k row)) ++ values_of width (leaf_entries shape (page_at list (slice_index_or row k 0)))) ++ values_of width (entries_in shape list (drop m row))
+  whole_values : (k m : ℕ) → m ≡ suc k → k < length row → values_of width (entries_in_row shape list row)
+      ≡ (values_of width (entries_in_row shape list (take k row)) ++ values_of width (leaf_entries shape (page_at list (slice_index_or row k 0)))) ++ values_of width (entries_in_row shape list (drop m row))
   whole_values k m e inside =
-      ap (λ (l : List ℕ). values_of width (entries_in shape list l)) (sym (take-append-drop m row))
+      ap (λ (l : List ℕ). values_of width (entries_in_row shape list l)) (sym (take-append-drop m row))
       ∙ ap (values_of width) (flat_map-append (λ (n : ℕ). leaf_entries shape (page_at list n)) (take m row) (drop m row))
-      ∙ map-append (take width) (entries_in shape list (take m row)) (entries_in shape list (drop m row))
-      ∙ ap (λ (l : List (List ℕ)). l ++ values_of width (entries_in shape list (drop m row))) (leaf_values k m e inside)
+      ∙ map-append (take width) (entries_in_row shape list (take m row)) (entries_in_row shape list (drop m row))
+      ∙ ap (λ (l : List (List ℕ)). l ++ values_of width (entries_in_row shape list (drop m row))) (leaf_values k m e inside)
 
-  pub leaf_goes_on : (k : ℕ) (run : Run) → k < length row → length (entries_in shape list row) < 2 ^ 64 → AreTogether (values_of width (entries_in shape list row))
-      → RunOf (values_of width (entries_in shape list (take k row))) run → CanGoOn run (values_of width (leaf_entries shape (page_at list (slice_index_or row k 0))))
+  pub leaf_goes_on : (k : ℕ) (run : Run) → k < length row → length (entries_in_row shape list row) < 2 ^ 64 → AreTogether (values_of width (entries_in_row shape list row))
+      → RunOf (values_of width (entries_in_row shape list (take k row))) run → CanGoOn run (values_of width (leaf_entries shape (page_at list (slice_index_or row k 0))))
   leaf_goes_on k run inside few together so_far =
-      let front = values_of width (entries_in shape list (take k row)) in
+      let front = values_of width (entries_in_row shape list (take k row)) in
       let here = values_of width (leaf_entries shape (page_at list (slice_index_or row k 0))) in
-      let back = values_of width (entries_in shape list (drop (suc k) row)) in
+      let back = values_of width (entries_in_row shape list (drop (suc k) row)) in
       let all = whole_values k (suc k) refl inside in
       let a = ap length all in
       let b = length-append (front ++ here) back in
-      let c = length-map (entries_in shape list row) (take width) in
+      let c = length-map (entries_in_row shape list row) (take width) in
       record { values = front; so_far = so_far; together = together_front (front ++ here) back (subst AreTogether all together); few = omega (arith, a, b, c, few) }
 
-  pub leaf_adds : (k m : ℕ) (run new : Run) → m ≡ suc k → k < length row → AreTogether (values_of width (entries_in shape list row))
-      → RunOf (values_of width (entries_in shape list (take k row))) run
+  pub leaf_adds : (k m : ℕ) (run new : Run) → m ≡ suc k → k < length row → AreTogether (values_of width (entries_in_row shape list row))
+      → RunOf (values_of width (entries_in_row shape list (take k row))) run
       → ((values : List (List ℕ)) → RunOf values run → AreTogether (values ++ values_of width (leaf_entries shape (page_at list (slice_index_or row k 0))))
       → RunOf (values ++ values_of width (leaf_entries shape (page_at list (slice_index_or row k 0)))) new)
-      → RunOf (values_of width (entries_in shape list (take m row))) new
+      → RunOf (values_of width (entries_in_row shape list (take m row))) new
   leaf_adds k m run new e inside together so_far adds =
-      let front = values_of width (entries_in shape list (take k row)) in
+      let front = values_of width (entries_in_row shape list (take k row)) in
       let here = values_of width (leaf_entries shape (page_at list (slice_index_or row k 0))) in
-      let back = values_of width (entries_in shape list (drop m row)) in
+      let back = values_of width (entries_in_row shape list (drop m row)) in
       subst (λ (l : List (List ℕ)). RunOf l new) (sym (leaf_values k m e inside))
       (adds front so_far (together_front (front ++ here) back (subst AreTogether (whole_values k m e inside) together)))

@@ -11,7 +11,7 @@ use Rattle.tree_node.specs.Inner.{IsInner, separators, children}
 use Rattle.tree_search.specs.Tree.{TreeOf, page_of, pages_of, entries_of}
 use Rattle.tree_search.specs.Stored.{Holds}
 use Rattle.page_counts.specs.declared.level.TreeCounts.{TreeCounts}
-use Rattle.page_counts.specs.Rows.{page_at, IsLeafIn, IsInnerIn, AreNodes, children_in, separators_in, entries_in, leaves_in, levels_in}
+use Rattle.page_counts.specs.Rows.{page_at, IsLeafIn, IsInnerIn, AreNodes, children_in, separators_in, entries_in_row, leaves_in, levels_in}
 use Rattle.page_counts.specs.Levels.{levels_of, all_pages, AreShown, IsTreeIn, AreCounts, LevelsHaveAllPages}
 
 module _ (shape : Shape) (pages : PageMap) (list : List (List ℕ)) (shown : AreShown pages list) where
@@ -24,7 +24,7 @@ module _ (shape : Shape) (pages : PageMap) (list : List (List ℕ)) (shown : Are
   leaves_are [] all = tt
   leaves_are (t ∷ ts) all = (leaf_in t all.0, leaves_are ts all.1)
 
-  entries_are : (ts : List (TreeOf 0)) → Each (Holds shape pages 0) ts → entries_in shape list (map (page_of 0) ts) ≡ flat_map (λ (t : TreeOf 0). t.1) ts
+  entries_are : (ts : List (TreeOf 0)) → Each (Holds shape pages 0) ts → entries_in_row shape list (map (page_of 0) ts) ≡ flat_map (λ (t : TreeOf 0). t.1) ts
   entries_are [] all = refl
   entries_are (t ∷ ts) all =
       let at = shown t.0 all.0.bytes all.0.there in
@@ -74,7 +74,7 @@ module _ (shape : Shape) (pages : PageMap) (list : List (List ℕ)) (shown : Are
     pub nodes : AreNodes shape list h row
     pub levels : levels_in shape list h row ≡ levels_of shape h ts
     pub leaves : Each (IsLeafIn shape list) (leaves_in shape list h row)
-    pub entries : entries_in shape list (leaves_in shape list h row) ≡ flat_map (entries_of h) ts
+    pub entries : entries_in_row shape list (leaves_in shape list h row) ≡ flat_map (entries_of h) ts
 
   pub rows_are : (h : ℕ) (ts : List (TreeOf h)) → Each (Holds shape pages h) ts → RowsAre h ts (map (page_of h) ts)
   rows_are zero ts all = record {
@@ -91,7 +91,7 @@ module _ (shape : Shape) (pages : PageMap) (list : List (List ℕ)) (shown : Are
         nodes = (inners_are h ts all, subst (AreNodes shape list h) (sym down) rest.nodes);
         levels = rw (separators_are h ts all, length-map, down, rest.levels) refl;
         leaves = subst (λ (row : List ℕ). Each (IsLeafIn shape list) (leaves_in shape list h row)) (sym down) rest.leaves;
-        entries = ap (λ (row : List ℕ). entries_in shape list (leaves_in shape list h row)) down ∙ rest.entries ∙ sym (entries_below h ts);
+        entries = ap (λ (row : List ℕ). entries_in_row shape list (leaves_in shape list h row)) down ∙ rest.entries ∙ sym (entries_below h ts);
       }
 
 -- the pages of trees are their own, and those below
@@ -122,10 +122,10 @@ tree_rows shape list h root tree is =
     (rows_are shape is.pages list is.shown h (tree ∷ []) (is.holds, tt))
 
 pub tree_few : (shape : Shape) (list : List (List ℕ)) (h root : ℕ) (tree : TreeOf h) → IsTreeIn shape list h root tree
-    → length (entries_in shape list (leaves_in shape list h (root ∷ []))) < 2 ^ 64
+    → length (entries_in_row shape list (leaves_in shape list h (root ∷ []))) < 2 ^ 64
 tree_few shape list h root tree is =
     let rows = tree_rows shape list h root tree is in
-    let same : length (entries_in shape list (leaves_in shape list h (root ∷ []))) ≡ length (entries_of h tree) = ap length (rows.entries ∙ append-nil (entries_of h tree)) in
+    let same : length (entries_in_row shape list (leaves_in shape list h (root ∷ []))) ≡ length (entries_of h tree) = ap length (rows.entries ∙ append-nil (entries_of h tree)) in
     omega (arith, same, is.few)
 
 pub counts_are : (shape : Shape) (list : List (List ℕ)) (h root : ℕ) (tree : TreeOf h) (counts : TreeCounts) → IsTreeIn shape list h root tree
@@ -135,5 +135,5 @@ counts_are shape list h root tree counts is levels leaves =
     record {
       levels = levels ∙ rows.levels;
       leaves = subst (Each (IsLeafIn shape list)) (sym leaves) rows.leaves;
-      entries = ap (entries_in shape list) leaves ∙ rows.entries ∙ append-nil (entries_of h tree);
+      entries = ap (entries_in_row shape list) leaves ∙ rows.entries ∙ append-nil (entries_of h tree);
     }

@@ -10,7 +10,7 @@ use Rattle.tree_search.specs.Tree.{TreeOf, page_of, pages_of, entries_of}
 use Rattle.tree_search.specs.Stored.{Holds}
 use Rattle.page_counts.specs.declared.level.Level.{Level}
 use Rattle.page_counts.specs.declared.level.TreeCounts.{TreeCounts}
-use Rattle.page_counts.specs.Rows.{page_at, IsLeafIn, entries_in}
+use Rattle.page_counts.specs.Rows.{page_at, IsLeafIn, entries_in_row}
 
 -- What each level has of these trees, their roots' first, and the leaves' last: a page for each
 -- node; the separators of inner nodes, and the entries of leaves; and for how many of them a page
@@ -47,15 +47,15 @@ pub record IsTreeIn (shape : Shape) (list : List (List ℕ)) (h root : ℕ) (tre
   pub root_is : page_of h tree ≡ root
   pub few : length (entries_of h tree) < 2 ^ 64
 
-abbrev pub HasTree : Shape → List (List ℕ) → ℕ → ℕ → Type 0
-HasTree shape list h root = (tree : TreeOf h) × IsTreeIn shape list h root tree
+abbrev pub HasTreeBelow : Shape → List (List ℕ) → ℕ → ℕ → Type 0
+HasTreeBelow shape list h root = (tree : TreeOf h) × IsTreeIn shape list h root tree
 
 -- these are the counts of the tree, and its leaves from left to right
 pub record AreCounts (shape : Shape) (list : List (List ℕ)) (h : ℕ) (tree : TreeOf h)
     (counts : TreeCounts) : Type 0 where
   pub levels : counts.levels.items ≡ levels_of shape h (tree ∷ [])
   pub leaves : Each (IsLeafIn shape list) counts.leaves.items
-  pub entries : entries_in shape list counts.leaves.items ≡ entries_of h tree
+  pub entries : entries_in_row shape list counts.leaves.items ≡ entries_of h tree
 
 -- so, of whichever tree stands below this page
 abbrev pub CountsTree : {X : Type 0} → Shape → List (List ℕ) → (h root : ℕ) → Result TreeCounts X → Type 0

@@ -29,13 +29,13 @@ abbrev pub separators_in : Shape → List (List ℕ) → List ℕ → List (List
 separators_in shape list row = flat_map (λ n. separators shape (page_at list n)) row
 
 -- the entries of the leaves of a row
-abbrev pub entries_in : Shape → List (List ℕ) → List ℕ → List (List ℕ)
-entries_in shape list row = flat_map (λ n. leaf_entries shape (page_at list n)) row
+abbrev pub entries_in_row : Shape → List (List ℕ) → List ℕ → List (List ℕ)
+entries_in_row shape list row = flat_map (λ n. leaf_entries shape (page_at list n)) row
 
 -- these pages are leaves, whose entries can be counted
 pub record AreFewLeaves (shape : Shape) (list : List (List ℕ)) (row : List ℕ) : Type 0 where
   pub leaves : Each (IsLeafIn shape list) row
-  pub few : length (entries_in shape list row) < 2 ^ 64
+  pub few : length (entries_in_row shape list row) < 2 ^ 64
 
 -- a row with h levels below it leads to nodes, down to leaves
 abbrev pub AreNodes : Shape → List (List ℕ) → ℕ → List ℕ → Type 0
@@ -52,7 +52,7 @@ leaves_in shape list (suc h) row = leaves_in shape list h (children_in shape lis
 abbrev pub leaf_level : Shape → List (List ℕ) → List ℕ → Level
 leaf_level shape list row = record {
   pages = length row;
-  entries = length (entries_in shape list row);
+  entries = length (entries_in_row shape list row);
   room = leaf_room shape;
 }
 

@@ -13,13 +13,13 @@ abbrev pub values_of : ℕ → List (List ℕ) → List (List ℕ)
 values_of width entries = map (take width) entries
 
 -- how many of these values are this one
-abbrev pub count_of : List ℕ → List (List ℕ) → ℕ
-count_of value values = length (filter (bytes_eq value) values)
+abbrev pub count_of_value : List ℕ → List (List ℕ) → ℕ
+count_of_value value values = length (filter (bytes_eq value) values)
 
 -- so many of them are equal at most
 pub record IsGreatestCount (values : List (List ℕ)) (count : ℕ) : Type 0 where
-  pub most : (value : List ℕ) → count_of value values ≤ count
-  pub some : (value : List ℕ) × (count_of value values ≡ count)
+  pub most : (value : List ℕ) → count_of_value value values ≤ count
+  pub some : (value : List ℕ) × (count_of_value value values ≡ count)
 
 -- between two equal values stand none but their equals
 abbrev pub AreTogether : List (List ℕ) → Type 0
@@ -30,7 +30,7 @@ AreTogether values = (i j k : ℕ) → i ≤ j → j ≤ k → k < length values
 -- what is known of the values so far
 pub record RunOf (values : List (List ℕ)) (run : Run) : Type 0 where
   pub last : option_copied run.last ≡ last_of values
-  pub length_is : (value : List ℕ) → last_of values ≡ Some value → run.length ≡ count_of value values
+  pub length_is : (value : List ℕ) → last_of values ≡ Some value → run.length ≡ count_of_value value values
   pub longest : IsGreatestCount values run.longest
 
 -- so, with these values more, where all stand together

@@ -3,8 +3,8 @@
 ghost use Rattle.std.specs.Prelude.{◌≡◌, ◌<◌, ◌^◌, ◌++◌, [], ◌∷◌, IfOk, OnOk, length};
 ghost use Rattle.page_bytes.specs.Each.{Each};
 ghost use Rattle.tree_node.specs.Inner.{IsInner, children};
-ghost use Rattle.page_counts.specs.Levels.{HasTree, CountsTree, LevelsHaveAllPages};
-ghost use Rattle.page_counts.specs.Rows.{IsInnerIn, AreNodes, children_in, entries_in, AreFewLeaves};
+ghost use Rattle.page_counts.specs.Levels.{HasTreeBelow, CountsTree, LevelsHaveAllPages};
+ghost use Rattle.page_counts.specs.Rows.{IsInnerIn, AreNodes, children_in, entries_in_row, AreFewLeaves};
 ghost use Rattle.page_counts.specs.Rows.{leaves_in, levels_in, leaf_level, inner_level};
 
 use crate::level::{Level, TreeCounts};
@@ -55,7 +55,7 @@ fn children_of(
 /// How many entries these leaves have.
 fn count_entries(pages: &[[u8; PAGE_SIZE]], shape: Shape, leaves: &[u32]) -> u64
     requires { AreFewLeaves shape pages.now leaves.now }
-    ensures { result ≡ length (entries_in shape pages.now leaves.now) }
+    ensures { result ≡ length (entries_in_row shape pages.now leaves.now) }
 {
     let mut entries = 0;
     for &n in leaves {
@@ -106,7 +106,8 @@ fn add_rows(
     levels: &mut Vec<Level>,
 ) -> Result<Vec<u32>, AllocError>
     requires nodes { AreNodes shape pages.now height row.items }
-    requires few { length (entries_in shape pages.now (leaves_in shape pages.now height row.items)) < 2 ^ 64 }
+    requires few { length (entries_in_row shape pages.now (leaves_in shape pages.now height row.items))
+        < 2 ^ 64 }
     ensures levels { OnOk result (levels.new.items ≡ levels.old.items
         ++ levels_in shape pages.now height row.items) }
     ensures leaves { IfOk result (λ leaves. leaves.items ≡ leaves_in shape pages.now height row.items) }
@@ -130,7 +131,7 @@ fn add_tree(
     levels: &mut Vec<Level>,
 ) -> Result<Vec<u32>, AllocError>
     requires nodes { AreNodes shape pages.now height (root ∷ []) }
-    requires few { length (entries_in shape pages.now (leaves_in shape pages.now height (root ∷ [])))
+    requires few { length (entries_in_row shape pages.now (leaves_in shape pages.now height (root ∷ [])))
         < 2 ^ 64 }
     ensures levels { OnOk result (levels.new.items ≡ levels.old.items
         ++ levels_in shape pages.now height (root ∷ [])) }
@@ -153,7 +154,7 @@ pub fn count_tree(
     height: u8,
     root: u32,
 ) -> Result<TreeCounts, AllocError>
-    requires { HasTree shape pages.now height root }
+    requires { HasTreeBelow shape pages.now height root }
     ensures { CountsTree shape pages.now height root result }
 {
     let mut levels = Vec::new(alloc);

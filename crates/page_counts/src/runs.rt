@@ -4,7 +4,7 @@ ghost use Rattle.std.specs.Prelude.{◌≡◌, ◌+◌, ◌<◌, ◌≤◌, ◌^
 ghost use Rattle.std.specs.Option.{option_copied};
 ghost use Rattle.page_bytes.specs.Each.{Each};
 ghost use Rattle.tree_node.specs.Leaf.{leaf_entries};
-ghost use Rattle.page_counts.specs.Rows.{IsLeafIn, entries_in};
+ghost use Rattle.page_counts.specs.Rows.{IsLeafIn, entries_in_row};
 ghost use Rattle.page_counts.specs.Runs.{values_of, AreTogether, IsGreatestCount, TakesValues, CanGoOn};
 ghost use Rattle.page_counts.specs.Runs.{CanGoThrough, TreesKeepTogether};
 
@@ -65,9 +65,9 @@ fn with_leaf<'a>(run: Run<'a>, page: &'a [u8; PAGE_SIZE], shape: Shape, width: u
 pub fn longest_run(pages: &[[u8; PAGE_SIZE]], shape: Shape, width: u16, leaves: &[u32]) -> u64
     requires leaves { Each (IsLeafIn shape pages.now) leaves.now }
     requires narrow { width ≤ shape.entry }
-    requires few { length (entries_in shape pages.now leaves.now) < 2 ^ 64 }
-    requires together { AreTogether (values_of width (entries_in shape pages.now leaves.now)) }
-    ensures { IsGreatestCount (values_of width (entries_in shape pages.now leaves.now)) result }
+    requires few { length (entries_in_row shape pages.now leaves.now) < 2 ^ 64 }
+    requires together { AreTogether (values_of width (entries_in_row shape pages.now leaves.now)) }
+    ensures { IsGreatestCount (values_of width (entries_in_row shape pages.now leaves.now)) result }
 {
     let mut run = Run {
         last: None,

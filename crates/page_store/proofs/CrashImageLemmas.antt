@@ -2,23 +2,23 @@
 use Rattle.std.proofs.Common.{zero, suc, ◌≡◌, ℕ, ◌+◌, ◌<◌, List, [], ◌∷◌, Option, Some, None, option_map, true, false, is_some, ◌||◌, length, slice_index, refl, sym, ◌∙◌, ap, subst, arith, add-zero}
 use Rattle.page_store.specs.DeviceFile.{DeviceFile, bytes_or_none, absent}
 use Rattle.page_store.specs.Images.{Durable, durable, covered, IsImage, MayLeave, Leaves}
-use Rattle.page_store.specs.CrashImages.{filled, image_of}
+use Rattle.page_store.specs.CrashImages.{filled_by_ranges, image_of}
 use Rattle.page_store.specs.declared.crash.Image.{Image}
 use Rattle.page_store.specs.declared.crash.Image.TheVariants.{AsRead, Synced, Filled}
 
-length_filled : (byte : ℕ) (rs : List (ℕ × ℕ)) (k : ℕ) (xs : List ℕ) → length (filled byte rs k xs) ≡ length xs
+length_filled : (byte : ℕ) (rs : List (ℕ × ℕ)) (k : ℕ) (xs : List ℕ) → length (filled_by_ranges byte rs k xs) ≡ length xs
 length_filled byte rs k [] = refl
 length_filled byte rs k (x ∷ xs) = ap suc (length_filled byte rs (k + 1) xs)
 
 -- a byte that no range covers stays
-uncovered : (byte : ℕ) (rs : List (ℕ × ℕ)) (k : ℕ) (xs : List ℕ) (i : ℕ) → covered rs (k + i) ≡ false → slice_index (filled byte rs k xs) i ≡ slice_index xs i
+uncovered : (byte : ℕ) (rs : List (ℕ × ℕ)) (k : ℕ) (xs : List ℕ) (i : ℕ) → covered rs (k + i) ≡ false → slice_index (filled_by_ranges byte rs k xs) i ≡ slice_index xs i
 uncovered byte rs k [] i out = refl
 uncovered byte rs k (x ∷ xs) zero out = let here : k + 0 ≡ k = add-zero k in rw (subst (λ (n : ℕ). covered rs n ≡ false) here out) refl
 uncovered byte rs k (x ∷ xs) (suc i) out =
     let next : k + suc i ≡ k + 1 + i = omega arith in
     uncovered byte rs (k + 1) xs i (subst (λ (n : ℕ). covered rs n ≡ false) next out)
 
-filled_image : (byte : ℕ) (base : List ℕ) (rs : List (ℕ × ℕ)) (c : List ℕ) → IsImage base rs c → IsImage base rs (filled byte rs 0 c)
+filled_image : (byte : ℕ) (base : List ℕ) (rs : List (ℕ × ℕ)) (c : List ℕ) → IsImage base rs c → IsImage base rs (filled_by_ranges byte rs 0 c)
 filled_image byte base rs c image = record {
   kept = λ i within out. let k = image.kept i within out in let e = length_filled byte rs 0 c in omega arith;
   each = λ i within out.
@@ -51,7 +51,7 @@ crash_image AsRead f may = may
 crash_image Synced f may = base_image (durable f.log)
 crash_image (Filled byte) f may = go f.seen may
   where
-    go : (v : Option (List ℕ)) → Leaves f v → Leaves f (option_map (filled byte (durable f.log).ranges 0) v)
+    go : (v : Option (List ℕ)) → Leaves f v → Leaves f (option_map (filled_by_ranges byte (durable f.log).ranges 0) v)
     go None may = may
     go (Some bytes) may = (may.0, filled_image byte (bytes_or_none (durable f.log).base) (durable f.log).ranges bytes may.1)
 

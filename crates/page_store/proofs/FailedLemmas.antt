@@ -2,7 +2,7 @@
 use Rattle.std.proofs.Common.{◌≡◌, ◌⊎◌, inl, inr, ℕ, suc, ◌<◌, ◌≤◌, ◌==◌, List, [], ◌∷◌, length, drop, slice_index, is_some, Option, Some, None, Bool, IsTrue, Result, Ok, Err, OnErr, refl, sym, ◌∙◌, ap, subst, arith}
 use Rattle.std.proofs.lemmas.Bool.{cases_Bool, eqb-true, eqb-false}
 use Rattle.page_store.specs.DeviceFile.{DeviceFile, IsWithin, IsThere, Torn, bytes_or_none, content}
-use Rattle.page_store.specs.Calls.{CreateFails, Written, Synced, SyncFails}
+use Rattle.page_store.specs.Calls.{CreateFails, WrittenAt, Synced, SyncFails}
 use Rattle.page_store.specs.Gate.{IsClosed, IsRefused, GateWritten, GateFails, SameOrRefused, OnlyGate}
 use Rattle.page_store.proofs.GateImageLemmas.{refused_68}
 use Rattle.page_store.proofs.ImageLemmas.{overlay_torn}
@@ -37,7 +37,7 @@ closed_bytes None closed = absurd closed
 closed_bytes (Some bytes) closed = refl
 
 -- the byte was written, and may not be on the disk
-unsynced : (f g h : DeviceFile) → Written 0 (68 ∷ []) f g → SyncFails g h → IsRefused h.seen
+unsynced : (f g h : DeviceFile) → WrittenAt 0 (68 ∷ []) f g → SyncFails g h → IsRefused h.seen
 unsynced f g h written (inl same) = subst IsRefused (sym (seen_of h g same ∙ ap (λ (x : DeviceFile). x.seen) written.is)) (refused_68 (content f))
 unsynced f g h written (inr synced) =
     let seen = ap (λ (x : DeviceFile). x.seen) synced.is ∙ ap (λ (x : DeviceFile). Some (content x)) written.is in
@@ -111,7 +111,7 @@ only_same f g within same = record {
 pub only_then : (f g h : DeviceFile) → OnlyGate f g → OnlyGate g h → OnlyGate f h
 only_then f g h a b = record { there = b.there; long = b.long ∙ a.long; rest = b.rest ∙ a.rest }
 
-only_written : (f g : DeviceFile) → IsWithin 1 f → Written 0 (68 ∷ []) f g → OnlyGate f g
+only_written : (f g : DeviceFile) → IsWithin 1 f → WrittenAt 0 (68 ∷ []) f g → OnlyGate f g
 only_written f g within written =
     only_torn f g _ within (overlay_torn (content f) 0 (68 ∷ []) (omega arith)) (ap (λ (x : DeviceFile). x.seen) written.is)
 

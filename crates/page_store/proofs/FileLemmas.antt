@@ -3,7 +3,7 @@ use Rattle.std.proofs.Common.{◌+◌, ◌++◌, arith, take, drop, length-appen
 use Rattle.std.proofs.lemmas.List.{length-take-le}
 use Rattle.page_store.specs.DeviceFile.{DeviceFile, IsWithin, content, bytes_or_none}
 use Rattle.page_store.specs.Images.{Leaves}
-use Rattle.page_store.specs.Calls.{Written, WriteFails}
+use Rattle.page_store.specs.Calls.{WrittenAt, WriteFails}
 use Rattle.page_store.proofs.GateImageLemmas.{log_written, content_written}
 use Rattle.page_store.proofs.ImageLemmas.{overlay_torn}
 use Rattle.page_store.specs.Moments.{Quiet}
@@ -28,18 +28,18 @@ quiet_failed f g at n low (inl same) = quiet_none f g (ap (λ (x : DeviceFile). 
 quiet_failed f g at n low (inr torn) = quiet_written f g at n low (ap (λ (x : DeviceFile). x.log) torn.2)
 
 -- and so is one that was done
-pub quiet_done : (f g : DeviceFile) (at : ℕ) (bytes : List ℕ) → 0 < at → Written at bytes f g → Quiet f g
+pub quiet_done : (f g : DeviceFile) (at : ℕ) (bytes : List ℕ) → 0 < at → WrittenAt at bytes f g → Quiet f g
 quiet_done f g at bytes low written = quiet_written f g at (length bytes) low (log_written at bytes f g written)
 
 -- a write makes no file shorter, and reaches to its end
-pub reached : (f g : DeviceFile) (at : ℕ) (bytes : List ℕ) → at ≤ length (content f) → Written at bytes f g → IsWithin (at + length bytes) g
+pub reached : (f g : DeviceFile) (at : ℕ) (bytes : List ℕ) → at ≤ length (content f) → WrittenAt at bytes f g → IsWithin (at + length bytes) g
 reached f g at bytes low written =
     let rest = drop (at + length bytes) (content f) in
     let front = take at (content f) ++ bytes in
     let long : at + length bytes ≤ length (front ++ rest) = omega (arith, length-append front rest, length-append (take at (content f)) bytes, length-take-le at (content f) low) in
     subst (λ (x : DeviceFile). IsWithin (at + length bytes) x) (sym written.is) (record { there = refl; long = long })
 
-pub longer_done : (f g : DeviceFile) (at : ℕ) (bytes : List ℕ) → at ≤ length (content f) → Written at bytes f g → length (content f) ≤ length (content g)
+pub longer_done : (f g : DeviceFile) (at : ℕ) (bytes : List ℕ) → at ≤ length (content f) → WrittenAt at bytes f g → length (content f) ≤ length (content g)
 longer_done f g at bytes low written =
     let torn = overlay_torn (content f) at bytes low in
     subst (λ (x : List ℕ). length (content f) ≤ length x) (sym (content_written at bytes f g written)) torn.no_shorter
@@ -48,6 +48,6 @@ pub longer_failed : (f g : DeviceFile) (at n : ℕ) → WriteFails at n f g → 
 longer_failed f g at n (inl same) = let e = ap (λ (x : DeviceFile). length (content x)) same in omega arith
 longer_failed f g at n (inr torn) = let e = ap (λ (x : DeviceFile). length (content x)) torn.2 in let longer = torn.1.no_shorter in omega arith
 
-pub longer_either : {T E : Type 0} (r : Result T E) (f g : DeviceFile) (at n : ℕ) (bytes : List ℕ) → at ≤ length (content f) → OnOk r (Written at bytes f g) → OnErr r (WriteFails at n f g) → length (content f) ≤ length (content g)
+pub longer_either : {T E : Type 0} (r : Result T E) (f g : DeviceFile) (at n : ℕ) (bytes : List ℕ) → at ≤ length (content f) → OnOk r (WrittenAt at bytes f g) → OnErr r (WriteFails at n f g) → length (content f) ≤ length (content g)
 longer_either (Ok v) f g at n bytes low ok err = longer_done f g at bytes low ok
 longer_either (Err e) f g at n bytes low ok err = longer_failed f g at n err

@@ -2,8 +2,8 @@
 use Rattle.std.proofs.Common.{zero, suc, ◌≡◌, ◌⊎◌, inl, inr, ℕ, ◌+◌, ◌<◌, ◌==◌, List, [], ◌∷◌, ◌++◌, Option, Some, None, false, ◌&&◌, leb, ltb, refl, sym, ◌∙◌, ap, subst, arith, drop, length, slice_index}
 use Rattle.std.proofs.lemmas.Bool.{cases_Bool, or_from, and_right, le-ltb, eqb-true, eqb-false}
 use Rattle.page_store.specs.DeviceFile.{FileStep, wrote, synced, DeviceFile, bytes_or_none, content, overlay}
-use Rattle.page_store.specs.Images.{Durable, after, durable, covered, IsImage, MayLeave, Leaves, IsSettled}
-use Rattle.page_store.specs.Calls.{Written, Synced, SyncFails}
+use Rattle.page_store.specs.Images.{Durable, after_step, durable, covered, IsImage, MayLeave, Leaves, IsSettled}
+use Rattle.page_store.specs.Calls.{WrittenAt, Synced, SyncFails}
 use Rattle.page_store.proofs.ImageLemmas.{durable_push, only_synced, image_only}
 use Rattle.page_store.specs.Moments.{Throughout}
 use Rattle.page_store.proofs.MomentLemmas.{throughout_none, throughout_one, throughout_then, throughout_last}
@@ -24,13 +24,13 @@ settled_synced g h so c may =
 pub content_synced : (g h : DeviceFile) → Synced g h → content h ≡ content g
 content_synced g h so = ap content so.is
 
-pub content_written : (at : ℕ) (bytes : List ℕ) (f g : DeviceFile) → Written at bytes f g → content g ≡ overlay (content f) at bytes
+pub content_written : (at : ℕ) (bytes : List ℕ) (f g : DeviceFile) → WrittenAt at bytes f g → content g ≡ overlay (content f) at bytes
 content_written at bytes f g so = ap content so.is
 
 log_synced : (g h : DeviceFile) → Synced g h → h.log ≡ g.log ++ synced (content g) ∷ []
 log_synced g h so = ap (λ (x : DeviceFile). x.log) so.is
 
-pub log_written : (at : ℕ) (bytes : List ℕ) (f g : DeviceFile) → Written at bytes f g → g.log ≡ f.log ++ wrote at (length bytes) ∷ []
+pub log_written : (at : ℕ) (bytes : List ℕ) (f g : DeviceFile) → WrittenAt at bytes f g → g.log ≡ f.log ++ wrote at (length bytes) ∷ []
 log_written at bytes f g so = ap (λ (x : DeviceFile). x.log) so.is
 
 -- a sync: what it leaves is what reads gave
@@ -44,14 +44,14 @@ sync_failed P f g before now (inl same) = throughout_none P f g (ap (λ (x : Dev
 sync_failed P f g before now (inr so) = sync_done P f g before now so
 
 -- the first byte is written and synced, where each image before, while the byte is not synced, and after has P
-module _ (P : Claim) (gate : ℕ) (f : DeviceFile) (before : (c : Option (List ℕ)) → Leaves f c → P c) (during : (c : Option (List ℕ)) → MayLeave (after (durable f.log) (wrote 0 1)) c → P c) (now : P (Some (with_gate gate (content f)))) where
+module _ (P : Claim) (gate : ℕ) (f : DeviceFile) (before : (c : Option (List ℕ)) → Leaves f c → P c) (during : (c : Option (List ℕ)) → MayLeave (after_step (durable f.log) (wrote 0 1)) c → P c) (now : P (Some (with_gate gate (content f)))) where
   noted : (g : DeviceFile) → g.log ≡ f.log ++ wrote 0 1 ∷ [] → Throughout P f g
   noted g same = throughout_one P f g (wrote 0 1) same before (λ c may. during c (subst (λ (d : Durable). MayLeave d c) (ap durable same ∙ durable_push f.log (wrote 0 1)) may))
 
-  wrote_gate : (g : DeviceFile) → Written 0 (gate ∷ []) f g → Throughout P f g
+  wrote_gate : (g : DeviceFile) → WrittenAt 0 (gate ∷ []) f g → Throughout P f g
   wrote_gate g written = noted g (log_written 0 (gate ∷ []) f g written)
 
-  now_seen : (g : DeviceFile) → Written 0 (gate ∷ []) f g → P (Some (content g))
+  now_seen : (g : DeviceFile) → WrittenAt 0 (gate ∷ []) f g → P (Some (content g))
   now_seen g written = subst (λ (bytes : List ℕ). P (Some bytes)) (sym (content_written 0 (gate ∷ []) f g written)) now
 
   pub gate_done : (g : DeviceFile) → GateWritten gate f g → Throughout P f g
@@ -74,7 +74,7 @@ pub gate_settled : (gate : ℕ) (f g : DeviceFile) → GateWritten gate f g → 
 gate_settled gate f g w = settled_synced w.unsynced g w.synced
 
 -- an image whose first byte may be any, where reads give a closed gate: it was an image before, or is refused
-opened_image : (d : Durable) (seen : List ℕ) → IsClosed seen → MayLeave d (Some seen) → (c : Option (List ℕ)) → MayLeave (after d (wrote 0 1)) c → MayLeave d c ⊎ IsRefused c
+opened_image : (d : Durable) (seen : List ℕ) → IsClosed seen → MayLeave d (Some seen) → (c : Option (List ℕ)) → MayLeave (after_step d (wrote 0 1)) c → MayLeave d c ⊎ IsRefused c
 opened_image d seen closed read None may = inl may
 opened_image d seen closed read (Some []) may = inr (inl (omega arith))
 opened_image d [] closed read (Some (x ∷ c)) may = absurd closed
@@ -100,7 +100,7 @@ refused_68 bytes = inr apart
 
 -- the gate of a closed file is opened
 module _ (f : DeviceFile) (closed : IsClosed (content f)) (read : Leaves f (Some (content f))) where
-  during : (c : Option (List ℕ)) → MayLeave (after (durable f.log) (wrote 0 1)) c → WasOrRefused f c
+  during : (c : Option (List ℕ)) → MayLeave (after_step (durable f.log) (wrote 0 1)) c → WasOrRefused f c
   during = opened_image (durable f.log) (content f) closed read
 
   pub opening_done : (g : DeviceFile) → GateWritten 68 f g → Throughout (WasOrRefused f) f g
@@ -125,14 +125,14 @@ byte_image (y ∷ s) (x ∷ c) image = inr (x, let e : y ∷ c ≡ y ∷ s = ima
     each (suc i) within out = image.each (suc i) within (behind [] (suc i) (omega arith) refl)
 
 -- so after a sync
-pub synced_byte : (f g : DeviceFile) → Synced f g → (c : Option (List ℕ)) → MayLeave (after (durable g.log) (wrote 0 1)) c → (c ≡ Some []) ⊎ ((x : ℕ) × (c ≡ Some (with_gate x (content f))))
-synced_byte f g so c may = go c (subst (λ (d : Durable). MayLeave (after d (wrote 0 1)) c) (ap durable (log_synced f g so) ∙ durable_push f.log (synced (content f))) may)
+pub synced_byte : (f g : DeviceFile) → Synced f g → (c : Option (List ℕ)) → MayLeave (after_step (durable g.log) (wrote 0 1)) c → (c ≡ Some []) ⊎ ((x : ℕ) × (c ≡ Some (with_gate x (content f))))
+synced_byte f g so c may = go c (subst (λ (d : Durable). MayLeave (after_step d (wrote 0 1)) c) (ap durable (log_synced f g so) ∙ durable_push f.log (synced (content f))) may)
   where
     some : (c : List ℕ) → (c ≡ []) ⊎ ((x : ℕ) × (c ≡ with_gate x (content f))) → (Some c ≡ Some []) ⊎ ((x : ℕ) × (Some c ≡ Some (with_gate x (content f))))
     some c (inl e) = inl (ap Some e)
     some c (inr e) = inr (e.0, ap Some e.1)
 
-    go : (c : Option (List ℕ)) → MayLeave (after (after (durable f.log) (synced (content f))) (wrote 0 1)) c → (c ≡ Some []) ⊎ ((x : ℕ) × (c ≡ Some (with_gate x (content f))))
+    go : (c : Option (List ℕ)) → MayLeave (after_step (after_step (durable f.log) (synced (content f))) (wrote 0 1)) c → (c ≡ Some []) ⊎ ((x : ℕ) × (c ≡ Some (with_gate x (content f))))
     go None may = absurd (cc)
     go (Some c) may = some c (byte_image (content f) c may.1)
 
@@ -153,7 +153,7 @@ module _ (f : DeviceFile) (shut : AllRefused f) (read : Leaves f (Some (content 
   pub closing_sync_failed : (g : DeviceFile) → SyncFails f g → Throughout (ClosedOrRefused f) f g
   closing_sync_failed g = sync_failed (ClosedOrRefused f) f g before (inr (shut (Some (content f)) read))
 
-  closing : (g : DeviceFile) → Synced f g → (c : Option (List ℕ)) → MayLeave (after (durable g.log) (wrote 0 1)) c → ClosedOrRefused f c
+  closing : (g : DeviceFile) → Synced f g → (c : Option (List ℕ)) → MayLeave (after_step (durable g.log) (wrote 0 1)) c → ClosedOrRefused f c
   closing g so c may = cases (synced_byte f g so c may)
     where
       cases : (c ≡ Some []) ⊎ ((x : ℕ) × (c ≡ Some (with_gate x (content f)))) → ClosedOrRefused f c

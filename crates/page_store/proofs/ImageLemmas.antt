@@ -3,13 +3,13 @@ use Rattle.std.proofs.Common.{zero, suc, ◌≡◌, ◌⊎◌, inl, inr, ⊎_eli
 use Rattle.std.proofs.lemmas.Bool.{or_parts, and_cases, leb-false, ltb-false}
 use Rattle.std.proofs.lemmas.List.{get_or_append_left, get_or-append_right, get_or-take, get_or-drop, length-drop, same_lists, get_or_default, length-take-le}
 use Rattle.page_store.specs.DeviceFile.{FileStep, wrote, synced, overlay, Torn}
-use Rattle.page_store.specs.Images.{Durable, nothing, after, durable_from, durable, covered, IsImage, MayLeave}
+use Rattle.page_store.specs.Images.{Durable, nothing, after_step, durable_from, durable, covered, IsImage, MayLeave}
 
 pub durable_from-append : (d : Durable) (xs ys : List FileStep) → durable_from d (xs ++ ys) ≡ durable_from (durable_from d xs) ys
 durable_from-append d [] ys = refl
-durable_from-append d (x ∷ xs) ys = durable_from-append (after d x) xs ys
+durable_from-append d (x ∷ xs) ys = durable_from-append (after_step d x) xs ys
 
-pub durable_push : (log : List FileStep) (s : FileStep) → durable (log ++ s ∷ []) ≡ after (durable log) s
+pub durable_push : (log : List FileStep) (s : FileStep) → durable (log ++ s ∷ []) ≡ after_step (durable log) s
 durable_push log s = durable_from-append nothing log (s ∷ [])
 
 -- outside one more range
@@ -78,7 +78,7 @@ leaves_synced log bytes = subst (λ (d : Durable). MayLeave d (Some bytes)) (sym
 pub only_synced : (log : List FileStep) (bytes : List ℕ) (c : Option (List ℕ)) → MayLeave (durable (log ++ synced bytes ∷ [])) c → c ≡ Some bytes
 only_synced log bytes c may = only c (subst (λ (d : Durable). MayLeave d c) (durable_push log (synced bytes)) may)
   where
-    only : (c : Option (List ℕ)) → MayLeave (after (durable log) (synced bytes)) c → c ≡ Some bytes
+    only : (c : Option (List ℕ)) → MayLeave (after_step (durable log) (synced bytes)) c → c ≡ Some bytes
     only None may = absurd (cc)
     only (Some c) may = ap Some (image_only bytes c may.1)
 

@@ -1,14 +1,14 @@
 -- A file that was not there, once the device was asked to make it.
 use Rattle.std.proofs.Common.{◌≡◌, ℕ, List, [], ◌∷◌, ◌++◌, Option, Some, None, Bool, true, false, is_some, not, if◌then◌else◌, refl, sym, subst, arith}
 use Rattle.page_store.specs.DeviceFile.{DeviceFile, created}
-use Rattle.page_store.specs.Images.{Durable, after, durable, MayLeave, Leaves}
+use Rattle.page_store.specs.Images.{Durable, after_step, durable, MayLeave, Leaves}
 use Rattle.page_store.proofs.ImageLemmas.{durable_push}
 
 none_of : (v : Option (List ℕ)) → not (is_some v) ≡ true → v ≡ None
 none_of None h = refl
 none_of (Some b) h = absurd (cc)
 
-fresh : (d : Durable) → d.base ≡ None → MayLeave (after d created) (Some [])
+fresh : (d : Durable) → d.base ≡ None → MayLeave (after_step d created) (Some [])
 fresh d none = rw none (refl, record { kept = λ i low out. absurd (omega arith); each = λ i low out. absurd (omega arith) })
 
 -- what reads give then is an image, whether the file was made or not

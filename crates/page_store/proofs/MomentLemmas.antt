@@ -2,7 +2,7 @@
 use Rattle.std.proofs.Common.{◌≡◌, ℕ, List, [], ◌∷◌, ◌++◌, Option, Some, None, refl, sym, ◌∙◌, ap, subst}
 use Rattle.std.proofs.lemmas.List.{append-nil, append_assoc}
 use Rattle.page_store.specs.DeviceFile.{FileStep, DeviceFile}
-use Rattle.page_store.specs.Images.{Durable, nothing, after, durable_from, durable, MayLeave, Leaves}
+use Rattle.page_store.specs.Images.{Durable, nothing, after_step, durable_from, durable, MayLeave, Leaves}
 use Rattle.page_store.proofs.ImageLemmas.{durable_from-append, durable_push}
 use Rattle.page_store.specs.Moments.{AtEachMoment, Throughout, Begins, Quiet}
 
@@ -15,15 +15,15 @@ here P d (s ∷ more) m = m.0
 
 moments_last : (P : Claim) (d : Durable) (more : List FileStep) → AtEachMoment P d more → (c : Option (List ℕ)) → MayLeave (durable_from d more) c → P c
 moments_last P d [] m = m
-moments_last P d (s ∷ more) m = moments_last P (after d s) more m.1
+moments_last P d (s ∷ more) m = moments_last P (after_step d s) more m.1
 
 moments_append : (P : Claim) (d : Durable) (xs ys : List FileStep) → AtEachMoment P d xs → AtEachMoment P (durable_from d xs) ys → AtEachMoment P d (xs ++ ys)
 moments_append P d [] ys m n = n
-moments_append P d (x ∷ xs) ys m n = (m.0, moments_append P (after d x) xs ys m.1 n)
+moments_append P d (x ∷ xs) ys m n = (m.0, moments_append P (after_step d x) xs ys m.1 n)
 
 moments_weaker : (P Q : Claim) (d : Durable) (more : List FileStep) → ((c : Option (List ℕ)) → P c → Q c) → AtEachMoment P d more → AtEachMoment Q d more
 moments_weaker P Q d [] f m = λ c may. f c (m c may)
-moments_weaker P Q d (s ∷ more) f m = (λ c may. f c (m.0 c may), moments_weaker P Q (after d s) more f m.1)
+moments_weaker P Q d (s ∷ more) f m = (λ c may. f c (m.0 c may), moments_weaker P Q (after_step d s) more f m.1)
 
 -- nothing was done
 pub throughout_none : (P : Claim) (f g : DeviceFile) → g.log ≡ f.log → ((c : Option (List ℕ)) → Leaves f c → P c) → Throughout P f g

@@ -5,7 +5,7 @@ use Rattle.page_store.specs.DeviceFile.{DeviceFile, content}
 use Rattle.page_store.specs.Images.{IsSettled}
 use Rattle.page_store.specs.Moments.{Throughout, Begins, BeginsBefore, Quiet}
 use Rattle.page_store.proofs.MomentLemmas.{throughout_weaker, throughout_last}
-use Rattle.page_store.specs.Gate.{IsClosed, IsOpen, AllOpen, IsRefused, AllRefused, opened, Opens}
+use Rattle.page_store.specs.Gate.{IsClosed, IsOpen, AllOpen, IsRefused, AllRefused, opened_gate, Opens}
 
 begins_open : (c d : Option (List ℕ)) → Begins c d → IsOpen d → IsOpen c
 begins_open c None b h = absurd h
@@ -31,7 +31,7 @@ all_refused f all c may = refused_open c (all c may)
 pub settled_open : (f : DeviceFile) → IsSettled f → ¬ (IsClosed (content f)) → AllOpen f
 settled_open f settled shut c may = subst IsOpen (sym (settled c may)) shut
 
-not_closed : (bytes : List ℕ) → IsClosed (opened bytes) → ⊥
+not_closed : (bytes : List ℕ) → IsClosed (opened_gate bytes) → ⊥
 not_closed [] closed = let e : ◌≡◌ {A = ℕ} 68 67 = closed in absurd (omega arith)
 not_closed (x ∷ bytes) closed = elim (cases_Bool (x == 67)) [
   | inl hit ↦ let e : ◌≡◌ {A = ℕ} 68 67 = rw hit at closed in absurd (omega arith)

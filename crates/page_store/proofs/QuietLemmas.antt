@@ -3,7 +3,7 @@ use Rattle.std.proofs.Common.{zero, suc, ◌≡◌, ℕ, ◌+◌, ◌<◌, List,
 use Rattle.std.proofs.lemmas.Bool.{cases_Bool, or_from, and_left, lt-leb, both_ways}
 use Rattle.std.proofs.lemmas.List.{get_or-drop, length-drop}
 use Rattle.page_store.specs.DeviceFile.{FileStep, wrote, synced, DeviceFile, bytes_or_none}
-use Rattle.page_store.specs.Images.{Durable, after, durable, covered, IsImage, MayLeave, Leaves}
+use Rattle.page_store.specs.Images.{Durable, after_step, durable, covered, IsImage, MayLeave, Leaves}
 use Rattle.page_store.proofs.ImageLemmas.{durable_push, only_synced}
 use Rattle.page_store.specs.Moments.{Begins, Quiet}
 use Rattle.page_store.proofs.MomentLemmas.{throughout_one, begins_self}
@@ -29,7 +29,7 @@ first_of x c (y ∷ base) h = h.1
 uncovered : (at n : ℕ) (rs : List (ℕ × ℕ)) → 0 < at → covered rs 0 ≡ false → covered ((at, n) ∷ rs) 0 ≡ false
 uncovered at n rs low out = or_from (leb at 0 && ltb 0 (at + n)) (covered rs 0) (and_left (leb at 0) (ltb 0 (at + n)) (lt-leb at 0 low)) out
 
-begins_written : (d : Durable) (at n : ℕ) (c : Option (List ℕ)) → 0 < at → MayLeave (after d (wrote at n)) c → (e : Option (List ℕ)) × MayLeave d e × Begins c e
+begins_written : (d : Durable) (at n : ℕ) (c : Option (List ℕ)) → 0 < at → MayLeave (after_step d (wrote at n)) c → (e : Option (List ℕ)) × MayLeave d e × Begins c e
 begins_written d at n None low may = (None, may, refl)
 begins_written d at n (Some []) low may = (Some (bytes_or_none d.base), (may.0, base_is_image (bytes_or_none d.base) d.ranges), tt)
 begins_written d at n (Some (x ∷ c)) low may =

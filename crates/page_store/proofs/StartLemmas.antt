@@ -2,12 +2,12 @@
 use Rattle.std.proofs.Common.{◌≡◌, ◌⊎◌, inl, inr, ℕ, ◌<◌, ◌≤◌, ◌==◌, List, [], ◌∷◌, ◌++◌, Option, Some, None, length, refl, sym, ◌∙◌, ap, subst, arith}
 use Rattle.std.proofs.lemmas.Bool.{cases_Bool, eqb-true}
 use Rattle.page_store.specs.DeviceFile.{DeviceFile, created, wrote, bytes_or_none, content}
-use Rattle.page_store.specs.Images.{Durable, after, durable, IsImage, MayLeave, Leaves}
+use Rattle.page_store.specs.Images.{Durable, after_step, durable, IsImage, MayLeave, Leaves}
 use Rattle.page_store.specs.Calls.{Created, CreateFails, Synced, SyncFails}
 use Rattle.page_store.proofs.ImageLemmas.{durable_push}
 use Rattle.page_store.specs.Moments.{Throughout}
 use Rattle.page_store.proofs.MomentLemmas.{throughout_none, throughout_one, throughout_then, throughout_last}
-use Rattle.page_store.specs.Gate.{IsClosed, IsRefused, WasOrRefused, GateWritten, GateFails, with_gate, opened, Opens}
+use Rattle.page_store.specs.Gate.{IsClosed, IsRefused, WasOrRefused, GateWritten, GateFails, with_gate, opened_gate, Opens}
 use Rattle.page_store.proofs.GateImageLemmas.{gate_done, gate_failed, gate_content, gate_settled, refused_68, sync_done, sync_failed, synced_byte, content_synced, settled_synced}
 
 -- in a file of which nothing was synced there is nothing behind the range
@@ -23,11 +23,11 @@ no_byte (x ∷ c) image = let e = (image.each 0 (omega arith) refl).0 in absurd 
 short : (n : ℕ) (c : List ℕ) → length c ≤ n → n < 4096 → IsRefused (Some c)
 short n c le low = inl (omega arith)
 
-made_image : (d : Durable) → d.base ≡ None → (c : Option (List ℕ)) → MayLeave (after d created) c → MayLeave d c ⊎ IsRefused c
+made_image : (d : Durable) → d.base ≡ None → (c : Option (List ℕ)) → MayLeave (after_step d created) c → MayLeave d c ⊎ IsRefused c
 made_image d none None may = inl may
 made_image d none (Some c) may = inr (short 0 c (no_byte c (subst (λ (b : Option (List ℕ)). IsImage (bytes_or_none b) [] c) none may.1)) (omega arith))
 
-begun_image : (d : Durable) → d.base ≡ None → (c : Option (List ℕ)) → MayLeave (after (after d created) (wrote 0 1)) c → MayLeave d c ⊎ IsRefused c
+begun_image : (d : Durable) → d.base ≡ None → (c : Option (List ℕ)) → MayLeave (after_step (after_step d created) (wrote 0 1)) c → MayLeave d c ⊎ IsRefused c
 begun_image d none None may = inl may
 begun_image d none (Some c) may = inr (short 1 c (one_byte c (subst (λ (b : Option (List ℕ)). IsImage (bytes_or_none b) ((0, 1) ∷ []) c) none may.1)) (omega arith))
 
@@ -45,9 +45,9 @@ module _ (f : DeviceFile) (none : Leaves f None) where
   making_failed g (inr (inl so)) = made g (ap (λ (x : DeviceFile). x.log) so.is)
   making_failed g (inr (inr noted)) = made g (ap (λ (x : DeviceFile). x.log) noted)
 
-  during : (g : DeviceFile) → Created f g → (c : Option (List ℕ)) → MayLeave (after (durable g.log) (wrote 0 1)) c → WasOrRefused f c
+  during : (g : DeviceFile) → Created f g → (c : Option (List ℕ)) → MayLeave (after_step (durable g.log) (wrote 0 1)) c → WasOrRefused f c
   during g so c may =
-      begun_image (durable f.log) none c (subst (λ (d : Durable). MayLeave (after d (wrote 0 1)) c) (ap durable (ap (λ (x : DeviceFile). x.log) so.is) ∙ durable_push f.log created) may)
+      begun_image (durable f.log) none c (subst (λ (d : Durable). MayLeave (after_step d (wrote 0 1)) c) (ap durable (ap (λ (x : DeviceFile). x.log) so.is) ∙ durable_push f.log created) may)
 
   pub starting_done : (g h : DeviceFile) → Created f g → GateWritten 68 g h → Throughout (WasOrRefused f) f h
   starting_done g h so w =
@@ -70,7 +70,7 @@ module _ (f : DeviceFile) (empty : content f ≡ []) (read : Leaves f (Some (con
   pub emptied_failed : (g : DeviceFile) → SyncFails f g → Throughout (WasOrRefused f) f g
   emptied_failed g = sync_failed Q f g (λ c may. inl may) (inl read)
 
-  first_byte : (g : DeviceFile) → Synced f g → (c : Option (List ℕ)) → MayLeave (after (durable g.log) (wrote 0 1)) c → WasOrRefused f c
+  first_byte : (g : DeviceFile) → Synced f g → (c : Option (List ℕ)) → MayLeave (after_step (durable g.log) (wrote 0 1)) c → WasOrRefused f c
   first_byte g so c may = cases (synced_byte f g so c may)
     where
       lone : (x : ℕ) (bytes : List ℕ) → bytes ≡ [] → IsRefused (Some (with_gate x bytes))
@@ -92,17 +92,17 @@ module _ (f : DeviceFile) (empty : content f ≡ []) (read : Leaves f (Some (con
       throughout_then Q f g h first (gate_failed Q 68 g (throughout_last Q f g first) (first_byte g so) (inr (refused_68 (content g))) h w)
 
 -- what the file is then
-opened_empty : (bytes : List ℕ) → bytes ≡ [] → with_gate 68 bytes ≡ opened bytes
+opened_empty : (bytes : List ℕ) → bytes ≡ [] → with_gate 68 bytes ≡ opened_gate bytes
 opened_empty [] e = refl
 opened_empty (x ∷ bytes) e = absurd (cc)
 
-opened_closed : (bytes : List ℕ) → IsClosed bytes → with_gate 68 bytes ≡ opened bytes
+opened_closed : (bytes : List ℕ) → IsClosed bytes → with_gate 68 bytes ≡ opened_gate bytes
 opened_closed [] closed = absurd closed
 opened_closed (x ∷ bytes) closed = rw closed refl
 
 pub opens_started : (f g h : DeviceFile) → f.seen ≡ None → Created f g → GateWritten 68 g h → Opens f h
 opens_started f g h none so w = record {
-  bytes = gate_content 68 g h w ∙ ap (λ (x : DeviceFile). with_gate 68 (content x)) so.is ∙ ap (λ (s : Option (List ℕ)). opened (bytes_or_none s)) (sym none);
+  bytes = gate_content 68 g h w ∙ ap (λ (x : DeviceFile). with_gate 68 (content x)) so.is ∙ ap (λ (s : Option (List ℕ)). opened_gate (bytes_or_none s)) (sym none);
   settled = gate_settled 68 g h w;
 }
 
@@ -118,9 +118,9 @@ opens_closed f g closed w = record { bytes = gate_content 68 f g w ∙ opened_cl
 -- a gate that is open stays
 pub opens_open : (f g : DeviceFile) (x : ℕ) (bytes : List ℕ) → content f ≡ x ∷ bytes → (x ≡ 67 → ⊥) → Synced f g → Opens f g
 opens_open f g x bytes is not so = record {
-  bytes = content_synced f g so ∙ is ∙ same ∙ sym (ap opened is);
+  bytes = content_synced f g so ∙ is ∙ same ∙ sym (ap opened_gate is);
   settled = settled_synced f g so;
 }
   where
-    same : x ∷ bytes ≡ opened (x ∷ bytes)
+    same : x ∷ bytes ≡ opened_gate (x ∷ bytes)
     same = elim (cases_Bool (x == 67)) [ inl e ↦ absurd (not (eqb-true x 67 e)) | inr e ↦ rw e refl ]

@@ -24,7 +24,7 @@ CreateFails old new = (new ≡ old) ⊎ (Created old new
     ⊎ (new ≡ record { seen = old.seen; log = old.log ++ created ∷ [] }))
 
 -- these bytes now stand at `at`
-pub record Written (at : ℕ) (bytes : List ℕ) (old new : DeviceFile) : Type 0 where
+pub record WrittenAt (at : ℕ) (bytes : List ℕ) (old new : DeviceFile) : Type 0 where
   pub is : new ≡ record {
     seen = Some (overlay (content old) at bytes);
     log = old.log ++ wrote at (length bytes) ∷ [];

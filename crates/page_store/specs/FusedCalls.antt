@@ -2,7 +2,7 @@
 use Rattle.std.specs.Prelude.{ℕ, IsTrue, List, length, Result, ⊤}
 use Rattle.io_state.specs.declared.fault.Fault.{Fault}
 use Rattle.page_store.specs.DeviceFile.{DeviceFile}
-use Rattle.page_store.specs.Calls.{ReadsBytes, Written, WriteFails}
+use Rattle.page_store.specs.Calls.{ReadsBytes, WrittenAt, WriteFails}
 use Rattle.page_store.specs.ShelfState.{ShelfState, unit_file, FileGoes}
 use Rattle.page_store.specs.ShelfCalls.{AsksUnit, ChangesUnitFile}
 use Rattle.page_store.specs.Fuses.{capped, Fused}
@@ -24,7 +24,8 @@ module _ {S : Type 0} (state : S → ShelfState) (count : S → ℕ) where
     pub record AsksBehindFuse (call : Call) (unit : ℕ) (Effect : DeviceFile → Type 0)
         (IsTold : DeviceFile → X → Type 0) (old new : FuseShelf S) (result : Result X Fault) : Type 0 where
       pub asks : AsksUnit state_behind count_behind unit IsTold old new result
-      pub fuse : Fused call count (IsTrue (state new.inner).is_honest → Effect (unit_file (state old.inner) unit))
+      pub fuse : Fused call count
+          (IsTrue (state new.inner).is_honest → Effect (unit_file (state old.inner) unit))
           old.fuse new.fuse old.inner new.inner result
 
     -- a call that only answers, and that no fuse counts
@@ -46,5 +47,5 @@ module _ {S : Type 0} (state : S → ShelfState) (count : S → ℕ) where
 
     -- bytes are written into the file of a unit
     abbrev pub WritesBehindFuse : ℕ → ℕ → List ℕ → FuseShelf S → FuseShelf S → Result X Fault → Type 0
-    WritesBehindFuse unit at bytes old new result = ChangesBehindFuse Write unit (Written at bytes)
+    WritesBehindFuse unit at bytes old new result = ChangesBehindFuse Write unit (WrittenAt at bytes)
         (WriteFails at (length bytes)) old new result

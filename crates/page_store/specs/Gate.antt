@@ -3,7 +3,7 @@ use Rattle.std.specs.Prelude.{◌≡◌, ◌⊎◌, ℕ, ◌<◌, ◌==◌, if�
 use Rattle.std.specs.Prelude.{Some, None}
 use Rattle.page_store.specs.DeviceFile.{DeviceFile, IsWithin, content}
 use Rattle.page_store.specs.Images.{Leaves, IsSettled}
-use Rattle.page_store.specs.Calls.{Written, WriteFails, Synced, SyncFails}
+use Rattle.page_store.specs.Calls.{WrittenAt, WriteFails, Synced, SyncFails}
 
 -- 'C' is the byte of a closed gate
 abbrev pub IsClosed : List ℕ → Type 0
@@ -53,20 +53,20 @@ ClosedOrRefused old c = (c ≡ Some (with_gate 67 (content old))) ⊎ IsRefused 
 -- the first byte is written and synced
 pub record GateWritten (gate : ℕ) (old new : DeviceFile) : Type 0 where
   pub unsynced : DeviceFile
-  pub written : Written 0 (gate ∷ []) old unsynced
+  pub written : WrittenAt 0 (gate ∷ []) old unsynced
   pub synced : Synced unsynced new
 
 -- the first byte is written and synced, but the write or the sync failed
 abbrev pub GateFails : ℕ → DeviceFile → DeviceFile → Type 0
 GateFails gate old new = WriteFails 0 1 old new ⊎ ((unsynced : DeviceFile)
-    × Written 0 (gate ∷ []) old unsynced × SyncFails unsynced new)
+    × WrittenAt 0 (gate ∷ []) old unsynced × SyncFails unsynced new)
 
 -- a file made anew: without bytes it gets the open gate as its only one, and a closed gate is opened
-abbrev pub opened : List ℕ → List ℕ
-opened [] = 68 ∷ []
-opened (x ∷ bytes) = (if x == 67 then 68 else x) ∷ bytes
+abbrev pub opened_gate : List ℕ → List ℕ
+opened_gate [] = 68 ∷ []
+opened_gate (x ∷ bytes) = (if x == 67 then 68 else x) ∷ bytes
 
 -- the gate is open, and on the disk
 pub record Opens (old new : DeviceFile) : Type 0 where
-  pub bytes : content new ≡ opened (content old)
+  pub bytes : content new ≡ opened_gate (content old)
   pub settled : IsSettled new

@@ -14,14 +14,14 @@ abbrev pub nothing : Durable
 nothing = record { base = None; made = false; ranges = [] }
 
 -- after one more step
-abbrev pub after : Durable → FileStep → Durable
-after d created = record { base = d.base; made = true; ranges = [] }
-after d (wrote at n) = record { base = d.base; made = d.made; ranges = (at, n) ∷ d.ranges }
-after d (synced bytes) = record { base = Some bytes; made = false; ranges = [] }
+abbrev pub after_step : Durable → FileStep → Durable
+after_step d created = record { base = d.base; made = true; ranges = [] }
+after_step d (wrote at n) = record { base = d.base; made = d.made; ranges = (at, n) ∷ d.ranges }
+after_step d (synced bytes) = record { base = Some bytes; made = false; ranges = [] }
 
 abbrev pub durable_from : Durable → List FileStep → Durable
 durable_from d [] = d
-durable_from d (s ∷ log) = durable_from (after d s) log
+durable_from d (s ∷ log) = durable_from (after_step d s) log
 
 -- after these steps
 abbrev pub durable : List FileStep → Durable

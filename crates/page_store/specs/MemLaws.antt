@@ -2,13 +2,14 @@
 use Rattle.std.proofs.Common.{ℕ, List, [], ◌∷◌, inl, inr, refl}
 use Rattle.std.proofs.lemmas.Bool.{cases_Bool}
 use Rattle.page_store.specs.Images.{Leaves}
-use Rattle.page_store.specs.MemFiles.{has_name, file_in}
+use Rattle.page_store.specs.MemFiles.{is_file_of_name, file_by_name}
 use Rattle.page_store.specs.declared.memory_file.MemFile.{MemFile}
 
-pub files_sound : (fs : List MemFile) (name : List ℕ) → Leaves (file_in fs name) (file_in fs name).seen
+pub files_sound : (fs : List MemFile) (name : List ℕ)
+    → Leaves (file_by_name fs name) (file_by_name fs name).seen
 files_sound [] name = refl
 files_sound (f ∷ fs) name =
-    elim (cases_Bool (has_name f name)) [
+    elim (cases_Bool (is_file_of_name f name)) [
       | inl e ↦ rw e f.sound
       | inr e ↦ rw e (files_sound fs name)
     ]

@@ -1,12 +1,13 @@
 -- What every crash since an earlier moment may have left.
 use Rattle.std.specs.Prelude.{◌≡◌, ℕ, List, [], ◌∷◌, ◌++◌, Option, Some, None}
 use Rattle.page_store.specs.DeviceFile.{FileStep, DeviceFile}
-use Rattle.page_store.specs.Images.{Durable, after, durable, MayLeave, Leaves}
+use Rattle.page_store.specs.Images.{Durable, after_step, durable, MayLeave, Leaves}
 
 -- each image at each moment, from this one through these steps, has P
 abbrev pub AtEachMoment : (Option (List ℕ) → Type 0) → Durable → List FileStep → Type 0
 AtEachMoment P d [] = (c : Option (List ℕ)) → MayLeave d c → P c
-AtEachMoment P d (s ∷ more) = ((c : Option (List ℕ)) → MayLeave d c → P c) × AtEachMoment P (after d s) more
+AtEachMoment P d (s ∷ more) = ((c : Option (List ℕ)) → MayLeave d c → P c)
+    × AtEachMoment P (after_step d s) more
 
 -- the file went from old to new, and at each moment on the way each image has P
 pub record Throughout (P : Option (List ℕ) → Type 0) (old new : DeviceFile) : Type 0 where

@@ -1,7 +1,7 @@
 -- What the calls on a unit of a shelf require and ensure.
 use Rattle.std.specs.Prelude.{ℕ, IsTrue, List, length, Result, IfOk, OnOk, OnErr}
 use Rattle.io_state.specs.declared.fault.Fault.{Fault}
-use Rattle.page_store.specs.Calls.{Written, WriteFails}
+use Rattle.page_store.specs.Calls.{WrittenAt, WriteFails}
 use Rattle.page_store.specs.DeviceFile.{DeviceFile}
 use Rattle.page_store.specs.Gate.{WasOrRefused, SameOrRefused, OnlyGate, Opens}
 use Rattle.page_store.specs.Moments.{Throughout}
@@ -44,7 +44,7 @@ module _ {H X : Type 0} (state : H → ShelfState) (count : H → ℕ) where
 
   -- bytes are written into the file of a unit, from byte `at` on
   abbrev pub WritesUnitFile : ℕ → ℕ → List ℕ → H → H → Result X Fault → Type 0
-  WritesUnitFile unit at bytes before after result = ChangesUnitFile unit (Written at bytes)
+  WritesUnitFile unit at bytes before after result = ChangesUnitFile unit (WrittenAt at bytes)
       (WriteFails at (length bytes)) before after result
 
   -- a call that gives a file without bytes an open gate

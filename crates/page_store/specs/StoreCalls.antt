@@ -5,7 +5,7 @@ use Rattle.page_store.specs.DeviceFile.{DeviceFile, content}
 use Rattle.page_store.specs.Gate.{AllRefused, ClosedOrRefused, SameOrRefused, Opens, with_gate}
 use Rattle.page_store.specs.Images.{IsSettled}
 use Rattle.page_store.specs.Moments.{Throughout}
-use Rattle.page_store.specs.Pages.{page_of, PageWritten, PageFails, HasPages, IsStoreOf}
+use Rattle.page_store.specs.Pages.{page_of_bytes, PageWritten, PageFails, HoldsPages, IsStoreOf}
 use Rattle.page_store.specs.ShelfState.{ShelfState, unit_file, WhereHonest, FileGoes, OnlyAnswers}
 use Rattle.page_store.specs.ShelfState.{ChangesOnly, KeepsOthers, IsQuiet, FaultHasCause}
 use Rattle.page_store.specs.ShelfCalls.{GoesHonestly, StaysOrRefuses, ChangesUnitFile}
@@ -23,8 +23,9 @@ ClosesGate old new = (content new ≡ with_gate 67 (content old)) × IsSettled n
 module _ {H : Type 0} (state : H → ShelfState) (count : H → ℕ) where
   -- the unit's file was made, or its gate was opened so that it is written anew
   pub record MakesStore (unit : ℕ) (before after : H) (result : Result Store Fault) : Type 0 where
-    pub store : IfOk result (λ store. IsStoreOf store unit (state after).is_honest (unit_file (state after) unit))
-    pub pages : IfOk result (λ store. WhereHonest (state after) unit (HasPages store.pages))
+    pub store : IfOk result (λ store. IsStoreOf store unit (state after).is_honest
+        (unit_file (state after) unit))
+    pub pages : IfOk result (λ store. WhereHonest (state after) unit (HoldsPages store.pages))
     pub images : GoesHonestly unit (state before) (state after) StaysOrRefuses
     pub opens : OnOk result (GoesHonestly unit (state before) (state after) Opens)
     pub failed : OnErr result (GoesHonestly unit (state before) (state after) SameOrRefused)
@@ -33,7 +34,8 @@ module _ {H : Type 0} (state : H → ShelfState) (count : H → ℕ) where
 
   -- the pages of the unit's file were counted, and nothing was written
   pub record OpensStore (unit : ℕ) (before after : H) (result : Result Store Fault) : Type 0 where
-    pub store : IfOk result (λ store. IsStoreOf store unit (state after).is_honest (unit_file (state before) unit))
+    pub store : IfOk result (λ store. IsStoreOf store unit (state after).is_honest
+        (unit_file (state before) unit))
     pub only : OnlyAnswers (state before) (state after)
     pub cause : FaultHasCause (count before) (count after) result
 
@@ -47,9 +49,10 @@ module _ {H : Type 0} (state : H → ShelfState) (count : H → ℕ) where
       pub cause : FaultHasCause (count before) (count after) result
 
     -- page n of the unit's file was read
-    pub record ReadsPage (unit n : ℕ) (page : List ℕ) (before after : H) (result : Result X Fault) : Type 0 where
+    pub record ReadsPage (unit n : ℕ) (page : List ℕ) (before after : H) (result : Result X Fault) : Type
+        0 where
       pub answer : OnOk result
-          (IsTrue (state after).is_honest → page ≡ page_of (content (unit_file (state before) unit)) n)
+          (IsTrue (state after).is_honest → page ≡ page_of_bytes (content (unit_file (state before) unit)) n)
       pub quiet : IsQuiet unit (state before) (state after)
       pub only : OnlyAnswers (state before) (state after)
       pub cause : FaultHasCause (count before) (count after) result
@@ -66,7 +69,7 @@ module _ {H : Type 0} (state : H → ShelfState) (count : H → ℕ) where
       pub added : OnOk result (new ≡ record old { pages = max old.pages (n + 1) })
       pub failed : OnErr result (FileGoes old.unit (state before) (state after) (PageFails n))
       pub kept : OnErr result (new ≡ old)
-      pub pages : WhereHonest (state after) new.unit (HasPages new.pages)
+      pub pages : WhereHonest (state after) new.unit (HoldsPages new.pages)
       pub quiet : IsQuiet old.unit (state before) (state after)
       pub only : ChangesOnly old.unit (state before) (state after)
       pub cause : FaultHasCause (count before) (count after) result

@@ -23,13 +23,13 @@ pub enum Image {
 impl MemFile {
     ghost use Rattle.std.specs.Prelude.{◌≡◌, option_map, IfOk, IsOkUnless};
     ghost use Rattle.io_state.specs.declared.fault.Fault.TheVariants.{Memory};
-    ghost use Rattle.page_store.specs.MemFiles.{file_of, filled_file};
+    ghost use Rattle.page_store.specs.MemFiles.{device_file_of, filled_file};
     ghost use Rattle.page_store.specs.CrashImages.{image_of};
 
     /// The bytes that a crash leaves, if it leaves the file.
     pub(crate) fn left_by(&self, alloc: Global, image: Image) -> Result<Option<Vec<u8>>, Fault>
         ensures left { IfOk result (λ left. option_map (λ bytes. bytes.items) left ≡ image_of image
-            (file_of self.now)) }
+            (device_file_of self.now)) }
         ensures only_memory { IsOkUnless result Memory }
     {
         match image {

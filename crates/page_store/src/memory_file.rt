@@ -21,7 +21,7 @@ pub(crate) struct MemFile {
 impl MemFile {
     ghost use Rattle.std.specs.Prelude.{◌≡◌, ◌≤◌, length};
     ghost use Rattle.page_store.specs.DeviceFile.{absent};
-    ghost use Rattle.page_store.specs.Calls.{Created, Written, WriteFails, Synced};
+    ghost use Rattle.page_store.specs.Calls.{Created, WrittenAt, WriteFails, Synced};
     ghost use Rattle.page_store.specs.MemFiles.{just_synced, MakesMemFile, ChangesMemFile};
 
     /// A file that was made now, without a byte.
@@ -51,7 +51,7 @@ impl MemFile {
     /// Writes bytes over those that are there, and past the end.
     pub(crate) fn write(&mut self, at: usize, bytes: &[u8]) -> Result<(), Fault>
         requires { at ≤ length self.old.bytes.items }
-        ensures { ChangesMemFile (Written at bytes.now) (WriteFails at (length bytes.now))
+        ensures { ChangesMemFile (WrittenAt at bytes.now) (WriteFails at (length bytes.now))
             self.old self.new result }
     {
         self.log

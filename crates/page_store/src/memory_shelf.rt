@@ -23,12 +23,12 @@ impl MemShelf {
     ghost use Rattle.io_state.specs.declared.fault.Fault.TheVariants.{Memory};
     ghost use Rattle.page_store.specs.DeviceFile.{absent};
     ghost use Rattle.page_store.specs.ShelfState.{HasUnit, unit_name};
-    ghost use Rattle.page_store.specs.MemFiles.{IsPlaceOf};
-    ghost use Rattle.page_store.specs.MemShelves.{state_of, EachCrashed};
+    ghost use Rattle.page_store.specs.MemFiles.{IsPlaceOfFile};
+    ghost use Rattle.page_store.specs.MemShelves.{mem_state_of, EachCrashed};
 
     /// A shelf with no unit, and no file.
     pub fn new(alloc: Global) -> MemShelf
-        ensures { state_of result ≡ record { names = []; file = λ _. absent; is_honest = true } }
+        ensures { mem_state_of result ≡ record { names = []; file = λ _. absent; is_honest = true } }
     {
         MemShelf {
             alloc,
@@ -39,8 +39,8 @@ impl MemShelf {
 
     /// The shelf that a crash leaves. It has no unit until it is attached, and no fault is counted.
     pub fn crash(&self, alloc: Global, image: Image) -> Result<MemShelf, Fault>
-        ensures files { IfOk result (λ shelf. EachCrashed image (state_of self.now) (state_of shelf)) }
-        ensures units { IfOk result (λ shelf. (state_of shelf).names ≡ []) }
+        ensures files { IfOk result (λ shelf. EachCrashed image (mem_state_of self.now) (mem_state_of shelf)) }
+        ensures units { IfOk result (λ shelf. (mem_state_of shelf).names ≡ []) }
         ensures only_memory { IsOkUnless result Memory }
     {
         let mut files = Vec::new(alloc);
@@ -59,8 +59,8 @@ impl MemShelf {
 
     // Where the file of a unit is.
     fn place(&self, unit: usize) -> Option<usize>
-        requires { HasUnit (state_of self.now) unit }
-        ensures found { IsPlaceOf self.now.files.items (unit_name (state_of self.now) unit) result }
+        requires { HasUnit (mem_state_of self.now) unit }
+        ensures found { IsPlaceOfFile self.now.files.items (unit_name (mem_state_of self.now) unit) result }
         ensures within { IfSome result (λ at. at < length self.now.files.items) }
     {
         find(&self.files, &self.units[unit])
@@ -73,10 +73,10 @@ impl Shelf for MemShelf {
     ghost use Rattle.page_store.specs.Calls.{ReadsBytes};
     ghost use Rattle.page_store.specs.ShelfState.{HasUnit};
     ghost use Rattle.page_store.specs.ShelfCalls.{HasUnitWith};
-    ghost use Rattle.page_store.specs.MemShelves.{state_of, AnswersAlways};
+    ghost use Rattle.page_store.specs.MemShelves.{mem_state_of, AnswersAlways};
     ghost use Rattle.page_store.specs.MemLaws.{files_sound};
 
-    ghost state = { state_of };
+    ghost state = { mem_state_of };
 
     ghost fault_count = { λ _. 0 };
 
@@ -87,7 +87,7 @@ impl Shelf for MemShelf {
     }
 
     fn exists(&mut self, unit: usize) -> Result<bool, Fault>
-        requires unit { HasUnit (state_of self.old) unit }
+        requires unit { HasUnit (mem_state_of self.old) unit }
         ensures { AnswersAlways unit (λ file there. there ≡ is_some file.seen) self.old self.new result }
     {
         Ok(self.place(unit).is_some())
@@ -100,7 +100,7 @@ impl Shelf for MemShelf {
     }
 
     fn size(&mut self, unit: usize) -> Result<u64, Fault>
-        requires { HasUnitWith (state_of self.old) unit IsThere }
+        requires { HasUnitWith (mem_state_of self.old) unit IsThere }
         ensures { AnswersAlways unit (λ file size. size ≡ length (content file)) self.old self.new result }
     {
         match self.place(unit) {
@@ -110,7 +110,7 @@ impl Shelf for MemShelf {
     }
 
     fn read_at(&mut self, unit: usize, at: u64, bytes: &mut [u8]) -> Result<(), Fault>
-        requires { HasUnitWith (state_of self.old) unit (IsWithin (at + length bytes.old)) }
+        requires { HasUnitWith (mem_state_of self.old) unit (IsWithin (at + length bytes.old)) }
         ensures { AnswersAlways unit (λ file _. ReadsBytes file at bytes.new) self.old self.new result }
     {
         match self.place(unit) {

@@ -69,5 +69,6 @@ pub trait Shelf {
         ensures faults { fault_count self.new ≡ fault_count self.old };
 
     /// What a read gives is one of the images.
-    ghost reads_an_image: { (shelf : Self) (name : List ℕ) → IsTrue (state shelf).is_honest → Leaves ((state shelf).file name) ((state shelf).file name).seen };
+    ghost reads_an_image: { (shelf : Self) (name : List ℕ) → IsTrue (state shelf).is_honest
+        → Leaves ((state shelf).file name) ((state shelf).file name).seen };
 }

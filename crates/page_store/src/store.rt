@@ -2,7 +2,7 @@
 ghost use Rattle.std.specs.Prelude.{◌≡◌, ◌+◌, ◌-◌, ◌/◌, ◌^◌, ◌<◌, ◌≤◌, min, OnOk};
 ghost use Rattle.page_store.specs.DeviceFile.{IsWithin, IsThere, IsNoShorter};
 ghost use Rattle.page_store.specs.ShelfState.{HasUnit, IsQuiet};
-ghost use Rattle.page_store.specs.Pages.{ReachesPage, HasPages, offset_of};
+ghost use Rattle.page_store.specs.Pages.{ReachesPage, HoldsPages, offset_of};
 ghost use Rattle.page_store.specs.ShelfCalls.{HasUnitWith, GoesFromHonest, ReopensGate};
 ghost use Rattle.page_store.specs.StoreCalls.{MakesStore, OpensStore, ClosesUnit, ReadsPage, ChangesPage};
 ghost use Rattle.page_store.specs.StoreCalls.{WritesPage};
@@ -84,7 +84,7 @@ impl Store {
         page: &mut [u8; PAGE_SIZE],
     ) -> Result<(), Fault>
         requires page { n < self.now.pages }
-        requires stored { HasUnitWith (S.state shelf.old) self.now.unit (HasPages self.now.pages) }
+        requires stored { HasUnitWith (S.state shelf.old) self.now.unit (HoldsPages self.now.pages) }
         ensures { ReadsPage S.state S.fault_count self.now.unit n page.new shelf.old shelf.new result }
     {
         shelf.read_at(self.unit, n as u64 * PAGE, page)
@@ -99,7 +99,7 @@ impl Store {
         page: &[u8; PAGE_SIZE],
     ) -> Result<(), Fault>
         requires page { (n ≤ self.old.pages) × (n < 2 ^ 32 - 1) }
-        requires stored { HasUnitWith (S.state shelf.old) self.old.unit (HasPages self.old.pages) }
+        requires stored { HasUnitWith (S.state shelf.old) self.old.unit (HoldsPages self.old.pages) }
         ensures { WritesPage S.state S.fault_count n page.now self.old self.new
             shelf.old shelf.new result }
     {

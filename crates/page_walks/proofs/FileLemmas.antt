@@ -14,7 +14,7 @@ use Rattle.page_marks.proofs.EachLemmas.{each_weaker}
 use Rattle.page_marks.proofs.MarksLemmas.{outside_reached}
 use Rattle.page_marks.proofs.PartLemmas.{each_part, low_or_not, parted}
 use Rattle.page_walks.specs.FreeWalk.{page_in, FreeWalked}
-use Rattle.page_walks.specs.WholeFile.{used_in, WalksPartTheFile, TreesStay}
+use Rattle.page_walks.specs.WholeFile.{pages_used_in, WalksPartTheFile, TreesStay}
 use Rattle.page_walks.proofs.FreeLemmas.{not_among}
 
 pub trees_stay : TreesStay
@@ -72,13 +72,13 @@ module _ (list : List (List ℕ)) (first count : ℕ) (none header start : ℕ �
   zero_marked = free.marks.others 0 (each_weaker (λ n. header n ≡ false) (λ n. 0 ≢ n) (λ n no same. let yes : header n ≡ true = ap header (sym same) ∙ zeroth.set.0 in cc (yes, no)) free.own free.marks.fresh)
       ∙ zeroth.set.0
 
-  unmarked_used : (n : ℕ) → start n ≡ false → used_in list first count n ≡ pages_in list n
+  unmarked_used : (n : ℕ) → start n ≡ false → pages_used_in list first count n ≡ pages_in list n
   unmarked_used n off =
       let some : n ≢ 0 = λ same. (let yes : start n ≡ true = ap start same ∙ zero_marked in cc (yes, off)) in
       let out = outside_reached start n free.own off free.marks.set in
       rw free.is (used_as_read list free.own n (omega (arith, some)) (not_among n free.own out))
 
-  marked_unused : (n : ℕ) → start n ≡ true → used_in list first count n ≡ None
+  marked_unused : (n : ℕ) → start n ≡ true → pages_used_in list first count n ≡ None
   marked_unused n on = rw free.is (by_chain (is_among n free.own) refl)
     where
       by_zero : is_among n free.own ≡ false → ((eqb n 0 ≡ true) × (n ≡ 0)) ⊎ ((eqb n 0 ≡ false) × (n ≢ 0)) → used (page_in list) (length list) (Some free.own) n ≡ None
@@ -94,8 +94,8 @@ module _ (list : List (List ℕ)) (first count : ℕ) (none header start : ℕ �
 
 pub walks_part_the_file : WalksPartTheFile
 walks_part_the_file list first count none header start final owns clear zeroth free parts all = record {
-  parted = parted (used_in list first count) (length list) start final owns parts all (marked_unused list first count none header start clear zeroth free)
+  parted = parted (pages_used_in list first count) (length list) start final owns parts all (marked_unused list first count none header start clear zeroth free)
       (λ n past. rw free.is (past_end list free.own n past));
-  as_read = λ i. each_part (λ n. used_in list first count n ≡ pages_in list n) owns i
-      (each_weaker (λ n. start n ≡ false) (λ n. used_in list first count n ≡ pages_in list n) (unmarked_used list first count none header start clear zeroth free) (all_of owns) parts.fresh);
+  as_read = λ i. each_part (λ n. pages_used_in list first count n ≡ pages_in list n) owns i
+      (each_weaker (λ n. start n ≡ false) (λ n. pages_used_in list first count n ≡ pages_in list n) (unmarked_used list first count none header start clear zeroth free) (all_of owns) parts.fresh);
 }

@@ -7,7 +7,7 @@ use Rattle.tree_node.specs.declared.shape.Shape.{Shape}
 use Rattle.tree_node.specs.Leaf.{leaf_entries}
 use Rattle.page_walks.specs.declared.leaf.Leaf.{Leaf}
 use Rattle.page_walks.specs.declared.spot.Spot.{Spot}
-use Rattle.page_walks.specs.Spots.{entry_at, entries_at, spots_below, spots_in}
+use Rattle.page_walks.specs.Spots.{entry_at_spot, entries_at, spots_below, spots_in}
 
 pub length_below : (page n : ℕ) → length (spots_below page n) ≡ n
 length_below page zero = refl
@@ -29,7 +29,7 @@ entries_below : (shape : Shape) (list : List (List ℕ)) (page n : ℕ) → n �
 entries_below shape list page zero few = refl
 entries_below shape list page (suc n) few =
     let es = leaf_entries shape (slice_index_or list page []) in
-    map-append (entry_at shape list) (spots_below page n) (record { page = page; place = n } ∷ [])
+    map-append (entry_at_spot shape list) (spots_below page n) (record { page = page; place = n } ∷ [])
     ∙ ap (λ (l : List (List ℕ)). l ++ slice_index_or es n [] ∷ []) (entries_below shape list page n (omega (arith, few))) ∙ sym (take-suc es n [] few)
 
 -- with a leaf more come all its entries
@@ -37,6 +37,6 @@ pub entries_more : (shape : Shape) (list : List (List ℕ)) (leaves : List Leaf)
     → entries_at shape list (spots_in (leaves ++ leaf ∷ [])) ≡ entries_at shape list (spots_in leaves) ++ leaf_entries shape (slice_index_or list leaf.page [])
 entries_more shape list leaves leaf all =
     let es = leaf_entries shape (slice_index_or list leaf.page []) in
-    ap (entries_at shape list) (spots_more leaves leaf) ∙ map-append (entry_at shape list) (spots_in leaves) (spots_below leaf.page leaf.count)
+    ap (entries_at shape list) (spots_more leaves leaf) ∙ map-append (entry_at_spot shape list) (spots_in leaves) (spots_below leaf.page leaf.count)
     ∙ ap (λ (l : List (List ℕ)). entries_at shape list (spots_in leaves) ++ l)
     (entries_below shape list leaf.page leaf.count (omega (arith, all)) ∙ take_all leaf.count es (omega (arith, all)))

@@ -9,7 +9,7 @@ use Rattle.pages.specs.PageMap.{PageMap}
 use Rattle.tree_node.specs.declared.shape.Shape.{Shape}
 use Rattle.tree_node.specs.Leaf.{leaf_entries}
 use Rattle.tree_node.specs.Inner.{separators, children}
-use Rattle.node_balance.specs.Fill.{least}
+use Rattle.node_balance.specs.Fill.{least_entries}
 use Rattle.tree_search.specs.Tree.{TreeOf, page_of, pages_of, entries_of, size_of, Bound, IsRow, IsOrdered, IsHalfFull, IsRooted}
 use Rattle.tree_search.specs.Stored.{Holds}
 use Rattle.page_marks.specs.Marks.{Marks, marked_in}
@@ -19,7 +19,7 @@ use Rattle.page_marks.proofs.MarksLemmas.{marks_none, marks_on}
 use Rattle.page_walks.specs.Order.{AreBetween}
 use Rattle.bplus_tree.specs.declared.tree.Tree.{Tree}
 use Rattle.page_walks.specs.declared.spot.Spot.{Spot}
-use Rattle.page_walks.specs.Spots.{entry_at}
+use Rattle.page_walks.specs.Spots.{entry_at_spot}
 use Rattle.page_walks.specs.TreeWalk.{Reach, TreeWalked, reach_of, Walked, LeafFits, InnerFits, WalkedFront, AreFirstMembers, bound_at}
 
 pub there : (list : List (List ℕ)) (n : ℕ) → n < length list → pages_in list n ≡ Some (slice_index_or list n [])
@@ -67,12 +67,12 @@ module _ (shape : Shape) (pages : PageMap) (k : ℕ) (low : Bound) (ss : List (L
     pub as_many : length trees ≡ suc i
     pub leads : map (page_of k) trees ≡ take (suc i) below
     pub holds : Each (Holds shape pages k) trees
-    pub filled : Each (λ c. (least shape k ≤ size_of k c) × IsHalfFull shape k c) trees
+    pub filled : Each (λ c. (least_entries shape k ≤ size_of k c) × IsHalfFull shape k c) trees
     pub marks : Marks before.marks after.marks (flat_map (pages_of k) trees)
     pub adds : after.entries ≡ before.entries ++ flat_map (entries_of k) trees
 
   added : (i : ℕ) (from to : Bound) (a b c : Reach) → i < length below → (front : WalkedFront shape pages k low ss below i a b)
-      → (child : Walked shape pages k (get_or below i 0) (least shape k) from to b c) → Added i a c (front.trees ++ child.tree ∷ [])
+      → (child : Walked shape pages k (get_or below i 0) (least_entries shape k) from to b c) → Added i a c (front.trees ++ child.tree ∷ [])
   added i from to a b c inside front child =
       let ts = front.trees in
       let t = child.tree in
@@ -81,7 +81,7 @@ module _ (shape : Shape) (pages : PageMap) (k : ℕ) (low : Bound) (ss : List (L
         leads = map-append (page_of k) ts (t ∷ []) ∙ ap (λ (l : List ℕ). l ++ page_of k t ∷ []) front.leads
             ∙ ap (λ (p : ℕ). take i below ++ p ∷ []) child.stands.root ∙ sym (take-suc below i 0 inside);
         holds = each_join (Holds shape pages k) ts (t ∷ []) front.holds (child.stands.holds, tt);
-        filled = each_join (λ c. (least shape k ≤ size_of k c) × IsHalfFull shape k c) ts (t ∷ []) front.filled ((child.large, child.filled), tt);
+        filled = each_join (λ c. (least_entries shape k ≤ size_of k c) × IsHalfFull shape k c) ts (t ∷ []) front.filled ((child.large, child.filled), tt);
         marks = subst (Marks a.marks c.marks) (sym (flat_map-append (pages_of k) ts (t ∷ []) ∙ ap (λ (l : List ℕ). flat_map (pages_of k) ts ++ l) (append-nil (pages_of k t))))
             (marks_on a.marks b.marks c.marks (flat_map (pages_of k) ts) (pages_of k t) front.marks child.marks);
         adds = child.adds ∙ ap (λ (l : List (List ℕ)). l ++ entries_of k t) front.adds ∙ append_assoc a.entries (flat_map (entries_of k) ts) (entries_of k t)
@@ -90,7 +90,7 @@ module _ (shape : Shape) (pages : PageMap) (k : ℕ) (low : Bound) (ss : List (L
 
   -- one child more
   pub front_next : (i : ℕ) (a b c : Reach) → i < length below → i < length ss → WalkedFront shape pages k low ss below i a b
-      → Walked shape pages k (get_or below i 0) (least shape k) (bound_at low ss i) (Some (get_or ss i [])) b c → WalkedFront shape pages k low ss below (suc i) a c
+      → Walked shape pages k (get_or below i 0) (least_entries shape k) (bound_at low ss i) (Some (get_or ss i [])) b c → WalkedFront shape pages k low ss below (suc i) a c
   front_next i a b c inside few front child =
       let all = added i (bound_at low ss i) (Some (get_or ss i [])) a b c inside front child in
       record {
@@ -112,7 +112,7 @@ pub node_walked : (shape : Shape) (list : List (List ℕ)) (h k page floor : ℕ
     → Marks start.marks before.marks (page ∷ []) → before.entries ≡ start.entries
     → WalkedFront shape (pages_in list) k low (separators shape (slice_index_or list page [])) (children shape (slice_index_or list page []))
     (length (separators shape (slice_index_or list page []))) before between
-    → Walked shape (pages_in list) k (get_or (children shape (slice_index_or list page [])) (length (separators shape (slice_index_or list page []))) 0) (least shape k)
+    → Walked shape (pages_in list) k (get_or (children shape (slice_index_or list page [])) (length (separators shape (slice_index_or list page []))) 0) (least_entries shape k)
     (bound_at low (separators shape (slice_index_or list page [])) (length (separators shape (slice_index_or list page [])))) high between after
     → Walked shape (pages_in list) h page floor low high start after
 node_walked shape list zero k page floor low high start before between after one inside inner many first same front last = absurd (omega arith)
@@ -178,7 +178,7 @@ whole_tree tree list floor before after spots some walked many = record {
     whole = record { stands = walked.stands; apart = walked.marks.apart; filled = walked.filled; rooted = rooted tree.levels walked.tree floor some walked.large };
     has = sym walked.adds;
     pages_are = refl;
-    count = sym many ∙ sym (length-map spots (entry_at tree.shape list));
+    count = sym many ∙ sym (length-map spots (entry_at_spot tree.shape list));
   };
   marks = walked.marks;
 }

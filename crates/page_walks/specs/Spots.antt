@@ -6,12 +6,12 @@ use Rattle.page_walks.specs.declared.spot.Spot.{Spot}
 use Rattle.page_walks.specs.declared.leaf.Leaf.{Leaf}
 
 -- the entry at a place of a leaf
-abbrev pub entry_at : Shape → List (List ℕ) → Spot → List ℕ
-entry_at shape list spot = slice_index_or (leaf_entries shape (slice_index_or list spot.page []))
+abbrev pub entry_at_spot : Shape → List (List ℕ) → Spot → List ℕ
+entry_at_spot shape list spot = slice_index_or (leaf_entries shape (slice_index_or list spot.page []))
     spot.place []
 
 abbrev pub entries_at : Shape → List (List ℕ) → List Spot → List (List ℕ)
-entries_at shape list = map (entry_at shape list)
+entries_at shape list = map (entry_at_spot shape list)
 
 -- the page is a leaf that has an entry there
 pub record IsSpotThere (shape : Shape) (list : List (List ℕ)) (spot : Spot) : Type 0 where

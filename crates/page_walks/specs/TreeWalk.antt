@@ -8,7 +8,7 @@ use Rattle.tree_node.specs.declared.shape.Shape.{Shape}
 use Rattle.tree_node.specs.Order.{Ascends}
 use Rattle.tree_node.specs.Leaf.{IsLeaf, leaf_entries}
 use Rattle.tree_node.specs.Inner.{IsInner, separators}
-use Rattle.node_balance.specs.Fill.{least}
+use Rattle.node_balance.specs.Fill.{least_entries}
 use Rattle.bplus_tree.specs.declared.tree.Tree.{Tree}
 use Rattle.tree_search.specs.Tree.{TreeOf, page_of, pages_of, entries_of, size_of, Bound, IsHalfFull}
 use Rattle.tree_search.specs.Tree.{IsOrdered}
@@ -118,6 +118,6 @@ pub record WalkedFront (shape : Shape) (pages : PageMap) (k : ℕ) (low : Bound)
   pub leads : map (page_of k) trees ≡ take i below
   pub holds : Each (Holds shape pages k) trees
   pub ordered : AreFirstMembers (IsOrdered shape.width k) low ss trees
-  pub filled : Each (λ c. (least shape k ≤ size_of k c) × IsHalfFull shape k c) trees
+  pub filled : Each (λ c. (least_entries shape k ≤ size_of k c) × IsHalfFull shape k c) trees
   pub marks : Marks before.marks after.marks (flat_map (pages_of k) trees)
   pub adds : after.entries ≡ before.entries ++ flat_map (entries_of k) trees

@@ -11,8 +11,9 @@ use Rattle.page_marks.specs.Parted.{Parted, own_at, all_of}
 use Rattle.page_walks.specs.FreeWalk.{page_in, FreeWalked}
 
 -- the pages in use of a file whose free pages are those from the first one on, so many
-abbrev pub used_in : List (List ℕ) → ℕ → ℕ → PageMap
-used_in list first count = used (page_in list) (length list) (chain (page_in list) (length list) first count)
+abbrev pub pages_used_in : List (List ℕ) → ℕ → ℕ → PageMap
+pages_used_in list first count =
+    used (page_in list) (length list) (chain (page_in list) (length list) first count)
 
 -- no page belongs to two parts, each page in use to one, and the pages of each part are in use as
 -- they were read
@@ -27,7 +28,7 @@ WalksPartTheFile = (list : List (List ℕ)) (first count : ℕ) (none header sta
     (owns : List (List ℕ))
     → ((n : ℕ) → none n ≡ false) → Marks none header (0 ∷ []) → FreeWalked list first count header start
     → Marks start final (all_of owns)
-    → ((n : ℕ) → n < length list → final n ≡ true) → FileParted list (used_in list first count) owns
+    → ((n : ℕ) → n < length list → final n ≡ true) → FileParted list (pages_used_in list first count) owns
 
 -- a tree stands while its own pages stay as they are
 abbrev pub TreesStay : Type 0

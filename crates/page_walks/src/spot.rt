@@ -13,12 +13,12 @@ pub struct Spot {
 }
 
 impl Spot {
-    ghost use Rattle.page_walks.specs.Spots.{IsSpotThere, entry_at};
+    ghost use Rattle.page_walks.specs.Spots.{IsSpotThere, entry_at_spot};
 
     /// The entry that stands there, in the pages of a file as they were read.
     pub fn entry<'a>(self, pages: &'a [[u8; PAGE_SIZE]], shape: Shape) -> Option<&'a [u8]>
         ensures there { IsSome result ↔ IsSpotThere shape pages.now self }
-        ensures value { IfSome result (λ entry. entry.now ≡ entry_at shape pages.now self) }
+        ensures value { IfSome result (λ entry. entry.now ≡ entry_at_spot shape pages.now self) }
     {
         let page = pages.get(self.page as usize)?;
         if !is_leaf(page, shape) {

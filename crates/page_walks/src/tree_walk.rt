@@ -2,7 +2,7 @@
 
 ghost use Rattle.std.specs.Prelude.{◌≡◌, ◌<◌, ◌≤◌, IfOk, OnOk, length, slice_index_or, []};
 ghost use Rattle.tree_node.specs.Leaf.{IsLeaf, leaf_room};
-ghost use Rattle.node_balance.specs.Fill.{least};
+ghost use Rattle.node_balance.specs.Fill.{least_entries};
 ghost use Rattle.page_walks.specs.TreeWalk.{IsInnerWithin, IsLeafWithin, AddsLeaf, WalksBelow, WalksTree};
 
 use crate::leaf::{Leaf, have_entries, push};
@@ -64,7 +64,7 @@ fn check_inner(
 
 /// How many entries or separators a node must have that is not the root, with so many levels below it.
 fn least_in(shape: Shape, levels: u8) -> usize
-    ensures { result ≡ least shape levels }
+    ensures { result ≡ least_entries shape levels }
 {
     if levels == 0 {
         shape.leaf_room() / 2

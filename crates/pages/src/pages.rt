@@ -68,9 +68,11 @@ pub trait Pages {
 
     ghost reads_writes: { (a b : Self) → shown.Reads a b → shown.Writes a b };
 
-    ghost reads_live: { (a b : Self) → shown.Reads a b → IsTrue (shown.state b).is_honest → (shown.state b).live ≡ (shown.state a).live };
+    ghost reads_live: { (a b : Self) → shown.Reads a b → IsTrue (shown.state b).is_honest
+        → (shown.state b).live ≡ (shown.state a).live };
 
-    ghost reads_sound: { (a b : Self) → shown.Reads a b → IsTrue (shown.state b).is_honest → (shown.state b).is_sound ≡ (shown.state a).is_sound };
+    ghost reads_sound: { (a b : Self) → shown.Reads a b → IsTrue (shown.state b).is_honest
+        → (shown.state b).is_sound ≡ (shown.state a).is_sound };
 
     ghost reads_available: { (a b : Self) → shown.Reads a b → (shown.state b).available ≡ (shown.state a).available };
 

@@ -5,7 +5,7 @@ use Rattle.std.specs.Option.{option_map, option_map_or}
 use Rattle.std.proofs.lemmas.Bool.{false≢true}
 use Rattle.std.proofs.lemmas.Option.{get_or_from_slice_get, slice_get_within, same_Some}
 use Rattle.deck_words.specs.Rule.{Rule, optional, onto, where_it_gives}
-use Rattle.deck_words.specs.Notation.{the, name, period, may, is_there, ◌▸◌, ◌◂◌, ◌⊗◌, ◌∣◌}
+use Rattle.deck_words.specs.Notation.{the, name, period, may, is_word_there, ◌▸◌, ◌◂◌, ◌⊗◌, ◌∣◌}
 use Rattle.deck_words.proofs.TestLemmas.{both_true, bind_some, map_some, then_some, not_is}
 use Rattle.io_state.specs.declared.modes.Access.{Access}
 use Rattle.io_state.specs.declared.modes.Access.TheVariants.{Sequential, Random, Dynamic}
@@ -29,25 +29,25 @@ use Rattle.file_control.specs.Description.{FileDesc}
 use Rattle.file_control.specs.Described.{IsDescribedFile, AreDescribed}
 use Rattle.procedure_division.specs.Allowed.{IsAllowedOn, IsAllowed}
 use Rattle.procedure_division.specs.Following.{followed, where_allowed}
-use Rattle.procedure_division.specs.Names.{Names, file_of, record_of, item_in, holder_of, item_of, length_item_of, access_at, prime_length, key_of, led_key_of}
+use Rattle.procedure_division.specs.Names.{Names, place_of_file, record_of, item_in, holder_of, item_named, length_item_of, access_at, prime_length, key_by_item, led_key_of}
 use Rattle.procedure_division.specs.Procedure.{statement, sentence, paragraph, paragraph_or_sentence, procedure}
-use Rattle.procedure_division.specs.StatementRules.{joined, some_of, perform, file, record_name, opened, opening, open_statement, lock, closed, close_statement, next, key, key_phrase, read_by, read_operand, read_phrases, read_statement, relation, file_to_start, led_key, start_by, start_phrase, start_operand, start_statement, source, moved_to, receiver, receivers, move_statement, write_statement, rewrite_statement, delete_statement, stop_statement}
+use Rattle.procedure_division.specs.StatementRules.{joined_statements, some_of, one_statement, file, record_named, name_to_open, opening, open_statement, lock, file_to_close, close_statement, next, key, key_phrase, read_by, read_operand, read_phrases, read_statement, relation, file_to_start, led_key, start_by, start_phrase, start_operand, start_statement, source, moved_to, receiver, receivers, move_statement, write_statement, rewrite_statement, delete_statement, stop_statement}
 use Rattle.procedure_division.proofs.GivesLemmas.{Gives, gives_second, gives_first, gives_pair, gives_either, gives_as, gives_followed, IfThere, gives_optional, joined_all, gives_some, found, all_at, one_all, field_found, keys_there}
 use Rattle.procedure_division.proofs.SourceLemmas.{HasDigits, gives_source, taken_is_number}
 
 -- the OPEN of the file of this name, where its access mode permits the open mode
 abbrev file_to_open : Names → OpenMode → List ℕ → Option (List Statement)
 file_to_open names mode name =
-    option_and_then (λ u. cond (may_open (access_at names u) mode) (Some (perform u (Open mode))) None) (file_of names name)
+    option_and_then (λ u. cond (may_open (access_at names u) mode) (Some (one_statement u (Open mode))) None) (place_of_file names name)
 
 -- the key that the file's item of this name is
 abbrev key_named : Names → ℕ → List ℕ → Option ℕ
-key_named names u name = option_and_then (key_of names u) (item_in names u name)
+key_named names u name = option_and_then (key_by_item names u) (item_in names u name)
 
 -- the file of this name, unless its access is random
 abbrev file_to_start_named : Names → List ℕ → Option ℕ
 file_to_start_named names name =
-    option_and_then (λ u. cond (is_random (access_at names u)) None (Some u)) (file_of names name)
+    option_and_then (λ u. cond (is_random (access_at names u)) None (Some u)) (place_of_file names name)
 
 -- the key that the file's item of this name leads, and the item's length
 abbrev led_key_named : Names → ℕ → List ℕ → Option (ℕ × ℕ)
@@ -55,7 +55,7 @@ led_key_named names u name = option_and_then (led_key_of names u) (item_in names
 
 -- the MOVE to the item of this name
 abbrev moved_to_named : Names → Source (List ℕ) → List ℕ → Option (List Statement)
-moved_to_named names sent name = moved_to sent (item_of names name) (length_item_of names name)
+moved_to_named names sent name = moved_to sent (item_named names name) (length_item_of names name)
 
 -- ---- the file of a place
 
@@ -64,10 +64,10 @@ IsFileOf names u = (known : FileDesc) × (slice_get names.files u ≡ Some known
 
 pub gives_file : (names : Names) → Gives (IsFileOf names) (file names)
 unfolding file
-gives_file names = gives_as (λ _. Unit {0}) (IsFileOf names) (file_of names) name (λ _ _ _ _. tt) (λ text u _ e. let f = found (λ known. bytes_eq known.name text) names.files u e in (f.0, f.1))
+gives_file names = gives_as (λ _. Unit {0}) (IsFileOf names) (place_of_file names) name (λ _ _ _ _. tt) (λ text u _ e. let f = found (λ known. bytes_eq known.name text) names.files u e in (f.0, f.1))
 
-pub gives_record_name : (names : Names) → Gives (IsFileOf names) (record_name names)
-unfolding record_name
+pub gives_record_name : (names : Names) → Gives (IsFileOf names) (record_named names)
+unfolding record_named
 gives_record_name names = gives_as (λ _. Unit {0}) (IsFileOf names) (record_of names) name (λ _ _ _ _. tt) (λ text u _ e. let f = found (λ known. is_named text known.entry) names.files u e in (f.0, f.1))
 
 -- a rule whose value is one statement
@@ -82,28 +82,28 @@ access_is names u known e = ap (λ o. option_map_or (λ file. file.access) o Seq
 
 open_allowed : (names : Names) (mode : OpenMode) (text : List ℕ) (statements : List Statement) → file_to_open names mode text ≡ Some statements → All (IsAllowed names) statements
 open_allowed names mode text statements e =
-    let a = bind_some (λ u. cond (may_open (access_at names u) mode) (Some (perform u (Open mode))) None) (file_of names text) statements e in
-    let t = then_some (may_open (access_at names a.0) mode) (Some (perform a.0 (Open mode))) statements a.2 in
+    let a = bind_some (λ u. cond (may_open (access_at names u) mode) (Some (one_statement u (Open mode))) None) (place_of_file names text) statements e in
+    let t = then_some (may_open (access_at names a.0) mode) (Some (one_statement a.0 (Open mode))) statements a.2 in
     let f = found (λ known. bytes_eq known.name text) names.files a.0 a.1 in
-    subst (All (IsAllowed names)) (same_Some (perform a.0 (Open mode)) statements t.1)
+    subst (All (IsAllowed names)) (same_Some (one_statement a.0 (Open mode)) statements t.1)
     (one_all (IsAllowed names) (Perform a.0 (Open mode)) (f.0, f.1, subst (λ access. may_open access mode ≡ true) (access_is names a.0 f.0 f.1) t.0))
 
-pub gives_opened : (names : Names) (mode : OpenMode) → Gives (All (IsAllowed names)) (opened names mode)
-unfolding opened
+pub gives_opened : (names : Names) (mode : OpenMode) → Gives (All (IsAllowed names)) (name_to_open names mode)
+unfolding name_to_open
 gives_opened names mode = gives_as (λ _. Unit {0}) (All (IsAllowed names)) (file_to_open names mode) name (λ _ _ _ _. tt) (λ text statements _ e. open_allowed names mode text statements e)
 
-opened_all : (names : Names) (text : List ℕ) (mode : OpenMode) → Gives (All (IsAllowed names)) (the text ▸ some_of (opened names mode))
+opened_all : (names : Names) (text : List ℕ) (mode : OpenMode) → Gives (All (IsAllowed names)) (the text ▸ some_of (name_to_open names mode))
 opened_all names text mode =
-    gives_second (All (IsAllowed names)) (the text) (some_of (opened names mode)) (gives_some (IsAllowed names) (opened names mode) (gives_opened names mode))
+    gives_second (All (IsAllowed names)) (the text) (some_of (name_to_open names mode)) (gives_some (IsAllowed names) (name_to_open names mode) (gives_opened names mode))
 
 pub gives_opening : (names : Names) → Gives (All (IsAllowed names)) (opening names)
 unfolding opening
 gives_opening names =
     let P = All (IsAllowed names) in
-    let input = the (codes "INPUT") ▸ some_of (opened names Input) in
-    let output = the (codes "OUTPUT") ▸ some_of (opened names Output) in
-    let update = the (codes "I-O") ▸ some_of (opened names InputOutput) in
-    let extend = the (codes "EXTEND") ▸ some_of (opened names Extend) in
+    let input = the (codes "INPUT") ▸ some_of (name_to_open names Input) in
+    let output = the (codes "OUTPUT") ▸ some_of (name_to_open names Output) in
+    let update = the (codes "I-O") ▸ some_of (name_to_open names InputOutput) in
+    let extend = the (codes "EXTEND") ▸ some_of (name_to_open names Extend) in
     gives_either P input (output ∣ update ∣ extend) (opened_all names (codes "INPUT") Input)
     (gives_either P output (update ∣ extend) (opened_all names (codes "OUTPUT") Output)
     (gives_either P update extend (opened_all names (codes "I-O") InputOutput) (opened_all names (codes "EXTEND") Extend)))
@@ -113,8 +113,8 @@ unfolding open_statement
 gives_open names =
     gives_second (All (IsAllowed names)) (the (codes "OPEN")) (some_of (opening names)) (gives_some (IsAllowed names) (opening names) (gives_opening names))
 
-pub gives_closed : (names : Names) → Gives (All (IsAllowed names)) (closed names)
-unfolding closed
+pub gives_closed : (names : Names) → Gives (All (IsAllowed names)) (file_to_close names)
+unfolding file_to_close
 gives_closed names =
     gives_one names (λ c. IsFileOf names c.0 × Unit {0}) (λ c. Perform c.0 (Close c.1)) (file names ⊗ lock)
     (gives_pair (IsFileOf names) (λ _. Unit {0}) (file names) lock (gives_file names) (λ _ _ _ _. tt)) (λ c p. (p.0.0, p.0.1, tt))
@@ -122,21 +122,21 @@ gives_closed names =
 pub gives_close : (names : Names) → Gives (All (IsAllowed names)) (close_statement names)
 unfolding close_statement
 gives_close names =
-    gives_second (All (IsAllowed names)) (the (codes "CLOSE")) (some_of (closed names)) (gives_some (IsAllowed names) (closed names) (gives_closed names))
+    gives_second (All (IsAllowed names)) (the (codes "CLOSE")) (some_of (file_to_close names)) (gives_some (IsAllowed names) (file_to_close names) (gives_closed names))
 
 -- ---- WRITE, REWRITE, DELETE and STOP
 
 pub gives_write : (names : Names) → Gives (All (IsAllowed names)) (write_statement names)
 unfolding write_statement
 gives_write names =
-    gives_one names (IsFileOf names) (λ u. Perform u Write) (the (codes "WRITE") ▸ record_name names)
-    (gives_second (IsFileOf names) (the (codes "WRITE")) (record_name names) (gives_record_name names)) (λ u p. (p.0, p.1, tt))
+    gives_one names (IsFileOf names) (λ u. Perform u Write) (the (codes "WRITE") ▸ record_named names)
+    (gives_second (IsFileOf names) (the (codes "WRITE")) (record_named names) (gives_record_name names)) (λ u p. (p.0, p.1, tt))
 
 pub gives_rewrite : (names : Names) → Gives (All (IsAllowed names)) (rewrite_statement names)
 unfolding rewrite_statement
 gives_rewrite names =
-    gives_one names (IsFileOf names) (λ u. Perform u Rewrite) (the (codes "REWRITE") ▸ record_name names)
-    (gives_second (IsFileOf names) (the (codes "REWRITE")) (record_name names) (gives_record_name names)) (λ u p. (p.0, p.1, tt))
+    gives_one names (IsFileOf names) (λ u. Perform u Rewrite) (the (codes "REWRITE") ▸ record_named names)
+    (gives_second (IsFileOf names) (the (codes "REWRITE")) (record_named names) (gives_record_name names)) (λ u p. (p.0, p.1, tt))
 
 pub gives_delete : (names : Names) → Gives (All (IsAllowed names)) (delete_statement names)
 unfolding delete_statement
@@ -156,7 +156,7 @@ abbrev pub IsWay : Access → Bool → Type 0
 IsWay access true = IsFalse (is_random access)
 IsWay access false = IsFalse (is_sequential access)
 
-way_of : (access : Access) (n : Option (Unit {0})) → IfThere (λ _. not (is_random access) ≡ true) n → IsWay access (is_sequential access || is_there n)
+way_of : (access : Access) (n : Option (Unit {0})) → IfThere (λ _. not (is_random access) ≡ true) n → IsWay access (is_sequential access || is_word_there n)
 way_of Sequential n h = refl
 way_of Random None h = refl
 way_of Random (Some _) h = absurd (false≢true h)
@@ -167,23 +167,23 @@ pub gives_next : (access : Access) → Gives (IsWay access) (next access)
 unfolding next
 gives_next access =
     let word = where_allowed (not (is_random access)) (the (codes "NEXT")) in
-    gives_as (IfThere (λ _. not (is_random access) ≡ true)) (IsWay access) (λ n. Some (is_sequential access || is_there n)) (optional word)
+    gives_as (IfThere (λ _. not (is_random access) ≡ true)) (IsWay access) (λ n. Some (is_sequential access || is_word_there n)) (optional word)
     (gives_optional (λ _. not (is_random access) ≡ true) word
     (gives_as (λ _. Unit {0}) (λ _. not (is_random access) ≡ true) (λ x. cond (not (is_random access)) (Some x) None) (the (codes "NEXT")) (λ _ _ _ _. tt)
     (λ x y _ e. (then_some (not (is_random access)) (Some x) y e).0)))
-    (λ n y h e. subst (IsWay access) (same_Some (is_sequential access || is_there n) y e) (way_of access n h))
+    (λ n y h e. subst (IsWay access) (same_Some (is_sequential access || is_word_there n) y e) (way_of access n h))
 
 module _ (names : Names) (u : ℕ) (known : FileDesc) (at : slice_get names.files u ≡ Some known) where
   item_in_is : (text : List ℕ) → item_in names u text ≡ field_of known.layout text
   item_in_is text = ap (λ o. option_and_then (λ file. field_of file.layout text) o) at
 
-  key_of_is : (field : Field) → key_of names u field ≡ key_of_field known.schema field
+  key_of_is : (field : Field) → key_by_item names u field ≡ key_of_field known.schema field
   key_of_is field = ap (λ o. option_and_then (λ file. key_of_field file.schema field) o) at
 
   pub gives_key : Gives (λ k. k < length known.schema.keys) (key names u)
   unfolding key
   gives_key = gives_as (λ _. Unit {0}) (λ k. k < length known.schema.keys) (key_named names u) name (λ _ _ _ _. tt) (λ text k _ e.
-      let a = bind_some (key_of names u) (item_in names u text) k e in
+      let a = bind_some (key_by_item names u) (item_in names u text) k e in
       let f = found (λ part. (part.offset == a.0.offset) && (part.length == a.0.length)) known.schema.keys k (sym (key_of_is a.0) ∙ a.2) in
       slice_get_within known.schema.keys k f.0 f.1)
 
@@ -238,7 +238,7 @@ pub gives_file_to_start : (names : Names) → Gives (λ u. (known : FileDesc) ×
 unfolding file_to_start
 gives_file_to_start names =
     gives_as (λ _. Unit {0}) (λ u. (known : FileDesc) × (slice_get names.files u ≡ Some known) × IsFalse (is_random known.access)) (file_to_start_named names) name (λ _ _ _ _. tt) (λ text v _ e.
-    let a = bind_some (λ u. cond (is_random (access_at names u)) None (Some u)) (file_of names text) v e in
+    let a = bind_some (λ u. cond (is_random (access_at names u)) None (Some u)) (place_of_file names text) v e in
     let b = not_random (is_random (access_at names a.0)) a.0 v a.2 in
     let f = found (λ known. bytes_eq known.name text) names.files a.0 a.1 in
     (f.0, subst (λ u. slice_get names.files u ≡ Some f.0) b.1 f.1, subst (λ access. is_random access ≡ false) (access_is names a.0 f.0 f.1) b.0))
@@ -308,7 +308,7 @@ gives_start names described =
 
 -- ---- MOVE
 
-move_allowed : (names : Names) → AreDescribed names.files names.items → (sent : Source (List ℕ)) → HasDigits sent → (text : List ℕ) (item : Option (ℕ × Field)) (place : Option ℕ) (statements : List Statement) → item_of names text ≡ item → length_item_of names text ≡ place → moved_to sent item place ≡ Some statements → All (IsAllowed names) statements
+move_allowed : (names : Names) → AreDescribed names.files names.items → (sent : Source (List ℕ)) → HasDigits sent → (text : List ℕ) (item : Option (ℕ × Field)) (place : Option ℕ) (statements : List Statement) → item_named names text ≡ item → length_item_of names text ≡ place → moved_to sent item place ≡ Some statements → All (IsAllowed names) statements
 move_allowed names described sent numeral text (Some item) place statements e p m =
     let t = then_some (is_taken_by item.1.numeric sent) (Some (Move item.0 item.1 sent ∷ [])) statements m in
     let a = bind_some (λ u. option_map {U = ℕ × Field} (λ field. (u, field)) (item_in names u text)) (holder_of names text) item e in
@@ -329,7 +329,7 @@ pub gives_receiver : (names : Names) → AreDescribed names.files names.items �
 unfolding receiver
 gives_receiver names described sent numeral =
     gives_as (λ _. Unit {0}) (All (IsAllowed names)) (moved_to_named names sent) name (λ _ _ _ _. tt)
-    (λ text statements _ e. move_allowed names described sent numeral text (item_of names text) (length_item_of names text) statements refl refl e)
+    (λ text statements _ e. move_allowed names described sent numeral text (item_named names text) (length_item_of names text) statements refl refl e)
 
 pub gives_receivers : (names : Names) → AreDescribed names.files names.items → (sent : Source (List ℕ)) → HasDigits sent → Gives (All (IsAllowed names)) (receivers names sent)
 unfolding receivers
@@ -389,7 +389,7 @@ pub all_allowed : (names : Names) → AreDescribed names.files names.items → G
 unfolding procedure
 all_allowed names described =
     let P = All (IsAllowed names) in
-    let turns = onto joined [] (paragraph_or_sentence names) in
+    let turns = onto joined_statements [] (paragraph_or_sentence names) in
     gives_second P (the (codes "PROCEDURE")) (the (codes "DIVISION") ▸ period ▸ turns)
     (gives_second P (the (codes "DIVISION")) (period ▸ turns)
     (gives_second P period turns (λ statements words rest s.

@@ -6,7 +6,7 @@ use Rattle.std.proofs.lemmas.List.Elements.{All-append}
 use Rattle.std.proofs.lemmas.List.Quantifiers.{position-Some}
 use Rattle.std.proofs.lemmas.Option.{slice_get-get_or, get_or_from_slice_get, slice_get_within, same_Some}
 use Rattle.deck_words.specs.Word.{Word}
-use Rattle.deck_words.specs.Rule.{Rule, optional, where_it_gives, SpellsMany, added}
+use Rattle.deck_words.specs.Rule.{Rule, optional, where_it_gives, SpellsMany, added_in_turn}
 use Rattle.deck_words.specs.Notation.{◌▸◌, ◌◂◌, ◌⊗◌, ◌∣◌}
 use Rattle.record_layout.specs.declared.item.Field.{Field}
 use Rattle.record_layout.specs.declared.schema.KeyPart.{KeyPart}
@@ -14,7 +14,7 @@ use Rattle.record_layout.specs.Layout.{Placed, is_named, field_of}
 use Rattle.record_layout.specs.Schema.{AreKeys}
 use Rattle.procedure_division.specs.declared.statement.Statement.{Statement}
 use Rattle.procedure_division.specs.Following.{followed}
-use Rattle.procedure_division.specs.StatementRules.{joined, some_of, key}
+use Rattle.procedure_division.specs.StatementRules.{joined_statements, some_of, key}
 
 -- ---- what a rule's values are
 
@@ -48,7 +48,7 @@ gives_optional P p h None words rest s = tt
 gives_optional P p h (Some x) words rest s = h x words rest s
 
 module _ (P : Statement → Type 0) (p : Rule (List Statement)) (h : Gives (All P) p) where
-  pub joined_all : (before after : List Statement) (xs : List (List Statement)) (words rest : List Word) → All P before → added joined before xs ≡ Some after → SpellsMany p xs words rest → All P after
+  pub joined_all : (before after : List Statement) (xs : List (List Statement)) (words rest : List Word) → All P before → added_in_turn joined_statements before xs ≡ Some after → SpellsMany p xs words rest → All P after
   joined_all before after [] words rest all e s = subst (All P) (same before after e) all where
     same : (a b : List Statement) → ◌≡◌ {A = Option (List Statement)} (Some a) (Some b) → a ≡ b
     same a b e = cc

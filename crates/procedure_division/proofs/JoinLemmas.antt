@@ -14,7 +14,7 @@ use Rattle.deck_words.proofs.RuleLemmas.{Lawful}
 use Rattle.deck_words.proofs.RepeatLemmas.{first_turn, no_first_turn, next_turn, turn_takes_a_word, refused_turn, no_turn}
 use Rattle.procedure_division.specs.declared.statement.Statement.{Statement}
 use Rattle.procedure_division.specs.Following.{followed}
-use Rattle.procedure_division.specs.StatementRules.{joined, behind, some_of}
+use Rattle.procedure_division.specs.StatementRules.{joined_statements, behind_statements, some_of}
 
 -- what is read, behind these statements
 abbrev put_behind : List Statement → Option (List Statement × List Word) → Option (List Statement × List Word)
@@ -25,13 +25,13 @@ put_behind_twice a b None = refl
 put_behind_twice a b (Some r) = ap (λ (t : List Statement). Some (t, r.1)) (append_assoc a b r.0)
 
 module _ (p : Rule (List Statement)) where
-  onto_behind_by : (turns : ℕ) → ((before : List Statement) (words : List Word) → reads_onto_from joined p turns before words ≡ put_behind before (reads_onto_from joined p turns [] words)) → (before : List Statement) (words : List Word) (b : Bool) (r : Option (List Statement × List Word)) → cond b (option_and_then {U = List Statement × List Word} (λ a. reads_onto_from joined p turns (before ++ a.0) a.1) r) (Some (before, words)) ≡ put_behind before (cond b (option_and_then {U = List Statement × List Word} (λ a. reads_onto_from joined p turns a.0 a.1) r) (Some ([], words)))
+  onto_behind_by : (turns : ℕ) → ((before : List Statement) (words : List Word) → reads_onto_from joined_statements p turns before words ≡ put_behind before (reads_onto_from joined_statements p turns [] words)) → (before : List Statement) (words : List Word) (b : Bool) (r : Option (List Statement × List Word)) → cond b (option_and_then {U = List Statement × List Word} (λ a. reads_onto_from joined_statements p turns (before ++ a.0) a.1) r) (Some (before, words)) ≡ put_behind before (cond b (option_and_then {U = List Statement × List Word} (λ a. reads_onto_from joined_statements p turns a.0 a.1) r) (Some ([], words)))
   onto_behind_by turns again before words true None = refl
   onto_behind_by turns again before words true (Some x) =
-      again (before ++ x.0) x.1 ∙ (put_behind_twice before x.0 (reads_onto_from joined p turns [] x.1) ∙ ap (put_behind before) (sym (again x.0 x.1)))
+      again (before ++ x.0) x.1 ∙ (put_behind_twice before x.0 (reads_onto_from joined_statements p turns [] x.1) ∙ ap (put_behind before) (sym (again x.0 x.1)))
   onto_behind_by turns again before words false r = ap (λ (t : List Statement). Some (t, words)) (sym (append-nil before))
 
-  onto_behind : (turns : ℕ) (before : List Statement) (words : List Word) → reads_onto_from joined p turns before words ≡ put_behind before (reads_onto_from joined p turns [] words)
+  onto_behind : (turns : ℕ) (before : List Statement) (words : List Word) → reads_onto_from joined_statements p turns before words ≡ put_behind before (reads_onto_from joined_statements p turns [] words)
   onto_behind zero before words = ap (λ (t : List Statement). Some (t, words)) (sym (append-nil before))
   onto_behind (suc turns) before words = onto_behind_by turns (onto_behind turns) before words (begins p.starts words) (p.reads words)
 
@@ -39,14 +39,14 @@ module _ (p : Rule (List Statement)) where
   then_put before None = refl
   then_put before (Some x) = refl
 
-  some_behind_by : (before : List Statement) (r : Option (List Statement × List Word)) → option_and_then {U = List Statement × List Word} (λ a. Some (before ++ a.0, a.1)) (option_and_then {U = List Statement × List Word} (λ a. reads_onto_from joined p (length a.1) a.0 a.1) r) ≡ option_and_then {U = List Statement × List Word} (λ a. reads_onto_from joined p (length a.1) (before ++ a.0) a.1) r
+  some_behind_by : (before : List Statement) (r : Option (List Statement × List Word)) → option_and_then {U = List Statement × List Word} (λ a. Some (before ++ a.0, a.1)) (option_and_then {U = List Statement × List Word} (λ a. reads_onto_from joined_statements p (length a.1) a.0 a.1) r) ≡ option_and_then {U = List Statement × List Word} (λ a. reads_onto_from joined_statements p (length a.1) (before ++ a.0) a.1) r
   some_behind_by before None = refl
   some_behind_by before (Some x) =
-      then_put before (reads_onto_from joined p (length x.1) x.0 x.1) ∙ (ap (put_behind before) (onto_behind (length x.1) x.0 x.1)
-      ∙ (sym (put_behind_twice before x.0 (reads_onto_from joined p (length x.1) [] x.1)) ∙ sym (onto_behind (length x.1) (before ++ x.0) x.1)))
+      then_put before (reads_onto_from joined_statements p (length x.1) x.0 x.1) ∙ (ap (put_behind before) (onto_behind (length x.1) x.0 x.1)
+      ∙ (sym (put_behind_twice before x.0 (reads_onto_from joined_statements p (length x.1) [] x.1)) ∙ sym (onto_behind (length x.1) (before ++ x.0) x.1)))
 
   -- a rule once or more behind some statements is one that goes on from them
-  pub some_behind : (before : List Statement) (words : List Word) → (behind before (some_of p)).reads words ≡ (some_onto joined before p).reads words
+  pub some_behind : (before : List Statement) (words : List Word) → (behind_statements before (some_of p)).reads words ≡ (some_onto joined_statements before p).reads words
   some_behind before words = some_behind_by before (p.reads words)
 
 -- ---- a rule behind a first one
@@ -58,30 +58,30 @@ behind_of_pair : (before : List Statement) (read : Option (List Statement × Lis
 behind_of_pair before None = refl
 behind_of_pair before (Some x) = refl
 
-pub second_behind : {A : Type 0} (before : List Statement) (p : Rule A) (q : Rule (List Statement)) (x : A) (words middle : List Word) → p.reads words ≡ Some (x, middle) → (behind before (p ▸ q)).reads words ≡ (behind before q).reads middle
+pub second_behind : {A : Type 0} (before : List Statement) (p : Rule A) (q : Rule (List Statement)) (x : A) (words middle : List Word) → p.reads words ≡ Some (x, middle) → (behind_statements before (p ▸ q)).reads words ≡ (behind_statements before q).reads middle
 second_behind before p q x words middle e = rw e (behind_of_pair before (q.reads middle))
 
-pub follower_behind : {A : Type 0} (before : List Statement) (sample : A) (p : Rule A) (q : A → Rule (List Statement)) (x : A) (words middle : List Word) → p.reads words ≡ Some (x, middle) → (behind before (followed sample p q)).reads words ≡ (behind before (q x)).reads middle
+pub follower_behind : {A : Type 0} (before : List Statement) (sample : A) (p : Rule A) (q : A → Rule (List Statement)) (x : A) (words middle : List Word) → p.reads words ≡ Some (x, middle) → (behind_statements before (followed sample p q)).reads words ≡ (behind_statements before (q x)).reads middle
 follower_behind before sample p q x words middle e = rw e
 
 -- ---- how a loop over such a rule goes on
 
 module _ (p : Rule (List Statement)) (lawful : Lawful p) (fit : (many p).is_fit ≡ true) where
-  pub begun : (before after : List Statement) (words rest : List Word) → (behind before p).reads words ≡ Some (after, rest) → (behind before (some_of p)).reads words ≡ (onto joined after p).reads rest
-  begun before after words rest e = some_behind p before words ∙ first_turn joined p lawful before after words rest e
+  pub begun : (before after : List Statement) (words rest : List Word) → (behind_statements before p).reads words ≡ Some (after, rest) → (behind_statements before (some_of p)).reads words ≡ (onto joined_statements after p).reads rest
+  begun before after words rest e = some_behind p before words ∙ first_turn joined_statements p lawful before after words rest e
 
-  pub not_begun : (before : List Statement) (words : List Word) → (behind before p).reads words ≡ None → (behind before (some_of p)).reads words ≡ None
-  not_begun before words e = some_behind p before words ∙ no_first_turn joined p lawful before words e
+  pub not_begun : (before : List Statement) (words : List Word) → (behind_statements before p).reads words ≡ None → (behind_statements before (some_of p)).reads words ≡ None
+  not_begun before words e = some_behind p before words ∙ no_first_turn joined_statements p lawful before words e
 
-  pub further : (before after : List Statement) (words rest : List Word) → begins p.starts words ≡ true → (behind before p).reads words ≡ Some (after, rest) → (onto joined before p).reads words ≡ (onto joined after p).reads rest
-  further before after words rest i e = next_turn joined p lawful fit before words rest after i e
+  pub further : (before after : List Statement) (words rest : List Word) → begins p.starts words ≡ true → (behind_statements before p).reads words ≡ Some (after, rest) → (onto joined_statements before p).reads words ≡ (onto joined_statements after p).reads rest
+  further before after words rest i e = next_turn joined_statements p lawful fit before words rest after i e
 
-  pub shorter : (before after : List Statement) (words rest : List Word) → (behind before p).reads words ≡ Some (after, rest) → length rest < length words
-  shorter before after words rest e = turn_takes_a_word joined p lawful fit before after words rest e
+  pub shorter : (before after : List Statement) (words rest : List Word) → (behind_statements before p).reads words ≡ Some (after, rest) → length rest < length words
+  shorter before after words rest e = turn_takes_a_word joined_statements p lawful fit before after words rest e
 
-  pub not_further : (read : Option (List Statement × List Word)) (before : List Statement) (words : List Word) (refusal : Refusal) → read ≡ (onto joined before p).reads words → begins p.starts words ≡ true → Refuses ((behind before p).reads words) refusal → Refuses read refusal
+  pub not_further : (read : Option (List Statement × List Word)) (before : List Statement) (words : List Word) (refusal : Refusal) → read ≡ (onto joined_statements before p).reads words → begins p.starts words ≡ true → Refuses ((behind_statements before p).reads words) refusal → Refuses read refusal
   not_further read before words Memory so_far i r = tt
-  not_further read before words (Fault line cause) so_far i r = so_far ∙ refused_turn joined p lawful before words i r
+  not_further read before words (Fault line cause) so_far i r = so_far ∙ refused_turn joined_statements p lawful before words i r
 
-  pub finished : (before : List Statement) (words : List Word) → begins p.starts words ≡ false → (onto joined before p).reads words ≡ Some (before, words)
-  finished before words i = no_turn joined p lawful before words i
+  pub finished : (before : List Statement) (words : List Word) → begins p.starts words ≡ false → (onto joined_statements before p).reads words ≡ Some (before, words)
+  finished before words i = no_turn joined_statements p lawful before words i

@@ -11,7 +11,7 @@ use Rattle.std.proofs.lemmas.List.{take_more}
 use Rattle.std.proofs.lemmas.List.Folds.{position_or_len_push}
 use Rattle.std.proofs.lemmas.List.Sums.{prefix_len-le-length}
 use Rattle.file_control.specs.Description.{LengthItem}
-use Rattle.procedure_division.specs.Places.{place_at, ArePlaces}
+use Rattle.procedure_division.specs.Places.{place_of_name, ArePlaces}
 use denote.Ref.{Bor}
 
 -- a place that is found stays, and one more that passes is found behind the others
@@ -28,13 +28,13 @@ with_place false (Some p) place none = refl
 with_place false None place none = refl
 
 -- a name that has no place gets one
-pub added : (name : List ℕ) (place : ℕ) (before after : BTreeMap (Bor (List ℕ)) ℕ) → UpdatesBy (λ x y. slice_cmp nat_cmp x.now y.now) (λ key. slice_cmp nat_cmp name key.now) before after (Some place) → is_some (place_at before name) ≡ false → (other : List ℕ) → place_at after other ≡ option_or (place_at before other) (cond (bytes_eq name other) (Some place) None)
+pub added : (name : List ℕ) (place : ℕ) (before after : BTreeMap (Bor (List ℕ)) ℕ) → UpdatesBy (λ x y. slice_cmp nat_cmp x.now y.now) (λ key. slice_cmp nat_cmp name key.now) before after (Some place) → is_some (place_of_name before name) ≡ false → (other : List ℕ) → place_of_name after other ≡ option_or (place_of_name before other) (cond (bytes_eq name other) (Some place) None)
 added name place before after updates none other =
     btree_map_updates_str name before after (Some place) updates other
-    ∙ with_place (bytes_eq name other) (place_at before other) place (λ e. subst (λ n. is_some (place_at before n) ≡ false) (apart name other e) none)
+    ∙ with_place (bytes_eq name other) (place_of_name before other) place (λ e. subst (λ n. is_some (place_of_name before n) ≡ false) (apart name other e) none)
 
 -- with the next item
-pub next_place : (items : List LengthItem) (i : ℕ) (item : LengthItem) → item ≡ get_or items i item → i < length items → (text : List ℕ) → text ≡ item.name → (before after : BTreeMap (Bor (List ℕ)) ℕ) → ArePlaces before (take i items) → ((other : List ℕ) → place_at after other ≡ option_or (place_at before other) (cond (bytes_eq text other) (Some i) None)) → ArePlaces after (take (i + 1) items)
+pub next_place : (items : List LengthItem) (i : ℕ) (item : LengthItem) → item ≡ get_or items i item → i < length items → (text : List ℕ) → text ≡ item.name → (before after : BTreeMap (Bor (List ℕ)) ℕ) → ArePlaces before (take i items) → ((other : List ℕ) → place_of_name after other ≡ option_or (place_of_name before other) (cond (bytes_eq text other) (Some i) None)) → ArePlaces after (take (i + 1) items)
 next_place items i item is within text named before after known adds name =
     let p : LengthItem → Bool = λ other. bytes_eq other.name name in
     let listed : take (i + 1) items ≡ take i items ++ item ∷ [] = take_more items i item within ∙ ap (λ x. take i items ++ x ∷ []) (sym is) in

@@ -19,7 +19,7 @@ use Rattle.deck_words.proofs.RepeatLemmas.{lawful_onto, lawful_some}
 use Rattle.deck_words.proofs.NotationLemmas.{lawful_the, lawful_name, lawful_literal, lawful_period}
 use Rattle.deck_words.proofs.OperandLemmas.{lawful_sign, lawful_digits}
 use Rattle.procedure_division.specs.Names.{Names, access_at}
-use Rattle.procedure_division.specs.StatementRules.{file, record_name, opened, opening, open_statement, lock, closed, close_statement, next, key, key_phrase, read_operand, read_phrases, read_statement, greater, not_less, relation, file_to_start, led_key, start_phrase, start_operand, start_statement, write_statement, rewrite_statement, delete_statement, figure, source, receiver, receivers, move_statement, stop_statement}
+use Rattle.procedure_division.specs.StatementRules.{file, record_named, name_to_open, opening, open_statement, lock, file_to_close, close_statement, next, key, key_phrase, read_operand, read_phrases, read_statement, greater, not_less, relation, file_to_start, led_key, start_phrase, start_operand, start_statement, write_statement, rewrite_statement, delete_statement, figure, source, receiver, receivers, move_statement, stop_statement}
 use Rattle.procedure_division.specs.Procedure.{statement, sentence, paragraph, paragraph_or_sentence, procedure}
 use Rattle.procedure_division.proofs.FollowLemmas.{AreAlike, lawful_followed}
 
@@ -31,14 +31,14 @@ pub lawful_file : (names : Names) → Lawful (file names)
 unfolding file
 lawful_file names = search steps depth 12
 
-pub lawful_record_name : (names : Names) → Lawful (record_name names)
-unfolding record_name
+pub lawful_record_name : (names : Names) → Lawful (record_named names)
+unfolding record_named
 lawful_record_name names = search steps depth 12
 
 -- ---- OPEN and CLOSE
 
-pub lawful_opened : (names : Names) (mode : OpenMode) → Lawful (opened names mode)
-unfolding opened
+pub lawful_opened : (names : Names) (mode : OpenMode) → Lawful (name_to_open names mode)
+unfolding name_to_open
 lawful_opened names mode = search steps depth 12
 
 pub lawful_opening : (names : Names) → Lawful (opening names)
@@ -53,8 +53,8 @@ pub lawful_lock : Lawful lock
 unfolding lock
 lawful_lock = search steps depth 12
 
-pub lawful_closed : (names : Names) → Lawful (closed names)
-unfolding closed
+pub lawful_closed : (names : Names) → Lawful (file_to_close names)
+unfolding file_to_close
 lawful_closed names = search (steps, lawful_file, lawful_lock) depth 12
 
 pub lawful_close : (names : Names) → Lawful (close_statement names)
@@ -209,27 +209,27 @@ lawful_procedure names = search (steps, lawful_paragraph_or_sentence) depth 12
 -- ---- one word of look-ahead
 
 pub procedure_is_fit : (names : Names) → (procedure names).is_fit ≡ true
-unfolding procedure paragraph_or_sentence paragraph sentence statement open_statement opening opened close_statement closed lock file record_name read_statement read_phrases next read_operand key_phrase key start_statement file_to_start start_operand start_phrase relation greater not_less led_key write_statement rewrite_statement delete_statement move_statement source figure receivers receiver stop_statement the name literal period sign digits is_reserved
+unfolding procedure paragraph_or_sentence paragraph sentence statement open_statement opening name_to_open close_statement file_to_close lock file record_named read_statement read_phrases next read_operand key_phrase key start_statement file_to_start start_operand start_phrase relation greater not_less led_key write_statement rewrite_statement delete_statement move_statement source figure receivers receiver stop_statement the name literal period sign digits is_reserved
 procedure_is_fit names = refl
 
 pub sentences_are_fit : (names : Names) → (many (paragraph_or_sentence names)).is_fit ≡ true
-unfolding paragraph_or_sentence paragraph sentence statement open_statement opening opened close_statement closed lock file record_name read_statement read_phrases next read_operand key_phrase key start_statement file_to_start start_operand start_phrase relation greater not_less led_key write_statement rewrite_statement delete_statement move_statement source figure receivers receiver stop_statement the name literal period sign digits is_reserved
+unfolding paragraph_or_sentence paragraph sentence statement open_statement opening name_to_open close_statement file_to_close lock file record_named read_statement read_phrases next read_operand key_phrase key start_statement file_to_start start_operand start_phrase relation greater not_less led_key write_statement rewrite_statement delete_statement move_statement source figure receivers receiver stop_statement the name literal period sign digits is_reserved
 sentences_are_fit names = refl
 
 pub statements_are_fit : (names : Names) → (many (statement names)).is_fit ≡ true
-unfolding statement open_statement opening opened close_statement closed lock file record_name read_statement read_phrases next read_operand key_phrase key start_statement file_to_start start_operand start_phrase relation greater not_less led_key write_statement rewrite_statement delete_statement move_statement source figure receivers receiver stop_statement the name literal sign digits is_reserved
+unfolding statement open_statement opening name_to_open close_statement file_to_close lock file record_named read_statement read_phrases next read_operand key_phrase key start_statement file_to_start start_operand start_phrase relation greater not_less led_key write_statement rewrite_statement delete_statement move_statement source figure receivers receiver stop_statement the name literal sign digits is_reserved
 statements_are_fit names = refl
 
 pub openings_are_fit : (names : Names) → (many (opening names)).is_fit ≡ true
-unfolding opening opened the name is_reserved
+unfolding opening name_to_open the name is_reserved
 openings_are_fit names = refl
 
-pub opened_are_fit : (names : Names) (mode : OpenMode) → (many (opened names mode)).is_fit ≡ true
-unfolding opened name
+pub opened_are_fit : (names : Names) (mode : OpenMode) → (many (name_to_open names mode)).is_fit ≡ true
+unfolding name_to_open name
 opened_are_fit names mode = refl
 
-pub closed_are_fit : (names : Names) → (many (closed names)).is_fit ≡ true
-unfolding closed file lock the name is_reserved
+pub closed_are_fit : (names : Names) → (many (file_to_close names)).is_fit ≡ true
+unfolding file_to_close file lock the name is_reserved
 closed_are_fit names = refl
 
 pub receivers_are_fit : (names : Names) (sent : Source (List ℕ)) → (many (receiver names sent)).is_fit ≡ true
@@ -238,12 +238,12 @@ receivers_are_fit names sent = refl
 
 -- ---- how repeated rules begin
 
-pub opened_starts : (names : Names) (mode : OpenMode) (words : List Word) → begins (opened names mode).starts words ≡ begins (class.names ∷ []) words
-unfolding opened name
+pub opened_starts : (names : Names) (mode : OpenMode) (words : List Word) → begins (name_to_open names mode).starts words ≡ begins (class.names ∷ []) words
+unfolding name_to_open name
 opened_starts names mode words = refl
 
-pub closed_starts : (names : Names) (words : List Word) → begins (closed names).starts words ≡ begins (class.names ∷ []) words
-unfolding closed file name
+pub closed_starts : (names : Names) (words : List Word) → begins (file_to_close names).starts words ≡ begins (class.names ∷ []) words
+unfolding file_to_close file name
 closed_starts names words = refl
 
 pub receiver_starts : (names : Names) (sent : Source (List ℕ)) (words : List Word) → begins (receiver names sent).starts words ≡ begins (class.names ∷ []) words

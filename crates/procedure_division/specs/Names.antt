@@ -21,8 +21,8 @@ names_of files items = record { files = files; items = items }
 -- ---- names
 
 -- the place of the file of this name
-abbrev pub file_of : Names → List ℕ → Option ℕ
-file_of names name = position (λ file. bytes_eq file.name name) names.files
+abbrev pub place_of_file : Names → List ℕ → Option ℕ
+place_of_file names name = position (λ file. bytes_eq file.name name) names.files
 
 -- the place of the file whose record has this name
 abbrev pub record_of : Names → List ℕ → Option ℕ
@@ -37,8 +37,8 @@ abbrev pub holder_of : Names → List ℕ → Option ℕ
 holder_of names name = position (λ file. is_some (field_of file.layout name)) names.files
 
 -- the same, and the item
-abbrev pub item_of : Names → List ℕ → Option (ℕ × Field)
-item_of names name =
+abbrev pub item_named : Names → List ℕ → Option (ℕ × Field)
+item_named names name =
     option_and_then (λ u. option_map {U = ℕ × Field} (λ field. (u, field)) (item_in names u name))
     (holder_of names name)
 
@@ -56,8 +56,8 @@ abbrev pub prime_length : Names → ℕ → ℕ
 prime_length names u = option_map_or (λ file. (key_at file.schema 0).length) (slice_get names.files u) 0
 
 -- the key of the file that the item is
-abbrev pub key_of : Names → ℕ → Field → Option ℕ
-key_of names u field = option_and_then (λ file. key_of_field file.schema field) (slice_get names.files u)
+abbrev pub key_by_item : Names → ℕ → Field → Option ℕ
+key_by_item names u field = option_and_then (λ file. key_of_field file.schema field) (slice_get names.files u)
 
 -- the key of the file that begins with the item, and the item's length
 abbrev pub led_key_of : Names → ℕ → Field → Option (ℕ × ℕ)

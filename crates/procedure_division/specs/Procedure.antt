@@ -7,7 +7,8 @@ use Rattle.deck_words.specs.Rule.{Rule, onto}
 use Rattle.deck_words.specs.Notation.{the, name, period, ◌▸◌, ◌◂◌, ◌∣◌, ◌<$>◌}
 use Rattle.procedure_division.specs.declared.statement.Statement.{Statement}
 use Rattle.procedure_division.specs.Names.{Names}
-use Rattle.procedure_division.specs.StatementRules.{joined, some_of, open_statement, close_statement}
+use Rattle.procedure_division.specs.StatementRules.{joined_statements, some_of, open_statement}
+use Rattle.procedure_division.specs.StatementRules.{close_statement}
 use Rattle.procedure_division.specs.StatementRules.{read_statement, start_statement, write_statement}
 use Rattle.procedure_division.specs.StatementRules.{rewrite_statement, delete_statement, move_statement}
 use Rattle.procedure_division.specs.StatementRules.{stop_statement}
@@ -32,7 +33,8 @@ paragraph_or_sentence names = paragraph ∣ sentence names
 -- PROCEDURE DIVISION . {paragraph | sentence}..?
 unfoldable pub procedure : Names → Rule (List Statement)
 procedure names =
-    the (codes "PROCEDURE") ▸ the (codes "DIVISION") ▸ period ▸ onto joined [] (paragraph_or_sentence names)
+    the (codes "PROCEDURE") ▸ the (codes "DIVISION") ▸ period
+    ▸ onto joined_statements [] (paragraph_or_sentence names)
 
 -- these words, all of them, are a procedure of these statements
 abbrev pub IsProcedure : Names → List Word → List Statement → Type 0

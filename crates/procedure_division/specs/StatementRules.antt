@@ -19,7 +19,7 @@ use Rattle.record_layout.specs.declared.area.Figure.{Figure}
 use Rattle.record_layout.specs.declared.area.Figure.TheVariants.{Space, Zero, Low, High}
 use Rattle.record_layout.specs.Area.{is_taken_by}
 use Rattle.deck_words.specs.Rule.{Rule, optional, some_onto, where_it_gives}
-use Rattle.deck_words.specs.Notation.{the, name, literal, ◌▸◌, ◌◂◌, ◌⊗◌, ◌∣◌, ◌<$>◌, is_there, may}
+use Rattle.deck_words.specs.Notation.{the, name, literal, ◌▸◌, ◌◂◌, ◌⊗◌, ◌∣◌, ◌<$>◌, is_word_there, may}
 use Rattle.deck_words.specs.Operand.{sign, digits}
 use Rattle.deck_words.specs.Reading.{Reads}
 use Rattle.deck_words.specs.declared.fault.Refusal.{Refusal}
@@ -31,57 +31,58 @@ use Rattle.procedure_division.specs.declared.statement.Statement.{Statement}
 use Rattle.procedure_division.specs.declared.statement.Statement.TheVariants.{Perform, Move, MoveLength}
 use Rattle.procedure_division.specs.declared.statement.Statement.TheVariants.{StopRun}
 use Rattle.procedure_division.specs.Following.{followed, where_allowed}
-use Rattle.procedure_division.specs.Names.{Names, file_of, record_of, item_in, item_of, length_item_of}
-use Rattle.procedure_division.specs.Names.{access_at, prime_length, key_of, led_key_of}
+use Rattle.procedure_division.specs.Names.{Names, place_of_file, record_of, item_in, item_named}
+use Rattle.procedure_division.specs.Names.{length_item_of}
+use Rattle.procedure_division.specs.Names.{access_at, prime_length, key_by_item, led_key_of}
 
 -- ---- lists of statements
 
 -- these statements, and then those
-abbrev pub joined : List Statement → List Statement → Option (List Statement)
-joined before statements = Some (before ++ statements)
+abbrev pub joined_statements : List Statement → List Statement → Option (List Statement)
+joined_statements before statements = Some (before ++ statements)
 
 -- the statements of a rule, behind others
-abbrev pub behind : List Statement → Rule (List Statement) → Rule (List Statement)
-behind before rule = where_it_gives (joined before) rule
+abbrev pub behind_statements : List Statement → Rule (List Statement) → Rule (List Statement)
+behind_statements before rule = where_it_gives (joined_statements before) rule
 
 -- the statements that are read are added to those before
 abbrev pub AddsStatements : Rule (List Statement) → List Statement → List Word
     → Result (List Statement) Refusal → List Word → Type 0
-AddsStatements rule before words result rest = Reads ((behind before rule).reads words) result rest
+AddsStatements rule before words result rest = Reads ((behind_statements before rule).reads words) result rest
 
 -- the statements of a rule, once or more
 abbrev pub some_of : Rule (List Statement) → Rule (List Statement)
-some_of rule = some_onto joined [] rule
+some_of rule = some_onto joined_statements [] rule
 
 -- one statement
-abbrev pub perform : ℕ → FileStatement → List Statement
-perform u statement = Perform u statement ∷ []
+abbrev pub one_statement : ℕ → FileStatement → List Statement
+one_statement u statement = Perform u statement ∷ []
 
 -- ---- files
 
 -- the name of a file
 unfoldable pub file : Names → Rule ℕ
-file names = where_it_gives (file_of names) name
+file names = where_it_gives (place_of_file names) name
 
 -- the name of a file's record
-unfoldable pub record_name : Names → Rule ℕ
-record_name names = where_it_gives (record_of names) name
+unfoldable pub record_named : Names → Rule ℕ
+record_named names = where_it_gives (record_of names) name
 
 -- ---- OPEN and CLOSE: a statement for each file, in order
 
 -- the OPEN of the file of a name, where its access mode permits the open mode
-unfoldable pub opened : Names → OpenMode → Rule (List Statement)
-opened names mode = where_it_gives (λ text. option_and_then
-    (λ u. if may_open (access_at names u) mode then Some (perform u (Open mode)) else None)
-    (file_of names text)) name
+unfoldable pub name_to_open : Names → OpenMode → Rule (List Statement)
+name_to_open names mode = where_it_gives (λ text. option_and_then
+    (λ u. if may_open (access_at names u) mode then Some (one_statement u (Open mode)) else None)
+    (place_of_file names text)) name
 
 -- (INPUT | OUTPUT | I-O | EXTEND) {name}..
 unfoldable pub opening : Names → Rule (List Statement)
 opening names =
-    (the (codes "INPUT") ▸ some_of (opened names Input))
-    ∣ (the (codes "OUTPUT") ▸ some_of (opened names Output))
-    ∣ (the (codes "I-O") ▸ some_of (opened names InputOutput))
-    ∣ (the (codes "EXTEND") ▸ some_of (opened names Extend))
+    (the (codes "INPUT") ▸ some_of (name_to_open names Input))
+    ∣ (the (codes "OUTPUT") ▸ some_of (name_to_open names Output))
+    ∣ (the (codes "I-O") ▸ some_of (name_to_open names InputOutput))
+    ∣ (the (codes "EXTEND") ▸ some_of (name_to_open names Extend))
 
 -- OPEN {(INPUT | OUTPUT | I-O | EXTEND) {name}..}..
 unfoldable pub open_statement : Names → Rule (List Statement)
@@ -89,27 +90,27 @@ open_statement names = the (codes "OPEN") ▸ some_of (opening names)
 
 -- [[WITH] LOCK]
 unfoldable pub lock : Rule Bool
-lock = is_there <$> optional (may (codes "WITH") ▸ the (codes "LOCK"))
+lock = is_word_there <$> optional (may (codes "WITH") ▸ the (codes "LOCK"))
 
 -- name [[WITH] LOCK]
-unfoldable pub closed : Names → Rule (List Statement)
-closed names = (λ c. perform c.0 (Close c.1)) <$> file names ⊗ lock
+unfoldable pub file_to_close : Names → Rule (List Statement)
+file_to_close names = (λ c. one_statement c.0 (Close c.1)) <$> file names ⊗ lock
 
 -- CLOSE {name [[WITH] LOCK]}..
 unfoldable pub close_statement : Names → Rule (List Statement)
-close_statement names = the (codes "CLOSE") ▸ some_of (closed names)
+close_statement names = the (codes "CLOSE") ▸ some_of (file_to_close names)
 
 -- ---- READ
 
 -- [NEXT], which random access has not: whether the READ is sequential, as it always is in sequential access
 unfoldable pub next : Access → Rule Bool
 next access =
-    (λ n. is_sequential access || is_there n) <$> optional
+    (λ n. is_sequential access || is_word_there n) <$> optional
     (where_allowed (not (is_random access)) (the (codes "NEXT")))
 
 -- the name of an item of the file that is a key
 unfoldable pub key : Names → ℕ → Rule ℕ
-key names u = where_it_gives (λ text. option_and_then (key_of names u) (item_in names u text)) name
+key names u = where_it_gives (λ text. option_and_then (key_by_item names u) (item_in names u text)) name
 
 -- ANSI X3.23-1985, Indexed I-O module, READ statement, general rules: by this key, or by the prime
 -- key where no KEY phrase stands
@@ -126,7 +127,7 @@ key_phrase names u sequential =
 -- [RECORD] [KEY [IS] name]
 unfoldable pub read_operand : Names → ℕ → Bool → Rule (List Statement)
 read_operand names u sequential =
-    (λ k. perform u (read_by sequential k)) <$> may (codes "RECORD") ▸ key_phrase names u sequential
+    (λ k. one_statement u (read_by sequential k)) <$> may (codes "RECORD") ▸ key_phrase names u sequential
 
 -- [NEXT] [RECORD] [KEY [IS] name]
 unfoldable pub read_phrases : Names → ℕ → Rule (List Statement)
@@ -139,14 +140,14 @@ read_statement names = the (codes "READ") ▸ followed 0 (file names) (read_phra
 -- ---- START
 
 -- GREATER, with or without OR EQUAL behind it
-abbrev pub greater_of : Option (Option (Unit {0})) → Relation
-greater_of None = Greater
-greater_of (Some _) = NotLess
+abbrev pub greater_relation : Option (Option (Unit {0})) → Relation
+greater_relation None = Greater
+greater_relation (Some _) = NotLess
 
 -- GREATER [THAN] [OR EQUAL [TO]]
 unfoldable pub greater : Rule Relation
 greater =
-    greater_of <$> the (codes "GREATER") ▸ may (codes "THAN") ▸ optional
+    greater_relation <$> the (codes "GREATER") ▸ may (codes "THAN") ▸ optional
     (the (codes "OR") ▸ the (codes "EQUAL") ▸ may (codes "TO"))
 
 -- NOT (LESS [THAN] | <)
@@ -168,7 +169,7 @@ relation =
 -- the name of a file that START is for, unless its access is random
 unfoldable pub file_to_start : Names → Rule ℕ
 file_to_start names = where_it_gives (λ text. option_and_then
-    (λ u. if is_random (access_at names u) then None else Some u) (file_of names text)) name
+    (λ u. if is_random (access_at names u) then None else Some u) (place_of_file names text)) name
 
 -- the name of an item of the file that is a key, or the leading part of one: the key, and the item's length
 unfoldable pub led_key : Names → ℕ → Rule (ℕ × ℕ)
@@ -186,7 +187,7 @@ start_phrase names u = optional (the (codes "KEY") ▸ may (codes "IS") ▸ rela
 
 -- the same, as a statement
 unfoldable pub start_operand : Names → ℕ → Rule (List Statement)
-start_operand names u = (λ operand. perform u (start_by names u operand)) <$> start_phrase names u
+start_operand names u = (λ operand. one_statement u (start_by names u operand)) <$> start_phrase names u
 
 -- START name [KEY [IS] relation name]
 unfoldable pub start_statement : Names → Rule (List Statement)
@@ -196,15 +197,16 @@ start_statement names = the (codes "START") ▸ followed 0 (file_to_start names)
 
 -- WRITE name
 unfoldable pub write_statement : Names → Rule (List Statement)
-write_statement names = (λ u. perform u Write) <$> the (codes "WRITE") ▸ record_name names
+write_statement names = (λ u. one_statement u Write) <$> the (codes "WRITE") ▸ record_named names
 
 -- REWRITE name
 unfoldable pub rewrite_statement : Names → Rule (List Statement)
-rewrite_statement names = (λ u. perform u Rewrite) <$> the (codes "REWRITE") ▸ record_name names
+rewrite_statement names = (λ u. one_statement u Rewrite) <$> the (codes "REWRITE") ▸ record_named names
 
 -- DELETE name [RECORD]
 unfoldable pub delete_statement : Names → Rule (List Statement)
-delete_statement names = (λ u. perform u Delete) <$> the (codes "DELETE") ▸ file names ◂ may (codes "RECORD")
+delete_statement names = (λ u. one_statement u Delete) <$> the (codes "DELETE") ▸ file names
+    ◂ may (codes "RECORD")
 
 -- ---- MOVE: a statement for each receiver, in order
 
@@ -234,7 +236,7 @@ moved_to sent None None = None
 -- the name of an item that takes the source
 unfoldable pub receiver : Names → Source (List ℕ) → Rule (List Statement)
 receiver names sent =
-    where_it_gives (λ text. moved_to sent (item_of names text) (length_item_of names text)) name
+    where_it_gives (λ text. moved_to sent (item_named names text) (length_item_of names text)) name
 
 -- TO {name}..
 unfoldable pub receivers : Names → Source (List ℕ) → Rule (List Statement)

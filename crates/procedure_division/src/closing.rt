@@ -1,6 +1,6 @@
 //! The CLOSE statement.
 ghost use Rattle.deck_words.specs.Reading.{Reads};
-ghost use Rattle.procedure_division.specs.StatementRules.{AddsStatements, some_of, lock, closed};
+ghost use Rattle.procedure_division.specs.StatementRules.{AddsStatements, some_of, lock, file_to_close};
 ghost use Rattle.procedure_division.specs.StatementRules.{close_statement};
 
 use crate::file_name::file;
@@ -25,13 +25,13 @@ fn lock(parser: &mut Parser<'_>) -> Result<bool, Refusal>
 }
 
 /// A file that is closed.
-#[tactic(auto, unfolding(crate::specs::StatementRules::closed))]
+#[tactic(auto, unfolding(crate::specs::StatementRules::file_to_close))]
 fn closed(
     parser: &mut Parser<'_>,
     names: &Names<'_>,
     statements: StatementList,
 ) -> Result<StatementList, Refusal>
-    ensures { AddsStatements (closed names.now) statements parser.old result parser.new }
+    ensures { AddsStatements (file_to_close names.now) statements parser.old result parser.new }
 {
     let file = file(parser, names)?;
     let lock = lock(parser)?;
@@ -47,7 +47,7 @@ fn all_closed(
     names: &Names<'_>,
     statements: StatementList,
 ) -> Result<StatementList, Refusal>
-    ensures { AddsStatements (some_of (closed names.now)) statements parser.old result parser.new }
+    ensures { AddsStatements (some_of (file_to_close names.now)) statements parser.old result parser.new }
 {
     let mut statements = closed(parser, names, statements)?;
     'more: while parser.sees_name() {

@@ -5,7 +5,7 @@ ghost use Rattle.deck_words.specs.OneReading.{Determines};
 ghost use Rattle.deck_words.specs.Reading.{Reads};
 ghost use Rattle.deck_words.specs.Rule.{onto};
 ghost use Rattle.procedure_division.specs.Names.{Names};
-ghost use Rattle.procedure_division.specs.StatementRules.{joined};
+ghost use Rattle.procedure_division.specs.StatementRules.{joined_statements};
 ghost use Rattle.procedure_division.specs.Procedure.{paragraph_or_sentence, procedure, IsProcedure};
 ghost use Rattle.procedure_division.specs.OnlyAllowed.{HaveOnlyAllowed};
 
@@ -25,7 +25,8 @@ fn all_sentences(
     parser: &mut Parser<'_>,
     names: &Names<'_>,
 ) -> Result<StatementList, Refusal>
-    ensures { Reads ((onto joined [] (paragraph_or_sentence names.now)).reads parser.old) result parser.new }
+    ensures { Reads ((onto joined_statements [] (paragraph_or_sentence names.now)).reads parser.old) result
+        parser.new }
 {
     let none = StatementList::with_capacity(alloc, parser.left() / WORDS_OF_STATEMENT)?;
     let mut statements = none;

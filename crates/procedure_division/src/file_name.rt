@@ -1,6 +1,6 @@
 //! Names of files and of their records.
 ghost use Rattle.deck_words.specs.Reading.{Reads};
-ghost use Rattle.procedure_division.specs.StatementRules.{file, record_name};
+ghost use Rattle.procedure_division.specs.StatementRules.{file, record_named};
 
 use crate::names::Names;
 use deck_words::{Cause, Parser, Refusal};
@@ -19,9 +19,9 @@ pub fn file(parser: &mut Parser<'_>, names: &Names<'_>) -> Result<usize, Refusal
 }
 
 /// The name of a file's record.
-#[tactic(auto, unfolding(crate::specs::StatementRules::record_name))]
+#[tactic(auto, unfolding(crate::specs::StatementRules::record_named))]
 pub fn record_name(parser: &mut Parser<'_>, names: &Names<'_>) -> Result<usize, Refusal>
-    ensures { Reads ((record_name names.now).reads parser.old) result parser.new }
+    ensures { Reads ((record_named names.now).reads parser.old) result parser.new }
 {
     let unknown = parser.fault(Cause::Unknown);
     let name = parser.name()?;

@@ -2,11 +2,12 @@
 ghost use Rattle.std.specs.Prelude.{◌≡◌, ℕ, List, is_some, Some, None, if◌then◌else◌, OnOk, IfOk};
 ghost use Rattle.record_layout.specs.Layout.{is_named, field_of};
 ghost use Rattle.record_layout.specs.Schema.{key_at};
-ghost use Rattle.procedure_division.specs.Names.{names_of, file_of, record_of};
-ghost use Rattle.procedure_division.specs.Names.{item_in, holder_of, item_of};
-ghost use Rattle.procedure_division.specs.Names.{length_item_of, access_at, prime_length, key_of, led_key_of};
+ghost use Rattle.procedure_division.specs.Names.{names_of, place_of_file, record_of};
+ghost use Rattle.procedure_division.specs.Names.{item_in, holder_of, item_named};
+ghost use Rattle.procedure_division.specs.Names.{length_item_of, access_at, prime_length, key_by_item};
+ghost use Rattle.procedure_division.specs.Names.{led_key_of};
 ghost use Rattle.std.specs.Option.{option_or};
-ghost use Rattle.procedure_division.specs.Places.{place_at, AddsPlace, ArePlaces};
+ghost use Rattle.procedure_division.specs.Places.{place_of_name, AddsPlace, ArePlaces};
 ghost use Rattle.std.specs.Prelude.{bytes_eq};
 
 use file_control::{FileDesc, LengthItem};
@@ -115,7 +116,7 @@ impl<'a> Names<'a> {
 
     /// The file of a name.
     pub fn file(&self, name: &str) -> Option<usize>
-        ensures { result ≡ file_of self.now name.now }
+        ensures { result ≡ place_of_file self.now name.now }
     {
         self.files.iter().position(|file| is_named(file, name))
     }
@@ -143,7 +144,7 @@ impl<'a> Names<'a> {
 
     /// The item of a name in the record of any file, and the file.
     pub fn item(&self, name: &Name) -> Option<(usize, Field)>
-        ensures { result ≡ item_of self.now name.now.bytes }
+        ensures { result ≡ item_named self.now name.now.bytes }
     {
         let file = self.holder(name)?;
         let field = self.item_in(file, name)?;
@@ -179,7 +180,7 @@ impl<'a> Names<'a> {
 
     /// The key of a file that an item is.
     pub fn key(&self, file: usize, field: Field) -> Option<u8>
-        ensures { result ≡ key_of self.now file field }
+        ensures { result ≡ key_by_item self.now file field }
     {
         self.files.get(file)?.schema.key_of(field)
     }

@@ -3,7 +3,7 @@ ghost use Rattle.std.specs.Prelude.{◌≡◌};
 ghost use Rattle.deck_words.specs.Class.{begins};
 ghost use Rattle.procedure_division.specs.Names.{Names};
 ghost use Rattle.procedure_division.specs.StatementRules.{AddsStatements, some_of};
-ghost use Rattle.procedure_division.specs.StatementRules.{opened, opening, open_statement};
+ghost use Rattle.procedure_division.specs.StatementRules.{name_to_open, opening, open_statement};
 
 use crate::names::Names;
 use crate::statement::Statement;
@@ -12,14 +12,14 @@ use deck_words::{Cause, Parser, Refusal};
 use io_state::{FileStatement, OpenMode, Verb, permits};
 
 /// A file that is opened in a mode.
-#[tactic(auto, unfolding(crate::specs::StatementRules::opened))]
+#[tactic(auto, unfolding(crate::specs::StatementRules::name_to_open))]
 fn opened(
     parser: &mut Parser<'_>,
     names: &Names<'_>,
     mode: OpenMode,
     statements: StatementList,
 ) -> Result<StatementList, Refusal>
-    ensures { AddsStatements (opened names.now mode) statements parser.old result parser.new }
+    ensures { AddsStatements (name_to_open names.now mode) statements parser.old result parser.new }
 {
     let unknown = parser.fault(Cause::Unknown);
     let not_allowed = parser.fault(Cause::NotAllowed);
@@ -43,7 +43,7 @@ fn all_opened(
     mode: OpenMode,
     statements: StatementList,
 ) -> Result<StatementList, Refusal>
-    ensures { AddsStatements (some_of (opened names.now mode)) statements parser.old result parser.new }
+    ensures { AddsStatements (some_of (name_to_open names.now mode)) statements parser.old result parser.new }
 {
     let mut statements = opened(parser, names, mode, statements)?;
     'more: while parser.sees_name() {

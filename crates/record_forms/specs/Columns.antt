@@ -12,8 +12,8 @@ abbrev pub cell_of : Column → List ℕ → List ℕ
 cell_of column bytes = take column.length (drop column.offset bytes)
 
 -- the value of a column in a record
-abbrev pub value_of : List ℕ → Column → List ℕ
-value_of bytes column = text_of (cell_of column bytes)
+abbrev pub column_value : List ℕ → Column → List ℕ
+column_value bytes column = text_of (cell_of column bytes)
 
-abbrev pub name_of : Column → List ℕ
-name_of column = text_of column.name.bytes
+abbrev pub column_name : Column → List ℕ
+column_name column = text_of column.name.bytes

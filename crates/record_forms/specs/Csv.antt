@@ -5,17 +5,17 @@ use Rattle.std.specs.Prelude.{ℕ, ◌==◌, List, [], ◌∷◌, ◌++◌, flat
 use Rattle.deck_runner.specs.Line.{shown_byte}
 
 -- a quote in a field stands twice
-abbrev pub doubled : ℕ → List ℕ
-doubled byte = if byte == 34 then 34 ∷ 34 ∷ [] else byte ∷ []
+abbrev pub doubled_quote : ℕ → List ℕ
+doubled_quote byte = if byte == 34 then 34 ∷ 34 ∷ [] else byte ∷ []
 
 -- a field, in quotes (ours: each field has them, so that spaces are kept and a line with one empty
 -- field is no empty line)
 abbrev pub field : List ℕ → List ℕ
-field text = 34 ∷ (flat_map doubled text ++ 34 ∷ [])
+field text = 34 ∷ (flat_map doubled_quote text ++ 34 ∷ [])
 
 -- bytes as they are shown, in a field
 abbrev pub doubled_bytes : List ℕ → List ℕ
-doubled_bytes bytes = flat_map (λ byte. flat_map doubled (shown_byte byte)) bytes
+doubled_bytes bytes = flat_map (λ byte. flat_map doubled_quote (shown_byte byte)) bytes
 
 -- fields, with a comma between each and the next one
 abbrev pub fields : List (List ℕ) → List ℕ

@@ -12,12 +12,12 @@ pub record Part : Type 0 where
   pub offset : ℕ
   pub length : ℕ
 
-abbrev pub part_of : Column → Part
-part_of column = record { name = column.name.bytes; offset = column.offset; length = column.length }
+abbrev pub part_of_column : Column → Part
+part_of_column column = record { name = column.name.bytes; offset = column.offset; length = column.length }
 
 -- columns with these parts were added
 abbrev pub AddsParts : (old new : List Column) → List Part → Type 0
-AddsParts old new parts = map part_of new ≡ map part_of old ++ parts
+AddsParts old new parts = map part_of_column new ≡ map part_of_column old ++ parts
 
 -- ---- cuts
 

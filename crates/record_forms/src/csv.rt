@@ -1,8 +1,8 @@
 //! A line of CSV.
 ghost use Rattle.std.specs.Prelude.{◌≡◌, ◌++◌, map, flat_map, OnOk};
 ghost use Rattle.deck_runner.specs.Line.{shown_byte};
-ghost use Rattle.record_forms.specs.Columns.{text_of, name_of, value_of};
-ghost use Rattle.record_forms.specs.Csv.{doubled, doubled_bytes, field, fields, csv_line};
+ghost use Rattle.record_forms.specs.Columns.{text_of, column_name, column_value};
+ghost use Rattle.record_forms.specs.Csv.{doubled_quote, doubled_bytes, field, fields, csv_line};
 ghost use Rattle.record_forms.specs.Lines.{more_values, more_names};
 
 use crate::column::{Column, cell_of};
@@ -11,7 +11,7 @@ use std::alloc::AllocError;
 
 /// Adds a byte to a field.
 fn add_byte(text: &mut Vec<u8>, byte: u8) -> Result<(), AllocError>
-    ensures { OnOk result (text.new.items ≡ text.old.items ++ flat_map doubled (shown_byte byte)) }
+    ensures { OnOk result (text.new.items ≡ text.old.items ++ flat_map doubled_quote (shown_byte byte)) }
 {
     if byte == b'"' {
         text.extend_from_slice(b"\"\"")
@@ -45,7 +45,7 @@ fn add_field(text: &mut Vec<u8>, bytes: &[u8]) -> Result<(), AllocError>
 
 /// Adds the value of a column.
 fn add_value(text: &mut Vec<u8>, column: &Column, bytes: &[u8]) -> Result<(), AllocError>
-    ensures { OnOk result (text.new.items ≡ text.old.items ++ field (value_of bytes.now column.now)) }
+    ensures { OnOk result (text.new.items ≡ text.old.items ++ field (column_value bytes.now column.now)) }
 {
     add_field(text, cell_of(column, bytes))
 }
@@ -63,7 +63,8 @@ fn add_more_values(text: &mut Vec<u8>, columns: &[Column], bytes: &[u8]) -> Resu
 
 /// Adds the values of columns.
 fn add_values(text: &mut Vec<u8>, columns: &[Column], bytes: &[u8]) -> Result<(), AllocError>
-    ensures { OnOk result (text.new.items ≡ text.old.items ++ fields (map (value_of bytes.now) columns.now)) }
+    ensures { OnOk result (text.new.items ≡ text.old.items
+        ++ fields (map (column_value bytes.now) columns.now)) }
 {
     let Some((first, rest)) = columns.split_first() else {
         return Ok(());
@@ -76,7 +77,7 @@ fn add_values(text: &mut Vec<u8>, columns: &[Column], bytes: &[u8]) -> Result<()
 /// Adds the line of a record.
 pub fn add_line(text: &mut Vec<u8>, columns: &[Column], bytes: &[u8]) -> Result<(), AllocError>
     ensures { OnOk result (text.new.items ≡ text.old.items
-        ++ csv_line (map (value_of bytes.now) columns.now)) }
+        ++ csv_line (map (column_value bytes.now) columns.now)) }
 {
     add_values(text, columns, bytes)?;
     text.extend_from_slice(b"\r\n")
@@ -84,7 +85,7 @@ pub fn add_line(text: &mut Vec<u8>, columns: &[Column], bytes: &[u8]) -> Result<
 
 /// Adds the name of a column.
 fn add_name(text: &mut Vec<u8>, column: &Column) -> Result<(), AllocError>
-    ensures { OnOk result (text.new.items ≡ text.old.items ++ field (name_of column.now)) }
+    ensures { OnOk result (text.new.items ≡ text.old.items ++ field (column_name column.now)) }
 {
     add_field(text, column.name.as_str().as_bytes())
 }
@@ -102,7 +103,7 @@ fn add_more_names(text: &mut Vec<u8>, columns: &[Column]) -> Result<(), AllocErr
 
 /// Adds the names of columns.
 fn add_names(text: &mut Vec<u8>, columns: &[Column]) -> Result<(), AllocError>
-    ensures { OnOk result (text.new.items ≡ text.old.items ++ fields (map name_of columns.now)) }
+    ensures { OnOk result (text.new.items ≡ text.old.items ++ fields (map column_name columns.now)) }
 {
     let Some((first, rest)) = columns.split_first() else {
         return Ok(());
@@ -114,7 +115,7 @@ fn add_names(text: &mut Vec<u8>, columns: &[Column]) -> Result<(), AllocError>
 
 /// Adds the line of the names of columns.
 pub fn add_name_line(text: &mut Vec<u8>, columns: &[Column]) -> Result<(), AllocError>
-    ensures { OnOk result (text.new.items ≡ text.old.items ++ csv_line (map name_of columns.now)) }
+    ensures { OnOk result (text.new.items ≡ text.old.items ++ csv_line (map column_name columns.now)) }
 {
     add_names(text, columns)?;
     text.extend_from_slice(b"\r\n")

@@ -2,7 +2,8 @@
 ghost use Rattle.std.specs.Prelude.{◌≡◌, ◌≤◌, ◌<◌, ◌+◌, ◌-◌, ◌++◌, ◌∷◌, [], ℕ, List, map, flat_map, length};
 ghost use Rattle.std.specs.Prelude.{true, false, IfOk, OnOk};
 ghost use Rattle.record_forms.specs.Columns.{cell_of};
-ghost use Rattle.record_forms.specs.Parts.{AddsParts, part_of, cut_part, cut_parts, do_rise, whole_part};
+ghost use Rattle.record_forms.specs.Parts.{AddsParts, part_of_column, cut_part, cut_parts, do_rise};
+ghost use Rattle.record_forms.specs.Parts.{whole_part};
 
 use crate::column::Column;
 use crate::numbered::numbered;
@@ -42,7 +43,7 @@ fn push_column(columns: &mut Vec<Column>, n: u32, offset: u16, length: u16) -> R
 ///
 /// `Order`: a cut is 0, or not behind the one before it. `Memory`.
 pub fn cut_columns(alloc: Global, cuts: &[u16]) -> Result<Vec<Column>, CutFault>
-    ensures columns { IfOk result (λ columns. map part_of columns.items ≡ cut_parts 1 0 cuts.now) }
+    ensures columns { IfOk result (λ columns. map part_of_column columns.items ≡ cut_parts 1 0 cuts.now) }
     ensures rise { OnOk result (do_rise 0 cuts.now ≡ true) }
     ensures order { result ≡ Err CutFault.Order → do_rise 0 cuts.now ≡ false }
 {
@@ -71,7 +72,7 @@ pub fn cut_columns(alloc: Global, cuts: &[u16]) -> Result<Vec<Column>, CutFault>
 
 /// The record as one column.
 pub fn whole_column(alloc: Global) -> Result<Vec<Column>, AllocError>
-    ensures { IfOk result (λ columns. map part_of columns.items ≡ whole_part ∷ []) }
+    ensures { IfOk result (λ columns. map part_of_column columns.items ≡ whole_part ∷ []) }
 {
     let mut columns = Vec::new(alloc);
     let mut name = Name::new();

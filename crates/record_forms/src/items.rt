@@ -1,7 +1,7 @@
 //! The columns of a record that is described.
 ghost use Rattle.std.specs.Prelude.{◌≡◌, map, option_map, OnOk, IfOk};
 ghost use Rattle.record_layout.specs.Layout.{item_of};
-ghost use Rattle.record_forms.specs.Parts.{AddsParts, part_of, name_or, item_part, is_group};
+ghost use Rattle.record_forms.specs.Parts.{AddsParts, part_of_column, name_or, item_part, is_group};
 ghost use Rattle.record_forms.specs.Parts.{part_if_elementary, item_parts, AreElementary};
 
 use crate::column::Column;
@@ -22,7 +22,7 @@ fn name_or(name: &Option<Name>, offset: u16) -> Name
 
 /// The column of an item.
 fn column_of(item: &Placed) -> Column
-    ensures { part_of result ≡ item_part (item_of item.now) }
+    ensures { part_of_column result ≡ item_part (item_of item.now) }
 {
     Column {
         name: name_or(&item.name, item.field.offset),
@@ -56,7 +56,7 @@ fn push_item(columns: &mut Vec<Column>, item: &Placed, after: &[Placed]) -> Resu
 /// A column for each elementary item of a record, in the order of the entries: with its name, or
 /// FILLER and its offset where it has none.
 pub fn item_columns(alloc: Global, layout: &Layout) -> Result<Vec<Column>, AllocError>
-    ensures { IfOk result (λ columns. map part_of columns.items ≡ item_parts layout.now) }
+    ensures { IfOk result (λ columns. map part_of_column columns.items ≡ item_parts layout.now) }
 {
     let mut columns = Vec::new(alloc);
     let mut rest = layout.items();

@@ -1,6 +1,6 @@
 //! The lines of records.
 ghost use Rattle.std.specs.Prelude.{◌≡◌, ◌++◌, OnOk};
-ghost use Rattle.record_forms.specs.Lines.{text_line, line_in, header_in};
+ghost use Rattle.record_forms.specs.Lines.{text_line, line_in, form_header};
 
 use crate::form::Form;
 use crate::shown::add_shown;
@@ -29,7 +29,7 @@ pub fn append_line(text: &mut Vec<u8>, form: &Form, bytes: &[u8]) -> Result<(), 
 
 /// Adds what stands before the first line to a text. A fault leaves a part of it behind the text.
 pub fn append_header(text: &mut Vec<u8>, form: &Form) -> Result<(), AllocError>
-    ensures { OnOk result (text.new.items ≡ text.old.items ++ header_in form.now) }
+    ensures { OnOk result (text.new.items ≡ text.old.items ++ form_header form.now) }
 {
     match form {
         Form::Csv(columns) => csv::add_name_line(text, columns),

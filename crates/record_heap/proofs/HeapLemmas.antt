@@ -9,7 +9,7 @@ use Rattle.io_state.specs.declared.fault.Fault.TheVariants.{Damage}
 use Rattle.record_heap.specs.declared.shape.Place.{Place}
 use Rattle.record_heap.specs.declared.heap.Heap.{Heap}
 use Rattle.record_heap.specs.Slot.{room, used_in, behind_in}
-use Rattle.record_heap.specs.Chain.{Slots, put, KeepsSlots}
+use Rattle.record_heap.specs.Chain.{Slots, put_slot, KeepsSlots}
 use Rattle.record_heap.specs.Calls.{used_at, behind_at, IsHeapAt, RewritesSlot, Rewriting, Refilling, Gets, GetsRecord}
 use Rattle.pages.specs.Answer.{IsAnswer}
 use Rattle.record_heap.specs.Standing.{HeapStands}
@@ -65,7 +65,7 @@ gets_record heap pages place old new result reads slots own bytes stands here =
 pub heap_refilled : (heap : Heap) (before after : PageMap) (slots : Slots) (own bytes : List ℕ) (next : Place) → HeapStands heap before slots own → 1 ≤ heap.free.page
     → (f : Front (room heap.shape) own (used_at heap.shape before) (behind_at heap.shape before) slots heap.free)
     → RewritesSlot heap.shape before after heap.free (λ slot. (next ≡ f.next) × (used_in heap.shape slot ≡ Some bytes))
-    → HeapHas before after (record heap { free = next }) own (put slots heap.free (Some bytes))
+    → HeapHas before after (record heap { free = next }) own (put_slot slots heap.free (Some bytes))
 heap_refilled heap before after slots own bytes next stands some f w =
     let r = slot_rewritten heap before after slots own heap.free (λ slot. (next ≡ f.next) × (used_in heap.shape slot ≡ Some bytes)) stands f.of.page w in
     let t = taken (room heap.shape) own (used_at heap.shape before) (used_at heap.shape after) (behind_at heap.shape before) (behind_at heap.shape after) slots heap.free bytes
@@ -76,7 +76,7 @@ heap_refilled heap before after slots own bytes next stands some f w =
       stands = record {
         chain = r.chain;
         apart = stands.apart;
-        keeps = subst (KeepsSlots (room heap.shape) own (used_at heap.shape after) (behind_at heap.shape after) (put slots heap.free (Some bytes))) same t.1;
+        keeps = subst (KeepsSlots (room heap.shape) own (used_at heap.shape after) (behind_at heap.shape after) (put_slot slots heap.free (Some bytes))) same t.1;
       };
       changes = r.changes;
     }

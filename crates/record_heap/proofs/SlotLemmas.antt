@@ -8,7 +8,7 @@ use Rattle.byteorder.specs.Endian.{big_number, big_bytes}
 use Rattle.byteorder.specs.Numbers.{big_number-reads_back}
 use Rattle.record_heap.specs.declared.shape.Shape.{Shape}
 use Rattle.record_heap.specs.declared.shape.Place.{Place}
-use Rattle.record_heap.specs.Slot.{head, is_varying, record_length, used_in, behind_in}
+use Rattle.record_heap.specs.Slot.{head, is_varying, length_in_slot, used_in, behind_in}
 
 -- the mark, and bytes behind it
 pub marked : (slot part : List ℕ) (mark k : ℕ) → 1 ≤ length slot → put_mid 1 k (set slot 0 mark) part ≡ mark ∷ (part ++ drop (suc k) slot)
@@ -33,11 +33,11 @@ behind_is slot b4 b2 rest next is first second small small' =
     let tag : (slice_index slot 0 == 0) ≡ true = ap (λ (l : List ℕ). slice_index l 0 == 0) is in
     rw tag (ap Some (ap (λ (n : ℕ). let it : Place = record { page = n; slot = big_number 2 (drop 5 slot) } in it) p ∙ ap (λ (n : ℕ). let it : Place = record { page = next.page; slot = n } in it) s))
 
-used_when : (shape : Shape) (slot bytes : List ℕ) (n : ℕ) → (slice_index slot 0 == 1) ≡ true → record_length shape slot ≡ n → shape.least ≤ n → n ≤ shape.greatest
+used_when : (shape : Shape) (slot bytes : List ℕ) (n : ℕ) → (slice_index slot 0 == 1) ≡ true → length_in_slot shape slot ≡ n → shape.least ≤ n → n ≤ shape.greatest
     → take (shape.stamps + n) (drop (head shape) slot) ≡ bytes → used_in shape slot ≡ Some bytes
 used_when shape slot bytes n tag long low high is =
-    let a : nat_le shape.least (record_length shape slot) ≡ true = ap (nat_le shape.least) long ∙ le-leb shape.least n low in
-    let b : nat_le (record_length shape slot) shape.greatest ≡ true = ap (λ (k : ℕ). nat_le k shape.greatest) long ∙ le-leb n shape.greatest high in
+    let a : nat_le shape.least (length_in_slot shape slot) ≡ true = ap (nat_le shape.least) long ∙ le-leb shape.least n low in
+    let b : nat_le (length_in_slot shape slot) shape.greatest ≡ true = ap (λ (k : ℕ). nat_le k shape.greatest) long ∙ le-leb n shape.greatest high in
     rw (tag, a, b) (ap Some (ap (λ (k : ℕ). take (shape.stamps + k) (drop (head shape) slot)) long ∙ is))
 
 pub used_fixed : (shape : Shape) (slot bytes rest : List ℕ) → slot ≡ 1 ∷ (bytes ++ rest) → shape.least ≡ shape.greatest → length bytes ≡ shape.stamps + shape.greatest

@@ -8,14 +8,14 @@ use Rattle.page_bytes.specs.Each.{Each}
 use Rattle.pages.specs.PageMap.{PageMap}
 use Rattle.record_heap.specs.declared.shape.Shape.{Shape}
 use Rattle.record_heap.specs.declared.shape.Place.{Place}
-use Rattle.record_heap.specs.Slot.{room, head, record_length, used_in, behind_in, is_used}
+use Rattle.record_heap.specs.Slot.{room, head, length_in_slot, used_in, behind_in, is_used}
 use Rattle.record_heap.specs.Slots.{slot_at}
 use Rattle.record_heap.specs.Chain.{IsOneOf, IsPlaceOf, IsFreeChain, KeepsSlots}
 use Rattle.record_heap.specs.Calls.{slot_of, used_at, behind_at}
 use Rattle.page_marks.specs.PageList.{pages_in}
 use Rattle.record_heap.specs.declared.slot_marks.SlotMarks.{SlotMarks}
 use Rattle.record_heap.specs.SlotMarks.{marked_slot}
-use Rattle.record_heap.specs.Walk.{is_one_of, slots_of, IsUsedAt, IsFreeAt, SlotMarked, PageMarked, AreMarked, IsFreePath, SlotsWalked, TakesMark}
+use Rattle.record_heap.specs.Walk.{is_in_list, slots_of, IsUsedAt, IsFreeAt, SlotMarked, PageMarked, AreMarked, IsFreePath, SlotsWalked, TakesMark}
 use Rattle.record_heap.proofs.ChainLemmas.{each_weaker, at_place, place_made, some_none}
 use Rattle.record_heap.proofs.StandLemmas.{each_of, slot_there}
 use Rattle.record_heap.proofs.WalkLemmas.{clash, each_more, once_more, free_path_more}
@@ -151,19 +151,19 @@ path_chain : (behind : Place → Option Place) (first at : Place) (free : List P
 path_chain behind first at [] path end = ap (λ (p : Place). p.page) path ∙ end
 path_chain behind first at (p ∷ ps) path end = (path.0, (path.1.0, path.1.1, path_chain behind path.1.0 at ps path.1.2 end))
 
-one_tells : (xs : List ℕ) (n : ℕ) → is_one_of xs n ≡ true → IsOneOf xs n
+one_tells : (xs : List ℕ) (n : ℕ) → is_in_list xs n ≡ true → IsOneOf xs n
 one_tells [] n h = absurd (clash false h refl)
 one_tells (m ∷ ms) n h = go (eqb_tells n m) (one_tells ms n)
   where
-    go : ((eqb n m ≡ true) × (n ≡ m)) ⊎ ((eqb n m ≡ false) × (n ≢ m)) → (is_one_of ms n ≡ true → IsOneOf ms n) → IsOneOf (m ∷ ms) n
+    go : ((eqb n m ≡ true) × (n ≡ m)) ⊎ ((eqb n m ≡ false) × (n ≢ m)) → (is_in_list ms n ≡ true → IsOneOf ms n) → IsOneOf (m ∷ ms) n
     go (inl a) rest = inl a.1
     go (inr b) rest = inr (rest (rw b.0 at h))
 
-one_told : (xs : List ℕ) (n : ℕ) → IsOneOf xs n → is_one_of xs n ≡ true
+one_told : (xs : List ℕ) (n : ℕ) → IsOneOf xs n → is_in_list xs n ≡ true
 one_told [] n of = absurd of
 one_told (m ∷ ms) n of = go (eqb_tells n m) of (one_told ms n)
   where
-    go : ((eqb n m ≡ true) × (n ≡ m)) ⊎ ((eqb n m ≡ false) × (n ≢ m)) → IsOneOf (m ∷ ms) n → (IsOneOf ms n → is_one_of ms n ≡ true) → is_one_of (m ∷ ms) n ≡ true
+    go : ((eqb n m ≡ true) × (n ≡ m)) ⊎ ((eqb n m ≡ false) × (n ≢ m)) → IsOneOf (m ∷ ms) n → (IsOneOf ms n → is_in_list ms n ≡ true) → is_in_list (m ∷ ms) n ≡ true
     go (inl a) of rest = rw a.0 refl
     go (inr b) (inl e) rest = absurd (b.1 e)
     go (inr b) (inr of) rest = rw b.0 (rest of)
@@ -201,19 +201,19 @@ slots_kept shape pages own first at m m' free marked walked end none some = reco
   free = free;
   chain = path_chain (behind_at shape pages) first at free walked.path end;
   once = walked.once;
-  used_are = λ p bytes is. let b = both (is_one_of own p.page) (nat_lt p.slot (room shape)) (used_at shape pages p) bytes is in
+  used_are = λ p bytes is. let b = both (is_in_list own p.page) (nat_lt p.slot (room shape)) (used_at shape pages p) bytes is in
       let of = one_tells own p.page b.0 in
       (record { page = of; some = each_of (λ n. 1 ≤ n) own p.page some of; slot = ltb-true p.slot (room shape) b.1.0 }, b.1.1);
   free_are = each_weaker (λ p. (p.slot < room shape) × ((marked_slot m p ≡ true) × (marked_slot m' p ≡ false))) (λ p. IsPlaceOf (room shape) own p × (slots_of shape pages own p ≡ None))
       (λ p w. let f = marked.free p w.0 w.1.0 in (
         record { page = f.0; some = each_of (λ n. 1 ≤ n) own p.page some f.0; slot = w.0 },
-        neither (is_one_of own p.page) (nat_lt p.slot (room shape)) (used_at shape pages p) (free_not_used shape (slot_of shape pages p) f.1.0 f.1.1),
+        neither (is_in_list own p.page) (nat_lt p.slot (room shape)) (used_at shape pages p) (free_not_used shape (slot_of shape pages p) f.1.0 f.1.1),
       )) free walked.were;
   every = λ p of nothing. found p of nothing (marked.every p of.slot of.page);
 }
   where
     unused : (p : Place) → IsPlaceOf (room shape) own p → slots_of shape pages own p ≡ None → used_at shape pages p ≡ None
-    unused p of nothing = nothing_in (is_one_of own p.page) (nat_lt p.slot (room shape)) (used_at shape pages p) (one_told own p.page of.page) (lt-ltb p.slot (room shape) of.slot) nothing
+    unused p of nothing = nothing_in (is_in_list own p.page) (nat_lt p.slot (room shape)) (used_at shape pages p) (one_told own p.page of.page) (lt-ltb p.slot (room shape) of.slot) nothing
 
     chain_has : (p : Place) → (marked_slot m' p ≡ true) ⊎ IsOneOf free p → IsOneOf free p
     chain_has p (inl on) = absurd (clash (marked_slot m' p) on (none p))
@@ -225,7 +225,7 @@ slots_kept shape pages own first at m m' free marked walked end none some = reco
 
 -- a slot that is tested has what it holds
 pub used_found : (shape : Shape) (slot : List ℕ) → is_used shape slot ≡ true → (found : List ℕ) × (used_in shape slot ≡ Some found)
-used_found shape slot is = (take (shape.stamps + record_length shape slot) (drop (head shape) slot), rw is refl)
+used_found shape slot is = (take (shape.stamps + length_in_slot shape slot) (drop (head shape) slot), rw is refl)
 
 -- a page of the list
 pub page_there : (pages : List (List ℕ)) (n : ℕ) → n < length pages → pages_in pages n ≡ Some (get_or pages n [])

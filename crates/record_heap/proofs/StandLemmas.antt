@@ -10,7 +10,7 @@ use Rattle.record_heap.specs.declared.shape.Shape.{Shape}
 use Rattle.record_heap.specs.declared.shape.Place.{Place}
 use Rattle.record_heap.specs.declared.heap.Heap.{Heap}
 use Rattle.record_heap.specs.Slot.{room, used_in, behind_in}
-use Rattle.record_heap.specs.Chain.{Slots, put, IsOneOf, IsPlaceOf, KeepsSlots}
+use Rattle.record_heap.specs.Chain.{Slots, put_slot, IsOneOf, IsPlaceOf, KeepsSlots}
 use Rattle.record_heap.specs.Calls.{slot_of, used_at, behind_at, IsHeapAt, RewritesSlot}
 use Rattle.record_heap.specs.Standing.{IsPageChain, HeapStands, slot_off}
 use Rattle.std.specs.Option.{option_map_or}
@@ -152,7 +152,7 @@ slot_rewritten heap before after slots own place P stands of w =
 
 -- a place in use was made free
 pub heap_freed : (heap : Heap) (before after : PageMap) (slots : Slots) (own : List ℕ) (place : Place) (bytes : List ℕ) → HeapStands heap before slots own → slots place ≡ Some bytes
-    → RewritesSlot heap.shape before after place (λ slot. behind_in slot ≡ Some heap.free) → HeapHas before after (record heap { free = place }) own (put slots place None)
+    → RewritesSlot heap.shape before after place (λ slot. behind_in slot ≡ Some heap.free) → HeapHas before after (record heap { free = place }) own (put_slot slots place None)
 heap_freed heap before after slots own place bytes stands here w =
     let of = (stands.keeps.used_are place bytes here).0 in
     let r = slot_rewritten heap before after slots own place (λ slot. behind_in slot ≡ Some heap.free) stands of.page w in
@@ -169,7 +169,7 @@ heap_freed heap before after slots own place bytes stands here w =
 
 -- a place in use holds other bytes now
 pub heap_set : (heap : Heap) (before after : PageMap) (slots : Slots) (own : List ℕ) (place : Place) (old bytes : List ℕ) → HeapStands heap before slots own → slots place ≡ Some old
-    → RewritesSlot heap.shape before after place (λ slot. used_in heap.shape slot ≡ Some bytes) → HeapHas before after heap own (put slots place (Some bytes))
+    → RewritesSlot heap.shape before after place (λ slot. used_in heap.shape slot ≡ Some bytes) → HeapHas before after heap own (put_slot slots place (Some bytes))
 heap_set heap before after slots own place old bytes stands here w =
     let of = (stands.keeps.used_are place old here).0 in
     let r = slot_rewritten heap before after slots own place (λ slot. used_in heap.shape slot ≡ Some bytes) stands of.page w in

@@ -16,8 +16,8 @@ abbrev pub is_place : Place → Place → Bool
 is_place p q = (p.page == q.page) && (p.slot == q.slot)
 
 -- the slots with this at a place
-abbrev pub put : Slots → Place → Option (List ℕ) → Slots
-put slots place bytes p = if is_place place p then bytes else slots p
+abbrev pub put_slot : Slots → Place → Option (List ℕ) → Slots
+put_slot slots place bytes p = if is_place place p then bytes else slots p
 
 abbrev pub IsOneOf : {X : Type 0} → List X → X → Type 0
 IsOneOf [] x = ⊥

@@ -8,7 +8,7 @@ use Rattle.pages.specs.ShownPages.{ShownPages}
 use Rattle.io_state.specs.declared.fault.Fault.{Fault}
 use Rattle.record_heap.specs.declared.shape.Place.{Place}
 use Rattle.record_heap.specs.declared.heap.Heap.{Heap}
-use Rattle.record_heap.specs.Chain.{Slots, put}
+use Rattle.record_heap.specs.Chain.{Slots, put_slot}
 use Rattle.pages.specs.Answer.{IsAnswer}
 use Rattle.record_heap.specs.Standing.{HeapStands}
 use Rattle.record_heap.specs.Calls.{IsFront}
@@ -39,7 +39,7 @@ Adds before after old new bytes result =
     IsTrue after.is_honest → IsTrue before.is_sound → (slots : Slots) (own : List ℕ)
     → HeapStands old before.live slots own
     → IsAnswer result (λ place. (slots place ≡ None)
-    × HeapHas before.live after.live new own (put slots place (Some bytes)) × IsTrue after.is_sound)
+    × HeapHas before.live after.live new own (put_slot slots place (Some bytes)) × IsTrue after.is_sound)
 
 -- at most one page is taken, and none where a slot is free
 pub record TakesFew (heap : Heap) (before after : PagesState) : Type 0 where
@@ -70,5 +70,5 @@ abbrev pub Sets : {X : Type 0} → PagesState → PagesState → Heap → Heap �
 Sets before after old new place bytes result =
     IsTrue after.is_honest → IsTrue before.is_sound → (slots : Slots) (own : List ℕ)
     → HeapStands old before.live slots own → IsSome (slots place)
-    → IsAnswer result (λ u. HeapHas before.live after.live new own (put slots place bytes)
+    → IsAnswer result (λ u. HeapHas before.live after.live new own (put_slot slots place bytes)
     × IsTrue after.is_sound)

@@ -22,18 +22,18 @@ abbrev pub room : Shape → ℕ
 room shape = 4080 / size shape
 
 -- the length of the record in a slot in use
-abbrev pub record_length : Shape → List ℕ → ℕ
-record_length shape slot = if is_varying shape then big_number 2 (drop 1 slot) else shape.greatest
+abbrev pub length_in_slot : Shape → List ℕ → ℕ
+length_in_slot shape slot = if is_varying shape then big_number 2 (drop 1 slot) else shape.greatest
 
 -- the slot is in use, with a record of a length that the heap takes
 abbrev pub is_used : Shape → List ℕ → Bool
-is_used shape slot = (slice_index slot 0 == 1) && (nat_le shape.least (record_length shape slot)
-    && nat_le (record_length shape slot) shape.greatest)
+is_used shape slot = (slice_index slot 0 == 1) && (nat_le shape.least (length_in_slot shape slot)
+    && nat_le (length_in_slot shape slot) shape.greatest)
 
 -- the stamps and the record of a slot in use
 abbrev pub used_in : Shape → List ℕ → Option (List ℕ)
 used_in shape slot = if is_used shape slot then Some
-    (take (shape.stamps + record_length shape slot) (drop (head shape) slot)) else None
+    (take (shape.stamps + length_in_slot shape slot) (drop (head shape) slot)) else None
 
 -- its record, without the stamps
 abbrev pub record_in : Shape → List ℕ → Option (List ℕ)
@@ -45,9 +45,9 @@ behind_in slot = if slice_index slot 0 == 0 then Some
     (record { page = big_number 4 (drop 1 slot); slot = big_number 2 (drop 5 slot) }) else None
 
 -- these bytes over the front of others
-abbrev pub over : Option (List ℕ) → List ℕ → List ℕ
-over None to = to
-over (Some bytes) to = bytes ++ drop (length bytes) to
+abbrev pub over_front : Option (List ℕ) → List ℕ → List ℕ
+over_front None to = to
+over_front (Some bytes) to = bytes ++ drop (length bytes) to
 
 -- the stamps and the record are as long as a slot of the shape takes them
 pub record FitsSlot (shape : Shape) (before behind : List ℕ) : Type 0 where

@@ -30,13 +30,13 @@ pub record PagesWalked (pages : PageMap) (first at : ℕ) (before after : ℕ �
   pub some : Each (λ n. 1 ≤ n) own
   pub marks : Marks before after own
 
-abbrev pub is_one_of : List ℕ → ℕ → Bool
-is_one_of [] n = false
-is_one_of (m ∷ ms) n = if n == m then true else is_one_of ms n
+abbrev pub is_in_list : List ℕ → ℕ → Bool
+is_in_list [] n = false
+is_in_list (m ∷ ms) n = if n == m then true else is_in_list ms n
 
 -- the records in the slots of these pages
 abbrev pub slots_of : Shape → PageMap → List ℕ → Slots
-slots_of shape pages own p = if is_one_of own p.page
+slots_of shape pages own p = if is_in_list own p.page
     && nat_lt p.slot (room shape) then used_at shape pages p else None
 
 -- the slot of a place is in use

@@ -18,8 +18,8 @@
 //! | 5 to 6 | slot of the next free slot |
 
 ghost use Rattle.std.specs.Prelude.{◌≡◌, ◌≤◌, ◌<◌, ◌+◌, ◌++◌, ℕ, Some, IfSome, length, option_map};
-ghost use Rattle.record_heap.specs.Slot.{head, size, record_length, is_used, used_in, record_in, behind_in};
-ghost use Rattle.record_heap.specs.Slot.{over, HoldsNow, FitsIn, FitsVarying, FitsFixed, MayFetch};
+ghost use Rattle.record_heap.specs.Slot.{head, size, length_in_slot, is_used, used_in, record_in, behind_in};
+ghost use Rattle.record_heap.specs.Slot.{over_front, HoldsNow, FitsIn, FitsVarying, FitsFixed, MayFetch};
 
 use crate::shape::{Place, Shape};
 use byteorder::{BigEndian, ByteOrder};
@@ -47,7 +47,7 @@ const NEXT_SLOT_END: usize = 7;
 /// The length of the record.
 fn record_length(slot: &[u8], shape: Shape) -> usize
     requires { size shape ≤ length slot.now }
-    ensures { result ≡ record_length shape slot.now }
+    ensures { result ≡ length_in_slot shape slot.now }
 {
     if shape.least < shape.greatest {
         BigEndian::read_u16(&slot[LENGTH..]) as usize
@@ -85,7 +85,7 @@ fn used(slot: &[u8], shape: Shape) -> Option<&[u8]>
 pub fn fetch(slot: &[u8], shape: Shape, to: &mut [u8]) -> Option<usize>
     requires { MayFetch shape slot.now to.old (shape.stamps + shape.greatest) }
     ensures value { result ≡ option_map length (used_in shape slot.now) }
-    ensures to { to.new ≡ over (used_in shape slot.now) to.old }
+    ensures to { to.new ≡ over_front (used_in shape slot.now) to.old }
 {
     match used(slot, shape) {
         None => None,
@@ -102,7 +102,7 @@ pub fn fetch_record(slot: &[u8], shape: Shape, to: &mut [u8]) -> Option<usize>
     requires { MayFetch shape slot.now to.old shape.greatest }
     ensures value { result ≡ option_map length (record_in shape slot.now) }
     ensures greatest { IfSome result (λ n. n ≤ shape.greatest) }
-    ensures to { to.new ≡ over (record_in shape slot.now) to.old }
+    ensures to { to.new ≡ over_front (record_in shape slot.now) to.old }
 {
     match used(slot, shape) {
         None => None,

@@ -11,7 +11,7 @@ use Rattle.record_layout.specs.declared.fault.LayoutFault.{LayoutFault}
 use Rattle.record_layout.specs.declared.fault.LayoutFault.TheVariants.{BadPicture, BadLevel, TooLong, DuplicateName, Empty, Memory}
 use Rattle.record_layout.specs.declared.picture.Picture.{Picture}
 use Rattle.record_layout.specs.Picture.{Means, IsPicture}
-use Rattle.record_layout.specs.Layout.{Entry, Placed, Structure, written, width, is_nothing, IsWellFormed, is_one, is_named, is_name_of, AreNamedApart, IsLayout}
+use Rattle.record_layout.specs.Layout.{Entry, Placed, Structure, written_items, width, is_nothing, IsWellFormed, is_one, is_named, is_name_of, AreNamedApart, IsLayout}
 use Rattle.record_layout.specs.Layout.Structure.{Nothing, Elementary, Group}
 use Rattle.record_layout.specs.LayoutFault.{is_behind_empty, is_open_level, is_level_fit, is_unfinished, HasPictureFault, IsFaultOf, IsFirstFault}
 use Rattle.record_layout.proofs.PictureLemmas.{kind_of, one_size}
@@ -137,41 +137,41 @@ record EndsInPicture (entries : List Entry) : Type 0 where
   is : entries ≡ last ∷ before
   some : is_none last.picture ≡ false
 
-ends_in_picture : (level : ℕ) (s : Structure) (before : List Entry) → IsFalse (is_nothing s) → IsWellFormed level s → EndsInPicture (behind before (written level s))
+ends_in_picture : (level : ℕ) (s : Structure) (before : List Entry) → IsFalse (is_nothing s) → IsWellFormed level s → EndsInPicture (behind before (written_items level s))
 ends_in_picture level Nothing before some sound = absurd (false≢true (sym some))
 ends_in_picture level (Elementary name text picture after) before some sound = by_after after sound.1 (ends_in_picture level after (record { level = level; name = name; picture = Some text } ∷ before))
   where
-    by_after : (s : Structure) → IsWellFormed level s → (IsFalse (is_nothing s) → IsWellFormed level s → EndsInPicture (behind (record { level = level; name = name; picture = Some text } ∷ before) (written level s))) → EndsInPicture (behind (record { level = level; name = name; picture = Some text } ∷ before) (written level s))
+    by_after : (s : Structure) → IsWellFormed level s → (IsFalse (is_nothing s) → IsWellFormed level s → EndsInPicture (behind (record { level = level; name = name; picture = Some text } ∷ before) (written_items level s))) → EndsInPicture (behind (record { level = level; name = name; picture = Some text } ∷ before) (written_items level s))
     by_after Nothing sound later = record { last = record { level = level; name = name; picture = Some text }; before = before; is = refl; some = refl }
     by_after (Elementary n t p a) sound later = later refl sound
     by_after (Group n i m a) sound later = later refl sound
 ends_in_picture level (Group name inner members after) before some sound =
-    subst EndsInPicture (sym (behind-append (record { level = level; name = name; picture = None } ∷ before) (written inner members) (written level after)))
-    (by_after after sound.4 (ends_in_picture level after (behind (record { level = level; name = name; picture = None } ∷ before) (written inner members))) (ends_in_picture inner members (record { level = level; name = name; picture = None } ∷ before) sound.2 sound.3))
+    subst EndsInPicture (sym (behind-append (record { level = level; name = name; picture = None } ∷ before) (written_items inner members) (written_items level after)))
+    (by_after after sound.4 (ends_in_picture level after (behind (record { level = level; name = name; picture = None } ∷ before) (written_items inner members))) (ends_in_picture inner members (record { level = level; name = name; picture = None } ∷ before) sound.2 sound.3))
   where
-    by_after : (s : Structure) → IsWellFormed level s → (IsFalse (is_nothing s) → IsWellFormed level s → EndsInPicture (behind (behind (record { level = level; name = name; picture = None } ∷ before) (written inner members)) (written level s))) → EndsInPicture (behind (record { level = level; name = name; picture = None } ∷ before) (written inner members)) → EndsInPicture (behind (behind (record { level = level; name = name; picture = None } ∷ before) (written inner members)) (written level s))
+    by_after : (s : Structure) → IsWellFormed level s → (IsFalse (is_nothing s) → IsWellFormed level s → EndsInPicture (behind (behind (record { level = level; name = name; picture = None } ∷ before) (written_items inner members)) (written_items level s))) → EndsInPicture (behind (record { level = level; name = name; picture = None } ∷ before) (written_items inner members)) → EndsInPicture (behind (behind (record { level = level; name = name; picture = None } ∷ before) (written_items inner members)) (written_items level s))
     by_after Nothing sound later here = here
     by_after (Elementary n t p a) sound later here = later refl sound
     by_after (Group n i m a) sound later here = later refl sound
 
 -- deeper items do not close a level
-open_behind : (level inner : ℕ) (s : Structure) (before : List Entry) → level < inner → IsWellFormed inner s → is_open_level (behind before (written inner s)) level ≡ is_open_level before level
+open_behind : (level inner : ℕ) (s : Structure) (before : List Entry) → level < inner → IsWellFormed inner s → is_open_level (behind before (written_items inner s)) level ≡ is_open_level before level
 open_behind level inner Nothing before deeper sound = refl
 open_behind level inner (Elementary name text picture after) before deeper sound =
     let entry : Entry = record { level = inner; name = name; picture = Some text } in
     open_behind level inner after (entry ∷ before) deeper sound.1 ∙ open_past entry before level deeper
 open_behind level inner (Group name within members after) before deeper sound =
     let entry : Entry = record { level = inner; name = name; picture = None } in
-    ap (λ (b : List Entry). is_open_level b level) (behind-append (entry ∷ before) (written within members) (written inner after))
-    ∙ (open_behind level inner after (behind (entry ∷ before) (written within members)) deeper sound.4
+    ap (λ (b : List Entry). is_open_level b level) (behind-append (entry ∷ before) (written_items within members) (written_items inner after))
+    ∙ (open_behind level inner after (behind (entry ∷ before) (written_items within members)) deeper sound.4
     ∙ (open_behind level within members (entry ∷ before) (omega (arith, deeper, sound.0)) sound.3 ∙ open_past entry before level deeper))
 
 -- behind a whole group, its level goes on
-stand_behind_members : (level inner : ℕ) (name : Option (List ℕ)) (members : Structure) (before : List Entry) → 2 ≤ level → level ≤ 49 → level < inner → IsFalse (is_nothing members) → IsWellFormed inner members → CanStand (behind (record { level = level; name = name; picture = None } ∷ before) (written inner members)) level
+stand_behind_members : (level inner : ℕ) (name : Option (List ℕ)) (members : Structure) (before : List Entry) → 2 ≤ level → level ≤ 49 → level < inner → IsFalse (is_nothing members) → IsWellFormed inner members → CanStand (behind (record { level = level; name = name; picture = None } ∷ before) (written_items inner members)) level
 stand_behind_members level inner name members before low high deeper some sound =
     let entry : Entry = record { level = level; name = name; picture = None } in
     let end = ends_in_picture inner members (entry ∷ before) some sound in
-    let opened : is_open_level (behind (entry ∷ before) (written inner members)) level ≡ true = open_behind level inner members (entry ∷ before) deeper sound ∙ open_itself entry before in
+    let opened : is_open_level (behind (entry ∷ before) (written_items inner members)) level ≡ true = open_behind level inner members (entry ∷ before) deeper sound ∙ open_itself entry before in
     subst (λ b. CanStand b level) (sym end.is) (stand_behind_picture end.last end.before level low high end.some (subst (λ b. is_open_level b level ≡ true) end.is opened))
 
 -- ---- no fault
@@ -193,7 +193,7 @@ unnamed None = refl
 unnamed (Some name) = refl
 
 -- without a fault in the items of a structure, the first fault is behind them
-past : (level total : ℕ) (before : List Entry) (s : Structure) (rest : List Entry) (fault : LayoutFault) → 2 ≤ level → level ≤ 49 → IsWellFormed level s → CanStand before level → NoneBefore before (written level s ++ rest) → total + width s ≤ 4000 → IsFirstFault before total (written level s ++ rest) fault → IsFirstFault (behind before (written level s)) (total + width s) rest fault
+past : (level total : ℕ) (before : List Entry) (s : Structure) (rest : List Entry) (fault : LayoutFault) → 2 ≤ level → level ≤ 49 → IsWellFormed level s → CanStand before level → NoneBefore before (written_items level s ++ rest) → total + width s ≤ 4000 → IsFirstFault before total (written_items level s ++ rest) fault → IsFirstFault (behind before (written_items level s)) (total + width s) rest fault
 past level total before Nothing rest fault low high sound stands names short h = subst (λ t. IsFirstFault before t rest fault) (sym (add-zero total)) h
 past level total before (Elementary name text picture after) rest fault low high sound stands names short h =
     let entry : Entry = record { level = level; name = name; picture = Some text } in
@@ -201,32 +201,32 @@ past level total before (Elementary name text picture after) rest fault low high
       | inl a ↦ absurd (no_picture_fault total text picture fault sound.0 (omega (arith, short)) (picture_looked_at before total entry fault stands names.0 a))
       | inr a ↦
           let next_is : a.1.0 ≡ total + picture.length = a.1.1.2 ∙ ap (λ n. total + n) (same_length text a.1.1.0 picture a.1.1.1 sound.0) in
-          let here : IsFirstFault (entry ∷ before) (total + picture.length) (written level after ++ rest) fault = subst (λ t. IsFirstFault (entry ∷ before) t (written level after ++ rest) fault) next_is a.1.2 in
+          let here : IsFirstFault (entry ∷ before) (total + picture.length) (written_items level after ++ rest) fault = subst (λ t. IsFirstFault (entry ∷ before) t (written_items level after ++ rest) fault) next_is a.1.2 in
           let r = past level (total + picture.length) (entry ∷ before) after rest fault low high sound.1 (stand_behind_picture entry before level low high refl (open_itself entry before)) names.1 (omega (arith, short)) here in
-          subst (λ t. IsFirstFault (behind (entry ∷ before) (written level after)) t rest fault) (omega arith) r
+          subst (λ t. IsFirstFault (behind (entry ∷ before) (written_items level after)) t rest fault) (omega arith) r
     ]
 past level total before (Group name inner members after) rest fault low high sound stands names short h =
     let entry : Entry = record { level = level; name = name; picture = None } in
     elim h [
       | inl a ↦ absurd (picture_looked_at before total entry fault stands names.0 a)
       | inr a ↦
-          let items_are = append_assoc (written inner members) (written level after) rest in
-          let names_are : NoneBefore (entry ∷ before) (written inner members ++ (written level after ++ rest)) = subst (NoneBefore (entry ∷ before)) items_are names.1 in
-          let here : IsFirstFault (entry ∷ before) total (written inner members ++ (written level after ++ rest)) fault =
-          subst (λ es. IsFirstFault (entry ∷ before) total es fault) items_are (subst (λ t. IsFirstFault (entry ∷ before) t ((written inner members ++ written level after) ++ rest) fault) a.1.1 a.1.2) in
-          let r = past inner total (entry ∷ before) members (written level after ++ rest) fault (omega (arith, low, sound.0)) sound.1 sound.3 (stand_behind_group level inner name before sound.0 (omega (arith, low, sound.0)) sound.1) names_are (omega (arith, short)) here in
-          let q = past level (total + width members) (behind (entry ∷ before) (written inner members)) after rest fault low high sound.4 (stand_behind_members level inner name members before low high sound.0 sound.2 sound.3) (none_before_rest (entry ∷ before) (written inner members) (written level after ++ rest) names_are) (omega (arith, short)) r in
-          joined (entry ∷ before) (written inner members) (written level after) rest fault (total + width members + width after) (total + (width members + width after)) (omega arith) q
+          let items_are = append_assoc (written_items inner members) (written_items level after) rest in
+          let names_are : NoneBefore (entry ∷ before) (written_items inner members ++ (written_items level after ++ rest)) = subst (NoneBefore (entry ∷ before)) items_are names.1 in
+          let here : IsFirstFault (entry ∷ before) total (written_items inner members ++ (written_items level after ++ rest)) fault =
+          subst (λ es. IsFirstFault (entry ∷ before) total es fault) items_are (subst (λ t. IsFirstFault (entry ∷ before) t ((written_items inner members ++ written_items level after) ++ rest) fault) a.1.1 a.1.2) in
+          let r = past inner total (entry ∷ before) members (written_items level after ++ rest) fault (omega (arith, low, sound.0)) sound.1 sound.3 (stand_behind_group level inner name before sound.0 (omega (arith, low, sound.0)) sound.1) names_are (omega (arith, short)) here in
+          let q = past level (total + width members) (behind (entry ∷ before) (written_items inner members)) after rest fault low high sound.4 (stand_behind_members level inner name members before low high sound.0 sound.2 sound.3) (none_before_rest (entry ∷ before) (written_items inner members) (written_items level after ++ rest) names_are) (omega (arith, short)) r in
+          joined (entry ∷ before) (written_items inner members) (written_items level after) rest fault (total + width members + width after) (total + (width members + width after)) (omega arith) q
     ]
 
 -- at the end of a structure, nothing is unfinished
-all_finished : (level total : ℕ) (s : Structure) (before : List Entry) (fault : LayoutFault) → IsFalse (is_nothing s) → IsWellFormed level s → IsFirstFault (behind before (written level s)) total [] fault → ⊥
+all_finished : (level total : ℕ) (s : Structure) (before : List Entry) (fault : LayoutFault) → IsFalse (is_nothing s) → IsWellFormed level s → IsFirstFault (behind before (written_items level s)) total [] fault → ⊥
 all_finished level total s before fault some sound h =
     let end = ends_in_picture level s before some sound in
     let unfinished : is_unfinished (end.last ∷ end.before) ≡ true = subst (λ b. is_unfinished b ≡ true) end.is h.0 in
     false≢true (sym end.some ∙ unfinished)
 
-of_structure : (s : Structure) (fault : LayoutFault) → is_one s ≡ true → IsWellFormed 1 s → AreNamedApart (written 1 s) → width s ≤ 4000 → IsFirstFault [] 0 (written 1 s) fault → ⊥
+of_structure : (s : Structure) (fault : LayoutFault) → is_one s ≡ true → IsWellFormed 1 s → AreNamedApart (written_items 1 s) → width s ≤ 4000 → IsFirstFault [] 0 (written_items 1 s) fault → ⊥
 of_structure Nothing fault one sound names short h = false≢true one
 of_structure (Elementary name text picture Nothing) fault one sound names short h =
     let entry : Entry = record { level = 1; name = name; picture = Some text } in
@@ -241,8 +241,8 @@ of_structure (Group name inner members Nothing) fault one sound names short h =
     elim h [
       | inl a ↦ picture_looked_at [] 0 entry fault (refl, refl) (unnamed name) a
       | inr a ↦
-          let here : IsFirstFault (entry ∷ []) 0 (written inner members ++ []) fault = subst (λ t. IsFirstFault (entry ∷ []) t (written inner members ++ []) fault) a.1.1 a.1.2 in
-          let apart = none_before [] (entry ∷ written inner members ++ []) tt names in
+          let here : IsFirstFault (entry ∷ []) 0 (written_items inner members ++ []) fault = subst (λ t. IsFirstFault (entry ∷ []) t (written_items inner members ++ []) fault) a.1.1 a.1.2 in
+          let apart = none_before [] (entry ∷ written_items inner members ++ []) tt names in
           let low : 2 ≤ inner = omega (arith, sound.0) in
           all_finished inner (0 + width members) members (entry ∷ []) fault sound.2 sound.3
           (past inner 0 (entry ∷ []) members [] fault low sound.1 sound.3 (stand_behind_group 1 inner name [] sound.0 low sound.1) apart.1 (omega (arith, short)) here)

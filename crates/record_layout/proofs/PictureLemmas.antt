@@ -11,7 +11,7 @@ use Rattle.std.proofs.lemmas.Bool.{false≢true, eqb-true, ltb-true}
 use Rattle.std.proofs.lemmas.Bool.Decides.{nat_tests}
 use Rattle.record_layout.specs.declared.picture.Picture.{Picture}
 use Rattle.record_layout.specs.Picture.{is_symbol, number, IsGroup, AreGroups, Means, IsPicture}
-use Rattle.record_layout.specs.Reading.{behind_close, size_at, behind_symbol, group_at, capped, IsCappedCut}
+use Rattle.record_layout.specs.Reading.{behind_close, size_at, behind_symbol, group_at, capped_size, IsCappedCut}
 
 both_true : (a b : Bool) → (a && b) ≡ true → (a ≡ true) × (b ≡ true)
 both_true true b e = (refl, e)
@@ -154,7 +154,7 @@ some_front (b ∷ after) h = (b, after, refl)
 -- the groups so far are the front of those of the text, and the rest has the others
 pub record SoFar (numeric : Bool) (text : List ℕ) (total : ℕ) (rest : List ℕ) : Type 0 where
   pub done : ℕ
-  pub total_is : total ≡ capped done
+  pub total_is : total ≡ capped_size done
   pub onward : (sizes : List ℕ) → AreGroups numeric rest sizes → (all : List ℕ) × AreGroups numeric text all × (sum all ≡ done + sum sizes)
   pub back : (all : List ℕ) → AreGroups numeric text all → (sizes : List ℕ) × AreGroups numeric rest sizes × (sum all ≡ done + sum sizes)
   pub some : 0 < length text
@@ -162,7 +162,7 @@ pub record SoFar (numeric : Bool) (text : List ℕ) (total : ℕ) (rest : List �
 pub start : (numeric : Bool) (text : List ℕ) → 0 < length text → SoFar numeric text 0 text
 start numeric text some = record { done = 0; total_is = refl; onward = λ sizes g. (sizes, g, omega arith); back = λ all g. (all, g, omega arith); some = some }
 
-found_cut : (cut : Option (ℕ × List ℕ)) (found : ℕ × Bor (List ℕ)) → IsCappedCut cut (Some found) → (g : ℕ × List ℕ) × (cut ≡ Some g) × (found.0 ≡ capped g.0) × (found.1.now ≡ g.1)
+found_cut : (cut : Option (ℕ × List ℕ)) (found : ℕ × Bor (List ℕ)) → IsCappedCut cut (Some found) → (g : ℕ × List ℕ) × (cut ≡ Some g) × (found.0 ≡ capped_size g.0) × (found.1.now ≡ g.1)
 found_cut None found h = absurd h
 found_cut (Some g) found h = (g, refl, h.0, h.1)
 
@@ -174,11 +174,11 @@ head_size : (numeric : Bool) (b : ℕ) (rest sizes : List ℕ) → AreGroups num
 head_size numeric b rest [] g = let k = g in absurd (cc)
 head_size numeric b rest (n ∷ sizes) g = (n, sizes, refl)
 
-pub step : (numeric : Bool) (text : List ℕ) (total : ℕ) (rest : List ℕ) (found : ℕ × Bor (List ℕ)) → SoFar numeric text total rest → 0 < length rest → IsCappedCut (group_at numeric rest) (Some found) → SoFar numeric text (capped (total + found.0)) found.1.now
+pub step : (numeric : Bool) (text : List ℕ) (total : ℕ) (rest : List ℕ) (found : ℕ × Bor (List ℕ)) → SoFar numeric text total rest → 0 < length rest → IsCappedCut (group_at numeric rest) (Some found) → SoFar numeric text (capped_size (total + found.0)) found.1.now
 step numeric text total rest found so long h =
     let k = some_front rest long in
     let c = found_cut (group_at numeric rest) found h in
-    subst (λ left. SoFar numeric text (capped (total + found.0)) left) (sym c.3) (record {
+    subst (λ left. SoFar numeric text (capped_size (total + found.0)) left) (sym c.3) (record {
       done = so.done + c.0.0;
       total_is = omega (arith, so.total_is, c.2);
       onward = λ sizes g.
@@ -205,7 +205,7 @@ no_groups numeric (n ∷ sizes) h g = no_group numeric g.0 g.1 n g.2 g.3
     no_group numeric [] rest n e i = i
     no_group numeric (b ∷ group) rest n e i = cc
 
-pub finish : (numeric : Bool) (text : List ℕ) (total : ℕ) (rest : List ℕ) → SoFar numeric text total rest → length rest ≡ 0 → (n : ℕ) × Means numeric text n × (total ≡ capped n)
+pub finish : (numeric : Bool) (text : List ℕ) (total : ℕ) (rest : List ℕ) → SoFar numeric text total rest → length rest ≡ 0 → (n : ℕ) × Means numeric text n × (total ≡ capped_size n)
 finish numeric text total [] so e =
     let o = so.onward [] refl in
     (so.done, (o.0, not_none numeric text o.0 o.1 so.some, o.1, omega (arith, o.2)), so.total_is)
@@ -258,7 +258,7 @@ pub of_this_kind : (k numeric : Bool) (text : List ℕ) (n : ℕ) → numeric �
 of_this_kind k numeric text n e m =
     let same : k ≡ numeric = kind_of k text n m ∙ sym e in (same, subst (λ v. Means v text n) same m)
 
-pub above_18 : (n : ℕ) → 18 < capped n → 18 < n
+pub above_18 : (n : ℕ) → 18 < capped_size n → 18 < n
 above_18 n h = omega (arith, h)
 
 -- a picture is for a character or more

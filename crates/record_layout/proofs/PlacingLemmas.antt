@@ -10,7 +10,7 @@ use Rattle.std.proofs.lemmas.List.Folds.{fold-map}
 use Rattle.record_layout.specs.declared.item.Field.{Field}
 use Rattle.record_layout.specs.declared.item.Item.{Item}
 use Rattle.record_layout.specs.declared.item.Placed.{Placed as Declared}
-use Rattle.record_layout.specs.Layout.{Entry, Placed, entry_of, item_of, is_name_of, places, IsLayout}
+use Rattle.record_layout.specs.Layout.{Entry, Placed, entry_of_item, item_of, is_name_of, places, IsLayout}
 use Rattle.record_layout.specs.declared.fault.LayoutFault.{LayoutFault}
 use Rattle.record_layout.specs.declared.fault.LayoutFault.TheVariants.{BadLevel, DuplicateName, Empty}
 use Rattle.record_layout.specs.LayoutFault.{is_behind_empty, is_level_fit, is_in_place, is_unfinished, Lengthens, HasPictureFault, IsFaultOf, IsFirstFault}
@@ -89,36 +89,36 @@ as_many entries own h =
 
 -- the places so far, at the item of index i
 abbrev pub PlacedUpTo : List Item → ℕ → ℕ → List Declared → Type 0
-PlacedUpTo items i total places = SoFar (map entry_of items) (reverse (map entry_of (take i items))) (map entry_of (drop i items)) total (map item_of places)
+PlacedUpTo items i total places = SoFar (map entry_of_item items) (reverse (map entry_of_item (take i items))) (map entry_of_item (drop i items)) total (map item_of places)
 
-pub next : (items : List Item) (i : ℕ) (item : Item) (total : ℕ) (places : List Declared) (field : Field) → PlacedUpTo items i total places → i < length items → item ≡ get_or items i item → IsTrue (is_in_place (reverse (map entry_of (take i items))) (entry_of item)) → IsOwnPlace total (entry_of item).picture field → total + field.length ≤ 4000 → PlacedUpTo items (i + 1) (total + field.length) (places ++ record { name = item.name; field = field } ∷ [])
+pub next : (items : List Item) (i : ℕ) (item : Item) (total : ℕ) (places : List Declared) (field : Field) → PlacedUpTo items i total places → i < length items → item ≡ get_or items i item → IsTrue (is_in_place (reverse (map entry_of_item (take i items))) (entry_of_item item)) → IsOwnPlace total (entry_of_item item).picture field → total + field.length ≤ 4000 → PlacedUpTo items (i + 1) (total + field.length) (places ++ record { name = item.name; field = field } ∷ [])
 next items i item total places field so h is there place limit =
-    let all = map entry_of items in
-    let before = reverse (map entry_of (take i items)) in
-    let after = map entry_of (drop (i + 1) items) in
-    let here : map entry_of (drop i items) ≡ entry_of item ∷ after = ap (map entry_of) (drop_more items i item h) ∙ ap (λ (read : Item). entry_of read ∷ after) (sym is) in
-    let longer : reverse (map entry_of (take (i + 1) items)) ≡ entry_of item ∷ before = reverse_more items i item h ∙ ap (λ (read : Item). entry_of read ∷ before) (sym is) in
+    let all = map entry_of_item items in
+    let before = reverse (map entry_of_item (take i items)) in
+    let after = map entry_of_item (drop (i + 1) items) in
+    let here : map entry_of_item (drop i items) ≡ entry_of_item item ∷ after = ap (map entry_of_item) (drop_more items i item h) ∙ ap (λ (read : Item). entry_of_item read ∷ after) (sym is) in
+    let longer : reverse (map entry_of_item (take (i + 1) items)) ≡ entry_of_item item ∷ before = reverse_more items i item h ∙ ap (λ (read : Item). entry_of_item read ∷ before) (sym is) in
     let placed : Declared = record { name = item.name; field = field } in
-    let more = step all before after (entry_of item) total (map item_of places) field (subst (λ rest. SoFar all before rest total (map item_of places)) here so) there place limit in
-    subst (λ own. SoFar all (reverse (map entry_of (take (i + 1) items))) after (total + field.length) own) (sym (map_push item_of places placed))
+    let more = step all before after (entry_of_item item) total (map item_of places) field (subst (λ rest. SoFar all before rest total (map item_of places)) here so) there place limit in
+    subst (λ own. SoFar all (reverse (map entry_of_item (take (i + 1) items))) after (total + field.length) own) (sym (map_push item_of places placed))
     (subst (λ first. SoFar all first after (total + field.length) (map item_of places ++ item_of placed ∷ [])) (sym longer) more)
 
 -- the item is the first with a fault
-pub refused_at : (items : List Item) (i : ℕ) (item : Item) (total : ℕ) (places : List Declared) (fault : LayoutFault) → PlacedUpTo items i total places → i < length items → item ≡ get_or items i item → IsFaultOf (reverse (map entry_of (take i items))) total (entry_of item) fault → IsFirstFault [] 0 (map entry_of items) fault
+pub refused_at : (items : List Item) (i : ℕ) (item : Item) (total : ℕ) (places : List Declared) (fault : LayoutFault) → PlacedUpTo items i total places → i < length items → item ≡ get_or items i item → IsFaultOf (reverse (map entry_of_item (take i items))) total (entry_of_item item) fault → IsFirstFault [] 0 (map entry_of_item items) fault
 refused_at items i item total places fault so h is found =
-    let after = map entry_of (drop (i + 1) items) in
-    let here : map entry_of (drop i items) ≡ entry_of item ∷ after = ap (map entry_of) (drop_more items i item h) ∙ ap (λ (read : Item). entry_of read ∷ after) (sym is) in
-    so.refused fault (subst (λ rest. IsFirstFault (reverse (map entry_of (take i items))) total rest fault) (sym here) (inl found))
+    let after = map entry_of_item (drop (i + 1) items) in
+    let here : map entry_of_item (drop i items) ≡ entry_of_item item ∷ after = ap (map entry_of_item) (drop_more items i item h) ∙ ap (λ (read : Item). entry_of_item read ∷ after) (sym is) in
+    so.refused fault (subst (λ rest. IsFirstFault (reverse (map entry_of_item (take i items))) total rest fault) (sym here) (inl found))
 
 -- the names up to an item, with its own
-pub names_next : (names : BTreeSet (Bor (List ℕ))) (items : List Item) (i : ℕ) (item : Item) → i < length items → item ≡ get_or items i item → HasNamesOf names (entry_of item ∷ reverse (map entry_of (take i items))) → HasNamesOf names (reverse (map entry_of (take (i + 1) items)))
+pub names_next : (names : BTreeSet (Bor (List ℕ))) (items : List Item) (i : ℕ) (item : Item) → i < length items → item ≡ get_or items i item → HasNamesOf names (entry_of_item item ∷ reverse (map entry_of_item (take i items))) → HasNamesOf names (reverse (map entry_of_item (take (i + 1) items)))
 names_next names items i item h is known =
-    subst (HasNamesOf names) (sym (reverse_more items i item h ∙ ap (λ (read : Item). entry_of read ∷ reverse (map entry_of (take i items))) (sym is))) known
+    subst (HasNamesOf names) (sym (reverse_more items i item h ∙ ap (λ (read : Item). entry_of_item read ∷ reverse (map entry_of_item (take i items))) (sym is))) known
 
-pub at_end : (items : List Item) (i total : ℕ) (places : List Declared) → PlacedUpTo items i total places → length items ≤ i → SoFar (map entry_of items) (reverse (map entry_of items)) [] total (map item_of places)
+pub at_end : (items : List Item) (i total : ℕ) (places : List Declared) → PlacedUpTo items i total places → length items ≤ i → SoFar (map entry_of_item items) (reverse (map entry_of_item items)) [] total (map item_of places)
 at_end items i total places so h =
-    subst (λ rest. SoFar (map entry_of items) (reverse (map entry_of items)) rest total (map item_of places)) (ap (map entry_of) (drop_all i items h))
-    (subst (λ read. SoFar (map entry_of items) (reverse (map entry_of read)) (map entry_of (drop i items)) total (map item_of places)) (take_all i items h) so)
+    subst (λ rest. SoFar (map entry_of_item items) (reverse (map entry_of_item items)) rest total (map item_of places)) (ap (map entry_of_item) (drop_all i items h))
+    (subst (λ read. SoFar (map entry_of_item items) (reverse (map entry_of_item read)) (map entry_of_item (drop i items)) total (map item_of places)) (take_all i items h) so)
 
 pub sum_more : (places : List Declared) (i : ℕ) (place : Declared) → i < length places → sum_by (λ place. place.field.length) (drop i places) ≡ (get_or places i place).field.length + sum_by (λ place. place.field.length) (drop (i + 1) places)
 sum_more places i place h =
@@ -139,28 +139,28 @@ laid_refilled entries old before new n h same is long =
 
 -- before index i, the places have the lengths of their groups
 pub record HaveLengths (items : List Item) (old places : List Declared) (i : ℕ) : Type 0 where
-  pub so : with_group_lengths (map entry_of items) (map item_of old) ≡ map item_of (take i places) ++ with_group_lengths (map entry_of (drop i items)) (map item_of (drop i places))
+  pub so : with_group_lengths (map entry_of_item items) (map item_of old) ≡ map item_of (take i places) ++ with_group_lengths (map entry_of_item (drop i items)) (map item_of (drop i places))
   pub short : sum_by (λ place. place.field.length) (drop i places) ≤ 4000
   pub same : length items ≡ length places
 
 -- the place at an index with the length of its group, if it is one
 abbrev pub with_own_length : List Item → List Declared → ℕ → Item → Placed → Placed
 with_own_length items places i item place =
-    cond (is_none (entry_of item).picture) (with_length place (members_length item.level (map entry_of (drop (i + 1) items)) (map item_of (drop (i + 1) places)))) place
+    cond (is_none (entry_of_item item).picture) (with_length place (members_length item.level (map entry_of_item (drop (i + 1) items)) (map item_of (drop (i + 1) places)))) place
 
 pub next_length : (items : List Item) (old places new : List Declared) (i : ℕ) (item : Item) (place changed : Declared) → HaveLengths items old places i → i < length items → item ≡ get_or items i item → place ≡ get_or places i place → take (i + 1) new ≡ take i places ++ changed ∷ [] → drop (i + 1) new ≡ drop (i + 1) places → length new ≡ length places → item_of changed ≡ with_own_length items places i item (item_of place) → HaveLengths items old new (i + 1)
 next_length items old places new i item place changed so h item_is place_is front back long changed_is =
     let there : i < length places = omega (arith, so.same, h) in
     let items_are : drop i items ≡ item ∷ drop (i + 1) items = drop_more items i item h ∙ ap (λ (x : Item). x ∷ drop (i + 1) items) (sym item_is) in
     let places_are : drop i places ≡ place ∷ drop (i + 1) places = drop_more places i place there ∙ ap (λ (x : Declared). x ∷ drop (i + 1) places) (sym place_is) in
-    let rest = with_group_lengths (map entry_of (drop (i + 1) items)) (map item_of (drop (i + 1) places)) in
-    let head : with_group_lengths (map entry_of (drop i items)) (map item_of (drop i places)) ≡ item_of changed ∷ rest =
-    (λ j. with_group_lengths (map entry_of (items_are j)) (map item_of (places_are j))) ∙ ap (λ (x : Placed). x ∷ rest) (sym changed_is) in
+    let rest = with_group_lengths (map entry_of_item (drop (i + 1) items)) (map item_of (drop (i + 1) places)) in
+    let head : with_group_lengths (map entry_of_item (drop i items)) (map item_of (drop i places)) ≡ item_of changed ∷ rest =
+    (λ j. with_group_lengths (map entry_of_item (items_are j)) (map item_of (places_are j))) ∙ ap (λ (x : Placed). x ∷ rest) (sym changed_is) in
     let front_is : map item_of (take (i + 1) new) ≡ map item_of (take i places) ++ item_of changed ∷ [] = ap (map item_of) front ∙ map_push item_of (take i places) changed in
     record {
       so = so.so ∙ (ap (λ (xs : List Placed). map item_of (take i places) ++ xs) head
           ∙ (sym (append_assoc (map item_of (take i places)) (item_of changed ∷ []) rest)
-          ∙ (λ j. sym front_is j ++ with_group_lengths (map entry_of (drop (i + 1) items)) (map item_of (sym back j)))));
+          ∙ (λ j. sym front_is j ++ with_group_lengths (map entry_of_item (drop (i + 1) items)) (map item_of (sym back j)))));
       short = omega (arith, ap (sum_by (λ (x : Declared). x.field.length)) back, sum_more places i place there, so.short);
       same = so.same ∙ sym long;
     }
@@ -206,13 +206,13 @@ pub short_items : (entries : List Entry) (own : List Declared) → HavePlaces en
 short_items entries own h =
     subst (λ n. n ≤ 4000) (fold-map (λ n (place : Placed). n + place.field.length) item_of 0 own) (short_places entries (map item_of own) h)
 
-pub group_changed : (items : List Item) (own here : List Declared) (i : ℕ) (item : Item) (place : Declared) (long : ℕ) → is_none (entry_of item).picture ≡ true → place ≡ get_or here i place → long ≡ members_length item.level (map entry_of (drop (i + 1) items)) (map item_of (drop (i + 1) own)) → item_of (record { name = (get_or here i place).name; field = record { offset = (get_or here i place).field.offset; length = long; numeric = (get_or here i place).field.numeric } }) ≡ with_own_length items own i item (item_of place)
+pub group_changed : (items : List Item) (own here : List Declared) (i : ℕ) (item : Item) (place : Declared) (long : ℕ) → is_none (entry_of_item item).picture ≡ true → place ≡ get_or here i place → long ≡ members_length item.level (map entry_of_item (drop (i + 1) items)) (map item_of (drop (i + 1) own)) → item_of (record { name = (get_or here i place).name; field = record { offset = (get_or here i place).field.offset; length = long; numeric = (get_or here i place).field.numeric } }) ≡ with_own_length items own i item (item_of place)
 group_changed items own here i item place long group place_is long_is =
-    let members_are = members_length item.level (map entry_of (drop (i + 1) items)) (map item_of (drop (i + 1) own)) in
+    let members_are = members_length item.level (map entry_of_item (drop (i + 1) items)) (map item_of (drop (i + 1) own)) in
     ap (λ (read : Declared). item_of (record { name = read.name; field = record { offset = read.field.offset; length = long; numeric = read.field.numeric } })) (sym place_is)
     ∙ (ap (with_length (item_of place)) long_is ∙ ap (λ b. cond b (with_length (item_of place) members_are) (item_of place)) (sym group))
 
-pub unchanged : (items : List Item) (own : List Declared) (i : ℕ) (item : Item) (place : Declared) → is_none (entry_of item).picture ≡ false → item_of place ≡ with_own_length items own i item (item_of place)
+pub unchanged : (items : List Item) (own : List Declared) (i : ℕ) (item : Item) (place : Declared) → is_none (entry_of_item item).picture ≡ false → item_of place ≡ with_own_length items own i item (item_of place)
 unchanged items own i item place elementary =
-    let members_are = members_length item.level (map entry_of (drop (i + 1) items)) (map item_of (drop (i + 1) own)) in
+    let members_are = members_length item.level (map entry_of_item (drop (i + 1) items)) (map item_of (drop (i + 1) own)) in
     ap (λ b. cond b (with_length (item_of place) members_are) (item_of place)) (sym elementary)

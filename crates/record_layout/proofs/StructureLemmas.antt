@@ -9,7 +9,7 @@ use Rattle.std.proofs.lemmas.List.{map-append, length-append}
 use Rattle.std.proofs.Math.Nat.{add-zero}
 use Rattle.record_layout.specs.declared.item.Field.{Field}
 use Rattle.record_layout.specs.declared.picture.Picture.{Picture}
-use Rattle.record_layout.specs.Layout.{Entry, Structure, written, width, is_nothing, IsWellFormed, is_name_of}
+use Rattle.record_layout.specs.Layout.{Entry, Structure, written_items, width, is_nothing, IsWellFormed, is_name_of}
 use Rattle.record_layout.specs.Layout.Structure.{Nothing, Elementary, Group}
 use Rattle.record_layout.specs.LayoutFault.{is_behind_empty, is_open_level, is_level_fit, is_in_place}
 use Rattle.record_layout.specs.Placing.{PlacedEntry, ArePlaced}
@@ -112,14 +112,14 @@ own_places offset level Nothing = []
 own_places offset level (Elementary name text picture after) = placed_picture offset level name text picture ∷ own_places (offset + picture.length) level after
 own_places offset level (Group name inner members after) = placed_group offset level name ∷ own_places offset inner members ++ own_places (offset + width members) level after
 
-pub entries_written : (offset level : ℕ) (s : Structure) → map (λ item. item.entry) (own_places offset level s) ≡ written level s
+pub entries_written : (offset level : ℕ) (s : Structure) → map (λ item. item.entry) (own_places offset level s) ≡ written_items level s
 entries_written offset level Nothing = refl
 entries_written offset level (Elementary name text picture after) = ap (λ (xs : List Entry). record { level = level; name = name; picture = Some text } ∷ xs) (entries_written (offset + picture.length) level after)
 entries_written offset level (Group name inner members after) =
     ap (λ (xs : List Entry). record { level = level; name = name; picture = None } ∷ xs)
     (map-append (λ (item : PlacedEntry). item.entry) (own_places offset inner members) (own_places (offset + width members) level after)
     ∙ (ap (λ (xs : List Entry). xs ++ map (λ (item : PlacedEntry). item.entry) (own_places (offset + width members) level after)) (entries_written offset inner members)
-    ∙ ap (λ (xs : List Entry). written inner members ++ xs) (entries_written (offset + width members) level after)))
+    ∙ ap (λ (xs : List Entry). written_items inner members ++ xs) (entries_written (offset + width members) level after)))
 
 -- the items of a level are deeper than each lower level
 deeper_items : (offset inner level : ℕ) (s : Structure) → level < inner → IsWellFormed inner s → AreDeeper level (own_places offset inner s)

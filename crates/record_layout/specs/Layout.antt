@@ -17,8 +17,8 @@ pub record Entry : Type 0 where
   pub picture : Option (List ℕ)
 
 -- what an item says
-abbrev pub entry_of : Item → Entry
-entry_of item = record {
+abbrev pub entry_of_item : Item → Entry
+entry_of_item item = record {
   level = item.level;
   name = option_map (λ name. name.bytes) item.name;
   picture = option_map (λ picture. picture.bytes) item.picture;
@@ -44,12 +44,13 @@ pub data Structure : Type 0 where
   Group : (name : Option (List ℕ)) → (inner : ℕ) → (members : Structure) → (after : Structure) → Structure
 
 -- the items as they are written, at this level
-abbrev pub written : ℕ → Structure → List Entry
-written level Nothing = []
-written level (Elementary name text picture after) =
-    record { level = level; name = name; picture = Some text } ∷ written level after
-written level (Group name inner members after) =
-    record { level = level; name = name; picture = None } ∷ written inner members ++ written level after
+abbrev pub written_items : ℕ → Structure → List Entry
+written_items level Nothing = []
+written_items level (Elementary name text picture after) =
+    record { level = level; name = name; picture = Some text } ∷ written_items level after
+written_items level (Group name inner members after) =
+    record { level = level; name = name; picture = None } ∷ written_items inner members
+    ++ written_items level after
 
 -- how many characters they have together
 abbrev pub width : Structure → ℕ
@@ -115,7 +116,7 @@ AreNamedApart (entry ∷ after) = IsFalse (is_name_of after entry.name) × AreNa
 pub record IsLayout (entries : List Entry) (layout : List Placed) : Type 0 where
   pub structure : Structure
   pub one : IsTrue (is_one structure)
-  pub entries_are : entries ≡ written 1 structure
+  pub entries_are : entries ≡ written_items 1 structure
   pub sound : IsWellFormed 1 structure
   pub names : AreNamedApart entries
   pub short : width structure ≤ 4000

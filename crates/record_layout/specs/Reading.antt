@@ -28,12 +28,12 @@ group_at numeric [] = None
 group_at numeric (b ∷ rest) = if is_symbol numeric b then behind_symbol rest else None
 
 -- sizes are counted up to one past the greatest record
-abbrev pub capped : ℕ → ℕ
-capped n = min n 4001
+abbrev pub capped_size : ℕ → ℕ
+capped_size n = min n 4001
 
 -- the size, capped, and the rest are those that are read
 abbrev pub IsCappedCut : Option (ℕ × List ℕ) → Option (ℕ × Bor (List ℕ)) → Type 0
 IsCappedCut None None = Unit {0}
 IsCappedCut None (Some _) = ⊥
 IsCappedCut (Some _) None = ⊥
-IsCappedCut (Some cut) (Some found) = (found.0 ≡ capped cut.0) × (found.1.now ≡ cut.1)
+IsCappedCut (Some cut) (Some found) = (found.0 ≡ capped_size cut.0) × (found.1.now ≡ cut.1)

@@ -27,7 +27,8 @@ impl Model for Layout {
 
 impl Layout {
     ghost use Rattle.std.specs.Prelude.{◌≡◌, ◌+◌, ◌≤◌, length, map, IfSome, IfOk, IfErr};
-    ghost use Rattle.record_layout.specs.Layout.{entry_of, item_of, IsLayout, IsRecord, length_of, field_of};
+    ghost use Rattle.record_layout.specs.Layout.{entry_of_item, item_of, IsLayout, IsRecord, length_of};
+    ghost use Rattle.record_layout.specs.Layout.{field_of};
     ghost use Rattle.record_layout.specs.LayoutFault.{HaveFirstFault};
     ghost use Rattle.record_layout.specs.Area.{blank_area};
 
@@ -37,8 +38,8 @@ impl Layout {
     /// entry, or a group at the end, is `Empty`. `Memory` comes where there is no room for the
     /// places.
     pub fn build(alloc: Global, items: &[Item]) -> Result<Layout, LayoutFault>
-        ensures laid { IfOk result (IsLayout (map entry_of items.now)) }
-        ensures fault { IfErr result (HaveFirstFault (map entry_of items.now)) }
+        ensures laid { IfOk result (IsLayout (map entry_of_item items.now)) }
+        ensures fault { IfErr result (HaveFirstFault (map entry_of_item items.now)) }
     {
         let mut items_placed = own_places(alloc, items)?;
         set_group_lengths(items, &mut items_placed);

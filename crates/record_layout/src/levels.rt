@@ -1,6 +1,6 @@
 //! Where a data description entry may stand behind others.
 ghost use Rattle.std.specs.Prelude.{◌≡◌, map, reverse, IsTrue, OnOk, IfErr};
-ghost use Rattle.record_layout.specs.Layout.{entry_of};
+ghost use Rattle.record_layout.specs.Layout.{entry_of_item};
 ghost use Rattle.record_layout.specs.LayoutFault.{is_behind_empty, is_open_level, is_level_fit, is_in_place};
 ghost use Rattle.record_layout.specs.LayoutFault.{is_unfinished, IsFaultOfPlace};
 ghost use Rattle.record_layout.specs.NamesInOrder.{HasNamesOf};
@@ -15,10 +15,11 @@ pub fn check_place(
     names: &NamesInOrder<'_>,
     item: &Item,
 ) -> Result<(), LayoutFault>
-    requires { HasNamesOf names.now (reverse (map entry_of before.now)) }
-    ensures in_place { OnOk result (IsTrue (is_in_place (reverse (map entry_of before.now))
-        (entry_of item.now))) }
-    ensures fault { IfErr result (IsFaultOfPlace (reverse (map entry_of before.now)) (entry_of item.now)) }
+    requires { HasNamesOf names.now (reverse (map entry_of_item before.now)) }
+    ensures in_place { OnOk result (IsTrue (is_in_place (reverse (map entry_of_item before.now))
+        (entry_of_item item.now))) }
+    ensures fault { IfErr result
+        (IsFaultOfPlace (reverse (map entry_of_item before.now)) (entry_of_item item.now)) }
 {
     if follows_empty_group(before, item.level) {
         return Err(LayoutFault::Empty);
@@ -34,7 +35,7 @@ pub fn check_place(
 
 /// Whether there is no item, or the last one is a group.
 pub fn ends_in_group(items: &[Item]) -> bool
-    ensures { result ≡ is_unfinished (reverse (map entry_of items.now)) }
+    ensures { result ≡ is_unfinished (reverse (map entry_of_item items.now)) }
 {
     match items {
         [.., last] => last.picture.is_none(),
@@ -44,7 +45,7 @@ pub fn ends_in_group(items: &[Item]) -> bool
 
 /// Whether the last item is a group, and this level is not deeper.
 fn follows_empty_group(before: &[Item], level: u8) -> bool
-    ensures { result ≡ is_behind_empty (reverse (map entry_of before.now)) level }
+    ensures { result ≡ is_behind_empty (reverse (map entry_of_item before.now)) level }
 {
     match before {
         [.., last] => last.picture.is_none() && level <= last.level,
@@ -54,7 +55,7 @@ fn follows_empty_group(before: &[Item], level: u8) -> bool
 
 /// Whether the level number goes on from the items before it.
 fn fits_level(before: &[Item], level: u8) -> bool
-    ensures { result ≡ is_level_fit (reverse (map entry_of before.now)) level }
+    ensures { result ≡ is_level_fit (reverse (map entry_of_item before.now)) level }
 {
     match before {
         [.., last] => {
@@ -66,7 +67,7 @@ fn fits_level(before: &[Item], level: u8) -> bool
 
 /// Whether the level is that of the nearest item that is not deeper.
 fn is_open(before: &[Item], level: u8) -> bool
-    ensures { result ≡ is_open_level (reverse (map entry_of before.now)) level }
+    ensures { result ≡ is_open_level (reverse (map entry_of_item before.now)) level }
 {
     let mut rest = before;
     'nearest: while let [older @ .., last] = rest {

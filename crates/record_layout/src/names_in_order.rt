@@ -1,7 +1,7 @@
 //! The names of items, in their order, so that one is found by a search.
 ghost use Rattle.std.specs.Prelude.{◌≡◌, [], OnOk, IfErr, option_map};
 ghost use Rattle.record_layout.specs.declared.fault.LayoutFault.{LayoutFault};
-ghost use Rattle.record_layout.specs.Layout.{entry_of};
+ghost use Rattle.record_layout.specs.Layout.{entry_of_item};
 ghost use Rattle.record_layout.specs.NamesInOrder.{HasNamesOf, AddsNameOf, TellsTaken};
 
 use crate::fault::LayoutFault;
@@ -22,7 +22,7 @@ pub fn no_names<'a>(alloc: Global) -> NamesInOrder<'a>
 
 /// Adds the name of an item, if it has one.
 pub fn add_name<'a>(names: &mut NamesInOrder<'a>, item: &'a Item) -> Result<(), LayoutFault>
-    ensures added { OnOk result (AddsNameOf (entry_of item.now) names.old names.new) }
+    ensures added { OnOk result (AddsNameOf (entry_of_item item.now) names.old names.new) }
     ensures fault { IfErr result (λ fault. fault ≡ LayoutFault.Memory) }
 {
     match &item.name {

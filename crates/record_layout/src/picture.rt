@@ -5,7 +5,7 @@ ghost use Rattle.std.specs.List.{prefix_len};
 ghost use Rattle.std.specs.Char.{is_ascii_digit};
 ghost use Rattle.record_layout.specs.Picture.{is_symbol, number, Means, IsPicture, IsTooLong, IsBad};
 ghost use Rattle.record_layout.specs.declared.picture.Picture.{Picture};
-ghost use Rattle.record_layout.specs.Reading.{group_at, size_at, capped, IsCappedCut};
+ghost use Rattle.record_layout.specs.Reading.{group_at, size_at, capped_size, IsCappedCut};
 
 use crate::LayoutFault;
 
@@ -61,7 +61,7 @@ fn begins_numeric(text: &[u8]) -> bool
 
 /// How many characters the groups of one symbol are for, up to the cap.
 fn total(numeric: bool, text: &[u8]) -> Option<u64>
-    ensures some { IfSome result (λ total. (n : ℕ) × Means numeric text.now n × (total ≡ capped n)) }
+    ensures some { IfSome result (λ total. (n : ℕ) × Means numeric text.now n × (total ≡ capped_size n)) }
     ensures none { IfNone result ((n : ℕ) → Means numeric text.now n → ⊥) }
 {
     if text.is_empty() {
@@ -133,7 +133,7 @@ fn digits_len(bytes: &[u8]) -> usize
 
 /// The number that digits stand for, or the cap where it is more.
 fn number_of(digits: &[u8]) -> u64
-    ensures { result ≡ capped (number digits.now) }
+    ensures { result ≡ capped_size (number digits.now) }
 {
     let mut n: u64 = 0;
     for digit in digits {

@@ -1,6 +1,6 @@
 //! The places of the items of a record.
 ghost use Rattle.std.specs.Prelude.{◌≡◌, ℕ, ◌+◌, ◌≤◌, length, map, sum_by, IfOk, IfErr};
-ghost use Rattle.record_layout.specs.Layout.{entry_of, item_of};
+ghost use Rattle.record_layout.specs.Layout.{entry_of_item, item_of};
 ghost use Rattle.record_layout.specs.LayoutFault.{HasPictureFault};
 ghost use Rattle.record_layout.specs.Placing.{IsOwnPlace, AnswersPlaces, members_length, with_group_lengths};
 
@@ -13,7 +13,7 @@ use std::alloc::Global;
 
 /// The place of each item by itself: a group has no characters yet.
 pub fn own_places(alloc: Global, items: &[Item]) -> Result<Vec<Placed>, LayoutFault>
-    ensures { AnswersPlaces (map entry_of items.now) result }
+    ensures { AnswersPlaces (map entry_of_item items.now) result }
 {
     let mut places = Vec::new(alloc);
     let mut names = no_names(alloc);
@@ -38,9 +38,9 @@ pub fn own_places(alloc: Global, items: &[Item]) -> Result<Vec<Placed>, LayoutFa
 /// The place of an item behind items of `total` characters.
 fn own_place(total: u16, item: &Item) -> Result<Field, LayoutFault>
     requires { total ≤ 4000 }
-    ensures place { IfOk result (IsOwnPlace total (entry_of item.now).picture) }
+    ensures place { IfOk result (IsOwnPlace total (entry_of_item item.now).picture) }
     ensures limit { IfOk result (λ field. total + field.length ≤ 4000) }
-    ensures fault { IfErr result (HasPictureFault total (entry_of item.now).picture) }
+    ensures fault { IfErr result (HasPictureFault total (entry_of_item item.now).picture) }
 {
     let Some(text) = item.picture else {
         return Ok(Field {
@@ -64,7 +64,8 @@ fn own_place(total: u16, item: &Item) -> Result<Field, LayoutFault>
 pub fn set_group_lengths(items: &[Item], places: &mut [Placed])
     requires same { length items.now ≡ length places.old }
     requires short { sum_by (λ place. place.field.length) places.old ≤ 4000 }
-    ensures { map item_of places.new ≡ with_group_lengths (map entry_of items.now) (map item_of places.old) }
+    ensures { map item_of places.new
+        ≡ with_group_lengths (map entry_of_item items.now) (map item_of places.old) }
 {
     for i in 0..items.len() {
         let item = &items[i];
@@ -79,7 +80,7 @@ pub fn set_group_lengths(items: &[Item], places: &mut [Placed])
 fn members(level: u8, items: &[Item], places: &[Placed]) -> u16
     requires same { length items.now ≡ length places.now }
     requires short { sum_by (λ place. place.field.length) places.now ≤ 4000 }
-    ensures { result ≡ members_length level (map entry_of items.now) (map item_of places.now) }
+    ensures { result ≡ members_length level (map entry_of_item items.now) (map item_of places.now) }
 {
     let mut length = 0;
     for (i, item) in items.iter().enumerate() {

@@ -18,8 +18,8 @@ use Rattle.indexed_file.specs.Sound.{is_file}
 use Rattle.indexed_file.proofs.TestLemmas.{either}
 use Rattle.record_listing.specs.declared.asked.Asked.{Asked}
 use Rattle.indexed_file.specs.Laws.{IsOf}
-use Rattle.record_listing.specs.Listed.{is_past, is_within, ComesBefore, Rise, AreListed}
-use Rattle.record_listing.specs.Reading.{behind, rows_from, rows_asked, ComesNext}
+use Rattle.record_listing.specs.Listed.{is_past, is_row_within, ComesBefore, Rise, AreListed}
+use Rattle.record_listing.specs.Reading.{behind_row, rows_from, rows_asked, ComesNext}
 use Rattle.indexed_file.proofs.RankLemmas.{row_total, gt_back, differ}
 use Rattle.record_listing.proofs.RankLemmas.{admits_up, past_up, front_from}
 use Rattle.indexed_file.proofs.LeastLemmas.{least_is, none_passes}
@@ -43,7 +43,7 @@ module _ (schema : Schema) (file : File) (k : ℕ) (to : Option (ArrayVec ℕ)) 
 
   -- the next row is the first
   pub next_first : (n : ℕ) (row : Row) → least schema k (admits schema k position) file ≡ Some row → is_past to (value_of schema k row.bytes) ≡ false
-      → rows_from schema file k to (suc n) position ≡ row ∷ rows_from schema file k to n (behind schema k row)
+      → rows_from schema file k to (suc n) position ≡ row ∷ rows_from schema file k to n (behind_row schema k row)
   unfolding rows_from
   next_first n row is within = rw is (rw within refl)
 
@@ -64,7 +64,7 @@ module _ (schema : Schema) (file : File) (k : ℕ) (to : Option (ArrayVec ℕ)) 
       subst (ComesNext schema file k to position area) (sym same) (record {
         row = row;
         bytes = ap (λ (l : List ℕ). take (length row.bytes) l) read ∙ take-append_seam row.bytes (drop (length row.bytes) old);
-        rows = λ n. subst (λ (m : ℕ). rows_from schema file k to m position ≡ row ∷ rows_from schema file k to n (behind schema k row)) (sym (add-one n)) (next_first schema file k to position n row is near);
+        rows = λ n. subst (λ (m : ℕ). rows_from schema file k to m position ≡ row ∷ rows_from schema file k to n (behind_row schema k row)) (sym (add-one n)) (next_first schema file k to position n row is near);
       })
 
   -- a record that was found is the first
@@ -109,10 +109,10 @@ module _ (schema : Schema) (file : File) (k : ℕ) (to : Option (ArrayVec ℕ)) 
     whole : Whole n position rows
 
   -- a row is behind another
-  is_behind : (first row : Row) → admits schema k (behind schema k first) row ≡ true → is_lt (row_cmp schema k first row) ≡ true
+  is_behind : (first row : Row) → admits schema k (behind_row schema k first) row ≡ true → is_lt (row_cmp schema k first row) ≡ true
   is_behind first row is = sym (gt_back (row_cmp schema k) (row_total schema k) row first) ∙ is
 
-  behind_is : (first row : Row) → is_lt (row_cmp schema k first row) ≡ true → admits schema k (behind schema k first) row ≡ true
+  behind_is : (first row : Row) → is_lt (row_cmp schema k first row) ≡ true → admits schema k (behind_row schema k first) row ≡ true
   behind_is first row low = gt_back (row_cmp schema k) (row_total schema k) row first ∙ low
 
   none_from : (n : ℕ) (position : Position) → least schema k (admits schema k position) file ≡ None → AreFrom n position []
@@ -124,14 +124,14 @@ module _ (schema : Schema) (file : File) (k : ℕ) (to : Option (ArrayVec ℕ)) 
       record { within = tt; rise = tt; few = omega arith; whole = λ row one. absurd (differ (past_up schema k to first row past (l.least row one.0 one.1)) one.2) }
 
   more_from : (n : ℕ) (position : Position) (first : Row) (rows : List Row) → least schema k (admits schema k position) file ≡ Some first → is_past to (value_of schema k first.bytes) ≡ false
-      → AreFrom n (behind schema k first) rows → AreFrom (suc n) position (first ∷ rows)
+      → AreFrom n (behind_row schema k first) rows → AreFrom (suc n) position (first ∷ rows)
   more_from n position first rows is within rest =
       let l = least_is schema k (admits schema k position) file first is in
-      let up : (row : Row) → IsIn (behind schema k first) row → IsIn position row =
+      let up : (row : Row) → IsIn (behind_row schema k first) row → IsIn position row =
       λ row one. (one.0, admits_up schema k position first row l.passes (is_behind first row one.1), one.2) in
-      let later : Each (ComesBefore schema k first) rows = each_weaker (IsIn (behind schema k first)) (ComesBefore schema k first) (λ row one. is_behind first row one.1) rows rest.within in
+      let later : Each (ComesBefore schema k first) rows = each_weaker (IsIn (behind_row schema k first)) (ComesBefore schema k first) (λ row one. is_behind first row one.1) rows rest.within in
       record {
-        within = ((l.there, l.passes, within), each_weaker (IsIn (behind schema k first)) (IsIn position) up rows rest.within);
+        within = ((l.there, l.passes, within), each_weaker (IsIn (behind_row schema k first)) (IsIn position) up rows rest.within);
         rise = (later, rest.rise);
         few = (let fewer = rest.few in omega (arith, fewer));
         whole = λ row one.
@@ -149,7 +149,7 @@ module _ (schema : Schema) (file : File) (k : ℕ) (to : Option (ArrayVec ℕ)) 
       by more (Some first) is =
           either (is_past to (value_of schema k first.bytes)) (AreFrom (suc n) position (rows_from schema file k to (suc n) position))
           (λ past. subst (AreFrom (suc n) position) (sym (next_past schema file k to position (suc n) first is past)) (past_from (suc n) position first is past))
-          (λ within. subst (AreFrom (suc n) position) (sym (next_first schema file k to position n first is within)) (more_from n position first _ is within (more (behind schema k first))))
+          (λ within. subst (AreFrom (suc n) position) (sym (next_first schema file k to position n first is within)) (more_from n position first _ is within (more (behind_row schema k first))))
 
 -- ---- those that are asked for
 
@@ -167,7 +167,7 @@ are_listed schema file asked lt sound =
     let start : (row : Row) → satisfies schema asked.key NotLess asked.from.items row ≡ admits schema asked.key (From asked.from) row =
     λ row. front_from (value_of schema asked.key row.bytes) asked.from.items in
     record {
-      within = each_weaker _ (λ row. IsOf file.rows row × IsTrue (is_within schema asked row))
+      within = each_weaker _ (λ row. IsOf file.rows row × IsTrue (is_row_within schema asked row))
           (λ row one. (one.0, and_from _ _ (start row ∙ one.1) (not_true _ one.2))) (rows_asked schema file asked) all.within;
       rise = all.rise;
       few = all.few;

@@ -16,13 +16,13 @@ use Rattle.record_listing.specs.declared.rows.Stop.{Stop}
 use Rattle.record_listing.specs.declared.rows.Stop.TheVariants.{Library as GaveUp, Output as NotTaken}
 use Rattle.record_forms.specs.declared.form.Form.{Form}
 use Rattle.record_listing.specs.Lines.{list_of}
-use Rattle.record_listing.specs.Reading.{IsWritten, IsWrittenInPart, MayStop, Reads, rows_asked}
-use Rattle.record_listing.specs.Listing.{end_by, end_of, WritesFront, BreaksOff, Ends, TellsWhy}
+use Rattle.record_listing.specs.Reading.{IsWritten, IsWrittenInPart, MayStop, OnlyReadsUnit, rows_asked}
+use Rattle.record_listing.specs.Listing.{end_by, list_end_of, WritesFront, ListBreaksOff, EndsList, TellsWhy}
 use Rattle.record_listing.proofs.ListedLemmas.{are_listed}
 use Rattle.record_listing.proofs.WorldLemmas.{fault_later, fault_before, unbroken_fault}
 
 -- nothing was written
-pub broken_off : (form : Form) (asked : Asked) (named : Named) (a : Option (List ℕ)) → BreaksOff form asked named a a
+pub broken_off : (form : Form) (asked : Asked) (named : Named) (a : Option (List ℕ)) → ListBreaksOff form asked named a a
 broken_off form asked NoFile a = refl
 broken_off form asked Refused a = refl
 broken_off form asked (Closed schema file) a = inl refl
@@ -46,7 +46,7 @@ module _ {S : Type 0} (shown : Shown S) (a b c : S) where
   stop_before (Err NotTaken) keeps may = tt
 
   -- why a file was not closed, that was only read before
-  pub shut_after : (shut : Result Unit Fault) → 0 < length (shown.world a).units → Reads shown a b → Keeps shown b c → is_broken (holding_at (shown.world a) 0) ≡ false
+  pub shut_after : (shut : Result Unit Fault) → 0 < length (shown.world a).units → OnlyReadsUnit shown a b → Keeps shown b c → is_broken (holding_at (shown.world a) 0) ≡ false
       → IfErr shut (MayAnswer shown 0 b c) → IfErr shut (MayAnswerShut shown 0 a c)
   shut_after (Ok done) some reads keeps unbroken may = tt
   shut_after (Err fault) some reads keeps unbroken may =
@@ -62,7 +62,7 @@ module _ {S : Type 0} (shown : Shown S) (a c : S) where
   tells Damage may = may.1
   tells Broken may = absurd (cc)
 
-  pub tells_end : (written : Result Unit Stop) (shut : Result Unit Fault) → IfErr written (MayStop shown a c) → IfErr shut (MayAnswerShut shown 0 a c) → TellsWhy shown (name_at (shown.world a) 0) a c (end_of written shut)
+  pub tells_end : (written : Result Unit Stop) (shut : Result Unit Fault) → IfErr written (MayStop shown a c) → IfErr shut (MayAnswerShut shown 0 a c) → TellsWhy shown (name_at (shown.world a) 0) a c (list_end_of written shut)
   tells_end (Ok done) (Ok closed) may also = tt
   tells_end (Ok done) (Err fault) may also = tells fault also
   tells_end (Err (GaveUp fault)) shut may also = tells fault may
@@ -70,7 +70,7 @@ module _ {S : Type 0} (shown : Shown S) (a c : S) where
 
   module _ (honest : IsTrue (shown.is_honest c)) (truly : shown.IsShownTruly a (name_at (shown.world a) 0)) where
     -- a call that gave up breaks the list off
-    pub ends_by : (form : Form) (asked : Asked) (named : Named) (before behind : Option (List ℕ)) (fault : Fault) → MayAnswerShut shown 0 a c fault → BreaksOff form asked named before behind → Ends form asked named before behind (end_by fault)
+    pub ends_by : (form : Form) (asked : Asked) (named : Named) (before behind : Option (List ℕ)) (fault : Fault) → MayAnswerShut shown 0 a c fault → ListBreaksOff form asked named before behind → EndsList form asked named before behind (end_by fault)
     ends_by form asked named before behind Device may off = off
     ends_by form asked named before behind NoMemory may off = off
     ends_by form asked named before behind Full may off = off
@@ -83,7 +83,7 @@ module _ {S : Type 0} (shown : Shown S) (a c : S) where
         record { rows = rows_asked schema file asked; listed = are_listed schema file asked lt sound; front = part.front; rest = part.rest; text = part.text_is; written = part.appends }
 
     pub ends : (form : Form) (schema : Schema) (file : File) (asked : Asked) (before behind : Option (List ℕ)) (written : Result Unit Stop) (shut : Result Unit Fault) → asked.key < length schema.keys → is_file schema file ≡ true
-        → IsWritten (list_of form (rows_asked schema file asked)) before behind written → IfErr written (MayStop shown a c) → IfErr shut (MayAnswerShut shown 0 a c) → Ends form asked (Closed schema file) before behind (end_of written shut)
+        → IsWritten (list_of form (rows_asked schema file asked)) before behind written → IfErr written (MayStop shown a c) → IfErr shut (MayAnswerShut shown 0 a c) → EndsList form asked (Closed schema file) before behind (list_end_of written shut)
     ends form schema file asked before behind (Ok done) (Ok closed) lt sound appends may also = record { key = lt; rows = rows_asked schema file asked; listed = are_listed schema file asked lt sound; written = appends }
     ends form schema file asked before behind (Ok done) (Err fault) lt sound appends may also =
         ends_by form asked (Closed schema file) before behind fault also

@@ -5,26 +5,26 @@ use Rattle.std.proofs.KnownBytes.{Appends-nil, Appends-trans}
 use Rattle.std.proofs.lemmas.Grind.{flat_map-append}
 use Rattle.indexed_file.specs.File.{Row}
 use Rattle.record_forms.specs.declared.form.Form.{Form}
-use Rattle.record_forms.specs.Lines.{line_in, header_in}
-use Rattle.record_listing.specs.Lines.{lines_of, list_of}
-use Rattle.held_text.specs.Output.{AppendsFront, Holds}
+use Rattle.record_forms.specs.Lines.{line_in, form_header}
+use Rattle.record_listing.specs.Lines.{lines_of_rows, list_of}
+use Rattle.held_text.specs.Output.{AppendsFront, HoldsText}
 use Rattle.record_listing.specs.declared.rows.Stop.{Stop}
 use Rattle.record_listing.specs.declared.rows.Stop.TheVariants.{Library as GaveUp, Output as NotTaken}
 use Rattle.record_listing.specs.Reading.{IsOnItsWay, IsWrittenInPart, ComesOut, IsWritten}
 
 module _ (form : Form) where
-  lines_append : (a b : List Row) → lines_of form (a ++ b) ≡ lines_of form a ++ lines_of form b
+  lines_append : (a b : List Row) → lines_of_rows form (a ++ b) ≡ lines_of_rows form a ++ lines_of_rows form b
   lines_append a b = flat_map-append (λ (row : Row). line_in form row.bytes) a b
 
-  one_line : (rows : List Row) (row : Row) → lines_of form (rows ++ row ∷ []) ≡ lines_of form rows ++ line_in form row.bytes
-  one_line rows row = lines_append rows (row ∷ []) ∙ ap (λ (l : List ℕ). lines_of form rows ++ l) (append-nil (line_in form row.bytes))
+  one_line : (rows : List Row) (row : Row) → lines_of_rows form (rows ++ row ∷ []) ≡ lines_of_rows form rows ++ line_in form row.bytes
+  one_line rows row = lines_append rows (row ∷ []) ∙ ap (λ (l : List ℕ). lines_of_rows form rows ++ l) (append-nil (line_in form row.bytes))
 
   -- at first none is done
   pub none_done : (rows : List Row) (a : Option (List ℕ)) (held : List ℕ) → held ≡ [] → IsOnItsWay form rows rows a a held
   none_done rows a held none = record { done = []; taken = []; rows_are = refl; text = sym none; appends = Appends-nil a }
 
   -- one more line is held
-  pub one_more : (rows rest : List Row) (row : Row) (a b c : Option (List ℕ)) (held now : List ℕ) → IsOnItsWay form rows (row ∷ rest) a b held → Holds b c held now (line_in form row.bytes) → IsOnItsWay form rows rest a c now
+  pub one_more : (rows rest : List Row) (row : Row) (a b c : Option (List ℕ)) (held now : List ℕ) → IsOnItsWay form rows (row ∷ rest) a b held → HoldsText b c held now (line_in form row.bytes) → IsOnItsWay form rows rest a c now
   one_more rows rest row a b c held now way holds = record {
     done = way.done ++ row ∷ [];
     taken = way.taken ++ holds.taken;
@@ -35,77 +35,77 @@ module _ (form : Form) where
   }
 
   -- the text of all rows
-  whole_text : (rows rest : List Row) (a b : Option (List ℕ)) (held : List ℕ) (way : IsOnItsWay form rows rest a b held) → lines_of form rows ≡ way.taken ++ held ++ lines_of form rest
-  whole_text rows rest a b held way = ap (lines_of form) way.rows_are ∙ lines_append way.done rest ∙ ap (λ (l : List ℕ). l ++ lines_of form rest) way.text
+  whole_text : (rows rest : List Row) (a b : Option (List ℕ)) (held : List ℕ) (way : IsOnItsWay form rows rest a b held) → lines_of_rows form rows ≡ way.taken ++ held ++ lines_of_rows form rest
+  whole_text rows rest a b held way = ap (lines_of_rows form) way.rows_are ∙ lines_append way.done rest ∙ ap (λ (l : List ℕ). l ++ lines_of_rows form rest) way.text
 
   -- the writer took a front of what is held
-  pub refused : (rows rest : List Row) (a b c : Option (List ℕ)) (held : List ℕ) → IsOnItsWay form rows rest a b held → AppendsFront b c held → IsWrittenInPart (lines_of form rows) a c
+  pub refused : (rows rest : List Row) (a b c : Option (List ℕ)) (held : List ℕ) → IsOnItsWay form rows rest a b held → AppendsFront b c held → IsWrittenInPart (lines_of_rows form rows) a c
   refused rows rest a b c held way (front, left, is, some, appends) = record {
     front = way.taken ++ front;
-    rest = left ++ lines_of form rest;
-    text_is = whole_text rows rest a b held way ∙ ap (λ (l : List ℕ). way.taken ++ l ++ lines_of form rest) is
-        ∙ ap (λ (l : List ℕ). l ++ lines_of form rest) (sym (append_assoc way.taken front left)) ∙ append_assoc (way.taken ++ front) left (lines_of form rest);
+    rest = left ++ lines_of_rows form rest;
+    text_is = whole_text rows rest a b held way ∙ ap (λ (l : List ℕ). way.taken ++ l ++ lines_of_rows form rest) is
+        ∙ ap (λ (l : List ℕ). l ++ lines_of_rows form rest) (sym (append_assoc way.taken front left)) ∙ append_assoc (way.taken ++ front) left (lines_of_rows form rest);
     appends = Appends-trans a b c way.taken front way.appends appends;
   }
 
   -- the writer took a front of what was held and of one more line
-  pub refused_line : (rows rest : List Row) (row : Row) (a b c : Option (List ℕ)) (held : List ℕ) → IsOnItsWay form rows (row ∷ rest) a b held → AppendsFront b c (held ++ line_in form row.bytes) → IsWrittenInPart (lines_of form rows) a c
+  pub refused_line : (rows rest : List Row) (row : Row) (a b c : Option (List ℕ)) (held : List ℕ) → IsOnItsWay form rows (row ∷ rest) a b held → AppendsFront b c (held ++ line_in form row.bytes) → IsWrittenInPart (lines_of_rows form rows) a c
   refused_line rows rest row a b c held way (front, left, is, some, appends) = record {
     front = way.taken ++ front;
-    rest = left ++ lines_of form rest;
-    text_is = whole_text rows (row ∷ rest) a b held way ∙ sym (append_assoc (way.taken ++ held) (line_in form row.bytes) (lines_of form rest))
-        ∙ ap (λ (l : List ℕ). l ++ lines_of form rest) (append_assoc way.taken held (line_in form row.bytes) ∙ ap (λ (l : List ℕ). way.taken ++ l) is ∙ sym (append_assoc way.taken front left))
-        ∙ append_assoc (way.taken ++ front) left (lines_of form rest);
+    rest = left ++ lines_of_rows form rest;
+    text_is = whole_text rows (row ∷ rest) a b held way ∙ sym (append_assoc (way.taken ++ held) (line_in form row.bytes) (lines_of_rows form rest))
+        ∙ ap (λ (l : List ℕ). l ++ lines_of_rows form rest) (append_assoc way.taken held (line_in form row.bytes) ∙ ap (λ (l : List ℕ). way.taken ++ l) is ∙ sym (append_assoc way.taken front left))
+        ∙ append_assoc (way.taken ++ front) left (lines_of_rows form rest);
     appends = Appends-trans a b c way.taken front way.appends appends;
   }
 
   -- the writer took all that is held
-  pub in_part : (rows rest : List Row) (a b c : Option (List ℕ)) (held : List ℕ) → IsOnItsWay form rows rest a b held → Appends b c held → IsWrittenInPart (lines_of form rows) a c
+  pub in_part : (rows rest : List Row) (a b c : Option (List ℕ)) (held : List ℕ) → IsOnItsWay form rows rest a b held → Appends b c held → IsWrittenInPart (lines_of_rows form rows) a c
   in_part rows rest a b c held way appends = record {
     front = way.taken ++ held;
-    rest = lines_of form rest;
+    rest = lines_of_rows form rest;
     text_is = whole_text rows rest a b held way;
     appends = Appends-trans a b c way.taken held way.appends appends;
   }
 
-  pub all_out : (rows : List Row) (a b c : Option (List ℕ)) (held : List ℕ) → IsOnItsWay form rows [] a b held → Appends b c held → Appends a c (lines_of form rows)
+  pub all_out : (rows : List Row) (a b c : Option (List ℕ)) (held : List ℕ) → IsOnItsWay form rows [] a b held → Appends b c held → Appends a c (lines_of_rows form rows)
   all_out rows a b c held way appends =
       subst (Appends a c) (sym (whole_text rows [] a b held way ∙ append-nil (way.taken ++ held))) (Appends-trans a b c way.taken held way.appends appends)
 
   -- what was held was handed over
-  pub handed : (rows : List Row) (a b c : Option (List ℕ)) (held : List ℕ) (result : Result Unit Stop) → (result ≡ Err NotTaken → ⊥) → ComesOut form rows a b held result → Appends b c held → IsWritten (lines_of form rows) a c result
+  pub handed : (rows : List Row) (a b c : Option (List ℕ)) (held : List ℕ) (result : Result Unit Stop) → (result ≡ Err NotTaken → ⊥) → ComesOut form rows a b held result → Appends b c held → IsWritten (lines_of_rows form rows) a c result
   handed rows a b c held (Ok done) other out appends = all_out rows a b c held out appends
   handed rows a b c held (Err (GaveUp fault)) other out appends = in_part rows out.0 a b c held out.1 appends
   handed rows a b c held (Err NotTaken) other out appends = absurd (other refl)
 
   -- the writer refused a part of what was held
-  pub not_handed : (rows : List Row) (a b c : Option (List ℕ)) (held : List ℕ) (result : Result Unit Stop) → (result ≡ Err NotTaken → ⊥) → ComesOut form rows a b held result → AppendsFront b c held → IsWrittenInPart (lines_of form rows) a c
+  pub not_handed : (rows : List Row) (a b c : Option (List ℕ)) (held : List ℕ) (result : Result Unit Stop) → (result ≡ Err NotTaken → ⊥) → ComesOut form rows a b held result → AppendsFront b c held → IsWrittenInPart (lines_of_rows form rows) a c
   not_handed rows a b c held (Ok done) other out front = refused rows [] a b c held out front
   not_handed rows a b c held (Err (GaveUp fault)) other out front = refused rows out.0 a b c held out.1 front
   not_handed rows a b c held (Err NotTaken) other out front = absurd (other refl)
 
   -- the writer had refused one
-  pub still_refused : (rows : List Row) (a b : Option (List ℕ)) (held : List ℕ) (result : Result Unit Stop) → result ≡ Err NotTaken → ComesOut form rows a b held result → IsWritten (lines_of form rows) a b result
+  pub still_refused : (rows : List Row) (a b : Option (List ℕ)) (held : List ℕ) (result : Result Unit Stop) → result ≡ Err NotTaken → ComesOut form rows a b held result → IsWritten (lines_of_rows form rows) a b result
   still_refused rows a b held (Ok done) is out = absurd (cc)
   still_refused rows a b held (Err (GaveUp fault)) is out = absurd (cc)
   still_refused rows a b held (Err NotTaken) is out = out
 
   -- the lines stand behind what stands before them
-  pub behind_header : (rows : List Row) (a b c : Option (List ℕ)) (result : Result Unit Stop) → Appends a b (header_in form) → IsWritten (lines_of form rows) b c result → IsWritten (list_of form rows) a c result
-  behind_header rows a b c (Ok done) header lines = Appends-trans a b c (header_in form) (lines_of form rows) header lines
+  pub behind_header : (rows : List Row) (a b c : Option (List ℕ)) (result : Result Unit Stop) → Appends a b (form_header form) → IsWritten (lines_of_rows form rows) b c result → IsWritten (list_of form rows) a c result
+  behind_header rows a b c (Ok done) header lines = Appends-trans a b c (form_header form) (lines_of_rows form rows) header lines
   behind_header rows a b c (Err stop) header lines = record {
-    front = header_in form ++ lines.front;
+    front = form_header form ++ lines.front;
     rest = lines.rest;
-    text_is = ap (λ (l : List ℕ). header_in form ++ l) lines.text_is ∙ sym (append_assoc (header_in form) lines.front lines.rest);
-    appends = Appends-trans a b c (header_in form) lines.front header lines.appends;
+    text_is = ap (λ (l : List ℕ). form_header form ++ l) lines.text_is ∙ sym (append_assoc (form_header form) lines.front lines.rest);
+    appends = Appends-trans a b c (form_header form) lines.front header lines.appends;
   }
 
   -- only a front of what stands before them was written
-  pub in_header : (rows : List Row) (a b : Option (List ℕ)) → IsWrittenInPart (header_in form) a b → IsWrittenInPart (list_of form rows) a b
+  pub in_header : (rows : List Row) (a b : Option (List ℕ)) → IsWrittenInPart (form_header form) a b → IsWrittenInPart (list_of form rows) a b
   in_header rows a b part = record {
     front = part.front;
-    rest = part.rest ++ lines_of form rows;
-    text_is = ap (λ (l : List ℕ). l ++ lines_of form rows) part.text_is ∙ append_assoc part.front part.rest (lines_of form rows);
+    rest = part.rest ++ lines_of_rows form rows;
+    text_is = ap (λ (l : List ℕ). l ++ lines_of_rows form rows) part.text_is ∙ append_assoc part.front part.rest (lines_of_rows form rows);
     appends = part.appends;
   }
 

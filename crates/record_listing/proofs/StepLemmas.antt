@@ -12,9 +12,9 @@ use Rattle.indexed_file.specs.Believed.{Believed}
 use Rattle.indexed_file.specs.Shown.{Shown}
 use Rattle.record_forms.specs.declared.form.Form.{Form}
 use Rattle.record_forms.specs.Lines.{line_in}
-use Rattle.record_listing.specs.Lines.{lines_of}
-use Rattle.held_text.specs.Output.{AppendsFront, Holds}
-use Rattle.record_listing.specs.Reading.{Reads, rows_from, GoesOn, ComesNext, IsOnItsWay, IsWrittenInPart, HoldsLine, ComesOut}
+use Rattle.record_listing.specs.Lines.{lines_of_rows}
+use Rattle.held_text.specs.Output.{AppendsFront, HoldsText}
+use Rattle.record_listing.specs.Reading.{OnlyReadsUnit, rows_from, RowsGoOn, ComesNext, IsOnItsWay, IsWrittenInPart, HoldsLine, ComesOut}
 use Rattle.record_listing.specs.declared.rows.Stop.{Stop}
 use Rattle.record_listing.specs.declared.rows.Stop.TheVariants.{Library as GaveUp, Output as NotTaken}
 use Rattle.record_listing.proofs.ListedLemmas.{no_more}
@@ -23,14 +23,14 @@ use Rattle.record_listing.proofs.WorldLemmas.{still_true}
 
 -- how the rows go on in the file as it was at first
 pub goes_on : {S : Type 0} (shown : Shown S) (a b c : S) (k : ℕ) (to : Option (ArrayVec ℕ)) (position : Position) (area : List ℕ) (o : Option Found) (found : Found)
-    → 0 < length (shown.world a).units → Reads shown a b → Reads shown b c → IsTrue (shown.is_honest c) → shown.IsShownTruly a (name_at (shown.world a) 0) → o ≡ Some found
-    → Believed shown 0 b c (GoesOn (schema_at (shown.world b) 0) (file_at (shown.world b) 0) k to position area o)
+    → 0 < length (shown.world a).units → OnlyReadsUnit shown a b → OnlyReadsUnit shown b c → IsTrue (shown.is_honest c) → shown.IsShownTruly a (name_at (shown.world a) 0) → o ≡ Some found
+    → Believed shown 0 b c (RowsGoOn (schema_at (shown.world b) 0) (file_at (shown.world b) 0) k to position area o)
     → ComesNext (schema_at (shown.world a) 0) (file_at (shown.world a) 0) k to position area found
 goes_on shown a b c k to position area o found some first next honest truly is goes =
     let before = next.keeps.honest honest in
     let true_then = still_true shown a b some first.world.only first.keeps before truly in
     subst (λ (w : World). ComesNext (schema_at w 0) (file_at w 0) k to position area found) (first.world.same before)
-    (subst (GoesOn (schema_at (shown.world b) 0) (file_at (shown.world b) 0) k to position area) is (goes honest true_then))
+    (subst (RowsGoOn (schema_at (shown.world b) 0) (file_at (shown.world b) 0) k to position area) is (goes honest true_then))
 
 module _ (form : Form) (rows : List Row) (schema : Schema) (file : File) (k : ℕ) (to : Option (ArrayVec ℕ)) (n : ℕ) (position : Position) (area : List ℕ) (found : Found)
     (next : ComesNext schema file k to position area found) (some : 0 < n) (a b c : Option (List ℕ)) (held : List ℕ) (way : IsOnItsWay form rows (rows_from schema file k to n position) a b held) where
@@ -41,12 +41,12 @@ module _ (form : Form) (rows : List Row) (schema : Schema) (file : File) (k : �
       subst (λ (rest : List Row). IsOnItsWay form rows rest a b held) (ap (λ (m : ℕ). rows_from schema file k to m position) e ∙ next.rows (n - 1)) way
 
   -- its line is on its way too
-  pub step : (now : List ℕ) → Holds b c held now (line_in form (take found.length area)) → IsOnItsWay form rows (rows_from schema file k to (n - 1) (After found.key found.stamp)) a c now
+  pub step : (now : List ℕ) → HoldsText b c held now (line_in form (take found.length area)) → IsOnItsWay form rows (rows_from schema file k to (n - 1) (After found.key found.stamp)) a c now
   step now added =
-      one_more form rows (rows_from schema file k to (n - 1) (After found.key found.stamp)) next.row a b c held now way_on (subst (λ (bytes : List ℕ). Holds b c held now (line_in form bytes)) next.bytes added)
+      one_more form rows (rows_from schema file k to (n - 1) (After found.key found.stamp)) next.row a b c held now way_on (subst (λ (bytes : List ℕ). HoldsText b c held now (line_in form bytes)) next.bytes added)
 
   -- the writer refused it, or what was held before
-  pub step_refused : AppendsFront b c (held ++ line_in form (take found.length area)) → IsWrittenInPart (lines_of form rows) a c
+  pub step_refused : AppendsFront b c (held ++ line_in form (take found.length area)) → IsWrittenInPart (lines_of_rows form rows) a c
   step_refused front =
       refused_line form rows (rows_from schema file k to (n - 1) (After found.key found.stamp)) next.row a b c held way_on (subst (λ (bytes : List ℕ). AppendsFront b c (held ++ line_in form bytes)) next.bytes front)
 

@@ -10,7 +10,7 @@ use Rattle.indexed_file.specs.World.{World, FileUnit, Named, Absent, Holding, Sh
 use Rattle.indexed_file.specs.Calls.{Keeps, HasRisen, MayFail, MayAnswerShut}
 use Rattle.indexed_file.specs.Shown.{Shown}
 use Rattle.verbs.proofs.WorldLemmas.{only_twice, attached_after, name_after}
-use Rattle.record_listing.specs.Reading.{Reads}
+use Rattle.record_listing.specs.Reading.{OnlyReadsUnit}
 
 -- ---- the units
 
@@ -52,10 +52,10 @@ module _ {S : Type 0} (shown : Shown S) where
     frames = second.frames ∙ first.frames;
   }
 
-  pub reads_self : (a : S) → Reads shown a a
+  pub reads_self : (a : S) → OnlyReadsUnit shown a a
   reads_self a = record { world = record { only = only_self (shown.world a); state = record { opened = refl; broken = refl }; schema = refl; same = λ h. refl }; keeps = keeps_self a }
 
-  pub reads_both : (a b c : S) → 0 < length (shown.world a).units → Reads shown a b → Reads shown b c → Reads shown a c
+  pub reads_both : (a b c : S) → 0 < length (shown.world a).units → OnlyReadsUnit shown a b → OnlyReadsUnit shown b c → OnlyReadsUnit shown a c
   reads_both a b c some first second = record {
     world = record {
       only = only_twice 0 (shown.world a) (shown.world b) (shown.world c) some first.world.only second.world.only;
@@ -66,7 +66,7 @@ module _ {S : Type 0} (shown : Shown S) where
     keeps = keeps_both a b c first.keeps second.keeps;
   }
 
-  pub still_attached : (a b : S) → 0 < length (shown.world a).units → Reads shown a b → 0 < length (shown.world b).units
+  pub still_attached : (a b : S) → 0 < length (shown.world a).units → OnlyReadsUnit shown a b → 0 < length (shown.world b).units
   still_attached a b some reads = attached_after 0 (shown.world a) (shown.world b) some reads.world.only
 
   -- what is shown of the file is still true

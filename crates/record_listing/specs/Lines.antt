@@ -2,16 +2,16 @@
 use Rattle.std.specs.Prelude.{ℕ, List, ◌++◌, flat_map}
 use Rattle.indexed_file.specs.File.{Row}
 use Rattle.record_forms.specs.declared.form.Form.{Form}
-use Rattle.record_forms.specs.Lines.{text_line, line_in, header_in}
+use Rattle.record_forms.specs.Lines.{text_line, line_in, form_header}
 
 -- the line of a record as text
-abbrev pub line_of : List ℕ → List ℕ
-line_of bytes = text_line bytes
+abbrev pub record_text_line : List ℕ → List ℕ
+record_text_line bytes = text_line bytes
 
 -- the lines of rows
-abbrev pub lines_of : Form → List Row → List ℕ
-lines_of form rows = flat_map (λ row. line_in form row.bytes) rows
+abbrev pub lines_of_rows : Form → List Row → List ℕ
+lines_of_rows form rows = flat_map (λ row. line_in form row.bytes) rows
 
 -- the whole list
 abbrev pub list_of : Form → List Row → List ℕ
-list_of form rows = header_in form ++ lines_of form rows
+list_of form rows = form_header form ++ lines_of_rows form rows

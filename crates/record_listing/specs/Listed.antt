@@ -18,8 +18,8 @@ is_past None value = false
 is_past (Some to) value = is_gt (value_cmp (take (length to.items) value) to.items)
 
 -- a START with NOT LESS would take the row by the first bound, and its value is not past the last one
-abbrev pub is_within : Schema → Asked → Row → Bool
-is_within schema asked row = satisfies schema asked.key NotLess asked.from.items row
+abbrev pub is_row_within : Schema → Asked → Row → Bool
+is_row_within schema asked row = satisfies schema asked.key NotLess asked.from.items row
     && not (is_past asked.to (value_of schema asked.key row.bytes))
 
 -- a row comes before another by key k: by value, and then by stamp
@@ -34,12 +34,12 @@ Rise schema k (row ∷ rows) = Each (ComesBefore schema k row) rows × Rise sche
 -- the rows of a file that are asked for
 pub record AreListed (schema : Schema) (file : File) (asked : Asked) (rows : List Row) : Type 0 where
   -- each is a row of the file within the bounds
-  pub within : Each (λ row. IsOf file.rows row × IsTrue (is_within schema asked row)) rows
+  pub within : Each (λ row. IsOf file.rows row × IsTrue (is_row_within schema asked row)) rows
   -- they rise, so that each is there once
   pub rise : Rise schema asked.key rows
   -- they are as many as are asked for at most
   pub few : length rows ≤ asked.first
   -- each row of the file within the bounds is there, or as many as are asked for come before it
-  pub whole : (row : Row) → IsOf file.rows row → IsTrue (is_within schema asked row)
+  pub whole : (row : Row) → IsOf file.rows row → IsTrue (is_row_within schema asked row)
       → IsOf rows row ⊎ ((length rows ≡ asked.first)
       × Each (λ other. ComesBefore schema asked.key other row) rows)

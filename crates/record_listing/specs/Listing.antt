@@ -31,11 +31,11 @@ end_by Damage = Ok Damaged
 end_by Broken = Err Input
 
 -- what becomes of a list whose lines were written or not, and whose file was closed or not
-abbrev pub end_of : Result Unit Stop → Result Unit Fault → Result ListEnd ListFault
-end_of (Ok _) (Ok _) = Ok Listed
-end_of (Ok _) (Err fault) = end_by fault
-end_of (Err (GaveUp fault)) shut = end_by fault
-end_of (Err NotTaken) shut = Err Output
+abbrev pub list_end_of : Result Unit Stop → Result Unit Fault → Result ListEnd ListFault
+list_end_of (Ok _) (Ok _) = Ok Listed
+list_end_of (Ok _) (Err fault) = end_by fault
+list_end_of (Err (GaveUp fault)) shut = end_by fault
+list_end_of (Err NotTaken) shut = Err Output
 
 -- the list of the rows of a file that are asked for was written
 pub record WritesLines (form : Form) (schema : Schema) (file : File) (asked : Asked)
@@ -57,26 +57,27 @@ pub record WritesFront (form : Form) (schema : Schema) (file : File) (asked : As
 
 -- a list of what a name stands for ends so: its list was written; or nothing was, since there is no
 -- file, it is refused, or it does not have the key
-abbrev pub EndsWith : Form → Asked → Named → (before behind : Option (List ℕ)) → ListEnd → Type 0
-EndsWith form asked (Closed schema file) before behind Listed =
+abbrev pub EndsListWith : Form → Asked → Named → (before behind : Option (List ℕ)) → ListEnd → Type 0
+EndsListWith form asked (Closed schema file) before behind Listed =
     WritesLines form schema file asked before behind
-EndsWith form asked (Closed schema file) before behind NoKey =
+EndsListWith form asked (Closed schema file) before behind NoKey =
     (length schema.keys ≤ asked.key) × (behind ≡ before)
-EndsWith form asked NoFile before behind Absent = behind ≡ before
-EndsWith form asked Refused before behind Unsound = behind ≡ before
-EndsWith form asked named before behind end = ⊥
+EndsListWith form asked NoFile before behind Absent = behind ≡ before
+EndsListWith form asked Refused before behind Unsound = behind ≡ before
+EndsListWith form asked named before behind end = ⊥
 
 -- a list of what a name stands for ends before its end: nothing was written, or a front of the list
 -- of the file
-abbrev pub BreaksOff : Form → Asked → Named → (before behind : Option (List ℕ)) → Type 0
-BreaksOff form asked NoFile before behind = behind ≡ before
-BreaksOff form asked Refused before behind = behind ≡ before
-BreaksOff form asked (Closed schema file) before behind =
+abbrev pub ListBreaksOff : Form → Asked → Named → (before behind : Option (List ℕ)) → Type 0
+ListBreaksOff form asked NoFile before behind = behind ≡ before
+ListBreaksOff form asked Refused before behind = behind ≡ before
+ListBreaksOff form asked (Closed schema file) before behind =
     (behind ≡ before) ⊎ WritesFront form schema file asked before behind
 
-abbrev pub Ends : Form → Asked → Named → (before behind : Option (List ℕ)) → Result ListEnd ListFault → Type 0
-Ends form asked named before behind (Ok end) = EndsWith form asked named before behind end
-Ends form asked named before behind (Err fault) = BreaksOff form asked named before behind
+abbrev pub EndsList : Form → Asked → Named → (before behind : Option (List ℕ)) → Result ListEnd ListFault
+    → Type 0
+EndsList form asked named before behind (Ok end) = EndsListWith form asked named before behind end
+EndsList form asked named before behind (Err fault) = ListBreaksOff form asked named before behind
 
 -- why a list ends so: the device failed where the file could not be read; and a page is not what
 -- its place requires only where the library lies
@@ -89,7 +90,7 @@ TellsWhy shown name old new (Ok end) = Unit {0}
 
 -- unit 0 is closed, and its name stands for what it stood for where the library is honest, what it
 -- showed was true, and a premise holds; why the list ended so
-pub record Leaves {S : Type 0} (shown : Shown S) (Premise : Type 0) (old new : S)
+pub record LeavesListed {S : Type 0} (shown : Shown S) (Premise : Type 0) (old new : S)
     (result : Result ListEnd ListFault) : Type 0 where
   pub cause : TellsWhy shown (name_at (shown.world old) 0) old new result
   pub only : OnlyAt 0 (shown.world old) (shown.world new)
@@ -107,7 +108,7 @@ abbrev pub EndsWhereSound : {S : Type 0} → Shown S → S → Form → Asked �
     → (before behind : Option (List ℕ)) → Result ListEnd ListFault → Type 0
 EndsWhereSound shown library form asked schema before behind result =
     (file : File) → named_at (shown.world library) 0 ≡ Closed schema file
-    → Ends form asked (Closed schema file) before behind result
+    → EndsList form asked (Closed schema file) before behind result
 
 -- the name of unit 0 stands for a file of this schema
 abbrev pub HasFileOf : {S : Type 0} → Shown S → S → Schema → Type 0
@@ -117,7 +118,7 @@ HasFileOf shown library schema = (file : File) × (named_at (shown.world library
 abbrev pub EndsOpen : {S : Type 0} → Shown S → (old new : S) → Form → Asked
     → (before behind : Option (List ℕ)) → Result ListEnd ListFault → Type 0
 EndsOpen shown old new form asked before behind result =
-    Believed shown 0 old new (Ends form asked (file_when_closed shown old) before behind result)
+    Believed shown 0 old new (EndsList form asked (file_when_closed shown old) before behind result)
 
 -- a list of unit 0, where its name stands for a file of this schema
 abbrev pub EndsSound : {S : Type 0} → Shown S → (old new : S) → Form → Asked → Schema
@@ -129,7 +130,7 @@ EndsSound shown old new form asked schema before behind result =
 abbrev pub EndsAttached : {S : Type 0} → Shown S → (old new : S) → Form → Asked
     → (before behind : Option (List ℕ)) → Result ListEnd ListFault → Type 0
 EndsAttached shown old new form asked before behind result =
-    Believed shown 0 old new (Ends form asked (named_at (shown.world old) 0) before behind result)
+    Believed shown 0 old new (EndsList form asked (named_at (shown.world old) 0) before behind result)
 
 -- unit 0 is attached, and not open
 pub record HasShutUnit {S : Type 0} (shown : Shown S) (library : S) : Type 0 where
@@ -148,7 +149,7 @@ TrueOf shown name old new fact = TrueFor shown name old new (fact (named_in (sho
 abbrev pub EndsNamed : {S : Type 0} → Shown S → (name : List ℕ) → (old new : S) → Form → Asked
     → (before behind : Option (List ℕ)) → Result ListEnd ListFault → Type 0
 EndsNamed shown name old new form asked before behind result =
-    TrueOf shown name old new (λ named. Ends form asked named before behind result)
+    TrueOf shown name old new (λ named. EndsList form asked named before behind result)
 
 -- each name stands for what it stood for
 abbrev pub NamesStay : (old new : World) → Type 0

@@ -22,8 +22,8 @@ use Rattle.record_listing.specs.declared.rows.Stop.{Stop}
 use Rattle.record_listing.specs.declared.rows.Stop.TheVariants.{Library as GaveUp, Output as NotTaken}
 use Rattle.record_listing.specs.Listed.{is_past}
 use Rattle.record_forms.specs.declared.form.Form.{Form}
-use Rattle.held_text.specs.Output.{AppendsFront, Holds}
-use Rattle.record_listing.specs.Lines.{lines_of, list_of}
+use Rattle.held_text.specs.Output.{AppendsFront, HoldsText}
+use Rattle.record_listing.specs.Lines.{lines_of_rows, list_of}
 use Rattle.record_forms.specs.Lines.{line_in}
 
 -- unit 0 has an open file that is not broken, which has key k and records of so many bytes at most
@@ -40,13 +40,13 @@ pub record CanListFile {S : Type 0} (shown : Shown S) (library : S) (k greatest 
   pub short : greatest ≤ 4000
 
 -- unit 0 was only read
-pub record Reads {S : Type 0} (shown : Shown S) (old new : S) : Type 0 where
+pub record OnlyReadsUnit {S : Type 0} (shown : Shown S) (old new : S) : Type 0 where
   pub world : OnlyReads 0 (shown.is_honest new) (shown.world old) (shown.world new)
   pub keeps : Keeps shown old new
 
 -- the position behind a row
-abbrev pub behind : Schema → ℕ → Row → Position
-behind schema k row = After (key_of_row schema k row) (stamp_of k row)
+abbrev pub behind_row : Schema → ℕ → Row → Position
+behind_row schema k row = After (key_of_row schema k row) (stamp_of k row)
 
 -- the rows from a position on, as READ NEXT gives them one after another: up to the bound, and so
 -- many at most
@@ -54,7 +54,7 @@ unfoldable pub rows_from : Schema → File → ℕ → Option (ArrayVec ℕ) →
 rows_from schema file k to zero position = []
 rows_from schema file k to (suc n) position =
     option_map_or (λ row. if is_past to (value_of schema k row.bytes) then [] else row ∷ rows_from schema
-    file k to n (behind schema k row))
+    file k to n (behind_row schema k row))
     (least schema k (admits schema k position) file) []
 
 -- the rows that are asked for
@@ -70,15 +70,15 @@ pub record ComesNext (schema : Schema) (file : File) (k : ℕ) (to : Option (Arr
       (After found.key found.stamp)
 
 -- how the rows from a position on go on: there is none, or a first one
-abbrev pub GoesOn : Schema → File → ℕ → Option (ArrayVec ℕ) → Position → List ℕ → Option Found → Type 0
-GoesOn schema file k to position area None = (n : ℕ) → rows_from schema file k to n position ≡ []
-GoesOn schema file k to position area (Some found) = ComesNext schema file k to position area found
+abbrev pub RowsGoOn : Schema → File → ℕ → Option (ArrayVec ℕ) → Position → List ℕ → Option Found → Type 0
+RowsGoOn schema file k to position area None = (n : ℕ) → rows_from schema file k to n position ≡ []
+RowsGoOn schema file k to position area (Some found) = ComesNext schema file k to position area found
 
 -- so they go on in the open file of unit 0
 abbrev pub GoesOnIn : {S : Type 0} → Shown S → S → ℕ → Option (ArrayVec ℕ) → Position → List ℕ → Option Found
     → Type 0
 GoesOnIn shown library k to position area found =
-    GoesOn (schema_at (shown.world library) 0) (file_at (shown.world library) 0) k to position area found
+    RowsGoOn (schema_at (shown.world library) 0) (file_at (shown.world library) 0) k to position area found
 
 -- so they go on where a call answers, between two states of the library
 abbrev pub GoesOnTruly : {S : Type 0} → Shown S → (old new : S) → ℕ → Option (ArrayVec ℕ) → Position → List ℕ
@@ -93,7 +93,7 @@ pub record IsOnItsWay (form : Form) (rows rest : List Row) (before now : Option 
   pub done : List Row
   pub taken : List ℕ
   pub rows_are : rows ≡ done ++ rest
-  pub text : lines_of form done ≡ taken ++ held
+  pub text : lines_of_rows form done ≡ taken ++ held
   pub appends : Appends before now taken
 
 -- a front of the text was written
@@ -109,7 +109,7 @@ abbrev pub ComesOut : Form → List Row → (before now : Option (List ℕ)) →
 ComesOut form rows before now held (Ok _) = IsOnItsWay form rows [] before now held
 ComesOut form rows before now held (Err (GaveUp fault)) =
     (rest : List Row) × IsOnItsWay form rows rest before now held
-ComesOut form rows before now held (Err NotTaken) = IsWrittenInPart (lines_of form rows) before now
+ComesOut form rows before now held (Err NotTaken) = IsWrittenInPart (lines_of_rows form rows) before now
 
 -- the text was written, or a front of it
 abbrev pub IsWritten : List ℕ → (before now : Option (List ℕ)) → Result Unit Stop → Type 0
@@ -120,7 +120,7 @@ IsWritten text before now (Err stop) = IsWrittenInPart text before now
 -- it was; or the writer refused it or what was held
 abbrev pub HoldsLine : (before now : Option (List ℕ)) → (held held_after line : List ℕ) → Result Unit Stop
     → Type 0
-HoldsLine before now held held_after line (Ok _) = Holds before now held held_after line
+HoldsLine before now held held_after line (Ok _) = HoldsText before now held held_after line
 HoldsLine before now held held_after line (Err (GaveUp fault)) =
     (fault ≡ Memory) × (now ≡ before) × (held_after ≡ held)
 HoldsLine before now held held_after line (Err NotTaken) = AppendsFront before now (held ++ line)
@@ -140,7 +140,7 @@ MayStop shown old new NotTaken = Unit {0}
 -- the rows of unit 0 that are asked for were read, and this came of them
 pub record ReadsRows {S : Type 0} (shown : Shown S) (asked : Asked) (old new : S)
     (Comes : List Row → Type 0) (result : Result Unit Stop) : Type 0 where
-  pub reads : Reads shown old new
+  pub reads : OnlyReadsUnit shown old new
   pub rows : Believed shown 0 old new
       (Comes (rows_asked (schema_at (shown.world old) 0) (file_at (shown.world old) 0) asked))
   pub cause : IfErr result (MayStop shown old new)
@@ -162,4 +162,4 @@ abbrev pub HandsOver : (old new : Option (List ℕ)) → (held : List ℕ) → (
     → Type 0
 HandsOver old new held came result =
     (form : Form) (rows : List Row) (before : Option (List ℕ)) → ComesOut form rows before old held came
-    → IsWritten (lines_of form rows) before new result
+    → IsWritten (lines_of_rows form rows) before new result

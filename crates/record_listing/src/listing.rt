@@ -2,8 +2,9 @@
 ghost use Rattle.std.specs.Prelude.{◌≡◌, ◌<◌, length, IsTrue, IsFalse, OnOk};
 ghost use Rattle.indexed_file.specs.World.{holding_at, schema_at, is_open, is_looked};
 ghost use Rattle.indexed_file.specs.Calls.{Keeps, NamesFile};
-ghost use Rattle.record_listing.specs.Listing.{end_of, EndsOpen, EndsSound, EndsAttached, EndsNamed};
-ghost use Rattle.record_listing.specs.Listing.{HasFileOf, HasShutUnit, Leaves, NamesStay, TellsWhy, TrueFor};
+ghost use Rattle.record_listing.specs.Listing.{list_end_of, EndsOpen, EndsSound, EndsAttached, EndsNamed};
+ghost use Rattle.record_listing.specs.Listing.{HasFileOf, HasShutUnit, LeavesListed, NamesStay, TellsWhy};
+ghost use Rattle.record_listing.specs.Listing.{TrueFor};
 ghost use Rattle.record_listing.specs.Reading.{CanListFile};
 
 use crate::asked::Asked;
@@ -18,7 +19,7 @@ use std::io::Write;
 
 /// How a list ends whose lines were written or not, and whose file was closed or not.
 fn end_of(written: Result<(), Stop>, shut: Result<(), Fault>) -> Result<ListEnd, ListFault>
-    ensures { result ≡ end_of written shut }
+    ensures { result ≡ list_end_of written shut }
 {
     match written {
         Ok(()) => match shut {
@@ -42,7 +43,8 @@ fn list_open<L: Library, W: Write>(
     requires { CanListFile L.shown lib.old asked.key greatest }
     ensures ends { EndsOpen L.shown lib.old lib.new form.now asked (W.contents out.old)
         (W.contents out.new) result }
-    ensures leaves { Leaves L.shown (NamesFile 0 (L.shown.world lib.old) (L.shown.world lib.old)) lib.old
+    ensures leaves { LeavesListed L.shown (NamesFile 0 (L.shown.world lib.old) (L.shown.world lib.old))
+        lib.old
         lib.new result }
 {
     let written = write_rows(alloc, lib, asked, form, greatest, out);
@@ -64,7 +66,7 @@ fn list_sound<L: Library, W: Write>(
     requires schema { schema_at (L.shown.world lib.old) 0 ≡ schema.now }
     ensures ends { EndsSound L.shown lib.old lib.new form.now asked schema.now (W.contents out.old)
         (W.contents out.new) result }
-    ensures leaves { Leaves L.shown (HasFileOf L.shown lib.old schema.now) lib.old lib.new result }
+    ensures leaves { LeavesListed L.shown (HasFileOf L.shown lib.old schema.now) lib.old lib.new result }
 {
     if usize::from(asked.key) >= schema.key_count() {
         return Ok(ListEnd::NoKey);
@@ -86,7 +88,7 @@ fn list_attached<L: Library, W: Write>(
     requires { HasShutUnit L.shown lib.old }
     ensures ends { EndsAttached L.shown lib.old lib.new form.now asked (W.contents out.old)
         (W.contents out.new) result }
-    ensures leaves { Leaves L.shown (Unit {0}) lib.old lib.new result }
+    ensures leaves { LeavesListed L.shown (Unit {0}) lib.old lib.new result }
 {
     match lib.look(0) {
         Ok(Seen::Absent) => Ok(ListEnd::Absent),

@@ -1,7 +1,7 @@
 //! The next record.
 ghost use Rattle.std.specs.Prelude.{length, IfErr};
 ghost use Rattle.indexed_file.specs.Calls.{MayAnswerShut};
-ghost use Rattle.record_listing.specs.Reading.{HasOpenFile, Reads, GoesOnTruly};
+ghost use Rattle.record_listing.specs.Reading.{HasOpenFile, OnlyReadsUnit, GoesOnTruly};
 
 use crate::asked::is_past;
 use indexed_file::{Found, Library};
@@ -17,7 +17,7 @@ pub fn next_record<L: Library>(
     area: &mut [u8],
 ) -> Result<Option<Found>, Fault>
     requires { HasOpenFile L.shown lib.old k (length area.old) }
-    ensures reads { Reads L.shown lib.old lib.new }
+    ensures reads { OnlyReadsUnit L.shown lib.old lib.new }
     ensures goes { GoesOnTruly L.shown lib.old lib.new k to.now position.now area.new result }
     ensures fault { IfErr result (MayAnswerShut L.shown 0 lib.old lib.new) }
 {

@@ -1,6 +1,6 @@
 //! The records of an open file, one after another.
 ghost use Rattle.std.specs.Prelude.{◌≡◌, ◌⊎◌, [], length, IfOk, IfErr, true, false};
-ghost use Rattle.record_forms.specs.Lines.{header_in};
+ghost use Rattle.record_forms.specs.Lines.{form_header};
 ghost use Rattle.record_listing.specs.Reading.{CanListFile, BringsOut, WritesOut, IsWritten, HandsOver};
 ghost use Rattle.record_listing.specs.Reading.{HoldsRecord};
 
@@ -123,7 +123,7 @@ fn blank_area(alloc: Global, size: u16) -> Result<Vec<u8>, AllocError>
 
 /// Writes what stands before the first line.
 fn write_header<W: Write>(alloc: Global, form: &Form, out: &mut W) -> Result<(), Stop>
-    ensures written { IsWritten (header_in form.now) (W.contents out.old) (W.contents out.new) result }
+    ensures written { IsWritten (form_header form.now) (W.contents out.old) (W.contents out.new) result }
     ensures cause { IfErr result (λ stop. (stop ≡ Stop.Output) ⊎ (stop ≡ Stop.Library Fault.Memory)) }
 {
     let mut header = Vec::new(alloc);

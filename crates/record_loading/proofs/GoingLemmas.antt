@@ -18,7 +18,7 @@ use Rattle.record_reading.specs.ReadLine.{ReadsRecord, BeginsWithNoRecord}
 use Rattle.record_reading.specs.Header.{header_lines}
 use Rattle.record_loading.specs.declared.end.LinesEnd.TheVariants.{NoRecord}
 use Rattle.record_loading.specs.Loading.{Listing, IsWrittenUpTo, IsRefusedAt}
-use Rattle.record_loading.specs.Going.{GoesOn, LeavesLines}
+use Rattle.record_loading.specs.Going.{LoadGoesOn, LeavesLines}
 use Rattle.record_loading.proofs.RealLemmas.{real_goes, real_both}
 use Rattle.record_loading.proofs.WrittenLemmas.{written_here, refused_here}
 
@@ -33,7 +33,7 @@ only_self : (w : World) → OnlyAt 0 w w
 only_self w = λ i. record { units = set_self w.units i; elsewhere = w.elsewhere }
 
 module _ {S : Type 0} (shown : Shown S) where
-  pub goes_self : (held : Held) (library : S) → Fits held (shown.world library) 0 → GoesOn shown (in_memory held library []) (in_memory held library [])
+  pub goes_self : (held : Held) (library : S) → Fits held (shown.world library) 0 → LoadGoesOn shown (in_memory held library []) (in_memory held library [])
   goes_self held library fits = record {
     fits = fits;
     schema = refl;
@@ -45,7 +45,7 @@ module _ {S : Type 0} (shown : Shown S) where
 
   -- a statement that was performed
   pub goes_performed : (statement : FileStatement) (n : ℕ) (before : FileInMemory S) (answer : Answer) (after : FileInMemory S) → IsPerformed shown 0 statement n before answer after
-      → GoesOn shown (in_memory before.held before.library []) (in_memory after.held after.library [])
+      → LoadGoesOn shown (in_memory before.held before.library []) (in_memory after.held after.library [])
   goes_performed statement n before answer after does = record {
     fits = does.fits;
     schema = does.schema;
@@ -55,14 +55,14 @@ module _ {S : Type 0} (shown : Shown S) where
     real = λ honest truly standing. real_goes shown _ _ before.library after.library (does.images honest truly standing);
   }
 
-  module _ (a b c : FileInMemory S) (some : 0 < length (shown.world a.library).units) (first : GoesOn shown a b) where
+  module _ (a b c : FileInMemory S) (some : 0 < length (shown.world a.library).units) (first : LoadGoesOn shown a b) where
     -- what is to be believed of a later part
     pub trusted : (fact : Type 0) → Keeps shown b.library c.library → Trusted shown 0 b c fact → Trusted shown 0 a c fact
     trusted fact keeps believed honest truly standing =
         let before = keeps.honest honest in
         believed honest (still_true shown a.library b.library some first.only first.keeps before truly) (first.standing before truly standing)
 
-    pub goes_both : JoinsStretches shown.moments → EndsNow shown.moments → GoesOn shown b c → GoesOn shown a c
+    pub goes_both : JoinsStretches shown.moments → EndsNow shown.moments → LoadGoesOn shown b c → LoadGoesOn shown a c
     goes_both joins ends second = record {
       fits = second.fits;
       schema = second.schema ∙ first.schema;
@@ -83,7 +83,7 @@ module _ {S : Type 0} (shown : Shown S) where
 
   -- a record was read, and WRITE was answered so
   module _ (a : FileInMemory S) (held after : Held) (library later : S) (area area_now : List ℕ) (n : ℕ) (status : Status) (list : Listing) (rest behind : List ℕ) (count : ℕ)
-      (some : 0 < length (shown.world a.library).units) (goes : GoesOn shown (in_memory a.held a.library []) (in_memory held library []))
+      (some : 0 < length (shown.world a.library).units) (goes : LoadGoesOn shown (in_memory a.held a.library []) (in_memory held library []))
       (does : IsPerformed shown 0 Write n (in_memory held library area_now) (silent status) (in_memory after later area_now))
       (so_far : Trusted shown 0 (in_memory a.held a.library []) (in_memory held library []) (IsWrittenUpTo a.held.connector.schema list count rest (state_in shown 0 a) (state_in shown 0 (in_memory held library area))))
       (reads : ReadsRecord list.form rest a.held.connector.schema.least area area_now n behind) (whole : length area ≡ a.held.connector.schema.greatest) (same : length area_now ≡ length area) where

@@ -17,7 +17,7 @@ use Rattle.verbs.specs.Verbs.{perform}
 use Rattle.record_loading.specs.declared.end.LinesEnd.{LinesEnd}
 use Rattle.record_loading.specs.declared.end.LoadEnd.TheVariants.{NotOpened, Opened}
 use Rattle.record_loading.specs.Loading.{Listing, LinesLeave}
-use Rattle.record_loading.specs.Going.{GoesOn, LeavesLines, LoadsUnit}
+use Rattle.record_loading.specs.Going.{LoadGoesOn, LeavesLines, LoadsUnit}
 use Rattle.record_loading.proofs.WrittenLemmas.{success_step}
 use Rattle.record_loading.proofs.GoingLemmas.{goes_performed, goes_both, trusted}
 
@@ -33,7 +33,7 @@ opens_at_start shown schema copied mode start begun connector opened status copy
 
 module _ {S : Type 0} (shown : Shown S) (schema : Schema) (mode : OpenMode) (list : Listing) (area : List ℕ) (start begun : S) (opened : Held) (status : Status)
     (opens : PerformsWithout shown 0 (Open mode) (at_start schema) start status opened begun) where
-  pub goes_open : GoesOn shown (in_memory (at_start schema) start []) (in_memory opened begun [])
+  pub goes_open : LoadGoesOn shown (in_memory (at_start schema) start []) (in_memory opened begun [])
   goes_open = goes_performed shown (Open mode) 0 (in_memory (at_start schema) start []) (silent status) (in_memory opened begun []) (opens 0 [])
 
   -- OPEN was no success
@@ -47,13 +47,13 @@ module _ {S : Type 0} (shown : Shown S) (schema : Schema) (mode : OpenMode) (lis
 
   -- the lines were written, and the file was closed
   module _ (joins : JoinsStretches shown.moments) (ends : EndsNow shown.moments) (some : 0 < length (shown.world start).units) (success : is_successful status ≡ true) (between end : S) (written closed : Held) (lines : LinesEnd) (answer : Status)
-      (goes : GoesOn shown (in_memory opened begun []) (in_memory written between []))
+      (goes : LoadGoesOn shown (in_memory opened begun []) (in_memory written between []))
       (does : Trusted shown 0 (in_memory opened begun []) (in_memory written between []) (LeavesLines shown list lines (in_memory opened begun area) (in_memory written between [])))
       (closes : PerformsWithout shown 0 (Close false) written between answer closed end) where
-    goes_lines : GoesOn shown (in_memory (at_start schema) start []) (in_memory written between [])
+    goes_lines : LoadGoesOn shown (in_memory (at_start schema) start []) (in_memory written between [])
     goes_lines = goes_both shown (in_memory (at_start schema) start []) (in_memory opened begun []) (in_memory written between []) some goes_open joins ends goes
 
-    pub goes_all : GoesOn shown (in_memory (at_start schema) start []) (in_memory closed end [])
+    pub goes_all : LoadGoesOn shown (in_memory (at_start schema) start []) (in_memory closed end [])
     goes_all =
         goes_both shown (in_memory (at_start schema) start []) (in_memory written between []) (in_memory closed end []) some goes_lines joins ends
         (goes_performed shown (Close false) 0 (in_memory written between []) (silent answer) (in_memory closed end []) (closes 0 []))

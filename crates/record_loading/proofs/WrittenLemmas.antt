@@ -14,7 +14,7 @@ use Rattle.verbs.specs.Faults.{is_unclean}
 use Rattle.verbs.specs.Marred.{Step}
 use Rattle.verbs.specs.Verbs.{perform}
 use Rattle.deck_runner.proofs.CleanLemmas.{clean_step}
-use Rattle.record_forms.specs.Lines.{line_in, header_in}
+use Rattle.record_forms.specs.Lines.{line_in, form_header}
 use Rattle.record_reading.specs.ReadLine.{ReadsRecord}
 use Rattle.record_loading.specs.Loading.{Listing, CanBeRecord, with_record, write_of, AreWritten, IsWrittenUpTo, IsRefusedAt}
 
@@ -101,7 +101,7 @@ module _ (list : Listing) (schema : Schema) (text : List ℕ) (s : FileState) (a
       let should : write_of bytes s ≡ answers status next = success_step Write (length bytes) (with_record bytes s) status next success (step_is (answers status next) step) in
       record {
         records = records ++ bytes ∷ [];
-        text_is = so_far.text_is ∙ ap (λ (l : List ℕ). header_in list.form ++ l)
+        text_is = so_far.text_is ∙ ap (λ (l : List ℕ). form_header list.form ++ l)
             (ap (λ (l : List ℕ). flat_map line records ++ l) reads.line.line
             ∙ sym (append_assoc (flat_map line records) (line bytes) behind)
             ∙ ap (λ (l : List ℕ). l ++ behind) (sym (flat_map-append line records (bytes ∷ []) ∙ ap (λ (l : List ℕ). flat_map line records ++ l) (append-nil (line bytes)))));

@@ -12,7 +12,7 @@ use Rattle.verbs.specs.Fits.{Fits}
 use Rattle.verbs.specs.Held.{Held, state_of, held_at_start}
 use Rattle.verbs.specs.Performed.{FileInMemory, StaysStanding, Trusted, in_memory, state_in}
 use Rattle.record_forms.specs.declared.form.Form.{Form}
-use Rattle.record_reading.specs.Whole.{IsWhole}
+use Rattle.record_reading.specs.Whole.{IsWholeForm}
 use Rattle.record_loading.specs.declared.end.LinesEnd.{LinesEnd}
 use Rattle.record_loading.specs.declared.end.LoadEnd.{LoadEnd}
 use Rattle.record_loading.specs.Loading.{Listing, listing, LinesLeave, Loads}
@@ -21,7 +21,7 @@ use Rattle.record_loading.specs.Real.{AllStayReal}
 -- the area is as long as the greatest record, of which the columns of the form are the whole
 pub record HasAreaFor (form : Form) (schema : Schema) (area : List ℕ) : Type 0 where
   pub length_is : length area ≡ schema.greatest
-  pub whole : IsWhole form (length area)
+  pub whole : IsWholeForm form (length area)
 
 -- records of lines in a form can be written: the connector goes with its unit, this is the least
 -- length of its records, and the area fits
@@ -35,7 +35,7 @@ pub record TakesLines {S : Type 0} (shown : Shown S) (form : Form) (shortest : �
 -- every part: the connector goes with its unit and keeps its schema, nothing else is changed, the
 -- library keeps what every call of it does, what the connector keeps stays true, and no image
 -- becomes a false one
-pub record GoesOn {S : Type 0} (shown : Shown S) (before after : FileInMemory S) : Type 0 where
+pub record LoadGoesOn {S : Type 0} (shown : Shown S) (before after : FileInMemory S) : Type 0 where
   pub fits : Fits after.held (shown.world after.library) 0
   pub schema : after.held.connector.schema ≡ before.held.connector.schema
   pub only : OnlyAt 0 (shown.world before.library) (shown.world after.library)
@@ -53,7 +53,7 @@ LeavesLines shown list lines before after =
 -- the lines of a text were written, up to this end
 pub record WritesListing {S : Type 0} (shown : Shown S) (list : Listing) (before after : FileInMemory S)
     (end : LinesEnd) : Type 0 where
-  pub goes : GoesOn shown (in_memory before.held before.library []) after
+  pub goes : LoadGoesOn shown (in_memory before.held before.library []) after
   pub lines : Trusted shown 0 (in_memory before.held before.library []) after
       (LeavesLines shown list end before after)
 

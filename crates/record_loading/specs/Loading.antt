@@ -16,7 +16,7 @@ use Rattle.verbs.specs.Fits.{IsRecordOf}
 use Rattle.verbs.specs.Marred.{Step}
 use Rattle.verbs.specs.Verbs.{perform}
 use Rattle.record_forms.specs.declared.form.Form.{Form}
-use Rattle.record_forms.specs.Lines.{line_in, header_in}
+use Rattle.record_forms.specs.Lines.{line_in, form_header}
 use Rattle.record_reading.specs.ReadLine.{AreBytes, BeginsWithNoRecord}
 use Rattle.record_reading.specs.Header.{header_lines, LacksHeader}
 use Rattle.record_loading.specs.declared.end.Load.{Load}
@@ -66,7 +66,7 @@ AreWritten schema (bytes ∷ records) before after =
 pub record IsWrittenUpTo (schema : Schema) (list : Listing) (count : ℕ) (rest : List ℕ)
     (before after : FileState) : Type 0 where
   pub records : List (List ℕ)
-  pub text_is : list.text ≡ header_in list.form ++ (flat_map (line_in list.form) records ++ rest)
+  pub text_is : list.text ≡ form_header list.form ++ (flat_map (line_in list.form) records ++ rest)
   pub count_is : count ≡ length records
   pub written : AreWritten schema records before after
 
@@ -121,8 +121,8 @@ Loads schema mode list before (Opened lines closed) after =
     IsLoaded schema mode list before lines closed after
 
 -- the file of a name before it: its connector is closed, in dynamic access, and its record area all spaces
-abbrev pub file_before : World → List ℕ → Schema → FileState
-file_before world name schema = record {
+abbrev pub file_before_load : World → List ℕ → Schema → FileState
+file_before_load world name schema = record {
   connector = closed_connector Dynamic false schema;
   named = named_in world name;
   file = None;
@@ -133,7 +133,7 @@ file_before world name schema = record {
 pub record LoadsNamed (name : List ℕ) (schema : Schema) (mode : OpenMode) (list : Listing) (old : World)
     (end : LoadEnd) (new : World) : Type 0 where
   pub after : FileState
-  pub loads : Loads schema mode list (file_before old name schema) end after
+  pub loads : Loads schema mode list (file_before_load old name schema) end after
   pub named : named_in new name ≡ after.named
 
 -- so it does, where the library is honest after it, and what the name showed before it was true

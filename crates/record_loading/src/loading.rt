@@ -3,8 +3,8 @@ ghost use Rattle.std.specs.Prelude.{◌≡◌, replicate, OnErr, IfOk};
 ghost use Rattle.indexed_file.specs.World.{OnlyAt};
 ghost use Rattle.indexed_file.specs.Calls.{Keeps};
 ghost use Rattle.deck_runner.specs.Beginning.{IsUntouched};
-ghost use Rattle.record_forms.specs.Lines.{header_in};
-ghost use Rattle.record_reading.specs.Whole.{IsWhole};
+ghost use Rattle.record_forms.specs.Lines.{form_header};
+ghost use Rattle.record_reading.specs.Whole.{IsWholeForm};
 ghost use Rattle.record_listing.specs.Listing.{HasShutUnit, TrueFor};
 ghost use Rattle.record_loading.specs.Loading.{listing, LoadsText, OthersStay};
 ghost use Rattle.record_loading.specs.Going.{HasAreaFor, LoadsUnitTruly};
@@ -31,7 +31,7 @@ fn blank_area(alloc: Global, size: u16) -> Result<Vec<u8>, AllocError>
 
 /// What stands before the first record of a text in a form.
 fn header_of(alloc: Global, form: &Form) -> Result<Vec<u8>, AllocError>
-    ensures { IfOk result (λ header. header.items ≡ header_in form.now) }
+    ensures { IfOk result (λ header. header.items ≡ form_header form.now) }
 {
     let mut header = Vec::new(alloc);
     append_header(&mut header, form)?;
@@ -51,7 +51,7 @@ fn load_attached<L: Library, P: Progress>(
 ) -> LoadEnd
     requires unit { HasShutUnit L.shown lib.old }
     requires area { HasAreaFor form.now schema.now area.old }
-    requires header { header.now ≡ header_in form.now }
+    requires header { header.now ≡ form_header form.now }
     ensures loads { LoadsUnitTruly L.shown lib.old lib.new schema.now mode (listing form.now text.now)
         area.old result }
     ensures only { OnlyAt 0 (L.shown.world lib.old) (L.shown.world lib.new) }
@@ -95,7 +95,7 @@ pub fn load_records<L: Library, P: Progress>(
     text: &[u8],
     progress: &mut P,
 ) -> Result<LoadEnd, LoadFault>
-    requires whole { IsWhole form.now schema.now.greatest }
+    requires whole { IsWholeForm form.now schema.now.greatest }
     ensures loads { IfOk result
         (LoadsText L.shown name.bytes schema.now load form.now text.now lib.old lib.new) }
     ensures real { TrueFor L.shown name.bytes lib.old lib.new (AllStayReal L.shown lib.old lib.new) }

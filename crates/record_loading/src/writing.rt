@@ -1,6 +1,6 @@
 //! The records of lines are written into an open file.
 ghost use Rattle.std.specs.Prelude.{◌≡◌, ◌++◌};
-ghost use Rattle.record_forms.specs.Lines.{header_in};
+ghost use Rattle.record_forms.specs.Lines.{form_header};
 ghost use Rattle.verbs.specs.Performed.{in_memory};
 ghost use Rattle.record_loading.specs.Going.{TakesLines, WritesLinesOf};
 
@@ -31,7 +31,7 @@ fn write_lines<L: Library, P: Progress>(
     progress: &mut P,
 ) -> LinesEnd
     requires takes { TakesLines L.shown form.now least (in_memory connector.old lib.old area.old) }
-    requires lines { text.now ≡ header_in form.now ++ lines.now }
+    requires lines { text.now ≡ form_header form.now ++ lines.now }
     ensures { WritesLinesOf L.shown form.now text.now connector.old lib.old area.old
         connector.new lib.new result }
 {
@@ -73,7 +73,7 @@ pub fn write_listing<L: Library, P: Progress>(
     progress: &mut P,
 ) -> LinesEnd
     requires takes { TakesLines L.shown form.now least (in_memory connector.old lib.old area.old) }
-    requires header { header.now ≡ header_in form.now }
+    requires header { header.now ≡ form_header form.now }
     ensures { WritesLinesOf L.shown form.now text.now connector.old lib.old area.old
         connector.new lib.new result }
 {

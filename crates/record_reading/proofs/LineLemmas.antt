@@ -4,11 +4,11 @@ use Rattle.std.proofs.lemmas.List.Concat.{flat_map-append}
 use Rattle.deck_runner.specs.Line.{shown_byte}
 use Rattle.record_forms.specs.declared.column.Column.{Column}
 use Rattle.record_forms.specs.declared.form.Form.{Form}
-use Rattle.record_forms.specs.Columns.{text_of, cell_of, value_of, name_of}
-use Rattle.record_forms.specs.Csv.{doubled, field, fields, csv_line}
+use Rattle.record_forms.specs.Columns.{text_of, cell_of, column_value, column_name}
+use Rattle.record_forms.specs.Csv.{doubled_quote, field, fields, csv_line}
 use Rattle.record_forms.specs.Json.{escaped, member, members, json_line}
 use Rattle.record_forms.specs.Lines.{line_in, member_of}
-use Rattle.record_forms.specs.Parts.{part_of}
+use Rattle.record_forms.specs.Parts.{part_of_column}
 use Rattle.record_reading.specs.declared.quoted.Quoting.TheVariants.{Doubled, Escaped}
 use Rattle.record_reading.specs.ReadLine.{AreBytes, ReadsRecord, BeginsWithNoRecord}
 use Rattle.record_reading.specs.Whole.{AreTiled}
@@ -21,8 +21,8 @@ fused : (f : ℕ → List ℕ) (bytes : List ℕ) → flat_map f (text_of bytes)
 fused f [] = refl
 fused f (byte ∷ bytes) = flat_map-append f (shown_byte byte) (text_of bytes) ∙ ap (λ (l : List ℕ). flat_map f (shown_byte byte) ++ l) (fused f bytes)
 
-in_csv : (bytes : List ℕ) → flat_map doubled (text_of bytes) ≡ inside Doubled bytes
-in_csv bytes = fused doubled bytes
+in_csv : (bytes : List ℕ) → flat_map doubled_quote (text_of bytes) ≡ inside Doubled bytes
+in_csv bytes = fused doubled_quote bytes
 
 in_json : (bytes : List ℕ) → flat_map escaped (text_of bytes) ≡ inside Escaped bytes
 in_json bytes = fused escaped bytes
@@ -34,33 +34,33 @@ cell_at column bytes from is = ap (λ (n : ℕ). take column.length (drop n byte
 -- ---- CSV
 
 field_then : (column : Column) (bytes : List ℕ) (from : ℕ) (rest behind : List ℕ) → column.offset ≡ from
-    → (field (value_of bytes column) ++ rest) ++ behind ≡ 34 ∷ (inside Doubled (take column.length (drop from bytes)) ++ (34 ∷ (rest ++ behind)))
+    → (field (column_value bytes column) ++ rest) ++ behind ≡ 34 ∷ (inside Doubled (take column.length (drop from bytes)) ++ (34 ∷ (rest ++ behind)))
 field_then column bytes from rest behind is =
-    let d = flat_map doubled (value_of bytes column) in
+    let d = flat_map doubled_quote (column_value bytes column) in
     ap (λ (l : List ℕ). 34 ∷ l) (append_assoc (d ++ 34 ∷ []) rest behind ∙ append_assoc d (34 ∷ []) (rest ++ behind)
     ∙ ap (λ (l : List ℕ). l ++ (34 ∷ (rest ++ behind))) (in_csv (cell_of column bytes) ∙ ap (inside Doubled) (cell_at column bytes from is)))
 
-more_fields : (bytes : List ℕ) (columns : List Column) (from end : ℕ) → AreTiled from (map part_of columns) end → (behind : List ℕ)
-    → flat_map (λ (more : List ℕ). 44 ∷ field more) (map (value_of bytes) columns) ++ behind ≡ values_text Doubled false columns (drop from bytes) behind
+more_fields : (bytes : List ℕ) (columns : List Column) (from end : ℕ) → AreTiled from (map part_of_column columns) end → (behind : List ℕ)
+    → flat_map (λ (more : List ℕ). 44 ∷ field more) (map (column_value bytes) columns) ++ behind ≡ values_text Doubled false columns (drop from bytes) behind
 more_fields bytes [] from end is behind = refl
 more_fields bytes (column ∷ columns) from end is behind =
-    let rest = flat_map (λ (more : List ℕ). 44 ∷ field more) (map (value_of bytes) columns) in
+    let rest = flat_map (λ (more : List ℕ). 44 ∷ field more) (map (column_value bytes) columns) in
     ap (λ (l : List ℕ). 44 ∷ l) (field_then column bytes from rest behind is.0
     ∙ ap (λ (l : List ℕ). 34 ∷ (inside Doubled (take column.length (drop from bytes)) ++ (34 ∷ l)))
     (more_fields bytes columns (from + column.length) end is.1 behind ∙ ap (λ (l : List ℕ). values_text Doubled false columns l behind) (sym (drop-drop column.length from bytes))))
 
-all_fields : (bytes : List ℕ) (columns : List Column) (end : ℕ) → AreTiled 0 (map part_of columns) end → (behind : List ℕ)
-    → fields (map (value_of bytes) columns) ++ behind ≡ values_text Doubled true columns bytes behind
+all_fields : (bytes : List ℕ) (columns : List Column) (end : ℕ) → AreTiled 0 (map part_of_column columns) end → (behind : List ℕ)
+    → fields (map (column_value bytes) columns) ++ behind ≡ values_text Doubled true columns bytes behind
 all_fields bytes [] end is behind = refl
 all_fields bytes (column ∷ columns) end is behind =
-    let rest = flat_map (λ (more : List ℕ). 44 ∷ field more) (map (value_of bytes) columns) in
+    let rest = flat_map (λ (more : List ℕ). 44 ∷ field more) (map (column_value bytes) columns) in
     field_then column bytes 0 rest behind is.0
     ∙ ap (λ (l : List ℕ). 34 ∷ (inside Doubled (take column.length bytes) ++ (34 ∷ l)))
     (more_fields bytes columns (0 + column.length) end is.1 behind ∙ ap (λ (n : ℕ). values_text Doubled false columns (drop n bytes) behind) (let e : 0 + column.length ≡ column.length = omega arith in e))
 
-pub csv_is : (bytes : List ℕ) (columns : List Column) (end : ℕ) → AreTiled 0 (map part_of columns) end → (behind : List ℕ)
-    → csv_line (map (value_of bytes) columns) ++ behind ≡ values_text Doubled true columns bytes (13 ∷ 10 ∷ behind)
-csv_is bytes columns end is behind = append_assoc (fields (map (value_of bytes) columns)) (13 ∷ 10 ∷ []) behind ∙ all_fields bytes columns end is (13 ∷ 10 ∷ behind)
+pub csv_is : (bytes : List ℕ) (columns : List Column) (end : ℕ) → AreTiled 0 (map part_of_column columns) end → (behind : List ℕ)
+    → csv_line (map (column_value bytes) columns) ++ behind ≡ values_text Doubled true columns bytes (13 ∷ 10 ∷ behind)
+csv_is bytes columns end is behind = append_assoc (fields (map (column_value bytes) columns)) (13 ∷ 10 ∷ []) behind ∙ all_fields bytes columns end is (13 ∷ 10 ∷ behind)
 
 -- ---- JSON
 
@@ -68,8 +68,8 @@ member_then : (column : Column) (bytes : List ℕ) (from : ℕ) (rest behind : L
     → (member (member_of bytes column) ++ rest) ++ behind
     ≡ 34 ∷ (inside Escaped column.name.bytes ++ (34 ∷ 58 ∷ 34 ∷ (inside Escaped (take column.length (drop from bytes)) ++ (34 ∷ (rest ++ behind)))))
 member_then column bytes from rest behind is =
-    let n = flat_map escaped (name_of column) in
-    let v = flat_map escaped (value_of bytes column) in
+    let n = flat_map escaped (column_name column) in
+    let v = flat_map escaped (column_value bytes column) in
     let tail = 34 ∷ (v ++ 34 ∷ []) in
     ap (λ (l : List ℕ). 34 ∷ l) (append_assoc ((n ++ 34 ∷ []) ++ (58 ∷ tail)) rest behind ∙ append_assoc (n ++ 34 ∷ []) (58 ∷ tail) (rest ++ behind) ∙ append_assoc n (34 ∷ []) (58 ∷ (tail ++ (rest ++ behind)))
     ∙ ap (λ (l : List ℕ). n ++ (34 ∷ 58 ∷ 34 ∷ l)) (append_assoc v (34 ∷ []) (rest ++ behind)
@@ -79,7 +79,7 @@ member_then column bytes from rest behind is =
 abbrev member_text : Column → (cell behind : List ℕ) → List ℕ
 member_text column cell behind = 34 ∷ (inside Escaped column.name.bytes ++ (34 ∷ 58 ∷ 34 ∷ (inside Escaped cell ++ (34 ∷ behind))))
 
-more_members : (bytes : List ℕ) (columns : List Column) (from end : ℕ) → AreTiled from (map part_of columns) end → (behind : List ℕ)
+more_members : (bytes : List ℕ) (columns : List Column) (from end : ℕ) → AreTiled from (map part_of_column columns) end → (behind : List ℕ)
     → flat_map (λ more. 44 ∷ member more) (map (member_of bytes) columns) ++ behind ≡ values_text Escaped false columns (drop from bytes) behind
 more_members bytes [] from end is behind = refl
 more_members bytes (column ∷ columns) from end is behind =
@@ -88,7 +88,7 @@ more_members bytes (column ∷ columns) from end is behind =
     ∙ ap (member_text column (take column.length (drop from bytes)))
     (more_members bytes columns (from + column.length) end is.1 behind ∙ ap (λ (l : List ℕ). values_text Escaped false columns l behind) (sym (drop-drop column.length from bytes))))
 
-all_members : (bytes : List ℕ) (columns : List Column) (end : ℕ) → AreTiled 0 (map part_of columns) end → (behind : List ℕ)
+all_members : (bytes : List ℕ) (columns : List Column) (end : ℕ) → AreTiled 0 (map part_of_column columns) end → (behind : List ℕ)
     → members (map (member_of bytes) columns) ++ behind ≡ values_text Escaped true columns bytes behind
 all_members bytes [] end is behind = refl
 all_members bytes (column ∷ columns) end is behind =
@@ -97,7 +97,7 @@ all_members bytes (column ∷ columns) end is behind =
     ∙ ap (member_text column (take column.length bytes))
     (more_members bytes columns (0 + column.length) end is.1 behind ∙ ap (λ (n : ℕ). values_text Escaped false columns (drop n bytes) behind) (let e : 0 + column.length ≡ column.length = omega arith in e))
 
-pub json_is : (bytes : List ℕ) (columns : List Column) (end : ℕ) → AreTiled 0 (map part_of columns) end → (behind : List ℕ)
+pub json_is : (bytes : List ℕ) (columns : List Column) (end : ℕ) → AreTiled 0 (map part_of_column columns) end → (behind : List ℕ)
     → json_line (map (member_of bytes) columns) ++ behind ≡ 123 ∷ values_text Escaped true columns bytes (125 ∷ 10 ∷ behind)
 json_is bytes columns end is behind =
     ap (λ (l : List ℕ). 123 ∷ l) (append_assoc (members (map (member_of bytes) columns)) (125 ∷ 10 ∷ []) behind ∙ all_members bytes columns end is (125 ∷ 10 ∷ behind))
@@ -111,9 +111,9 @@ ends_json : (behind : List ℕ) → EndsValue Escaped (125 ∷ 10 ∷ behind)
 ends_json behind = no_byte_in_json (125 ∷ 10 ∷ behind)
 
 -- the values are a part, and the line is one
-module _ (columns : List Column) (text area : List ℕ) (whole : AreTiled 0 (map part_of columns) (length area)) where
+module _ (columns : List Column) (text area : List ℕ) (whole : AreTiled 0 (map part_of_column columns) (length area)) where
   abbrev pub csv_text : List ℕ → List ℕ → List ℕ
-  csv_text bytes behind = csv_line (map (value_of bytes) columns) ++ behind
+  csv_text bytes behind = csv_line (map (column_value bytes) columns) ++ behind
 
   abbrev pub json_text : List ℕ → List ℕ → List ℕ
   json_text bytes behind = json_line (map (member_of bytes) columns) ++ behind

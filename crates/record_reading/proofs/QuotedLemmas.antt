@@ -3,7 +3,7 @@ use Rattle.std.proofs.Common.{◌≡◌, ◌≢◌, ◌<◌, ℕ, ◌+◌, ◌/�
 use Rattle.std.specs.Prelude.{if◌then◌else◌, nat_lt}
 use Rattle.std.proofs.lemmas.Bool.{ne_eqb, eqb-true, ltb-true, ltb-false}
 use Rattle.deck_runner.specs.Line.{hex_digit, is_plain, shown_byte}
-use Rattle.record_forms.specs.Csv.{doubled}
+use Rattle.record_forms.specs.Csv.{doubled_quote}
 use Rattle.record_forms.specs.Json.{escaped}
 use Rattle.record_reading.specs.declared.quoted.Quoting.{Quoting}
 use Rattle.record_reading.specs.declared.quoted.Quoting.TheVariants.{Doubled, Escaped}
@@ -57,7 +57,7 @@ digit_92 n = ne_eqb (hex_digit n) 92 (λ e. digit_no_backslash n (nat_lt n 10) r
 
 -- ---- characters
 
-one_doubled : (a : ℕ) → (a == 34) ≡ false → doubled a ≡ a ∷ []
+one_doubled : (a : ℕ) → (a == 34) ≡ false → doubled_quote a ≡ a ∷ []
 one_doubled a e = ap (λ (b : Bool). if b then 34 ∷ 34 ∷ [] else a ∷ []) e
 
 one_escaped : (a : ℕ) → (a == 34) ≡ false → (a == 92) ≡ false → escaped a ≡ a ∷ []
@@ -90,10 +90,10 @@ doubled_other byte other = by_look (is_plain byte) refl
   where
     by_look : (plain : Bool) → is_plain byte ≡ plain → quoted_byte Doubled byte ≡ shown_byte byte
     by_look true p =
-        ap (flat_map doubled) (shown_plain byte p) ∙ ap (λ (l : List ℕ). l ++ []) (one_doubled byte (ne_eqb byte 34 other)) ∙ sym (shown_plain byte p)
+        ap (flat_map doubled_quote) (shown_plain byte p) ∙ ap (λ (l : List ℕ). l ++ []) (one_doubled byte (ne_eqb byte 34 other)) ∙ sym (shown_plain byte p)
     by_look false p =
-        ap (flat_map doubled) (shown_coded byte p)
-        ∙ ap (λ (l : List ℕ). 92 ∷ l) (two doubled (hex_digit (byte / 16)) (hex_digit (byte % 16)) (one_doubled _ (digit_34 (byte / 16))) (one_doubled _ (digit_34 (byte % 16))))
+        ap (flat_map doubled_quote) (shown_coded byte p)
+        ∙ ap (λ (l : List ℕ). 92 ∷ l) (two doubled_quote (hex_digit (byte / 16)) (hex_digit (byte % 16)) (one_doubled _ (digit_34 (byte / 16))) (one_doubled _ (digit_34 (byte % 16))))
         ∙ sym (shown_coded byte p)
 
 -- in JSON: a character that stands as itself, and one that is shown by its digits, whose backslash stands behind another one

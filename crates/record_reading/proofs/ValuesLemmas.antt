@@ -5,12 +5,12 @@ use Rattle.std.proofs.lemmas.Bool.{eqb-true, eq-eqb, ne_eqb}
 use Rattle.std.proofs.lemmas.List.{take-append-drop, length-take, drop_all, take_all}
 use Rattle.std.proofs.Math.Seq.{take-append_seam, drop-append_seam, take-nil, drop-nil}
 use Rattle.record_forms.specs.declared.column.Column.{Column}
-use Rattle.record_forms.specs.Parts.{Part, part_of}
+use Rattle.record_forms.specs.Parts.{Part, part_of_column}
 use Rattle.record_reading.specs.declared.quoted.Quoting.{Quoting}
 use Rattle.record_reading.specs.declared.quoted.Quoting.TheVariants.{Doubled, Escaped}
 use Rattle.record_reading.specs.ReadLine.{AreBytes}
 use Rattle.record_reading.specs.Whole.{AreTiled}
-use Rattle.record_reading.specs.Quoted.{inside, behind_label, value_text, values_text, end_of}
+use Rattle.record_reading.specs.Quoted.{inside, behind_label, value_text, values_text, column_end}
 use Rattle.record_reading.specs.Part.{ReadsPart, HasNoPart, EndsValue}
 use Rattle.record_reading.proofs.CellLemmas.{both_bytes}
 use Rattle.record_reading.proofs.QuotedLemmas.{no_byte_in_csv, no_byte_in_json}
@@ -77,7 +77,7 @@ pub record IsRest (quoting : Quoting) (is_first : Bool) (left : List Column) (st
 -- the values of the first columns were read; those on the left begin at `start`, and have no bytes where fewer were read
 pub record AreReadUpTo (quoting : Quoting) (columns : List Column) (text area : List ℕ) (is_first : Bool) (left : List Column) (area_now : List ℕ) (at : ℕ) (rest : List ℕ) : Type 0 where
   pub start : ℕ
-  pub tiled : AreTiled start (map part_of left) (length area)
+  pub tiled : AreTiled start (map part_of_column left) (length area)
   pub before : at ≤ start
   pub are_bytes : AreBytes (take at area_now)
   pub same : length area_now ≡ length area
@@ -132,24 +132,24 @@ module _ (quoting : Quoting) (columns : List Column) (text area : List ℕ) (is_
     offset_is = read.tiled.0
 
     -- up to where the bytes of the column may reach
-    at_end : (at ≡ read.start) → end_of column at ≡ at + column.length
+    at_end : (at ≡ read.start) → column_end column at ≡ at + column.length
     at_end here = ap (λ (b : Bool). if b then at + column.length else at) (eq-eqb at column.offset (here ∙ sym offset_is))
 
-    at_none : (at < read.start) → end_of column at ≡ at
+    at_none : (at < read.start) → column_end column at ≡ at
     at_none less =
         let offset = offset_is in
         ap (λ (b : Bool). if b then at + column.length else at) (ne_eqb at column.offset (λ same. omega (arith, same, less, offset)))
 
-    pub order : at ≤ end_of column at
+    pub order : at ≤ column_end column at
     order = by_test (at == column.offset)
       where
         by_test : (b : Bool) → at ≤ (if b then at + column.length else at)
         by_test true = omega arith
         by_test false = omega arith
 
-    pub room : end_of column at ≤ length area_now
+    pub room : column_end column at ≤ length area_now
     room =
-        let end = tiled_order (read.start + column.length) (map part_of after) (length area) read.tiled.1 in
+        let end = tiled_order (read.start + column.length) (map part_of_column after) (length area) read.tiled.1 in
         let before = read.before in
         let same = read.same in
         let most = by_test (at == column.offset) in
@@ -160,7 +160,7 @@ module _ (quoting : Quoting) (columns : List Column) (text area : List ℕ) (is_
         by_test false = omega arith
 
     -- no column is read where no bytes that have room give its value
-    room_for : (bytes : List ℕ) → (at < read.start → bytes ≡ []) → at + length (take column.length bytes) ≤ end_of column at
+    room_for : (bytes : List ℕ) → (at < read.start → bytes ≡ []) → at + length (take column.length bytes) ≤ column_end column at
     room_for bytes short = by_place (at == column.offset) refl
       where
         by_place : (b : Bool) → (at == column.offset) ≡ b → at + length (take column.length bytes) ≤ (if b then at + column.length else at)
@@ -173,7 +173,7 @@ module _ (quoting : Quoting) (columns : List Column) (text area : List ℕ) (is_
             let long : length (take column.length bytes) ≡ 0 = ap (λ (l : List ℕ). length (take column.length l)) none ∙ ap (λ (l : List ℕ). length l) (take-nil column.length) in
             omega (arith, long)
 
-    pub no_values : HasNoPart (value_text quoting is_first column.name.bytes) (EndsValue quoting) rest at (end_of column at)
+    pub no_values : HasNoPart (value_text quoting is_first column.name.bytes) (EndsValue quoting) rest at (column_end column at)
         → HasNoPart (values_text quoting true columns) (EndsValue quoting) text 0 (length area)
     no_values none bytes behind are few ends is =
         let known = read.from bytes behind are (omega (arith, few)) ends is in
@@ -183,7 +183,7 @@ module _ (quoting : Quoting) (columns : List Column) (text area : List ℕ) (is_
 
     -- one column more is read
     module _ (area_next : List ℕ) (next : ℕ) (behind_value : List ℕ)
-        (part : ReadsPart (value_text quoting is_first column.name.bytes) (EndsValue quoting) rest area_now at (end_of column at) area_next next behind_value) where
+        (part : ReadsPart (value_text quoting is_first column.name.bytes) (EndsValue quoting) rest area_now at (column_end column at) area_next next behind_value) where
       short_cell : length part.bytes ≤ column.length
       short_cell =
           let place = part.at_is in

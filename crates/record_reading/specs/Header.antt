@@ -2,7 +2,7 @@
 use Rattle.std.specs.Prelude.{◌≡◌, ℕ, List, ◌++◌}
 use Rattle.record_forms.specs.declared.form.Form.{Form}
 use Rattle.record_forms.specs.declared.form.Form.TheVariants.{Text, Csv, Json}
-use Rattle.record_forms.specs.Lines.{header_in}
+use Rattle.record_forms.specs.Lines.{form_header}
 
 -- how many lines that is
 abbrev pub header_lines : Form → ℕ
@@ -12,4 +12,4 @@ header_lines (Json columns) = 0
 
 -- a text does not begin with it; where it is nothing, each text does
 abbrev pub LacksHeader : Form → List ℕ → Type 0
-LacksHeader form text = (rest : List ℕ) → text ≡ header_in form ++ rest → ⊥
+LacksHeader form text = (rest : List ℕ) → text ≡ form_header form ++ rest → ⊥

@@ -2,7 +2,7 @@
 use Rattle.std.specs.Prelude.{◌≡◌, ◌≤◌, ℕ, ◌+◌, Bool, true, List, ◌∷◌, ◌++◌, length, map, take, drop, ⊤}
 use Rattle.record_forms.specs.declared.column.Column.{Column}
 use Rattle.record_forms.specs.declared.form.Form.{Form}
-use Rattle.record_forms.specs.Columns.{value_of}
+use Rattle.record_forms.specs.Columns.{column_value}
 use Rattle.record_forms.specs.Csv.{csv_line}
 use Rattle.record_forms.specs.Json.{json_line}
 use Rattle.record_forms.specs.Lines.{line_in, member_of}
@@ -91,7 +91,7 @@ pub record HasPlaces (area : List ℕ) (from to : ℕ) : Type 0 where
 
 -- a line of CSV
 abbrev pub csv_text : List Column → List ℕ → List ℕ → List ℕ
-csv_text columns bytes behind = csv_line (map (value_of bytes) columns) ++ behind
+csv_text columns bytes behind = csv_line (map (column_value bytes) columns) ++ behind
 
 -- a line of JSON
 abbrev pub json_text : List Column → List ℕ → List ℕ → List ℕ

@@ -3,7 +3,7 @@ use Rattle.std.specs.Prelude.{◌≡◌, ℕ, ◌+◌, ◌==◌, ◌<◌, Bool, 
 use Rattle.std.specs.Prelude.{drop, length, Option, None, IfSome, ◌≤◌, if◌then◌else◌}
 use Rattle.deck_runner.specs.Line.{shown_byte}
 use Rattle.record_forms.specs.declared.column.Column.{Column}
-use Rattle.record_forms.specs.Csv.{doubled}
+use Rattle.record_forms.specs.Csv.{doubled_quote}
 use Rattle.record_forms.specs.Json.{escaped}
 use Rattle.record_reading.specs.declared.quoted.Quoting.{Quoting}
 use Rattle.record_reading.specs.declared.shown.ShownByte.{ShownByte}
@@ -11,7 +11,7 @@ use Rattle.record_reading.specs.declared.quoted.Quoting.TheVariants.{Doubled, Es
 
 -- a byte of a record, as it stands in quotes
 abbrev pub quoted_byte : Quoting → ℕ → List ℕ
-quoted_byte Doubled byte = flat_map doubled (shown_byte byte)
+quoted_byte Doubled byte = flat_map doubled_quote (shown_byte byte)
 quoted_byte Escaped byte = flat_map escaped (shown_byte byte)
 
 -- bytes, as they stand in quotes
@@ -70,5 +70,5 @@ values_text quoting is_first (column ∷ columns) bytes behind =
     (values_text quoting false columns (drop column.length bytes) behind)
 
 -- the place up to which the bytes of a column may reach, where so many of the record were read
-abbrev pub end_of : Column → ℕ → ℕ
-end_of column at = if at == column.offset then at + column.length else at
+abbrev pub column_end : Column → ℕ → ℕ
+column_end column at = if at == column.offset then at + column.length else at

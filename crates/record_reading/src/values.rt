@@ -1,8 +1,8 @@
 //! The values of columns.
 ghost use Rattle.std.specs.Prelude.{◌≡◌, length, map, IfSome, None};
-ghost use Rattle.record_forms.specs.Parts.{part_of};
+ghost use Rattle.record_forms.specs.Parts.{part_of_column};
 ghost use Rattle.record_reading.specs.Whole.{AreTiled};
-ghost use Rattle.record_reading.specs.Quoted.{end_of};
+ghost use Rattle.record_reading.specs.Quoted.{column_end};
 ghost use Rattle.record_reading.specs.Part.{ReadsCells, HasNoValues};
 
 use crate::cell::Cell;
@@ -13,7 +13,7 @@ use record_forms::Column;
 /// The place up to which the bytes of a column may reach, where so many of the record were read:
 /// behind a column that was shorter than it could be there are none.
 fn end_of(column: &Column, at: usize) -> usize
-    ensures { result ≡ end_of column.now at }
+    ensures { result ≡ column_end column.now at }
 {
     if at == usize::from(column.offset) {
         at + usize::from(column.length)
@@ -30,7 +30,7 @@ pub fn read_values<'a>(
     text: &'a [u8],
     area: &mut [u8],
 ) -> Option<Cell<'a>>
-    requires whole { AreTiled 0 (map part_of columns.now) (length area.old) }
+    requires whole { AreTiled 0 (map part_of_column columns.now) (length area.old) }
     ensures read { IfSome result (ReadsCells quoting columns.now text.now area.old area.new) }
     ensures none { result ≡ None → HasNoValues quoting columns.now text.now area.old }
 {

@@ -16,7 +16,7 @@ use Rattle.io_state.specs.declared.statement.FileStatement.{FileStatement}
 use Rattle.io_state.specs.declared.statement.FileStatement.TheVariants.{Open, Close, ReadNext, Read, Start, Write, Rewrite, Delete}
 use Rattle.record_layout.specs.declared.schema.KeyPart.{KeyPart}
 use Rattle.request_frames.specs.Request.{Described, Performed, Asked, Describing, Performing, Releasing}
-use Rattle.request_frames.specs.Reading.{number_in, flag_in, access_in, mode_in, relation_in, statement_in, has_length, performed_by, performed_in, key_in, key_and, keys_in, described_by, is_short, described_in, request_in}
+use Rattle.request_frames.specs.Reading.{short_number_in, flag_in, access_in, mode_in, relation_in, statement_in, has_length, performed_by, performed_in, key_in, key_and, keys_in, described_from, is_short, described_in, request_in}
 use Rattle.request_frames.specs.Writing.{flag_byte, access_byte, mode_byte, relation_byte, statement_bytes, performed_body, key_row, described_body, request_body, FitsStatement, FitsPerformed, FitsKey, FitsDescribed, FitsRequest}
 
 number_back : (x : ℕ) → x < 2 ^ 16 → big_number 2 (big_bytes 2 x) ≡ x
@@ -47,12 +47,12 @@ finish : (file n a b c part : ℕ) (statement : FileStatement) (bytes : List ℕ
     ≡ Some (record { file = file; statement = statement; length = n; bytes = bytes })
 finish file n a b c part statement bytes is small stored =
     let body = 2 ∷ file ∷ (a ∷ b ∷ c ∷ big_bytes 2 part) ++ big_bytes 2 n ++ bytes in
-    let told : number_in body 7 ≡ n = number_back n small in
-    let found : FileStatement → Option Performed = λ s. if not (number_in body 7 == 0) && not (has_length s) then None
-    else Some (record { file = file; statement = s; length = number_in body 7; bytes = bytes }) in
+    let told : short_number_in body 7 ≡ n = number_back n small in
+    let found : FileStatement → Option Performed = λ s. if not (short_number_in body 7 == 0) && not (has_length s) then None
+    else Some (record { file = file; statement = s; length = short_number_in body 7; bytes = bytes }) in
     if_false (nat_lt (length body) 9) None _ (le-ltb (length body) 9 (omega arith))
     ∙ ap (λ (s : Option FileStatement). performed_by body s) is
-    ∙ if_false (not (number_in body 7 == 0) && not (has_length statement)) None _ (no_length (number_in body 7) (has_length statement) (rw told stored))
+    ∙ if_false (not (short_number_in body 7 == 0) && not (has_length statement)) None _ (no_length (short_number_in body 7) (has_length statement) (rw told stored))
     ∙ ap (λ (m : ℕ). Some (record { file = file; statement = statement; length = m; bytes = bytes })) told
 
 open_back : (mode : OpenMode) → statement_in 0 (mode_byte mode) 0 (big_number 2 (big_bytes 2 0)) ≡ Some (Open mode)
@@ -91,7 +91,7 @@ performed_of file n bytes Delete fits small stored = finish file n 7 0 0 0 Delet
 
 key_back : (key : KeyPart) (rest : List ℕ) → FitsKey key → key_in (key_row key ++ rest) ≡ Some key
 key_back key rest fits =
-    ap (λ (flag : Option Bool). option_map (λ duplicates. record { offset = number_in (key_row key ++ rest) 0; length = number_in (key_row key ++ rest) 2; duplicates = duplicates }) flag) (flag_back key.duplicates)
+    ap (λ (flag : Option Bool). option_map (λ duplicates. record { offset = short_number_in (key_row key ++ rest) 0; length = short_number_in (key_row key ++ rest) 2; duplicates = duplicates }) flag) (flag_back key.duplicates)
     ∙ λ i. Some (record { offset = number_back key.offset fits.offset i; length = number_back key.length fits.length i; duplicates = key.duplicates })
 
 keys_back : (keys : List KeyPart) (name : List ℕ) → All FitsKey keys → keys_in (length keys) (flat_map key_row keys ++ name) ≡ Some keys
@@ -134,7 +134,7 @@ described_back d fits =
     let named : drop (9 + 5 * count) body ≡ d.name = sym (drop-drop (5 * count) 9 body) ∙ name_back d.keys d.name in
     if_false (nat_lt (length body) 9) None _ (le-ltb (length body) 9 (omega arith))
     ∙ if_false (is_short body count) None _ whole
-    ∙ (λ i. described_by body count (access i) (optional i) (keys i))
+    ∙ (λ i. described_from body count (access i) (optional i) (keys i))
     ∙ λ i. Some (record {
       file = d.file;
       access = d.access;

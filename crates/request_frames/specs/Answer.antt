@@ -10,15 +10,15 @@ use Rattle.request_frames.specs.declared.refusal.Refusal.TheVariants.{NoRequest,
 use Rattle.request_frames.specs.declared.refusal.Refusal.TheVariants.{Name, Open, Memory, Key}
 
 -- the number of a refusal
-abbrev pub code_of : Refusal → ℕ
-code_of NoRequest = 1
-code_of TooLong = 2
-code_of Number = 3
-code_of Description = 4
-code_of Name = 5
-code_of Open = 6
-code_of Memory = 7
-code_of Key = 8
+abbrev pub refusal_code : Refusal → ℕ
+refusal_code NoRequest = 1
+refusal_code TooLong = 2
+refusal_code Number = 3
+refusal_code Description = 4
+refusal_code Name = 5
+refusal_code Open = 6
+refusal_code Memory = 7
+refusal_code Key = 8
 
 -- what is told: that a request is refused, that a file was described or released, or what a verb
 -- answered, with the record that it delivered (no bytes where it delivered none)
@@ -39,7 +39,7 @@ record_told Done = []
 record_told (Performed status bytes) = bytes.now
 
 abbrev pub answer_body : Told → List ℕ
-answer_body (Refuses refusal) = 0 ∷ code_of refusal ∷ []
+answer_body (Refuses refusal) = 0 ∷ refusal_code refusal ∷ []
 answer_body Does = 1 ∷ []
 answer_body (Tells status bytes) = 2 ∷ digits_of status ++ bytes
 

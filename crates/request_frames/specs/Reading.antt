@@ -17,8 +17,8 @@ use Rattle.record_layout.specs.declared.schema.KeyPart.{KeyPart}
 use Rattle.request_frames.specs.Request.{Described, Performed, Asked, Describing, Performing, Releasing}
 
 -- the number in the two bytes from a place on
-abbrev pub number_in : List ℕ → ℕ → ℕ
-number_in bytes start = big_number 2 (slice_range bytes start (start + 2))
+abbrev pub short_number_in : List ℕ → ℕ → ℕ
+short_number_in bytes start = big_number 2 (slice_range bytes start (start + 2))
 
 -- ---- one byte
 
@@ -72,11 +72,11 @@ has_length Delete = false
 abbrev pub performed_by : List ℕ → Option FileStatement → Option Performed
 performed_by body None = None
 performed_by body (Some statement) =
-    if not (number_in body 7 == 0) && not (has_length statement) then None
+    if not (short_number_in body 7 == 0) && not (has_length statement) then None
     else Some (record {
       file = slice_index body 1;
       statement = statement;
-      length = number_in body 7;
+      length = short_number_in body 7;
       bytes = drop 9 body;
     })
 
@@ -84,7 +84,7 @@ abbrev pub performed_in : List ℕ → Option Performed
 performed_in body =
     if nat_lt (length body) 9 then None
     else performed_by body (statement_in (slice_index body 2) (slice_index body 3) (slice_index body 4)
-    (number_in body 5))
+    (short_number_in body 5))
 
 -- ---- a description
 
@@ -92,8 +92,8 @@ performed_in body =
 abbrev pub key_in : List ℕ → Option KeyPart
 key_in row =
     option_map (λ duplicates. record {
-      offset = number_in row 0;
-      length = number_in row 2;
+      offset = short_number_in row 0;
+      length = short_number_in row 2;
       duplicates = duplicates;
     }) (flag_in (slice_index row 4))
 
@@ -107,16 +107,17 @@ abbrev pub keys_in : ℕ → List ℕ → Option (List KeyPart)
 keys_in zero rows = Some []
 keys_in (suc n) rows = key_and (key_in rows) (keys_in n (drop 5 rows))
 
-abbrev pub described_by : List ℕ → ℕ → Option Access → Option Bool → Option (List KeyPart) → Option Described
-described_by body count None optional keys = None
-described_by body count (Some access) None keys = None
-described_by body count (Some access) (Some optional) None = None
-described_by body count (Some access) (Some optional) (Some keys) = Some (record {
+abbrev pub described_from : List ℕ → ℕ → Option Access → Option Bool → Option (List KeyPart)
+    → Option Described
+described_from body count None optional keys = None
+described_from body count (Some access) None keys = None
+described_from body count (Some access) (Some optional) None = None
+described_from body count (Some access) (Some optional) (Some keys) = Some (record {
   file = slice_index body 1;
   access = access;
   optional = optional;
-  least = number_in body 4;
-  greatest = number_in body 6;
+  least = short_number_in body 4;
+  greatest = short_number_in body 6;
   keys = keys;
   name = drop (9 + 5 * count) body;
 })
@@ -129,7 +130,7 @@ abbrev pub described_in : List ℕ → Option Described
 described_in body =
     if nat_lt (length body) 9 then None
     else if is_short body (slice_index body 8) then None
-    else described_by body (slice_index body 8) (access_in (slice_index body 2))
+    else described_from body (slice_index body 8) (access_in (slice_index body 2))
     (flag_in (slice_index body 3)) (keys_in (slice_index body 8) (drop 9 body))
 
 -- ---- any request

@@ -1,6 +1,6 @@
 //! Why a request is refused.
 ghost use Rattle.std.specs.Prelude.{◌≡◌};
-ghost use Rattle.request_frames.specs.Answer.{code_of};
+ghost use Rattle.request_frames.specs.Answer.{refusal_code};
 
 /// Why a request is refused. Nothing was changed by it.
 #[derive(Clone, Copy, Debug, PartialEq, Eq)]
@@ -26,7 +26,7 @@ pub enum Refusal {
 impl Refusal {
     /// Its number in an answer.
     pub fn code(self) -> u8
-        ensures { result ≡ code_of self }
+        ensures { result ≡ refusal_code self }
     {
         match self {
             Refusal::NoRequest => 1,

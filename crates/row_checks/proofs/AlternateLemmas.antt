@@ -18,7 +18,7 @@ use Rattle.indexed_file.specs.Rank.{row_cmp}
 use Rattle.tree_node.specs.Order.{less, Ascends}
 use Rattle.page_marks.specs.PageList.{pages_in}
 use Rattle.page_walks.specs.declared.spot.Spot.{Spot}
-use Rattle.page_walks.specs.Spots.{entry_at, entries_at}
+use Rattle.page_walks.specs.Spots.{entry_at_spot, entries_at}
 use Rattle.record_heap.specs.Chain.{IsOneOf}
 use Rattle.record_heap.specs.Standing.{slot_off}
 use Rattle.io_state.specs.Rank.{rank_cmp}
@@ -28,7 +28,7 @@ use Rattle.key_index.specs.Standing.{alt_key}
 use Rattle.key_index.specs.Stored.{alt_bytes, alt_entry_in, IsAltEntry}
 use Rattle.key_index.proofs.KeyLemmas.{alt_key as key_bytes}
 use Rattle.key_index.proofs.OrderLemmas.{ranks}
-use Rattle.open_file.specs.InOrder.{put, in_order, alt_entry as entry_of, alt_entries}
+use Rattle.open_file.specs.InOrder.{put_row, in_order, alt_entry as entry_of, alt_entries}
 use Rattle.open_file.specs.ReadOff.{row_off}
 use Rattle.open_file.specs.declared.open_file.OpenFile.{OpenFile}
 use Rattle.open_file.proofs.OrderLemmas.{either}
@@ -85,7 +85,7 @@ decide a b =
 abbrev below : Schema → ℕ → Row → Row → Bool
 below schema k a b = is_lt (row_cmp schema k a b)
 
-put_is : (schema : Schema) (k : ℕ) (row : Row) (rows : List Row) → put_by (below schema k) row rows ≡ put schema k row rows
+put_is : (schema : Schema) (k : ℕ) (row : Row) (rows : List Row) → put_by (below schema k) row rows ≡ put_row schema k row rows
 put_is schema k row [] = refl
 put_is schema k row (next ∷ rows) = ap (λ (l : List Row). if below schema k next row then next ∷ l else row ∷ next ∷ rows) (put_is schema k row rows)
 
@@ -169,7 +169,7 @@ ranks_differ schema k (row ∷ rows) all = (untied_rows schema k row rows all.0,
 module _ (opened : OpenFile) (list : List (List ℕ)) (primes : List Spot) (index : AltIndex) where
   entries_kept : (spots : List Spot) → Each (HasRow opened list primes index) spots → Each (EntryKept index.width index.prime) (entries_at index.tree.shape list spots)
   entries_kept [] all = tt
-  entries_kept (spot ∷ spots) all = (entry_kept index.width index.prime (entry_at index.tree.shape list spot) (all.0.long ∙ index.entries) all.0.bytes, entries_kept spots all.1)
+  entries_kept (spot ∷ spots) all = (entry_kept index.width index.prime (entry_at_spot index.tree.shape list spot) (all.0.long ∙ index.entries) all.0.bytes, entries_kept spots all.1)
 
   each_of_row : (spots : List Spot) → Each (HasRow opened list primes index) spots
       → Each (λ e. IsOneOf (map (entry_of opened.schema (alt_key index)) (rows_in opened list primes)) e) (map (alt_entry_in index.width) (entries_at index.tree.shape list spots))
@@ -192,7 +192,7 @@ module _ (opened : OpenFile) (list : List (List ℕ)) (primes : List Spot) (inde
       let es = map (alt_entry_in w) bytes in
       let rise = entries_rise w index.prime bytes kept (subst (λ (n : ℕ). Ascends n bytes) index.keys rises) in
       let as_many : length es ≡ length (map (entry_of schema k) rows) =
-      length-map bytes (alt_entry_in w) ∙ length-map spots (entry_at index.tree.shape list) ∙ many ∙ sym (length-map primes (row_at opened list)) ∙ sym (length-map rows (entry_of schema k)) in
+      length-map bytes (alt_entry_in w) ∙ length-map spots (entry_at_spot index.tree.shape list) ∙ many ∙ sym (length-map primes (row_at opened list)) ∙ sym (length-map rows (entry_of schema k)) in
       let sorted = (are_sorted lower onward itself decide es (map (entry_of schema k) rows) rise (each_of_row spots all)).are as_many in
       let is : alt_entries schema k rows ≡ es = sym (entries_sorted schema k rows) ∙ sorted in
       record {

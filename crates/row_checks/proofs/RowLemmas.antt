@@ -16,7 +16,7 @@ use Rattle.page_walks.specs.declared.spot.Spot.{Spot}
 use Rattle.page_walks.specs.Spots.{entries_at}
 use Rattle.record_heap.specs.declared.shape.Place.{Place}
 use Rattle.record_heap.specs.Slot.{room}
-use Rattle.record_heap.specs.Walk.{slots_of, is_one_of}
+use Rattle.record_heap.specs.Walk.{slots_of, is_in_list}
 use Rattle.key_index.specs.Stored.{prime_bytes, IsPrimeEntry}
 use Rattle.open_file.specs.InOrder.{prime_entries}
 use Rattle.open_file.specs.Stored.{AreAt, stored, stamps_length}
@@ -50,7 +50,7 @@ pub record RowKept (opened : OpenFile) (list : List (List ℕ)) (own : List ℕ)
   pub entry : prime_bytes (record { value = record { items = prime_of opened.schema (row_at opened list spot).bytes }; place = place_at opened list spot }) ≡ prime_at opened list spot
   pub fits : IsPrimeEntry opened.prime.width (record { value = record { items = prime_of opened.schema (row_at opened list spot).bytes }; place = place_at opened list spot })
 
-module _ (opened : OpenFile) (list : List (List ℕ)) (own : List ℕ) (marks : List Bool) (own_marked : (n : ℕ) → marked_in marks n ≡ true → is_one_of own n ≡ true) where
+module _ (opened : OpenFile) (list : List (List ℕ)) (own : List ℕ) (marks : List Bool) (own_marked : (n : ℕ) → marked_in marks n ≡ true → is_in_list own n ≡ true) where
   pub row_kept : (spot : Spot) → LeadsToRow opened list marks spot → RowKept opened list own spot
   row_kept spot l =
       let schema = opened.schema in
@@ -62,7 +62,7 @@ module _ (opened : OpenFile) (list : List (List ℕ)) (own : List ℕ) (marks : 
       let value : take w e ≡ prime_of schema (row_at opened list spot).bytes = l.value ∙ ap (λ (row : Row). prime_of schema row.bytes) (sym is) in
       let again : stored schema (row_off schema (Some l.stored)) ≡ l.stored =
       stored_again (drop 1 schema.keys) l.stored (let least = l.fits.least in omega (arith, least)) l.fits.bytes in
-      let held : (is_one_of own place.page && nat_lt place.slot (room opened.heap.shape)) ≡ true = and_from _ _ (own_marked place.page l.own) (lt-ltb place.slot (room opened.heap.shape) l.within) in
+      let held : (is_in_list own place.page && nat_lt place.slot (room opened.heap.shape)) ≡ true = and_from _ _ (own_marked place.page l.own) (lt-ltb place.slot (room opened.heap.shape) l.within) in
       record {
         row = subst (λ (row : Row). is_row schema opened.next_stamp row ≡ true) (sym is) l.row;
         here = rw held (l.there ∙ ap Some (sym again ∙ ap (stored schema) (sym is)));

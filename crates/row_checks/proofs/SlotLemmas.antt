@@ -16,7 +16,7 @@ use Rattle.record_heap.specs.Slot.{room, size, used_in}
 use Rattle.record_heap.specs.Slots.{slot_at}
 use Rattle.record_heap.specs.Chain.{IsOneOf}
 use Rattle.record_heap.specs.Calls.{used_at}
-use Rattle.record_heap.specs.Walk.{slots_of, is_one_of}
+use Rattle.record_heap.specs.Walk.{slots_of, is_in_list}
 use Rattle.open_file.specs.Stands.{is_same}
 use Rattle.open_file.proofs.OrderLemmas.{either}
 
@@ -57,38 +57,38 @@ found_one f (y ∷ ys) x p one is =
 
 -- ---- the heap's own pages
 
-pub one_of_more : (ms : List ℕ) (m n : ℕ) → is_one_of (ms ++ m ∷ []) n ≡ true → (is_one_of ms n ≡ true) ⊎ (n ≡ m)
+pub one_of_more : (ms : List ℕ) (m n : ℕ) → is_in_list (ms ++ m ∷ []) n ≡ true → (is_in_list ms n ≡ true) ⊎ (n ≡ m)
 one_of_more [] m n h = by_test (eqb_tells n m)
   where
     by_test : ((eqb n m ≡ true) × (n ≡ m)) ⊎ ((eqb n m ≡ false) × (n ≢ m)) → (false ≡ true) ⊎ (n ≡ m)
     by_test (inl here) = inr here.1
     by_test (inr other) = let bad : false ≡ true = rw other.0 at h in inl bad
 one_of_more (k ∷ ms) m n h =
-    either (n == k) ((is_one_of (k ∷ ms) n ≡ true) ⊎ (n ≡ m))
+    either (n == k) ((is_in_list (k ∷ ms) n ≡ true) ⊎ (n ≡ m))
     (λ yes. inl (rw yes refl))
     (λ no. next no (one_of_more ms m n (rw no at h)))
   where
-    next : (n == k) ≡ false → (is_one_of ms n ≡ true) ⊎ (n ≡ m) → (is_one_of (k ∷ ms) n ≡ true) ⊎ (n ≡ m)
+    next : (n == k) ≡ false → (is_in_list ms n ≡ true) ⊎ (n ≡ m) → (is_in_list (k ∷ ms) n ≡ true) ⊎ (n ≡ m)
     next other (inl one) = inl (rw other one)
     next other (inr same) = inr same
 
-pub one_of_front : (ms : List ℕ) (m n : ℕ) → (is_one_of ms n ≡ true) ⊎ (n ≡ m) → is_one_of (ms ++ m ∷ []) n ≡ true
+pub one_of_front : (ms : List ℕ) (m n : ℕ) → (is_in_list ms n ≡ true) ⊎ (n ≡ m) → is_in_list (ms ++ m ∷ []) n ≡ true
 one_of_front [] m n (inl one) = absurd (cc)
 one_of_front [] m n (inr same) = rw (eq-eqb n m same) refl
 one_of_front (k ∷ ms) m n h =
-    either (n == k) (is_one_of (k ∷ (ms ++ m ∷ [])) n ≡ true)
+    either (n == k) (is_in_list (k ∷ (ms ++ m ∷ [])) n ≡ true)
     (λ yes. rw yes refl)
     (λ no. rw no (one_of_front ms m n (next no h)))
   where
-    next : (n == k) ≡ false → (is_one_of (k ∷ ms) n ≡ true) ⊎ (n ≡ m) → (is_one_of ms n ≡ true) ⊎ (n ≡ m)
+    next : (n == k) ≡ false → (is_in_list (k ∷ ms) n ≡ true) ⊎ (n ≡ m) → (is_in_list ms n ≡ true) ⊎ (n ≡ m)
     next other (inl one) = inl (rw other at one)
     next other (inr same) = inr same
 
 -- the pages that were marked one after another
-pub marked_more : (ms : List ℕ) (m : ℕ) (before after : ℕ → Bool) → ((n : ℕ) → before n ≡ true → is_one_of ms n ≡ true) → Marks before after (m ∷ []) → (n : ℕ) → after n ≡ true → is_one_of (ms ++ m ∷ []) n ≡ true
+pub marked_more : (ms : List ℕ) (m : ℕ) (before after : ℕ → Bool) → ((n : ℕ) → before n ≡ true → is_in_list ms n ≡ true) → Marks before after (m ∷ []) → (n : ℕ) → after n ≡ true → is_in_list (ms ++ m ∷ []) n ≡ true
 marked_more ms m before after all marks n on = by_test (eqb_tells n m)
   where
-    by_test : ((eqb n m ≡ true) × (n ≡ m)) ⊎ ((eqb n m ≡ false) × (n ≢ m)) → is_one_of (ms ++ m ∷ []) n ≡ true
+    by_test : ((eqb n m ≡ true) × (n ≡ m)) ⊎ ((eqb n m ≡ false) × (n ≢ m)) → is_in_list (ms ++ m ∷ []) n ≡ true
     by_test (inl here) = one_of_front ms m n (inr here.1)
     by_test (inr other) = one_of_front ms m n (inl (all n (sym (marks.others n (other.1, tt)) ∙ on)))
 
@@ -96,11 +96,11 @@ marked_more ms m before after all marks n on = by_test (eqb_tells n m)
 
 module _ (shape : Shape) (Has : Place → Type 0) where
   -- the slots of one more page
-  pub pages_more : (ms : List ℕ) (m : ℕ) → ((p : Place) → is_one_of ms p.page ≡ true → p.slot < room shape → Has p) → ((p : Place) → p.page ≡ m → p.slot < room shape → Has p)
-      → (p : Place) → is_one_of (ms ++ m ∷ []) p.page ≡ true → p.slot < room shape → Has p
+  pub pages_more : (ms : List ℕ) (m : ℕ) → ((p : Place) → is_in_list ms p.page ≡ true → p.slot < room shape → Has p) → ((p : Place) → p.page ≡ m → p.slot < room shape → Has p)
+      → (p : Place) → is_in_list (ms ++ m ∷ []) p.page ≡ true → p.slot < room shape → Has p
   pages_more ms m all here p one within = by_page (one_of_more ms m p.page one)
     where
-      by_page : (is_one_of ms p.page ≡ true) ⊎ (p.page ≡ m) → Has p
+      by_page : (is_in_list ms p.page ≡ true) ⊎ (p.page ≡ m) → Has p
       by_page (inl old) = all p old within
       by_page (inr new) = here p new within
 
@@ -113,9 +113,9 @@ module _ (shape : Shape) (Has : Place → Type 0) where
       by_slot (inr other) = all p is (omega (arith, below, other.1))
 
 -- a slot of the heap's own pages that is in use
-pub own_slot : (shape : Shape) (pages : PageMap) (own : List ℕ) (p : Place) → IsSome (slots_of shape pages own p) → (is_one_of own p.page ≡ true) × (p.slot < room shape) × IsSome (used_at shape pages p)
+pub own_slot : (shape : Shape) (pages : PageMap) (own : List ℕ) (p : Place) → IsSome (slots_of shape pages own p) → (is_in_list own p.page ≡ true) × (p.slot < room shape) × IsSome (used_at shape pages p)
 own_slot shape pages own p some =
-    either (is_one_of own p.page && nat_lt p.slot (room shape)) ((is_one_of own p.page ≡ true) × (p.slot < room shape) × IsSome (used_at shape pages p))
+    either (is_in_list own p.page && nat_lt p.slot (room shape)) ((is_in_list own p.page ≡ true) × (p.slot < room shape) × IsSome (used_at shape pages p))
     (λ yes. let parts = and_parts _ _ yes in (parts.0, below p.slot (room shape) parts.1, rw yes at some))
     (λ no. let bad : false ≡ true = rw no at some in absurd (cc))
   where

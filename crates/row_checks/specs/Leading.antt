@@ -11,7 +11,7 @@ use Rattle.page_marks.specs.Marks.{marked_in}
 use Rattle.page_marks.specs.PageList.{pages_in}
 use Rattle.page_walks.specs.declared.spot.Spot.{Spot}
 use Rattle.page_walks.specs.declared.leaf.Leaf.{Leaf}
-use Rattle.page_walks.specs.Spots.{entry_at, spots_below}
+use Rattle.page_walks.specs.Spots.{entry_at_spot, spots_below}
 use Rattle.record_heap.specs.declared.shape.Place.{Place}
 use Rattle.record_heap.specs.Slot.{room}
 use Rattle.record_heap.specs.Chain.{IsOneOf}
@@ -95,8 +95,8 @@ IsEntryOf opened list index bytes leader = alt_entry_in index.width bytes
 -- the entry is the one that the index has of a row that the prime index leads to
 pub record HasRow (opened : OpenFile) (list : List (List ℕ)) (primes : List Spot) (index : AltIndex)
     (spot : Spot) : Type 0 where
-  pub long : length (entry_at index.tree.shape list spot) ≡ index.tree.shape.entry
-  pub bytes : Each (λ b. b < 256) (entry_at index.tree.shape list spot)
+  pub long : length (entry_at_spot index.tree.shape list spot) ≡ index.tree.shape.entry
+  pub bytes : Each (λ b. b < 256) (entry_at_spot index.tree.shape list spot)
   pub leader : Spot
   pub one : IsOneOf primes leader
-  pub is : IsEntryOf opened list index (entry_at index.tree.shape list spot) leader
+  pub is : IsEntryOf opened list index (entry_at_spot index.tree.shape list spot) leader

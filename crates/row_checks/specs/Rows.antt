@@ -10,7 +10,7 @@ use Rattle.indexed_file.specs.Sound.{is_row}
 use Rattle.page_marks.specs.Marks.{marked_in}
 use Rattle.page_marks.specs.PageList.{pages_in}
 use Rattle.page_walks.specs.declared.spot.Spot.{Spot}
-use Rattle.page_walks.specs.Spots.{entry_at, entries_at}
+use Rattle.page_walks.specs.Spots.{entry_at_spot, entries_at}
 use Rattle.record_heap.specs.declared.shape.Place.{Place}
 use Rattle.record_heap.specs.Standing.{slot_off}
 use Rattle.record_heap.specs.Walk.{slots_of}
@@ -22,7 +22,7 @@ use Rattle.open_file.specs.declared.open_file.OpenFile.{OpenFile}
 
 -- the bytes of an entry of the prime index
 abbrev pub prime_at : OpenFile → List (List ℕ) → Spot → List ℕ
-prime_at opened list spot = entry_at opened.prime.tree.shape list spot
+prime_at opened list spot = entry_at_spot opened.prime.tree.shape list spot
 
 -- the place that it leads to
 abbrev pub place_at : OpenFile → List (List ℕ) → Spot → Place

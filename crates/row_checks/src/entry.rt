@@ -2,7 +2,7 @@
 
 ghost use Rattle.std.specs.Prelude.{◌≡◌, ◌+◌, ◌<◌, ◌≤◌, IfSome, length};
 ghost use Rattle.page_bytes.specs.Each.{Each};
-ghost use Rattle.page_walks.specs.Spots.{entry_at, spots_in};
+ghost use Rattle.page_walks.specs.Spots.{entry_at_spot, spots_in};
 ghost use Rattle.record_heap.specs.Chain.{IsOneOf};
 ghost use Rattle.key_index.specs.Stored.{prime_entry_in};
 
@@ -20,7 +20,7 @@ pub fn bytes_fit(bytes: &[u8])
 
 /// The entry that stands there.
 pub fn entry<'a>(pages: &'a [[u8; PAGE_SIZE]], shape: Shape, spot: Spot) -> Option<&'a [u8]>
-    ensures value { IfSome result (λ entry. entry.now ≡ entry_at shape pages.now spot) }
+    ensures value { IfSome result (λ entry. entry.now ≡ entry_at_spot shape pages.now spot) }
     ensures long { IfSome result (λ entry. length entry.now ≡ shape.entry) }
     ensures bytes { IfSome result (λ entry. Each (λ b. b < 256) entry.now) }
 {

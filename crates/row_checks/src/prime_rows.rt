@@ -3,7 +3,7 @@
 ghost use Rattle.std.specs.Prelude.{◌≡◌, ℕ, true, false, All, IfOk, OnOk, IsTrue};
 ghost use Rattle.page_marks.specs.Marks.{marked_in};
 ghost use Rattle.page_walks.specs.Spots.{spots_in};
-ghost use Rattle.record_heap.specs.Walk.{is_one_of};
+ghost use Rattle.record_heap.specs.Walk.{is_in_list};
 ghost use Rattle.open_file.specs.Stands.{IsShaped};
 ghost use Rattle.row_checks.specs.Rows.{EntriesRise, MayCompareRows, RowsStand};
 ghost use Rattle.row_checks.specs.Leading.{LeadsToRow, OfEachEntry};
@@ -29,7 +29,7 @@ fn no_marks(alloc: Global, count: usize) -> Result<Vec<bool>, RowFault>
 /// Marks these pages.
 fn mark_all(marks: &mut [bool], own: &[u32]) -> Result<(), RowFault>
     requires { (n : ℕ) → marked_in marks.old n ≡ false }
-    ensures { OnOk result ((n : ℕ) → marked_in marks.new n ≡ true → is_one_of own.now n ≡ true) }
+    ensures { OnOk result ((n : ℕ) → marked_in marks.new n ≡ true → is_in_list own.now n ≡ true) }
 {
     for &n in own {
         mark(marks, n)?;

@@ -3,7 +3,7 @@
 ghost use Rattle.std.specs.Prelude.{◌≡◌, ◌+◌, ◌≤◌, ◌<◌, IfSome, length};
 ghost use Rattle.std.specs.Option.{option_copied};
 ghost use Rattle.page_bytes.specs.Each.{Each};
-ghost use Rattle.record_heap.specs.Slot.{room, size, record_length, used_in};
+ghost use Rattle.record_heap.specs.Slot.{room, size, length_in_slot, used_in};
 ghost use Rattle.record_heap.specs.Slots.{slot_at};
 ghost use Rattle.record_heap.specs.Standing.{slot_off};
 ghost use Rattle.page_marks.specs.PageList.{pages_in};
@@ -28,7 +28,7 @@ const FIRST_SLOT: usize = 16;
 /// The length of the record in a slot in use.
 fn record_length(slot: &[u8], shape: Shape) -> usize
     requires { size shape ≤ length slot.now }
-    ensures { result ≡ record_length shape slot.now }
+    ensures { result ≡ length_in_slot shape slot.now }
 {
     if shape.least < shape.greatest {
         BigEndian::read_u16(&slot[LENGTH..]) as usize

@@ -4,7 +4,7 @@ use Rattle.std.specs.Option.{IfSome}
 use Rattle.file_header.specs.declared.header.Header.{Header}
 use Rattle.schema_listing.specs.declared.first_page.Refusal.{Refusal}
 use Rattle.record_layout.specs.Schema.{Schema}
-use Rattle.schema_listing.specs.Listing.{read_front, read_in, Tells}
+use Rattle.schema_listing.specs.Listing.{read_front, read_of_file, TellsHeader}
 use Rattle.schema_listing.specs.Comparing.{TellsDifferences}
 
 first_bytes : (known : Option (List ℕ)) (n : ℕ) (old new : List ℕ) → old ≡ [] → IfSome (option_map (take n) known) (λ xs. new ≡ old ++ xs)
@@ -22,11 +22,11 @@ first_read known at limit n old new same is none read =
 
 -- nothing is written of a page that is refused
 pub refused : (known out : Option (List ℕ)) (first : List ℕ) (why : Refusal) → IfSome known (λ all. first ≡ take 4096 all) → Err why ≡ read_front first
-    → IfSome known (λ bytes. Tells out out (read_in bytes) (Err why))
+    → IfSome known (λ bytes. TellsHeader out out (read_of_file bytes) (Err why))
 refused None out first why is read = tt
-refused (Some all) out first why is read = subst (λ (r : Result Header Refusal). Tells out out r (Err why)) (read ∙ ap read_front is) (refl, refl)
+refused (Some all) out first why is read = subst (λ (r : Result Header Refusal). TellsHeader out out r (Err why)) (read ∙ ap read_front is) (refl, refl)
 
 pub not_compared : (known out : Option (List ℕ)) (deck : Schema) (first : List ℕ) (why : Refusal) → IfSome known (λ all. first ≡ take 4096 all) → Err why ≡ read_front first
-    → IfSome known (λ bytes. TellsDifferences deck out out (read_in bytes) (Err why))
+    → IfSome known (λ bytes. TellsDifferences deck out out (read_of_file bytes) (Err why))
 not_compared None out deck first why is read = tt
 not_compared (Some all) out deck first why is read = subst (λ (r : Result Header Refusal). TellsDifferences deck out out r (Err why)) (read ∙ ap read_front is) (refl, refl)

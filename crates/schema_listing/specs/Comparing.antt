@@ -8,7 +8,7 @@ use Rattle.schema_listing.specs.declared.comparing.Comparison.TheVariants.{Same,
 use Rattle.schema_listing.specs.declared.first_page.Refusal.{Refusal}
 use Rattle.schema_listing.specs.declared.listing.ListingFault.{ListingFault}
 use Rattle.schema_listing.specs.Differences.{differences}
-use Rattle.schema_listing.specs.Listing.{read_in}
+use Rattle.schema_listing.specs.Listing.{read_of_file}
 
 -- whether OPEN takes a file of the one schema for one of the other: status 39 is answered where it does not
 abbrev pub comparison_of : Schema → Schema → Comparison
@@ -26,4 +26,4 @@ TellsDifferences deck before after read told = ⊥
 abbrev pub ComparesReader : Schema → (known before after : Option (List ℕ))
     → Result (Result Comparison Refusal) ListingFault → Type 0
 ComparesReader deck known before after result =
-    IfSome known (λ bytes. IfOk result (TellsDifferences deck before after (read_in bytes)))
+    IfSome known (λ bytes. IfOk result (TellsDifferences deck before after (read_of_file bytes)))

@@ -3,7 +3,7 @@ use Rattle.std.specs.Prelude.{ℕ, ◌+◌, ◌==◌, ◌&&◌, Bool, true, fals
 use Rattle.std.specs.Prelude.{if◌then◌else◌}
 use Rattle.record_layout.specs.declared.schema.KeyPart.{KeyPart}
 use Rattle.record_layout.specs.Schema.{Schema}
-use Rattle.schema_listing.specs.Lines.{lengths_text}
+use Rattle.schema_listing.specs.Lines.{record_lengths_text}
 
 -- what the file has, what the deck has instead, and LF
 abbrev pub against : List ℕ → List ℕ → List ℕ
@@ -13,8 +13,8 @@ against file deck = file ++ (codes ", deck " ++ (deck ++ codes "\n"))
 abbrev pub record_difference : Schema → Schema → List ℕ
 record_difference file deck =
     if (file.least == deck.least) && (file.greatest == deck.greatest) then []
-    else codes "record " ++ against (lengths_text file.least file.greatest)
-    (lengths_text deck.least deck.greatest)
+    else codes "record " ++ against (record_lengths_text file.least file.greatest)
+    (record_lengths_text deck.least deck.greatest)
 
 -- a number of key k, where it is not the same
 abbrev pub number_difference : ℕ → List ℕ → ℕ → ℕ → List ℕ
@@ -22,14 +22,14 @@ number_difference k name file deck =
     if file == deck then []
     else codes "key " ++ (decimal k ++ (name ++ against (decimal file) (decimal deck)))
 
-abbrev pub kind_of : Bool → List ℕ
-kind_of duplicates = if duplicates then codes "duplicates" else codes "unique"
+abbrev pub kind_word : Bool → List ℕ
+kind_word duplicates = if duplicates then codes "duplicates" else codes "unique"
 
 -- whether records may share a value of key k, where it is not the same
 abbrev pub kind_difference : ℕ → Bool → Bool → List ℕ
 kind_difference k file deck =
     if (if file then deck else not deck) then []
-    else codes "key " ++ (decimal k ++ (codes " " ++ against (kind_of file) (kind_of deck)))
+    else codes "key " ++ (decimal k ++ (codes " " ++ against (kind_word file) (kind_word deck)))
 
 -- key k of both
 abbrev pub key_difference : ℕ → KeyPart → KeyPart → List ℕ
@@ -42,7 +42,7 @@ key_difference k file deck =
 abbrev pub key_text : KeyPart → List ℕ
 key_text part =
     codes "offset " ++ (decimal part.offset ++ (codes " length "
-    ++ (decimal part.length ++ (codes " " ++ kind_of part.duplicates))))
+    ++ (decimal part.length ++ (codes " " ++ kind_word part.duplicates))))
 
 -- key k, which one of them alone has
 abbrev pub key_of_file : ℕ → KeyPart → List ℕ

@@ -6,12 +6,12 @@ use Rattle.file_header.specs.declared.header.Header.{Header}
 use Rattle.file_header.specs.declared.header.TreeNumbers.{TreeNumbers}
 
 -- how long records are: one length, or the least and the greatest
-abbrev pub lengths_text : ℕ → ℕ → List ℕ
-lengths_text least greatest = if least == greatest then decimal greatest else decimal least
+abbrev pub record_lengths_text : ℕ → ℕ → List ℕ
+record_lengths_text least greatest = if least == greatest then decimal greatest else decimal least
     ++ (codes " to " ++ decimal greatest)
 
 abbrev pub record_line : Schema → List ℕ
-record_line schema = codes "record " ++ (lengths_text schema.least schema.greatest ++ codes "\n")
+record_line schema = codes "record " ++ (record_lengths_text schema.least schema.greatest ++ codes "\n")
 
 -- the kind of key k
 abbrev pub kind_text : ℕ → Bool → List ℕ
@@ -27,14 +27,15 @@ place_text k part = codes "key " ++ (decimal k ++ (codes " offset "
 abbrev pub tree_text : List ℕ → ℕ → List ℕ
 tree_text kind height = codes " " ++ (kind ++ (codes " height " ++ (decimal height ++ codes "\n")))
 
-abbrev pub key_line : ℕ → KeyPart → TreeNumbers → List ℕ
-key_line k part tree = place_text k part ++ tree_text (kind_text k part.duplicates) tree.height
+abbrev pub schema_key_line : ℕ → KeyPart → TreeNumbers → List ℕ
+schema_key_line k part tree = place_text k part ++ tree_text (kind_text k part.duplicates) tree.height
 
 -- the keys from key k on, each with its tree
-abbrev pub key_lines : ℕ → List KeyPart → List TreeNumbers → List ℕ
-key_lines k [] trees = []
-key_lines k (part ∷ parts) [] = []
-key_lines k (part ∷ parts) (tree ∷ trees) = key_line k part tree ++ key_lines (k + 1) parts trees
+abbrev pub schema_key_lines : ℕ → List KeyPart → List TreeNumbers → List ℕ
+schema_key_lines k [] trees = []
+schema_key_lines k (part ∷ parts) [] = []
+schema_key_lines k (part ∷ parts) (tree ∷ trees) = schema_key_line k part tree
+    ++ schema_key_lines (k + 1) parts trees
 
 -- a name and a number
 abbrev pub number_text : List ℕ → ℕ → List ℕ
@@ -53,6 +54,7 @@ count_lines header =
     ++ number_line (codes "bytes") (header.pages * 4096))))
 
 -- all lines
-abbrev pub lines_of : Header → List ℕ
-lines_of header = record_line header.schema ++ (key_lines 0 header.schema.keys header.trees.items
+abbrev pub all_header_lines : Header → List ℕ
+all_header_lines header = record_line header.schema
+    ++ (schema_key_lines 0 header.schema.keys header.trees.items
     ++ count_lines header)

@@ -4,17 +4,17 @@ use Rattle.std.specs.Prelude.{Result, Ok, Err, IfSome, IfOk, if◌then◌else◌
 use Rattle.std.specs.Io.KnownBytes.{Appends}
 use Rattle.file_header.specs.declared.header.Header.{Header}
 use Rattle.file_header.specs.Reading.{header_in}
-use Rattle.schema_listing.specs.Lines.{lines_of}
+use Rattle.schema_listing.specs.Lines.{all_header_lines}
 use Rattle.schema_listing.specs.declared.first_page.Refusal.{Refusal}
 use Rattle.schema_listing.specs.declared.first_page.Refusal.TheVariants.{Short, Gate, Header as NoHeader}
 use Rattle.schema_listing.specs.declared.listing.ListingFault.{ListingFault}
 use Rattle.schema_listing.specs.declared.listing.ListingFault.TheVariants.{Output, Memory}
 
 -- the numbers by which reasons are told are those of a check
-abbrev pub number_of : Refusal → ℕ
-number_of Short = 1
-number_of Gate = 2
-number_of NoHeader = 3
+abbrev pub number_of_refusal : Refusal → ℕ
+number_of_refusal Short = 1
+number_of_refusal Gate = 2
+number_of_refusal NoHeader = 3
 
 -- why a page that is not accepted has no header: it begins as a first page whose gate is open, or not
 abbrev pub refusal_of : List ℕ → Refusal
@@ -33,24 +33,25 @@ abbrev pub read_front : List ℕ → Result Header Refusal
 read_front first = if nat_lt (length first) 4096 then Err Short else read_off (take 4096 first)
 
 -- the same of all bytes of a file
-abbrev pub read_in : List ℕ → Result Header Refusal
-read_in bytes = read_front (take 4096 bytes)
+abbrev pub read_of_file : List ℕ → Result Header Refusal
+read_of_file bytes = read_front (take 4096 bytes)
 
 -- what was written by what was read: the lines of the header, or nothing
-abbrev pub Tells : Option (List ℕ) → Option (List ℕ) → Result Header Refusal → Result Unit Refusal → Type 0
-Tells before after (Ok header) (Ok _) = Appends before after (lines_of header)
-Tells before after (Err why) (Err told) = (told ≡ why) × (after ≡ before)
-Tells before after read told = ⊥
+abbrev pub TellsHeader : Option (List ℕ) → Option (List ℕ) → Result Header Refusal → Result Unit Refusal
+    → Type 0
+TellsHeader before after (Ok header) (Ok _) = Appends before after (all_header_lines header)
+TellsHeader before after (Err why) (Err told) = (told ≡ why) × (after ≡ before)
+TellsHeader before after read told = ⊥
 
 -- an answer of a call that writes lines: where it lacks memory, it leaves the writer as it was
-abbrev pub WritesLines : {W : Type 0} → (old new : W) → (before after : Option (List ℕ)) → List ℕ
+abbrev pub WritesSchemaLines : {W : Type 0} → (old new : W) → (before after : Option (List ℕ)) → List ℕ
     → Result Unit ListingFault → Type 0
-WritesLines old new before after lines (Ok _) = Appends before after lines
-WritesLines old new before after lines (Err fault) =
+WritesSchemaLines old new before after lines (Ok _) = Appends before after lines
+WritesSchemaLines old new before after lines (Err fault) =
     fault ≢ Output → (fault ≡ Memory) × (new ≡ old)
 
 -- what was written by what a reader has, where that is known
 abbrev pub TellsOfReader : (known before after : Option (List ℕ)) → Result (Result Unit Refusal) ListingFault
     → Type 0
 TellsOfReader known before after result =
-    IfSome known (λ bytes. IfOk result (Tells before after (read_in bytes)))
+    IfSome known (λ bytes. IfOk result (TellsHeader before after (read_of_file bytes)))

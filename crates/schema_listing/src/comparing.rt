@@ -2,7 +2,7 @@
 ghost use Rattle.std.specs.Prelude.{◌≡◌, ◌≢◌, IfOk, IfErr, OnErr};
 ghost use Rattle.schema_listing.specs.Differences.{differences};
 ghost use Rattle.schema_listing.specs.Comparing.{comparison_of, ComparesReader};
-ghost use Rattle.schema_listing.specs.Listing.{WritesLines};
+ghost use Rattle.schema_listing.specs.Listing.{WritesSchemaLines};
 
 use crate::differences::difference_lines;
 use crate::first_page::Refusal;
@@ -38,7 +38,7 @@ fn write_differences<W: Write>(
     deck: &Schema,
     out: &mut W,
 ) -> Result<(), ListingFault>
-    ensures { WritesLines out.old out.new (W.contents out.old) (W.contents out.new)
+    ensures { WritesSchemaLines out.old out.new (W.contents out.old) (W.contents out.new)
         (differences file.now deck.now) result }
 {
     let Ok(lines) = difference_lines(alloc, file, deck) else {

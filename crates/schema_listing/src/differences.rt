@@ -1,7 +1,7 @@
 //! The differences of two schemas.
 ghost use Rattle.std.specs.Prelude.{◌≡◌, ◌++◌, ◌+◌, ◌≤◌, [], length, decimal, codes, OnOk, IfOk};
 ghost use Rattle.record_layout.specs.Schema.{same_schema};
-ghost use Rattle.schema_listing.specs.Differences.{record_difference, number_difference, kind_of};
+ghost use Rattle.schema_listing.specs.Differences.{record_difference, number_difference, kind_word};
 ghost use Rattle.schema_listing.specs.Differences.{kind_difference, key_difference, key_text, key_of_file};
 ghost use Rattle.schema_listing.specs.Differences.{key_of_deck, key_differences, differences, is_none};
 
@@ -58,7 +58,7 @@ fn add_number_difference(
 
 /// Whether records may share a value of a key, in a word.
 fn kind_of(duplicates: bool) -> &'static [u8]
-    ensures { result.now ≡ kind_of duplicates }
+    ensures { result.now ≡ kind_word duplicates }
 {
     if duplicates { b"duplicates" } else { b"unique" }
 }

@@ -1,7 +1,7 @@
 //! The first page of a file.
 ghost use Rattle.std.specs.Prelude.{◌≡◌, IfOk};
 ghost use Rattle.file_header.specs.Bounds.{IsHeader};
-ghost use Rattle.schema_listing.specs.Listing.{read_off, number_of};
+ghost use Rattle.schema_listing.specs.Listing.{read_off, number_of_refusal};
 
 use file_header::Header;
 use page_bytes::PAGE_SIZE;
@@ -23,7 +23,7 @@ const OPEN: &[u8; 8] = b"DCOBIXIF";
 impl Refusal {
     /// The number by which a check tells the same reason.
     pub fn number(self) -> u8
-        ensures { result ≡ number_of self }
+        ensures { result ≡ number_of_refusal self }
     {
         match self {
             Refusal::Short => 1,

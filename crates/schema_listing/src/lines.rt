@@ -1,9 +1,11 @@
 //! The lines.
 ghost use Rattle.std.specs.Prelude.{◌≡◌, ◌++◌, ◌+◌, ◌*◌, ◌≤◌, length, decimal, OnOk, IfOk};
 ghost use Rattle.file_header.specs.Bounds.{IsHeader};
-ghost use Rattle.schema_listing.specs.Lines.{lengths_text, record_line, kind_text, place_text, tree_text};
-ghost use Rattle.schema_listing.specs.Lines.{key_line, key_lines, number_text, number_line, count_lines};
-ghost use Rattle.schema_listing.specs.Lines.{lines_of};
+ghost use Rattle.schema_listing.specs.Lines.{record_lengths_text, record_line, kind_text, place_text};
+ghost use Rattle.schema_listing.specs.Lines.{tree_text};
+ghost use Rattle.schema_listing.specs.Lines.{schema_key_line, schema_key_lines, number_text, number_line};
+ghost use Rattle.schema_listing.specs.Lines.{count_lines};
+ghost use Rattle.schema_listing.specs.Lines.{all_header_lines};
 
 use file_header::{Header, TreeNumbers};
 use itoa::Buffer;
@@ -28,7 +30,7 @@ pub fn add_number(lines: &mut Vec<u8>, n: u64) -> Result<(), AllocError>
 
 /// Adds how long records are.
 pub fn add_lengths(lines: &mut Vec<u8>, least: u16, greatest: u16) -> Result<(), AllocError>
-    ensures { OnOk result (lines.new.items ≡ lines.old.items ++ lengths_text least greatest) }
+    ensures { OnOk result (lines.new.items ≡ lines.old.items ++ record_lengths_text least greatest) }
 {
     if least == greatest {
         return add_number(lines, u64::from(greatest));
@@ -88,7 +90,7 @@ fn add_key_line(
     part: KeyPart,
     tree: TreeNumbers,
 ) -> Result<(), AllocError>
-    ensures { OnOk result (lines.new.items ≡ lines.old.items ++ key_line k part tree) }
+    ensures { OnOk result (lines.new.items ≡ lines.old.items ++ schema_key_line k part tree) }
 {
     add_place(lines, k, part)?;
     add_tree(lines, kind(k, part.duplicates), tree.height)
@@ -102,7 +104,7 @@ fn add_key_lines(
     trees: &[TreeNumbers],
 ) -> Result<(), AllocError>
     requires { k + length keys.now ≤ 9 }
-    ensures { OnOk result (lines.new.items ≡ lines.old.items ++ key_lines k keys.now trees.now) }
+    ensures { OnOk result (lines.new.items ≡ lines.old.items ++ schema_key_lines k keys.now trees.now) }
 {
     let Some((part, keys)) = keys.split_first() else {
         return Ok(());
@@ -152,7 +154,7 @@ fn add_count_lines(lines: &mut Vec<u8>, header: &Header) -> Result<(), AllocErro
 /// The lines that tell of a file by its header.
 pub fn schema_lines(alloc: Global, header: &Header) -> Result<Vec<u8>, AllocError>
     requires { IsHeader header.now }
-    ensures { IfOk result (λ lines. lines.items ≡ lines_of header.now) }
+    ensures { IfOk result (λ lines. lines.items ≡ all_header_lines header.now) }
 {
     let mut lines = Vec::new(alloc);
     add_record_line(&mut lines, &header.schema)?;

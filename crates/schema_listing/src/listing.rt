@@ -2,8 +2,8 @@
 ghost use Rattle.std.specs.Prelude.{◌≡◌, ◌≢◌, take, IfOk, IfErr, OnErr};
 ghost use Rattle.std.specs.Option.{IfSome};
 ghost use Rattle.file_header.specs.Bounds.{IsHeader};
-ghost use Rattle.schema_listing.specs.Lines.{lines_of};
-ghost use Rattle.schema_listing.specs.Listing.{read_front, WritesLines, TellsOfReader};
+ghost use Rattle.schema_listing.specs.Lines.{all_header_lines};
+ghost use Rattle.schema_listing.specs.Listing.{read_front, WritesSchemaLines, TellsOfReader};
 
 use crate::first_page::{Refusal, header_of};
 use crate::lines::schema_lines;
@@ -66,8 +66,8 @@ pub fn header_in(bytes: &[u8]) -> Result<Header, Refusal>
 /// Writes the lines that tell of a file by its header.
 fn write_lines<W: Write>(alloc: Global, header: &Header, out: &mut W) -> Result<(), ListingFault>
     requires { IsHeader header.now }
-    ensures { WritesLines out.old out.new (W.contents out.old) (W.contents out.new)
-        (lines_of header.now) result }
+    ensures { WritesSchemaLines out.old out.new (W.contents out.old) (W.contents out.new)
+        (all_header_lines header.now) result }
 {
     let Ok(lines) = schema_lines(alloc, header) else {
         return Err(ListingFault::Memory);

@@ -17,8 +17,8 @@ use Rattle.deck_runner.proofs.FalseFileLaws.{stands_during, stands_behind}
 use Rattle.request_frames.specs.Request.{Described, Performed}
 use Rattle.file_session.specs.Files.{NumberedFile}
 use Rattle.file_session.specs.Steps.{AttachesName, file_described, with_bytes}
-use Rattle.serve.specs.Books.{Book, first_book, book_during, book_behind, AllStand, Stands}
-use Rattle.serve.specs.NoFalseFile.{trace_for}
+use Rattle.serve.specs.Books.{Book, first_book, book_during, book_behind, AllStand, StandsByBook}
+use Rattle.serve.specs.NoFalseFile.{trace_for_file}
 
 -- what is known of a file and its book: its library has it as unit 0; and where that library has not lied, and what the given one showed of the
 -- file was true, what it shows and what the connector keeps are true. By the book each name stands
@@ -28,7 +28,7 @@ pub record IsKept {S : Type 0} (shown : Shown S) (file : NumberedFile S) (book :
   pub truly : IsTrue (shown.is_honest file.memory.library) → shown.IsShownTruly book.given file.name → shown.IsShownTruly file.memory.library file.name
   pub standing : IsTrue (shown.is_honest file.memory.library) → shown.IsShownTruly book.given file.name
       → IsStanding file.memory.held (shown.world file.memory.library) 0
-  pub stands : Stands shown file book
+  pub stands : StandsByBook shown file book
 
 -- what is left of a name where the file of this name has left this
 abbrev trace_at : List ℕ → Trace → List ℕ → Trace
@@ -92,13 +92,13 @@ module _ {S : Type 0} (shown : Shown S) (joins : JoinsStretches shown.moments) (
         subst (λ (n : List ℕ). ImagesGo shown.moments n (trace_of p.statement (state_in shown 0 (with_bytes p.bytes before.memory)) answer.status) before.memory.library after.memory.library)
         kept.name (performed.images honest (truly_before honest truly) (kept.standing (performed.keeps.honest honest) truly))
 
-    pub performed_stands : AllStand shown before.name (book_during (trace_for shown p before answer.status) book) before.memory.library after.memory.library
+    pub performed_stands : AllStand shown before.name (book_during (trace_for_file shown p before answer.status) book) before.memory.library after.memory.library
     performed_stands honest truly name =
         in_stretch book.given before.memory.library after.memory.library before.name name
         (trace_of p.statement (state_in shown 0 (with_bytes p.bytes before.memory)) answer.status) (book.ledger name)
         (goes honest truly) (kept.stands.now (performed.keeps.honest honest) truly name)
 
-    pub performed_kept : IsKept shown after (book_behind (trace_for shown p before answer.status) book)
+    pub performed_kept : IsKept shown after (book_behind (trace_for_file shown p before answer.status) book)
     performed_kept =
         let named : shown.IsShownTruly book.given after.name → shown.IsShownTruly book.given before.name = λ truly. subst (λ (n : List ℕ). shown.IsShownTruly book.given n) same truly in
         record {

@@ -5,11 +5,11 @@ use Rattle.io_state.specs.declared.status.Status.{Status}
 use Rattle.indexed_file.specs.Shown.{Shown}
 use Rattle.file_session.specs.Files.{Files}
 use Rattle.file_session.specs.Steps.{ClosesFirst}
-use Rattle.serve.specs.Serving.{Closes}
+use Rattle.serve.specs.Serving.{ClosesAllFiles}
 
 -- the closes so far, and those that follow, are those of all; so many were made, of so many at most
 pub record HasClosed {S : Type 0} (shown : Shown S) (old now : Files S) (made count : ℕ) : Type 0 where
-  pub finish : (more : List Status) (last : Files S) → Closes shown now more last → (statuses : List Status) × Closes shown old statuses last
+  pub finish : (more : List Status) (last : Files S) → ClosesAllFiles shown now more last → (statuses : List Status) × ClosesAllFiles shown old statuses last
   pub left : length now.opened + made ≤ count
 
 no_numbers : (numbers : List ℕ) → length numbers ≤ 0 → numbers ≡ []
@@ -29,9 +29,9 @@ module _ {S : Type 0} (shown : Shown S) where
   one_closed old now next made count None closed none before had =
       let same = none refl in
       record {
-        finish = subst (λ (f : Files S). (more : List Status) (last : Files S) → Closes shown f more last → (statuses : List Status) × Closes shown old statuses last) (sym same.1) had.finish;
+        finish = subst (λ (f : Files S). (more : List Status) (last : Files S) → ClosesAllFiles shown f more last → (statuses : List Status) × ClosesAllFiles shown old statuses last) (sym same.1) had.finish;
         left = let empty : length next.opened ≡ 0 = ap (λ (f : Files S). length f.opened) same.1 ∙ ap length same.0 in omega arith;
       }
 
-  pub all_closed : (old now : Files S) (made count : ℕ) → made ≡ count → HasClosed shown old now made count → (statuses : List Status) × Closes shown old statuses now
+  pub all_closed : (old now : Files S) (made count : ℕ) → made ≡ count → HasClosed shown old now made count → (statuses : List Status) × ClosesAllFiles shown old statuses now
   all_closed old now made count is had = had.finish [] now (no_numbers now.opened (let few = had.left in omega arith), refl)

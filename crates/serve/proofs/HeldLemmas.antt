@@ -2,8 +2,8 @@
 use Rattle.std.proofs.Common.{◌≡◌, ◌⊎◌, ◌<◌, inl, inr, ℕ, length, arith, List, [], ◌∷◌, ◌++◌, refl, sym, ap, ◌∙◌, append_assoc, append-nil}
 use Rattle.std.proofs.lemmas.List.Elements.{All-tail}
 use Rattle.serve.specs.Answers.{answer_frame}
-use Rattle.serve.specs.Reads.{OnlyReads}
-use Rattle.serve.specs.Serving.{Exchange, answers}
+use Rattle.serve.specs.Reads.{AsksOnlyToRead}
+use Rattle.serve.specs.Serving.{Exchange, answer_bytes}
 use Rattle.serve.proofs.ServingLemmas.{AllRead}
 
 -- where a list stands before another in the same list as two others
@@ -25,7 +25,7 @@ pub record EndsIn (exchanges : List Exchange) (front : List ℕ) : Type 0 where
   pub rest : List ℕ
   pub are : exchanges ≡ taken ++ failed ∷ behind
   pub frame : answer_frame failed.told ≡ part ++ rest
-  pub front_is : front ≡ answers taken ++ part
+  pub front_is : front ≡ answer_bytes taken ++ part
 
 behind_one : (e : Exchange) (es : List Exchange) (front more : List ℕ) → front ≡ answer_frame e.told ++ more → EndsIn es more → EndsIn (e ∷ es) front
 behind_one e es front more is next = record {
@@ -36,25 +36,25 @@ behind_one e es front more is next = record {
   rest = next.rest;
   are = ap (λ (l : List Exchange). e ∷ l) next.are;
   frame = next.frame;
-  front_is = is ∙ ap (λ (l : List ℕ). answer_frame e.told ++ l) next.front_is ∙ sym (append_assoc (answer_frame e.told) (answers next.taken) next.part);
+  front_is = is ∙ ap (λ (l : List ℕ). answer_frame e.told ++ l) next.front_is ∙ sym (append_assoc (answer_frame e.told) (answer_bytes next.taken) next.part);
 }
 
 in_first : (e : Exchange) (es : List Exchange) (front rest : List ℕ) → answer_frame e.told ≡ front ++ rest → EndsIn (e ∷ es) front
 in_first e es front rest is = record { taken = []; failed = e; behind = es; part = front; rest = rest; are = refl; frame = is; front_is = refl }
 
-pub ends_in : (e : Exchange) (es : List Exchange) (front rest : List ℕ) → answers (e ∷ es) ≡ front ++ rest → EndsIn (e ∷ es) front
+pub ends_in : (e : Exchange) (es : List Exchange) (front rest : List ℕ) → answer_bytes (e ∷ es) ≡ front ++ rest → EndsIn (e ∷ es) front
 ends_in e [] front rest is = in_first e [] front rest (sym (append-nil (answer_frame e.told)) ∙ is)
 ends_in e (next ∷ es) front rest is =
-    elim (cut (answer_frame e.told) (answers (next ∷ es)) front rest is) [
+    elim (cut (answer_frame e.told) (answer_bytes (next ∷ es)) front rest is) [
       | inl h ↦ behind_one e (next ∷ es) front h.0 h.1 (ends_in next es h.0 rest h.2)
       | inr h ↦ in_first e (next ∷ es) front h.0 h.1
     ]
 
 -- where any bytes of answers are held
-pub held_ends_in : (held : List ℕ) (es : List Exchange) (front rest : List ℕ) → held ≡ answers es → 0 < length held → held ≡ front ++ rest → EndsIn es front
+pub held_ends_in : (held : List ℕ) (es : List Exchange) (front rest : List ℕ) → held ≡ answer_bytes es → 0 < length held → held ≡ front ++ rest → EndsIn es front
 held_ends_in held [] front rest are some is = absurd (let none : length held ≡ 0 = ap (λ (l : List ℕ). length l) are in omega (arith, some, none))
 held_ends_in held (e ∷ es) front rest are some is = ends_in e es front rest (sym are ∙ is)
 
 pub reads_behind : (xs ys : List Exchange) → AllRead (xs ++ ys) → AllRead ys
 reads_behind [] ys all = all
-reads_behind (x ∷ xs) ys all = reads_behind xs ys (All-tail (λ (e : Exchange). OnlyReads e.body) x (xs ++ ys) all)
+reads_behind (x ∷ xs) ys all = reads_behind xs ys (All-tail (λ (e : Exchange). AsksOnlyToRead e.body) x (xs ++ ys) all)

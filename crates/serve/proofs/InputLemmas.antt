@@ -5,23 +5,23 @@ use Rattle.std.proofs.Math.Seq.{take-append-add}
 use borrow.Rule.Slice.PartMut.{put_mid, post_of}
 use Rattle.std.specs.Io.KnownBytes.{Consumes, Keeps}
 use Rattle.std.proofs.KnownBytes.{Consumes-nil, Consumes-trans, Consumes-kept}
-use Rattle.standard_input.specs.Reads.{given_by, TellFailure}
-use Rattle.standard_input.specs.Source.{Source, Gives, HasFailed}
+use Rattle.standard_input.specs.Reads.{bytes_of_reads, TellFailure}
+use Rattle.standard_input.specs.Source.{Source, GivesBytes, HasFailed}
 use Rattle.byteorder.specs.Endian.{big_number, big_bytes}
 use Rattle.request_frames.specs.Answer.{framed}
 use Rattle.std.specs.Prelude.{Ok}
-use Rattle.serve.specs.Input.{GivesLess, BeginsWithFrame, NoLength, NoBody, BreaksOff, Came}
+use Rattle.serve.specs.Input.{GivesLess, BeginsWithFrame, NoLength, NoBody, FrameBreaksOff, Came}
 use Rattle.serve.specs.declared.input.Next.{Next}
 
 -- bytes that came, and then these
-pub gives_on : (a b c : Source) (xs ys zs : List ℕ) → Gives a b xs → Gives b c ys → zs ≡ xs ++ ys → Gives a c zs
+pub gives_on : (a b c : Source) (xs ys zs : List ℕ) → GivesBytes a b xs → GivesBytes b c ys → zs ≡ xs ++ ys → GivesBytes a c zs
 gives_on a b c xs ys zs first then is = record {
   next = subst (Consumes a.left c.left) (sym is) (Consumes-trans a.left b.left c.left xs ys first.next then.next);
-  noted = then.noted ∙ ap (λ l. l ++ ys) first.noted ∙ append_assoc (given_by a.reads) xs ys ∙ ap (λ l. given_by a.reads ++ l) (sym is);
+  noted = then.noted ∙ ap (λ l. l ++ ys) first.noted ∙ append_assoc (bytes_of_reads a.reads) xs ys ∙ ap (λ l. bytes_of_reads a.reads ++ l) (sym is);
 }
 
-pub gives_none : (a : Source) → Gives a a []
-gives_none a = record { next = Consumes-nil a.left; noted = sym (append-nil (given_by a.reads)) }
+pub gives_none : (a : Source) → GivesBytes a a []
+gives_none a = record { next = Consumes-nil a.left; noted = sym (append-nil (bytes_of_reads a.reads)) }
 
 -- the part of the room that was filled
 pub room_more : (room part : List ℕ) (at n : ℕ) → at ≤ length room → n ≤ length part
@@ -61,11 +61,11 @@ begins_with_frame bytes head rest size are is room =
     )
 
 -- no length came
-pub no_length : (a b : Source) → GivesLess 2 a b → BreaksOff a b
+pub no_length : (a b : Source) → GivesLess 2 a b → FrameBreaksOff a b
 no_length a b less = (less.bytes, NoLength less.bytes less.few, less.read)
 
 -- a length, and not the whole body
-pub no_body : (a b c : Source) (head : List ℕ) (size n : ℕ) → big_bytes 2 size ≡ head → size ≤ 8192 → n ≡ size → Gives a b head → GivesLess n b c → BreaksOff a c
+pub no_body : (a b c : Source) (head : List ℕ) (size n : ℕ) → big_bytes 2 size ≡ head → size ≤ 8192 → n ≡ size → GivesBytes a b head → GivesLess n b c → FrameBreaksOff a c
 no_body a b c head size n is small e came less =
     (big_bytes 2 size ++ less.bytes, NoBody size less.bytes small (let few = less.few in omega arith), gives_on a b c head less.bytes (big_bytes 2 size ++ less.bytes) came less.read (ap (λ l. l ++ less.bytes) is))
 

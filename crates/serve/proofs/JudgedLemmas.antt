@@ -6,9 +6,9 @@ use Rattle.std.proofs.lemmas.List.{get_or-set_same, get_or-set_other, length-set
 use Rattle.std.proofs.Math.ListN.{get_or-eq_default}
 use Rattle.indexed_file.specs.Shown.{Shown}
 use Rattle.indexed_file.proofs.TestLemmas.{either}
-use Rattle.file_session.specs.Files.{number_limit, NumberedFile, Files, file_at}
+use Rattle.file_session.specs.Files.{number_limit, NumberedFile, Files, file_of_number}
 use Rattle.file_session.proofs.FilesLemmas.{none_some}
-use Rattle.serve.specs.Books.{Book, Books, with_book, Judged, none_judged, StandsAt, StandNow}
+use Rattle.serve.specs.Books.{Book, Books, with_book, JudgedFiles, none_judged, BookStandsAt, BooksStandNow}
 use Rattle.serve.proofs.BookLemmas.{IsKept}
 
 -- the file of a number, in these places
@@ -34,9 +34,9 @@ AreKeptAt shown None (Some book) = ⊥
 AreKeptAt shown (Some file) None = ⊥
 AreKeptAt shown (Some file) (Some book) = IsKept shown file book
 
-pub record AllKept {S : Type 0} (shown : Shown S) (judged : Judged S) : Type 0 where
+pub record AllKept {S : Type 0} (shown : Shown S) (judged : JudgedFiles S) : Type 0 where
   pub places : length judged.files.places ≡ number_limit
-  pub each : (number : ℕ) → AreKeptAt shown (file_at judged.files number) (judged.books number)
+  pub each : (number : ℕ) → AreKeptAt shown (file_of_number judged.files number) (judged.books number)
 
 empty_at : {S : Type 0} (count number : ℕ) → place_at {S = S} (replicate count None) number ≡ None
 empty_at zero number = refl
@@ -51,14 +51,14 @@ other_book : {S : Type 0} (books : Books S) (n number : ℕ) (book : Option (Boo
 other_book books n number book apart = ap (λ (b : Bool). if b then book else books n) (ne_eqb n number apart)
 
 module _ {S : Type 0} (shown : Shown S) where
-  stands_at : (place : Option (NumberedFile S)) (book : Option (Book S)) → AreKeptAt shown place book → StandsAt shown place book
+  stands_at : (place : Option (NumberedFile S)) (book : Option (Book S)) → AreKeptAt shown place book → BookStandsAt shown place book
   stands_at None None kept = tt
   stands_at None (Some book) kept = kept
   stands_at (Some file) None kept = kept
   stands_at (Some file) (Some book) kept = kept.stands
 
-  pub stand_now : (judged : Judged S) → AllKept shown judged → StandNow shown judged
-  stand_now judged kept number = stands_at (file_at judged.files number) (judged.books number) (kept.each number)
+  pub stand_now : (judged : JudgedFiles S) → AllKept shown judged → BooksStandNow shown judged
+  stand_now judged kept number = stands_at (file_of_number judged.files number) (judged.books number) (kept.each number)
 
   pub none_kept : AllKept shown none_judged
   none_kept = record {
@@ -71,7 +71,7 @@ module _ {S : Type 0} (shown : Shown S) where
   book_in file None kept = absurd kept
   book_in file (Some book) kept = (book, refl, kept)
 
-  pub book_of : (judged : Judged S) (number : ℕ) (file : NumberedFile S) → AllKept shown judged → file_at judged.files number ≡ Some file
+  pub book_of : (judged : JudgedFiles S) (number : ℕ) (file : NumberedFile S) → AllKept shown judged → file_of_number judged.files number ≡ Some file
       → (is : Book S) × (judged.books number ≡ Some is) × IsKept shown file is
   book_of judged number file kept at =
       book_in file (judged.books number) (subst (λ (place : Option (NumberedFile S)). AreKeptAt shown place (judged.books number)) at (kept.each number))
@@ -82,7 +82,7 @@ module _ {S : Type 0} (shown : Shown S) where
       subst (λ (p : Option (NumberedFile S)). AreKeptAt shown p book) (sym same) (subst (λ (b : Option (Book S)). AreKeptAt shown other b) (sym is) kept)
 
   -- one number has another file, and another book
-  pub put_kept : (old : Judged S) (new : Files S) (number : ℕ) (place : Option (NumberedFile S)) (book : Option (Book S)) → AllKept shown old → number < number_limit
+  pub put_kept : (old : JudgedFiles S) (new : Files S) (number : ℕ) (place : Option (NumberedFile S)) (book : Option (Book S)) → AllKept shown old → number < number_limit
       → new.places ≡ slice_set old.files.places number place → AreKeptAt shown place book
       → AllKept shown (record { files = new; books = with_book old.books number book })
   put_kept old new number place book kept below is here = record {
@@ -90,12 +90,12 @@ module _ {S : Type 0} (shown : Shown S) where
     each = λ n. by n (cases_eq n number);
   }
     where
-      by : (n : ℕ) → (n ≡ number) ⊎ (n ≢ number) → AreKeptAt shown (file_at new n) (with_book old.books number book n)
+      by : (n : ℕ) → (n ≡ number) ⊎ (n ≢ number) → AreKeptAt shown (file_of_number new n) (with_book old.books number book n)
       by n (inl same) =
-          kept_as (file_at new n) place (with_book old.books number book n) book
-          (ap (λ (k : ℕ). file_at new k) same ∙ put_there old.files.places new.places number place (omega (arith, below, kept.places)) is)
+          kept_as (file_of_number new n) place (with_book old.books number book n) book
+          (ap (λ (k : ℕ). file_of_number new k) same ∙ put_there old.files.places new.places number place (omega (arith, below, kept.places)) is)
           (here_book old.books n number book same) here
       by n (inr apart) =
-          kept_as (file_at new n) (file_at old.files n) (with_book old.books number book n) (old.books n)
+          kept_as (file_of_number new n) (file_of_number old.files n) (with_book old.books number book n) (old.books n)
           (ap (λ (places : List (Option (NumberedFile S))). place_at places n) is ∙ get_or-set_other old.files.places number n place None apart)
           (other_book old.books n number book apart) (kept.each n)

@@ -9,24 +9,24 @@ use Rattle.verbs.specs.Held.{silent}
 use Rattle.request_frames.specs.Answer.{Told, Refuses, Does, Tells}
 use Rattle.request_frames.specs.Request.{Described, Performed, Asked, Describing, Performing, Releasing}
 use Rattle.request_frames.specs.Reading.{request_in}
-use Rattle.file_session.specs.Files.{number_limit, NumberedFile, Files, file_at}
-use Rattle.file_session.specs.Steps.{Describes, file_described, Performs, Releases, close_of}
-use Rattle.serve.specs.Answers.{Answers}
-use Rattle.serve.specs.Books.{Book, Books, first_book, book_behind, with_book, Judged, none_judged}
-use Rattle.serve.specs.NoFalseFile.{trace_for, Begins, GoesOn, BooksGo, ServesSafely, ClosesSafely, NoFalseFile}
-use Rattle.serve.specs.Serving.{Exchange, Serving, Closes}
+use Rattle.file_session.specs.Files.{number_limit, NumberedFile, Files, file_of_number}
+use Rattle.file_session.specs.Steps.{Describes, file_described, PerformsRequest, Releases, close_request}
+use Rattle.serve.specs.Answers.{AnswersRequest}
+use Rattle.serve.specs.Books.{Book, Books, first_book, book_behind, with_book, JudgedFiles, none_judged}
+use Rattle.serve.specs.NoFalseFile.{trace_for_file, BeginsBook, BookGoesOn, BooksGo, ServesSafely, ClosesSafely, NoFalseFileInSession}
+use Rattle.serve.specs.Serving.{Exchange, Serving, ClosesAllFiles}
 use Rattle.serve.proofs.BookLemmas.{described_stands, described_kept, performed_stands, performed_kept}
 use Rattle.serve.proofs.JudgedLemmas.{within_places, put_there, AllKept, stand_now, none_kept, book_of, put_kept}
 
 module _ {S : Type 0} (shown : Shown S) (joins : JoinsStretches shown.moments) (ends : EndsNow shown.moments) where
   -- ---- a file
 
-  begins : (IsNew : S → Type 0) (d : Described) (old : Judged S) (new : Files S) (given : S) → AllKept shown old → IsNew given → Describes shown d given old.files new
-      → (books : Books S) × Begins shown IsNew d old (record { files = new; books = books }) × AllKept shown (record { files = new; books = books })
+  begins : (IsNew : S → Type 0) (d : Described) (old : JudgedFiles S) (new : Files S) (given : S) → AllKept shown old → IsNew given → Describes shown d given old.files new
+      → (books : Books S) × BeginsBook shown IsNew d old (record { files = new; books = books }) × AllKept shown (record { files = new; books = books })
   begins IsNew d old new given kept is_new does =
       let library : S = does.over.library in
       let file : NumberedFile S = file_described d library in
-      let below : d.file < number_limit = ltb-true d.file number_limit (and_parts (nat_lt d.file number_limit) (is_none (file_at old.files d.file)) does.allowed.free).0 in
+      let below : d.file < number_limit = ltb-true d.file number_limit (and_parts (nat_lt d.file number_limit) (is_none (file_of_number old.files d.file)) does.allowed.free).0 in
       let places = ap (λ (files : Files S). files.places) does.files ∙ ap (λ (f : NumberedFile S). slice_set old.files.places d.file (Some f)) does.over.is in (
         with_book old.books d.file (Some (first_book given)),
         record {
@@ -41,12 +41,12 @@ module _ {S : Type 0} (shown : Shown S) (joins : JoinsStretches shown.moments) (
         put_kept shown old new d.file (Some file) (Some (first_book given)) kept below places (described_kept shown joins ends d given library does.over.attached),
       )
 
-  goes_on : (p : Performed) (old : Judged S) (new : Files S) (answer : Answer) → AllKept shown old → Performs shown p old.files answer new
-      → (books : Books S) × GoesOn shown p answer.status old (record { files = new; books = books }) × AllKept shown (record { files = new; books = books })
+  goes_on : (p : Performed) (old : JudgedFiles S) (new : Files S) (answer : Answer) → AllKept shown old → PerformsRequest shown p old.files answer new
+      → (books : Books S) × BookGoesOn shown p answer.status old (record { files = new; books = books }) × AllKept shown (record { files = new; books = books })
   goes_on p old new answer kept does =
       let known = book_of shown old p.file does.before kept does.file in
       let below = within_places old.files.places p.file does.before does.file in
-      let book : Book S = book_behind (trace_for shown p does.before answer.status) known.0 in (
+      let book : Book S = book_behind (trace_for_file shown p does.before answer.status) known.0 in (
         with_book old.books p.file (Some book),
         record {
           before = does.before;
@@ -62,7 +62,7 @@ module _ {S : Type 0} (shown : Shown S) (joins : JoinsStretches shown.moments) (
             (performed_kept shown joins ends p does.before does.after answer known.0 known.2 does.name does.performed),
       )
 
-  ends_at : (number : ℕ) (old : Judged S) (new : Files S) (library : S) → AllKept shown old → Releases number old.files library new
+  ends_at : (number : ℕ) (old : JudgedFiles S) (new : Files S) (library : S) → AllKept shown old → Releases number old.files library new
       → AllKept shown (record { files = new; books = with_book old.books number None })
   ends_at number old new library kept does =
       let below = within_places old.files.places number does.file does.was in
@@ -72,13 +72,13 @@ module _ {S : Type 0} (shown : Shown S) (joins : JoinsStretches shown.moments) (
 
   module _ (IsNew : S → Type 0) where
     -- such books as go on so
-    abbrev Go : Option Asked → Told → Judged S → Files S → Type 0
+    abbrev Go : Option Asked → Told → JudgedFiles S → Files S → Type 0
     Go asked told old new = (books : Books S) × BooksGo shown IsNew asked told old (record { files = new; books = books }) × AllKept shown (record { files = new; books = books })
 
-    stay : (old : Judged S) (new : Files S) → AllKept shown old → new ≡ old.files → AllKept shown (record { files = new; books = old.books })
+    stay : (old : JudgedFiles S) (new : Files S) → AllKept shown old → new ≡ old.files → AllKept shown (record { files = new; books = old.books })
     stay old new kept same = subst (λ (files : Files S). AllKept shown (record { files = files; books = old.books })) (sym same) kept
 
-    answered : (asked : Option Asked) (told : Told) (old : Judged S) (new : Files S) → AllKept shown old → Answers shown IsNew asked old.files told new → Go asked told old new
+    answered : (asked : Option Asked) (told : Told) (old : JudgedFiles S) (new : Files S) → AllKept shown old → AnswersRequest shown IsNew asked old.files told new → Go asked told old new
     answered None told old new kept a = (old.books, refl, stay old new kept a.1)
     answered (Some (Describing d)) Does old new kept a = begins IsNew d old new a.0 kept a.1 a.2
     answered (Some (Describing d)) (Refuses why) old new kept a = (old.books, refl, stay old new kept a.1)
@@ -94,12 +94,12 @@ module _ {S : Type 0} (shown : Shown S) (joins : JoinsStretches shown.moments) (
 
     -- ---- a session
 
-    serves : (exchanges : List Exchange) (old : Judged S) (new : Files S) → AllKept shown old → Serving shown IsNew old.files exchanges new
-        → (after : Judged S) × (after.files ≡ new) × ServesSafely shown IsNew old exchanges after × AllKept shown after
+    serves : (exchanges : List Exchange) (old : JudgedFiles S) (new : Files S) → AllKept shown old → Serving shown IsNew old.files exchanges new
+        → (after : JudgedFiles S) × (after.files ≡ new) × ServesSafely shown IsNew old exchanges after × AllKept shown after
     serves [] old new kept same = (old, sym same, refl, kept)
     serves (e ∷ rest) old new kept (between, answers, more) =
         let one = answered (request_in e.body) e.told old between kept answers in
-        let then : Judged S = record { files = between; books = one.0 } in
+        let then : JudgedFiles S = record { files = between; books = one.0 } in
         let others = serves rest then new one.2 more in (
           others.0,
           others.1,
@@ -107,12 +107,12 @@ module _ {S : Type 0} (shown : Shown S) (joins : JoinsStretches shown.moments) (
           others.3,
         )
 
-    closes : (statuses : List Status) (old : Judged S) (new : Files S) → AllKept shown old → Closes shown old.files statuses new
-        → (after : Judged S) × (after.files ≡ new) × ClosesSafely shown old statuses after × AllKept shown after
+    closes : (statuses : List Status) (old : JudgedFiles S) (new : Files S) → AllKept shown old → ClosesAllFiles shown old.files statuses new
+        → (after : JudgedFiles S) × (after.files ≡ new) × ClosesSafely shown old statuses after × AllKept shown after
     closes [] old new kept (none, same) = (old, sym same, (none, refl), kept)
     closes (status ∷ rest) old new kept (between, first, more) =
-        let one = goes_on (close_of first.first) old between (silent status) kept first.closed in
-        let then : Judged S = record { files = between; books = one.0 } in
+        let one = goes_on (close_request first.first) old between (silent status) kept first.closed in
+        let then : JudgedFiles S = record { files = between; books = one.0 } in
         let others = closes rest then new one.2 more in (
           others.0,
           others.1,
@@ -120,11 +120,11 @@ module _ {S : Type 0} (shown : Shown S) (joins : JoinsStretches shown.moments) (
           others.3,
         )
 
-    pub no_false_file : NoFalseFile shown IsNew
+    pub no_false_file : NoFalseFileInSession shown IsNew
     no_false_file s result session =
         let first = serves session.served.exchanges none_judged session.last (none_kept shown) session.served.serving in
-        let last : Judged S = first.0 in
-        let closing : Closes shown last.files session.closes session.end = subst (λ (files : Files S). Closes shown files session.closes session.end) (sym first.1) session.closed in
+        let last : JudgedFiles S = first.0 in
+        let closing : ClosesAllFiles shown last.files session.closes session.end = subst (λ (files : Files S). ClosesAllFiles shown files session.closes session.end) (sym first.1) session.closed in
         let closed = closes session.closes last session.end first.3 closing in (
           last,
           closed.0,

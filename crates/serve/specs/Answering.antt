@@ -5,9 +5,9 @@ use Rattle.indexed_file.specs.Shown.{Shown}
 use Rattle.request_frames.specs.Answer.{Told}
 use Rattle.request_frames.specs.Reading.{request_in}
 use Rattle.file_session.specs.Files.{Files}
-use Rattle.serve.specs.Answers.{Answers, answer_frame}
-use Rattle.serve.specs.Reads.{OnlyReads}
-use Rattle.held_text.specs.Output.{Adds}
+use Rattle.serve.specs.Answers.{AnswersRequest, answer_frame}
+use Rattle.serve.specs.Reads.{AsksOnlyToRead}
+use Rattle.held_text.specs.Output.{AddsText}
 use Rattle.held_text.specs.declared.output.Refused.{Refused}
 use Rattle.serve.specs.HeldAnswers.{HandsAllOver, RefusesHeld, RefusesNext}
 use Rattle.serve.specs.Serving.{too_long}
@@ -29,18 +29,18 @@ outgoing written written_after held held_after =
 abbrev pub AnswersAs : {S : Type 0} → Shown S → (IsNew : S → Type 0) → (body : List ℕ) → (Told → Type 0)
     → (old new : Files S) → Type 0
 AnswersAs shown IsNew body IsSo old new = (told : Told)
-    × Answers shown IsNew (request_in body) old told new × IsSo told
+    × AnswersRequest shown IsNew (request_in body) old told new × IsSo told
 
 -- the answer is held, if the request only reads; or the writer took it behind all that was held
-abbrev pub Goes : (body : List ℕ) → Outgoing → Told → Type 0
-Goes body o told =
-    (OnlyReads body × Adds o.written o.written_after o.held o.held_after (answer_frame told))
+abbrev pub SendsAnswer : (body : List ℕ) → Outgoing → Told → Type 0
+SendsAnswer body o told =
+    (AsksOnlyToRead body × AddsText o.written o.written_after o.held o.held_after (answer_frame told))
     ⊎ HandsAllOver o.written o.written_after (o.held ++ answer_frame told) o.held_after
 
 -- the writer refused what was held, behind a request that only reads; or it refused the answer
-abbrev pub Stays : (body : List ℕ) → Outgoing → Told → Type 0
-Stays body o told =
-    (OnlyReads body × RefusesHeld o.written o.written_after o.held)
+abbrev pub AnswerStays : (body : List ℕ) → Outgoing → Told → Type 0
+AnswerStays body o told =
+    (AsksOnlyToRead body × RefusesHeld o.written o.written_after o.held)
     ⊎ RefusesNext o.written o.written_after o.held (answer_frame told)
 
 -- the writer refused what was held, and the request was not performed; or it was, and then the writer refused
@@ -48,14 +48,14 @@ abbrev pub FailsOne : {S : Type 0} → Shown S → (IsNew : S → Type 0) → (b
     → (old new : Files S) → Type 0
 FailsOne shown IsNew body o old new =
     (RefusesHeld o.written o.written_after o.held × (new ≡ old))
-    ⊎ AnswersAs shown IsNew body (Stays body o) old new
+    ⊎ AnswersAs shown IsNew body (AnswerStays body o) old new
 
 -- a request that only reads was answered, and its answer is held; or the writer refused what was held
 pub record AnswersRead {S W : Type 0} (shown : Shown S) (IsNew : S → Type 0)
     (contents : W → Option (List ℕ)) (body : List ℕ) (old new : Files S) (held held_after : List ℕ)
     (out out_after : W) (result : Result (Unit {0}) Refused) : Type 0 where
   pub answered : OnOk result (AnswersAs shown IsNew body
-      (λ told. Adds (contents out) (contents out_after) held held_after (answer_frame told)) old new)
+      (λ told. AddsText (contents out) (contents out_after) held held_after (answer_frame told)) old new)
   pub refused : OnErr result (AnswersAs shown IsNew body
       (λ told. RefusesHeld (contents out) (contents out_after) held) old new)
 
@@ -76,7 +76,7 @@ pub record AnswersOne {S W : Type 0} (shown : Shown S) (IsNew : S → Type 0)
     (contents : W → Option (List ℕ)) (body : List ℕ) (old new : Files S) (held held_after : List ℕ)
     (out out_after : W) (result : Result (Unit {0}) Refused) : Type 0 where
   pub answered : OnOk result (AnswersAs shown IsNew body
-      (Goes body (outgoing (contents out) (contents out_after) held held_after)) old new)
+      (SendsAnswer body (outgoing (contents out) (contents out_after) held held_after)) old new)
   pub refused : OnErr result (FailsOne shown IsNew body
       (outgoing (contents out) (contents out_after) held held_after) old new)
 

@@ -8,8 +8,9 @@ use Rattle.request_frames.specs.Request.{Described, Performed, Asked, Describing
 use Rattle.request_frames.specs.Request.{described_of}
 use Rattle.request_frames.specs.declared.description.Description.{Description}
 use Rattle.request_frames.specs.declared.refusal.Refusal.TheVariants as refusal
-use Rattle.file_session.specs.Files.{Files, file_at}
-use Rattle.file_session.specs.Steps.{Describes, RefusesDescription, Performs, refusal_of_verb, record_by}
+use Rattle.file_session.specs.Files.{Files, file_of_number}
+use Rattle.file_session.specs.Steps.{Describes, RefusesDescription, PerformsRequest, refusal_of_verb}
+use Rattle.file_session.specs.Steps.{record_by}
 use Rattle.file_session.specs.Steps.{Releases, refusal_of_release}
 
 -- a file is described over a library that is new; or that is refused, and nothing is changed. Want
@@ -28,8 +29,8 @@ abbrev pub AnswersVerb : {S : Type 0} → Shown S → Performed → Files S → 
 AnswersVerb shown p old Does new = ⊥
 AnswersVerb shown p old (Refuses why) new = (refusal_of_verb old p ≡ Some why) × (new ≡ old)
 AnswersVerb shown p old (Tells status bytes) new =
-    (answer : Answer) × Performs shown p old answer new × (status ≡ answer.status)
-    × (bytes ≡ record_by (file_at new p.file) answer.length)
+    (answer : Answer) × PerformsRequest shown p old answer new × (status ≡ answer.status)
+    × (bytes ≡ record_by (file_of_number new p.file) answer.length)
 
 -- the number is free again; or that is refused, and nothing is changed
 abbrev pub AnswersRelease : {S : Type 0} → ℕ → Files S → Told → Files S → Type 0
@@ -38,12 +39,12 @@ AnswersRelease number old (Refuses why) new = (refusal_of_release old number ≡
 AnswersRelease number old (Tells status bytes) new = ⊥
 
 -- a request is answered; what is none is refused, and changes nothing
-abbrev pub Answers : {S : Type 0} → Shown S → (IsNew : S → Type 0) → Option Asked → Files S → Told
+abbrev pub AnswersRequest : {S : Type 0} → Shown S → (IsNew : S → Type 0) → Option Asked → Files S → Told
     → Files S → Type 0
-Answers shown IsNew None old told new = (told ≡ Refuses refusal.NoRequest) × (new ≡ old)
-Answers shown IsNew (Some (Describing d)) old told new = AnswersDescription shown IsNew d old told new
-Answers shown IsNew (Some (Performing p)) old told new = AnswersVerb shown p old told new
-Answers shown IsNew (Some (Releasing number)) old told new = AnswersRelease number old told new
+AnswersRequest shown IsNew None old told new = (told ≡ Refuses refusal.NoRequest) × (new ≡ old)
+AnswersRequest shown IsNew (Some (Describing d)) old told new = AnswersDescription shown IsNew d old told new
+AnswersRequest shown IsNew (Some (Performing p)) old told new = AnswersVerb shown p old told new
+AnswersRequest shown IsNew (Some (Releasing number)) old told new = AnswersRelease number old told new
 
 -- the frame of an answer
 abbrev pub answer_frame : Told → List ℕ
@@ -65,4 +66,4 @@ TellsVerb shown p old new frame = IsFrameOf frame (λ told. AnswersVerb shown p 
 abbrev pub TellsAnswer : {S : Type 0} → Shown S → (IsNew : S → Type 0) → (body : List ℕ)
     → (old new : Files S) → (frame : List ℕ) → Type 0
 TellsAnswer shown IsNew body old new frame =
-    IsFrameOf frame (λ told. Answers shown IsNew (request_in body) old told new)
+    IsFrameOf frame (λ told. AnswersRequest shown IsNew (request_in body) old told new)

@@ -3,7 +3,7 @@ use Rattle.std.specs.Prelude.{ℕ, List, eqb, Option, Some, None, if◌then◌el
 use Rattle.indexed_file.specs.Shown.{Shown}
 use Rattle.indexed_file.specs.Images.{Trace}
 use Rattle.deck_runner.specs.NoFalseFile.{Ledger, first_ledger, during, behind, StandsBy}
-use Rattle.file_session.specs.Files.{NumberedFile, Files, file_at, no_files}
+use Rattle.file_session.specs.Files.{NumberedFile, Files, file_of_number, no_numbered_files}
 
 -- what is written down of a described file: the library that was given for it, and what the images
 -- of each name may be, as it is of the run of a deck
@@ -39,7 +39,7 @@ AllReal shown file book now =
 
 -- a file and its book: each name stands by its ledger now, and has had no false image since the
 -- file was described
-pub record Stands {S : Type 0} (shown : Shown S) (file : NumberedFile S) (book : Book S) : Type 0 where
+pub record StandsByBook {S : Type 0} (shown : Shown S) (file : NumberedFile S) (book : Book S) : Type 0 where
   pub now : AllStand shown file.name book file.memory.library file.memory.library
   pub since : AllReal shown file.name book file.memory.library
 
@@ -52,20 +52,21 @@ abbrev pub with_book : {S : Type 0} → Books S → ℕ → Option (Book S) → 
 with_book books number book = λ other. if eqb other number then book else books other
 
 -- a point between two requests: the files there, and their books
-pub record Judged (S : Type 0) : Type 0 where
+pub record JudgedFiles (S : Type 0) : Type 0 where
   pub files : Files S
   pub books : Books S
 
 -- no file is described
-abbrev pub none_judged : {S : Type 0} → Judged S
-none_judged = record { files = no_files; books = λ number. None }
+abbrev pub none_judged : {S : Type 0} → JudgedFiles S
+none_judged = record { files = no_numbered_files; books = λ number. None }
 
 -- a number has a book where it has a file, and by that book each name stands
-abbrev pub StandsAt : {S : Type 0} → Shown S → Option (NumberedFile S) → Option (Book S) → Type 0
-StandsAt shown None None = Unit {0}
-StandsAt shown None (Some book) = ⊥
-StandsAt shown (Some file) None = ⊥
-StandsAt shown (Some file) (Some book) = Stands shown file book
+abbrev pub BookStandsAt : {S : Type 0} → Shown S → Option (NumberedFile S) → Option (Book S) → Type 0
+BookStandsAt shown None None = Unit {0}
+BookStandsAt shown None (Some book) = ⊥
+BookStandsAt shown (Some file) None = ⊥
+BookStandsAt shown (Some file) (Some book) = StandsByBook shown file book
 
-abbrev pub StandNow : {S : Type 0} → Shown S → Judged S → Type 0
-StandNow shown judged = (number : ℕ) → StandsAt shown (file_at judged.files number) (judged.books number)
+abbrev pub BooksStandNow : {S : Type 0} → Shown S → JudgedFiles S → Type 0
+BooksStandNow shown judged = (number : ℕ)
+    → BookStandsAt shown (file_of_number judged.files number) (judged.books number)

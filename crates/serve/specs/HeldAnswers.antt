@@ -22,9 +22,9 @@ pub record SendsHeld (old new : Option (List ℕ)) (held held_after : List ℕ)
 
 -- before the input is asked on, the writer took all that was held; or the next frame had come
 -- whole, and nothing was done
-abbrev pub MakesWay : (ahead : List ℕ) → (written written_after : Option (List ℕ))
+abbrev pub MakesWayForInput : (ahead : List ℕ) → (written written_after : Option (List ℕ))
     → (held held_after : List ℕ) → Type 0
-MakesWay ahead written written_after held held_after =
+MakesWayForInput ahead written written_after held held_after =
     (BeginsWithFrame ahead × Appends written written_after [] × (held_after ≡ held))
     ⊎ HandsAllOver written written_after held held_after
 

@@ -24,5 +24,5 @@ asks_to_read (Some (Performing p)) = is_reading p.statement
 asks_to_read (Some (Releasing number)) = false
 
 -- the body is that of a request for one of these
-abbrev pub OnlyReads : List ℕ → Type 0
-OnlyReads body = IsTrue (asks_to_read (request_in body))
+abbrev pub AsksOnlyToRead : List ℕ → Type 0
+AsksOnlyToRead body = IsTrue (asks_to_read (request_in body))

@@ -8,13 +8,13 @@ use Rattle.indexed_file.specs.Shown.{Shown}
 use Rattle.request_frames.specs.Answer.{Told, Refuses, framed}
 use Rattle.request_frames.specs.Reading.{request_in}
 use Rattle.request_frames.specs.declared.refusal.Refusal.TheVariants as refusal
-use Rattle.file_session.specs.Files.{Files, no_files}
+use Rattle.file_session.specs.Files.{Files, no_numbered_files}
 use Rattle.file_session.specs.Steps.{ClosesFirst}
-use Rattle.standard_input.specs.Source.{Source, source_of, Gives, HasEnded, HasFailed}
+use Rattle.standard_input.specs.Source.{Source, source_of, GivesBytes, HasEnded, HasFailed}
 use Rattle.standard_input.specs.declared.standard_input.StandardInput.{StandardInput}
-use Rattle.serve.specs.Input.{IsCut}
-use Rattle.serve.specs.Answers.{Answers, answer_frame}
-use Rattle.serve.specs.Reads.{OnlyReads}
+use Rattle.serve.specs.Input.{IsCutFrame}
+use Rattle.serve.specs.Answers.{AnswersRequest, answer_frame}
+use Rattle.serve.specs.Reads.{AsksOnlyToRead}
 use Rattle.serve.specs.declared.fault.ServeFault.{ServeFault}
 use Rattle.serve.specs.declared.fault.ServeFault.TheVariants.{Input, Output, Memory}
 
@@ -27,30 +27,30 @@ pub record Exchange : Type 0 where
 abbrev pub requests : List Exchange → List ℕ
 requests exchanges = flat_map (λ e. framed e.body) exchanges
 
-abbrev pub answers : List Exchange → List ℕ
-answers exchanges = flat_map (λ e. answer_frame e.told) exchanges
+abbrev pub answer_bytes : List Exchange → List ℕ
+answer_bytes exchanges = flat_map (λ e. answer_frame e.told) exchanges
 
 -- requests were answered one after another, each in what those before it left
 abbrev pub Serving : {S : Type 0} → Shown S → (IsNew : S → Type 0) → Files S → List Exchange → Files S
     → Type 0
 Serving shown IsNew old [] new = new ≡ old
 Serving {S} shown IsNew old (e ∷ rest) new =
-    (between : Files S) × Answers shown IsNew (request_in e.body) old e.told between
+    (between : Files S) × AnswersRequest shown IsNew (request_in e.body) old e.told between
     × Serving shown IsNew between rest new
 
 -- the open files were closed, the one that was opened first at first, until none was open
-abbrev pub Closes : {S : Type 0} → Shown S → Files S → List Status → Files S → Type 0
-Closes shown old [] new = (old.opened ≡ []) × (new ≡ old)
-Closes {S} shown old (status ∷ rest) new = (between : Files S) × ClosesFirst shown old status between
-    × Closes shown between rest new
+abbrev pub ClosesAllFiles : {S : Type 0} → Shown S → Files S → List Status → Files S → Type 0
+ClosesAllFiles shown old [] new = (old.opened ≡ []) × (new ≡ old)
+ClosesAllFiles {S} shown old (status ∷ rest) new = (between : Files S) × ClosesFirst shown old status between
+    × ClosesAllFiles shown between rest new
 
 -- the input ended, in a frame or before one
 pub record EndsInput (input_after : Source) (exchanges : List Exchange) (read written : List ℕ) : Type 0 where
   pub cut : List ℕ
-  pub is_cut : IsCut cut
+  pub is_cut : IsCutFrame cut
   pub read_is : read ≡ requests exchanges ++ cut
   pub ended : HasEnded input_after
-  pub written_is : written ≡ answers exchanges
+  pub written_is : written ≡ answer_bytes exchanges
 
 -- the answer to a length past the limit
 abbrev pub too_long : List ℕ
@@ -61,16 +61,16 @@ pub record EndsTooLong (exchanges : List Exchange) (read written : List ℕ) : T
   pub size : ℕ
   pub past : 8192 < size
   pub read_is : read ≡ requests exchanges ++ big_bytes 2 size
-  pub written_is : written ≡ answers exchanges ++ too_long
+  pub written_is : written ≡ answer_bytes exchanges ++ too_long
 
 -- a read failed, in a frame or before one; or as many requests were answered as a session has at most
 pub record FailsToRead (input_after : Source) (exchanges : List Exchange)
     (read written : List ℕ) : Type 0 where
   pub cut : List ℕ
-  pub is_cut : IsCut cut
+  pub is_cut : IsCutFrame cut
   pub read_is : read ≡ requests exchanges ++ cut
   pub why : HasFailed input_after ⊎ (2 ^ 64 - 1 ≤ length exchanges)
-  pub written_is : written ≡ answers exchanges
+  pub written_is : written ≡ answer_bytes exchanges
 
 -- the writer refused the last answer, of which it has a front, or all where it did not hand it on
 pub record FailsToAnswer (exchanges : List Exchange) (read written : List ℕ) : Type 0 where
@@ -81,12 +81,12 @@ pub record FailsToAnswer (exchanges : List Exchange) (read written : List ℕ) :
   pub rest : List ℕ
   pub frame : answer_frame last.told ≡ front ++ rest
   pub read_is : read ≡ requests exchanges
-  pub written_is : written ≡ answers before ++ front
+  pub written_is : written ≡ answer_bytes before ++ front
 
 -- behind the requests that were performed: less than a frame, a length past the limit, or a frame
 -- whose request was not performed
 pub data IsUnanswered : List ℕ → Type 0 where
-  Less : (bytes : List ℕ) → IsCut bytes → IsUnanswered bytes
+  Less : (bytes : List ℕ) → IsCutFrame bytes → IsUnanswered bytes
   PastLimit : (size : ℕ) → 8192 < size → IsUnanswered (big_bytes 2 size)
   NotPerformed : (body : List ℕ) → IsUnanswered (framed body)
 
@@ -97,14 +97,14 @@ pub record FailsToHandOver (exchanges : List Exchange) (read written : List ℕ)
   pub failed : Exchange
   pub behind : List Exchange
   pub are : exchanges ≡ before ++ failed ∷ behind
-  pub reads : All (λ e. OnlyReads e.body) (failed ∷ behind)
+  pub reads : All (λ e. AsksOnlyToRead e.body) (failed ∷ behind)
   pub front : List ℕ
   pub rest : List ℕ
   pub frame : answer_frame failed.told ≡ front ++ rest
   pub more : List ℕ
   pub unanswered : IsUnanswered more
   pub read_is : read ≡ requests exchanges ++ more
-  pub written_is : written ≡ answers before ++ front
+  pub written_is : written ≡ answer_bytes before ++ front
 
 -- so with the refusal of a length past the limit
 pub record FailsToRefuse (exchanges : List Exchange) (read written : List ℕ) : Type 0 where
@@ -114,17 +114,17 @@ pub record FailsToRefuse (exchanges : List Exchange) (read written : List ℕ) :
   pub rest : List ℕ
   pub frame : too_long ≡ front ++ rest
   pub read_is : read ≡ requests exchanges ++ big_bytes 2 size
-  pub written_is : written ≡ answers exchanges ++ front
+  pub written_is : written ≡ answer_bytes exchanges ++ front
 
 -- how the requests ended
-abbrev pub Ends : Source → List Exchange → (read written : List ℕ) → Result Unit ServeFault → Type 0
-Ends input_after exchanges read written (Ok _) =
+abbrev pub EndsSession : Source → List Exchange → (read written : List ℕ) → Result Unit ServeFault → Type 0
+EndsSession input_after exchanges read written (Ok _) =
     EndsInput input_after exchanges read written ⊎ EndsTooLong exchanges read written
-Ends input_after exchanges read written (Err Input) = FailsToRead input_after exchanges read written
-Ends input_after exchanges read written (Err Output) =
+EndsSession input_after exchanges read written (Err Input) = FailsToRead input_after exchanges read written
+EndsSession input_after exchanges read written (Err Output) =
     FailsToAnswer exchanges read written ⊎ FailsToHandOver exchanges read written
     ⊎ FailsToRefuse exchanges read written
-Ends input_after exchanges read written (Err Memory) = ⊥
+EndsSession input_after exchanges read written (Err Memory) = ⊥
 
 -- what an input has left and gave, and what an output has, before and after
 pub record Streams : Type 0 where
@@ -148,19 +148,19 @@ pub record Serves {S : Type 0} (shown : Shown S) (IsNew : S → Type 0) (s : Str
   pub serving : Serving shown IsNew old exchanges new
   pub read : List ℕ
   pub written : List ℕ
-  pub gives : Gives s.input s.input_after read
+  pub gives : GivesBytes s.input s.input_after read
   pub appends : Appends s.output s.output_after written
-  pub ends : Ends s.input_after exchanges read written result
+  pub ends : EndsSession s.input_after exchanges read written result
 
 -- a whole session: its requests were answered, from the first one, when no file was described; and
 -- then the files that were still open were closed
 pub record Served {S : Type 0} (shown : Shown S) (IsNew : S → Type 0) (s : Streams)
     (result : Result Unit ServeFault) : Type 0 where
   pub last : Files S
-  pub served : Serves shown IsNew s no_files last result
+  pub served : Serves shown IsNew s no_numbered_files last result
   pub closes : List Status
   pub end : Files S
-  pub closed : Closes shown last closes end
+  pub closed : ClosesAllFiles shown last closes end
 
 -- the same of the reader and the writer themselves
 abbrev pub ServesInput : {S R W : Type 0} → Shown S → (IsNew : S → Type 0)

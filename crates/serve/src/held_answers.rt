@@ -1,6 +1,6 @@
 //! The answers that are on their way to the writer.
 ghost use Rattle.std.specs.Prelude.{OnOk, OnErr};
-ghost use Rattle.serve.specs.HeldAnswers.{RefusesHeld, SendsHeld, MakesWay};
+ghost use Rattle.serve.specs.HeldAnswers.{RefusesHeld, SendsHeld, MakesWayForInput};
 
 use crate::frame::has_frame;
 use crate::output::hand_on;
@@ -21,7 +21,7 @@ pub fn send_held<W: Write>(held: &mut HeldText, out: &mut W) -> Result<(), Refus
 /// Hands all answers that are held to the writer, unless the next request is whole among the bytes
 /// that have come.
 pub fn make_way<W: Write>(held: &mut HeldText, ahead: &[u8], out: &mut W) -> Result<(), Refused>
-    ensures ready { OnOk result (MakesWay ahead.now (W.contents out.old)
+    ensures ready { OnOk result (MakesWayForInput ahead.now (W.contents out.old)
         (W.contents out.new) held.old held.new) }
     ensures refused { OnErr result (RefusesHeld (W.contents out.old) (W.contents out.new) held.old) }
 {

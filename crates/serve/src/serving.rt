@@ -1,7 +1,7 @@
 //! The requests of a session, one after another.
 ghost use Rattle.std.specs.Prelude.{◌≡◌, [], List, Err};
 ghost use Rattle.io_state.specs.declared.status.Status.{Status as ToldStatus};
-ghost use Rattle.serve.specs.Serving.{ServesInput, Closes, ServesAll};
+ghost use Rattle.serve.specs.Serving.{ServesInput, ClosesAllFiles, ServesAll};
 ghost use Rattle.serve.specs.Answering.{outgoing, AnswersRead, AnswersOther, AnswersOne, Finishes};
 ghost use Rattle.serve.specs.Answering.{RefusesLength};
 
@@ -133,7 +133,7 @@ fn answer_all<M: Libraries, R: Read + ReadsAhead, W: Write>(
 
 /// Closes the files that are open, in the order of opening.
 fn close_all<L: Library + Drop>(session: &mut Session<L>)
-    ensures { (statuses : List ToldStatus) × Closes L.shown session.old statuses session.new }
+    ensures { (statuses : List ToldStatus) × ClosesAllFiles L.shown session.old statuses session.new }
 {
     for _ in 0..session.open_count() {
         let _ = session.close_first();

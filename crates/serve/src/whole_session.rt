@@ -1,5 +1,5 @@
 //! A whole session.
-ghost use Rattle.serve.specs.NoFalseFile.{NoFalseFile};
+ghost use Rattle.serve.specs.NoFalseFile.{NoFalseFileInSession};
 
 use crate::libraries::Libraries;
 
@@ -9,5 +9,5 @@ use crate::libraries::Libraries;
 /// images of a name really were absent, closed or refused in the library that was given for the
 /// file, all have been so since. What one library leaves, and another one finds, is not said.
 pub fn no_false_file<M: Libraries>(_libraries: &M)
-    ensures { NoFalseFile M.Library.shown (M.is_new _libraries.now) }
+    ensures { NoFalseFileInSession M.Library.shown (M.is_new _libraries.now) }
 {}

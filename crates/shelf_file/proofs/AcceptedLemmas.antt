@@ -4,7 +4,7 @@ use Rattle.std.proofs.lemmas.Bool.{cases_Bool}
 use Rattle.indexed_file.specs.File.{File}
 use Rattle.indexed_file.specs.World.{Closed}
 use Rattle.page_store.specs.DeviceFile.{DeviceFile, content, bytes_or_none}
-use Rattle.page_store.specs.Pages.{page_of}
+use Rattle.page_store.specs.Pages.{page_of_bytes}
 use Rattle.file_header.specs.declared.header.Header.{Header}
 use Rattle.file_header.specs.Reading.{header_in}
 use Rattle.file_header.specs.Bounds.{IsHeader}
@@ -25,15 +25,15 @@ accepted_by bytes (Some other) header is = elim (cases_Bool (nat_lt (length byte
 ]
 
 -- its first page has this header
-pub accepted_page : (bytes : List ℕ) (header : Header) → look_of (Some bytes) ≡ Accepted header → header_in (page_of bytes 0) ≡ Some header
+pub accepted_page : (bytes : List ℕ) (header : Header) → look_of (Some bytes) ≡ Accepted header → header_in (page_of_bytes bytes 0) ≡ Some header
 accepted_page bytes header is = elim (cases_Bool (nat_lt (length bytes) 4096)) [
   | inl short ↦ let e : Refused ≡ Accepted header = rw short at is in absurd (cc)
-  | inr long ↦ accepted_by bytes (header_in (page_of bytes 0)) header (rw long at is)
+  | inr long ↦ accepted_by bytes (header_in (page_of_bytes bytes 0)) header (rw long at is)
 ]
 
 -- which is one that a file may have
 pub accepted_allowed : (bytes : List ℕ) (header : Header) → look_of (Some bytes) ≡ Accepted header → IsHeader header
-accepted_allowed bytes header is = (read_first header (page_of bytes 0) (accepted_page bytes header is)).allowed
+accepted_allowed bytes header is = (read_first header (page_of_bytes bytes 0) (accepted_page bytes header is)).allowed
 
 -- the file is there
 pub accepted_there : (file : DeviceFile) (header : Header) → look_of file.seen ≡ Accepted header → file.seen ≡ Some (content file)

@@ -6,12 +6,12 @@ use Rattle.indexed_file.specs.File.{File}
 use Rattle.page_store.specs.Gate.{IsRefused}
 use Rattle.page_store.proofs.MomentLemmas.{throughout_weaker}
 use Rattle.page_store.specs.DeviceFile.{DeviceFile, content}
-use Rattle.page_store.specs.Pages.{page_of}
+use Rattle.page_store.specs.Pages.{page_of_bytes}
 use Rattle.page_store.specs.ShelfState.{ShelfState}
-use Rattle.page_cache.specs.Cached.{pages_of}
+use Rattle.page_cache.specs.Cached.{cached_pages_of}
 use Rattle.page_alloc.specs.Chain.{chain, used}
 use Rattle.page_alloc.specs.PagedFile.{IsClosedWith, ClosedWith, ClosesPages}
-use Rattle.page_alloc.specs.Steps.{state_of}
+use Rattle.page_alloc.specs.Steps.{pages_state_of}
 use Rattle.file_header.specs.declared.header.Header.{Header}
 use Rattle.file_header.specs.Bounds.{FitsItsBytes, IsHeader}
 use Rattle.file_header.specs.FirstPage.{header_bytes, closed_page}
@@ -48,7 +48,7 @@ unpathed_stands opened live file stands = record {
 module _ (held : ShelfFile) (shelf : ShelfState) (file : File) (header : Header) (page : List ℕ) (ready : IsReady held shelf) (unbroken : IsFalse held.file.broken) (stood : StandsFor held shelf file)
     (of : IsHeaderOf header held.file) (counts : Counts header held.pages.pager.count held.pages.pager.first held.pages.pager.free) (room : FitsItsBytes header) (written : page ≡ header_bytes header) where
   allowed : IsHeader header
-  allowed = closed_header held.file (pages_of held.pages.cache shelf) held.pages.pager.count held.pages.pager.first held.pages.pager.free file header stood.stands stood.sound ready.shaped of counts room
+  allowed = closed_header held.file (cached_pages_of held.pages.cache shelf) held.pages.pager.count held.pages.pager.first held.pages.pager.free file header stood.stands stood.sound ready.shaped of counts room
 
   by_header : IsOpenedBy header (unpathed held.file)
   by_header = record {
@@ -75,27 +75,27 @@ module _ (held : ShelfFile) (shelf : ShelfState) (file : File) (header : Header)
   }
 
   module _ (bytes : List ℕ) (closed : IsClosedWith page held.pages.cache shelf bytes) where
-    alike : AreAlike held.pages.pager.count (page_of bytes) (pages_of held.pages.cache shelf)
+    alike : AreAlike held.pages.pager.count (page_of_bytes bytes) (cached_pages_of held.pages.cache shelf)
     alike n counted =
         let low = and_parts (ltb 0 n) (ltb n held.pages.pager.count) counted in
         let below = ltb-true n held.pages.pager.count low.1 in
         let all = ready.over.joined.counted in
         closed.pages n (and_from (ltb 0 n) (ltb n held.pages.cache.store.pages) low.0 (lt-ltb n held.pages.cache.store.pages (omega arith)))
 
-    same_free : free_in header bytes ≡ chain (pages_of held.pages.cache shelf) held.pages.pager.count held.pages.pager.first held.pages.pager.free
+    same_free : free_in header bytes ≡ chain (cached_pages_of held.pages.cache shelf) held.pages.pager.count held.pages.pager.first held.pages.pager.free
     same_free =
-        (λ i. chain (page_of bytes) (counts.pages_are i) (counts.first_is i) (counts.free_are i))
-        ∙ same_chain (page_of bytes) (pages_of held.pages.cache shelf) held.pages.pager.count alike held.pages.pager.first held.pages.pager.free
+        (λ i. chain (page_of_bytes bytes) (counts.pages_are i) (counts.first_is i) (counts.free_are i))
+        ∙ same_chain (page_of_bytes bytes) (cached_pages_of held.pages.cache shelf) held.pages.pager.count alike held.pages.pager.first held.pages.pager.free
 
-    live_same : live_in header bytes ≡ (state_of held.pages shelf).live
+    live_same : live_in header bytes ≡ (pages_state_of held.pages shelf).live
     live_same =
-        (λ i. used (page_of bytes) (counts.pages_are i) (chain (page_of bytes) (counts.pages_are i) (counts.first_is i) (counts.free_are i)))
-        ∙ same_live (page_of bytes) (pages_of held.pages.cache shelf) held.pages.pager.count alike held.pages.pager.first held.pages.pager.free
+        (λ i. used (page_of_bytes bytes) (counts.pages_are i) (chain (page_of_bytes bytes) (counts.pages_are i) (counts.first_is i) (counts.free_are i)))
+        ∙ same_live (page_of_bytes bytes) (cached_pages_of held.pages.cache shelf) held.pages.pager.count alike held.pages.pager.first held.pages.pager.free
 
     accepted : look_of (Some bytes) ≡ Accepted header
     accepted =
-        let first : page_of bytes 0 ≡ closed_page header = closed.header ∙ ap (λ l. 67 ∷ drop 1 l) written in
-        let found : header_in (page_of bytes 0) ≡ Some header = ap header_in first ∙ first_read header (closed_page header) (record { allowed = allowed; bytes = refl }) in
+        let first : page_of_bytes bytes 0 ≡ closed_page header = closed.header ∙ ap (λ l. 67 ∷ drop 1 l) written in
+        let found : header_in (page_of_bytes bytes 0) ≡ Some header = ap header_in first ∙ first_read header (closed_page header) (record { allowed = allowed; bytes = refl }) in
         let count = counts.pages_are in
         let all = ready.over.joined.counted in
         let some = ready.over.joined.header in

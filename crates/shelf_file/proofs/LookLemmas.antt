@@ -2,7 +2,7 @@
 use Rattle.std.proofs.Common.{◌≡◌, ℕ, ◌≤◌, ◌*◌, Bool, true, false, List, length, take, drop, nat_lt, inl, inr, Option, Some, None, is_some, refl, ap, ◌∙◌, subst, arith}
 use Rattle.std.proofs.lemmas.Bool.{le-ltb, ltb-false, cases_Bool}
 use Rattle.page_store.specs.DeviceFile.{DeviceFile, bytes_or_none}
-use Rattle.page_store.specs.Pages.{page_of, HasPages}
+use Rattle.page_store.specs.Pages.{page_of_bytes, HoldsPages}
 use Rattle.page_store.specs.ShelfState.{ShelfState, OnlyAnswers, unit_file}
 use Rattle.file_header.specs.declared.header.Header.{Header}
 use Rattle.file_header.specs.Reading.{header_in}
@@ -27,7 +27,7 @@ read_look (Some bytes) there size page header look is so long whole read full fo
     rw enough (made bytes long ∙ ap (look_by bytes) (found ∙ ap header_in first))
 
 -- a file that is accepted has the pages that it counts
-pub accepted_pages : (file : DeviceFile) (header : Header) → IsHeader header → look_of file.seen ≡ Accepted header → HasPages header.pages file
+pub accepted_pages : (file : DeviceFile) (header : Header) → IsHeader header → look_of file.seen ≡ Accepted header → HoldsPages header.pages file
 accepted_pages file header allowed is = go file.seen refl is
   where
     counted : 1 ≤ header.pages
@@ -42,11 +42,11 @@ accepted_pages file header allowed is = go file.seen refl is
           subst (λ (h : Header). 4096 * h.pages ≤ length bytes) same (omega (arith, ltb-false (length bytes) (4096 * found.pages) long))
     ]
 
-    go : (seen : Option (List ℕ)) → file.seen ≡ seen → look_of seen ≡ Accepted header → HasPages header.pages file
+    go : (seen : Option (List ℕ)) → file.seen ≡ seen → look_of seen ≡ Accepted header → HoldsPages header.pages file
     go None same looks = absurd (cc)
     go (Some bytes) same looks = elim (cases_Bool (nat_lt (length bytes) 4096)) [
       | inl short ↦ let h = rw short at looks in absurd (cc)
-      | inr whole ↦ let long = by_header bytes (header_in (page_of bytes 0)) (rw whole at looks) in record {
+      | inr whole ↦ let long = by_header bytes (header_in (page_of_bytes bytes 0)) (rw whole at looks) in record {
         there = rw same refl;
         long = rw same (let c = counted in omega arith);
       }

@@ -13,9 +13,9 @@ use Rattle.page_store.proofs.OpenLemmas.{open_kept, all_refused}
 use Rattle.page_store.specs.ShelfState.{ShelfState, unit_file}
 use Rattle.page_alloc.specs.declared.paged_file.PagedFile.{PagedFile}
 use Rattle.page_alloc.specs.Chain.{is_page}
-use Rattle.page_alloc.specs.Joining.{HasFailed, available_of}
+use Rattle.page_alloc.specs.Joining.{FaultsRose, available_of}
 use Rattle.page_alloc.specs.PagedFile.{IsOpenOver, IsNewPagedFile}
-use Rattle.page_alloc.specs.Steps.{Goes, state_of}
+use Rattle.page_alloc.specs.Steps.{Goes, pages_state_of}
 use Rattle.page_alloc.specs.StepLaws.{failed_after}
 use Rattle.page_alloc.proofs.OpenLemmas.{made_quietly}
 use Rattle.open_file.specs.Creating.{IsNewFile, IsNewOpenFile}
@@ -46,18 +46,18 @@ module _ (unit limit : ℕ) (a b : PagedFile) (s t : ShelfState) (failed fails :
   made_refused honest = all_refused (unit_file t unit) (open_kept (unit_file s unit) (unit_file t unit) (all_open honest) quiet)
 
   -- the pages before are sound, and none is in use
-  pub new_sound : IsTrue (state_of a s).is_sound
+  pub new_sound : IsTrue (pages_state_of a s).is_sound
   new_sound = rw made.pager refl
 
-  pub new_free : (n : ℕ) → (state_of a s).live n ≡ None
+  pub new_free : (n : ℕ) → (pages_state_of a s).live n ≡ None
   new_free n = rw (made.pager, none_counted n) refl
 
   pub new_available : available_of a.pager ≡ limit - 1
   new_available = rw made.pager (omega arith)
 
   -- a fault is no lack of pages
-  pub made_cause : (first keys : ℕ) (e : Fault) → first ≤ failed → 16 ≤ limit → keys ≤ 9 → IsCaused (HasFailed failed fails) (available_of a.pager < keys) e
-      → IsCausedIn false (HasFailed first fails) ⊥ e
+  pub made_cause : (first keys : ℕ) (e : Fault) → first ≤ failed → 16 ≤ limit → keys ≤ 9 → IsCaused (FaultsRose failed fails) (available_of a.pager < keys) e
+      → IsCausedIn false (FaultsRose first fails) ⊥ e
   made_cause first keys e before enough few cause = record {
     device = λ is. failed_after first failed fails before (cause.device is);
     full = λ is. let lacks = cause.full is in let has = new_available in absurd (omega arith);
@@ -65,7 +65,7 @@ module _ (unit limit : ℕ) (a b : PagedFile) (s t : ShelfState) (failed fails :
   }
 
   pub is_made : (file : OpenFile) (schema : Schema) → IsNewOpenFile file schema → available_of b.pager + length schema.keys ≡ available_of a.pager
-      → (IsTrue t.is_honest → IsNewFile file (state_of b t).live (IsTrue (state_of b t).is_sound)) → IsMade (record { file = file; pages = b }) unit limit schema t
+      → (IsTrue t.is_honest → IsNewFile file (pages_state_of b t).live (IsTrue (pages_state_of b t).is_sound)) → IsMade (record { file = file; pages = b }) unit limit schema t
   is_made file schema parts spent new = record {
     unit_is = goes.parts.unit ∙ made.unit_is;
     schema_is = parts.schema_is;

@@ -3,7 +3,7 @@ use Rattle.std.proofs.Common.{◌≡◌, ℕ, Bool, IsTrue, refl, subst, sym}
 use Rattle.indexed_file.specs.File.{File}
 use Rattle.page_store.specs.ShelfState.{ShelfState}
 use Rattle.page_alloc.specs.declared.paged_file.PagedFile.{PagedFile}
-use Rattle.page_alloc.specs.Steps.{ReadsPages}
+use Rattle.page_alloc.specs.Steps.{ReadsFilePages}
 use Rattle.open_file.specs.declared.open_file.OpenFile.{OpenFile}
 use Rattle.open_file.specs.Stands.{Stands, IsShaped}
 use Rattle.shelf_file.specs.declared.shelf_file.ShelfFile.{ShelfFile}
@@ -23,7 +23,7 @@ at_ends P end now end_too now_too tie same tie_too same_too p =
 -- a call that leaves the file's parts, but for its path
 pub reads_but_path : (old new : ShelfFile) (before after : ShelfState) (failed fails : ℕ) → new.file ≡ record old.file { path = new.file.path }
     → (IsTrue after.is_honest → (rows : File) → Stands old.file (live_of old before) rows → Stands new.file (live_of old before) rows)
-    → ReadsPages old.pages new.pages before after failed fails → OnlyReadsFile old new before after failed fails
+    → ReadsFilePages old.pages new.pages before after failed fails → OnlyReadsFile old new before after failed fails
 reads_but_path old new before after failed fails parts stays reads = record {
   file = parts;
   pages = reads;
@@ -35,13 +35,13 @@ reads_but_path old new before after failed fails parts stays reads = record {
 }
 
 -- a call that leaves the file's parts
-pub only_reads : (file : OpenFile) (a b : PagedFile) (before after : ShelfState) (failed fails : ℕ) → ReadsPages a b before after failed fails
+pub only_reads : (file : OpenFile) (a b : PagedFile) (before after : ShelfState) (failed fails : ℕ) → ReadsFilePages a b before after failed fails
     → OnlyReadsFile (record { file = file; pages = a }) (record { file = file; pages = b }) before after failed fails
 only_reads file a b before after failed fails reads =
     reads_but_path (record { file = file; pages = a }) (record { file = file; pages = b }) before after failed fails refl (λ honest rows s. s) reads
 
 pub reads_same : (old new : ShelfFile) (before after : ShelfState) (failed fails : ℕ) → new.file ≡ old.file
-    → ReadsPages old.pages new.pages before after failed fails → OnlyReadsFile old new before after failed fails
+    → ReadsFilePages old.pages new.pages before after failed fails → OnlyReadsFile old new before after failed fails
 reads_same old new before after failed fails same reads =
     reads_but_path old new before after failed fails
     (subst (λ (file : OpenFile). file ≡ record old.file { path = file.path }) (sym same) refl)

@@ -16,8 +16,8 @@ use Rattle.indexed_file.specs.declared.answer.Replaced.{Replaced}
 use Rattle.pages.specs.Answer.{IsAnswer}
 use Rattle.record_layout.specs.Schema.{Schema}
 use Rattle.page_store.specs.ShelfState.{ShelfState}
-use Rattle.page_alloc.specs.Joining.{HasFailed}
-use Rattle.page_alloc.specs.Steps.{ReadsPages, Moves, state_of}
+use Rattle.page_alloc.specs.Joining.{FaultsRose}
+use Rattle.page_alloc.specs.Steps.{ReadsFilePages, Moves, pages_state_of}
 use Rattle.open_file.specs.Stands.{Stands}
 use Rattle.open_file.specs.Faults.{IsCausedIn}
 use Rattle.open_file.specs.Reading.{FindsFirst, Seeks}
@@ -45,7 +45,7 @@ pub record IsReadyToWrite (held : ShelfFile) (shelf : ShelfState) (bytes : List 
 -- a call that only reads: but for its path the file is as it was, and so are its pages
 pub record OnlyReadsFile (old new : ShelfFile) (before after : ShelfState) (failed fails : ℕ) : Type 0 where
   pub file : new.file ≡ record old.file { path = new.file.path }
-  pub pages : ReadsPages old.pages new.pages before after failed fails
+  pub pages : ReadsFilePages old.pages new.pages before after failed fails
   pub ready : IsReady old before → IsReady new after
   pub stands : IsTrue after.is_honest → (file : File) → StandsFor old before file → StandsFor new after file
 
@@ -62,7 +62,7 @@ on_shelf held shelf faults = record { held = held; shelf = shelf; faults = fault
 abbrev pub shown_on_shelf : ShownFile FileOnShelf
 shown_on_shelf = record {
   is_honest = λ at. at.shelf.is_honest;
-  IsSound = λ at. IsTrue (state_of at.held.pages at.shelf).is_sound;
+  IsSound = λ at. IsTrue (pages_state_of at.held.pages at.shelf).is_sound;
   StandsFor = λ at. Stands at.held.file (live_of at.held at.shelf);
   is_broken = λ at. at.held.file.broken;
   schema = λ at. at.held.file.schema;
@@ -74,14 +74,14 @@ shown_on_shelf = record {
       after.faults;
   Begins = λ before after. Moves before.held.pages after.held.pages before.shelf after.shelf before.faults
       after.faults;
-  HasFailed = λ before after. HasFailed before.faults after.faults;
+  HasFailed = λ before after. FaultsRose before.faults after.faults;
 }
 
 -- a call that only reads: why it gave up, how many pages it asked for at most, and what it left
 pub record ReadsOnShelf {X : Type 0} (most : ℕ) (before after : FileOnShelf)
     (result : Result X Fault) : Type 0 where
   pub broken : IsTrue before.held.file.broken → result ≡ Err Broken
-  pub cause : IfErr result (IsCausedIn before.held.file.broken (HasFailed before.faults after.faults) ⊥)
+  pub cause : IfErr result (IsCausedIn before.held.file.broken (FaultsRose before.faults after.faults) ⊥)
   pub asked : after.held.pages.cache.asked ≤ before.held.pages.cache.asked + most
   pub step : OnlyReadsFile before.held after.held before.shelf after.shelf before.faults after.faults
 
@@ -149,7 +149,8 @@ module _ {H : Type 0} (state : H → ShelfState) where
         (on_shelf held (state old) (count old)) (on_shelf now (state new) (count new)) result
 
     -- a call that makes this change of the file
-    abbrev pub ChangesHeld : (Schema → FileChange X) → (held now : ShelfFile) → H → H → Result X Fault → Type 0
+    abbrev pub ChangesHeld : (Schema → FileChange X) → (held now : ShelfFile) → H → H → Result X Fault
+        → Type 0
     ChangesHeld change held now old new result = ChangesOnShelf change
         (on_shelf held (state old) (count old)) (on_shelf now (state new) (count new)) result
 

@@ -3,7 +3,7 @@ use Rattle.std.specs.Prelude.{ℕ, ◌*◌, List, length, nat_lt, Option, None, 
 use Rattle.indexed_file.specs.File.{File}
 use Rattle.indexed_file.specs.World.{Named, Absent, Closed, Unsound}
 use Rattle.pages.specs.PageMap.{PageMap}
-use Rattle.page_store.specs.Pages.{page_of}
+use Rattle.page_store.specs.Pages.{page_of_bytes}
 use Rattle.page_alloc.specs.Chain.{chain, used}
 use Rattle.file_header.specs.declared.header.Header.{Header}
 use Rattle.file_header.specs.Reading.{header_in}
@@ -23,14 +23,14 @@ look_by bytes (Some header) = if nat_lt (length bytes) (4096 * header.pages) the
 abbrev pub look_of : Option (List ℕ) → Look
 look_of None = NoFile
 look_of (Some bytes) = if nat_lt (length bytes) 4096 then Refused else look_by bytes
-    (header_in (page_of bytes 0))
+    (header_in (page_of_bytes bytes 0))
 
 -- the free pages and the pages in use of a closed file
 abbrev pub free_in : Header → List ℕ → Option (List ℕ)
-free_in header bytes = chain (page_of bytes) header.pages header.first_free header.free
+free_in header bytes = chain (page_of_bytes bytes) header.pages header.first_free header.free
 
 abbrev pub live_in : Header → List ℕ → PageMap
-live_in header bytes = used (page_of bytes) header.pages (free_in header bytes)
+live_in header bytes = used (page_of_bytes bytes) header.pages (free_in header bytes)
 
 -- what a name stands for, by what a look finds
 abbrev pub named_by : List ℕ → Look → Named

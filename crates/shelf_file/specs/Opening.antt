@@ -8,7 +8,7 @@ use Rattle.page_store.specs.Gate.{WasOrRefused}
 use Rattle.page_store.specs.Moments.{Throughout}
 use Rattle.page_store.specs.ShelfState.{ShelfState, FileGoes, KeepsOthers, OnlyAnswers, FaultHasCause}
 use Rattle.page_store.specs.ShelfState.{unit_file}
-use Rattle.page_alloc.specs.Joining.{HasFailed}
+use Rattle.page_alloc.specs.Joining.{FaultsRose}
 use Rattle.page_alloc.specs.PagedFile.{StandsOrRefused}
 use Rattle.file_header.specs.declared.header.Header.{Header}
 use Rattle.open_file.specs.Faults.{IsCausedIn}
@@ -23,8 +23,8 @@ pub record CountedShelf : Type 0 where
   pub shelf : ShelfState
   pub faults : ℕ
 
-abbrev pub counted : ShelfState → ℕ → CountedShelf
-counted shelf faults = record { shelf = shelf; faults = faults }
+abbrev pub counted_shelf : ShelfState → ℕ → CountedShelf
+counted_shelf shelf faults = record { shelf = shelf; faults = faults }
 
 -- a unit's file was looked at, and nothing was written
 pub record LooksOnShelf (unit : ℕ) (old new : CountedShelf) (result : Result Look Fault) : Type 0 where
@@ -44,7 +44,7 @@ pub record MakesOnShelf (unit limit frames : ℕ) (schema : Schema) (old new : C
   pub failed : OnErr result (IsTrue new.shelf.is_honest → FileGoes unit old.shelf new.shelf StandsOrRefused)
   pub others : KeepsOthers unit old.shelf new.shelf
   pub count : old.faults ≤ new.faults
-  pub cause : IfErr result (IsCausedIn false (HasFailed old.faults new.faults) ⊥)
+  pub cause : IfErr result (IsCausedIn false (FaultsRose old.faults new.faults) ⊥)
   pub damage : IsTrue new.shelf.is_honest → IfErr result (λ e. e ≢ Damage)
 
 -- the file of a unit was opened by this header, with nothing read; or memory was lacking
@@ -68,22 +68,22 @@ pub record ClosesOnShelf (held : ShelfFile) (old new : CountedShelf)
       (unit_file new.shelf held.pages.cache.store.unit) result
   pub others : KeepsOthers held.pages.cache.store.unit old.shelf new.shelf
   pub count : old.faults ≤ new.faults
-  pub cause : IfErr result (IsCausedIn held.file.broken (HasFailed old.faults new.faults) ⊥)
+  pub cause : IfErr result (IsCausedIn held.file.broken (FaultsRose old.faults new.faults) ⊥)
   pub damage : IfErr result (λ e. e ≢ Damage)
 
 -- the same, of shelves that show this state and count their faults so
 module _ {H : Type 0} (state : H → ShelfState) (count : H → ℕ) where
   -- a unit's file was looked at
   abbrev pub LooksAtUnit : ℕ → H → H → Result Look Fault → Type 0
-  LooksAtUnit unit old new result = LooksOnShelf unit (counted (state old) (count old))
-      (counted (state new) (count new)) result
+  LooksAtUnit unit old new result = LooksOnShelf unit (counted_shelf (state old) (count old))
+      (counted_shelf (state new) (count new)) result
 
   -- a file was made
   abbrev pub MakesHeld : (unit limit frames : ℕ) → Schema → H → H → Result ShelfFile Fault → Type 0
   MakesHeld unit limit frames schema old new result = MakesOnShelf unit limit frames schema
-      (counted (state old) (count old)) (counted (state new) (count new)) result
+      (counted_shelf (state old) (count old)) (counted_shelf (state new) (count new)) result
 
   -- a file was closed
   abbrev pub ClosesHeld : ShelfFile → H → H → Result (Unit {0}) Fault → Type 0
-  ClosesHeld held old new result = ClosesOnShelf held (counted (state old) (count old))
-      (counted (state new) (count new)) result
+  ClosesHeld held old new result = ClosesOnShelf held (counted_shelf (state old) (count old))
+      (counted_shelf (state new) (count new)) result

@@ -15,7 +15,7 @@ use Rattle.shelf_file.specs.declared.look.Look.TheVariants.{NoFile, Refused, Acc
 use Rattle.shelf_file.specs.declared.shelf_file.ShelfFile.{ShelfFile}
 use Rattle.shelf_file.specs.Named.{look_of, live_in, StandsIn}
 use Rattle.shelf_file.specs.ReadOff.{file_by}
-use Rattle.shelf_file.specs.Standing.{IsReady, StandsFor, file_in, room_in}
+use Rattle.shelf_file.specs.Standing.{IsReady, StandsFor, file_read_off, room_in}
 
 -- a header that was accepted is one that a file may have
 abbrev pub HasHeader : Look → Type 0
@@ -38,7 +38,7 @@ pub record IsOpened (held : ShelfFile) (unit : ℕ) (header : Header) : Type 0 w
       → (IsTrue shelf.is_honest → HasAccepted shelf unit header) → IsReady held shelf
   -- it reads as its file does, and stands for what its file stands for
   pub reads : (shelf : ShelfState) → HasAccepted shelf unit header
-      → file_in held shelf ≡ file_by header (live_in header (content (unit_file shelf unit)))
+      → file_read_off held shelf ≡ file_by header (live_in header (content (unit_file shelf unit)))
   pub stands : (shelf : ShelfState) (file : File) → HasAccepted shelf unit header
       → StandsIn header (content (unit_file shelf unit)) file → StandsFor held shelf file
 

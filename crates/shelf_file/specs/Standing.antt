@@ -6,18 +6,18 @@ use Rattle.pages.specs.PageMap.{PageMap}
 use Rattle.page_store.specs.ShelfState.{ShelfState}
 use Rattle.page_alloc.specs.PagedFile.{IsOpenOver}
 use Rattle.page_alloc.specs.Joining.{available_of}
-use Rattle.page_alloc.specs.Steps.{state_of}
+use Rattle.page_alloc.specs.Steps.{pages_state_of}
 use Rattle.open_file.specs.Stands.{Stands, IsShaped, room_of}
 use Rattle.open_file.specs.ReadOff.{file_off}
 use Rattle.shelf_file.specs.declared.shelf_file.ShelfFile.{ShelfFile}
 
 -- its pages in use
 abbrev pub live_of : ShelfFile → ShelfState → PageMap
-live_of held shelf = (state_of held.pages shelf).live
+live_of held shelf = (pages_state_of held.pages shelf).live
 
 -- the file that they read as, whether or not they stand for one
-abbrev pub file_in : ShelfFile → ShelfState → File
-file_in held shelf = file_off held.file (live_of held shelf)
+abbrev pub file_read_off : ShelfFile → ShelfState → File
+file_read_off held shelf = file_off held.file (live_of held shelf)
 
 -- calls may be made, whatever its pages hold
 pub record IsReady (held : ShelfFile) (shelf : ShelfState) : Type 0 where
@@ -27,7 +27,7 @@ pub record IsReady (held : ShelfFile) (shelf : ShelfState) : Type 0 where
 -- its pages stand for this file
 pub record StandsFor (held : ShelfFile) (shelf : ShelfState) (file : File) : Type 0 where
   pub stands : Stands held.file (live_of held shelf) file
-  pub sound : IsTrue (state_of held.pages shelf).is_sound
+  pub sound : IsTrue (pages_state_of held.pages shelf).is_sound
 
 -- the pages that it needs and has
 abbrev pub room_in : ShelfFile → Room

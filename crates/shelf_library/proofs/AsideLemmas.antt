@@ -12,16 +12,16 @@ use Rattle.indexed_file.specs.Images.{Stays}
 use Rattle.page_store.specs.DeviceFile.{DeviceFile, content}
 use Rattle.page_store.specs.ShelfState.{ShelfState, unit_name, unit_file}
 use Rattle.page_store.specs.Gate.{AllOpen}
-use Rattle.page_store.specs.Pages.{page_of, HasPages}
-use Rattle.page_cache.specs.Cached.{pages_in}
+use Rattle.page_store.specs.Pages.{page_of_bytes, HoldsPages}
+use Rattle.page_cache.specs.Cached.{cached_pages_in}
 use Rattle.page_alloc.specs.Chain.{chain, used}
-use Rattle.page_alloc.specs.Steps.{state_of}
+use Rattle.page_alloc.specs.Steps.{pages_state_of}
 use Rattle.open_file.specs.ReadOff.{file_off}
 use Rattle.open_file.specs.Stands.{Stands}
 use Rattle.file_header.specs.declared.header.Header.{Header}
 use Rattle.shelf_file.specs.declared.shelf_file.ShelfFile.{ShelfFile}
 use Rattle.shelf_file.specs.Named.{look_of, named_of}
-use Rattle.shelf_file.specs.Standing.{IsReady, StandsFor, live_of, file_in}
+use Rattle.shelf_file.specs.Standing.{IsReady, StandsFor, live_of, file_read_off}
 use Rattle.shelf_file.specs.Shelves.{AreClosed}
 use Rattle.shelf_library.specs.declared.held.Held.{Held}
 use Rattle.shelf_library.specs.declared.held.Held.TheVariants.{Nothing, Looked, Opened}
@@ -56,15 +56,15 @@ names_differ (name ∷ names) (suc u) (suc v) distinct lu lv other = names_diffe
 
 module _ (file : ShelfFile) (old new : ShelfState) (same : unit_file new file.pages.cache.store.unit ≡ unit_file old file.pages.cache.store.unit) where
   abbrev free_over : DeviceFile → Option (List ℕ)
-  free_over bytes = chain (pages_in file.pages.cache bytes) file.pages.pager.count file.pages.pager.first file.pages.pager.free
+  free_over bytes = chain (cached_pages_in file.pages.cache bytes) file.pages.pager.count file.pages.pager.first file.pages.pager.free
 
   pub same_live : live_of file new ≡ live_of file old
-  same_live = ap (λ (bytes : DeviceFile). used (pages_in file.pages.cache bytes) file.pages.pager.count (free_over bytes)) same
+  same_live = ap (λ (bytes : DeviceFile). used (cached_pages_in file.pages.cache bytes) file.pages.pager.count (free_over bytes)) same
 
-  pub same_sound : (state_of file.pages new).is_sound ≡ (state_of file.pages old).is_sound
+  pub same_sound : (pages_state_of file.pages new).is_sound ≡ (pages_state_of file.pages old).is_sound
   same_sound = ap (λ (bytes : DeviceFile). is_some (free_over bytes)) same
 
-  pub same_file_in : file_in file new ≡ file_in file old
+  pub same_file_in : file_read_off file new ≡ file_read_off file old
   same_file_in = ap (λ live. file_off file.file live) same_live
 
   pub stands_same : (rows : File) → StandsFor file old rows → StandsFor file new rows
@@ -83,8 +83,8 @@ module _ (file : ShelfFile) (old new : ShelfState) (same : unit_file new file.pa
             over = record {
               attached = record { attached = subst (λ (ns : List (List ℕ)). unit < length ns) (sym names) joined.over.attached.attached };
               counted = joined.over.counted;
-              pages = λ h. subst (λ (bytes : DeviceFile). HasPages file.pages.cache.store.pages bytes) (sym same) (joined.over.pages (honest h));
-              clean = λ h n frame is unchanged. joined.over.clean (honest h) n frame is unchanged ∙ ap (λ (bytes : DeviceFile). page_of (content bytes) n) (sym same);
+              pages = λ h. subst (λ (bytes : DeviceFile). HoldsPages file.pages.cache.store.pages bytes) (sym same) (joined.over.pages (honest h));
+              clean = λ h n frame is unchanged. joined.over.clean (honest h) n frame is unchanged ∙ ap (λ (bytes : DeviceFile). page_of_bytes (content bytes) n) (sym same);
             };
             counted = joined.counted;
             header = joined.header;

@@ -13,7 +13,7 @@ use Rattle.io_state.specs.declared.fault.Fault.TheVariants.{Device, Memory, Full
 use Rattle.indexed_file.specs.FileChange.{FileChange, has_room_for, LacksRoomFor}
 use Rattle.shelf_file.specs.declared.shelf_file.ShelfFile.{ShelfFile}
 use Rattle.shelf_library.specs.State.{LibraryState, held_at}
-use Rattle.shelf_library.specs.Units.{world_of, room_of_held, asked_of}
+use Rattle.shelf_library.specs.Units.{world_of, room_of_held, pages_asked_of}
 use Rattle.shelf_library.specs.Library.{shown_by}
 use Rattle.shelf_library.specs.OneUnit.{IsTrulyHeld}
 use Rattle.shelf_library.specs.Changing.{MovesAt, ChangesFile}
@@ -119,11 +119,11 @@ module _
     room = room_after result change;
     full = λ full. (takes_at_full u file after old new call change_of result change full, full_after result change full);
     asked = λ honest shown answered.
-        subst (λ (one : Held). asked_of (held_at new.held u) ≤ asked_of one + most_to_change (room_of_held one)) (sym call.opened)
-        (subst (λ (one : Held). asked_of one ≤ asked_of (Opened file) + most_to_change (room_of_held (Opened file))) (sym (held_now u file after old new call)) change.changes.keeps.asked);
+        subst (λ (one : Held). pages_asked_of (held_at new.held u) ≤ pages_asked_of one + most_to_change (room_of_held one)) (sym call.opened)
+        (subst (λ (one : Held). pages_asked_of one ≤ pages_asked_of (Opened file) + most_to_change (room_of_held (Opened file))) (sym (held_now u file after old new call)) change.changes.keeps.asked);
     counted =
-        subst (λ (one : Held). asked_of one ≤ asked_of (held_at new.held u)) (sym call.opened)
-        (subst (λ (one : Held). file.pages.cache.asked ≤ asked_of one) (sym (held_now u file after old new call)) call.moves.asked);
+        subst (λ (one : Held). pages_asked_of one ≤ pages_asked_of (held_at new.held u)) (sym call.opened)
+        (subst (λ (one : Held). file.pages.cache.asked ≤ pages_asked_of one) (sym (held_now u file after old new call)) call.moves.asked);
     broken = broken_told u file after old new call change_of result change;
     fault = fault_after u file after old new call change_of result change;
     unbroken = unbroken_after result change;

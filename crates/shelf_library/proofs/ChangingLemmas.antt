@@ -14,7 +14,7 @@ use Rattle.page_store.specs.ShelfState.{unit_file}
 use Rattle.indexed_file.specs.FileChange.{FileChange}
 use Rattle.shelf_file.specs.declared.shelf_file.ShelfFile.{ShelfFile}
 use Rattle.shelf_file.specs.Named.{named_of}
-use Rattle.shelf_file.specs.Standing.{StandsFor, live_of, file_in, room_in}
+use Rattle.shelf_file.specs.Standing.{StandsFor, live_of, file_read_off, room_in}
 use Rattle.shelf_library.specs.State.{LibraryState, held_at}
 use Rattle.shelf_library.specs.Truth.{IsTrulyOpen, IsShownTruly}
 use Rattle.shelf_library.specs.Units.{world_of, room_of_held}
@@ -72,7 +72,7 @@ module _ (u : ℕ) (file after : ShelfFile) (old new : LibraryState) (call : Mov
   leaves_broken : IsTrue after.file.broken → after.file.schema ≡ file.file.schema → LeavesBroken u new.shelf.is_honest before now
   leaves_broken broken schema = record {
     holding = holding_shown u after new units_after within_after held_now
-        ∙ ap (λ (b : Bool). if b then Broken after.file.schema else HasOpened after.file.schema (file_in after new.shelf)) broken
+        ∙ ap (λ (b : Bool). if b then Broken after.file.schema else HasOpened after.file.schema (file_read_off after new.shelf)) broken
         ∙ ap Broken (schema ∙ sym schema_before);
     named = λ honest. kept (same_or_unsound u file after old new call honest);
   }
@@ -95,8 +95,8 @@ module _ (u : ℕ) (file after : ShelfFile) (old new : LibraryState) (call : Mov
       let named : named_at now u ≡ Unsound = named_after u (Opened after) old.shelf new.shelf old.held new.held call.units at ∙ unsound_after u file after old new call honest begun in
       let holding : holding_at now u ≡ HasOpened (schema_at before u) rows =
       holding_shown u after new units_after within_after held_now
-      ∙ ap (λ (b : Bool). if b then Broken after.file.schema else HasOpened after.file.schema (file_in after new.shelf)) works
-      ∙ ap (λ (s : Schema). HasOpened s (file_in after new.shelf)) (schema ∙ sym schema_before)
+      ∙ ap (λ (b : Bool). if b then Broken after.file.schema else HasOpened after.file.schema (file_read_off after new.shelf)) works
+      ∙ ap (λ (s : Schema). HasOpened s (file_read_off after new.shelf)) (schema ∙ sym schema_before)
       ∙ ap (λ (f : File). HasOpened (schema_at before u) f) (reads_as after.file (live_of after new.shelf) rows stands.stands) in
       only_here u (Opened after) old.shelf new.shelf old.held new.held call.units at
       ∙ ap (λ (n : Named). with_unit before u n (holding_at now u)) named

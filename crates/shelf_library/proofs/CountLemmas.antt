@@ -11,7 +11,7 @@ use Rattle.shelf_file.specs.Named.{named_of}
 use Rattle.shelf_library.specs.declared.held.Held.{Held}
 use Rattle.shelf_library.specs.declared.held.Held.TheVariants.{Nothing, Looked, Opened}
 use Rattle.shelf_library.specs.State.{LibraryState, held_at, IsReadyAt}
-use Rattle.shelf_library.specs.Units.{holding_of, room_of_held, counts_of_held, asked_of}
+use Rattle.shelf_library.specs.Units.{holding_of, room_of_held, counts_of_held, pages_asked_of}
 use Rattle.shelf_library.specs.Truth.{IsTrulyOpen}
 use Rattle.shelf_library.specs.OneUnit.{AreUnits, ChangesAt, FitsItsFile, IsTrulyHeld}
 use Rattle.shelf_library.specs.Library.{shown_by}
@@ -85,7 +85,7 @@ recount_truly shelf u (Opened file) truly = record {
       subst (λ f. IsTrulyOpen shelf f (unit_file shelf u)) same (recounted_truly shelf file (unit_file shelf u) (truly.opened file refl (subst (λ f. IsFalse f.file.broken) (sym same) unbroken)));
 }
 
-recount_asked : (one : Held) → asked_of (recount one) ≡ 0
+recount_asked : (one : Held) → pages_asked_of (recount one) ≡ 0
 recount_asked Nothing = refl
 recount_asked (Looked header) = refl
 recount_asked (Opened file) = refl
@@ -122,8 +122,8 @@ recounts {S} state u old new are call shelf faults limit frames =
     let here = held_here u one (state old).shelf (state new).shelf held now are call in
     let aside = held_aside u one (state old).shelf (state new).shelf held now are call in
     record {
-      asked = ap asked_of here ∙ recount_asked (held_at held u);
-      others = λ v other. ap asked_of (aside v other);
+      asked = ap pages_asked_of here ∙ recount_asked (held_at held u);
+      others = λ v other. ap pages_asked_of (aside v other);
       world = world_same u one (state old).shelf (state new).shelf held now are call
           (ap (λ s. holding_of s one) shelf ∙ recount_holding (state old).shelf (held_at held u))
           (ap (λ s. named_of (unit_file s u).seen) shelf);

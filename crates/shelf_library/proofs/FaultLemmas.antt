@@ -5,10 +5,10 @@ use Rattle.indexed_file.proofs.TestLemmas.{either}
 use Rattle.io_state.specs.declared.fault.Fault.{Fault}
 use Rattle.io_state.specs.declared.fault.Fault.TheVariants.{Device, Memory, Full, Damage, Broken as BrokenUnit}
 use Rattle.indexed_file.specs.Calls.{HasRisen, MayFail}
-use Rattle.page_alloc.specs.Joining.{HasFailed}
+use Rattle.page_alloc.specs.Joining.{FaultsRose}
 use Rattle.open_file.specs.Faults.{IsCausedIn}
 
-pub has_risen : (old new : ℕ) → HasFailed old new → HasRisen old new
+pub has_risen : (old new : ℕ) → FaultsRose old new → HasRisen old new
 has_risen old new failed =
     either (nat_lt old new) (HasRisen old new)
     (λ more. inl (ltb-true old new more))
@@ -21,7 +21,7 @@ unbroken is_broken fault broken other =
 
 -- a fault other than Full
 pub may_fail :
-    {X : Type 0} (is_broken is_honest : Bool) (truly lacks_room : Type 0) (old new : ℕ) (fault : Fault) → IsCausedIn is_broken (HasFailed old new) lacks_room fault
+    {X : Type 0} (is_broken is_honest : Bool) (truly lacks_room : Type 0) (old new : ℕ) (fault : Fault) → IsCausedIn is_broken (FaultsRose old new) lacks_room fault
     → (IsTrue is_broken → ◌≡◌ {A = Result X Fault} (Err fault) (Err BrokenUnit)) → (IsTrue is_honest → truly → fault ≢ Damage) → fault ≢ Full
     → MayFail is_broken is_honest truly old new fault
 may_fail is_broken is_honest truly lacks_room old new Device cause broken no_damage room = has_risen old new (cause.device refl)
@@ -33,7 +33,7 @@ may_fail is_broken is_honest truly lacks_room old new BrokenUnit cause broken no
 
 -- the fault of a call that needs no room
 pub faults_are :
-    {X : Type 0} (is_broken is_honest : Bool) (truly : Type 0) (old new : ℕ) (result : Result X Fault) → IfErr result (IsCausedIn is_broken (HasFailed old new) ⊥)
+    {X : Type 0} (is_broken is_honest : Bool) (truly : Type 0) (old new : ℕ) (result : Result X Fault) → IfErr result (IsCausedIn is_broken (FaultsRose old new) ⊥)
     → (IsTrue is_broken → result ≡ Err BrokenUnit) → (IsTrue is_honest → truly → IfErr result (λ fault. fault ≢ Damage))
     → IfErr result (MayFail is_broken is_honest truly old new)
 faults_are is_broken is_honest truly old new (Ok x) cause broken no_damage = tt

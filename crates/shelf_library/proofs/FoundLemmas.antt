@@ -10,7 +10,7 @@ use Rattle.indexed_file.specs.File.{File, Row, empty_file}
 use Rattle.indexed_file.specs.Rank.{least, satisfies, highest_of}
 use Rattle.indexed_file.specs.World.{Holding, file_in, schema_in, schema_at, name_at}
 use Rattle.indexed_file.specs.Answers.{found_of, key_of_row, area_after}
-use Rattle.indexed_file.specs.UnitAnswers.{first_at, found_at, key_at, row_sought, highest_at}
+use Rattle.indexed_file.specs.UnitAnswers.{first_at, found_at, key_of_row_at, row_sought, highest_at}
 use Rattle.pages.specs.Answer.{IsAnswer}
 use Rattle.open_file.specs.Reading.{Delivers, Seeks}
 use Rattle.open_file.specs.Stands.{Stands}
@@ -66,7 +66,7 @@ module _ (u : ℕ) (file after : ShelfFile) (old new : LibraryState) (call : Rea
 
   pub seeks_found : (k : ℕ) (relation : Relation) (operand : List ℕ) (result : Result (Option (ArrayVec ℕ)) Fault) → (IsTrue file.file.broken → result ≡ Err BrokenUnit)
       → Seeks file.file (live_of file old.shelf) k relation operand result
-      → let world = world_of old.shelf old.held in IfOk result (λ found. found ≡ key_at world u k (row_sought world u k relation operand))
+      → let world = world_of old.shelf old.held in IfOk result (λ found. found ≡ key_of_row_at world u k (row_sought world u k relation operand))
   seeks_found k relation operand result broken seeks =
       by_known u file old call.units call.attached call.opened truly
       (λ holding. IfOk result (λ found. found ≡ option_map (key_of_row (schema_in holding) k) (least (schema_in holding) k (satisfies (schema_in holding) k relation operand) (rows_in holding))))

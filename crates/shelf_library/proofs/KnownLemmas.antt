@@ -4,7 +4,7 @@ use Rattle.indexed_file.proofs.TestLemmas.{either}
 use Rattle.indexed_file.specs.File.{File}
 use Rattle.indexed_file.specs.World.{Holding, Opened as HasOpened, Broken, holding_at, name_at}
 use Rattle.shelf_file.specs.declared.shelf_file.ShelfFile.{ShelfFile}
-use Rattle.shelf_file.specs.Standing.{StandsFor, live_of, file_in}
+use Rattle.shelf_file.specs.Standing.{StandsFor, live_of, file_read_off}
 use Rattle.shelf_library.specs.State.{LibraryState, held_at}
 use Rattle.shelf_library.specs.Units.{world_of, holding_of}
 use Rattle.shelf_library.specs.Truth.{IsTrulyOpen, IsShownTruly}
@@ -27,7 +27,7 @@ module _ (u : ℕ) (file : ShelfFile) (state : LibraryState) (units : AreUnits s
         rows = is.rows;
         stands = is.stands;
         holding = holding_now state.shelf state.held u within units.many ∙ ap (holding_of state.shelf) opened
-            ∙ ap (λ (broken : Bool). if broken then Broken file.file.schema else HasOpened file.file.schema (file_in file state.shelf)) works
+            ∙ ap (λ (broken : Bool). if broken then Broken file.file.schema else HasOpened file.file.schema (file_read_off file state.shelf)) works
             ∙ ap (HasOpened file.file.schema) (reads_as file.file (live_of file state.shelf) is.rows is.stands.stands);
       }
 

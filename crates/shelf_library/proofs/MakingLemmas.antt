@@ -14,7 +14,7 @@ use Rattle.page_alloc.specs.PagedFile.{StandsOrRefused}
 use Rattle.shelf_file.specs.declared.look.Look.TheVariants.{Accepted, Refused}
 use Rattle.shelf_file.specs.declared.shelf_file.ShelfFile.{ShelfFile}
 use Rattle.shelf_file.specs.Named.{named_of}
-use Rattle.shelf_file.specs.Standing.{file_in, live_of}
+use Rattle.shelf_file.specs.Standing.{file_read_off, live_of}
 use Rattle.shelf_file.specs.Shelves.{IsMade}
 use Rattle.shelf_library.specs.declared.held.Held.TheVariants.{Opened}
 use Rattle.shelf_library.specs.State.{LibraryState, held_at}
@@ -39,7 +39,7 @@ module _ (u limit : ℕ) (schema : Schema) (shelf : ShelfState) (file : ShelfFil
   gate_open : IsTrue shelf.is_honest → AllOpen (unit_file shelf u)
   gate_open honest = subst (λ unit. AllOpen (unit_file shelf unit)) made.unit_is (made.ready.over.gate made.changed honest)
 
-  new_rows : IsTrue shelf.is_honest → file_in file shelf ≡ empty_file
+  new_rows : IsTrue shelf.is_honest → file_read_off file shelf ≡ empty_file
   new_rows honest = reads_as file.file (live_of file shelf) empty_file (made.stands honest).stands
 
   new_holding : IsTrue shelf.is_honest → holding_of shelf (Opened file) ≡ HasOpened schema empty_file

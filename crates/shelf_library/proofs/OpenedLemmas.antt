@@ -11,7 +11,7 @@ use Rattle.page_store.specs.ShelfState.{ShelfState, unit_name}
 use Rattle.page_alloc.specs.Steps.{Moves}
 use Rattle.shelf_file.specs.declared.shelf_file.ShelfFile.{ShelfFile}
 use Rattle.shelf_file.specs.Calls.{OnlyReadsFile}
-use Rattle.shelf_file.specs.Standing.{IsReady, file_in}
+use Rattle.shelf_file.specs.Standing.{IsReady, file_read_off}
 use Rattle.shelf_library.specs.State.{held_at}
 use Rattle.shelf_library.specs.Units.{world_of, holding_of}
 use Rattle.shelf_library.specs.Reading.{ReadsAt}
@@ -66,7 +66,7 @@ module _ {S : Type 0} (shelf : Ghosts S) (s : ShelfLibrary S shelf) (u : ℕ)
     pub schema_is : schema_at (world_of (shelf.state s.shelf) s.units.items) u ≡ file.file.schema
     schema_is =
         ap schema_in (is_shown ∙ ap (holding_of (shelf.state s.shelf)) is)
-        ∙ schema_open file.file.broken file.file.schema (file_in file (shelf.state s.shelf))
+        ∙ schema_open file.file.broken file.file.schema (file_read_off file (shelf.state s.shelf))
 
     -- on which calls may be made
     pub may_call : IsReady file (shelf.state s.shelf)

@@ -16,7 +16,7 @@ use Rattle.shelf_file.specs.declared.look.Look.TheVariants.{Accepted}
 use Rattle.shelf_file.specs.declared.shelf_file.ShelfFile.{ShelfFile}
 use Rattle.shelf_file.specs.Named.{look_of, named_of}
 use Rattle.shelf_file.specs.Shelves.{AreClosed}
-use Rattle.shelf_file.specs.Standing.{live_of, file_in}
+use Rattle.shelf_file.specs.Standing.{live_of, file_read_off}
 use Rattle.shelf_library.specs.State.{LibraryState, IsReadyAt}
 use Rattle.shelf_library.specs.Units.{holding_of}
 use Rattle.shelf_library.specs.Truth.{IsTrulyClosed, IsTrulyOpen}
@@ -86,7 +86,7 @@ module _ (u : ℕ) (file after : ShelfFile) (old new : LibraryState) (call : Rea
   pub same_broken : after.file.broken ≡ file.file.broken
   same_broken = ap (λ (parts : OpenFile). parts.broken) call.reads.file
 
-  same_rows : IsTrue new.shelf.is_honest → file_in after new.shelf ≡ file_in file old.shelf
+  same_rows : IsTrue new.shelf.is_honest → file_read_off after new.shelf ≡ file_read_off file old.shelf
   same_rows honest =
       ap (λ (parts : OpenFile). file_off parts (live_of after new.shelf)) call.reads.file
       ∙ ap (λ live. file_off file.file live) (call.reads.pages.rests.live honest)

@@ -9,15 +9,15 @@ use Rattle.indexed_file.specs.Calls.{Keeps, OnlyReads as ReadsWorld, MayFail, Sa
 use Rattle.indexed_file.specs.UnitCalls.{ReadsUnit}
 use Rattle.page_store.specs.DeviceFile.{DeviceFile}
 use Rattle.page_store.specs.ShelfState.{unit_name, unit_file}
-use Rattle.page_alloc.specs.Joining.{HasFailed}
+use Rattle.page_alloc.specs.Joining.{FaultsRose}
 use Rattle.open_file.specs.Faults.{IsCausedIn}
 use Rattle.open_file.specs.Stands.{room_of}
 use Rattle.open_file.specs.declared.open_file.OpenFile.{OpenFile}
 use Rattle.page_alloc.specs.Joining.{available_of}
 use Rattle.shelf_file.specs.declared.shelf_file.ShelfFile.{ShelfFile}
-use Rattle.shelf_file.specs.Standing.{file_in, room_in}
+use Rattle.shelf_file.specs.Standing.{file_read_off, room_in}
 use Rattle.shelf_library.specs.State.{LibraryState, held_at}
-use Rattle.shelf_library.specs.Units.{world_of, holding_of, room_of_held, counts_of_pager, counts_of_held, asked_of}
+use Rattle.shelf_library.specs.Units.{world_of, holding_of, room_of_held, counts_of_pager, counts_of_held, pages_asked_of}
 use Rattle.shelf_library.specs.Truth.{IsShownTruly}
 use Rattle.shelf_library.specs.Crashes.{MayReadAs}
 use Rattle.shelf_library.specs.MomentLaws.{EachRead}
@@ -83,18 +83,18 @@ module _ {S : Type 0} (state : S → LibraryState) (a b : S) (u : ℕ) (file aft
 
   -- the unit is broken where its file is
   pub broken_is : is_broken (holding_at (world_of old.shelf old.held) u) ≡ file.file.broken
-  broken_is = ap is_broken was_open ∙ broken_open file.file.broken file.file.schema (file_in file old.shelf)
+  broken_is = ap is_broken was_open ∙ broken_open file.file.broken file.file.schema (file_read_off file old.shelf)
 
   pub reads_world : ReadsWorld u new.shelf.is_honest (world_of old.shelf old.held) (world_of new.shelf new.held)
   reads_world = record {
     only = only_here u (Opened after) old.shelf new.shelf old.held new.held call.units at;
     state = record {
-      opened = ap is_open now_open ∙ open_open after.file.broken after.file.schema (file_in after new.shelf)
-          ∙ sym (ap is_open was_open ∙ open_open file.file.broken file.file.schema (file_in file old.shelf));
-      broken = ap is_broken now_open ∙ broken_open after.file.broken after.file.schema (file_in after new.shelf) ∙ same_broken u file after old new call ∙ sym broken_is;
+      opened = ap is_open now_open ∙ open_open after.file.broken after.file.schema (file_read_off after new.shelf)
+          ∙ sym (ap is_open was_open ∙ open_open file.file.broken file.file.schema (file_read_off file old.shelf));
+      broken = ap is_broken now_open ∙ broken_open after.file.broken after.file.schema (file_read_off after new.shelf) ∙ same_broken u file after old new call ∙ sym broken_is;
     };
-    schema = ap schema_in now_open ∙ schema_open after.file.broken after.file.schema (file_in after new.shelf) ∙ same_schema u file after old new call
-        ∙ sym (ap schema_in was_open ∙ schema_open file.file.broken file.file.schema (file_in file old.shelf));
+    schema = ap schema_in now_open ∙ schema_open after.file.broken after.file.schema (file_read_off after new.shelf) ∙ same_schema u file after old new call
+        ∙ sym (ap schema_in was_open ∙ schema_open file.file.broken file.file.schema (file_read_off file old.shelf));
     same = λ honest. world_same u (Opened after) old.shelf new.shelf old.held new.held call.units at
         (same_holding u file after old new call honest ∙ sym (ap (holding_of old.shelf) call.opened)) (same_named u file after old new call honest);
   }
@@ -132,7 +132,7 @@ module _ {S : Type 0} (state : S → LibraryState) (a b : S) (u : ℕ) (file aft
   -- ---- all of it, with the pages that were asked for and with why the file gave up
 
   pub reads_unit : {X : Type 0} (most : Held → ℕ) (result : Result X Fault) → after.pages.cache.asked ≤ file.pages.cache.asked + most (Opened file)
-      → (IsTrue file.file.broken → result ≡ Err BrokenUnit) → IfErr result (IsCausedIn file.file.broken (HasFailed old.faults new.faults) ⊥)
+      → (IsTrue file.file.broken → result ≡ Err BrokenUnit) → IfErr result (IsCausedIn file.file.broken (FaultsRose old.faults new.faults) ⊥)
       → (IsTrue new.shelf.is_honest → IsShownTruly old.shelf old.held (name_at (world_of old.shelf old.held) u) → IfErr result (λ fault. fault ≢ Damage))
       → ReadsUnit (shown_by state) u (most (held_at old.held u)) a b result
   reads_unit most result asks broken cause no_damage = record {
@@ -147,12 +147,12 @@ module _ {S : Type 0} (state : S → LibraryState) (a b : S) (u : ℕ) (file aft
     keeps = reads_keeps;
   }
     where
-      asked : asked_of (held_at new.held u) ≤ asked_of (held_at old.held u) + most (held_at old.held u)
+      asked : pages_asked_of (held_at new.held u) ≤ pages_asked_of (held_at old.held u) + most (held_at old.held u)
       asked =
-          subst (λ (one : Held). asked_of (held_at new.held u) ≤ asked_of one + most one) (sym call.opened)
-          (subst (λ (one : Held). asked_of one ≤ file.pages.cache.asked + most (Opened file)) (sym now_held) asks)
+          subst (λ (one : Held). pages_asked_of (held_at new.held u) ≤ pages_asked_of one + most one) (sym call.opened)
+          (subst (λ (one : Held). pages_asked_of one ≤ file.pages.cache.asked + most (Opened file)) (sym now_held) asks)
 
-      counted : asked_of (held_at old.held u) ≤ asked_of (held_at new.held u)
+      counted : pages_asked_of (held_at old.held u) ≤ pages_asked_of (held_at new.held u)
       counted =
-          subst (λ (one : Held). asked_of one ≤ asked_of (held_at new.held u)) (sym call.opened)
-          (subst (λ (one : Held). file.pages.cache.asked ≤ asked_of one) (sym now_held) call.reads.pages.goes.parts.asked)
+          subst (λ (one : Held). pages_asked_of one ≤ pages_asked_of (held_at new.held u)) (sym call.opened)
+          (subst (λ (one : Held). file.pages.cache.asked ≤ pages_asked_of one) (sym now_held) call.reads.pages.goes.parts.asked)

@@ -11,19 +11,19 @@ use Rattle.page_store.specs.Moments.{Quiet}
 use Rattle.page_store.proofs.MomentLemmas.{throughout_none, throughout_weaker}
 use Rattle.page_store.proofs.OpenLemmas.{quiet_open, refused_open}
 use Rattle.page_store.specs.Gate.{IsClosed, IsOpen, AllOpen, IsRefused}
-use Rattle.page_store.specs.Pages.{page_of}
+use Rattle.page_store.specs.Pages.{page_of_bytes}
 use Rattle.shelf_file.specs.declared.look.Look.TheVariants.{Refused, Accepted}
 use Rattle.shelf_file.specs.Named.{look_of, look_by, named_of, named_by}
 use Rattle.shelf_library.specs.Crashes.{IsSoundImage, MayReadAs}
 use Rattle.shelf_library.specs.MomentLaws.{EachRead, each_read, found_now}
 
-first_closed : (bytes : List ℕ) → IsClosed (page_of bytes 0) → IsClosed bytes
+first_closed : (bytes : List ℕ) → IsClosed (page_of_bytes bytes 0) → IsClosed bytes
 first_closed [] closed = absurd closed
 first_closed (x ∷ bytes) closed = closed
 
 -- a first page with an open gate has no header
-pub no_header : (bytes : List ℕ) → ¬ (IsClosed bytes) → header_in (page_of bytes 0) ≡ None
-no_header bytes shut = header_in_none (page_of bytes 0) (λ is. shut (first_closed bytes (subst IsClosed (sym is.bytes) refl)))
+pub no_header : (bytes : List ℕ) → ¬ (IsClosed bytes) → header_in (page_of_bytes bytes 0) ≡ None
+no_header bytes shut = header_in_none (page_of_bytes bytes 0) (λ is. shut (first_closed bytes (subst IsClosed (sym is.bytes) refl)))
 
 -- a look at a refused file refuses it
 pub refused_look : (c : Option (List ℕ)) → IsRefused c → look_of c ≡ Refused

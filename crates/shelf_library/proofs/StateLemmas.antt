@@ -11,7 +11,7 @@ use Rattle.page_store.specs.declared.shelf.Shelf.{Ghosts}
 use Rattle.file_header.specs.declared.header.Header.{Header}
 use Rattle.shelf_file.specs.declared.shelf_file.ShelfFile.{ShelfFile}
 use Rattle.shelf_file.specs.declared.look.Look.{Look}
-use Rattle.shelf_file.specs.Opening.{LooksOnShelf, MakesOnShelf, OpensByHeader, ClosesOnShelf, CountedShelf, counted}
+use Rattle.shelf_file.specs.Opening.{LooksOnShelf, MakesOnShelf, OpensByHeader, ClosesOnShelf, CountedShelf, counted_shelf}
 use Rattle.shelf_library.specs.State.{LibraryState, held_at}
 use Rattle.shelf_library.specs.Told.{held_open, held_after}
 use Rattle.shelf_library.specs.Units.{world_of}
@@ -53,7 +53,7 @@ module _ {S : Type 0} (shelf : Ghosts S) where
   is_within s u attached = is_held (shelf.state s.shelf) s.units.items u s.many attached
 
   abbrev at_shelf : S → CountedShelf
-  at_shelf now = counted (shelf.state now) (shelf.fault_count now)
+  at_shelf now = counted_shelf (shelf.state now) (shelf.fault_count now)
 
   -- what reads give is one of the images
   abbrev ReadsImages : Type 0

@@ -5,7 +5,7 @@ use Rattle.indexed_file.specs.File.{File}
 use Rattle.indexed_file.specs.World.{Named, Absent, Closed, Unsound}
 use Rattle.indexed_file.proofs.ImageLemmas.{AllPassTest}
 use Rattle.page_store.specs.DeviceFile.{FileStep, DeviceFile}
-use Rattle.page_store.specs.Images.{Durable, nothing, after, durable_from, durable, MayLeave}
+use Rattle.page_store.specs.Images.{Durable, nothing, after_step, durable_from, durable, MayLeave}
 use Rattle.page_store.specs.Moments.{AtEachMoment, Throughout}
 use Rattle.page_store.specs.ShelfState.{ShelfState}
 use Rattle.page_store.proofs.ImageLemmas.{durable_from-append}
@@ -21,7 +21,7 @@ use Rattle.shelf_library.specs.MomentLaws.{found_such, each_read}
 -- what holds of all that may be found holds at each moment
 at_each : (Q : Option (List ℕ) → Type 0) (d : Durable) (more : List FileStep) → ((n : ℕ) (c : Option (List ℕ)) → MayLeave (durable_from d (take n more)) c → Q c) → AtEachMoment Q d more
 at_each Q d [] so = λ c may. so 0 c may
-at_each Q d (s ∷ more) so = (λ c may. so 0 c may, at_each Q (after d s) more (λ n c may. so (suc n) c may))
+at_each Q d (s ∷ more) so = (λ c may. so 0 c may, at_each Q (after_step d s) more (λ n c may. so (suc n) c may))
 
 throughout_found : (P Q : Option (List ℕ) → Type 0) (old new : DeviceFile) → Throughout P old new → ((c : Option (List ℕ)) → MayBeFound old new c → Q c) → Throughout Q old new
 throughout_found P Q old new all so = record {

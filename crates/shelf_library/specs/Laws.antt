@@ -19,10 +19,10 @@ use Rattle.shelf_file.specs.declared.look.Look.{Look}
 use Rattle.shelf_file.specs.declared.look.Look.TheVariants.{NoFile, Refused, Accepted}
 use Rattle.shelf_file.specs.declared.shelf_file.ShelfFile.{ShelfFile}
 use Rattle.shelf_file.specs.Named.{look_of, named_of, named_by}
-use Rattle.shelf_file.specs.Standing.{file_in, live_of, room_in}
+use Rattle.shelf_file.specs.Standing.{file_read_off, live_of, room_in}
 use Rattle.shelf_library.specs.State.{held_at, AreReady, AreLimited}
 use Rattle.shelf_library.specs.Units.{world_of, units_of, holding_of, room_of_held, counts_of_held}
-use Rattle.shelf_library.specs.Units.{frames_of_held, asked_of}
+use Rattle.shelf_library.specs.Units.{frames_of_held, pages_asked_of}
 use Rattle.shelf_library.specs.Truth.{IsShownTruly, IsTrulyClosed}
 use Rattle.shelf_library.specs.WorldLaws.{named_anywhere, name_now, holding_now, named_now, units_long}
 use Rattle.open_file.proofs.ReadOffLemmas.{reads_as}
@@ -82,7 +82,7 @@ module _ (shelf : ShelfState) (held : List Held) (many : length held ≡ length 
     | inr unbroken ↦
         let lies : u < length shelf.names = omega (arith, within, many) in
         let open_truly = truly.opened u file lies refl is unbroken in
-        let back : file_in file shelf ≡ open_truly.rows =
+        let back : file_read_off file shelf ≡ open_truly.rows =
         reads_as file.file (live_of file shelf) open_truly.rows open_truly.stands.stands in
         rw unbroken (subst (λ (rows : File). IsTrue (is_file file.file.schema rows))
         (sym back) open_truly.stands.stands.sound)
@@ -114,12 +114,12 @@ module _ (shelf : ShelfState) (held : List Held) (many : length held ≡ length 
   opened_by : (u : ℕ) (one : Held) (schema : Schema) (rows : File)
       → holding_of shelf one ≡ HasOpened schema rows
       → (file : ShelfFile) × (one ≡ Opened file) × IsFalse file.file.broken × (file.file.schema ≡ schema)
-      × (file_in file shelf ≡ rows)
+      × (file_read_off file shelf ≡ rows)
   opened_by u Nothing schema rows is = absurd (cc)
   opened_by u (Looked header) schema rows is = absurd (cc)
   opened_by u (Opened file) schema rows is = elim (cases_Bool file.file.broken) [
     | inl broken ↦ let e : Broken file.file.schema ≡ HasOpened schema rows = rw broken at is in absurd (cc)
-    | inr unbroken ↦ let e : HasOpened file.file.schema (file_in file shelf) ≡ HasOpened schema rows =
+    | inr unbroken ↦ let e : HasOpened file.file.schema (file_read_off file shelf) ≡ HasOpened schema rows =
         rw unbroken at is in (file, refl, unbroken, cc, cc)
   ]
 
@@ -202,21 +202,22 @@ module _
 
 -- ---- the pages of a unit that is not open are not counted
 
-not_counted : (shelf : ShelfState) (one : Held) → IsFalse (is_open (holding_of shelf one)) → asked_of one ≡ 0
+not_counted : (shelf : ShelfState) (one : Held) → IsFalse (is_open (holding_of shelf one))
+    → pages_asked_of one ≡ 0
 not_counted shelf Nothing closed = refl
 not_counted shelf (Looked header) closed = refl
 not_counted shelf (Opened file) closed = elim (cases_Bool file.file.broken) [
   | inl broken ↦ let e : IsFalse (is_open (Broken file.file.schema)) = rw broken at closed in absurd (cc)
-  | inr works ↦ let e : IsFalse (is_open (HasOpened file.file.schema (file_in file shelf))) =
+  | inr works ↦ let e : IsFalse (is_open (HasOpened file.file.schema (file_read_off file shelf))) =
       rw works at closed in absurd (cc)
 ]
 
 pub none_counted : (shelf : ShelfState) (held : List Held) (u : ℕ) → length held ≡ length shelf.names
-    → IsFalse (is_open (holding_at (world_of shelf held) u)) → asked_of (held_at held u) ≡ 0
+    → IsFalse (is_open (holding_at (world_of shelf held) u)) → pages_asked_of (held_at held u) ≡ 0
 none_counted shelf held u many closed = elim (cases_Bool (nat_lt u (length held))) [
   | inl hit ↦
       let within = ltb-true u (length held) hit in
       not_counted shelf (held_at held u) (subst (λ (holding : Holding). IsFalse (is_open holding))
       (holding_now shelf held u within many) closed)
-  | inr miss ↦ ap asked_of (get_or_past held u Nothing (ltb-false u (length held) miss))
+  | inr miss ↦ ap pages_asked_of (get_or_past held u Nothing (ltb-false u (length held) miss))
 ]

@@ -2,7 +2,7 @@
 use Rattle.std.specs.Prelude.{◌≡◌, ℕ, ◌<◌, length, slice_set, Result}
 use Rattle.io_state.specs.declared.fault.Fault.{Fault}
 use Rattle.shelf_file.specs.declared.look.Look.{Look}
-use Rattle.shelf_file.specs.Opening.{LooksOnShelf, counted}
+use Rattle.shelf_file.specs.Opening.{LooksOnShelf, counted_shelf}
 use Rattle.shelf_library.specs.State.{LibraryState}
 use Rattle.shelf_library.specs.Told.{held_after}
 use Rattle.shelf_library.specs.OneUnit.{AreUnits}
@@ -14,4 +14,4 @@ pub record LooksAt (u : ℕ) (look : Result Look Fault) (old new : LibraryState)
   pub holds : new.held ≡ slice_set old.held u (held_after look)
   pub limit : new.limit ≡ old.limit
   pub frames : new.frames ≡ old.frames
-  pub looks : LooksOnShelf u (counted old.shelf old.faults) (counted new.shelf new.faults) look
+  pub looks : LooksOnShelf u (counted_shelf old.shelf old.faults) (counted_shelf new.shelf new.faults) look

@@ -6,7 +6,7 @@ use Rattle.std.proofs.lemmas.List.{take_all, append_assoc}
 use Rattle.indexed_file.specs.Moments.{JoinsStretches, EndsNow}
 use Rattle.indexed_file.specs.World.{Named}
 use Rattle.page_store.specs.DeviceFile.{FileStep, DeviceFile}
-use Rattle.page_store.specs.Images.{Durable, nothing, after, durable_from, durable, MayLeave, Leaves}
+use Rattle.page_store.specs.Images.{Durable, nothing, after_step, durable_from, durable, MayLeave, Leaves}
 use Rattle.page_store.specs.Moments.{AtEachMoment, Throughout}
 use Rattle.page_store.proofs.ImageLemmas.{durable_from-append}
 use Rattle.page_store.proofs.MomentLemmas.{throughout_then, throughout_last, throughout_none}
@@ -21,7 +21,7 @@ found_within : (P : Option (List ℕ) → Type 0) (d : Durable) (more : List Fil
 found_within P d [] zero each c may = each c may
 found_within P d [] (suc n) each c may = each c may
 found_within P d (s ∷ more) zero each c may = each.0 c may
-found_within P d (s ∷ more) (suc n) each c may = found_within P (after d s) more n each.1 c may
+found_within P d (s ∷ more) (suc n) each c may = found_within P (after_step d s) more n each.1 c may
 
 -- it is as all images are
 pub found_such : (P : Option (List ℕ) → Type 0) (old new : DeviceFile) → Throughout P old new

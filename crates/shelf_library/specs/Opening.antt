@@ -6,7 +6,7 @@ use Rattle.page_store.specs.Images.{Leaves}
 use Rattle.page_store.specs.ShelfState.{unit_file}
 use Rattle.file_header.specs.declared.header.Header.{Header}
 use Rattle.shelf_file.specs.declared.shelf_file.ShelfFile.{ShelfFile}
-use Rattle.shelf_file.specs.Opening.{MakesOnShelf, OpensByHeader, counted}
+use Rattle.shelf_file.specs.Opening.{MakesOnShelf, OpensByHeader, counted_shelf}
 use Rattle.shelf_library.specs.State.{LibraryState, held_at}
 use Rattle.shelf_library.specs.Told.{held_open}
 use Rattle.shelf_library.specs.OneUnit.{AreUnits}
@@ -34,7 +34,7 @@ pub record MakesAt (u : ℕ) (schema : Schema) (r : Result ShelfFile Fault)
   pub holds : new.held ≡ slice_set old.held u (held_open r)
   pub limit : new.limit ≡ old.limit
   pub frames : new.frames ≡ old.frames
-  pub make : MakesOnShelf u new.limit new.frames schema (counted old.shelf old.faults)
-      (counted new.shelf new.faults) r
+  pub make : MakesOnShelf u new.limit new.frames schema (counted_shelf old.shelf old.faults)
+      (counted_shelf new.shelf new.faults) r
   -- what reads give is one of the images
   pub image_after : IsTrue new.shelf.is_honest → Leaves (unit_file new.shelf u) (unit_file new.shelf u).seen

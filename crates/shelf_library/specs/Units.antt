@@ -10,7 +10,7 @@ use Rattle.page_alloc.specs.declared.pager.Pager.{Pager}
 use Rattle.shelf_file.specs.declared.look.Look.{Look}
 use Rattle.shelf_file.specs.declared.look.Look.TheVariants.{NoFile, Refused, Accepted}
 use Rattle.shelf_file.specs.Named.{look_of, named_of}
-use Rattle.shelf_file.specs.Standing.{file_in, room_in}
+use Rattle.shelf_file.specs.Standing.{file_read_off, room_in}
 use Rattle.shelf_library.specs.declared.held.Held.{Held}
 use Rattle.shelf_library.specs.declared.held.Held.TheVariants.{Nothing, Looked, Opened}
 
@@ -18,7 +18,7 @@ abbrev pub holding_of : ShelfState → Held → Holding
 holding_of shelf Nothing = Shut
 holding_of shelf (Looked header) = HasLooked header.schema
 holding_of shelf (Opened file) = if file.file.broken then Broken file.file.schema else HasOpened
-    file.file.schema (file_in file shelf)
+    file.file.schema (file_read_off file shelf)
 
 abbrev pub unit_of : ShelfState → List ℕ → Held → FileUnit
 unit_of shelf name one = record {
@@ -46,10 +46,10 @@ room_of_held Nothing = Endless
 room_of_held (Looked header) = Endless
 room_of_held (Opened file) = room_in file
 
-abbrev pub asked_of : Held → ℕ
-asked_of Nothing = 0
-asked_of (Looked header) = 0
-asked_of (Opened file) = file.pages.cache.asked
+abbrev pub pages_asked_of : Held → ℕ
+pages_asked_of Nothing = 0
+pages_asked_of (Looked header) = 0
+pages_asked_of (Opened file) = file.pages.cache.asked
 
 -- the pages of an open file are those that its pager counts; of another one, those that its header
 -- counts, where a look accepts it

@@ -11,7 +11,7 @@ use Rattle.shelf_library.specs.Units.{world_of}
 use Rattle.shelf_library.specs.WorldLaws.{named_anywhere}
 use Rattle.shelf_library.specs.Crashes.{IsSoundImage}
 use Rattle.shelf_run.specs.Files.{files_of, reads_of, Represents}
-use Rattle.shelf_run.specs.ShelfRun.{shown_in}
+use Rattle.shelf_run.specs.ShelfRun.{shown_of_state}
 use Rattle.shelf_run.proofs.FilesLemmas.{world_at_first, named_is, sound_of, shown_truly, represents_sound}
 use Rattle.shelf_run.proofs.RunLemmas.{stays_sound}
 use Rattle.record_loading.specs.Loading.{Listing, Loads, LoadsNamed, mode_of}
@@ -21,11 +21,11 @@ use Rattle.record_loading.specs.declared.end.LoadEnd.{LoadEnd}
 use Rattle.record_loading.specs.declared.end.LoadFault.{LoadFault}
 use Rattle.shelf_loading.specs.declared.end.ShelfEnd.{ShelfEnd}
 use Rattle.shelf_loading.specs.declared.end.ShelfEnd.TheVariants.{Loaded}
-use Rattle.shelf_loading.specs.Loaded.{Leaves, KeepsOthers, IsSafe, end_of, file_at_first}
+use Rattle.shelf_loading.specs.Loaded.{LeavesLoaded, KeepsOtherNames, IsSafeLoad, load_end_of, file_at_first}
 
 -- a library over a shelf before a load, which holds nothing, and after it
 module _ (old new : LibraryState) (none : old.shelf.names ≡ []) (empty : old.held ≡ []) (many : length new.held ≡ length new.shelf.names)
-    (keeps : Keeps shown_in old new) (an_image : (name : List ℕ) → IsTrue old.shelf.is_honest → MayBe (old.shelf.file name) (old.shelf.file name).seen) (name : List ℕ) where
+    (keeps : Keeps shown_of_state old new) (an_image : (name : List ℕ) → IsTrue old.shelf.is_honest → MayBe (old.shelf.file name) (old.shelf.file name).seen) (name : List ℕ) where
   first_world : world_of old.shelf old.held ≡ files_of old.shelf
   first_world = rw empty (world_at_first old.shelf none)
 
@@ -35,7 +35,7 @@ module _ (old new : LibraryState) (none : old.shelf.names ≡ []) (empty : old.h
   pub leaves : (schema : Schema) (load : Load) (list : Listing) (end : LoadEnd)
       → (IsTrue new.shelf.is_honest → IsShownTruly old.shelf old.held name
       → LoadsNamed name schema (mode_of load) list (world_of old.shelf old.held) end (world_of new.shelf new.held))
-      → Leaves name schema load list old.shelf end new.shelf
+      → LeavesLoaded name schema load list old.shelf end new.shelf
   leaves schema load list end loads honest named is =
       let sound = sound_of (reads_of old.shelf name) named is in
       let done = loads honest (truly sound) in
@@ -49,11 +49,11 @@ module _ (old new : LibraryState) (none : old.shelf.names ≡ []) (empty : old.h
       }
 
   pub others : ((other : List ℕ) → bytes_eq name other ≡ false → named_in (world_of new.shelf new.held) other ≡ named_in (world_of old.shelf old.held) other)
-      → KeepsOthers name old.shelf new.shelf
+      → KeepsOtherNames name old.shelf new.shelf
   others same other apart =
       sym (named_anywhere new.shelf new.held other many) ∙ same other apart ∙ ap (λ (world : World). named_in world other) first_world
 
-  pub safe : (IsTrue new.shelf.is_honest → IsShownTruly old.shelf old.held name → AllStayReal shown_in old new) → IsSafe name old.shelf new.shelf
+  pub safe : (IsTrue new.shelf.is_honest → IsShownTruly old.shelf old.held name → AllStayReal shown_of_state old new) → IsSafeLoad name old.shelf new.shelf
   safe real = record {
     honest = keeps.honest;
     sound = stays_sound old new none empty many keeps an_image;
@@ -64,10 +64,10 @@ module _ (old new : LibraryState) (none : old.shelf.names ≡ []) (empty : old.h
 
 -- ---- how a load over a library ended
 
-pub ends_by : (result : Result LoadEnd LoadFault) (P : LoadEnd → Type 0) (Q : ShelfEnd → Type 0) → ((end : LoadEnd) → P end → Q (Loaded end)) → IfOk result P → IfOk (end_of result) Q
+pub ends_by : (result : Result LoadEnd LoadFault) (P : LoadEnd → Type 0) (Q : ShelfEnd → Type 0) → ((end : LoadEnd) → P end → Q (Loaded end)) → IfOk result P → IfOk (load_end_of result) Q
 ends_by (Ok end) P Q so known = so end known
 ends_by (Err fault) P Q so known = tt
 
-pub nothing_by : (result : Result LoadEnd LoadFault) (A B : Type 0) → (A → B) → OnErr result A → OnErr (end_of result) B
+pub nothing_by : (result : Result LoadEnd LoadFault) (A B : Type 0) → (A → B) → OnErr result A → OnErr (load_end_of result) B
 nothing_by (Ok end) A B so known = tt
 nothing_by (Err fault) A B so known = so known

@@ -17,7 +17,7 @@ use Rattle.record_loading.specs.declared.end.Load.TheVariants.{New}
 use Rattle.shelf_loading.specs.declared.end.ShelfEnd.{ShelfEnd}
 use Rattle.shelf_loading.specs.declared.end.ShelfFault.{ShelfFault}
 use Rattle.shelf_loading.specs.declared.end.ShelfEnd.TheVariants.{IsThere, Loaded}
-use Rattle.shelf_loading.specs.Loaded.{EndsAnyhow, Ends, KeepsOthers, IsSafe}
+use Rattle.shelf_loading.specs.Loaded.{EndsAnyhow, EndsLoad, KeepsOtherNames, IsSafeLoad}
 
 none_there : (c : Option (List ℕ)) → false ≡ is_some c → c ≡ None
 none_there None lacks = refl
@@ -34,10 +34,10 @@ module _ (old new : ShelfState) (same : new.file ≡ old.file) where
     };
   }
 
-  pub others_same : (name : List ℕ) → KeepsOthers name old new
+  pub others_same : (name : List ℕ) → KeepsOtherNames name old new
   others_same name other apart = ap (λ (file : List ℕ → DeviceFile). named_of (file other).seen) same
 
-  pub safe_same : (IsTrue new.is_honest → IsTrue old.is_honest) → (name : List ℕ) → IsSafe name old new
+  pub safe_same : (IsTrue new.is_honest → IsTrue old.is_honest) → (name : List ℕ) → IsSafeLoad name old new
   safe_same before name = record {
     honest = before;
     sound = λ honest other. subst (λ (file : List ℕ → DeviceFile). IsSoundImage (file other).seen) (sym same);
@@ -61,10 +61,10 @@ module _ (first then last : ShelfState) (same : then.file ≡ first.file) where
   nothing_from (Ok end) known = tt
   nothing_from (Err fault) known = left_from known
 
-  pub others_from : (name : List ℕ) → KeepsOthers name then last → KeepsOthers name first last
+  pub others_from : (name : List ℕ) → KeepsOtherNames name then last → KeepsOtherNames name first last
   others_from name is other apart = is other apart ∙ ap (λ (file : List ℕ → DeviceFile). named_of (file other).seen) same
 
-  pub safe_from : (IsTrue then.is_honest → IsTrue first.is_honest) → (name : List ℕ) → IsSafe name then last → IsSafe name first last
+  pub safe_from : (IsTrue then.is_honest → IsTrue first.is_honest) → (name : List ℕ) → IsSafeLoad name then last → IsSafeLoad name first last
   safe_from before name is = record {
     honest = λ honest. before (is.honest honest);
     sound = λ honest other sound. is.sound honest other (subst (λ (file : List ℕ → DeviceFile). IsSoundImage (file other).seen) (sym same) sound);
@@ -76,7 +76,7 @@ module _ (first then last : ShelfState) (same : then.file ≡ first.file) where
 
   -- where the name had no file, what was loaded was loaded into a new one
   pub anew : (name : List ℕ) (schema : Schema) (list : Listing) (there : Bool) → there ≡ false → (IsTrue then.is_honest → there ≡ is_some (first.file name).seen)
-      → (IsTrue last.is_honest → IsTrue then.is_honest) → (end : ShelfEnd) → EndsAnyhow name schema New list then end last → Ends name schema New list first end last
+      → (IsTrue last.is_honest → IsTrue then.is_honest) → (end : ShelfEnd) → EndsAnyhow name schema New list then end last → EndsLoad name schema New list first end last
   anew name schema list there lacks tells before IsThere is = absurd is
   anew name schema list there lacks tells before (Loaded end) is = λ honest.
       let absent : (first.file name).seen ≡ None = none_there (first.file name).seen (sym lacks ∙ tells (before honest)) in

@@ -12,8 +12,8 @@ abbrev pub status_text : Status → List ℕ
 status_text status = codes "status " ++ (digits_of status ++ codes "\n")
 
 -- so many records were loaded
-abbrev pub number_text : ℕ → List ℕ
-number_text records = codes "loaded " ++ (decimal records ++ codes "\n")
+abbrev pub loaded_text : ℕ → List ℕ
+loaded_text records = codes "loaded " ++ (decimal records ++ codes "\n")
 
 -- the beginning of what is told of a line
 abbrev pub line_start : ℕ → List ℕ
@@ -22,7 +22,7 @@ line_start line = codes "line " ++ (decimal line ++ codes ": ")
 -- how the lines of a text ended, whose file was closed with this status: records are told as loaded
 -- only where CLOSE was a success
 abbrev pub told_lines : LinesEnd → Status → List ℕ
-told_lines (Loaded records) closed = if is_successful closed then number_text records else []
+told_lines (Loaded records) closed = if is_successful closed then loaded_text records else []
 told_lines (Refused line status) closed = line_start line ++ status_text status
 told_lines (NoRecord line) closed = line_start line ++ codes "no record of this file\n"
 

@@ -21,9 +21,9 @@ use Rattle.shelf_loading.specs.declared.end.ShelfFault.{ShelfFault}
 use Rattle.shelf_loading.specs.declared.end.ShelfFault.TheVariants.{Input, Memory}
 
 -- what became of a load over a library
-abbrev pub end_of : Result LoadEnd LoadFault → Result ShelfEnd ShelfFault
-end_of (Ok end) = Ok (Loaded end)
-end_of (Err fault) = Err Memory
+abbrev pub load_end_of : Result LoadEnd LoadFault → Result ShelfEnd ShelfFault
+load_end_of (Ok end) = Ok (Loaded end)
+load_end_of (Err fault) = Err Memory
 
 -- what a fault of the shelf makes of a load
 abbrev pub fault_by : Fault → ShelfFault
@@ -52,9 +52,9 @@ pub record LeavesFile (schema : Schema) (load : Load) (list : Listing) (named : 
   pub represents : Represents seen after.named
 
 -- so it leaves the file of a name, whatever that represented, over a shelf that has not lied by then
-abbrev pub Leaves : (name : List ℕ) → Schema → Load → (list : Listing) → (old : ShelfState) → LoadEnd
+abbrev pub LeavesLoaded : (name : List ℕ) → Schema → Load → (list : Listing) → (old : ShelfState) → LoadEnd
     → (new : ShelfState) → Type 0
-Leaves name schema load list old end new =
+LeavesLoaded name schema load list old end new =
     IsTrue new.is_honest → (named : Named) → Represents (reads_of old name) named
     → LeavesFile schema load list named end (reads_of new name)
 
@@ -62,7 +62,7 @@ Leaves name schema load list old end new =
 abbrev pub EndsAnyhow : (name : List ℕ) → Schema → Load → (list : Listing) → (old : ShelfState) → ShelfEnd
     → (new : ShelfState) → Type 0
 EndsAnyhow name schema load list old IsThere new = ⊥
-EndsAnyhow name schema load list old (Loaded end) new = Leaves name schema load list old end new
+EndsAnyhow name schema load list old (Loaded end) new = LeavesLoaded name schema load list old end new
 
 -- a load into a new file: the name had none
 pub record LoadsAnew (name : List ℕ) (schema : Schema) (list : Listing) (old : ShelfState) (end : LoadEnd)
@@ -76,20 +76,21 @@ pub record IsLeftThere (name : List ℕ) (old new : ShelfState) : Type 0 where
   pub same : new.file ≡ old.file
 
 -- how a load ends
-abbrev pub Ends : (name : List ℕ) → Schema → Load → (list : Listing) → (old : ShelfState) → ShelfEnd
+abbrev pub EndsLoad : (name : List ℕ) → Schema → Load → (list : Listing) → (old : ShelfState) → ShelfEnd
     → (new : ShelfState) → Type 0
-Ends name schema New list old IsThere new = IsLeftThere name old new
-Ends name schema New list old (Loaded end) new = IsTrue new.is_honest → LoadsAnew name schema list old end new
-Ends name schema Into list old end new = EndsAnyhow name schema Into list old end new
+EndsLoad name schema New list old IsThere new = IsLeftThere name old new
+EndsLoad name schema New list old (Loaded end) new = IsTrue new.is_honest
+    → LoadsAnew name schema list old end new
+EndsLoad name schema Into list old end new = EndsAnyhow name schema Into list old end new
 
 -- every other name stands for what it stood for
-abbrev pub KeepsOthers : (name : List ℕ) → (old new : ShelfState) → Type 0
-KeepsOthers name old new = (other : List ℕ) → bytes_eq name other ≡ false
+abbrev pub KeepsOtherNames : (name : List ℕ) → (old new : ShelfState) → Type 0
+KeepsOtherNames name old new = (other : List ℕ) → bytes_eq name other ≡ false
     → named_in (files_of new) other ≡ named_in (files_of old) other
 
 -- honesty may only fall; what is sound stays so; and where whatever a crash might leave of the file
 -- was sound at first, what it may leave of any file is so at each moment, if it was so at first
-pub record IsSafe (name : List ℕ) (old new : ShelfState) : Type 0 where
+pub record IsSafeLoad (name : List ℕ) (old new : ShelfState) : Type 0 where
   pub honest : IsTrue new.is_honest → IsTrue old.is_honest
   pub sound : StaysSound old new
   pub no_false_file : IsTrue new.is_honest → AllSound (old.file name) → AreSoundThroughout old new
@@ -99,5 +100,5 @@ pub record LoadsInto (name : List ℕ) (EndsSo : ShelfState → ShelfEnd → She
     (old new : ShelfState) (result : Result ShelfEnd ShelfFault) : Type 0 where
   pub ends : IfOk result (λ end. EndsSo old end new)
   pub nothing : OnErr result (LeavesFiles old new)
-  pub others : KeepsOthers name old new
-  pub safe : IsSafe name old new
+  pub others : KeepsOtherNames name old new
+  pub safe : IsSafeLoad name old new

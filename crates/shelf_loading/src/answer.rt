@@ -1,6 +1,6 @@
 //! What is told of a load.
 ghost use Rattle.std.specs.Prelude.{◌≡◌, ◌++◌, codes, decimal, OnOk};
-ghost use Rattle.shelf_loading.specs.Answer.{status_text, number_text, line_start, told_lines, told_close};
+ghost use Rattle.shelf_loading.specs.Answer.{status_text, loaded_text, line_start, told_lines, told_close};
 ghost use Rattle.shelf_loading.specs.Answer.{answer_of, is_loaded};
 
 use io_state::Status;
@@ -47,7 +47,7 @@ fn add_status(answer: &mut Vec<u8>, status: Status) -> Result<(), AllocError>
 
 /// Adds how many records were loaded.
 fn add_count(answer: &mut Vec<u8>, records: u64) -> Result<(), AllocError>
-    ensures { OnOk result (answer.new.items ≡ answer.old.items ++ number_text records) }
+    ensures { OnOk result (answer.new.items ≡ answer.old.items ++ loaded_text records) }
 {
     add(answer, b"loaded ")?;
     add_number(answer, records)?;

@@ -1,6 +1,6 @@
 //! How a load over the files of a shelf ends.
 ghost use Rattle.std.specs.Prelude.{◌≡◌};
-ghost use Rattle.shelf_loading.specs.Loaded.{end_of, fault_by};
+ghost use Rattle.shelf_loading.specs.Loaded.{load_end_of, fault_by};
 
 use io_state::Fault;
 use record_loading::{LoadEnd, LoadFault};
@@ -26,7 +26,7 @@ pub enum ShelfFault {
 
 /// What became of a load over a library.
 pub fn end_of(end: Result<LoadEnd, LoadFault>) -> Result<ShelfEnd, ShelfFault>
-    ensures { result ≡ end_of end }
+    ensures { result ≡ load_end_of end }
 {
     match end {
         Ok(end) => Ok(ShelfEnd::Loaded(end)),

@@ -1,8 +1,8 @@
 //! The loading.
 ghost use Rattle.std.specs.Prelude.{◌≡◌, ◌≤◌, [], is_some, IsTrue, IfOk, OnOk};
-ghost use Rattle.record_reading.specs.Whole.{IsWhole};
+ghost use Rattle.record_reading.specs.Whole.{IsWholeForm};
 ghost use Rattle.record_loading.specs.Loading.{listing};
-ghost use Rattle.shelf_loading.specs.Loaded.{Ends, EndsAnyhow, LoadsInto};
+ghost use Rattle.shelf_loading.specs.Loaded.{EndsLoad, EndsAnyhow, LoadsInto};
 
 use crate::end::{ShelfEnd, ShelfFault, end_of, fault_by};
 use io_state::{Fault, FileName};
@@ -44,7 +44,7 @@ fn load_over<S: Shelf, P: Progress>(
 ) -> (S, Result<ShelfEnd, ShelfFault>)
     requires names { (S.state shelf).names ≡ [] }
     requires limit { 16 ≤ limit }
-    requires whole { IsWhole form.now schema.now.greatest }
+    requires whole { IsWholeForm form.now schema.now.greatest }
     ensures { LoadsInto name.bytes (EndsAnyhow name.bytes schema.now load (listing form.now text.now))
         (S.state shelf) (S.state result.0) result.1 }
 {
@@ -75,8 +75,8 @@ fn load_new<S: Shelf, P: Progress>(
     progress: &mut P,
 ) -> (S, Result<ShelfEnd, ShelfFault>)
     requires limit { 16 ≤ limit }
-    requires whole { IsWhole form.now schema.now.greatest }
-    ensures { LoadsInto name.bytes (Ends name.bytes schema.now Load.New (listing form.now text.now))
+    requires whole { IsWholeForm form.now schema.now.greatest }
+    ensures { LoadsInto name.bytes (EndsLoad name.bytes schema.now Load.New (listing form.now text.now))
         (S.state shelf) (S.state result.0) result.1 }
 {
     let mut shelf = shelf;
@@ -123,8 +123,8 @@ pub fn load_on_shelf<S: Shelf, P: Progress>(
 ) -> (S, Result<ShelfEnd, ShelfFault>)
     requires names { (S.state shelf).names ≡ [] }
     requires limit { 16 ≤ limit }
-    requires whole { IsWhole form.now schema.now.greatest }
-    ensures { LoadsInto name.bytes (Ends name.bytes schema.now load (listing form.now text.now))
+    requires whole { IsWholeForm form.now schema.now.greatest }
+    ensures { LoadsInto name.bytes (EndsLoad name.bytes schema.now load (listing form.now text.now))
         (S.state shelf) (S.state result.0) result.1 }
 {
     match load {

@@ -12,7 +12,7 @@ use Rattle.shelf_library.specs.MomentLaws.{found_such}
 use Rattle.shelf_library.specs.Crashes.{IsSoundImage}
 use Rattle.shelf_run.specs.Files.{reads_of, AllSound, AreImagesSound, AreSoundThroughout}
 use Rattle.shelf_run.specs.ShelfRun.{LeavesFiles}
-use Rattle.shelf_run.specs.AnyNights.{AnyNight, HasEnded, WasBrokenOff, IsNight, FollowAnyhow, StartsSound, AnyNights}
+use Rattle.shelf_run.specs.AnyNights.{AnyNight, NightHasEnded, WasBrokenOff, IsNight, FollowAnyhow, StartsSound, AnyNights}
 use Rattle.shelf_run.proofs.FilesLemmas.{represents_sound}
 
 -- ---- one night
@@ -26,7 +26,7 @@ nothing_came old new honest leaves name all =
 kept : (night : AnyNight) → IsNight night → ((deck : Deck) → IsDeck night.bytes deck → AreImagesSound night.old deck) → AreSoundThroughout night.old night.new
 kept night is sound = go is.ends
   where
-    go : HasEnded night ⊎ (WasBrokenOff night ⊎ LeavesFiles night.old night.new) → AreSoundThroughout night.old night.new
+    go : NightHasEnded night ⊎ (WasBrokenOff night ⊎ LeavesFiles night.old night.new) → AreSoundThroughout night.old night.new
     go (inl ended) = let run = ended.1 in run.3.3.no_false_file is.honest (sound run.0 run.1)
     go (inr (inl broken)) = broken.3.9.no_false_file is.honest (sound broken.0 broken.1)
     go (inr (inr none)) = nothing_came night.old night.new is.honest none

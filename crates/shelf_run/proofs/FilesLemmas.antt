@@ -6,7 +6,7 @@ use Rattle.indexed_file.specs.World.{Named, Absent, Closed, Unsound, named_in}
 use Rattle.indexed_file.proofs.TestLemmas.{either}
 use Rattle.record_layout.specs.Schema.{Schema}
 use Rattle.file_header.specs.Reading.{header_in}
-use Rattle.page_store.specs.Pages.{page_of}
+use Rattle.page_store.specs.Pages.{page_of_bytes}
 use Rattle.page_store.specs.DeviceFile.{DeviceFile, bytes_or_none}
 use Rattle.page_store.specs.ShelfState.{ShelfState}
 use Rattle.file_control.specs.Described.{file_names}
@@ -93,7 +93,7 @@ pub file_there : (bytes : List ℕ) → look_of (Some bytes) ≡ NoFile → ⊥
 file_there bytes is =
     either (nat_lt (length bytes) 4096) ⊥
     (λ short. let e : Refused ≡ NoFile = rw short at is in absurd (cc))
-    (λ long. look_there bytes (header_in (page_of bytes 0)) (rw long at is))
+    (λ long. look_there bytes (header_in (page_of_bytes bytes 0)) (rw long at is))
 
 represents_look : (bytes : List ℕ) (look : Look) → look_of (Some bytes) ≡ look → IsSoundImage (Some bytes) → Represents (Some bytes) (named_by bytes look)
 represents_look bytes NoFile is sound = absurd (file_there bytes is)

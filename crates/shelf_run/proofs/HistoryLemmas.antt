@@ -6,14 +6,14 @@ use Rattle.file_control.specs.Described.{file_names}
 use Rattle.deck_reader.specs.declared.deck.Deck.{Deck}
 use Rattle.deck_reader.specs.Deck.{IsDeck}
 use Rattle.shelf_run.specs.Files.{reads_of, Represents, AreIn}
-use Rattle.shelf_run.specs.Histories.{Night, IsClean, decks_of, CleanNights, NightsFromNothing, no_files}
+use Rattle.shelf_run.specs.Histories.{Night, IsCleanNight, decks_of, CleanNights, NightsFromNothing, no_files}
 use Rattle.shelf_run.specs.ShelfRun.{RunsFrom}
 use Rattle.shelf_run.specs.WorldAfter.{world_after}
 
 -- no bytes are two decks
 module _ (one_deck : (bytes : List ℕ) (a b : Deck) → IsDeck bytes a → IsDeck bytes b → a ≡ b) where
   -- a clean night is exact in each world that its files represented
-  exact_night : (world : World) (night : Night) → IsClean night → AreIn world (reads_of night.old) night.deck
+  exact_night : (world : World) (night : Night) → IsCleanNight night → AreIn world (reads_of night.old) night.deck
       → RunsFrom world night.old night.new night.written night.written_after night.end night.deck
   exact_night world night is are =
       let exact = is.exact is.clean in

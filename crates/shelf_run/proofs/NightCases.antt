@@ -15,7 +15,7 @@ use Rattle.deck_reader.specs.declared.deck.Deck.{Deck}
 use Rattle.deck_runner.proofs.Customers.{cust_id, cust_name}
 use Rattle.deck_runner.proofs.Decks.{key, schema, on, on_file, move}
 use Rattle.deck_runner.specs.NoFalseFile.{Ledger, during, behind}
-use Rattle.deck_runner.specs.Run.{RunFile, Run, after, lines_of}
+use Rattle.deck_runner.specs.Run.{RunFile, Run, after_statement, lines_of}
 use Rattle.deck_runner.specs.Line.{Line}
 use Rattle.shelf_run.specs.Histories.{no_files, transcripts}
 use Rattle.shelf_run.specs.NightRows.{Watched, watched_before, trace_at}
@@ -81,7 +81,7 @@ watched_step deck statement lines next point =
 abbrev watched_steps : Deck → List Statement → Watched → Watched
 watched_steps deck [] point = point
 watched_steps deck (statement ∷ rest) point =
-    watched_steps deck rest (watched_step deck statement (lines_of statement point.run) (after statement point.run) point)
+    watched_steps deck rest (watched_step deck statement (lines_of statement point.run) (after_statement statement point.run) point)
 
 -- what it may be: as at the start or not, and these
 abbrev ledger_with : Bool → List Named → Ledger

@@ -27,7 +27,7 @@ use Rattle.shelf_library.specs.State.{LibraryState}
 use Rattle.shelf_run.specs.Files.{Represents}
 use Rattle.shelf_run.specs.NightRows.{Watched, name_of, trace_at, IsWatchedStep, IsLeftBehind}
 use Rattle.shelf_run.specs.NightPoints.{RunGoesThrough}
-use Rattle.shelf_run.specs.ShelfRun.{shown_in}
+use Rattle.shelf_run.specs.ShelfRun.{shown_of_state}
 use Rattle.shelf_run.proofs.FilesLemmas.{named_is, sound_of, represents_sound}
 
 -- ---- some that all images are among
@@ -93,22 +93,22 @@ same_trace world deck names statement run lines name =
 -- ---- names stand by their ledgers
 
 module _ (start : LibraryState) where
-  stand_step : (statement : Statement) (before : Judged LibraryState) (lines : List Line) (after : Judged LibraryState) → IsSafeStretch shown_in start statement before lines after
-      → StandNow shown_in start before → StandNow shown_in start after
+  stand_step : (statement : Statement) (before : Judged LibraryState) (lines : List Line) (after : Judged LibraryState) → IsSafeStretch shown_of_state start statement before lines after
+      → StandNow shown_of_state start before → StandNow shown_of_state start after
   stand_step statement before lines after is now name =
-      subst (λ (ledger : Ledger). StandsBy shown_in.moments start name ledger after.point.library after.point.library) (sym (is.ledger name))
-      (behind_stretch shown_in (λ first last. ends first.shelf last.shelf)
+      subst (λ (ledger : Ledger). StandsBy shown_of_state.moments start name ledger after.point.library after.point.library) (sym (is.ledger name))
+      (behind_stretch shown_of_state (λ first last. ends first.shelf last.shelf)
       start statement before.point lines after.point is.stretch name (before.ledger name) (now name))
 
-  pub stand_after : (statements : List Statement) (before : Judged LibraryState) (lines : List Line) (after : Judged LibraryState) → AreStepsOf (IsSafeStretch shown_in start) statements before lines after
-      → StandNow shown_in start before → StandNow shown_in start after
-  stand_after [] before lines after are now = subst (λ (at : Judged LibraryState). StandNow shown_in start at) (sym are.1) now
+  pub stand_after : (statements : List Statement) (before : Judged LibraryState) (lines : List Line) (after : Judged LibraryState) → AreStepsOf (IsSafeStretch shown_of_state start) statements before lines after
+      → StandNow shown_of_state start before → StandNow shown_of_state start after
+  stand_after [] before lines after are now = subst (λ (at : Judged LibraryState). StandNow shown_of_state start at) (sym are.1) now
   stand_after (statement ∷ rest) before lines after are now =
       stand_after rest are.1 are.2 after are.4 (stand_step statement before are.0 are.1 are.3 now)
 
   pub stand_at_point : (statements : List Statement) (before : Judged LibraryState) (seen : List Line) (point : Judged LibraryState) (later : List Line) (after : Judged LibraryState)
-      → RunGoesThrough (IsSafeStretch shown_in start) (λ judged. closes_from 0 judged.point.run.files) statements before seen point later after
-      → StandNow shown_in start before → StandNow shown_in start point
+      → RunGoesThrough (IsSafeStretch shown_of_state start) (λ judged. closes_from 0 judged.point.run.files) statements before seen point later after
+      → StandNow shown_of_state start before → StandNow shown_of_state start point
   stand_at_point statements before seen point later after (inl go) now = stand_after go.3.0 before seen point go.3.3 now
   stand_at_point statements before seen point later after (inr go) now =
       stand_after go.4.0 go.0 go.2 point go.4.3 (stand_after (until_stop statements) before go.1 go.0 go.3 now)
@@ -127,7 +127,7 @@ first_mark = record { in_step = first_ledger; begun = []; told = [] }
 module _ (start : LibraryState) (deck : Deck) (name : List ℕ) where
   -- the units have the names of the deck's files
   abbrev pub HasNames : Judged LibraryState → Type 0
-  HasNames at = unit_names (shown_in.world at.point.library) ≡ file_names deck.files
+  HasNames at = unit_names (shown_of_state.world at.point.library) ≡ file_names deck.files
 
   -- the point as one where the name is watched, with this mark
   abbrev pub watched : Mark → Judged LibraryState → Watched
@@ -140,7 +140,7 @@ module _ (start : LibraryState) (deck : Deck) (name : List ℕ) where
   step_mark statement before lines mark = record { in_step = step_ledger statement before lines; begun = mark.told; told = mark.told ++ lines }
 
   one_step : (statement : Statement) (before : Judged LibraryState) (lines : List Line) (after : Judged LibraryState) (mark : Mark) → HasNames before
-      → IsSafeStretch shown_in start statement before lines after
+      → IsSafeStretch shown_of_state start statement before lines after
       → IsWatchedStep deck name statement (watched mark before) lines (watched (step_mark statement before lines mark) after)
   one_step statement before lines after mark names is = record {
     step = is.stretch.step;
@@ -149,11 +149,11 @@ module _ (start : LibraryState) (deck : Deck) (name : List ℕ) where
     told = refl;
     ledger =
         is.ledger name
-        ∙ ap (λ (trace : Trace). behind trace (before.ledger name)) (same_trace (shown_in.world before.point.library) deck names statement before.point.run lines name);
+        ∙ ap (λ (trace : Trace). behind trace (before.ledger name)) (same_trace (shown_of_state.world before.point.library) deck names statement before.point.run lines name);
   }
 
   pub steps_watched : (statements : List Statement) (before : Judged LibraryState) (lines : List Line) (after : Judged LibraryState) (mark : Mark) → HasNames before
-      → AreStepsOf (IsSafeStretch shown_in start) statements before lines after
+      → AreStepsOf (IsSafeStretch shown_of_state start) statements before lines after
       → (last : Mark) × HasNames after × AreStepsOf (IsWatchedStep deck name) statements (watched mark before) lines (watched last after) × (last.told ≡ mark.told ++ lines)
   steps_watched [] before lines after mark names are = (
     mark,
@@ -180,7 +180,7 @@ module _ (start : LibraryState) (deck : Deck) (name : List ℕ) where
 
     -- where a name stands by its ledger
     pub cover_stands : (P : Named → Type 0) (ledger : Ledger) (old new : LibraryState) → ((named : Named) → IsOfLedger may ledger named → P named)
-        → StandsBy shown_in.moments start name ledger old new → Covers P old.shelf new.shelf name
+        → StandsBy shown_of_state.moments start name ledger old new → Covers P old.shelf new.shelf name
     cover_stands P ledger old new gives stands =
         cover_weaker (IsOfLedger (moments_on.IsImage start.shelf start.shelf name) ledger) P old.shelf new.shelf name (λ named is. gives named (by_ledger ledger named is)) (stands (λ _. now.0))
 
@@ -200,7 +200,7 @@ module _ (start : LibraryState) (deck : Deck) (name : List ℕ) where
     module _ (P : Named → Type 0) (first : ShelfState) where
       cover_steps : (statements : List Statement) (before : Judged LibraryState) (lines : List Line) (after : Judged LibraryState) (mark : Mark) → HasNames before
           → ((named : Named) → LeftInPart statements (watched mark before) lines named → P named)
-          → AreStepsOf (IsSafeStretch shown_in start) statements before lines after
+          → AreStepsOf (IsSafeStretch shown_of_state start) statements before lines after
           → Covers P first before.point.library.shelf name → Covers P first after.point.library.shelf name
       cover_steps [] before lines after mark names gives are so_far =
           subst (λ (at : Judged LibraryState). Covers P first at.point.library.shelf name) (sym are.1) so_far
@@ -210,9 +210,9 @@ module _ (start : LibraryState) (deck : Deck) (name : List ℕ) where
           let now_mark = step_mark statement before are.0 mark in
           let point = watched now_mark between in
           let step = one_step statement before are.0 between mark names are.3 in
-          let stands : StandsBy shown_in.moments start name ledger before.point.library between.point.library =
-          subst (λ (trace : Trace). StandsBy shown_in.moments start name (during trace (before.ledger name)) before.point.library between.point.library)
-          (same_trace (shown_in.world before.point.library) deck names statement before.point.run are.0 name) (are.3.stands name) in
+          let stands : StandsBy shown_of_state.moments start name ledger before.point.library between.point.library =
+          subst (λ (trace : Trace). StandsBy shown_of_state.moments start name (during trace (before.ledger name)) before.point.library between.point.library)
+          (same_trace (shown_of_state.world before.point.library) deck names statement before.point.run are.0 name) (are.3.stands name) in
           let here : Covers P before.point.library.shelf between.point.library.shelf name =
           cover_stands P ledger before.point.library between.point.library
           (λ named of. gives named (are.0, are.2, are.5, point, (statement ∷ [], rest, refl, (are.0, point, [], step, (refl, refl), sym (append-nil are.0))), [], sym (append-nil mark.told), of)) stands in
@@ -232,7 +232,7 @@ module _ (start : LibraryState) (deck : Deck) (name : List ℕ) where
 
       cover_part : (statements : List Statement) (before : Judged LibraryState) (lines : List Line) (after : Judged LibraryState) (mark : Mark) → HasNames before
           → ((named : Named) → LeftInPart statements (watched mark before) lines named → P named)
-          → AreStepsInPart (IsSafeStretch shown_in start) statements before lines after
+          → AreStepsInPart (IsSafeStretch shown_of_state start) statements before lines after
           → Covers P first before.point.library.shelf name → Covers P first after.point.library.shelf name
       cover_part statements before lines after mark names gives part so_far =
           let gives_part : (named : Named) → LeftInPart part.0 (watched mark before) lines named → P named =
@@ -255,7 +255,7 @@ module _ (start : LibraryState) (deck : Deck) (name : List ℕ) where
 
       pub cover_run : (statements : List Statement) (before : Judged LibraryState) (lines : List Line) (after : Judged LibraryState) (mark : Mark) → HasNames before
           → ((named : Named) → LeftInRun statements (watched mark before) lines named → P named)
-          → IsSafeRun shown_in start statements before lines after
+          → IsSafeRun shown_of_state start statements before lines after
           → Covers P first before.point.library.shelf name → Covers P first after.point.library.shelf name
       cover_run statements before lines after mark names gives is so_far =
           let stopped : Judged LibraryState = is.0 in
@@ -274,7 +274,7 @@ module _ (start : LibraryState) (deck : Deck) (name : List ℕ) where
 
       pub cover_broken_off : (statements : List Statement) (before : Judged LibraryState) (lines : List Line) (after : Judged LibraryState) (mark : Mark) → HasNames before
           → ((named : Named) → LeftInRun statements (watched mark before) lines named → P named)
-          → IsSafeBrokenOff shown_in start statements before lines after
+          → IsSafeBrokenOff shown_of_state start statements before lines after
           → Covers P first before.point.library.shelf name → Covers P first after.point.library.shelf name
       cover_broken_off statements before lines after mark names gives (inl part) so_far =
           cover_part (until_stop statements) before lines after mark names (λ named left. gives named (left.0, left.1, left.2, left.3, inl left.4, left.7)) part so_far
@@ -304,14 +304,14 @@ module _ (start : LibraryState) (deck : Deck) (name : List ℕ) where
     module _
         (P : Named → Type 0) (statements : List Statement) (before : Judged LibraryState) (seen : List Line) (point : Judged LibraryState) (later : List Line) (after : Judged LibraryState)
         (names : HasNames before) (gives : (named : Named) → LeftBehind seen statements (watched first_mark before) (seen ++ later) named → P named)
-        (stands : StandsBy shown_in.moments start name (point.ledger name) point.point.library point.point.library) where
+        (stands : StandsBy shown_of_state.moments start name (point.ledger name) point.point.library point.point.library) where
       -- from the point on, of which what it may be there is said
       from_point : ((named : Named) → IsOfLedger may (point.ledger name) named → P named) → Covers P point.point.library.shelf point.point.library.shelf name
       from_point gives_there = cover_stands P (point.ledger name) point.point.library point.point.library gives_there stands
 
       before_stop : (stopped : Judged LibraryState) (first others : List Line) (done rest : List Statement) → until_stop statements ≡ done ++ rest
-          → AreStepsOf (IsSafeStretch shown_in start) done before seen point → AreStepsOf (IsSafeStretch shown_in start) rest point first stopped
-          → AreStepsOf (IsSafeStretch shown_in start) (closes_from 0 stopped.point.run.files) stopped others after → later ≡ first ++ others
+          → AreStepsOf (IsSafeStretch shown_of_state start) done before seen point → AreStepsOf (IsSafeStretch shown_of_state start) rest point first stopped
+          → AreStepsOf (IsSafeStretch shown_of_state start) (closes_from 0 stopped.point.run.files) stopped others after → later ≡ first ++ others
           → Covers P point.point.library.shelf after.point.library.shelf name
       before_stop stopped first others done rest split to_point on closes all =
           let here = steps_watched done before seen point first_mark names to_point in
@@ -347,8 +347,8 @@ module _ (start : LibraryState) (deck : Deck) (name : List ℕ) where
           )) closes at_stop
 
       among_closes : (stopped : Judged LibraryState) (first others : List Line) (done rest : List Statement)
-          → AreStepsOf (IsSafeStretch shown_in start) (until_stop statements) before first stopped → closes_from 0 stopped.point.run.files ≡ done ++ rest
-          → AreStepsOf (IsSafeStretch shown_in start) done stopped others point → AreStepsOf (IsSafeStretch shown_in start) rest point later after → seen ≡ first ++ others
+          → AreStepsOf (IsSafeStretch shown_of_state start) (until_stop statements) before first stopped → closes_from 0 stopped.point.run.files ≡ done ++ rest
+          → AreStepsOf (IsSafeStretch shown_of_state start) done stopped others point → AreStepsOf (IsSafeStretch shown_of_state start) rest point later after → seen ≡ first ++ others
           → Covers P point.point.library.shelf after.point.library.shelf name
       among_closes stopped first others done rest to_stop split to_point on all =
           let till = steps_watched (until_stop statements) before first stopped first_mark names to_stop in
@@ -384,7 +384,7 @@ module _ (start : LibraryState) (deck : Deck) (name : List ℕ) where
             inl (left.5, left.6 ∙ ap (λ (l : List Line). l ++ left.5) told, left.7),
           )) on begin
 
-      pub cover_through : RunGoesThrough (IsSafeStretch shown_in start) (λ judged. closes_from 0 judged.point.run.files) statements before seen point later after
+      pub cover_through : RunGoesThrough (IsSafeStretch shown_of_state start) (λ judged. closes_from 0 judged.point.run.files) statements before seen point later after
           → Covers P point.point.library.shelf after.point.library.shelf name
       cover_through (inl go) = before_stop go.0 go.1 go.2 go.3.0 go.3.1 go.3.2 go.3.3 go.3.4 go.4 go.5
       cover_through (inr go) = among_closes go.0 go.1 go.2 go.4.0 go.4.1 go.3 go.4.2 go.4.3 go.4.4 go.5
@@ -392,7 +392,7 @@ module _ (start : LibraryState) (deck : Deck) (name : List ℕ) where
   -- ---- the whole of it
 
   pub run_watched : (statements : List Statement) (before : Judged LibraryState) (lines : List Line) (after : Judged LibraryState) (mark : Mark) → HasNames before
-      → IsSafeRun shown_in start statements before lines after
+      → IsSafeRun shown_of_state start statements before lines after
       → (last : Mark) × IsRunOf (IsWatchedStep deck name) (λ at. closes_from 0 at.run.files) statements (watched mark before) lines (watched last after)
   run_watched statements before lines after mark names is =
       let till = steps_watched (until_stop statements) before is.1 is.0 mark names is.3 in
@@ -400,14 +400,14 @@ module _ (start : LibraryState) (deck : Deck) (name : List ℕ) where
       (more.0, (watched till.0 is.0, is.1, is.2, till.2, more.2, is.5))
 
   part_watched : (statements : List Statement) (before : Judged LibraryState) (lines : List Line) (after : Judged LibraryState) (mark : Mark) → HasNames before
-      → AreStepsInPart (IsSafeStretch shown_in start) statements before lines after
+      → AreStepsInPart (IsSafeStretch shown_of_state start) statements before lines after
       → (last : Mark) × AreStepsInPart (IsWatchedStep deck name) statements (watched mark before) lines (watched last after)
   part_watched statements before lines after mark names part =
       let are = steps_watched part.0 before lines after mark names part.3 in
       (are.0, (part.0, part.1, part.2, are.2))
 
   pub broken_off_watched : (statements : List Statement) (before : Judged LibraryState) (lines : List Line) (after : Judged LibraryState) (mark : Mark) → HasNames before
-      → IsSafeBrokenOff shown_in start statements before lines after
+      → IsSafeBrokenOff shown_of_state start statements before lines after
       → (last : Mark) × IsRunInPart (IsWatchedStep deck name) (λ at. closes_from 0 at.run.files) statements (watched mark before) lines (watched last after)
   broken_off_watched statements before lines after mark names (inl part) =
       let are = part_watched (until_stop statements) before lines after mark names part in

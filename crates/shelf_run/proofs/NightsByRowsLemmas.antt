@@ -15,11 +15,11 @@ use Rattle.shelf_library.specs.Crashes.{moments_on}
 use Rattle.shelf_library.specs.MomentLaws.{joins, ends}
 use Rattle.shelf_library.specs.State.{LibraryState}
 use Rattle.shelf_library.specs.declared.held.Held.{Held}
-use Rattle.shelf_run.specs.AnyNights.{AnyNight, HasEnded, WasBrokenOff, CameToNothing}
+use Rattle.shelf_run.specs.AnyNights.{AnyNight, NightHasEnded, WasBrokenOff, CameToNothing}
 use Rattle.shelf_run.specs.Files.{files_of, reads_of, Represents}
 use Rattle.shelf_run.specs.NightRows.{Allowed, MayEndSo, MayBreakOffSo, WasTold, MayBeCutSo, MayBeCutBehind, Ending, Ended, BrokenOff, Nothing, Cut, CutBehind, EndedNight, HasEnding, crash_from, FollowAsEnded, allowed_behind, IsIn, as_in, StartAllowed, NightsByRows}
 use Rattle.shelf_run.specs.NightPoints.{RunsThrough, HasEndedThrough}
-use Rattle.shelf_run.specs.ShelfRun.{shown_in, over}
+use Rattle.shelf_run.specs.ShelfRun.{shown_of_state, over_shelf}
 use Rattle.shelf_run.proofs.FilesLemmas.{named_is, sound_of, shown_truly, world_at_first}
 use Rattle.shelf_run.proofs.NightRowLemmas.{Covers, cover_weaker, cover_found, cover_now, first_mark, watched, LeftInRun, LeftBehind, cover_through, stand_at_point, cover_stands, cover_run, cover_broken_off, run_watched, broken_off_watched}
 
@@ -32,31 +32,31 @@ ReadsAllowed may shelf name = (named : Named) × Represents (reads_of shelf name
 module _ (may : Allowed) (night : AnyNight) (honest : IsTrue night.new.is_honest) (none : night.old.names ≡ []) where
   -- the library at the start
   abbrev start : LibraryState
-  start = over night.limit night.frames night.old [] night.faults
+  start = over_shelf night.limit night.frames night.old [] night.faults
 
-  first_world : shown_in.world start ≡ files_of night.old
+  first_world : shown_of_state.world start ≡ files_of night.old
   first_world = world_at_first night.old none
 
   module _ (deck : Deck) (is_deck : IsDeck night.bytes deck) (reads : All (ReadsAllowed may night.old) (file_names deck.files)) where
-    allowed : All (λ name. may name (named_in (shown_in.world start) name)) (file_names deck.files)
+    allowed : All (λ name. may name (named_in (shown_of_state.world start) name)) (file_names deck.files)
     allowed =
         subst (λ (world : World). All (λ name. may name (named_in world name)) (file_names deck.files)) (sym first_world)
         (All-weaker (ReadsAllowed may night.old) (λ name. may name (named_in (files_of night.old) name))
         (λ name is. subst (λ (named : Named). may name named) (sym (named_is (reads_of night.old name) is.0 is.1)) is.2)
         (file_names deck.files) reads)
 
-    truly : All (shown_in.IsShownTruly start) (file_names deck.files)
+    truly : All (shown_of_state.IsShownTruly start) (file_names deck.files)
     truly =
-        All-weaker (ReadsAllowed may night.old) (shown_in.IsShownTruly start)
+        All-weaker (ReadsAllowed may night.old) (shown_of_state.IsShownTruly start)
         (λ name is. shown_truly night.old name none (sound_of (reads_of night.old name) is.0 is.1))
         (file_names deck.files) reads
 
     module _ (held : List Held) (name : List ℕ) (now : Covers (may name) night.old night.old name) where
       abbrev end : LibraryState
-      end = over night.limit night.frames night.new held night.faults_after
+      end = over_shelf night.limit night.frames night.new held night.faults_after
 
       abbrev begins : LibraryState → Judged LibraryState
-      begins begun = record { point = record { run = run_before (shown_in.world start) deck; library = begun }; ledger = λ other. first_ledger }
+      begins begun = record { point = record { run = run_before (shown_of_state.world start) deck; library = begun }; ledger = λ other. first_ledger }
 
       -- a crash in the run, of which these lines would have been told
       module _ (lines : List Line) (told : (AreLines : List Line → Type 0) → AreLines lines → WasTold night AreLines) where
@@ -64,19 +64,19 @@ module _ (may : Allowed) (night : AnyNight) (honest : IsTrue night.new.is_honest
         LeftOf begun = LeftInRun start deck name (may name) now deck.statements (watched start deck name first_mark (begins begun))
 
         cut_so : (begun : LibraryState) (named : Named) → LeftOf begun lines named → MayBeCutSo may night name named
-        cut_so begun named left = inr (deck, is_deck, shown_in.world start, allowed, told (λ all. LeftOf begun all named) left)
+        cut_so begun named left = inr (deck, is_deck, shown_of_state.world start, allowed, told (λ all. LeftOf begun all named) left)
 
-        attached : (begun : LibraryState) → IsAttached shown_in start begun deck → Covers (MayBeCutSo may night name) night.old begun.shelf name
+        attached : (begun : LibraryState) → IsAttached shown_of_state start begun deck → Covers (MayBeCutSo may night name) night.old begun.shelf name
         attached begun is = cover_weaker _ (MayBeCutSo may night name) night.old begun.shelf name (λ named was. inl (now.1 named was)) ((is.images name).within now.0)
 
-        pub cut_whole : RunsWhole shown_in start end deck lines → Covers (MayBeCutSo may night name) night.old night.new name
+        pub cut_whole : RunsWhole shown_of_state start end deck lines → Covers (MayBeCutSo may night name) night.old night.new name
         cut_whole runs =
             let is = runs.stretches honest truly in
             let ran = cover_run start deck name (may name) now (MayBeCutSo may night name) night.old deck.statements (begins is.0) lines is.1 first_mark is.2.names
             (cut_so is.0) is.3 (attached is.0 is.2) in
             subst (λ (library : LibraryState). Covers (MayBeCutSo may night name) night.old library.shelf name) is.4 ran
 
-        pub cut_in_part : RunsInPart shown_in start end deck lines → Covers (MayBeCutSo may night name) night.old night.new name
+        pub cut_in_part : RunsInPart shown_of_state start end deck lines → Covers (MayBeCutSo may night name) night.old night.new name
         cut_in_part runs =
             let is = runs.stretches honest truly in
             let ran = cover_broken_off start deck name (may name) now (MayBeCutSo may night name) night.old deck.statements (begins is.0) lines is.1 first_mark is.2.names
@@ -93,9 +93,9 @@ module _ (may : Allowed) (night : AnyNight) (honest : IsTrue night.new.is_honest
             let later : List Line = through.1 in
             let LeftHere : List Line → Named → Type 0 = LeftBehind start deck name (may name) now seen deck.statements (watched start deck name first_mark (begins is.0)) in
             let gives : (named : Named) → LeftHere (seen ++ later) named → P named =
-            λ named left. (deck, is_deck, shown_in.world start, allowed, told (λ all. LeftHere all named) (subst (λ (all : List Line). LeftHere all named) (sym through.3) left)) in
-            let first : StandNow shown_in start (begins is.0) =
-            λ other was. begun_stands shown_in (λ first last. ends first.shelf last.shelf) start is.0 other (is.2.images other) (was refl) in
+            λ named left. (deck, is_deck, shown_of_state.world start, allowed, told (λ all. LeftHere all named) (subst (λ (all : List Line). LeftHere all named) (sym through.3) left)) in
+            let first : StandNow shown_of_state start (begins is.0) =
+            λ other was. begun_stands shown_of_state (λ first last. ends first.shelf last.shelf) start is.0 other (is.2.images other) (was refl) in
             let stands = stand_at_point start deck.statements (begins is.0) seen point later is.1 through.4 first in
             let ran = cover_through start deck name (may name) now P deck.statements (begins is.0) seen point later is.1 is.2.names gives (stands name) through.4 in
             let to_end : Covers P point.point.library.shelf night.new name =
@@ -103,13 +103,13 @@ module _ (may : Allowed) (night : AnyNight) (honest : IsTrue night.new.is_honest
             subst (λ (from : ShelfState). Covers P from night.new name) through.2 to_end
 
       -- the end of the run
-      at_end : (P : Named → Type 0) (after : Judged LibraryState) → after.point.library ≡ end → StandNow shown_in start after
+      at_end : (P : Named → Type 0) (after : Judged LibraryState) → after.point.library ≡ end → StandNow shown_of_state start after
           → ((named : Named) → IsOfLedger (may name) (after.ledger name) named → P named) → Covers P night.new night.new name
       at_end P after same stands gives =
           subst (λ (library : LibraryState). Covers P library.shelf library.shelf name) same
           (cover_stands start deck name (may name) now P (after.ledger name) after.point.library after.point.library gives (stands name))
 
-  pub ended : (name : List ℕ) → HasEnded night → ((deck : Deck) → IsDeck night.bytes deck → All (ReadsAllowed may night.old) (file_names deck.files))
+  pub ended : (name : List ℕ) → NightHasEnded night → ((deck : Deck) → IsDeck night.bytes deck → All (ReadsAllowed may night.old) (file_names deck.files))
       → Covers (may name) night.old night.old name → Covers (MayEndSo may night name) night.new night.new name
   ended name has reads now =
       let run = has.1 in
@@ -121,7 +121,7 @@ module _ (may : Allowed) (night : AnyNight) (honest : IsTrue night.new.is_honest
       let begun = begins deck run.1 of_deck held name now is.0 in
       let ran = run_watched start deck name deck.statements begun told.0 is.1 first_mark is.2.names is.3 in
       at_end deck run.1 of_deck held name now (MayEndSo may night name) is.1 is.4 is.5
-      (λ named of. (deck, run.1, shown_in.world start, allowed deck run.1 of_deck, (has.0, (told.0, told.1, told.2, (watched start deck name ran.0 is.1, ran.1, of)))))
+      (λ named of. (deck, run.1, shown_of_state.world start, allowed deck run.1 of_deck, (has.0, (told.0, told.1, told.2, (watched start deck name ran.0 is.1, ran.1, of)))))
 
   pub broke_off : (name : List ℕ) → WasBrokenOff night → ((deck : Deck) → IsDeck night.bytes deck → All (ReadsAllowed may night.old) (file_names deck.files))
       → Covers (may name) night.old night.old name → Covers (MayBreakOffSo may night name) night.new night.new name
@@ -138,7 +138,7 @@ module _ (may : Allowed) (night : AnyNight) (honest : IsTrue night.new.is_honest
       (λ named of. (
         deck,
         run.1,
-        shown_in.world start,
+        shown_of_state.world start,
         allowed deck run.1 of_deck,
         (told.0, told.1, told.2, told.3, told.4, told.5, told.6, told.7, told.8, (watched start deck name ran.0 is.1, ran.1, of)),
       ))
@@ -147,7 +147,7 @@ module _ (may : Allowed) (night : AnyNight) (honest : IsTrue night.new.is_honest
   pub stayed : (name : List ℕ) → CameToNothing night → Covers (may name) night.old night.old name → Covers (may name) night.old night.new name
   stayed name leaves now = cover_weaker _ (may name) night.old night.new name now.1 ((leaves.images honest name).within now.0)
 
-  pub was_cut : (name : List ℕ) → HasEnded night ⊎ (WasBrokenOff night ⊎ CameToNothing night)
+  pub was_cut : (name : List ℕ) → NightHasEnded night ⊎ (WasBrokenOff night ⊎ CameToNothing night)
       → ((deck : Deck) → IsDeck night.bytes deck → All (ReadsAllowed may night.old) (file_names deck.files))
       → Covers (may name) night.old night.old name → Covers (MayBeCutSo may night name) night.old night.new name
   was_cut name (inl has) reads now =

@@ -14,7 +14,7 @@ use Rattle.shelf_library.specs.State.{LibraryState}
 use Rattle.shelf_library.specs.Crashes.{IsSoundImage}
 use Rattle.shelf_run.specs.Files.{reads_of}
 use Rattle.shelf_run.specs.NightPoints.{GoThrough, RunGoesThrough, NightsGoThrough}
-use Rattle.shelf_run.specs.ShelfRun.{shown_in, over}
+use Rattle.shelf_run.specs.ShelfRun.{shown_of_state, over_shelf}
 use Rattle.shelf_run.proofs.FilesLemmas.{shown_truly}
 
 -- a step has one line at most
@@ -48,10 +48,10 @@ part_twice (x ∷ a) b (y ∷ c) d same =
 module _ (start : LibraryState) where
   -- some steps, and a point behind these lines of theirs
   abbrev Parted : List Statement → Judged LibraryState → List Line → List Line → Judged LibraryState → Type 0
-  Parted statements before seen later after = (point : Judged LibraryState) × GoThrough (IsSafeStretch shown_in start) statements before seen point later after
+  Parted statements before seen later after = (point : Judged LibraryState) × GoThrough (IsSafeStretch shown_of_state start) statements before seen point later after
 
   module _ (statement : Statement) (rest : List Statement) (before : Judged LibraryState) (first : List Line) (between after : Judged LibraryState)
-      (step : IsSafeStretch shown_in start statement before first between) where
+      (step : IsSafeStretch shown_of_state start statement before first between) where
     behind_step : (seen seen_after later : List Line) → seen_after ≡ first ++ seen → Parted rest between seen later after → Parted (statement ∷ rest) before seen_after later after
     behind_step seen seen_after later is parted = (
       parted.0,
@@ -65,9 +65,9 @@ module _ (start : LibraryState) where
     )
 
   part_steps : (statements : List Statement) (before : Judged LibraryState) (lines seen later : List Line) (after : Judged LibraryState) → lines ≡ seen ++ later
-      → AreStepsOf (IsSafeStretch shown_in start) statements before lines after → Parted statements before seen later after
+      → AreStepsOf (IsSafeStretch shown_of_state start) statements before lines after → Parted statements before seen later after
   part_steps statements before lines [] later after is are =
-      (before, ([], statements, refl, (refl, refl), subst (λ (l : List Line). AreStepsOf (IsSafeStretch shown_in start) statements before l after) is are))
+      (before, ([], statements, refl, (refl, refl), subst (λ (l : List Line). AreStepsOf (IsSafeStretch shown_of_state start) statements before l after) is are))
   part_steps [] before lines (line ∷ seen) later after is are = let e : line ∷ (seen ++ later) ≡ [] = sym is ∙ are.0 in absurd (cc)
   part_steps (statement ∷ rest) before lines (line ∷ seen) later after is are =
       by (line_of_step statement before.point.run are.0 are.1.point.run are.3.stretch.step) (λ front e. part_steps rest are.1 are.2 front later after e are.4)
@@ -86,12 +86,12 @@ module _ (start : LibraryState) where
 
   -- of a whole run
   pub part_run : (statements : List Statement) (before : Judged LibraryState) (seen later : List Line) (after : Judged LibraryState)
-      → IsSafeRun shown_in start statements before (seen ++ later) after
-      → (point : Judged LibraryState) × RunGoesThrough (IsSafeStretch shown_in start) (λ judged. closes_from 0 judged.point.run.files) statements before seen point later after
+      → IsSafeRun shown_of_state start statements before (seen ++ later) after
+      → (point : Judged LibraryState) × RunGoesThrough (IsSafeStretch shown_of_state start) (λ judged. closes_from 0 judged.point.run.files) statements before seen point later after
   part_run statements before seen later after is = by (part_twice seen later is.1 is.2 is.5)
     where
       by : ((x : List Line) × (is.1 ≡ seen ++ x) × (later ≡ x ++ is.2)) ⊎ ((x : List Line) × (seen ≡ is.1 ++ x) × (is.2 ≡ x ++ later))
-          → (point : Judged LibraryState) × RunGoesThrough (IsSafeStretch shown_in start) (λ judged. closes_from 0 judged.point.run.files) statements before seen point later after
+          → (point : Judged LibraryState) × RunGoesThrough (IsSafeStretch shown_of_state start) (λ judged. closes_from 0 judged.point.run.files) statements before seen point later after
       by (inl x) =
           let parted = part_steps (until_stop statements) before is.1 seen x.0 is.0 x.1 is.3 in
           (parted.0, inl (is.0, x.0, is.2, parted.1, is.4, x.2))
@@ -101,12 +101,12 @@ module _ (start : LibraryState) where
 
 pub nights_go_through : NightsGoThrough
 nights_go_through night seen later has honest none sound =
-    let start = over night.limit night.frames night.old [] night.faults in
+    let start = over_shelf night.limit night.frames night.old [] night.faults in
     let of = has.1 in
     let deck : Deck = of.0 in
     let runs = of.3.2 in
-    let truly : All (shown_in.IsShownTruly start) (file_names deck.files) =
-    All-weaker (λ name. IsSoundImage (reads_of night.old name)) (shown_in.IsShownTruly start) (λ name. shown_truly night.old name none) (file_names deck.files) (sound deck of.1) in
+    let truly : All (shown_of_state.IsShownTruly start) (file_names deck.files) =
+    All-weaker (λ name. IsSoundImage (reads_of night.old name)) (shown_of_state.IsShownTruly start) (λ name. shown_truly night.old name none) (file_names deck.files) (sound deck of.1) in
     let is = runs.run.stretches honest truly in
     let through = part_run start deck.statements _ seen later is.1 is.3 in (
       through.0.point.library.shelf,

@@ -5,7 +5,7 @@ use Rattle.page_store.specs.Images.{Leaves}
 use Rattle.page_store.specs.ShelfState.{ShelfState}
 use Rattle.deck_reader.specs.declared.deck.Deck.{Deck}
 use Rattle.deck_reader.specs.Deck.{IsDeck}
-use Rattle.deck_runner.specs.RunEnd.{Told, ToldInPart}
+use Rattle.deck_runner.specs.RunEnd.{TellsLines, ToldInPart}
 use Rattle.deck_runner.specs.declared.run_end.RunEnd.{RunEnd}
 use Rattle.shelf_library.specs.Crashes.{MayBeFound}
 use Rattle.shelf_run.specs.Files.{reads_of, Represents, AllSound, AreImagesSound}
@@ -25,9 +25,9 @@ pub record AnyNight : Type 0 where
   pub written_after : Option (List ℕ)
 
 -- it came to its end; or its writer refused a line; or nothing came of it
-abbrev pub HasEnded : AnyNight → Type 0
-HasEnded night = (end : RunEnd) × OnShelf night.bytes night.old night.new
-    (λ deck. Told night.written night.written_after end
+abbrev pub NightHasEnded : AnyNight → Type 0
+NightHasEnded night = (end : RunEnd) × OnShelf night.bytes night.old night.new
+    (λ deck. TellsLines night.written night.written_after end
     (Runs night.limit night.frames night.old night.new night.faults night.faults_after deck))
 
 abbrev pub WasBrokenOff : AnyNight → Type 0
@@ -41,7 +41,7 @@ CameToNothing night = LeavesFiles night.old night.new
 -- its shelf has not lied, and a run promises one of these
 pub record IsNight (night : AnyNight) : Type 0 where
   pub honest : IsTrue night.new.is_honest
-  pub ends : HasEnded night ⊎ (WasBrokenOff night ⊎ CameToNothing night)
+  pub ends : NightHasEnded night ⊎ (WasBrokenOff night ⊎ CameToNothing night)
 
 -- at a start a read gives, of each name, what a crash now may leave; and that is what a crash may
 -- have left of it at some moment of the time before, the last one among them

@@ -13,10 +13,10 @@ use Rattle.shelf_file.specs.Shelves.{AreClosed}
 use Rattle.shelf_library.specs.Crashes.{IsSoundImage}
 
 -- what a read gives of the file of each name
-abbrev pub Reads : Type 0
-Reads = List ℕ → Option (List ℕ)
+abbrev pub FileReads : Type 0
+FileReads = List ℕ → Option (List ℕ)
 
-abbrev pub reads_of : ShelfState → Reads
+abbrev pub reads_of : ShelfState → FileReads
 reads_of shelf name = (shelf.file name).seen
 
 -- what a read gives of a file represents this: there is no file; its gate is closed, and its pages
@@ -28,7 +28,7 @@ Represents c (Closed schema file) = (bytes : List ℕ) × (c ≡ Some bytes) × 
 Represents c Unsound = look_of c ≡ Refused
 
 -- each of the deck's files represents what its name stands for in this world
-abbrev pub AreIn : World → Reads → Deck → Type 0
+abbrev pub AreIn : World → FileReads → Deck → Type 0
 AreIn world reads deck = All (λ name. Represents (reads name) (named_in world name)) (file_names deck.files)
 
 -- what each name reads as, whether or not its file represents it

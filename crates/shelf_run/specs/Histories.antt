@@ -9,7 +9,7 @@ use Rattle.deck_reader.specs.Deck.{IsDeck}
 use Rattle.deck_runner.specs.Beginning.{run_before}
 use Rattle.deck_runner.specs.Run.{transcript}
 use Rattle.deck_runner.specs.declared.run_end.RunEnd.{RunEnd}
-use Rattle.shelf_run.specs.Files.{Reads, reads_of, Represents, AreIn}
+use Rattle.shelf_run.specs.Files.{FileReads, reads_of, Represents, AreIn}
 use Rattle.shelf_run.specs.ShelfRun.{IsExactRun}
 use Rattle.shelf_run.specs.WorldAfter.{world_after}
 
@@ -44,7 +44,7 @@ pub record Night : Type 0 where
   pub end : RunEnd
 
 -- its end was clean and its shelf has not lied, and a run promises this
-pub record IsClean (night : Night) : Type 0 where
+pub record IsCleanNight (night : Night) : Type 0 where
   pub deck_is : IsDeck night.bytes night.deck
   pub clean : night.end.clean ≡ true
   pub honest : IsTrue night.new.is_honest
@@ -53,14 +53,14 @@ pub record IsClean (night : Night) : Type 0 where
 
 -- the nights are clean, and each begins with the files as the night before it left them, the first
 -- one with these
-abbrev pub FollowOn : Reads → List Night → Type 0
+abbrev pub FollowOn : FileReads → List Night → Type 0
 FollowOn reads [] = Unit {0}
 FollowOn reads (night ∷ nights) =
-    ((name : List ℕ) → reads_of night.old name ≡ reads name) × IsClean night
+    ((name : List ℕ) → reads_of night.old name ≡ reads name) × IsCleanNight night
     × FollowOn (reads_of night.new) nights
 
 -- what a read gives after the last of them
-abbrev pub reads_after : Reads → List Night → Reads
+abbrev pub reads_after : FileReads → List Night → FileReads
 reads_after reads [] = reads
 reads_after reads (night ∷ nights) = reads_after (reads_of night.new) nights
 
@@ -79,7 +79,7 @@ HaveWritten _ _ = ⊥
 -- the nights have written the transcripts of their decks in this world, one after another, and each
 -- file that represented what its name stands for in this world represents what it stands for in the
 -- world that they leave
-pub record IsHistory (world : World) (reads : Reads) (nights : List Night) : Type 0 where
+pub record IsHistory (world : World) (reads : FileReads) (nights : List Night) : Type 0 where
   pub transcripts_are : HaveWritten nights (transcripts world (decks_of nights))
   pub files_are : (name : List ℕ) → Represents (reads name) (named_in world name)
       → Represents (reads_after reads nights name) (named_in (world_after_all world (decks_of nights)) name)
@@ -88,13 +88,13 @@ pub record IsHistory (world : World) (reads : Reads) (nights : List Night) : Typ
 -- their decks represented at first
 abbrev pub CleanNights : Type 0
 CleanNights =
-    (world : World) (reads : Reads) (nights : List Night) → FollowOn reads nights
+    (world : World) (reads : FileReads) (nights : List Night) → FollowOn reads nights
     → All (AreIn world reads) (decks_of nights)
     → IsHistory world reads nights
 
 -- where no file of all their decks was there at first, they are the history of a world without files
 abbrev pub NightsFromNothing : Type 0
 NightsFromNothing =
-    (reads : Reads) (nights : List Night) → FollowOn reads nights
+    (reads : FileReads) (nights : List Night) → FollowOn reads nights
     → All (λ deck. All (λ name. reads name ≡ None) (file_names deck.files)) (decks_of nights)
     → IsHistory no_files reads nights

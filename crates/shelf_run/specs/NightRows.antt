@@ -16,11 +16,11 @@ use Rattle.deck_runner.specs.Beginning.{run_before}
 use Rattle.deck_runner.specs.Line.{Line}
 use Rattle.deck_runner.specs.NoFalseFile.{Ledger, first_ledger, IsOfLedger, during, behind}
 use Rattle.deck_runner.specs.Run.{Run}
-use Rattle.deck_runner.specs.RunEnd.{Told, ToldInPart}
+use Rattle.deck_runner.specs.RunEnd.{TellsLines, ToldInPart}
 use Rattle.deck_runner.specs.declared.run_end.RunEnd.{RunEnd}
 use Rattle.deck_runner.specs.Steps.{IsStep, IsRunOf, IsRunInPart, closes_from}
 use Rattle.deck_runner.specs.Stretches.{trace_by}
-use Rattle.shelf_run.specs.AnyNights.{AnyNight, HasEnded, WasBrokenOff, CameToNothing, StartsAfter}
+use Rattle.shelf_run.specs.AnyNights.{AnyNight, NightHasEnded, WasBrokenOff, CameToNothing, StartsAfter}
 use Rattle.shelf_run.specs.Files.{reads_of, Represents}
 use Rattle.shelf_run.specs.NightPoints.{HasEndedThrough}
 
@@ -92,7 +92,7 @@ FromAllowed may bytes P =
 -- a run that came to its end has left this: a whole run, whose lines are those that were written
 abbrev pub MayEndSo : Allowed → AnyNight → Allowed
 MayEndSo may night name named = FromAllowed may night.bytes (λ deck world. (end : RunEnd)
-    × Told night.written night.written_after end (λ lines.
+    × TellsLines night.written night.written_after end (λ lines.
     (after : Watched) × RunsWatched deck name world lines after × IsOfLedger (may name) after.ledger named))
 
 -- a run whose writer refused a line has left this
@@ -105,7 +105,7 @@ MayBreakOffSo may night name named = FromAllowed may night.bytes
 -- lines of which this is so were written in a night, all of them, or up to one that its writer refused
 abbrev pub WasTold : AnyNight → (List Line → Type 0) → Type 0
 WasTold night AreLines =
-    ((end : RunEnd) × Told night.written night.written_after end AreLines)
+    ((end : RunEnd) × TellsLines night.written night.written_after end AreLines)
     ⊎ ToldInPart night.written night.written_after AreLines
 
 -- a crash has left this: in some step of the run, which has the first lines of those that would
@@ -145,10 +145,10 @@ pub record EndedNight : Type 0 where
 
 -- a run promises this; of one that a crash has cut, what it would have come to
 abbrev pub HasEnding : Ending → AnyNight → Type 0
-HasEnding Ended night = HasEnded night
+HasEnding Ended night = NightHasEnded night
 HasEnding BrokenOff night = WasBrokenOff night
 HasEnding Nothing night = CameToNothing night
-HasEnding Cut night = HasEnded night ⊎ (WasBrokenOff night ⊎ CameToNothing night)
+HasEnding Cut night = NightHasEnded night ⊎ (WasBrokenOff night ⊎ CameToNothing night)
 HasEnding (CutBehind seen shelf) night = HasEndedThrough night seen shelf
 
 -- its shelf has not lied, and no name was attached to it at the start

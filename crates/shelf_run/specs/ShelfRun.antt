@@ -10,7 +10,7 @@ use Rattle.deck_runner.specs.Beginning.{SameElsewhere, SameNames}
 use Rattle.deck_runner.specs.declared.run_end.RunEnd.{RunEnd}
 use Rattle.deck_runner.specs.declared.fault.RunFault.{RunFault}
 use Rattle.deck_runner.specs.declared.fault.RunFault.TheVariants.{Output}
-use Rattle.deck_runner.specs.RunEnd.{Told, ToldInPart}
+use Rattle.deck_runner.specs.RunEnd.{TellsLines, ToldInPart}
 use Rattle.deck_runner.specs.DeckRun.{RunsExactly, IsRefusedDeck}
 use Rattle.deck_runner.specs.Line.{Line}
 use Rattle.deck_runner.specs.NoFalseFile.{RunsWhole, RunsInPart}
@@ -28,12 +28,12 @@ OnShelf bytes old new P = (deck : Deck) × IsDeck bytes deck
     × SameElsewhere deck (files_of old) (files_of new) × P deck
 
 -- what a library over a shelf shows, by its state
-abbrev pub shown_in : Shown LibraryState
-shown_in = shown_by (λ state. state)
+abbrev pub shown_of_state : Shown LibraryState
+shown_of_state = shown_by (λ state. state)
 
 -- a library over this shelf, with a limit of pages and so many frames for each file, that holds these
-abbrev pub over : (limit frames : ℕ) → ShelfState → List Held → (faults : ℕ) → LibraryState
-over limit frames shelf held faults = record {
+abbrev pub over_shelf : (limit frames : ℕ) → ShelfState → List Held → (faults : ℕ) → LibraryState
+over_shelf limit frames shelf held faults = record {
   shelf = shelf;
   held = held;
   faults = faults;
@@ -48,17 +48,18 @@ pub record RunsBy (IsSuch : LibraryState → LibraryState → Deck → List Line
     (old new : ShelfState) (faults faults_after : ℕ) (deck : Deck) (lines : List Line) : Type 0 where
   pub held : List Held
   pub limits : AreLimited limit frames held
-  pub run : IsSuch (over limit frames old [] faults) (over limit frames new held faults_after) deck lines
+  pub run : IsSuch (over_shelf limit frames old [] faults) (over_shelf limit frames new held faults_after)
+      deck lines
   pub no_false_file : IsTrue new.is_honest → AreImagesSound old deck → AreSoundThroughout old new
 
 -- a whole run, and one that was broken off
 abbrev pub Runs : (limit frames : ℕ) → (old new : ShelfState) → (faults faults_after : ℕ) → Deck
     → List Line → Type 0
-Runs = RunsBy (RunsWhole shown_in)
+Runs = RunsBy (RunsWhole shown_of_state)
 
 abbrev pub BreaksOff : (limit frames : ℕ) → (old new : ShelfState) → (faults faults_after : ℕ) → Deck
     → List Line → Type 0
-BreaksOff = RunsBy (RunsInPart shown_in)
+BreaksOff = RunsBy (RunsInPart shown_of_state)
 
 -- a deck was run as the definitions say, from this world on: the transcript, and what is told of
 -- it; and each file that represented what its name stands for in this world represents what it
@@ -107,7 +108,7 @@ abbrev pub HasRunOn : {D W : Type 0} → (state : D → ShelfState) → (fault_c
     → (contents : W → Option (List ℕ)) → List ℕ → (limit frames : ℕ) → (old new : D) → (out out_after : W)
     → RunEnd → Type 0
 HasRunOn state fault_count contents bytes limit frames old new out out_after end =
-    OnShelf bytes (state old) (state new) (λ deck. Told (contents out) (contents out_after) end
+    OnShelf bytes (state old) (state new) (λ deck. TellsLines (contents out) (contents out_after) end
     (Runs limit frames (state old) (state new) (fault_count old) (fault_count new) deck))
 
 -- one whose writer refused a line: it has the lines before it, and a proper front of that one

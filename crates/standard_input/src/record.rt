@@ -1,7 +1,7 @@
 //! A list of reads and what they gave that only clauses read.
 ghost use Rattle.std.specs.Prelude.{◌≡◌, List, [], ◌∷◌, Some, None};
 ghost use Rattle.std.specs.Borrow.{ftrue};
-ghost use Rattle.standard_input.specs.Reads.{Asked, asked_of};
+ghost use Rattle.standard_input.specs.Reads.{AskedRead, read_of_numbers};
 
 use std::marker::{Model, PhantomData};
 
@@ -9,7 +9,7 @@ use std::marker::{Model, PhantomData};
 #[derive(Drop)]
 pub struct Record {
     marker: PhantomData<u8>,
-    pub ghost reads: { List Asked },
+    pub ghost reads: { List AskedRead },
 }
 
 impl Model for Record {
@@ -28,7 +28,7 @@ impl Record {
 
     // Adds a read: the room, with a second number if it gave bytes, and these.
     fn note(&mut self, _numbers: &[u64], _bytes: &[u8])
-        ensures { self.new.reads ≡ asked_of _numbers.now _bytes.now ∷ self.old.reads }
+        ensures { self.new.reads ≡ read_of_numbers _numbers.now _bytes.now ∷ self.old.reads }
     {}
 
     /// There was so much room, and these bytes came.

@@ -2,7 +2,7 @@
 ghost use Rattle.std.specs.Prelude.{◌≡◌, ◌∷◌, []};
 ghost use Rattle.std.specs.Io.{ReadsAtMost};
 ghost use Rattle.std.specs.Io.KnownBytes.{ReadConsumes};
-ghost use Rattle.standard_input.specs.Reads.{answered};
+ghost use Rattle.standard_input.specs.Reads.{answered_read};
 
 use crate::reads_ahead::ReadsAhead;
 use crate::record::Record;
@@ -47,7 +47,7 @@ impl<R: Read> Read for StandardInput<R> {
         ensures bound { ReadsAtMost result part.new }
         ensures bytes { ReadConsumes (R.remaining self.old.reader)
             (R.remaining self.new.reader) result part.new }
-        ensures noted { self.new.calls.reads ≡ answered result part.new ∷ self.old.calls.reads }
+        ensures noted { self.new.calls.reads ≡ answered_read result part.new ∷ self.old.calls.reads }
     {
         let answer = self.reader.read(part);
         match &answer {

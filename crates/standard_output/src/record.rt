@@ -1,7 +1,7 @@
 //! A list of writes and answers that only clauses read.
 ghost use Rattle.std.specs.Prelude.{◌≡◌, List, [], ◌∷◌, Some, None};
 ghost use Rattle.std.specs.Borrow.{ftrue};
-ghost use Rattle.standard_output.specs.Writes.{Asked, asked_of};
+ghost use Rattle.standard_output.specs.Writes.{AskedWrite, write_of_numbers};
 
 use std::marker::{Model, PhantomData};
 
@@ -9,7 +9,7 @@ use std::marker::{Model, PhantomData};
 #[derive(Drop)]
 pub struct Record {
     marker: PhantomData<u8>,
-    pub ghost writes: { List Asked },
+    pub ghost writes: { List AskedWrite },
 }
 
 impl Model for Record {
@@ -28,7 +28,7 @@ impl Record {
 
     // Adds a write: the number of bytes that were taken, if it was answered by one, and the bytes.
     fn note(&mut self, _numbers: &[u64], _bytes: &[u8])
-        ensures { self.new.writes ≡ asked_of _numbers.now _bytes.now ∷ self.old.writes }
+        ensures { self.new.writes ≡ write_of_numbers _numbers.now _bytes.now ∷ self.old.writes }
     {}
 
     /// Bytes were to be written, and so many were taken.

@@ -2,7 +2,7 @@
 ghost use Rattle.std.specs.Prelude.{◌≡◌, ◌∷◌, []};
 ghost use Rattle.std.specs.Io.{WritesAtMost};
 ghost use Rattle.std.specs.Io.KnownBytes.{WriteAppends, Keeps};
-ghost use Rattle.standard_output.specs.Writes.{answered, taken_by};
+ghost use Rattle.standard_output.specs.Writes.{answered_write, taken_by};
 
 use crate::record::Record;
 use std::io::{self, Write};
@@ -46,7 +46,7 @@ impl<W: Write> Write for StandardOutput<W> {
         ensures bound { WritesAtMost result bytes.now }
         ensures bytes { WriteAppends (Some (taken_by self.old.calls.writes))
             (Some (taken_by self.new.calls.writes)) result bytes.now }
-        ensures noted { self.new.calls.writes ≡ answered result bytes.now ∷ self.old.calls.writes }
+        ensures noted { self.new.calls.writes ≡ answered_write result bytes.now ∷ self.old.calls.writes }
         ensures made { WriteAppends (W.contents self.old.out) (W.contents self.new.out) result bytes.now }
     {
         let answer = self.out.write(bytes);

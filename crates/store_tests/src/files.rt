@@ -1,7 +1,7 @@
 //! Files written, stopped and read back over each shelf.
 ghost use Rattle.std.specs.Prelude.{◌≡◌, ◌<◌, ◌^◌, ◌-◌, ℕ, IsTrue};
 ghost use Rattle.page_store.specs.ShelfState.{HasUnit, unit_file};
-ghost use Rattle.page_store.specs.Pages.{HasPages};
+ghost use Rattle.page_store.specs.Pages.{HoldsPages};
 
 use crate::checks::{assert_equal, assert_equal_for};
 use crate::shelves::{name, new_shelf};
@@ -29,11 +29,13 @@ fn byte_of(byte: u8, n: u32) -> u8 {
 // Writes the pages below count.
 fn fill<S: Shelf>(shelf: &mut S, store: &mut Store, count: u32, byte: u8) -> Result<(), Fault>
     requires unit { HasUnit (S.state shelf.old) store.old.unit }
-    requires pages { IsTrue (S.state shelf.old).is_honest → HasPages store.old.pages (unit_file (S.state shelf.old) store.old.unit) }
+    requires pages { IsTrue (S.state shelf.old).is_honest
+        → HoldsPages store.old.pages (unit_file (S.state shelf.old) store.old.unit) }
     requires count { count < 2 ^ 32 - 1 }
     ensures unit { HasUnit (S.state shelf.new) store.new.unit }
     ensures same { store.new.unit ≡ store.old.unit }
-    ensures pages { IsTrue (S.state shelf.new).is_honest → HasPages store.new.pages (unit_file (S.state shelf.new) store.new.unit) }
+    ensures pages { IsTrue (S.state shelf.new).is_honest
+        → HoldsPages store.new.pages (unit_file (S.state shelf.new) store.new.unit) }
 {
     for n in 0..count {
         if n > store.pages {

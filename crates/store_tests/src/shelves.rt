@@ -1,7 +1,7 @@
 //! A shelf in memory on which no file lies yet.
 ghost use Rattle.std.specs.Prelude.{◌≡◌, None, IfOk};
 ghost use Rattle.page_store.specs.ShelfState.{HasUnit, unit_file};
-ghost use Rattle.page_store.specs.MemShelves.{state_of};
+ghost use Rattle.page_store.specs.MemShelves.{mem_state_of};
 
 use io_state::{Fault, FileName};
 use page_store::{MemShelf, Shelf};
@@ -14,8 +14,8 @@ pub fn name() -> FileName {
 }
 
 pub fn new_shelf(alloc: Global) -> Result<MemShelf, Fault>
-    ensures unit { IfOk result (λ shelf. HasUnit (state_of shelf) 0) }
-    ensures absent { IfOk result (λ shelf. (unit_file (state_of shelf) 0).seen ≡ None) }
+    ensures unit { IfOk result (λ shelf. HasUnit (mem_state_of shelf) 0) }
+    ensures absent { IfOk result (λ shelf. (unit_file (mem_state_of shelf) 0).seen ≡ None) }
 {
     let mut shelf = MemShelf::new(alloc);
     shelf.attach(&[name()])?;

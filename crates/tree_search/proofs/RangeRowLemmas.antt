@@ -14,7 +14,7 @@ use Rattle.tree_node.proofs.OrderLemmas.{less_itself, not_less, Each-weaker}
 use Rattle.tree_node.proofs.LeafLemmas.{leaf_room_some}
 use Rattle.pages.specs.PageMap.{PageMap}
 use Rattle.pages.specs.Answer.{IsAnswer}
-use Rattle.node_balance.specs.Fill.{least}
+use Rattle.node_balance.specs.Fill.{least_entries}
 use Rattle.tree_search.specs.declared.range.First.{First}
 use Rattle.tree_search.specs.declared.range.Fork.{Fork}
 use Rattle.tree_search.specs.declared.range.Sight.{Sight}
@@ -82,7 +82,7 @@ is_leaf_there shape pages page entries bytes at shows = subst (IsLeaf shape) (sa
     same a b e = cc
 
 -- a leaf that is no root has two entries at least
-pub leaf_large : (shape : Shape) (n : ℕ) → least shape 0 ≤ n → 2 ≤ n
+pub leaf_large : (shape : Shape) (n : ℕ) → least_entries shape 0 ≤ n → 2 ≤ n
 leaf_large shape n h = let room = leaf_room_some shape in omega arith
 
 -- nothing comes before the first place
@@ -105,7 +105,7 @@ fronts_leaf shape pages (suc h) page to out none fronts from t low high tree fil
 
 module _ (shape : Shape) (k : ℕ) (from to : List ℕ) where
   front_row : (late : PageMap) (low high : Bound) (ss : List (List ℕ)) (xs : List (TreeOf k)) (child : ℕ) (r : Result (Option First) Fault) → IsRow (IsOrdered shape.width k) low ss xs high → 0 < length xs
-      → Each (Holds shape late k) xs → Each (λ c. (least shape k ≤ size_of k c) × IsHalfFull shape k c) xs → child ≡ slice_index (map (page_of k) xs) 0
+      → Each (Holds shape late k) xs → Each (λ c. (least_entries shape k ≤ size_of k c) × IsHalfFull shape k c) xs → child ≡ slice_index (map (page_of k) xs) 0
       → Each (λ e. less (take shape.width e) from ≡ false) (flat_map (entries_of k) xs) → Fronts shape late k child to r
       → IsAnswer r (λ found. (others : List (List ℕ)) → Each (IsBeyond shape.width high) others → Begin (within shape.width from to (flat_map (entries_of k) xs ++ others)) found)
   front_row late low high ss [] child r row some holds filled is start fronts = absurd (omega arith)
@@ -149,7 +149,7 @@ module _ (shape : Shape) (pages : PageMap) (h k page : ℕ) (from to : List ℕ)
     child_sight : (out : Result Seen Fault) → Sights shape mid k fork.step.child from to out → (low high : Bound) (t : TreeOf (suc k)) (tree : IsTree shape pages (suc k) page low high t) → IsHalfFull shape (suc k) t
         → (b : Below_ shape pages k page low high from t fork.step) → IsAnswer out (IsSight shape.width from to b.row.to (entries_of k b.row.here))
     child_sight out sights low high t tree filled b =
-        let fill = (each_right (λ c. (least shape k ≤ size_of k c) × IsHalfFull shape k c) b.row.front (b.row.here ∷ b.row.back) (rw b.row.is at filled)).0 in
+        let fill = (each_right (λ c. (least_entries shape k ≤ size_of k c) × IsHalfFull shape k c) b.row.front (b.row.here ∷ b.row.back) (rw b.row.is at filled)).0 in
         sights b.row.here b.row.from b.row.to (subst (λ (m : PageMap). IsTree shape m k fork.step.child b.row.from b.row.to b.row.here) (sym same) b.child) fill.1
 
     -- what is in front of the child comes before the range

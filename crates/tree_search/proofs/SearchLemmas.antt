@@ -16,13 +16,13 @@ use Rattle.tree_node.proofs.LeafLemmas.{leaf_room_some}
 use Rattle.tree_node.proofs.InnerLemmas.{inner_room_some}
 use Rattle.pages.specs.PageMap.{PageMap}
 use Rattle.tree_search.specs.declared.descent.StepDown.{StepDown}
-use Rattle.node_balance.specs.Fill.{least}
+use Rattle.node_balance.specs.Fill.{least_entries}
 use Rattle.tree_search.specs.Tree.{TreeOf, page_of, entries_of, size_of, IsHalfFull, Bound, IsRow, IsOrdered}
 use Rattle.tree_search.specs.Stored.{Holds, IsLeafAt, IsInnerAt}
 use Rattle.pages.specs.Answer.{IsAnswer}
 use Rattle.tree_search.specs.Calls.{entry_of, first_from, first_after, last_of, IsTree}
 use Rattle.tree_search.specs.Descent.{Steps}
-use Rattle.tree_search.specs.Search.{first_of, head_of, IsFound, Finds, FindsFilled, FindsInLeaf, FindsFirst, FirstOfLeaf, FirstChild, FindsLast, LastOfLeaf, LastChild, IsLeafFor, LeadsToLeaf, FillsFromLeaf, filled}
+use Rattle.tree_search.specs.Search.{first_of, head_of, IsFound, Finds, FindsFilled, FindsInLeaf, FindsFirstEntry, FirstOfLeaf, FirstChild, FindsLast, LastOfLeaf, LastChild, IsLeafFor, LeadsToLeaf, FillsFromLeaf, filled}
 use Rattle.tree_search.proofs.FindLemmas.{find_behind}
 use Rattle.tree_search.proofs.RowLemmas.{RowAt}
 use Rattle.tree_search.proofs.RowLemmas.{each_right}
@@ -93,7 +93,7 @@ module _ (width : ℕ) (key : List ℕ) where
 
 -- ---- first entries
 
-pub full_some : (shape : Shape) (k n : ℕ) → least shape k ≤ n → 1 ≤ n
+pub full_some : (shape : Shape) (k n : ℕ) → least_entries shape k ≤ n → 1 ≤ n
 full_some shape zero n h = let room = leaf_room_some shape in omega arith
 full_some shape (suc k) n h = let room = inner_room_some shape in omega arith
 
@@ -111,12 +111,12 @@ pub if_ok : {X : Type 0} (r : Result X Fault) (P Q : X → Type 0) → ((x : X) 
 if_ok (Ok x) P Q f h = record { answer = f x h.answer; no_damage = tt }
 if_ok (Err e) P Q f h = record { answer = tt; no_damage = h.no_damage }
 
-pub first_leaf : (shape : Shape) (pages : PageMap) (h page : ℕ) (result : Result (ArrayVec ℕ) Fault) → h ≡ 0 → FirstOfLeaf shape pages page result → FindsFirst shape pages h page result
+pub first_leaf : (shape : Shape) (pages : PageMap) (h page : ℕ) (result : Result (ArrayVec ℕ) Fault) → h ≡ 0 → FirstOfLeaf shape pages page result → FindsFirstEntry shape pages h page result
 first_leaf shape pages zero page result none first t holds is filled some = first t.1 (subst (λ (n : ℕ). IsLeafAt shape pages n t.1) is holds) some
 first_leaf shape pages (suc h) page result none first t holds is filled some = absurd (omega arith)
 
 cons_first : (shape : Shape) (mid : PageMap) (k child : ℕ) (xs : List (TreeOf k)) (result : Result (ArrayVec ℕ) Fault) → 0 < length xs → Each (Holds shape mid k) xs → child ≡ slice_index (map (page_of k) xs) 0
-    → Each (λ c. (least shape k ≤ size_of k c) × IsHalfFull shape k c) xs → FindsFirst shape mid k child result → IsAnswer result (λ e. head_of (flat_map (entries_of k) xs) ≡ Some e.items)
+    → Each (λ c. (least_entries shape k ≤ size_of k c) × IsHalfFull shape k c) xs → FindsFirstEntry shape mid k child result → IsAnswer result (λ e. head_of (flat_map (entries_of k) xs) ≡ Some e.items)
 cons_first shape mid k child [] result some holds is filled first = absurd (omega arith)
 cons_first shape mid k child (x ∷ xs) result some holds is filled first =
     if_ok result (λ e. head_of (entries_of k x) ≡ Some e.items) (λ e. head_of (flat_map (entries_of k) (x ∷ xs)) ≡ Some e.items) (λ e h. head_append (entries_of k x) (flat_map (entries_of k) xs) e.items h)
@@ -129,12 +129,12 @@ kids_some shape pages k page ss xs at = some_of (map (page_of k) xs) at.leads (l
     some_of ys e l = let c = ap length e in omega arith
 
 module _ (shape : Shape) (pages : PageMap) (h k page : ℕ) (one : h ≡ suc k) where
-  pub first_down_fails : (fault : Fault) (out : Result (ArrayVec ℕ) Fault) → FirstChild shape pages page (Err fault) → IsErrAnd out (λ e. e ≡ fault) → FindsFirst shape pages h page out
-  first_down_fails fault out child was = subst (λ (n : ℕ). FindsFirst shape pages n page out) (sym one) (λ t holds is filled some.
+  pub first_down_fails : (fault : Fault) (out : Result (ArrayVec ℕ) Fault) → FirstChild shape pages page (Err fault) → IsErrAnd out (λ e. e ≡ fault) → FindsFirstEntry shape pages h page out
+  first_down_fails fault out child was = subst (λ (n : ℕ). FindsFirstEntry shape pages n page out) (sym one) (λ t holds is filled some.
       fails out fault (λ e. head_of (entries_of (suc k) t) ≡ Some e.items) was (child t.1 (map (page_of k) t.2) (subst (λ (n : ℕ). IsInnerAt shape pages n t.1 (map (page_of k) t.2)) is holds.0)).no_damage)
 
-  pub first_inner : (mid : PageMap) (child : ℕ) (out : Result (ArrayVec ℕ) Fault) → mid ≡ pages → FirstChild shape pages page (Ok child) → FindsFirst shape mid k child out → FindsFirst shape pages h page out
-  first_inner mid child out same answer first = subst (λ (n : ℕ). FindsFirst shape pages n page out) (sym one) (λ t holds is filled some.
+  pub first_inner : (mid : PageMap) (child : ℕ) (out : Result (ArrayVec ℕ) Fault) → mid ≡ pages → FirstChild shape pages page (Ok child) → FindsFirstEntry shape mid k child out → FindsFirstEntry shape pages h page out
+  first_inner mid child out same answer first = subst (λ (n : ℕ). FindsFirstEntry shape pages n page out) (sym one) (λ t holds is filled some.
       let at = subst (λ (n : ℕ). IsInnerAt shape pages n t.1 (map (page_of k) t.2)) is holds.0 in
       let is_child = (answer t.1 (map (page_of k) t.2) at).answer in
       cons_first shape mid k child t.2 out (kids_some shape pages k page t.1 t.2 at) (subst (λ (m : PageMap). Each (Holds shape m k) t.2) (sym same) holds.1) is_child filled first)
@@ -194,7 +194,7 @@ next_leaf shape pages (suc h) page look out none finds t low high tree filled = 
 -- behind the child
 pub record Behind (shape : Shape) (pages : PageMap) (k : ℕ) (below : List ℕ) (i : ℕ) (back : List (TreeOf k)) : Type 0 where
   pub holds : Each (Holds shape pages k) back
-  pub filled : Each (λ c. (least shape k ≤ size_of k c) × IsHalfFull shape k c) back
+  pub filled : Each (λ c. (least_entries shape k ≤ size_of k c) × IsHalfFull shape k c) back
   pub first : 0 < length back → slice_index below (i + 1) ≡ slice_index (map (page_of k) back) 0
 
 pub behind : (shape : Shape) (pages : PageMap) (k page : ℕ) (low high : Bound) (key : List ℕ) (t : TreeOf (suc k)) (step : StepDown) → IsTree shape pages (suc k) page low high t → IsHalfFull shape (suc k) t
@@ -202,7 +202,7 @@ pub behind : (shape : Shape) (pages : PageMap) (k page : ℕ) (low high : Bound)
 behind shape pages k page low high key t step tree filled b =
     let row = b.row in
     let holds = each_right (Holds shape pages k) row.front (row.here ∷ row.back) (rw row.is at tree.holds.1) in
-    let fill = each_right (λ c. (least shape k ≤ size_of k c) × IsHalfFull shape k c) row.front (row.here ∷ row.back) (rw row.is at filled) in
+    let fill = each_right (λ c. (least_entries shape k ≤ size_of k c) × IsHalfFull shape k c) row.front (row.here ∷ row.back) (rw row.is at filled) in
     record { holds = holds.1; filled = fill.1; first = λ some. next_page row.front row.here row.back t.2 row.is row.at some }
   where
     next_page : (front : List (TreeOf k)) (here : TreeOf k) (back : List (TreeOf k)) (xs : List (TreeOf k)) → xs ≡ front ++ here ∷ back → length front ≡ step.place → 0 < length back
@@ -235,7 +235,7 @@ module _ (shape : Shape) (pages : PageMap) (h k page : ℕ) (key : List ℕ) (pa
     child_answer : (out : Result (Option (ArrayVec ℕ)) Fault) → FindsFilled shape mid k step.child (first_of past shape.width key) out → (low high : Bound) (t : TreeOf (suc k)) (tree : IsTree shape pages (suc k) page low high t) → IsHalfFull shape (suc k) t
         → (b : Below_ shape pages k page low high key t step) → IsAnswer out (IsFound (first_of past shape.width key) (entries_of k b.row.here))
     child_answer out finds low high t tree filled b =
-        let fill = (each_right (λ c. (least shape k ≤ size_of k c) × IsHalfFull shape k c) b.row.front (b.row.here ∷ b.row.back) (rw b.row.is at filled)).0 in
+        let fill = (each_right (λ c. (least_entries shape k ≤ size_of k c) × IsHalfFull shape k c) b.row.front (b.row.here ∷ b.row.back) (rw b.row.is at filled)).0 in
         finds b.row.here b.row.from b.row.to (subst (λ (m : PageMap). IsTree shape m k step.child b.row.from b.row.to b.row.here) (sym same) b.child) fill.1
 
     found_below : (low high : Bound) (t : TreeOf (suc k)) → IsTree shape pages (suc k) page low high t → Below_ shape pages k page low high key t step
@@ -266,7 +266,7 @@ module _ (shape : Shape) (pages : PageMap) (h k page : ℕ) (key : List ℕ) (pa
         empty [] e = refl
         empty (x ∷ xs) e = absurd (omega arith)
 
-    first_behind : (late : PageMap) (r : Result (ArrayVec ℕ) Fault) → late ≡ pages → step.place < step.count → FindsFirst shape late k step.next r → (low high : Bound) (t : TreeOf (suc k)) (tree : IsTree shape pages (suc k) page low high t)
+    first_behind : (late : PageMap) (r : Result (ArrayVec ℕ) Fault) → late ≡ pages → step.place < step.count → FindsFirstEntry shape late k step.next r → (low high : Bound) (t : TreeOf (suc k)) (tree : IsTree shape pages (suc k) page low high t)
         → IsHalfFull shape (suc k) t → (b : Below_ shape pages k page low high key t step) → IsAnswer r (λ e. head_of (flat_map (entries_of k) b.row.back) ≡ Some e.items)
     first_behind late r same' more finds low high t tree filled b =
         let is = (step_of shape pages k page low high key t (Ok step) tree steps).answer in
@@ -277,7 +277,7 @@ module _ (shape : Shape) (pages : PageMap) (h k page : ℕ) (key : List ℕ) (pa
         let rest = behind shape pages k page low high key t step tree filled b in
         cons_first shape late k step.next b.row.back r some (subst (λ (m : PageMap). Each (Holds shape m k) b.row.back) (sym same') rest.holds) (is.next inside ∙ rest.first some) rest.filled finds
 
-    pub next_behind : (late : PageMap) (entry : ArrayVec ℕ) → late ≡ pages → step.place < step.count → FindsFilled shape mid k step.child (first_of past shape.width key) (Ok None) → FindsFirst shape late k step.next (Ok entry)
+    pub next_behind : (late : PageMap) (entry : ArrayVec ℕ) → late ≡ pages → step.place < step.count → FindsFilled shape mid k step.child (first_of past shape.width key) (Ok None) → FindsFirstEntry shape late k step.next (Ok entry)
         → FindsFilled shape pages h page (first_of past shape.width key) (Ok (Some entry))
     next_behind late entry same' more finds first = subst (λ (n : ℕ). FindsFilled shape pages n page (first_of past shape.width key) (Ok (Some entry))) (sym one) (λ t low high tree filled.
         let b = found_below low high t tree in
@@ -285,7 +285,7 @@ module _ (shape : Shape) (pages : PageMap) (h k page : ℕ) (key : List ℕ) (pa
         let e = (first_behind late (Ok entry) same' more first low high t tree filled b).answer in
         record { answer = sym (first_in_row shape.width key past k low high t.1 t.2 step.place b.row ∙ or_head _ _ (sym got) ∙ e); no_damage = tt })
 
-    pub next_behind_fails : (late : PageMap) (fault : Fault) (out : Result (Option (ArrayVec ℕ)) Fault) → late ≡ pages → step.place < step.count → FindsFirst shape late k step.next (Err fault) → IsErrAnd out (λ e. e ≡ fault)
+    pub next_behind_fails : (late : PageMap) (fault : Fault) (out : Result (Option (ArrayVec ℕ)) Fault) → late ≡ pages → step.place < step.count → FindsFirstEntry shape late k step.next (Err fault) → IsErrAnd out (λ e. e ≡ fault)
         → FindsFilled shape pages h page (first_of past shape.width key) out
     next_behind_fails late fault out same' more first was = subst (λ (n : ℕ). FindsFilled shape pages n page (first_of past shape.width key) out) (sym one) (λ t low high tree filled.
         fails out fault (IsFound (first_of past shape.width key) (entries_of (suc k) t)) was (first_behind late (Err fault) same' more first low high t tree filled (found_below low high t tree)).no_damage)
@@ -340,7 +340,7 @@ tree_last : (shape : Shape) (h : ℕ) (low high : Bound) (t : TreeOf h) → IsOr
 tree_last shape zero low high t ordered filled some = some_last t.1 some
 tree_last shape (suc k) low high t ordered filled some =
     let l = last_of_row (IsOrdered shape.width k) low t.1 t.2 high ordered.1 in
-    let fill = (each_right (λ c. (least shape k ≤ size_of k c) × IsHalfFull shape k c) l.front (l.here ∷ []) (rw l.is at filled)).0 in
+    let fill = (each_right (λ c. (least_entries shape k ≤ size_of k c) × IsHalfFull shape k c) l.front (l.here ∷ []) (rw l.is at filled)).0 in
     let below = tree_last shape k l.from high l.here l.between fill.1 (full_some shape k (size_of k l.here) fill.0) in
     record {
       entry = below.entry;
@@ -362,7 +362,7 @@ module _ (shape : Shape) (pages : PageMap) (h k page : ℕ) (one : h ≡ suc k) 
       let at = subst (λ (n : ℕ). IsInnerAt shape pages n t.1 (map (page_of k) t.2)) tree.root tree.holds.0 in
       let is_child = (answer t.1 (map (page_of k) t.2) at).answer in
       let l = last_of_row (IsOrdered shape.width k) low t.1 t.2 high tree.ordered.1 in
-      let fill = (each_right (λ c. (least shape k ≤ size_of k c) × IsHalfFull shape k c) l.front (l.here ∷ []) (rw l.is at filled)).0 in
+      let fill = (each_right (λ c. (least_entries shape k ≤ size_of k c) × IsHalfFull shape k c) l.front (l.here ∷ []) (rw l.is at filled)).0 in
       let holds = (each_right (Holds shape pages k) l.front (l.here ∷ []) (rw l.is at tree.holds.1)).0 in
       let split : map (page_of k) t.2 ≡ map (page_of k) l.front ++ page_of k l.here ∷ [] = ap (map (page_of k)) l.is ∙ map-append (page_of k) l.front (l.here ∷ []) in
       let root : page_of k l.here ≡ child = sym (is_child ∙ ap (λ (x : List ℕ). slice_index x (length t.1)) split ∙ get_or_at (map (page_of k) l.front) (page_of k l.here) [] 0 (length t.1) (length-map l.front (page_of k) ∙ l.at)) in

@@ -11,7 +11,7 @@ use Rattle.pages.specs.PageMap.{PageMap}
 use Rattle.pages.specs.Owners.{IsOutside}
 use Rattle.tree_search.specs.declared.descent.StepDown.{StepDown}
 use Rattle.tree_search.specs.declared.spot.Spot.{Spot}
-use Rattle.node_balance.specs.Fill.{least}
+use Rattle.node_balance.specs.Fill.{least_entries}
 use Rattle.tree_search.specs.Tree.{TreeOf, page_of, entries_of, pages_of, size_of, IsHalfFull}
 use Rattle.tree_search.specs.Stored.{Holds, IsLeafAt, IsInnerAt}
 use Rattle.tree_search.specs.Descent.{Steps}
@@ -95,7 +95,7 @@ spots_first_leaf shape pages zero page spot (Err e) none first t holds is filled
 spots_first_leaf shape pages (suc h) page spot out none first t holds is filled some = absurd (omega arith)
 
 first_in_row : (shape : Shape) (pages : PageMap) (k child : ℕ) (xs : List (TreeOf k)) (spot : Spot) (out : Result (ArrayVec ℕ) Fault) → 0 < length xs → Each (Holds shape pages k) xs
-    → child ≡ slice_index (map (page_of k) xs) 0 → Each (λ c. (least shape k ≤ size_of k c) × IsHalfFull shape k c) xs → SpotsFirst shape pages k child spot out
+    → child ≡ slice_index (map (page_of k) xs) 0 → Each (λ c. (least_entries shape k ≤ size_of k c) × IsHalfFull shape k c) xs → SpotsFirst shape pages k child spot out
     → (page : ℕ) (front all : List (TreeOf k)) → all ≡ front ++ xs → IfOk out (λ e. StandsAt shape pages (page ∷ flat_map (pages_of k) all) (flat_map (entries_of k) all) spot e.items)
 first_in_row shape pages k child [] spot out some holds is filled first page front all split = absurd (omega arith)
 first_in_row shape pages k child (x ∷ xs) spot (Err e) some holds is filled first page front all split = tt
@@ -130,7 +130,7 @@ module _ (shape : Shape) (pages : PageMap) (h k page : ℕ) (key : List ℕ) (on
   pub spots_below : (mid : PageMap) (found : ArrayVec ℕ) → mid ≡ pages → Spots shape mid k step.child spot (Ok (Some found)) → Spots shape pages h page spot (Ok (Some found))
   spots_below mid found same spots = subst (λ (n : ℕ). Spots shape pages n page spot (Ok (Some found))) (sym one) (λ t low high tree filled.
       let b = below shape pages k page low high key t step tree (step_of shape pages k page low high key t (Ok step) tree steps).answer in
-      let fill = (each_right (λ c. (least shape k ≤ size_of k c) × IsHalfFull shape k c) b.row.front (b.row.here ∷ b.row.back) (rw b.row.is at filled)).0 in
+      let fill = (each_right (λ c. (least_entries shape k ≤ size_of k c) × IsHalfFull shape k c) b.row.front (b.row.here ∷ b.row.back) (rw b.row.is at filled)).0 in
       in_row shape pages k t.0 t.2 b.row.front b.row.here b.row.back spot found.items b.row.is
       (subst (λ (m : PageMap). Spots shape m k step.child spot (Ok (Some found))) same spots b.row.here b.row.from b.row.to b.child fill.1))
 

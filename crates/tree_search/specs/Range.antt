@@ -11,7 +11,7 @@ use Rattle.page_bytes.specs.Each.{Each}
 use Rattle.pages.specs.PageMap.{PageMap}
 use Rattle.pages.specs.ShownPages.{ShownPages}
 use Rattle.pages.specs.Answer.{IsAnswer}
-use Rattle.node_balance.specs.Fill.{least}
+use Rattle.node_balance.specs.Fill.{least_entries}
 use Rattle.tree_search.specs.declared.range.First.{First}
 use Rattle.tree_search.specs.declared.range.Sight.{Sight}
 use Rattle.tree_search.specs.declared.range.Sight.TheVariants.{Answered, Unended}
@@ -130,7 +130,7 @@ IsSightFrom width place to entries sight =
 abbrev pub Fronts : Shape → PageMap → (h page : ℕ) → List ℕ → Result (Option First) Fault → Type 0
 Fronts shape pages h page to result =
     (from : List ℕ) (t : TreeOf h) (low high : Bound) → IsTree shape pages h page low high t
-    → IsHalfFull shape h t → least shape h ≤ size_of h t
+    → IsHalfFull shape h t → least_entries shape h ≤ size_of h t
     → Each (λ e. less (take shape.width e) from ≡ false) (entries_of h t)
     → IsAnswer result (λ found. IsSight shape.width from to high (entries_of h t) (Settled found))
 
@@ -138,7 +138,7 @@ abbrev pub FrontsInLeaf : Shape → PageMap → (page : ℕ) → List ℕ → Re
 FrontsInLeaf shape pages page to result =
     (from : List ℕ) (entries : List (List ℕ)) (high : Bound) → IsLeafAt shape pages page entries
     → Ascends shape.width entries
-    → Each (λ e. Below high (take shape.width e)) entries → least shape 0 ≤ length entries
+    → Each (λ e. Below high (take shape.width e)) entries → least_entries shape 0 ≤ length entries
     → Each (λ e. less (take shape.width e) from ≡ false) entries
     → IsAnswer result (λ found. IsSight shape.width from to high entries (Settled found))
 

@@ -72,8 +72,8 @@ FillsFromLeaf shape pages page look entry result =
     → IsAnswer result (λ done. IsFound look entries (filled entry done))
 
 -- the first entry of a tree that has one
-abbrev pub FindsFirst : Shape → PageMap → ℕ → ℕ → Result (ArrayVec ℕ) Fault → Type 0
-FindsFirst shape pages h page result =
+abbrev pub FindsFirstEntry : Shape → PageMap → ℕ → ℕ → Result (ArrayVec ℕ) Fault → Type 0
+FindsFirstEntry shape pages h page result =
     (t : TreeOf h) → Holds shape pages h t → page_of h t ≡ page → IsHalfFull shape h t → 1 ≤ size_of h t
     → IsAnswer result (λ e. head_of (entries_of h t) ≡ Some e.items)
 
@@ -115,8 +115,9 @@ FillsFromBytes shape page key entry done =
     WhereRising shape page (λ entries. IsFound (entry_of shape.width key) entries (filled entry done))
 
 -- the first entry at a key or behind it, and where `past`, the first one behind it
-abbrev pub FindsNext : Bool → Shape → ℕ → ℕ → List ℕ → PageMap → Result (Option (ArrayVec ℕ)) Fault → Type 0
-FindsNext past shape h page key pages result =
+abbrev pub FindsNextEntry : Bool → Shape → ℕ → ℕ → List ℕ → PageMap → Result (Option (ArrayVec ℕ)) Fault
+    → Type 0
+FindsNextEntry past shape h page key pages result =
     FindsFilled shape pages h page (first_of past shape.width key) result
 
 abbrev pub FindsNextInLeaf : Bool → Shape → ℕ → List ℕ → PageMap → Result (Option (ArrayVec ℕ)) Fault

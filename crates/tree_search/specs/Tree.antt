@@ -4,7 +4,7 @@ use Rattle.std.specs.Prelude.{◌≡◌, ℕ, zero, suc, ◌≤◌, List, [], �
 use Rattle.std.specs.Prelude.{None, true, false, ⊤}
 use Rattle.tree_node.specs.declared.shape.Shape.{Shape}
 use Rattle.page_bytes.specs.Each.{Each}
-use Rattle.node_balance.specs.Fill.{least}
+use Rattle.node_balance.specs.Fill.{least_entries}
 use Rattle.tree_node.specs.Order.{less, Ascends}
 
 -- A tree with `h` levels above its leaves: its page, and in a leaf the entries, else the separators
@@ -40,7 +40,7 @@ size_of (suc h) t = length t.1
 -- every node below the root is at least half full
 abbrev pub IsHalfFull : Shape → (h : ℕ) → TreeOf h → Type 0
 IsHalfFull shape zero t = ⊤
-IsHalfFull shape (suc h) t = Each (λ c. (least shape h ≤ size_of h c) × IsHalfFull shape h c) t.2
+IsHalfFull shape (suc h) t = Each (λ c. (least_entries shape h ≤ size_of h c) × IsHalfFull shape h c) t.2
 
 -- and an inner root has a separator
 abbrev pub IsRooted : (h : ℕ) → TreeOf h → Type 0

@@ -7,7 +7,8 @@ ghost use Rattle.pages.specs.PageCalls.{ReadsPages};
 ghost use Rattle.tree_search.specs.LookUps.{WhenHonest, LooksUp, LooksBelow, AsksFewForNone};
 ghost use Rattle.tree_search.specs.Calls.{last_of};
 ghost use Rattle.tree_search.specs.Spot.{IsInLeafIf, Spots, SpotsInLeaf, SpotsFirst, SpotsFirstInLeaf};
-ghost use Rattle.tree_search.specs.Search.{FindsKey, FindsNext, FindsNextInLeaf, FindsFirst, FirstOfLeaf};
+ghost use Rattle.tree_search.specs.Search.{FindsKey, FindsNextEntry, FindsNextInLeaf, FindsFirstEntry};
+ghost use Rattle.tree_search.specs.Search.{FirstOfLeaf};
 ghost use Rattle.tree_search.specs.Search.{FirstChild, FindsLast, LastOfLeaf, LastChild, IsFound, IsPlace};
 ghost use Rattle.tree_search.specs.Search.{LeadsToLeaf, FillsKey, FillsFromBytes, first_of};
 
@@ -102,7 +103,7 @@ pub fn next_below<P: Pages>(
 ) -> Result<Option<Entry>, Fault>
     requires ready { P.shown.IsReady pages.old }
     ensures found { WhenHonest P.shown pages.old pages.new
-        (λ live. FindsNext past shape levels page key.now live result) }
+        (λ live. FindsNextEntry past shape levels page key.now live result) }
     ensures spot { WhenHonest P.shown pages.old pages.new
         (λ live. Spots shape live levels page spot.new result) }
     ensures asks { AsksFewForNone P.shown levels pages.old pages.new result }
@@ -183,7 +184,7 @@ pub fn first_below<P: Pages>(
 ) -> Result<Entry, Fault>
     requires ready { P.shown.IsReady pages.old }
     ensures first { WhenHonest P.shown pages.old pages.new
-        (λ live. FindsFirst shape live levels page result) }
+        (λ live. FindsFirstEntry shape live levels page result) }
     ensures spot { WhenHonest P.shown pages.old pages.new
         (λ live. SpotsFirst shape live levels page spot.new result) }
     ensures reads { ReadsPages P.shown (levels + 1) pages.old pages.new result }

@@ -10,7 +10,7 @@ use Rattle.indexed_file.proofs.ImageLemmas.{goes_then}
 use Rattle.indexed_file.specs.UnitCalls.{RestartsCount}
 use Rattle.verbs.specs.declared.answer.Answer.{Answer}
 use Rattle.verbs.specs.Counted.{begins_count, BeginsCount}
-use Rattle.verbs.specs.Fits.{IsStanding, asks, key_of}
+use Rattle.verbs.specs.Fits.{IsStanding, asks, key_of_session}
 use Rattle.verbs.specs.Full.{TellsRoom, lacks_room}
 use Rattle.verbs.specs.Held.{Held, Performs, Decides, state_of}
 use Rattle.verbs.specs.Performed.{IsPerformed, IsPerformedCounted, StatusHasCause, in_memory, is_known_late, state_in}
@@ -61,7 +61,7 @@ module _
     asked = λ honest truly standing counts answered.
         let few = done.asked honest (truly_then truly) (stands standing) (rw restarts.world counts) answered in
         from_none _ _ _ restarts.asked
-        (subst (λ (room : Room). shown.pages_asked new u ≤ shown.pages_asked mid u + most_asked statement (key_of held.connector.session) room) (restarts.room u) few);
+        (subst (λ (room : Room). shown.pages_asked new u ≤ shown.pages_asked mid u + most_asked statement (key_of_session held.connector.session) room) (restarts.room u) few);
     images = λ honest truly standing.
         goes_then shown.moments joins ends old mid new (name_at (shown.world old) u) _
         (record { may = restarts.images _; only = tt; others = λ other apart. restarts.images other })

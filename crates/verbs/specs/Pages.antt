@@ -4,7 +4,7 @@ use Rattle.io_state.specs.declared.status.Status.{Status}
 use Rattle.io_state.specs.declared.statement.FileStatement.{FileStatement}
 use Rattle.io_state.specs.declared.statement.FileStatement.TheVariants.{Open, Close, ReadNext, Read, Start}
 use Rattle.io_state.specs.declared.statement.FileStatement.TheVariants.{Write, Rewrite, Delete}
-use Rattle.indexed_file.specs.Room.{Room, levels_of, most_to_read, most_to_seek, most_to_change}
+use Rattle.indexed_file.specs.Room.{Room, levels_of_room, most_to_read, most_to_seek, most_to_change}
 use Rattle.indexed_file.specs.Shown.{Shown}
 use Rattle.verbs.specs.Faults.{is_fault}
 
@@ -34,6 +34,6 @@ most_asked (Close lock) k room = 0
 most_asked ReadNext k room = most_to_read room k
 most_asked (Read key) k room = most_to_read room key
 most_asked (Start key length relation) k room = most_to_seek room key
-most_asked Write k room = 32 * levels_of room
-most_asked Rewrite k room = 32 * levels_of room
-most_asked Delete k room = 32 * levels_of room
+most_asked Write k room = 32 * levels_of_room room
+most_asked Rewrite k room = 32 * levels_of_room room
+most_asked Delete k room = 32 * levels_of_room room

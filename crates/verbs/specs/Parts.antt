@@ -18,14 +18,14 @@ use Rattle.verbs.specs.Faults.{is_boundary_violation}
 use Rattle.verbs.specs.Fits.{Fits, HasSoundFile, MakesFile, IsStanding, LearnsHighest, PermanentErrorIsCaused}
 use Rattle.verbs.specs.Fits.{is_late_in, knows_late}
 use Rattle.verbs.specs.Full.{TellsRoom}
-use Rattle.verbs.specs.Held.{Held, Changes, state_of, unread, rewritten_as}
+use Rattle.verbs.specs.Held.{Held, HasChangeOutcome, state_of, unread, rewritten_as}
 use Rattle.verbs.specs.Marred.{creates}
 use Rattle.verbs.specs.Opening.{created, open_absent, open_named}
 use Rattle.verbs.specs.Pages.{AnswersWithin, most_to_write}
 use Rattle.verbs.specs.Performed.{FileInMemory, StaysStanding, Trusted, in_memory}
 use Rattle.verbs.specs.Refusals.{is_early}
 use Rattle.verbs.specs.Traces.{trace_of_open, trace_of_change_by}
-use Rattle.verbs.specs.Writing.{written, stored, deleted}
+use Rattle.verbs.specs.Writing.{written_record, stored_record, deleted}
 
 -- a part of a statement behind its checks, which answers none of the early statuses: what a crash
 -- in it may leave is this
@@ -50,7 +50,7 @@ abbrev pub ChangesTo
     : {S : Type 0} → Shown S → ℕ → FileStatement → (FileState → Outcome) → FileInMemory S → Status
     → FileInMemory S → Type 0
 ChangesTo shown u statement should before status after =
-    (area : List ℕ) → Changes statement (should (state_with shown u before area))
+    (area : List ℕ) → HasChangeOutcome statement (should (state_with shown u before area))
     (state_with shown u before area)
     status (state_with shown u after area)
 
@@ -98,14 +98,14 @@ pub record Change : Type 0 where
 abbrev pub writing : List ℕ → Change
 writing bytes = record {
   statement = Write;
-  should = written bytes;
+  should = written_record bytes;
   lacks_room = λ room s. is_full_to_add room (file_of s);
 }
 
 abbrev pub storing : List ℕ → Change
 storing bytes = record {
   statement = Write;
-  should = stored bytes;
+  should = stored_record bytes;
   lacks_room = λ room s. is_full_to_add room (file_of s);
 }
 

@@ -14,7 +14,7 @@ use Rattle.indexed_file.specs.Images.{ImagesGo}
 use Rattle.indexed_file.specs.Calls.{Keeps, HasRisen}
 use Rattle.verbs.specs.declared.answer.Answer.{Answer}
 use Rattle.verbs.specs.Connector.{Session, FileState}
-use Rattle.verbs.specs.Fits.{Fits, IsStanding, asks, closes_failed, has_failed, key_of}
+use Rattle.verbs.specs.Fits.{Fits, IsStanding, asks, closes_failed, has_failed, key_of_session}
 use Rattle.verbs.specs.Full.{TellsRoom, lacks_room}
 use Rattle.verbs.specs.Held.{Held, Performs, Decides, state_of, silent}
 use Rattle.verbs.specs.Pages.{AnswersWithin, most_asked}
@@ -128,7 +128,7 @@ pub record IsCarriedOut
 
 -- the most pages that the statement may ask for
 abbrev pub most_by : {S : Type 0} → Shown S → ℕ → FileStatement → FileInMemory S → ℕ
-most_by shown u statement before = most_asked statement (key_of before.held.connector.session)
+most_by shown u statement before = most_asked statement (key_of_session before.held.connector.session)
     (shown.room before.library u)
 
 -- it was performed: it has begun the count of the unit's pages, where the unit is open, whatever

@@ -5,7 +5,7 @@ ghost use Rattle.verbs.specs.Refusals.{is_refusal};
 ghost use Rattle.verbs.specs.Faults.{is_boundary_violation};
 ghost use Rattle.verbs.specs.Performed.{AnswersFrom};
 ghost use Rattle.verbs.specs.Parts.{MakesUpdate, rewriting, deleting};
-ghost use Rattle.verbs.specs.Held.{last_read_in, prime_by};
+ghost use Rattle.verbs.specs.Held.{last_read_in, prime_to_delete_by};
 ghost use Rattle.verbs.specs.Fits.{MayPerform, MaySubstitute, MayTakeOut};
 
 use super::{Connector, copy_of};
@@ -106,7 +106,7 @@ impl Connector {
     /// The prime value of the record that DELETE takes out.
     fn prime_to_delete(&self, was_read: bool, last_read: &Key, area: &[u8]) -> Key
         requires { 0 < count_of self.now.connector.schema.keys }
-        ensures { result.items ≡ prime_by self.now area.now (last_read_in was_read last_read.now) }
+        ensures { result.items ≡ prime_to_delete_by self.now area.now (last_read_in was_read last_read.now) }
     {
         let sequential = is_sequential(self.access);
         if sequential && was_read {

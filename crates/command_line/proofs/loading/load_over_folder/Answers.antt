@@ -2,16 +2,16 @@ use Rattle.std.proofs.Common.{Ok, Err, string_bytes, sym, subst}
 use Rattle.std.proofs.lemmas.Result.{IfOk-at_ok, IfErr-at_err}
 use Rattle.file_control.specs.Description.{FileDesc}
 use Rattle.shelf_run.specs.ShelfRun.{LeavesFiles}
-use Rattle.record_reading.specs.Whole.{IsWhole}
+use Rattle.record_reading.specs.Whole.{IsWholeForm}
 use Rattle.record_loading.specs.Loading.{listing}
-use Rattle.shelf_loading.specs.Loaded.{Ends}
+use Rattle.shelf_loading.specs.Loaded.{EndsLoad}
 use Rattle.command_line.specs.Folder.{folder_after}
 use Rattle.command_line.specs.Loaded.{LoadsFolder}
 use Rattle.command_line.proofs.LoadingLemmas.{load_ended, load_failed}
 use Rattle.command_line.proofs.loading.load_over_folder.Goals as goal
 
 pub load_on_shelf-shelf-requires-clause-whole : goal.load_on_shelf-shelf-requires-clause-whole
-load_on_shelf-shelf-requires-clause-whole g c = subst (λ (file : FileDesc). IsWhole c.args.form.now file.schema.greatest) (sym c.file.view_is) c.requires.whole
+load_on_shelf-shelf-requires-clause-whole g c = subst (λ (file : FileDesc). IsWholeForm c.args.form.now file.schema.greatest) (sym c.file.view_is) c.requires.whole
 
 pub returns-in-Ok-clause-loads : goal.returns-in-Ok-clause-loads
 returns-in-Ok-clause-loads g c =
@@ -21,7 +21,7 @@ returns-in-Ok-clause-loads g c =
     subst (λ (file : FileDesc). LoadsFolder g.D.Disk.unseen (string_bytes c.args.folder) file.file file.schema c.args.load (listing c.args.form.now c.args.text.now) (Ok c.in-Ok.end)) c.file.view_is
     (load_ended g.D.Disk.unseen (string_bytes c.args.folder) c.new-shelf.result.units.items c.new-shelf.result.folder.calls.events c.new-shelf.ensures.units c.new-shelf.ensures.calls
     shelf.units.items shelf.folder.calls.events c.file.inside.file.bytes c.file.inside.schema c.args.load (listing c.args.form.now c.args.text.now) c.in-Ok.end
-    (IfOk-at_ok (λ end. Ends c.file.inside.file.bytes c.file.inside.schema c.args.load (listing c.args.form.now c.args.text.now) first end last) c.in-Ok.is c.load_on_shelf-shelf.ensures.ends) c.load_on_shelf-shelf.ensures.others c.load_on_shelf-shelf.ensures.safe)
+    (IfOk-at_ok (λ end. EndsLoad c.file.inside.file.bytes c.file.inside.schema c.args.load (listing c.args.form.now c.args.text.now) first end last) c.in-Ok.is c.load_on_shelf-shelf.ensures.ends) c.load_on_shelf-shelf.ensures.others c.load_on_shelf-shelf.ensures.safe)
 
 pub returns-clause-loads : goal.returns-clause-loads
 returns-clause-loads g c =

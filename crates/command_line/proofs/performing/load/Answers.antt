@@ -3,7 +3,7 @@ use Rattle.std.proofs.lemmas.Result.{IfOk-weaker, IfErr-weaker}
 use Rattle.shelf_loading.specs.declared.end.ShelfEnd.{ShelfEnd}
 use Rattle.file_commands.specs.Front.{IsDeckNamed, IsTextNamed}
 use Rattle.file_commands.specs.DeckFile.{IsDeckFault}
-use Rattle.command_line.specs.LoadForm.{word_of, IsLoadFault}
+use Rattle.command_line.specs.LoadForm.{form_word, IsLoadFault}
 use Rattle.command_line.specs.Loaded.{LoadsDeck}
 use Rattle.command_line.proofs.LoadingLemmas.{text_at_first, loads_as}
 use Rattle.command_outcomes.specs.declared.outcome.Outcome.TheVariants.{Loaded}
@@ -21,7 +21,7 @@ returns g c =
     text_at_first g.R.File.Read.remaining at_first left c.args.deck.now c.args.asked.text.now text
     (λ other. ap (λ input. g.I.Read.remaining input.reader) (c.inputs_of.ensures.unread other)) (c.are_both_input.ensures.other c.if-are_both_input.false) in record {
       loaded = IfOk-weaker c.load_deck.result
-          (λ outcome. (end : ShelfEnd) × (outcome ≡ Loaded end) × loads (is_text left) c.as_slice.result.now (string_bytes inputs.folder) (word_of c.in-Some.kind) end)
+          (λ outcome. (end : ShelfEnd) × (outcome ≡ Loaded end) × loads (is_text left) c.as_slice.result.now (string_bytes inputs.folder) (form_word c.in-Some.kind) end)
           (λ outcome. (end : ShelfEnd) × (outcome ≡ Loaded end) × ((bytes : List ℕ) × IsDeckNamed g.R.File.Read.remaining at_first c.args.deck.now bytes × loads (is_text at_first) bytes c.args.folder.now c.args.asked.form.now end))
           (λ outcome is. (
             is.0,
@@ -31,8 +31,8 @@ returns g c =
               inputs.ensures.deck,
               loads_as known
                   (subst (λ (word : List ℕ). loads (is_text left) inputs.bytes.items c.args.folder.now word is.0) (sym c.in-Some.ensures.kind)
-                  (subst (λ (folder : List ℕ). loads (is_text left) inputs.bytes.items folder (word_of c.in-Some.kind) is.0) inputs.ensures.folder
-                  (subst (λ (bytes : List ℕ). loads (is_text left) bytes (string_bytes inputs.folder) (word_of c.in-Some.kind) is.0) c.as_slice.ensures.value is.2))),
+                  (subst (λ (folder : List ℕ). loads (is_text left) inputs.bytes.items folder (form_word c.in-Some.kind) is.0) inputs.ensures.folder
+                  (subst (λ (bytes : List ℕ). loads (is_text left) bytes (string_bytes inputs.folder) (form_word c.in-Some.kind) is.0) c.as_slice.ensures.value is.2))),
             ),
           ))
           c.load_deck.ensures.loaded;

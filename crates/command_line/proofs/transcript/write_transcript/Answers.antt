@@ -1,7 +1,7 @@
 use Rattle.std.proofs.Common.{◌≡◌, ℕ, true, string_bytes, subst, sym, ap, ◌∙◌}
 use Rattle.std.proofs.lemmas.Result.{IfOk-at_ok, IfErr-at_err}
 use Rattle.std.specs.NonZero.{non_zero_usize_get}
-use Rattle.deck_runner.specs.RunEnd.{Told, ToldInPart}
+use Rattle.deck_runner.specs.RunEnd.{TellsLines, ToldInPart}
 use Rattle.page_store.specs.ShelfState.{ShelfState}
 use Rattle.shelf_run.specs.ShelfRun.{OnShelf, IsExactRun, Runs, BreaksOff}
 use Rattle.command_line.specs.Folder.{folder_at_first, folder_after}
@@ -26,8 +26,8 @@ returns-in-Ok-clause-run g c =
     let written = g.W.Write.contents c.args.out.now in
     let written_after = g.W.Write.contents c.run_on_shelf-shelf.new.out in
     let runs = IfOk-at_ok _ c.in-Ok.is c.run_on_shelf-shelf.ensures.run in
-    subst (λ (faults : ℕ). OnShelf c.args.bytes.now at_first last (λ deck. Told written written_after c.in-Ok.end (Runs c.args.limits.pages (non_zero_usize_get c.args.limits.frames) at_first last faults shelf.faults deck))) c.new-shelf.ensures.faults
-    (subst (λ (first : ShelfState). OnShelf c.args.bytes.now first last (λ deck. Told written written_after c.in-Ok.end (Runs c.args.limits.pages (non_zero_usize_get c.args.limits.frames) first last c.new-shelf.result.faults shelf.faults deck)))
+    subst (λ (faults : ℕ). OnShelf c.args.bytes.now at_first last (λ deck. TellsLines written written_after c.in-Ok.end (Runs c.args.limits.pages (non_zero_usize_get c.args.limits.frames) at_first last faults shelf.faults deck))) c.new-shelf.ensures.faults
+    (subst (λ (first : ShelfState). OnShelf c.args.bytes.now first last (λ deck. TellsLines written written_after c.in-Ok.end (Runs c.args.limits.pages (non_zero_usize_get c.args.limits.frames) first last c.new-shelf.result.faults shelf.faults deck)))
     (untouched g.D.Disk.unseen (string_bytes c.args.folder) c.new-shelf.result.units.items c.new-shelf.result.folder.calls.events c.new-shelf.ensures.units c.new-shelf.ensures.calls) runs)
 
 pub returns-in-Ok-clause-sound : goal.returns-in-Ok-clause-sound

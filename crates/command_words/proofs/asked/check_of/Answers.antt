@@ -1,7 +1,7 @@
 use Rattle.std.proofs.Common.{rules, ◌≡◌, List, Some, map, sym, subst, Bor}
 use Rattle.std.specs.Prelude.{codes}
 use Rattle.clap.specs.Words.{Row, Text, all_of, found_of, rows_of}
-use Rattle.command_words.specs.Asks.{IsQuiet}
+use Rattle.command_words.specs.Asks.{IsQuietRequest}
 use Rattle.command_words.proofs.MetLemmas.{met_rows, no_texts, same_rows, texts_read}
 use Rattle.command_words.proofs.asked.check_of.Goals as goal
 
@@ -23,7 +23,7 @@ returns-in-None-quiet_of-clause-none c =
     λ none files quiet check.
     let f = found_of c.in-Some.check.now in
     c.quiet_of.ensures.none c.in-None-quiet_of.is quiet
-    (subst (λ (rows : List Row). IsQuiet rows quiet) (same_rows c.args.matches.now (codes "check") (rows_of f) check.rows c.in-Some.ensures.rows check.is) check.quiet_is)
+    (subst (λ (rows : List Row). IsQuietRequest rows quiet) (same_rows c.args.matches.now (codes "check") (rows_of f) check.rows c.in-Some.ensures.rows check.is) check.quiet_is)
 
 pub returns-in-None-get_strs-clause-none : goal.returns-in-None-get_strs-clause-none
 returns-in-None-get_strs-clause-none c =

@@ -3,7 +3,7 @@ use Rattle.std.specs.Prelude.{codes}
 use Rattle.std.specs.Str.Parse.{ParsesUnsigned, ExplainsUnsignedError, HasUnsignedDigitsIfOk}
 use Rattle.std.specs.declared.num.ParseIntError.{ParseIntError}
 use Rattle.clap.specs.Words.{Row, found_of, rows_of}
-use Rattle.command_words.specs.Asks.{IsForm, IsQuiet}
+use Rattle.command_words.specs.Asks.{IsForm, IsQuietRequest}
 use Rattle.command_words.proofs.MetLemmas.{met_rows, no_text, same_rows, text_read}
 use Rattle.command_words.proofs.NumberLemmas.{Given, is_read, none_read}
 use Rattle.command_words.proofs.asked.list_of.Goals as goal
@@ -46,7 +46,7 @@ returns-in_err-quiet-clause-none c =
     λ none file key from to first form quiet list.
     let f = found_of c.in_ok-list.list.now in
     c.quiet_of.ensures.none c.in_err-quiet.was quiet
-    (subst (λ (rows : List Row). IsQuiet rows quiet) (same_rows c.args.matches.now (codes "list") (rows_of f) list.rows c.in_ok-list.ensures.rows list.is) list.quiet_is)
+    (subst (λ (rows : List Row). IsQuietRequest rows quiet) (same_rows c.args.matches.now (codes "list") (rows_of f) list.rows c.in_ok-list.ensures.rows list.is) list.quiet_is)
 
 pub returns-clause-some : goal.returns-clause-some
 returns-clause-some c =

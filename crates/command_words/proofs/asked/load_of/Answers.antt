@@ -1,7 +1,7 @@
 use Rattle.std.proofs.Common.{rules, List, subst}
 use Rattle.std.specs.Prelude.{codes}
 use Rattle.clap.specs.Words.{Row, found_of, rows_of}
-use Rattle.command_words.specs.Asks.{AreLimits, IsQuiet}
+use Rattle.command_words.specs.Asks.{AreLimits, IsQuietRequest}
 use Rattle.command_words.proofs.MetLemmas.{met_rows, no_text, same_rows, text_read}
 use Rattle.command_words.proofs.FlagLemmas.{GivenFlag, flag_read, no_flag}
 use Rattle.command_words.proofs.asked.load_of.Goals as goal
@@ -56,7 +56,7 @@ returns-in_err-quiet-clause-none c =
     λ none deck folder file text form into pages frames quiet load.
     let f = found_of c.in_ok-load.load.now in
     c.quiet_of.ensures.none c.in_err-quiet.was quiet
-    (subst (λ (rows : List Row). IsQuiet rows quiet) (same_rows c.args.matches.now (codes "load") (rows_of f) load.rows c.in_ok-load.ensures.rows load.is) load.quiet_is)
+    (subst (λ (rows : List Row). IsQuietRequest rows quiet) (same_rows c.args.matches.now (codes "load") (rows_of f) load.rows c.in_ok-load.ensures.rows load.is) load.quiet_is)
 
 pub returns-clause-some : goal.returns-clause-some
 returns-clause-some c =

@@ -1,6 +1,6 @@
 use Rattle.std.proofs.Common.{◌≡◌, [], map, string_bytes, subst, inr}
 use Rattle.clap.specs.Words.{App, HasKind, fault_of, subcommand_of, subcommand_rows_of}
-use Rattle.command_words.specs.Asks.{IsMet, IsNone}
+use Rattle.command_words.specs.Asks.{IsRequestMet, IsNone}
 use Rattle.command_words.proofs.AskLemmas.{simple, simple_and_free, met_asked, help_asked, nothing_asked}
 use Rattle.command_words.proofs.request.read_words.Goals as goal
 
@@ -10,7 +10,7 @@ returns-in-Ok-Some-clause-asked c =
     let is = c.in_ok-command.ensures in
     let faultless = subst (λ (app : App). fault_of app words ≡ []) is (c.in-Ok.ensures.kinds (simple_and_free _ is)) in
     let met = subst (λ (app : App). subcommand_rows_of c.in-Ok.matches ≡ subcommand_of app words) is (c.in-Ok.ensures.ok.2 (simple _ is)).1 in
-    let asked : IsMet (subcommand_rows_of c.in-Ok.matches) c.in-Ok-Some.request = rw c.in-Ok-Some.field-0-is at c.in-Ok-Some.ensures.some in
+    let asked : IsRequestMet (subcommand_rows_of c.in-Ok.matches) c.in-Ok-Some.request = rw c.in-Ok-Some.field-0-is at c.in-Ok-Some.ensures.some in
     met_asked words (subcommand_rows_of c.in-Ok.matches) c.in-Ok-Some.request faultless met asked
 
 pub returns-in-Ok-error-clause-nothing : goal.returns-in-Ok-error-clause-nothing

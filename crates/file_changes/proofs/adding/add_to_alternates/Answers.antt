@@ -1,5 +1,5 @@
 use Rattle.std.proofs.Common.{◌≡◌, ◌+◌, ◌<◌, length, drop, arith, refl, ap, ◌∙◌}
-use Rattle.file_changes.specs.Adding.{levels_in, added_below}
+use Rattle.file_changes.specs.Adding.{index_levels, added_below}
 use Rattle.open_file.specs.declared.open_file.OpenFile.{OpenFile}
 use Rattle.pages.proofs.CauseLemmas.{fails_since}
 use Rattle.open_file.proofs.ExitLemmas.{fails}
@@ -34,7 +34,7 @@ loop-j-preserved g c =
     let lt : c.loop-j.j < length opened.alternates.items = omega (arith, c.loop-j-test.true, c.len-j-end.ensures.value, inv.4) in
     let index = found_at opened.alternates.items c.loop-j.j lt in
     let levels = levels_dropped opened.alternates.items c.loop-j.j index.0 lt index.1 in
-    let left : levels_in (drop (c.loop-j.j + 1) new.alternates.items) ≡ levels_in (drop (c.loop-j.j + 1) opened.alternates.items) = ap levels_in step.later in (
+    let left : index_levels (drop (c.loop-j.j + 1) new.alternates.items) ≡ index_levels (drop (c.loop-j.j + 1) opened.alternates.items) = ap index_levels step.later in (
       g.met.P.Pages.writes_on start now later inv.0 step.goes,
       (λ honest sound slots primes entries p free.
           let before = g.met.P.Pages.writes_honestly now later step.goes honest in

@@ -4,7 +4,7 @@ use Rattle.key_index.specs.declared.entry.AltEntry.{AltEntry}
 use Rattle.record_heap.specs.Chain.{Slots}
 use Rattle.open_file.specs.Parts.{Parts}
 use Rattle.open_file.specs.Stands.{IsShaped}
-use Rattle.file_changes.specs.Adding.{added_below, AreFree, levels_in}
+use Rattle.file_changes.specs.Adding.{added_below, AreFree, index_levels}
 use Rattle.file_changes.proofs.adding.add_to_alternates.Given as goal
 
 abbrev pub invariant-loop-j : goal.invariant-loop-j
@@ -18,5 +18,5 @@ invariant-loop-j g l =
     × (l.opened ≡ record l.fn.opened { alternates = l.opened.alternates })
     × (IsShaped l.opened)
     × (length l.opened.alternates.items ≡ length l.fn.opened.alternates.items)
-    × (levels_in (drop l.j l.opened.alternates.items) ≤ (g.P.Pages.shown.state l.pages).available)
-    × ((g.P.Pages.shown.state l.pages).asked + 8 * levels_in (drop l.j l.opened.alternates.items) ≤ (g.P.Pages.shown.state l.fn.pages).asked + 8 * levels_in l.fn.opened.alternates.items)
+    × (index_levels (drop l.j l.opened.alternates.items) ≤ (g.P.Pages.shown.state l.pages).available)
+    × ((g.P.Pages.shown.state l.pages).asked + 8 * index_levels (drop l.j l.opened.alternates.items) ≤ (g.P.Pages.shown.state l.fn.pages).asked + 8 * index_levels l.fn.opened.alternates.items)

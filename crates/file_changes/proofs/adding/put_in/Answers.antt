@@ -3,7 +3,7 @@ use Rattle.record_layout.specs.Schema.{Schema}
 use Rattle.open_file.specs.declared.open_file.OpenFile.{OpenFile}
 use Rattle.key_index.specs.Standing.{prime_height}
 use Rattle.open_file.specs.InOrder.{alt_entries}
-use Rattle.file_changes.specs.Adding.{AreFree, levels_in}
+use Rattle.file_changes.specs.Adding.{AreFree, index_levels}
 use Rattle.pages.proofs.CauseLemmas.{fails_since}
 use Rattle.open_file.proofs.ExitLemmas.{fails}
 use Rattle.file_changes.proofs.LevelLemmas.{need_in}
@@ -79,7 +79,7 @@ returns-in_err-add_to_alternates-clause-writes g c =
           let begun : OpenFile = record c.args.opened.now { path = None } in
           let one = but_heap begun c.store.new.opened c.store.ensures.file.rest in
           let two = but_prime c.store.new.opened c.add_to_prime.new.opened c.add_to_prime.ensures.file.rest in
-          let levels = ap levels_in (two.1 ∙ one.2) in
+          let levels = ap index_levels (two.1 ∙ one.2) in
           let height = ap prime_height one.1 in
           omega (arith, need_in c.args.opened.now.prime c.args.opened.now.alternates.items, levels, height, c.store.ensures.pages.writes.asked, c.add_to_prime.ensures.pages.writes.asked, c.add_to_alternates.ensures.writes.asked);
       step =
@@ -95,7 +95,7 @@ returns-clause-writes g c =
           let begun : OpenFile = record c.args.opened.now { path = None } in
           let one = but_heap begun c.store.new.opened c.store.ensures.file.rest in
           let two = but_prime c.store.new.opened c.add_to_prime.new.opened c.add_to_prime.ensures.file.rest in
-          let levels = ap levels_in (two.1 ∙ one.2) in
+          let levels = ap index_levels (two.1 ∙ one.2) in
           let height = ap prime_height one.1 in
           omega (arith, need_in c.args.opened.now.prime c.args.opened.now.alternates.items, levels, height, c.store.ensures.pages.writes.asked, c.add_to_prime.ensures.pages.writes.asked, c.add_to_alternates.ensures.writes.asked);
       step =

@@ -1,6 +1,6 @@
 use Rattle.pages.proofs.CauseLemmas.{fails_since}
 use Rattle.std.proofs.Common.{◌≡◌, ◌+◌, ◌<◌, length, drop, arith, refl, ap, sym, ◌∙◌}
-use Rattle.file_changes.specs.Adding.{levels_in}
+use Rattle.file_changes.specs.Adding.{index_levels}
 use Rattle.file_changes.specs.Old.{row_with}
 use Rattle.file_changes.specs.Removing.{without_below}
 use Rattle.open_file.specs.declared.open_file.OpenFile.{OpenFile}
@@ -41,7 +41,7 @@ loop-j-preserved g c =
     let lt : j < length u.alternates.items = omega (arith, c.loop-j-test.true, c.len-j-end.ensures.value, inv.many) in
     let index = found_at u.alternates.items j lt in
     let levels = levels_dropped u.alternates.items j index.0 lt index.1 in
-    let left : levels_in (drop (j + 1) new.alternates.items) ≡ levels_in (drop (j + 1) u.alternates.items) = ap levels_in step.later in
+    let left : index_levels (drop (j + 1) new.alternates.items) ≡ index_levels (drop (j + 1) u.alternates.items) = ap index_levels step.later in
     record {
       goes = g.met.P.Pages.writes_on start now later inv.goes step.goes;
       removed = λ honest sound slots primes entries p there.

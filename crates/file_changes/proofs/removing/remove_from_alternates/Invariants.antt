@@ -4,7 +4,7 @@ use Rattle.key_index.specs.declared.entry.AltEntry.{AltEntry}
 use Rattle.record_heap.specs.Chain.{Slots}
 use Rattle.open_file.specs.Parts.{Parts}
 use Rattle.open_file.specs.Stands.{IsShaped}
-use Rattle.file_changes.specs.Adding.{levels_in}
+use Rattle.file_changes.specs.Adding.{index_levels}
 use Rattle.file_changes.specs.Old.{row_with}
 use Rattle.file_changes.specs.Removing.{AreThere, without_below}
 use Rattle.file_changes.proofs.removing.remove_from_alternates.Given as goal
@@ -21,5 +21,5 @@ invariant-loop-j g l = record {
   rest : l.opened ≡ record l.fn.opened { alternates = l.opened.alternates };
   shaped : IsShaped l.opened;
   many : length l.opened.alternates.items ≡ length l.fn.opened.alternates.items;
-  asked : (g.P.Pages.shown.state l.pages).asked + 8 * levels_in (drop l.j l.opened.alternates.items) ≤ (g.P.Pages.shown.state l.fn.pages).asked + 8 * levels_in l.fn.opened.alternates.items;
+  asked : (g.P.Pages.shown.state l.pages).asked + 8 * index_levels (drop l.j l.opened.alternates.items) ≤ (g.P.Pages.shown.state l.fn.pages).asked + 8 * index_levels l.fn.opened.alternates.items;
 }

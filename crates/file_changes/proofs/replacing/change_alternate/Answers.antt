@@ -1,7 +1,7 @@
 use Rattle.std.proofs.Common.{◌+◌, ◌<◌, length, refl, ap, sym, ◌∙◌, arith}
 use Rattle.record_layout.specs.Schema.{value_of}
 use Rattle.key_index.specs.Entries.{with_alt, without_rank}
-use Rattle.file_changes.specs.Adding.{entry_of}
+use Rattle.file_changes.specs.Adding.{entry_of_record}
 use Rattle.open_file.specs.Parts.{but_at}
 use Rattle.open_file.specs.declared.open_file.OpenFile.{OpenFile}
 use Rattle.open_file.proofs.ExitLemmas.{fails, if_ok}
@@ -23,7 +23,7 @@ returns-clause-put g c honest sound slots primes entries p can =
     let new = c.add_to_alternate.new.opened in
     let before = g.met.P.Pages.writes_honestly now last c.add_to_alternate.ensures.alternate.goes honest in
     let left = without_rank (value_of u.schema (j + 1) c.args.old.now) c.args.stamp (entries j) in
-    let entry = entry_of u.schema u.next_stamp c.args.bytes.now j in
+    let entry = entry_of_record u.schema u.next_stamp c.args.bytes.now j in
     let out = (c.in_ok-remove_from_alternate.ensures.removed before sound slots primes entries p can.there).answer in
     let schema = ap (λ (o : OpenFile). o.schema) c.remove_from_alternate.ensures.alternate.rest in
     let next = ap (λ (o : OpenFile). o.next_stamp) c.remove_from_alternate.ensures.alternate.rest in

@@ -2,7 +2,7 @@ use Rattle.std.proofs.Common.{rules, ◌≡◌, [], ◌∷◌, Some, refl, sym, 
 use Rattle.file_checker.specs.Bytes.{AreRead}
 use Rattle.file_checker.specs.Parts.{PagesStand}
 use Rattle.file_checker.specs.Later.{StopsIn}
-use Rattle.file_checker.specs.Sound.{GivesUp, HasPages}
+use Rattle.file_checker.specs.Sound.{CheckGivesUp, HasPages}
 use Rattle.file_checker.specs.declared.verdict.CheckFault.TheVariants.{Memory}
 use Rattle.file_checker.proofs.ReadLemmas.{first_pages}
 use Rattle.file_checker.proofs.SoundLemmas.{no_verdict, first_is, first_read_alone, too_few, all_pages, is_sound, shown, not_short, gives_up, one_given, all_given, pages_read}
@@ -71,7 +71,7 @@ returns-in_err-push_page g c =
     let end = g.R.Read.remaining c.args.reader.now in
     no_verdict c.from_residual.result _ c.from_residual.ensures.1 (λ bytes came.
     let page = first_is bytes c.args.first.now end came c.told-first in
-    subst (GivesUp bytes end) (sym c.in_err-push_page.ensures.memory)
+    subst (CheckGivesUp bytes end) (sym c.in_err-push_page.ensures.memory)
     (gives_up bytes c.args.first.now c.args.header.now page c.requires end Memory (one_given bytes c.args.first.now c.args.header.now page c.requires end came c.told-first)))
 
 pub returns-in_err-read_pages : goal.returns-in_err-read_pages

@@ -1,6 +1,6 @@
 use Rattle.std.proofs.Common.{◌*◌, ℕ, refl, ap, sym, subst, ◌∙◌}
 use Rattle.file_checker.specs.Bytes.{HasLess, HasGiven, HasGivenLess}
-use Rattle.file_checker.specs.Sound.{GivesUp}
+use Rattle.file_checker.specs.Sound.{CheckGivesUp}
 use Rattle.file_checker.proofs.SoundLemmas.{no_verdict, is_short, is_long, first_byte, first_is, read_whole, read_less}
 use Rattle.file_header.specs.Reading.{header_in}
 use Rattle.file_checker.proofs.check.refusal.Goals as goal
@@ -49,6 +49,6 @@ pub returns-in_err-skip_pages : goal.returns-in_err-skip_pages
 returns-in_err-skip_pages g c =
     let end = g.R.Read.remaining c.skip_pages.new.reader in
     no_verdict c.from_residual.result _ c.from_residual.ensures.1 (λ bytes came.
-    subst (GivesUp bytes end) (sym c.in_err-skip_pages.ensures.input.0)
+    subst (CheckGivesUp bytes end) (sym c.in_err-skip_pages.ensures.input.0)
     (read_less bytes c.args.first.now (g.R.Read.remaining c.args.reader.now) end c.read_u32-pages.result came c.told-first c.read_u32-pages.ensures
     (subst (λ (n : ℕ). HasGivenLess (g.R.Read.remaining c.args.reader.now) end (4096 * n)) c.saturating_sub.ensures c.in_err-skip_pages.ensures.input.1)))

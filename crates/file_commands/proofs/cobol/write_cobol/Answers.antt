@@ -1,7 +1,7 @@
 use Rattle.std.proofs.Common.{rules, ◌≡◌, ℕ, List, string_bytes, subst}
 use Rattle.std.specs.Io.KnownBytes.{Appends}
 use Rattle.cobol_program.specs.declared.form.Form.{Form}
-use Rattle.file_commands.specs.Listed.{form_of, AreRefused, IsInCobol}
+use Rattle.file_commands.specs.Listed.{form_of, IsDeckRefused, IsInCobol}
 use Rattle.file_commands.proofs.ListLemmas.{if_ok, deck_not_read, deck_refused, deck_told}
 use Rattle.file_commands.proofs.cobol.write_cobol.Goals as goal
 
@@ -11,7 +11,7 @@ returns-in-Err g c = deck_not_read c.in-Err.fault c.in-Err.ensures.bytes
 pub returns-in-Err-program_of : goal.returns-in-Err-program_of
 returns-in-Err-program_of g c =
     deck_refused c.in-Ok.bytes.items c.in-Ok.ensures.bytes c.in-Err-program_of.fault
-    (λ why is. subst (λ (bytes : List ℕ). AreRefused bytes why) c.as_slice.ensures.value (c.in-Err-program_of.ensures.refused why is))
+    (λ why is. subst (λ (bytes : List ℕ). IsDeckRefused bytes why) c.as_slice.ensures.value (c.in-Err-program_of.ensures.refused why is))
     c.in-Err-program_of.ensures.fault
 
 pub returns : goal.returns

@@ -1,7 +1,7 @@
 use Rattle.std.proofs.Common.{rules, ◌≡◌, ℕ, List, string_bytes, subst}
 use Rattle.std.specs.Io.KnownBytes.{Appends}
 use Rattle.deck_listing.specs.Listing.{Lists}
-use Rattle.file_commands.specs.Listed.{AreRefused}
+use Rattle.file_commands.specs.Listed.{IsDeckRefused}
 use Rattle.file_commands.proofs.ListLemmas.{if_ok, deck_not_read, deck_refused, deck_told}
 use Rattle.file_commands.proofs.deck_list.list_path.Goals as goal
 
@@ -11,7 +11,7 @@ returns-in-Err g c = deck_not_read c.in-Err.fault c.in-Err.ensures.bytes
 pub returns-in-Err-list : goal.returns-in-Err-list
 returns-in-Err-list g c =
     deck_refused c.in-Ok.bytes.items c.in-Ok.ensures.bytes c.in-Err-list.fault
-    (λ why is. subst (λ (bytes : List ℕ). AreRefused bytes why) c.as_slice.ensures.value (c.in-Err-list.ensures.refused why is))
+    (λ why is. subst (λ (bytes : List ℕ). IsDeckRefused bytes why) c.as_slice.ensures.value (c.in-Err-list.ensures.refused why is))
     c.in-Err-list.ensures.fault
 
 pub returns : goal.returns

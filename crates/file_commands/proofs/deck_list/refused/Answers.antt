@@ -1,5 +1,5 @@
 use Rattle.std.proofs.Common.{◌≡◌, subst}
-use Rattle.file_commands.specs.Listed.{AreRefused}
+use Rattle.file_commands.specs.Listed.{IsDeckRefused}
 use Rattle.command_outcomes.specs.declared.fault.RefusedDeck.{RefusedDeck}
 use Rattle.file_commands.proofs.deck_list.refused.Goals as goal
 
@@ -7,5 +7,5 @@ pub returns-in-Ok-clause-refused : goal.returns-in-Ok-clause-refused
 returns-in-Ok-clause-refused c told is =
     let refused : RefusedDeck = record { fault = c.args.fault; diagnosis = c.in-Ok.diagnosis } in
     let same : refused ≡ told = cc in
-    subst (AreRefused c.args.bytes.now) same
+    subst (IsDeckRefused c.args.bytes.now) same
     (c.if-fault-eq-MEMORY_CODE.false, c.requires.none c.if-fault-eq-MEMORY_CODE.false, c.in-Ok.ensures)

@@ -38,10 +38,13 @@ returns-in_default c = record {
 pub returns-in_err-schema : goal.returns-in_err-schema
 returns-in_err-schema c =
     let p = err_from_is_err_and c.from_residual-in_err-schema.result c.from_residual-in_err-schema.ensures.1 in
-    rw (p.1, p.2) (record { given = tt; none = λ f file is.
-    let same = one_layout c.args.described.now.items file.layout c.in_ok-layout.layout is.layout c.in_ok-layout.ensures.given in
-    let least : file.schema.least ≡ c.in-Some.least = same_Some file.schema.least c.in-Some.least (sym is.least
-    ∙ (ap (λ (l : List Placed). least_length c.args.described.now.lengths (length_of l)) same ∙ (sym c.least_of.ensures.least ∙ c.in-Some.is))) in
-    c.in_err-schema.ensures.none f file.schema
-    (subst (λ n. GivesSchema c.in_ok-layout.layout n c.args.selected.now.record_key c.args.selected.now.alternate_keys file.schema) least
-    (subst (λ l. GivesSchema l file.schema.least c.args.selected.now.record_key c.args.selected.now.alternate_keys file.schema) same is.keys)) })
+    rw (p.1, p.2) (record {
+      given = tt;
+      none = λ f file is.
+          let same = one_layout c.args.described.now.items file.layout c.in_ok-layout.layout is.layout c.in_ok-layout.ensures.given in
+          let least : file.schema.least ≡ c.in-Some.least = same_Some file.schema.least c.in-Some.least (sym is.least
+          ∙ (ap (λ (l : List Placed). least_length c.args.described.now.lengths (length_of l)) same ∙ (sym c.least_of.ensures.least ∙ c.in-Some.is))) in
+          c.in_err-schema.ensures.none f file.schema
+          (subst (λ n. GivesSchema c.in_ok-layout.layout n c.args.selected.now.record_key c.args.selected.now.alternate_keys file.schema) least
+          (subst (λ l. GivesSchema l file.schema.least c.args.selected.now.record_key c.args.selected.now.alternate_keys file.schema) same is.keys));
+    })

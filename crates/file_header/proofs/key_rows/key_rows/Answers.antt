@@ -1,6 +1,6 @@
 use Rattle.std.proofs.Common.{◌≡◌, ℕ, ◌+◌, ◌<◌, ◌≤◌, ◌++◌, List, length, length-append, min, drop, sym, ap, ◌∙◌, arith, Result, Ok, Err, OnOk, IsOk}
 use Rattle.std.proofs.lemmas.List.{append-nil}
-use Rattle.file_header.specs.FirstPage.{rows_from}
+use Rattle.file_header.specs.FirstPage.{key_rows_bytes}
 use Rattle.file_header.proofs.RowLemmas.{write_more, length-row, rows_end}
 use Rattle.file_header.proofs.key_rows.key_rows.Goals as goal
 
@@ -19,7 +19,7 @@ loop-k-preserved c =
     let keys = c.args.keys.now in
     let trees = c.args.trees.now in
     let both : k < min (length keys) (length trees) = omega (arith, c.min-k-end.ensures, c.loop-k-test.true) in (
-      ap (λ (r : List ℕ). r ++ rows_from (k + 1) (drop (k + 1) keys) (drop (k + 1) trees)) (grown ∙ ap (λ (r : List ℕ). rows ++ r) c.row.ensures)
+      ap (λ (r : List ℕ). r ++ key_rows_bytes (k + 1) (drop (k + 1) keys) (drop (k + 1) trees)) (grown ∙ ap (λ (r : List ℕ). rows ++ r) c.row.ensures)
           ∙ write_more keys trees k _ _ rows (omega arith) (omega arith) ∙ c.loop-k.invariant.0,
       ap length grown ∙ omega (arith, length-append rows c.row.result, size, c.loop-k.invariant.1),
     )

@@ -1,8 +1,8 @@
 use Rattle.std.proofs.Common.{◌≡◌, ◌++◌, ◌*◌, length, drop}
-use Rattle.file_header.specs.FirstPage.{rows_from}
+use Rattle.file_header.specs.FirstPage.{key_rows_bytes}
 use Rattle.file_header.proofs.key_rows.key_rows.Given as goal
 
 abbrev pub invariant-loop-k : goal.invariant-loop-k
 invariant-loop-k l =
-    (l.rows.items ++ rows_from l.k (drop l.k l.keys) (drop l.k l.trees) ≡ rows_from 0 l.keys l.trees)
+    (l.rows.items ++ key_rows_bytes l.k (drop l.k l.keys) (drop l.k l.trees) ≡ key_rows_bytes 0 l.keys l.trees)
     × (length l.rows.items ≡ 16 * l.k)

@@ -1,10 +1,10 @@
 use Rattle.std.proofs.Common.{replicate, set}
-use Rattle.file_header.specs.FirstPage.{row_of}
+use Rattle.file_header.specs.FirstPage.{key_row_bytes}
 use Rattle.file_header.proofs.WriteLemmas.{puts}
 use Rattle.file_header.proofs.key_rows.row.Goals as goal
 
 pub returns : goal.returns
-unfolding row_of
+unfolding key_row_bytes
 returns c =
     let offset = puts 0 2 (λ i. replicate 16 0) (λ i. c.args.part.offset) c.write_u16.ensures in
     let length = puts 2 2 offset (λ i. c.args.part.length) c.write_u16-2.ensures in

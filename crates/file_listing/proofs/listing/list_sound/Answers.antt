@@ -1,7 +1,7 @@
 use Rattle.std.proofs.Common.{rules, Result, Ok, ap, refl, subst, ◌∙◌}
 use Rattle.record_listing.specs.declared.end.ListEnd.{ListEnd}
 use Rattle.record_listing.specs.declared.end.ListFault.{ListFault}
-use Rattle.file_listing.specs.Shelf.{state_of}
+use Rattle.file_listing.specs.Shelf.{shelf_state_of}
 use Rattle.file_listing.specs.declared.file_bytes.FileBytes.{FileBytes}
 use Rattle.file_listing.proofs.ListingLemmas.{MeansFor, meant}
 use Rattle.file_listing.proofs.listing.list_sound.Goals as goal
@@ -13,7 +13,7 @@ returns-in-Ok-Listed g c =
           subst (MeansFor c.args.form.now c.args.bytes.items c.args.asked (g.W.Write.contents c.args.out.now) (g.W.Write.contents c.list_records.new.out))
           (c.in-Ok-Listed.is ∙ ap (λ (end : ListEnd). let all : Result ListEnd ListFault = Ok end in all) c.in-Ok-Listed.field-0-is)
           (meant c.args.form.now c.new-library.result.shelf c.new-library.result.units.items c.new-2.result.bytes c.args.bytes.items _ _ c.requires.sound.2
-          (ap (λ (s : FileBytes). (state_of s).names) c.new-library.ensures.shelf ∙ c.new-shelf.ensures.units)
+          (ap (λ (s : FileBytes). (shelf_state_of s).names) c.new-library.ensures.shelf ∙ c.new-shelf.ensures.units)
           c.new-library.ensures.units
           (ap (λ (s : FileBytes). s.bytes.items) c.new-library.ensures.shelf ∙ ap (λ v. v.items) c.new-shelf.ensures.bytes)
           (search rules)
@@ -26,7 +26,7 @@ returns g c =
       ends =
           subst (MeansFor c.args.form.now c.args.bytes.items c.args.asked (g.W.Write.contents c.args.out.now) (g.W.Write.contents c.list_records.new.out)) c.in-Err.is
           (meant c.args.form.now c.new-library.result.shelf c.new-library.result.units.items c.new-2.result.bytes c.args.bytes.items _ _ c.requires.sound.2
-          (ap (λ (s : FileBytes). (state_of s).names) c.new-library.ensures.shelf ∙ c.new-shelf.ensures.units)
+          (ap (λ (s : FileBytes). (shelf_state_of s).names) c.new-library.ensures.shelf ∙ c.new-shelf.ensures.units)
           c.new-library.ensures.units
           (ap (λ (s : FileBytes). s.bytes.items) c.new-library.ensures.shelf ∙ ap (λ v. v.items) c.new-shelf.ensures.bytes)
           (search rules)

@@ -1,5 +1,5 @@
 use Rattle.std.proofs.Common.{◌∙◌, sym, subst, arith}
-use Rattle.page_store.specs.Pages.{HasPages}
+use Rattle.page_store.specs.Pages.{HoldsPages}
 use Rattle.page_store.specs.ShelfState.{unit_file, WhereHonest}
 use Rattle.page_cache.proofs.QuietLemmas.{changes_quietly}
 use Rattle.page_cache.proofs.WriteLemmas.{written_here, rewritten, either, if_ok, store_same}
@@ -20,7 +20,7 @@ returns g c =
       written = if_ok c.write_page.result (λ is honest. written_here (unit_file s store.unit) (unit_file t store.unit) c.args.n store.pages c.args.page.now c.requires.page.0 c.requires.page.1
           (c.requires.stored.pages (sym w.only.honest ∙ honest)) c.told-page is) w.written;
       rewrites = rewritten store c.args.n s t c.args.page.now c.requires.stored.unit c.requires.page.0 c.requires.page.1 c.requires.stored.pages c.told-page w.only
-          (subst (λ x. WhereHonest t x.unit (HasPages x.pages)) same w.pages)
+          (subst (λ x. WhereHonest t x.unit (HoldsPages x.pages)) same w.pages)
           (either c.write_page.result w.written w.failed);
       writes = record { goes = changes_quietly store.unit s t w.only w.quiet; cause = w.cause };
     }

@@ -1,5 +1,5 @@
 use Rattle.std.proofs.Common.{◌∙◌, sym, subst, length, max, ◌+◌, arith, ◌≡◌}
-use Rattle.page_store.specs.Pages.{HasPages}
+use Rattle.page_store.specs.Pages.{HoldsPages}
 use Rattle.page_store.specs.ShelfState.{unit_file}
 use Rattle.page_cache.proofs.QuietLemmas.{changes_quietly}
 use Rattle.page_cache.proofs.WriteLemmas.{if_ok}
@@ -17,7 +17,7 @@ returns g c =
     record {
       added = adds store c.write_page.new.self c.args.n c.fill.new.self t c.write_page.result most w.added w.kept
           (if_ok c.write_page.result (λ is honest. page_written (unit_file s store.unit) (unit_file t store.unit) c.args.n c.fill.new.self c.requires.page.0
-          (subst (λ k. HasPages k (unit_file s store.unit)) (sym c.requires.page.1) (c.requires.stored.pages (sym w.only.honest ∙ honest))) is whole) w.written);
+          (subst (λ k. HoldsPages k (unit_file s store.unit)) (sym c.requires.page.1) (c.requires.stored.pages (sym w.only.honest ∙ honest))) is whole) w.written);
       zeros = zeros_page c.fill.new.self (length c.args.page.now) (c.fill.ensures.after (λ y is. is)) whole;
       extends = extended store c.write_page.new.self c.args.n s t c.fill.new.self c.requires.stored.unit c.requires.page.1 c.requires.stored.pages
           whole w.only c.write_page.result w.added w.kept w.pages w.written w.failed;

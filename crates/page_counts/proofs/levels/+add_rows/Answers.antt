@@ -2,7 +2,7 @@ use Rattle.std.proofs.Common.{◌≡◌, ◌<◌, ◌-◌, ◌^◌, ℕ, suc, Li
 use Rattle.std.specs.Prelude.{IfOk}
 use Rattle.page_bytes.specs.Each.{Each}
 use Rattle.page_counts.specs.declared.level.Level.{Level}
-use Rattle.page_counts.specs.Rows.{IsInnerIn, IsLeafIn, AreNodes, children_in, entries_in, leaves_in, levels_in, leaf_level}
+use Rattle.page_counts.specs.Rows.{IsInnerIn, IsLeafIn, AreNodes, children_in, entries_in_row, leaves_in, levels_in, leaf_level}
 use Rattle.page_counts.proofs.levels.+add_rows.Goals as goal
 
 -- ---- a row of leaves
@@ -12,8 +12,8 @@ leaf_counts-requires m c =
     record {
       leaves = subst (λ (row : List ℕ). Each (IsLeafIn c.args.shape c.args.pages.now) row) (sym c.deref.ensures.value)
           (subst (λ (k : ℕ). AreNodes c.args.shape c.args.pages.now k c.args.row.items) c.if-height-eq0.true c.requires.nodes);
-      few = subst (λ (row : List ℕ). length (entries_in c.args.shape c.args.pages.now row) < 2 ^ 64) (sym c.deref.ensures.value)
-          (subst (λ (k : ℕ). length (entries_in c.args.shape c.args.pages.now (leaves_in c.args.shape c.args.pages.now k c.args.row.items)) < 2 ^ 64) c.if-height-eq0.true c.requires.few);
+      few = subst (λ (row : List ℕ). length (entries_in_row c.args.shape c.args.pages.now row) < 2 ^ 64) (sym c.deref.ensures.value)
+          (subst (λ (k : ℕ). length (entries_in_row c.args.shape c.args.pages.now (leaves_in c.args.shape c.args.pages.now k c.args.row.items)) < 2 ^ 64) c.if-height-eq0.true c.requires.few);
     }
 
 pub returns-then-height-eq0-clause-levels : goal.returns-then-height-eq0-clause-levels
@@ -38,11 +38,11 @@ add_rows-requires m c =
     let one : c.args.height ≡ suc (c.args.height - 1) = omega arith in
     let below : c.in_ok-below.below.items ≡ children_in c.args.shape c.args.pages.now c.args.row.items = c.in_ok-below.ensures ∙ ap (children_in c.args.shape c.args.pages.now) c.deref-2.ensures.value in
     let nodes = subst (λ (k : ℕ). AreNodes c.args.shape c.args.pages.now k c.args.row.items) one c.requires.nodes in
-    let few = subst (λ (k : ℕ). length (entries_in c.args.shape c.args.pages.now (leaves_in c.args.shape c.args.pages.now k c.args.row.items)) < 2 ^ 64) one c.requires.few in (
+    let few = subst (λ (k : ℕ). length (entries_in_row c.args.shape c.args.pages.now (leaves_in c.args.shape c.args.pages.now k c.args.row.items)) < 2 ^ 64) one c.requires.few in (
       omega arith,
       (
         subst (λ (row : List ℕ). AreNodes c.args.shape c.args.pages.now (c.args.height - 1) row) (sym below) nodes.1,
-        subst (λ (row : List ℕ). length (entries_in c.args.shape c.args.pages.now (leaves_in c.args.shape c.args.pages.now (c.args.height - 1) row)) < 2 ^ 64) (sym below) few,
+        subst (λ (row : List ℕ). length (entries_in_row c.args.shape c.args.pages.now (leaves_in c.args.shape c.args.pages.now (c.args.height - 1) row)) < 2 ^ 64) (sym below) few,
       ),
     )
 

@@ -1,5 +1,5 @@
 use Rattle.std.proofs.Common.{rules, ◌≡◌, ◌∙◌, ◌++◌, ◌∷◌, [], option_map, ap, sym, true, bytes_eq}
-use Rattle.page_store.specs.MemFiles.{has_name}
+use Rattle.page_store.specs.MemFiles.{is_file_of_name}
 use Rattle.page_store.proofs.MemFilesLemmas.{file_push}
 use Rattle.page_store.proofs.MemLemmas.{crashed_some, push_other}
 use Rattle.page_store.proofs.memory_shelf.keep_left.Goals as goal
@@ -7,7 +7,7 @@ use Rattle.page_store.proofs.memory_shelf.keep_left.Goals as goal
 pub returns-in_ok-map_err-in-Some-clause-this : goal.returns-in_ok-map_err-in-Some-clause-this
 returns-in_ok-map_err-in-Some-clause-this c name is none =
     let left = c.in_ok-left-in-Some.left in
-    let named : has_name left name ≡ true = ap (λ (n : _). bytes_eq n.bytes name) c.in_ok-left-in-Some.ensures.named ∙ is in
+    let named : is_file_of_name left name ≡ true = ap (λ (n : _). bytes_eq n.bytes name) c.in_ok-left-in-Some.ensures.named ∙ is in
     let pushed : c.push.new.self.items ≡ c.args.files.now.items ++ left ∷ [] = search rules in
     let image = sym (ap (option_map (λ (v : _). v.items)) c.in-Some.is) ∙ c.in_ok-bytes.ensures.left in
     let kept = crashed_some c.args.image c.args.file.now left c.in-Some.bytes.items image c.in_ok-left-in-Some.ensures.made in

@@ -1,10 +1,10 @@
 use Rattle.std.proofs.Common.{rules, zero, suc, ◌+◌, ◌≡◌, ◌∙◌, ◌*◌, ◌≤◌, ◌<◌, ℕ, sym, ap, subst, List, Result, Ok, Err, OnOk, OnErr, length, take, drop, refl, arith}
 use Rattle.std.proofs.lemmas.List.{take_all, length-drop}
 use Rattle.page_store.specs.DeviceFile.{DeviceFile, content, IsWithin}
-use Rattle.page_store.specs.Calls.{Written, WriteFails}
+use Rattle.page_store.specs.Calls.{WrittenAt, WriteFails}
 use Rattle.page_store.specs.Moments.{Quiet}
 use Rattle.page_store.specs.ShelfState.{unit_file}
-use Rattle.page_store.specs.Pages.{PageWritten, PageFails, offset_of, length_of}
+use Rattle.page_store.specs.Pages.{PageWritten, PageFails, offset_of, length_of_part}
 use Rattle.page_store.proofs.FileLemmas.{quiet_failed, quiet_done, reached, longer_either}
 use Rattle.page_store.proofs.store.write_at_page.Goals as goal
 
@@ -14,8 +14,8 @@ rest page long = take_all 4095 (drop 1 page) (omega (arith, length-drop 1 page))
 length_rest : (page : List ℕ) → length page ≡ 4096 → length (take 4095 (drop 1 page)) ≡ 4095
 length_rest page long = ap length (rest page long) ∙ omega (arith, length-drop 1 page)
 
-first_written : {T E : Type 0} (r : Result T E) (n : ℕ) (page part : List ℕ) (f h : DeviceFile) → n ≡ 0 → part ≡ drop 1 page → OnOk r (Written 1 part f h) → OnOk r (PageWritten n page f h)
-first_written (Ok v) n page part f h first is ok = subst (λ (k : ℕ). PageWritten k page f h) (sym first) (subst (λ (l : List ℕ). Written 1 l f h) is ok)
+first_written : {T E : Type 0} (r : Result T E) (n : ℕ) (page part : List ℕ) (f h : DeviceFile) → n ≡ 0 → part ≡ drop 1 page → OnOk r (WrittenAt 1 part f h) → OnOk r (PageWritten n page f h)
+first_written (Ok v) n page part f h first is ok = subst (λ (k : ℕ). PageWritten k page f h) (sym first) (subst (λ (l : List ℕ). WrittenAt 1 l f h) is ok)
 first_written (Err e) n page part f h first is ok = tt
 
 first_failed : {T E : Type 0} (r : Result T E) (n m : ℕ) (f h : DeviceFile) → n ≡ 0 → m ≡ 4095 → OnErr r (WriteFails 1 m f h) → OnErr r (PageFails n f h)
@@ -23,7 +23,7 @@ first_failed (Ok v) n m f h first is err = tt
 first_failed (Err e) n m f h first is err = subst (λ (k : ℕ). PageFails k f h) (sym first) (subst (λ (k : ℕ). WriteFails 1 k f h) is err)
 
 -- done or failed
-quiet_either : {T E : Type 0} (r : Result T E) (at n : ℕ) (bytes : List ℕ) (f h : DeviceFile) → 0 < at → length bytes ≡ n → OnOk r (Written at bytes f h) → OnErr r (WriteFails at n f h) → Quiet f h
+quiet_either : {T E : Type 0} (r : Result T E) (at n : ℕ) (bytes : List ℕ) (f h : DeviceFile) → 0 < at → length bytes ≡ n → OnOk r (WrittenAt at bytes f h) → OnErr r (WriteFails at n f h) → Quiet f h
 quiet_either (Ok v) at n bytes f h low is ok err = quiet_done f h at bytes low ok
 quiet_either (Err e) at n bytes f h low is ok err = quiet_failed f h at n low err
 
@@ -61,15 +61,15 @@ other_offset : (n : ℕ) → (n ≡ 0 → ⊥) → offset_of n ≡ n * 4096
 other_offset zero not = absurd (not refl)
 other_offset (suc n) not = omega arith
 
-first_reached : {T E : Type 0} (r : Result T E) (P : Type 0) (n : ℕ) (part : List ℕ) (f h : DeviceFile) → n ≡ 0 → length part ≡ 4095 → (P → 1 ≤ length (content f)) → OnOk r (Written 1 part f h) → OnOk r (P → IsWithin (offset_of n + length_of n) h)
-first_reached (Ok v) P n part f h first is low ok = λ p. subst (λ (k : ℕ). IsWithin (offset_of k + length_of k) h) (sym first) (subst (λ (k : ℕ). IsWithin (1 + k) h) is (reached f h 1 part (low p) ok))
+first_reached : {T E : Type 0} (r : Result T E) (P : Type 0) (n : ℕ) (part : List ℕ) (f h : DeviceFile) → n ≡ 0 → length part ≡ 4095 → (P → 1 ≤ length (content f)) → OnOk r (WrittenAt 1 part f h) → OnOk r (P → IsWithin (offset_of n + length_of_part n) h)
+first_reached (Ok v) P n part f h first is low ok = λ p. subst (λ (k : ℕ). IsWithin (offset_of k + length_of_part k) h) (sym first) (subst (λ (k : ℕ). IsWithin (1 + k) h) is (reached f h 1 part (low p) ok))
 first_reached (Err e) P n part f h first is low ok = tt
 
-both : (n : ℕ) → (n ≡ 0 → ⊥) → n * 4096 + 4096 ≡ offset_of n + length_of n
+both : (n : ℕ) → (n ≡ 0 → ⊥) → n * 4096 + 4096 ≡ offset_of n + length_of_part n
 both zero not = absurd (not refl)
 both (suc n) not = omega arith
 
-other_reached : {T E : Type 0} (r : Result T E) (P : Type 0) (n : ℕ) (page : List ℕ) (f h : DeviceFile) → (n ≡ 0 → ⊥) → length page ≡ 4096 → (P → n * 4096 ≤ length (content f)) → OnOk r (Written (n * 4096) page f h) → OnOk r (P → IsWithin (offset_of n + length_of n) h)
+other_reached : {T E : Type 0} (r : Result T E) (P : Type 0) (n : ℕ) (page : List ℕ) (f h : DeviceFile) → (n ≡ 0 → ⊥) → length page ≡ 4096 → (P → n * 4096 ≤ length (content f)) → OnOk r (WrittenAt (n * 4096) page f h) → OnOk r (P → IsWithin (offset_of n + length_of_part n) h)
 other_reached (Ok v) P n page f h not is low ok = λ p. subst (λ (k : ℕ). IsWithin k h) (both n not) (subst (λ (k : ℕ). IsWithin (n * 4096 + k) h) is (reached f h (n * 4096) page (low p) ok))
 other_reached (Err e) P n page f h not is low ok = tt
 

@@ -2,7 +2,7 @@ use Rattle.std.proofs.Common.{◌≡◌, ◌-◌, ◌+◌, suc, ◌<◌, ℕ, le
 use Rattle.std.specs.Option.{option_copied}
 use Rattle.tree_node.specs.Inner.{separators, children}
 use Rattle.tree_node.proofs.InnerLemmas.{length_children, length_separators}
-use Rattle.node_balance.specs.Fill.{least}
+use Rattle.node_balance.specs.Fill.{least_entries}
 use Rattle.page_marks.specs.PageList.{pages_in}
 use Rattle.page_walks.specs.Spots.{spots_in}
 use Rattle.page_walks.specs.TreeWalk.{bound_at, reach_of}
@@ -44,7 +44,7 @@ children-preserved t c =
     let start = reach_of shape list c.mark.new.reached (spots_in c.args.leaves.now.items) in
     let before = reach_of shape list c.children.reached (spots_in c.children.leaves.items) in
     let after = reach_of shape list c.walk_below.new.reached (spots_in c.walk_below.new.leaves.items) in
-    let child = walked_as shape (pages_in list) k c.child.result (get_or below i 0) c.least_in-least.result (least shape k)
+    let child = walked_as shape (pages_in list) k c.child.result (get_or below i 0) c.least_in-least.result (least_entries shape k)
     (option_copied c.children.low) (bound_at low ss i) (Some c.separator.result.now) (Some (get_or ss i [])) before after
     c.child.ensures c.least_in-least.ensures c.children.invariant.low (ap Some c.separator.ensures.value) c.in_ok-walk_below.ensures in
     record {
@@ -74,7 +74,7 @@ returns t c =
     on_ok c.walk_below-2.result
     (λ w. node_walked shape list c.args.levels k c.args.page c.args.limits.least low high start before between after one (omega arith) c.in_ok-check_inner.ensures (omega arith)
     c.in_ok-mark.ensures.marked refl (rw end at c.children.invariant.front)
-    (walked_as shape (pages_in list) k c.child-2.result (get_or below (length ss) 0) c.least_in-least.result (least shape k)
+    (walked_as shape (pages_in list) k c.child-2.result (get_or below (length ss) 0) c.least_in-least.result (least_entries shape k)
     (option_copied c.children.low) (bound_at low ss (length ss)) high high between after
     (c.child-2.ensures ∙ ap (λ (n : ℕ). get_or below n 0) many) c.least_in-least.ensures (c.children.invariant.low ∙ ap (bound_at low ss) end) refl w))
     c.walk_below-2.ensures

@@ -1,27 +1,27 @@
 use Rattle.std.proofs.Common.{◌∙◌, sym}
 use Rattle.std.proofs.lemmas.Result.{err_from_is_err_and}
-use Rattle.procedure_division.specs.StatementRules.{closed}
+use Rattle.procedure_division.specs.StatementRules.{file_to_close}
 use Rattle.procedure_division.proofs.JoinLemmas.{begun, further, shorter, not_further, finished}
 use Rattle.procedure_division.proofs.ProcedureLemmas.{lawful_closed, closed_are_fit, closed_starts}
 use Rattle.procedure_division.proofs.closing.all_closed.Goals as goal
 
 pub more-init : goal.more-init
 more-init c =
-    begun (closed c.args.names.now) (lawful_closed _) (closed_are_fit _) c.args.statements c.in_ok-statements.statements c.args.parser.now c.closed.new.parser c.in_ok-statements.ensures
+    begun (file_to_close c.args.names.now) (lawful_closed _) (closed_are_fit _) c.args.statements c.in_ok-statements.statements c.args.parser.now c.closed.new.parser c.in_ok-statements.ensures
 
 pub returns-in_err-statements-2 : goal.returns-in_err-statements-2
 returns-in_err-statements-2 c =
     let p = err_from_is_err_and c.from_residual-in_err-statements-2.result c.from_residual-in_err-statements-2.ensures.1 in
-    rw (p.1, p.2) (not_further (closed c.args.names.now) (lawful_closed _) (closed_are_fit _) _ c.more.statements c.more.parser c.in_err-statements-2.field-0.0 c.more.invariant (closed_starts _ _ ∙ sym c.sees_name.ensures ∙ c.more-test.true) c.in_err-statements-2.ensures)
+    rw (p.1, p.2) (not_further (file_to_close c.args.names.now) (lawful_closed _) (closed_are_fit _) _ c.more.statements c.more.parser c.in_err-statements-2.field-0.0 c.more.invariant (closed_starts _ _ ∙ sym c.sees_name.ensures ∙ c.more-test.true) c.in_err-statements-2.ensures)
 
 pub more-smaller : goal.more-smaller
 more-smaller c =
-    shorter (closed c.args.names.now) (lawful_closed _) (closed_are_fit _) c.more.statements c.in_ok-statements-2.statements c.more.parser c.closed-in-more.new.parser c.in_ok-statements-2.ensures
+    shorter (file_to_close c.args.names.now) (lawful_closed _) (closed_are_fit _) c.more.statements c.in_ok-statements-2.statements c.more.parser c.closed-in-more.new.parser c.in_ok-statements-2.ensures
 
 pub more-preserved : goal.more-preserved
 more-preserved c =
-    c.more.invariant ∙ further (closed c.args.names.now) (lawful_closed _) (closed_are_fit _) c.more.statements c.in_ok-statements-2.statements c.more.parser c.closed-in-more.new.parser (closed_starts _ _ ∙ sym c.sees_name.ensures ∙ c.more-test.true) c.in_ok-statements-2.ensures
+    c.more.invariant ∙ further (file_to_close c.args.names.now) (lawful_closed _) (closed_are_fit _) c.more.statements c.in_ok-statements-2.statements c.more.parser c.closed-in-more.new.parser (closed_starts _ _ ∙ sym c.sees_name.ensures ∙ c.more-test.true) c.in_ok-statements-2.ensures
 
 pub returns : goal.returns
 returns c =
-    c.more.invariant ∙ finished (closed c.args.names.now) (lawful_closed _) (closed_are_fit _) c.more.statements c.more.parser (closed_starts _ _ ∙ sym c.sees_name.ensures ∙ c.more-test.false)
+    c.more.invariant ∙ finished (file_to_close c.args.names.now) (lawful_closed _) (closed_are_fit _) c.more.statements c.more.parser (closed_starts _ _ ∙ sym c.sees_name.ensures ∙ c.more-test.false)

@@ -1,13 +1,13 @@
 use Rattle.std.proofs.Common.{◌≡◌, length}
 use Rattle.deck_words.specs.Rule.{onto}
 use Rattle.procedure_division.specs.Procedure.{statement}
-use Rattle.procedure_division.specs.StatementRules.{joined, behind, some_of}
+use Rattle.procedure_division.specs.StatementRules.{joined_statements, behind_statements, some_of}
 use Rattle.procedure_division.proofs.sentence.all_statements.Given as goal
 
 -- the reading goes on from the statements so far
 abbrev pub invariant-more : goal.invariant-more
 invariant-more l =
-    (behind l.fn.statements (some_of (statement l.fn.names))).reads l.fn.parser ≡ (onto joined l.statements (statement l.fn.names)).reads l.parser
+    (behind_statements l.fn.statements (some_of (statement l.fn.names))).reads l.fn.parser ≡ (onto joined_statements l.statements (statement l.fn.names)).reads l.parser
 
 abbrev pub decreases-more : goal.decreases-more
 decreases-more l = length l.parser

@@ -9,7 +9,7 @@ use Rattle.deck_words.specs.Word.{Word}
 use Rattle.deck_words.specs.declared.fault.Refusal.{Refusal}
 use Rattle.procedure_division.specs.declared.statement.Statement.{Statement}
 use Rattle.procedure_division.specs.Names.{Names}
-use Rattle.procedure_division.specs.StatementRules.{AddsStatements, joined, open_statement, close_statement, read_statement, start_statement, write_statement, rewrite_statement, delete_statement, move_statement, stop_statement}
+use Rattle.procedure_division.specs.StatementRules.{AddsStatements, joined_statements, open_statement, close_statement, read_statement, start_statement, write_statement, rewrite_statement, delete_statement, move_statement, stop_statement}
 use Rattle.procedure_division.specs.Procedure.{statement}
 use Rattle.procedure_division.proofs.ProcedureLemmas.{open_starts, close_starts, read_starts, start_starts, write_starts, rewrite_starts, delete_starts, move_starts}
 use Rattle.procedure_division.proofs.sentence.statement.Goals as goal
@@ -26,7 +26,7 @@ other p q words is = rw is refl
 added : (p q : Rule (List Statement)) (before : List Statement) (words : List Word) (result : Result (List Statement) Refusal) (rest : List Word) → p.reads words ≡ q.reads words → AddsStatements q before words result rest
     → AddsStatements p before words result rest
 added p q before words result rest same adds =
-    subst (λ (read : Option (List Statement × List Word)). Reads (option_and_then {U = List Statement × List Word} (λ a. option_map {U = List Statement × List Word} (λ y. (y, a.1)) (joined before a.0)) read) result rest) (sym same) adds
+    subst (λ (read : Option (List Statement × List Word)). Reads (option_and_then {U = List Statement × List Word} (λ a. option_map {U = List Statement × List Word} (λ y. (y, a.1)) (joined_statements before a.0)) read) result rest) (sym same) adds
 
 -- the rules from each one on
 abbrev from_move : Names → Rule (List Statement)

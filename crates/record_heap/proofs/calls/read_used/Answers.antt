@@ -1,7 +1,7 @@
 use Rattle.std.proofs.Common.{◌≡◌, List, ℕ, length, Option, Some, None, IsSome, refl, ap, sym, ◌∙◌, rules, arith}
 use Rattle.std.proofs.lemmas.Grind.{common_steps}
 use Rattle.std.specs.Prelude.{option_map}
-use Rattle.record_heap.specs.Slot.{used_in, over}
+use Rattle.record_heap.specs.Slot.{used_in, over_front}
 use Rattle.record_heap.proofs.ChainLemmas.{some_same}
 use Rattle.record_heap.proofs.StandLemmas.{slot_there}
 use Rattle.record_heap.proofs.calls.read_used.Goals as goal
@@ -17,7 +17,7 @@ returns-in-Some g c = record {
       record {
         answer = (
           some_same c.in-Some.n (length bytes) (sym c.in-Some.is ∙ c.fetch.ensures.value ∙ ap (λ (o : Option (List ℕ)). option_map length o) used),
-          c.fetch.ensures.to ∙ ap (λ (o : Option (List ℕ)). over o c.args.to.now) used,
+          c.fetch.ensures.to ∙ ap (λ (o : Option (List ℕ)). over_front o c.args.to.now) used,
         );
         no_damage = tt;
       };

@@ -1,6 +1,6 @@
 use Rattle.std.proofs.Common.{IsTrue}
 use Rattle.indexed_file.specs.World.{schema_at, file_at, name_at}
-use Rattle.record_listing.specs.Reading.{Reads, rows_from, rows_asked, IsOnItsWay}
+use Rattle.record_listing.specs.Reading.{OnlyReadsUnit, rows_from, rows_asked, IsOnItsWay}
 use Rattle.record_listing.proofs.rows.hold_rows.Given as goal
 
 -- unit 0 was only read so far, and the lines of the rows that are still to come are not on their way
@@ -9,7 +9,7 @@ invariant-more g l =
     let shown = g.L.Library.shown in
     let world = shown.world l.fn.lib in
     record {
-      reads : Reads shown l.fn.lib l.lib;
+      reads : OnlyReadsUnit shown l.fn.lib l.lib;
       rows : IsTrue (shown.is_honest l.lib) → shown.IsShownTruly l.fn.lib (name_at world 0)
           → IsOnItsWay l.fn.form (rows_asked (schema_at world 0) (file_at world 0) l.fn.asked)
           (rows_from (schema_at world 0) (file_at world 0) l.fn.asked.key l.fn.asked.to l.left l.position)

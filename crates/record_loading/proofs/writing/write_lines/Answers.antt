@@ -3,7 +3,7 @@ use Rattle.io_state.specs.declared.statement.FileStatement.TheVariants.{Write}
 use Rattle.verbs.specs.Held.{silent}
 use Rattle.verbs.specs.Performed.{in_memory}
 use Rattle.record_reading.specs.ReadLine.{ReadsRecord}
-use Rattle.record_reading.specs.Whole.{IsWhole}
+use Rattle.record_reading.specs.Whole.{IsWholeForm}
 use Rattle.record_loading.specs.Loading.{listing}
 use Rattle.record_loading.proofs.HeaderLemmas.{shorter, lines_before}
 use Rattle.record_loading.proofs.GoingLemmas.{goes_self, goes_both, goes_performed, written, refused}
@@ -18,7 +18,7 @@ more-init g c =
     }
 
 pub read_record-requires : goal.read_record-requires
-read_record-requires g c = record { whole = subst (λ (n : ℕ). IsWhole c.args.form.now n) (sym c.more.auto.area) c.requires.takes.room.whole }
+read_record-requires g c = record { whole = subst (λ (n : ℕ). IsWholeForm c.args.form.now n) (sym c.more.auto.area) c.requires.takes.room.whole }
 
 pub returns-then-not-is_success : goal.returns-then-not-is_success
 returns-then-not-is_success g c =

@@ -4,7 +4,7 @@ use Rattle.std.proofs.lemmas.List.{take_all}
 use Rattle.page_marks.specs.PageList.{pages_in}
 use Rattle.record_heap.specs.declared.shape.Place.{Place}
 use Rattle.record_heap.specs.Slot.{room}
-use Rattle.record_heap.specs.Walk.{is_one_of}
+use Rattle.record_heap.specs.Walk.{is_in_list}
 use Rattle.page_walks.specs.Spots.{spots_in}
 use Rattle.row_checks.specs.Leading.{HasEntry}
 use Rattle.row_checks.proofs.SlotLemmas.{pages_more, own_slot}
@@ -20,11 +20,11 @@ loop-n-preserved c =
     let shape = c.args.file.now.heap.shape in
     let Has = HasEntry c.args.file.now c.args.pages.now (spots_in c.args.primes.now) in
     let up : k + 1 ≡ suc k = omega arith in
-    subst (λ (m : ℕ). (p : Place) → is_one_of (take m own) p.page ≡ true → p.slot < room shape → Has p) (sym up)
-    (subst (λ (ms : List ℕ). (p : Place) → is_one_of ms p.page ≡ true → p.slot < room shape → Has p) (sym (take-suc own k 0 c.loop-n-test.true))
+    subst (λ (m : ℕ). (p : Place) → is_in_list (take m own) p.page ≡ true → p.slot < room shape → Has p) (sym up)
+    (subst (λ (ms : List ℕ). (p : Place) → is_in_list ms p.page ≡ true → p.slot < room shape → Has p) (sym (take-suc own k 0 c.loop-n-test.true))
     (pages_more shape Has (take k own) (get_or own k 0) c.loop-n.invariant c.in_ok-check_page.ensures))
 
 pub returns : goal.returns
 returns c = λ p some.
     let own = own_slot c.args.file.now.heap.shape (pages_in c.args.pages.now) c.args.own.now p some in
-    c.loop-n.invariant p (subst (λ (ms : List ℕ). is_one_of ms p.page ≡ true) (sym (take_all c.loop-n.n-index c.args.own.now c.loop-n-test.false)) own.0) own.1 own.2
+    c.loop-n.invariant p (subst (λ (ms : List ℕ). is_in_list ms p.page ≡ true) (sym (take_all c.loop-n.n-index c.args.own.now c.loop-n-test.false)) own.0) own.1 own.2

@@ -6,12 +6,12 @@ use Rattle.page_store.specs.Images.{Leaves}
 use Rattle.shelf_library.specs.Library.{shown_by}
 use Rattle.shelf_library.specs.State.{LibraryState}
 use Rattle.shelf_library.specs.declared.library.ShelfLibrary.{ShelfLibrary}
-use Rattle.shelf_run.specs.ShelfRun.{LeavesFiles, shown_in}
+use Rattle.shelf_run.specs.ShelfRun.{LeavesFiles, shown_of_state}
 use Rattle.shelf_run.proofs.RunLemmas.{keeps_in, untouched_in, leaves_files}
 use Rattle.record_loading.specs.Loading.{listing}
 use Rattle.shelf_loading.specs.declared.end.ShelfEnd.{ShelfEnd}
 use Rattle.shelf_loading.specs.declared.end.ShelfFault.{ShelfFault}
-use Rattle.shelf_loading.specs.Loaded.{EndsAnyhow, KeepsOthers, IsSafe, end_of}
+use Rattle.shelf_loading.specs.Loaded.{EndsAnyhow, KeepsOtherNames, IsSafeLoad, load_end_of}
 use Rattle.shelf_loading.proofs.LoadedLemmas.{leaves, others, safe, ends_by, nothing_by}
 use Rattle.shelf_loading.proofs.loading.load_over.Goals as goal
 use Rattle.shelf_loading.proofs.loading.load_over.Given as given
@@ -45,7 +45,7 @@ module _ (g : given.Over) (c : goal.After-end_of g) where
   unfolding state new
   many = c.load_records-end.new.lib.many
 
-  keeps : Keeps shown_in old new
+  keeps : Keeps shown_of_state old new
   unfolding state old new
   keeps = keeps_in state c.new-library.result c.load_records-end.new.lib c.load_records-end.ensures.keeps
 
@@ -60,17 +60,17 @@ returns g c =
     record {
       ends = subst (λ (r : Result ShelfEnd ShelfFault). IfOk r (λ end. EndsAnyhow name c.args.schema.now c.args.load (listing c.args.form.now c.args.text.now) (g.S.Shelf.state c.args.shelf) end (g.S.Shelf.state c.into_shelf.result)))
           (sym c.end_of.ensures)
-          (carried g c (λ first last. IfOk (end_of c.load_records-end.result) (λ end. EndsAnyhow name c.args.schema.now c.args.load (listing c.args.form.now c.args.text.now) (g.S.Shelf.state first) end (g.S.Shelf.state last)))
+          (carried g c (λ first last. IfOk (load_end_of c.load_records-end.result) (λ end. EndsAnyhow name c.args.schema.now c.args.load (listing c.args.form.now c.args.text.now) (g.S.Shelf.state first) end (g.S.Shelf.state last)))
           (ends_by c.load_records-end.result _ _
           (λ end. leaves (old g c) (new g c) (none g c) (empty g c) (many g c) (keeps g c) (an_image g c) name c.args.schema.now c.args.load (listing c.args.form.now c.args.text.now) end)
           c.load_records-end.ensures.loads));
       nothing = subst (λ (r : Result ShelfEnd ShelfFault). OnErr r (LeavesFiles (g.S.Shelf.state c.args.shelf) (g.S.Shelf.state c.into_shelf.result))) (sym c.end_of.ensures)
-          (carried g c (λ first last. OnErr (end_of c.load_records-end.result) (LeavesFiles (g.S.Shelf.state first) (g.S.Shelf.state last)))
+          (carried g c (λ first last. OnErr (load_end_of c.load_records-end.result) (LeavesFiles (g.S.Shelf.state first) (g.S.Shelf.state last)))
           (nothing_by c.load_records-end.result (IsUntouched (shown_by (state g c)) c.new-library.result c.load_records-end.new.lib) _
           (λ is. leaves_files (old g c) (new g c) (none g c) (empty g c) (many g c) (keeps g c) (an_image g c) (untouched_in (state g c) c.new-library.result c.load_records-end.new.lib is))
           c.load_records-end.ensures.memory));
-      others = carried g c (λ first last. KeepsOthers name (g.S.Shelf.state first) (g.S.Shelf.state last))
+      others = carried g c (λ first last. KeepsOtherNames name (g.S.Shelf.state first) (g.S.Shelf.state last))
           (others (old g c) (new g c) (none g c) (empty g c) (many g c) (keeps g c) (an_image g c) name c.load_records-end.ensures.others);
-      safe = carried g c (λ first last. IsSafe name (g.S.Shelf.state first) (g.S.Shelf.state last))
+      safe = carried g c (λ first last. IsSafeLoad name (g.S.Shelf.state first) (g.S.Shelf.state last))
           (safe (old g c) (new g c) (none g c) (empty g c) (many g c) (keeps g c) (an_image g c) name c.load_records-end.ensures.real);
     }

@@ -8,7 +8,7 @@ use Rattle.page_store.specs.Images.{Leaves}
 use Rattle.shelf_library.specs.Library.{shown_by}
 use Rattle.shelf_library.specs.State.{LibraryState, AreLimited}
 use Rattle.shelf_library.specs.declared.library.ShelfLibrary.{ShelfLibrary}
-use Rattle.shelf_run.specs.ShelfRun.{OnShelf, IsExactRun, BreaksOff, LeavesFiles, StaysSound, IsExactOn, HasRunOn, HasBrokenOffOn, IsRefusedOn, shown_in}
+use Rattle.shelf_run.specs.ShelfRun.{OnShelf, IsExactRun, BreaksOff, LeavesFiles, StaysSound, IsExactOn, HasRunOn, HasBrokenOffOn, IsRefusedOn, shown_of_state}
 use Rattle.shelf_run.proofs.RunLemmas as run
 use Rattle.shelf_run.proofs.shelf_run.run_on_shelf.Goals as goal
 use Rattle.shelf_run.proofs.shelf_run.run_on_shelf.Given as given
@@ -42,7 +42,7 @@ module _ (g : given.Over) (c : goal.After-into_shelf g) where
   unfolding state new
   many = c.run_deck-end.new.library.many
 
-  keeps : Keeps shown_in old new
+  keeps : Keeps shown_of_state old new
   unfolding state old new
   keeps = run.keeps_in state c.new-library.result c.run_deck-end.new.library c.run_deck-end.ensures.keeps
 

@@ -1,13 +1,13 @@
 use Rattle.std.proofs.Common.{◌≡◌, ◌<◌, ◌≤◌, ◌*◌, ◌∙◌, max, length, refl, sym, ap, subst, arith, IsTrue}
 use Rattle.page_store.specs.DeviceFile.{content, IsWithin}
-use Rattle.page_store.specs.Pages.{HasPages}
+use Rattle.page_store.specs.Pages.{HoldsPages}
 use Rattle.page_store.specs.ShelfState.{ShelfState, HasUnit, OnlyAnswers, unit_file, unit_name, WhereHonest}
 use Rattle.page_store.proofs.ShelfLemmas.{same_place}
 use Rattle.store_tests.proofs.paged_files.reopen.Goals as goal
 
-has_pages : (old new : ShelfState) (unit pages : _) → new.file ≡ old.file → new.names ≡ old.names → 0 < pages → IsWithin (4096 * pages) (unit_file old unit) → HasPages pages (unit_file new unit)
+has_pages : (old new : ShelfState) (unit pages : _) → new.file ≡ old.file → new.names ≡ old.names → 0 < pages → IsWithin (4096 * pages) (unit_file old unit) → HoldsPages pages (unit_file new unit)
 has_pages old new unit pages file names some within =
-    subst (HasPages pages) (sym (same_place old new unit file names)) (record { there = within.there; long = let l = within.long in omega arith })
+    subst (HoldsPages pages) (sym (same_place old new unit file names)) (record { there = within.there; long = let l = within.long in omega arith })
 
 pub returns-clause-ready : goal.returns-clause-ready
 returns-clause-ready g c =

@@ -1,7 +1,7 @@
 use Rattle.std.proofs.Common.{◌≡◌, List, [], ◌∷◌, length, slice_set, Option, refl, sym, ap, ◌∙◌, subst}
 use Rattle.indexed_file.specs.World.{name_at}
 use Rattle.indexed_file.specs.Images.{ImagesGo}
-use Rattle.verbs.specs.Held.{record_in}
+use Rattle.verbs.specs.Held.{record_delivered}
 use Rattle.verbs.specs.Fits.{HasOperands}
 use Rattle.deck_runner.specs.Run.{RunFile, LengthValue, items_after_read}
 use Rattle.deck_runner.specs.Stretches.{trace_on}
@@ -39,9 +39,9 @@ returns g c =
     let within = file_within files c.args.u (λ schema. HasOperands schema c.args.statement.now) c.requires.part_is in
     let world = g.L.Library.shown.world c.args.library.now in
     let world_after = g.L.Library.shown.world c.perform-answer.new.library in
-    let read : c.note_length.new.items ≡ items_after_read file.depends_on (record_in next.area answer.length) items =
+    let read : c.note_length.new.items ≡ items_after_read file.depends_on (record_delivered next.area answer.length) items =
     rw (c.note_length.ensures, c.deref_mut.ensures.value, c.delivered-delivered.ensures.record, c.depends_on.ensures, same.depends_on) refl in
-    let many : length c.note_length.new.items ≡ length items = ap (λ (l : List LengthValue). length l) read ∙ as_many_items file.depends_on (record_in next.area answer.length) items in
+    let many : length c.note_length.new.items ≡ length items = ap (λ (l : List LengthValue). length l) read ∙ as_many_items file.depends_on (record_delivered next.area answer.length) items in
     let written = written_over c.args.self.now.items.len items c.note_length.new.items c.args.self.now.items.ok.0 many in
     let count = ap (λ (l : List LengthValue). length l) written ∙ many in
     let noted = written ∙ read in

@@ -2,7 +2,7 @@ use Rattle.std.proofs.Common.{refl, inl, inr, rules}
 use Rattle.deck_runner.specs.Steps.{until_stop, closes_from}
 use Rattle.deck_runner.specs.Stretches.{IsStretch, AreStretches, AreStretchesInPart, ClosesFiles, ClosesInPart, IsRunOver, IsBrokenOff}
 use Rattle.deck_runner.specs.State.{state, point_in}
-use Rattle.deck_runner.specs.RunEnd.{followed}
+use Rattle.deck_runner.specs.RunEnd.{end_followed}
 use Rattle.deck_runner.proofs.StateLemmas.{goes_then, leads_as, done_then, refused_then, all_refused}
 use Rattle.deck_runner.proofs.StepLemmas.{all_in_part}
 use Rattle.deck_runner.proofs.ToldLemmas.{come_in_part_as, told_all, told_in_part, held_then}
@@ -41,7 +41,7 @@ returns-in_err-hand_over g c =
     let next = state c.close_all.new.library c.close_all.new.self in
     let Done = AreStretches shown (until_stop c.args.statements.now) in
     let Off = IsBrokenOff shown c.args.statements.now in
-    let both = followed c.in_ok-stopped.stopped c.in_ok-closed.closed in
+    let both = end_followed c.in_ok-stopped.stopped c.in_ok-closed.closed in
     let goes = c.run_to_stop.ensures.goes in
     let more = c.close_all.ensures.goes in
     all_refused shown g.W.Write.contents c.args.statements.now c.args.library.now _ c.args.self.now _ c.args.out.now _ c.from_residual-in_err-hand_over.result (search rules) (goes_then shown first stopped next goes more)

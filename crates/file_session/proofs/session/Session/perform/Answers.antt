@@ -1,7 +1,7 @@
 use Rattle.std.proofs.Common.{rules, arith, sym, ap, ◌∙◌, subst, Option}
 use Rattle.request_frames.specs.Request.{performed_of}
 use Rattle.file_session.specs.Files.{Files, NumberedFile}
-use Rattle.file_session.specs.Steps.{Performs, refusal_by, refusal_of_verb}
+use Rattle.file_session.specs.Steps.{PerformsRequest, refusal_by, refusal_of_verb}
 use Rattle.file_session.proofs.CallLemmas.{place_is, performed_keeps, performed_performs, changed_to}
 use Rattle.file_session.proofs.session.Session.perform.Goals as goal
 
@@ -13,7 +13,7 @@ invariant_of-self-2 g c =
 
 pub returns : goal.returns
 returns g c = record {
-  performed = subst (λ (files : Files _). Performs g.L.Library.shown (performed_of c.args.performance.now) files c.in_ok-answer.answer
+  performed = subst (λ (files : Files _). PerformsRequest g.L.Library.shown (performed_of c.args.performance.now) files c.in_ok-answer.answer
       (changed_to (record { places = c.self.inside.files.items; opened = c.self.inside.order }) c.from.result c.perform.new.place c.note.new.self))
       {x = record { places = c.self.inside.files.items; opened = c.self.inside.order }} {y = c.args.self.now} (search rules)
       (performed_performs g.L.Library.shown (performed_of c.args.performance.now) (record { places = c.self.inside.files.items; opened = c.self.inside.order })

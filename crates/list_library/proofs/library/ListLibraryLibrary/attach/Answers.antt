@@ -6,7 +6,7 @@ use Rattle.std.proofs.lemmas.Grind.{common_steps}
 use Rattle.std.proofs.lemmas.List.{with_items_is}
 use Rattle.indexed_file.specs.World.{FileUnit, name_in}
 use Rattle.list_library.specs.Units.{absent_unit, in_place_among, named_among}
-use Rattle.list_library.specs.ListWorld.{world_of}
+use Rattle.list_library.specs.ListWorld.{list_world_of}
 use Rattle.indexed_file.specs.SoundWorld.{is_sound_unit}
 use Rattle.list_library.proofs.ShownLemmas.{sound_joined, sound_placed}
 use Rattle.list_library.proofs.ListWorldLemmas.{keeps_all}
@@ -32,7 +32,7 @@ returns-clause-attached c =
     let named = λ (name : List ℕ). ap (λ (us : List FileUnit). named_among us name) joined ∙ named_joined c.args.self.now.units.items c.args.self.now.others.items name in
     let items : (with_items c.replace-others.new.dest c.exchange.new.units).items ≡ c.exchange.new.units = with_items_is c.replace-others.new.dest c.exchange.new.units (first_of (search rules, grind (arith, common_steps))) in
     items ∙ (c.exchange.ensures.units
-    ∙ (ap (map (λ (u : FileUnit). in_place_among all u.name)) units ∙ attached_in_place (λ name. name.bytes) (world_of c.args.self.now) all c.args.names.now named))
+    ∙ (ap (map (λ (u : FileUnit). in_place_among all u.name)) units ∙ attached_in_place (λ name. name.bytes) (list_world_of c.args.self.now) all c.args.names.now named))
 
 pub returns-clause-named : goal.returns-clause-named
 returns-clause-named c = λ name.

@@ -1,7 +1,7 @@
 use Rattle.std.proofs.Common.{◌≡◌, ◌∙◌, sym, subst, IsTrue}
 use Rattle.page_store.proofs.MomentLemmas.{quiet_then}
 use Rattle.page_store.specs.ShelfState.{unit_file, IsQuiet}
-use Rattle.page_cache.specs.Cached.{pages_of, IsOver}
+use Rattle.page_cache.specs.Cached.{cached_pages_of, IsOver}
 use Rattle.page_alloc.proofs.OpenLemmas.{quiet_closes, all_closes, all_closed}
 use Rattle.page_alloc.proofs.paged_file.PagedFile.close.Goals as goal
 
@@ -33,7 +33,7 @@ returns-in_err-finish-clause-images g c honest changed =
     let h1 = c.write_header.ensures.stay.kept.goes.others.honest h2 in
     let all = c.requires.ready.gate changed (c.flush.ensures.stay.kept.goes.others.honest h1) in
     all_closes c.args.header.now c.args.self.now.cache d s t u v c.flush.ensures.stay.kept.keeps.store c.flush.ensures.stay.kept.over (subst (λ x. IsOver x u) c.write_header.ensures.same c.write_header.ensures.stay.kept.over) c.in_ok-flush.ensures.clean h1 h2
-    (c.flush.ensures.stay.kept.pages h1) (subst (λ x. pages_of x u ≡ pages_of d t) c.write_header.ensures.same (c.write_header.ensures.stay.kept.pages h2)) (c.in_ok-write_header.ensures.written h2) c.flush.ensures.stay.kept.goes.quiet c.write_header.ensures.stay.kept.goes.quiet all
+    (c.flush.ensures.stay.kept.pages h1) (subst (λ x. cached_pages_of x u ≡ cached_pages_of d t) c.write_header.ensures.same (c.write_header.ensures.stay.kept.pages h2)) (c.in_ok-write_header.ensures.written h2) c.flush.ensures.stay.kept.goes.quiet c.write_header.ensures.stay.kept.goes.quiet all
     (rw c.write_header.ensures.same at (c.finish.ensures.images honest))
 
 pub returns-clause-closed : goal.returns-clause-closed
@@ -47,7 +47,7 @@ returns-clause-closed g c honest changed =
     let h1 = c.write_header.ensures.stay.kept.goes.others.honest h2 in
     let all = c.requires.ready.gate changed (c.flush.ensures.stay.kept.goes.others.honest h1) in
     all_closed c.args.header.now c.args.self.now.cache d s t u v c.flush.ensures.stay.kept.keeps.store c.flush.ensures.stay.kept.over (subst (λ x. IsOver x u) c.write_header.ensures.same c.write_header.ensures.stay.kept.over) c.in_ok-flush.ensures.clean h1 h2
-    (c.flush.ensures.stay.kept.pages h1) (subst (λ x. pages_of x u ≡ pages_of d t) c.write_header.ensures.same (c.write_header.ensures.stay.kept.pages h2)) (c.in_ok-write_header.ensures.written h2) c.flush.ensures.stay.kept.goes.quiet c.write_header.ensures.stay.kept.goes.quiet all
+    (c.flush.ensures.stay.kept.pages h1) (subst (λ x. cached_pages_of x u ≡ cached_pages_of d t) c.write_header.ensures.same (c.write_header.ensures.stay.kept.pages h2)) (c.in_ok-write_header.ensures.written h2) c.flush.ensures.stay.kept.goes.quiet c.write_header.ensures.stay.kept.goes.quiet all
     (rw c.write_header.ensures.same at c.in_ok-finish.ensures.closed)
 
 pub returns-clause-images : goal.returns-clause-images
@@ -61,5 +61,5 @@ returns-clause-images g c honest changed =
     let h1 = c.write_header.ensures.stay.kept.goes.others.honest h2 in
     let all = c.requires.ready.gate changed (c.flush.ensures.stay.kept.goes.others.honest h1) in
     all_closes c.args.header.now c.args.self.now.cache d s t u v c.flush.ensures.stay.kept.keeps.store c.flush.ensures.stay.kept.over (subst (λ x. IsOver x u) c.write_header.ensures.same c.write_header.ensures.stay.kept.over) c.in_ok-flush.ensures.clean h1 h2
-    (c.flush.ensures.stay.kept.pages h1) (subst (λ x. pages_of x u ≡ pages_of d t) c.write_header.ensures.same (c.write_header.ensures.stay.kept.pages h2)) (c.in_ok-write_header.ensures.written h2) c.flush.ensures.stay.kept.goes.quiet c.write_header.ensures.stay.kept.goes.quiet all
+    (c.flush.ensures.stay.kept.pages h1) (subst (λ x. cached_pages_of x u ≡ cached_pages_of d t) c.write_header.ensures.same (c.write_header.ensures.stay.kept.pages h2)) (c.in_ok-write_header.ensures.written h2) c.flush.ensures.stay.kept.goes.quiet c.write_header.ensures.stay.kept.goes.quiet all
     (rw c.write_header.ensures.same at (c.finish.ensures.images honest))

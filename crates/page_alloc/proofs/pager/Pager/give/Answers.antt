@@ -1,5 +1,5 @@
 use Rattle.std.proofs.Common.{rules, ◌≡◌, ◌+◌, suc, refl, arith}
-use Rattle.page_cache.specs.Cached.{pages_of}
+use Rattle.page_cache.specs.Cached.{cached_pages_of}
 use Rattle.page_alloc.proofs.ChainLemmas.{can_give, given_at, given_sound_at, given_first}
 use Rattle.page_alloc.proofs.JoinLemmas.{damaged, at_err, rested}
 use Rattle.page_alloc.proofs.pager.Pager.give.Goals.{then-n-eq0-via-then-n-eq0, then-n-eq0-via-else-n-eq0+then-n-self, then-n-eq0-via-else-n-eq0+else-n-self+then-self}
@@ -10,7 +10,7 @@ returns-then-n-eq0-clause-fails g c = record {
   caused = damaged _ _;
   damage = λ there _.
       let p = c.args.self.now in
-      let can = can_give (pages_of c.args.cache.now (g.S.Shelf.state c.args.shelf.now)) p.count c.args.n p.first p.free there.1 in
+      let can = can_give (cached_pages_of c.args.cache.now (g.S.Shelf.state c.args.shelf.now)) p.count c.args.n p.first p.free there.1 in
       let low = can.0 in
       let below = can.1 in
       let room = can.2 in
@@ -33,8 +33,8 @@ returns-in_err-make_free-clause-gives g c =
 pub returns-clause-gives : goal.returns-clause-gives
 returns-clause-gives g c =
     let p = c.args.self.now in
-    let old = pages_of c.args.cache.now (g.S.Shelf.state c.args.shelf.now) in
-    let new = pages_of c.make_free.new.cache (g.S.Shelf.state c.make_free.new.shelf) in
+    let old = cached_pages_of c.args.cache.now (g.S.Shelf.state c.args.shelf.now) in
+    let new = cached_pages_of c.make_free.new.cache (g.S.Shelf.state c.make_free.new.shelf) in
     let more : p.free + 1 ≡ suc p.free = omega arith in
     let freed = c.in_ok-make_free.ensures.freed in
     record {

@@ -1,6 +1,6 @@
 use Rattle.std.proofs.Common.{rules, refl, arith}
 use Rattle.std.proofs.lemmas.Result.{err_from_is_err_and}
-use Rattle.page_cache.specs.Cached.{pages_of}
+use Rattle.page_cache.specs.Cached.{cached_pages_of}
 use Rattle.page_alloc.proofs.ChainLemmas.{front_marked_at, taken_at, taken_sound_at, first_taken}
 use Rattle.page_alloc.proofs.JoinLemmas.{at_err, rested}
 use Rattle.page_alloc.proofs.pager.Pager.take_free.Goals as goal
@@ -19,7 +19,7 @@ returns-in_err-next g c =
       };
       fails = rw (y.1, y.2) (record {
         caused = fails.caused;
-        damage = λ sound. fails.damage (sound.0, front_marked_at (pages_of c.args.cache.now (g.S.Shelf.state c.args.shelf.now)) p.count p.first p.free c.requires.free sound.1);
+        damage = λ sound. fails.damage (sound.0, front_marked_at (cached_pages_of c.args.cache.now (g.S.Shelf.state c.args.shelf.now)) p.count p.first p.free c.requires.free sound.1);
       });
       goes = search rules;
     }
@@ -27,8 +27,8 @@ returns-in_err-next g c =
 pub returns : goal.returns
 returns g c =
     let p = c.args.self.now in
-    let old = pages_of c.args.cache.now (g.S.Shelf.state c.args.shelf.now) in
-    let new = pages_of c.next_free.new.cache (g.S.Shelf.state c.next_free.new.shelf) in
+    let old = cached_pages_of c.args.cache.now (g.S.Shelf.state c.args.shelf.now) in
+    let new = cached_pages_of c.next_free.new.cache (g.S.Shelf.state c.next_free.new.shelf) in
     let some = c.requires.free in
     let positive = c.if-n-eq0.false in
     record {

@@ -1,5 +1,5 @@
 use Rattle.std.proofs.Common.{rules, ◌≡◌, ◌+◌, Some, refl, arith}
-use Rattle.page_cache.specs.Cached.{pages_of}
+use Rattle.page_cache.specs.Cached.{cached_pages_of}
 use Rattle.page_alloc.specs.Chain.{chain}
 use Rattle.page_alloc.proofs.ChainLemmas.{added, still_none}
 use Rattle.page_alloc.proofs.JoinLemmas.{at_err, rested}
@@ -21,8 +21,8 @@ returns g c =
     let p = c.args.self.now in
     let s = g.S.Shelf.state c.args.shelf.now in
     let t = g.S.Shelf.state c.zero.new.shelf in
-    let old = pages_of c.args.cache.now s in
-    let new = pages_of c.zero.new.self t in
+    let old = cached_pages_of c.args.cache.now s in
+    let new = cached_pages_of c.zero.new.self t in
     let header = c.requires.ready.header in
     let low = c.if-self.false in
     record {

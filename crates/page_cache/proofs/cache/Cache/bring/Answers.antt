@@ -1,6 +1,6 @@
 use Rattle.std.proofs.Common.{rules, ◌≡◌, ◌∙◌, refl, sym, ap, nat_eq, false}
 use Rattle.std.specs.Map.{lookup}
-use Rattle.page_cache.specs.Cached.{pages_of}
+use Rattle.page_cache.specs.Cached.{cached_pages_of}
 use Rattle.page_cache.proofs.QuietLemmas.{goes_then, reads_quietly}
 use Rattle.page_cache.proofs.OverLemmas.{over_same, over_read, pages_same, pages_read}
 use Rattle.page_cache.proofs.PutLemmas.{Brought, brought, cap_kept}
@@ -20,7 +20,7 @@ returns-in_err-page g c =
       looks = record {
         kept = record {
           over = over_same old c.read.new.self t store same (over_read old s t c.read.ensures.only (rw room.same at room.looks.kept.over));
-          pages = λ honest. pages_same old c.read.new.self t store same ∙ pages_read old s t c.read.ensures.only ∙ sym (ap (λ x. pages_of x s) room.same) ∙ room.looks.kept.pages (c.read.ensures.only.honest honest);
+          pages = λ honest. pages_same old c.read.new.self t store same ∙ pages_read old s t c.read.ensures.only ∙ sym (ap (λ x. cached_pages_of x s) room.same) ∙ room.looks.kept.pages (c.read.ensures.only.honest honest);
           keeps = record { store = store; cap = ap (λ x. x.cap) frames };
           goes = goes_then old.store.unit (g.S.Shelf.state c.args.shelf.now) s t room.looks.kept.goes (reads_quietly old.store.unit s t c.read.ensures.only);
         };
@@ -53,7 +53,7 @@ returns g c =
       looks = record {
         kept = record {
           over = (all g c).over;
-          pages = λ honest. (all g c).pages honest ∙ sym (ap (λ x. pages_of x s) room.same) ∙ room.looks.kept.pages (c.read.ensures.only.honest honest);
+          pages = λ honest. (all g c).pages honest ∙ sym (ap (λ x. cached_pages_of x s) room.same) ∙ room.looks.kept.pages (c.read.ensures.only.honest honest);
           keeps = record { store = c.put.ensures.same.store ∙ store; cap = cap_kept old.frames c.read.new.self.frames c.put.new.self.frames _ c.put.result frames c.put.ensures.pushed.put c.put.ensures.pushed.kept };
           goes = goes_then old.store.unit (g.S.Shelf.state c.args.shelf.now) s t room.looks.kept.goes (reads_quietly old.store.unit s t c.read.ensures.only);
         };

@@ -1,6 +1,6 @@
 use Rattle.std.proofs.Common.{rules, ◌≡◌, ◌+◌, ◌∙◌, max, length, sym, ap, subst, arith, is_ok}
 use Rattle.std.specs.Prelude.{IsTrue}
-use Rattle.page_cache.specs.Cached.{is_counted}
+use Rattle.page_cache.specs.Cached.{is_counted_page}
 use Rattle.page_cache.specs.Rewrites.{IsZeros}
 use Rattle.page_cache.proofs.QuietLemmas.{keeps_then, goes_nowhere}
 use Rattle.page_cache.proofs.AddLemmas.{zeros_page}
@@ -21,7 +21,7 @@ returns-in-Ok g c =
     let whole : length c.in-Ok.page.now ≡ 4096 = search rules in
     let most : old.store.pages ≡ max old.store.pages (c.args.n + 1) = omega arith in
     let kept = keeps_frames old mid s same.store same.frames same.cap c.requires.over in
-    let counted = subst (λ x. IsTrue (is_counted (record old { store = x }) c.args.n)) (sym same.store) c.requires.page in
+    let counted = subst (λ x. IsTrue (is_counted_page (record old { store = x }) c.args.n)) (sym same.store) c.requires.page in
     record {
       zeroed = record {
         zeros = λ honest. subst IsZeros (sym (set_page c.args.n w mid e set s)) (zeros_page w _ (c.fill.ensures.after (λ y is. is)) (c.fill.ensures.len ∙ whole));

@@ -1,5 +1,5 @@
 use Rattle.std.proofs.Common.{◌∙◌, refl, sym, subst, arith}
-use Rattle.page_store.specs.Pages.{HasPages}
+use Rattle.page_store.specs.Pages.{HoldsPages}
 use Rattle.page_store.proofs.PageLemmas.{written_is_read}
 use Rattle.page_store.specs.ShelfState.{unit_file, WhereHonest}
 use Rattle.page_cache.proofs.QuietLemmas.{changes_quietly}
@@ -14,7 +14,7 @@ kept g c =
     let store = c.args.self.now.store in
     let same = store_same store c.write_page.new.self 0 c.requires.header c.write_page.result c.write_page.ensures.added c.write_page.ensures.kept in
     header_kept store s t c.args.page.now c.requires.over.attached c.requires.header c.requires.over.pages c.told-page c.write_page.ensures.only
-    (subst (λ x. WhereHonest t x.unit (HasPages x.pages)) same c.write_page.ensures.pages)
+    (subst (λ x. WhereHonest t x.unit (HoldsPages x.pages)) same c.write_page.ensures.pages)
     (either c.write_page.result c.write_page.ensures.written c.write_page.ensures.failed)
 
 pub returns : goal.returns

@@ -1,13 +1,13 @@
 use Rattle.std.proofs.Common.{rules, List, length, Result, Ok, Err, OnOk, OnErr, ℕ, inr, arith}
 use Rattle.page_store.specs.DeviceFile.{DeviceFile, content, overlay}
-use Rattle.page_store.specs.Calls.{Written, WriteFails}
+use Rattle.page_store.specs.Calls.{WrittenAt, WriteFails}
 use Rattle.page_store.specs.ShelfState.{unit_file}
 use Rattle.page_store.proofs.TornLemmas.{part_torn}
 use Rattle.page_store.proofs.fuse_shelf.FuseShelfShelf.write_at.Goals as goal
 
 -- a write, done or failed, counts as one that failed once the fuse fails it
 either : {T E T' E' : Type 0} (r : Result T E) (behind : Result T' E') (at : ℕ) (bytes : List ℕ) (f g : DeviceFile)
-    → OnOk r (Written at bytes f g) → OnErr r (WriteFails at (length bytes) f g) → OnErr behind (WriteFails at (length bytes) f g)
+    → OnOk r (WrittenAt at bytes f g) → OnErr r (WriteFails at (length bytes) f g) → OnErr behind (WriteFails at (length bytes) f g)
 either r (Ok v) at bytes f g done failed = tt
 either (Ok v) (Err e) at bytes f g done failed =
     inr (overlay (content f) at bytes, part_torn (content f) at bytes bytes (omega arith), done.is)

@@ -1,7 +1,7 @@
 use Rattle.std.proofs.Common.{rules, ◌≡◌, refl, Result, Ok, Err, OnErr, inl}
 use Rattle.page_store.specs.DeviceFile.{DeviceFile}
 use Rattle.page_store.specs.Calls.{SyncFails}
-use Rattle.page_store.specs.MemFiles.{file_of}
+use Rattle.page_store.specs.MemFiles.{device_file_of}
 use Rattle.page_store.proofs.MemFilesLemmas.{changed, not_none}
 use Rattle.page_store.proofs.memory_shelf.MemShelfShelf.sync.Goals as goal
 
@@ -19,7 +19,7 @@ returns c =
     let d = changed c.args.self.now.files.items _ c.in-Some.place f c.sync.new.self c.in-Some.ensures.found c.index_mut-file.ensures.value c.sync.ensures.name in
     record {
       done = rw (d.was, d.this) c.sync.ensures.done;
-      failed = rw (d.was, d.this) (unchanged c.sync.result (file_of f) (file_of c.sync.new.self) c.sync.ensures.failed);
+      failed = rw (d.was, d.this) (unchanged c.sync.result (device_file_of f) (device_file_of c.sync.new.self) c.sync.ensures.failed);
       only = record { names = refl; others = d.others; honest = refl };
       cause = search rules;
     }

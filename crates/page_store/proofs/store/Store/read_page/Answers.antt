@@ -2,16 +2,16 @@ use Rattle.std.proofs.Common.{rules, ◌≡◌, ◌∙◌, ◌*◌, ℕ, ap, Lis
 use Rattle.page_store.specs.DeviceFile.{DeviceFile, content}
 use Rattle.page_store.specs.Calls.{ReadsBytes}
 use Rattle.page_store.specs.ShelfState.{unit_file}
-use Rattle.page_store.specs.Pages.{page_of}
+use Rattle.page_store.specs.Pages.{page_of_bytes}
 use Rattle.page_store.proofs.store.Store.read_page.Goals as goal
 
 -- 4,096 bytes read at a page's place are the page
-page : (f : DeviceFile) (n : ℕ) (bytes : List ℕ) → length bytes ≡ 4096 → ReadsBytes f (n * 4096) bytes → bytes ≡ page_of (content f) n
+page : (f : DeviceFile) (n : ℕ) (bytes : List ℕ) → length bytes ≡ 4096 → ReadsBytes f (n * 4096) bytes → bytes ≡ page_of_bytes (content f) n
 page f n bytes long read =
     let same : n * 4096 ≡ 4096 * n = omega arith in
     read.is ∙ ap (λ (m : ℕ). take m (drop (n * 4096) (content f))) long ∙ ap (λ (m : ℕ). take 4096 (drop m (content f))) same
 
-either : {T E : Type 0} (r : Result T E) (P : Type 0) (f : DeviceFile) (n : ℕ) (bytes : List ℕ) → length bytes ≡ 4096 → OnOk r (P → ReadsBytes f (n * 4096) bytes) → OnOk r (P → bytes ≡ page_of (content f) n)
+either : {T E : Type 0} (r : Result T E) (P : Type 0) (f : DeviceFile) (n : ℕ) (bytes : List ℕ) → length bytes ≡ 4096 → OnOk r (P → ReadsBytes f (n * 4096) bytes) → OnOk r (P → bytes ≡ page_of_bytes (content f) n)
 either (Ok v) P f n bytes long ok = λ h. page f n bytes long (ok h)
 either (Err e) P f n bytes long ok = tt
 

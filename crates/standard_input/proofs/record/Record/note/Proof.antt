@@ -26,7 +26,7 @@ use denote.Triple.Spec.{Meets, triple_of}
 use denote.Triple.Table.{entered}
 use denote.Triple.Walked.{says, Stays, stay_ref, walk_of, AllGo, Goes-ref, Walks, ends_at, walked, walk_Meets}
 use Rattle.standard_input.specs.declared.record.Record.{Record}
-use Rattle.standard_input.specs.Reads.{asked_of}
+use Rattle.standard_input.specs.Reads.{read_of_numbers}
 use Rattle.standard_input.specs.contracts.record.Record as T
 use Rattle.standard_input.specs.contracts.record.Record.note.Key.{name as #it}
 use Rattle.standard_input.specs.contracts.record.Record.note as it
@@ -52,7 +52,7 @@ module _ {M : Type 1} {𝓤 : Ura M} (𝓛 : Logic 𝓤) (at_mem : Memory → SP
   x = (record { ref_ptr = (b, o); ghost_name = γ; now = h }, (k, (s, tt)))
 
   abbrev h' : Record
-  h' = record { marker = h.marker; reads = asked_of k.now s.now ∷ h.reads }
+  h' = record { marker = h.marker; reads = read_of_numbers k.now s.now ∷ h.reads }
 
   abbrev at : List Val × (List Val × (List Val × Unit {0}))
   at = (vptr b o ∷ [], (slice_val k.ref_ptr (length k.now) ∷ [], (slice_val s.ref_ptr (length s.now) ∷ [], tt)))
