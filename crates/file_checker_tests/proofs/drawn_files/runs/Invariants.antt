@@ -1,5 +1,0 @@
-use Rattle.indexed_file.specs.Clients.{IsOpenWith}
-use Rattle.file_checker_tests.proofs.drawn_files.runs.Given as goal
-
-abbrev pub invariant-loop : goal.invariant-loop
-invariant-loop g l = IsOpenWith (g.L.Library.shown.world l.library) 0 l.schema

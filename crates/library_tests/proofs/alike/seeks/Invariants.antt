@@ -1,5 +1,0 @@
-use Rattle.library_tests.specs.Alike.{AreAlike}
-use Rattle.library_tests.proofs.alike.seeks.Given as goal
-
-abbrev pub invariant-loop-relation : goal.invariant-loop-relation
-invariant-loop-relation g l = AreAlike (g.L.Library.shown.world l.library) (g.M.Library.shown.world l.other) l.u l.schema

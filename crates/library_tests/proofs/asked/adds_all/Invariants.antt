@@ -1,5 +1,0 @@
-use Rattle.indexed_file.specs.Clients.{IsOpenWith}
-use Rattle.library_tests.proofs.asked.adds_all.Given as goal
-
-abbrev pub invariant-loop-n : goal.invariant-loop-n
-invariant-loop-n g l = IsOpenWith (g.L.Library.shown.world l.library) 0 l.schema

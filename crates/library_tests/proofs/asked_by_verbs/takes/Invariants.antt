@@ -1,6 +1,0 @@
-use Rattle.shelf_library.specs.Units.{world_of}
-use Rattle.library_tests.specs.Ready.{IsReadyConnector}
-use Rattle.library_tests.proofs.asked_by_verbs.takes.Given as goal
-
-abbrev pub invariant-loop-i : goal.invariant-loop-i
-invariant-loop-i g l = IsReadyConnector l.connector (world_of (g.S.Shelf.state l.library.shelf) l.library.units.items)

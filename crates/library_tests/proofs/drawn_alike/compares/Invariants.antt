@@ -1,5 +1,0 @@
-use Rattle.library_tests.specs.Alike.{AreAlike}
-use Rattle.library_tests.proofs.drawn_alike.compares.Given as goal
-
-abbrev pub invariant-loop-k : goal.invariant-loop-k
-invariant-loop-k g l = AreAlike (g.L.Library.shown.world l.library) (g.M.Library.shown.world l.other) 1 l.schema

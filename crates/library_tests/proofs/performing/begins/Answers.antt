@@ -1,5 +1,0 @@
-use Rattle.library_tests.proofs.NameLemmas.{one_name}
-use Rattle.library_tests.proofs.performing.begins.Goals as goal
-
-pub attach-requires-2 : goal.attach-requires-2
-attach-requires-2 g c = record { distinct = one_name _ }

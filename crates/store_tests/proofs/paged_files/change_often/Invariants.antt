@@ -1,4 +1,0 @@
-use Rattle.store_tests.proofs.paged_files.change_often.Given as goal
-
-abbrev pub invariant-loop-n : goal.invariant-loop-n
-invariant-loop-n g l = g.P.Pages.shown.Writes l.initial.pages l.pages

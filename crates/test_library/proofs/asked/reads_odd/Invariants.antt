@@ -1,0 +1,8 @@
+use Rattle.indexed_file.specs.Clients.{IsOpenWith}
+use Rattle.test_library.proofs.asked.reads_odd.Given as goal
+
+abbrev pub invariant-loop-value : goal.invariant-loop-value
+invariant-loop-value g l = IsOpenWith (g.L.Library.shown.world l.library) 0 l.schema
+
+abbrev pub invariant-loop-n : goal.invariant-loop-n
+invariant-loop-n g l = IsOpenWith (g.L.Library.shown.world l.library) 0 l.schema

@@ -1,0 +1,5 @@
+use Rattle.indexed_file.specs.Clients.{IsOpenWith}
+use Rattle.test_library.proofs.reads.reads_unique.Given as goal
+
+abbrev pub invariant-loop-n : goal.invariant-loop-n
+invariant-loop-n g l = IsOpenWith (g.L.Library.shown.world l.library) 0 l.schema

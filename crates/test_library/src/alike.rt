@@ -1,0 +1,203 @@
+//! Calls that are given to two libraries, and the answers of both.
+
+ghost use Rattle.std.specs.Prelude.{OnOk};
+ghost use Rattle.indexed_file.specs.Clients.{IsNotOpen};
+ghost use Rattle.test_library.specs.Alike.{AreAlike};
+
+use indexed_file::Library;
+use io_state::{Fault, Key, Position, Relation};
+use record_layout::Schema;
+use std::process::Abort;
+use unit_calls::Told;
+
+/// Opens a new file in both.
+pub fn creates<L: Library, M: Library>(
+    library: &mut L,
+    other: &mut M,
+    u: usize,
+    schema: &Schema,
+) -> Result<(), Fault>
+    requires one { IsNotOpen (L.shown.world library.old) u }
+    requires another { IsNotOpen (M.shown.world other.old) u }
+    ensures { OnOk result (AreAlike (L.shown.world library.new) (M.shown.world other.new) u schema.now) }
+{
+    unit_calls::creates(library, u, schema)?;
+    unit_calls::creates(other, u, schema)
+}
+
+/// Shuts the file in both, and opens it again.
+pub fn reopens<L: Library, M: Library>(
+    rt: &impl Abort,
+    library: &mut L,
+    other: &mut M,
+    u: usize,
+    schema: &Schema,
+) -> Result<(), Fault>
+    requires { AreAlike (L.shown.world library.old) (M.shown.world other.old) u schema.now }
+    ensures { OnOk result (AreAlike (L.shown.world library.new) (M.shown.world other.new) u schema.now) }
+{
+    unit_calls::shuts(library, u, schema)?;
+    unit_calls::shuts(other, u, schema)?;
+    let told = unit_calls::opens(library, u, schema)?;
+    assert_eq!(rt; told, Told::Sound);
+    let expected = unit_calls::opens(other, u, schema)?;
+    assert_eq!(rt; expected, Told::Sound);
+    Ok(())
+}
+
+/// Adds a record to both.
+pub fn adds<L: Library, M: Library>(
+    rt: &impl Abort,
+    library: &mut L,
+    other: &mut M,
+    u: usize,
+    schema: &Schema,
+    record: &[u8],
+) -> Result<(), Fault>
+    requires { AreAlike (L.shown.world library.old) (M.shown.world other.old) u schema.now }
+    ensures { AreAlike (L.shown.world library.new) (M.shown.world other.new) u schema.now }
+{
+    let answer = unit_calls::adds(library, u, schema, record)?;
+    let expected = unit_calls::adds(other, u, schema, record)?;
+    assert_eq!(rt; answer, expected);
+    Ok(())
+}
+
+/// Replaces a record in both.
+pub fn replaces<L: Library, M: Library>(
+    rt: &impl Abort,
+    library: &mut L,
+    other: &mut M,
+    u: usize,
+    schema: &Schema,
+    record: &[u8],
+) -> Result<(), Fault>
+    requires { AreAlike (L.shown.world library.old) (M.shown.world other.old) u schema.now }
+    ensures { AreAlike (L.shown.world library.new) (M.shown.world other.new) u schema.now }
+{
+    let answer = unit_calls::replaces(library, u, schema, record)?;
+    let expected = unit_calls::replaces(other, u, schema, record)?;
+    assert_eq!(rt; answer, expected);
+    Ok(())
+}
+
+/// Removes a record from both.
+pub fn removes<L: Library, M: Library>(
+    rt: &impl Abort,
+    library: &mut L,
+    other: &mut M,
+    u: usize,
+    schema: &Schema,
+    prime: &[u8],
+) -> Result<(), Fault>
+    requires { AreAlike (L.shown.world library.old) (M.shown.world other.old) u schema.now }
+    ensures { AreAlike (L.shown.world library.new) (M.shown.world other.new) u schema.now }
+{
+    let answer = unit_calls::removes(library, u, schema, prime)?;
+    let expected = unit_calls::removes(other, u, schema, prime)?;
+    assert_eq!(rt; answer, expected);
+    Ok(())
+}
+
+/// Reads a record by a value in both.
+pub fn finds<L: Library, M: Library>(
+    rt: &impl Abort,
+    library: &mut L,
+    other: &mut M,
+    u: usize,
+    schema: &Schema,
+    k: u8,
+    value: &[u8],
+) -> Result<(), Fault>
+    requires { AreAlike (L.shown.world library.old) (M.shown.world other.old) u schema.now }
+    ensures { AreAlike (L.shown.world library.new) (M.shown.world other.new) u schema.now }
+{
+    let answer = unit_calls::finds(library, u, schema, k, value)?;
+    let expected = unit_calls::finds(other, u, schema, k, value)?;
+    assert!(rt; answer.is_same(&expected), "key {k}");
+    Ok(())
+}
+
+/// Reads in both what comes next. It answers the position behind it.
+pub fn goes_on<L: Library, M: Library>(
+    rt: &impl Abort,
+    library: &mut L,
+    other: &mut M,
+    u: usize,
+    schema: &Schema,
+    k: u8,
+    position: &Position,
+) -> Result<Option<Position>, Fault>
+    requires { AreAlike (L.shown.world library.old) (M.shown.world other.old) u schema.now }
+    ensures { AreAlike (L.shown.world library.new) (M.shown.world other.new) u schema.now }
+{
+    let answer = unit_calls::goes_on(library, u, schema, k, position)?;
+    let expected = unit_calls::goes_on(other, u, schema, k, position)?;
+    assert!(rt; answer.is_same(&expected), "key {k}");
+    Ok(answer.behind())
+}
+
+/// Reads in both all records by a key. It answers how many.
+pub fn reads_all<L: Library, M: Library>(
+    rt: &impl Abort,
+    library: &mut L,
+    other: &mut M,
+    u: usize,
+    schema: &Schema,
+    k: u8,
+) -> Result<u32, Fault>
+    requires { AreAlike (L.shown.world library.old) (M.shown.world other.old) u schema.now }
+    ensures { AreAlike (L.shown.world library.new) (M.shown.world other.new) u schema.now }
+{
+    let mut position = Position::From(Key::new());
+    for count in 0..10_000u32 {
+        match goes_on(rt, library, other, u, schema, k, &position)? {
+            Some(behind) => position = behind,
+            None => return Ok(count),
+        }
+    }
+    Ok(10_000)
+}
+
+/// The first value in both that begins so related to the operand, by each relation.
+pub fn seeks<L: Library, M: Library>(
+    rt: &impl Abort,
+    library: &mut L,
+    other: &mut M,
+    u: usize,
+    schema: &Schema,
+    k: u8,
+    operand: &[u8],
+) -> Result<(), Fault>
+    requires { AreAlike (L.shown.world library.old) (M.shown.world other.old) u schema.now }
+    ensures { AreAlike (L.shown.world library.new) (M.shown.world other.new) u schema.now }
+{
+    for relation in [Relation::Equal, Relation::Greater, Relation::NotLess] {
+        let answer = unit_calls::seeks(library, u, schema, k, operand, relation)?;
+        let expected = unit_calls::seeks(other, u, schema, k, operand, relation)?;
+        let value = answer.as_ref().map(|key| key.as_slice());
+        assert!(rt;
+            value == expected.as_ref().map(|key| key.as_slice()),
+            "key {k}"
+        );
+    }
+    Ok(())
+}
+
+/// The greatest prime value in both.
+pub fn tops<L: Library, M: Library>(
+    rt: &impl Abort,
+    library: &mut L,
+    other: &mut M,
+    u: usize,
+    schema: &Schema,
+) -> Result<(), Fault>
+    requires { AreAlike (L.shown.world library.old) (M.shown.world other.old) u schema.now }
+    ensures { AreAlike (L.shown.world library.new) (M.shown.world other.new) u schema.now }
+{
+    let answer = unit_calls::tops(library, u, schema)?;
+    let expected = unit_calls::tops(other, u, schema)?;
+    let value = answer.as_ref().map(|key| key.as_slice());
+    assert!(rt; value == expected.as_ref().map(|key| key.as_slice()));
+    Ok(())
+}

@@ -1,0 +1,134 @@
+//! The pages that verbs ask for, over a file of two thousand records with keys of 120 bytes.
+
+ghost use Rattle.test_library.specs.Ready.{IsReadyConnector};
+
+use crate::performing::{begins, performs};
+use indexed_file::Library;
+use io_state::{Access, Fault, FileStatement, OpenMode, Status};
+use page_store::{FuseShelf, Kind, MemShelf, Shelf};
+use shelf_library::ShelfLibrary;
+use std::alloc::Global;
+use std::process::Abort;
+use std::test::Fail;
+use unit_calls::programs::{Step, changed, in_sequence, read_by_key, written};
+use verbs::Connector;
+
+/// Performs a step, and answers the pages that its statements asked for.
+fn takes<S: Shelf + Drop>(
+    rt: &impl Abort,
+    connector: &mut Connector,
+    library: &mut ShelfLibrary<S>,
+    step: Step,
+) -> u64
+    requires { IsReadyConnector connector.old (⟦<ShelfLibrary<S> as Library>⟧.shown.world library.old) }
+    ensures { IsReadyConnector connector.new (⟦<ShelfLibrary<S> as Library>⟧.shown.world library.new) }
+{
+    let mut pages = 0u64;
+    for i in 0..step.count {
+        let mut area = step.area(i);
+        let (status, asked) = performs(
+            rt,
+            connector,
+            library,
+            &step.statement,
+            step.reference,
+            &mut area,
+        );
+        assert!(rt;
+            step.statuses.contains(&status),
+            "{:?} {i}: {status:?}",
+            step.statement
+        );
+        pages = pages.saturating_add(asked);
+    }
+    pages
+}
+
+/// Runs a program, and answers the pages that its statements asked for, and three for each OPEN.
+fn runs<S: Shelf + Drop>(
+    rt: &impl Abort,
+    connector: &mut Connector,
+    library: &mut ShelfLibrary<S>,
+    program: &[Step],
+) -> u64
+    requires { IsReadyConnector connector.old (⟦<ShelfLibrary<S> as Library>⟧.shown.world library.old) }
+    ensures { IsReadyConnector connector.new (⟦<ShelfLibrary<S> as Library>⟧.shown.world library.new) }
+{
+    let mut pages = 0u64;
+    for step in program {
+        if matches!(step.statement, FileStatement::Open(_)) {
+            pages = pages.saturating_add(3);
+        }
+        pages = pages.saturating_add(takes(rt, connector, library, *step));
+    }
+    pages
+}
+
+/// Runs programs over a new file with so many frames: its shelf reads no more pages than are asked for, and three for each OPEN. It answers the shelf.
+fn reads_no_more(
+    rt: &impl Abort,
+    alloc: Global,
+    frames: usize,
+) -> Result<FuseShelf<MemShelf>, Fault> {
+    let fuse = FuseShelf::new(MemShelf::new(alloc), Kind::Reads, 0, false, false);
+    let (mut connector, mut library) = begins(alloc, fuse, frames, Access::Dynamic)?;
+    let mut pages = runs(rt, &mut connector, &mut library, written().as_slice());
+    let more = runs(rt, &mut connector, &mut library, read_by_key().as_slice());
+    pages = pages.saturating_add(more);
+    let more = runs(rt, &mut connector, &mut library, changed().as_slice());
+    pages = pages.saturating_add(more);
+    let shelf = library.into_shelf();
+    let (mut connector, mut library) = begins(alloc, shelf, frames, Access::Sequential)?;
+    let more = runs(rt, &mut connector, &mut library, in_sequence().as_slice());
+    pages = pages.saturating_add(more);
+    let shelf = library.into_shelf();
+    let reads = shelf.calls(Kind::Reads);
+    assert!(rt; reads <= pages, "{reads} reads, {pages} pages");
+    Ok(shelf)
+}
+
+/// OPEN INPUT and one READ by the prime key make few reads, by the height of its tree: the READ asks for a page of each level, and for the record's. A WRITE is refused
+/// then, and asks for no page.
+fn reads_one(
+    rt: &impl Abort,
+    alloc: Global,
+    shelf: FuseShelf<MemShelf>,
+    frames: usize,
+) -> Result<(), Fault> {
+    let before = shelf.calls(Kind::Reads);
+    let (mut connector, mut library) = begins(alloc, shelf, frames, Access::Random)?;
+    let mut area = [0; 240];
+    area[116..120].copy_from_slice(&10_199u32.to_be_bytes());
+    let open = FileStatement::Open(OpenMode::Input);
+    let (opened, _) = performs(rt, &mut connector, &mut library, &open, 0, &mut area);
+    assert_eq!(rt; opened, Status::Successful);
+    let read = FileStatement::Read { key: 0 };
+    let (found, to_read) = performs(rt, &mut connector, &mut library, &read, 0, &mut area);
+    assert_eq!(rt; found, Status::Successful);
+    let write = FileStatement::Write;
+    let (refused, asked) = performs(rt, &mut connector, &mut library, &write, 0, &mut area);
+    assert_eq!(rt; refused, Status::NotOpenForWriting);
+    assert_eq!(rt; asked, 0);
+    let height = u64::from(library.height(0, 0));
+    assert_eq!(rt; height, 3);
+    assert_eq!(rt; to_read, height + 1);
+    let reads = library
+        .into_shelf()
+        .calls(Kind::Reads)
+        .saturating_sub(before);
+    assert!(rt; reads <= 5 * height + 4, "{reads} reads, height {height}");
+    Ok(())
+}
+
+// Each page that is asked for, and is not the one before, is read off the shelf.
+#[test]
+fn verbs_ask_for_few_pages_with_one_frame(rt: HostRuntime) -> Result<(), Fail> {
+    let shelf = reads_no_more(&rt, rt.alloc(), 1)?;
+    Ok(reads_one(&rt, rt.alloc(), shelf, 1)?)
+}
+
+#[test]
+fn verbs_ask_for_few_pages_with_64_frames(rt: HostRuntime) -> Result<(), Fail> {
+    let shelf = reads_no_more(&rt, rt.alloc(), 64)?;
+    Ok(reads_one(&rt, rt.alloc(), shelf, 64)?)
+}
