@@ -8,7 +8,8 @@ use crate::arguments::number;
 use crate::measured_file::{file_name, shelf_over};
 use crate::timing::nanoseconds_since;
 use io_state::Fault;
-use page_store::{MemShelf, Shelf, Store};
+use memory_shelf::MemShelf;
+use page_store::{Shelf, Store};
 use std::env::Args;
 use std::time::Instant;
 

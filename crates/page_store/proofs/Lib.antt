@@ -1,12 +1,8 @@
 pub mod FileLemmas
 pub mod GateLemmas
-pub mod CrashLemmas
-pub mod MemLemmas
 pub mod FailedLemmas
-pub mod CrashImageLemmas
 pub mod GateImageLemmas
 pub mod ImageLemmas
-pub mod MemFilesLemmas
 pub mod MomentLemmas
 pub mod OpenLemmas
 pub mod PageLemmas

@@ -7,12 +7,5 @@ pub mod Gate
 pub mod Pages
 pub mod ShelfCalls
 pub mod StoreCalls
-pub mod Events
-pub mod MemLaws
-pub mod CrashImages
-pub mod MemFiles
-pub mod MemShelves
-pub mod Fuses
-pub mod FusedCalls
 pub mod QuietFacts
 pub mod PageFacts

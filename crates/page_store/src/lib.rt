@@ -2,8 +2,7 @@
 //! and the gate.
 //!
 //! A `Shelf` has a file for each name: what reads give, and the log of what was asked of it. What a
-//! crash may leave of a file, now and at each moment of a call, follows from its log. `MemShelf`
-//! keeps files in memory, with every crash image; `FuseShelf` fails calls on purpose. `Store` reads
+//! crash may leave of a file, now and at each moment of a call, follows from its log. `Store` reads
 //! and writes pages: a page read is the page last written, and only the gate protocol writes byte
 //! 0, so that a crash leaves the old file, the new one, or one that is refused.
 //!
@@ -11,22 +10,12 @@
 //! `specs/Images.antt` first, then `Shelf`, then `Store`.
 #![tactic(auto)]
 
-mod crash;
-mod event;
-mod fuse;
-mod fuse_shelf;
 mod gate;
-mod memory_file;
-mod memory_shelf;
 mod pages;
 mod quiet;
 mod shelf;
 mod store;
 
-pub use crash::Image;
-pub use fuse::Kind;
-pub use fuse_shelf::FuseShelf;
-pub use memory_shelf::MemShelf;
 pub use pages::page_laws;
 pub use quiet::quiet_laws;
 pub use shelf::Shelf;

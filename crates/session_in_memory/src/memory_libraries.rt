@@ -1,6 +1,6 @@
 //! Libraries over shelves in memory.
 
-use page_store::MemShelf;
+use memory_shelf::MemShelf;
 use serve::Libraries;
 use shelf_library::ShelfLibrary;
 use std::alloc::Global;

@@ -1,13 +1,14 @@
 //! Files of numbered records, and their bytes.
 
-ghost use Rattle.page_store.specs.MemShelves.{mem_state_of};
+ghost use Rattle.memory_shelf.specs.MemShelves.{mem_state_of};
 ghost use Rattle.shelf_file.specs.Standing.{IsReady};
 
 use crate::checks::{assert_equal_for, assert_that};
 use byteorder::{BigEndian, ByteOrder};
 use indexed_file::Added;
 use io_state::{FileName, Key};
-use page_store::{MemShelf, Shelf};
+use memory_shelf::MemShelf;
+use page_store::Shelf;
 use record_layout::{KeyPart, Schema};
 use shelf_file::ShelfFile;
 use std::alloc::Global;

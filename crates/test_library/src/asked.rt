@@ -5,7 +5,7 @@ ghost use Rattle.indexed_file.specs.Clients.{IsOpenWith, IsNotOpen};
 use crate::bounds::asked_at_most;
 use indexed_file::{Added, Library, Replaced};
 use io_state::{Fault, Key, Position, Relation};
-use page_store::{FuseShelf, Kind, MemShelf};
+use memory_shelf::{FuseShelf, Kind, MemShelf};
 use record_layout::Schema;
 use std::alloc::Global;
 use std::process::Abort;

@@ -9,7 +9,7 @@ use crate::alike::{
 use indexed_file::Library;
 use io_state::{Fault, Position};
 use list_library::ListLibrary;
-use page_store::MemShelf;
+use memory_shelf::MemShelf;
 use record_layout::{KeyPart, Schema};
 use std::process::Abort;
 use std::test::Fail;

@@ -6,7 +6,7 @@ use crate::alike::{adds, creates, finds, reads_all, removes, reopens, replaces, 
 use indexed_file::Library;
 use io_state::Fault;
 use list_library::ListLibrary;
-use page_store::MemShelf;
+use memory_shelf::MemShelf;
 use record_layout::{KeyPart, Schema};
 use std::alloc::Global;
 use std::process::Abort;

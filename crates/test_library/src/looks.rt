@@ -5,7 +5,7 @@ ghost use Rattle.indexed_file.specs.Clients.{IsOpenWith, IsNotOpen};
 
 use indexed_file::Library;
 use io_state::Fault;
-use page_store::MemShelf;
+use memory_shelf::MemShelf;
 use record_layout::Schema;
 use std::alloc::Global;
 use std::test::Fail;

@@ -4,7 +4,7 @@ ghost use Rattle.indexed_file.specs.Clients.{IsOpenWith};
 
 use indexed_file::{Added, Library};
 use io_state::Fault;
-use page_store::MemShelf;
+use memory_shelf::MemShelf;
 use record_layout::Schema;
 use std::process::Abort;
 use std::test::Fail;

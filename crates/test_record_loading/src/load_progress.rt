@@ -2,7 +2,7 @@
 
 use crate::checks::{assert_equal, assert_that};
 use crate::loading::loads_with;
-use page_store::MemShelf;
+use memory_shelf::MemShelf;
 use progress::{Progress, ProgressReader, Silent, TerminalLine};
 use record_loading::Load;
 use std::alloc::Global;

@@ -1,7 +1,8 @@
 //! Texts that are loaded into a file on a shelf, and its records listed.
 
 use io_state::{Fault, FileName, Key};
-use page_store::{MemShelf, Shelf};
+use memory_shelf::MemShelf;
+use page_store::Shelf;
 use progress::{Progress, Silent};
 use record_forms::Form;
 use record_layout::Schema;

@@ -2,7 +2,7 @@
 
 use crate::checks::{assert_equal, assert_equal_for};
 use crate::loading::{lists, loads};
-use page_store::MemShelf;
+use memory_shelf::MemShelf;
 use record_loading::Load;
 use std::alloc::Global;
 use std::process::Abort;

@@ -3,7 +3,7 @@
 use crate::failing::{Failing, fails_in_turn};
 use crate::left::{Crash, reads_as};
 use crate::running::{run_over, shelf_before};
-use page_store::{FuseShelf, Image, Kind, MemShelf};
+use memory_shelf::{FuseShelf, Image, Kind, MemShelf};
 use std::alloc::Global;
 use std::process::Abort;
 use std::test::Fail;

@@ -4,7 +4,7 @@ use crate::answers::Fault;
 use crate::ends::tells;
 use crate::left::{Crash, is_allowed};
 use crate::running::run_to_end;
-use page_store::{FuseShelf, Image, Kind, MemShelf};
+use memory_shelf::{FuseShelf, Image, Kind, MemShelf};
 use std::alloc::Global;
 use std::process::Abort;
 use std::test::Fail;

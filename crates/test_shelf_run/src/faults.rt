@@ -3,7 +3,7 @@
 use crate::failing::{Failing, fails_in_turn};
 use crate::left::Crash;
 use crate::running::shelf_before;
-use page_store::{Image, Kind};
+use memory_shelf::{Image, Kind};
 use std::alloc::Global;
 use std::process::Abort;
 use std::test::Fail;

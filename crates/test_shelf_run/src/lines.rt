@@ -3,7 +3,7 @@
 use crate::ends::tells;
 use crate::running::{run_to_end, run_within, shelf_before};
 use deck_runner::{RunEnd, RunFault};
-use page_store::{FuseShelf, Image, Kind, MemShelf};
+use memory_shelf::{FuseShelf, Image, Kind, MemShelf};
 use std::alloc::Global;
 use std::test::Fail;
 use unit_calls::NarrowShelf;

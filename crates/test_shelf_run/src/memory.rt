@@ -7,7 +7,7 @@ use crate::left::{Crash, is_allowed, reads_as};
 use crate::running::{run_over, run_over_lists, run_to_end, shelf_before};
 use deck_runner::{RunEnd, RunFault};
 use list_library::ListLibrary;
-use page_store::{Image, MemShelf};
+use memory_shelf::{Image, MemShelf};
 use std::alloc::Global;
 use std::process::Abort;
 use std::test::Fail;

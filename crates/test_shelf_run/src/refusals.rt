@@ -2,7 +2,7 @@
 
 use crate::left::reads_as;
 use crate::running::{run_over, shelf_before};
-use page_store::{FuseShelf, Image, Kind};
+use memory_shelf::{FuseShelf, Image, Kind};
 use std::test::Fail;
 use worked_decks::{
     A_CLASH, CUSTOMERS, READ_THAT_FAILS, REFUSED, WRITE_THAT_FAILS, deck_of, transcript_of,

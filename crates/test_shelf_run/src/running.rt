@@ -4,7 +4,8 @@ ghost use Rattle.std.specs.Prelude.{◌≤◌};
 
 use deck_runner::{RunEnd, RunFault, run_deck};
 use list_library::ListLibrary;
-use page_store::{MemShelf, Shelf};
+use memory_shelf::MemShelf;
+use page_store::Shelf;
 use shelf_run::run_on_shelf;
 use std::alloc::Global;
 use std::num::NonZeroUsize;

@@ -2,7 +2,7 @@
 
 use crate::running::{run_over, run_over_lists};
 use list_library::ListLibrary;
-use page_store::MemShelf;
+use memory_shelf::MemShelf;
 use std::alloc::Global;
 use std::test::Fail;
 use worked_decks::{

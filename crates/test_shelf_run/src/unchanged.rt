@@ -1,7 +1,7 @@
 //! Decks that change nothing.
 
 use crate::running::{run_over, shelf_before};
-use page_store::{FuseShelf, Image, Kind};
+use memory_shelf::{FuseShelf, Image, Kind};
 use std::test::Fail;
 use worked_decks::{
     A_CLASH, DUPLICATES_IN_ORDER, REFUSED_BY_KEY, REFUSED_IN_ORDER, deck_of, transcript_of,

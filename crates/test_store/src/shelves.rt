@@ -1,10 +1,11 @@
 //! A shelf in memory on which no file lies yet.
 ghost use Rattle.std.specs.Prelude.{◌≡◌, None, IfOk};
 ghost use Rattle.page_store.specs.ShelfState.{HasUnit, unit_file};
-ghost use Rattle.page_store.specs.MemShelves.{mem_state_of};
+ghost use Rattle.memory_shelf.specs.MemShelves.{mem_state_of};
 
 use io_state::{Fault, FileName};
-use page_store::{MemShelf, Shelf};
+use memory_shelf::MemShelf;
+use page_store::Shelf;
 use std::alloc::Global;
 
 pub fn name() -> FileName {

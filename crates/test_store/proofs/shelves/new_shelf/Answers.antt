@@ -1,7 +1,7 @@
 use Rattle.std.proofs.Common.{◌∙◌, ℕ, List, ap}
 use Rattle.page_store.specs.DeviceFile.{DeviceFile}
 use Rattle.page_store.specs.ShelfState.{ShelfState, unit_name}
-use Rattle.page_store.specs.MemShelves.{mem_state_of}
+use Rattle.memory_shelf.specs.MemShelves.{mem_state_of}
 use Rattle.test_store.proofs.shelves.new_shelf.Goals as goal
 
 pub returns-clause-absent : goal.returns-clause-absent

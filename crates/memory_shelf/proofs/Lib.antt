@@ -1,0 +1,4 @@
+pub mod CrashLemmas
+pub mod MemLemmas
+pub mod CrashImageLemmas
+pub mod MemFilesLemmas

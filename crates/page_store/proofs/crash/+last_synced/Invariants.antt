@@ -1,5 +1,0 @@
-use Rattle.std.proofs.Common.{length}
-use Rattle.page_store.proofs.crash.+last_synced.Given as goal
-
-abbrev pub decreases-last_synced : goal.decreases-last_synced
-decreases-last_synced l = length l.log.now
