@@ -82,8 +82,8 @@ fn is_touched(log: &[Event], byte: usize) -> bool
     }
 }
 
-fn is_within(at: usize, n: usize, byte: usize) -> bool
-    ensures { result ≡ (leb at byte && ltb byte (at + n)) }
+fn is_within(at: usize, length: usize, byte: usize) -> bool
+    ensures { result ≡ (leb at byte && ltb byte (at + length)) }
 {
-    at <= byte && byte - at < n
+    at <= byte && byte - at < length
 }

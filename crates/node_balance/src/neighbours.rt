@@ -39,23 +39,33 @@ fn join_leaves(left: &mut [u8; PAGE_SIZE], right: &[u8; PAGE_SIZE], shape: Shape
     LeafViewMut { page: left, shape }.merge_from(right);
 }
 
-/// The first `n` entries of the leaf to the right go over to the left one.
+/// The first `moved` entries of the leaf to the right go over to the left one.
 #[tactic(auto, using(crate::proofs::BalanceLemmas::lengths))]
-fn fill_left_leaf(left: &mut [u8; PAGE_SIZE], right: &mut [u8; PAGE_SIZE], shape: Shape, n: usize)
-    requires { CanTake shape n left.old right.old }
-    ensures { FillsLeftLeaf shape n left.old right.old left.new right.new }
+fn fill_left_leaf(
+    left: &mut [u8; PAGE_SIZE],
+    right: &mut [u8; PAGE_SIZE],
+    shape: Shape,
+    moved: usize,
+)
+    requires { CanTake shape moved left.old right.old }
+    ensures { FillsLeftLeaf shape moved left.old right.old left.new right.new }
 {
-    for _ in 0..n {
+    for _ in 0..moved {
         LeafViewMut { page: left, shape }.borrow_from_right(right);
     }
 }
 
-/// The last `n` entries of the leaf to the left go over to the right one.
-fn fill_right_leaf(left: &mut [u8; PAGE_SIZE], right: &mut [u8; PAGE_SIZE], shape: Shape, n: usize)
-    requires { CanTake shape n right.old left.old }
-    ensures { FillsRightLeaf shape n left.old right.old left.new right.new }
+/// The last `moved` entries of the leaf to the left go over to the right one.
+fn fill_right_leaf(
+    left: &mut [u8; PAGE_SIZE],
+    right: &mut [u8; PAGE_SIZE],
+    shape: Shape,
+    moved: usize,
+)
+    requires { CanTake shape moved right.old left.old }
+    ensures { FillsRightLeaf shape moved left.old right.old left.new right.new }
 {
-    for _ in 0..n {
+    for _ in 0..moved {
         LeafViewMut { page: right, shape }.borrow_from_left(left);
     }
 }

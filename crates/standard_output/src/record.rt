@@ -32,10 +32,10 @@ impl Record {
     {}
 
     /// Bytes were to be written, and so many were taken.
-    pub(crate) fn taken(&mut self, bytes: &[u8], n: usize)
-        ensures { self.new.writes ≡ record { bytes = bytes.now; taken = Some n } ∷ self.old.writes }
+    pub(crate) fn taken(&mut self, bytes: &[u8], count: usize)
+        ensures { self.new.writes ≡ record { bytes = bytes.now; taken = Some count } ∷ self.old.writes }
     {
-        self.note(&[n as u64], bytes);
+        self.note(&[count as u64], bytes);
     }
 
     /// Bytes were to be written, and none was taken.
