@@ -3,13 +3,12 @@ ghost use Rattle.std.specs.Prelude.{◌≡◌, ◌≤◌, List, ℕ, length, IfO
 ghost use Rattle.deck_walk.specs.Place.{IsPlaceInDeck};
 ghost use Rattle.deck_diagnosis.specs.Told.{TellsOf};
 
-use crate::keys::bad_layout;
-use crate::not_allowed::not_allowed;
 use arrayvec::ArrayVec;
 use deck_findings::{Finding, Hint, Reason, Shown, faulty_word, first_mistake, past_limit};
 use deck_names::{Operand, Outline, operands, outline_of, stands_twice, unknown_name};
 use deck_walk::{Place, Step, Word, cut, place_of, walk_along};
 use deck_words::DeckFault;
+use layout_findings::{bad_layout, not_allowed};
 use std::alloc::{AllocError, Global};
 use std::fmt;
 

@@ -10,8 +10,5 @@
 #![tactic(auto)]
 
 mod diagnosis;
-mod keys;
-mod layout;
-mod not_allowed;
 
 pub use diagnosis::{Diagnosis, diagnose};
