@@ -1,6 +1,6 @@
 -- What is told of a deck. All of this is ours.
 use Rattle.std.specs.Prelude.{ℕ, List}
-use Rattle.deck_walk.specs.Place.{StandsInDeck}
+use Rattle.deck_diagnosis.specs.Place.{StandsInDeck}
 use Rattle.deck_diagnosis.specs.declared.diagnosis.Diagnosis.{Diagnosis}
 
 -- the line is one of the deck, and the word stands there

@@ -1,12 +1,13 @@
 //! Why a deck is refused, in words.
 ghost use Rattle.std.specs.Prelude.{◌≡◌, ◌≤◌, List, ℕ, length, IfOk};
-ghost use Rattle.deck_walk.specs.Place.{IsPlaceInDeck};
+ghost use Rattle.deck_diagnosis.specs.Place.{IsPlaceInDeck};
 ghost use Rattle.deck_diagnosis.specs.Told.{TellsOf};
 
+use crate::place::{Place, place_of};
 use arrayvec::ArrayVec;
 use deck_findings::{Finding, Hint, Reason, Shown, faulty_word, first_mistake, past_limit};
 use deck_names::{Operand, Outline, operands, outline_of, stands_twice, unknown_name};
-use deck_walk::{Place, Step, Word, cut, place_of, walk_along};
+use deck_walk::{Step, Word, cut, walk_along};
 use deck_words::DeckFault;
 use layout_findings::{bad_layout, not_allowed};
 use std::alloc::{AllocError, Global};

@@ -6,9 +6,10 @@
 //! told, and what is said of it, is a heuristic, shown by cases. It decides nothing: that a deck is
 //! refused, and with which code, is for `deck_reader` to say.
 //!
-//! Read `specs/Told.antt`, then `diagnosis`.
+//! Read `specs/Told.antt` and `specs/Place.antt`, then `diagnosis`.
 #![tactic(auto)]
 
 mod diagnosis;
+mod place;
 
 pub use diagnosis::{Diagnosis, diagnose};

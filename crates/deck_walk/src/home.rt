@@ -1,7 +1,7 @@
 //! Where a phrase may begin.
 
 /// A place between two phrases of a deck.
-#[derive(Clone, Copy, Debug, PartialEq, Eq)]
+#[derive(Clone, Copy, PartialEq, Eq)]
 pub enum Home {
     Start,
     Environment,

@@ -2,9 +2,8 @@
 //! walks along the grammar up to the first word that does not fit. It decides nothing: whether
 //! bytes are a deck is for the reader of decks to say.
 //!
-//! What is proved: each place that `place_of` tells is a place of the deck, at the line that it
-//! tells. Which words there are, how far a walk goes and what was expected there is a heuristic,
-//! shown by cases. Nothing else relies on it.
+//! Which words there are, how far a walk goes and what was expected there is a heuristic, shown by
+//! cases; nothing is proved of it but that it is safe. Nothing else relies on it.
 //!
 //! Read `grammar`, which has a row for each phrase, then `walker`.
 #![tactic(auto)]
@@ -13,7 +12,6 @@ mod cutting;
 mod grammar;
 mod home;
 mod part;
-mod place;
 mod role;
 mod walker;
 mod word;
@@ -21,7 +19,6 @@ mod word;
 pub use cutting::cut;
 pub use home::Home;
 pub use part::{Part, Phrase, Want};
-pub use place::{Place, place_of};
 pub use role::Role;
 pub use walker::{Mistake, Step, Walk, Walker, walk_along};
 pub use word::{Kind, Word};

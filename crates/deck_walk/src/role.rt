@@ -1,7 +1,7 @@
 //! What a word is there for.
 
 /// What a word is there for, in the phrase in which it stands.
-#[derive(Clone, Copy, Debug, PartialEq, Eq)]
+#[derive(Clone, Copy, PartialEq, Eq)]
 pub enum Role {
     /// Nothing that is looked at.
     Other,

@@ -3,7 +3,7 @@
 use crate::grammar::is_reserved;
 
 /// What a word is, as far as its bytes say.
-#[derive(Clone, Copy, Debug, PartialEq, Eq)]
+#[derive(Clone, Copy, PartialEq, Eq)]
 pub enum Kind {
     /// Letters, digits, hyphens and parentheses, at most 30.
     Plain,

@@ -1,6 +1,6 @@
 //! A place of a deck.
 ghost use Rattle.std.specs.Prelude.{◌≡◌, ◌≤◌, ◌++◌, length};
-ghost use Rattle.deck_walk.specs.Place.{line_feeds, IsPlaceInDeck};
+ghost use Rattle.deck_diagnosis.specs.Place.{line_feeds, IsPlaceInDeck};
 
 /// A line of a deck, from 1, and bytes of the deck that begin there.
 #[derive(Clone, Copy)]

@@ -1,7 +1,7 @@
 -- A place of a deck: a line, and bytes that begin there.
 use Rattle.std.specs.Prelude.{◌≡◌, ◌+◌, ◌==◌, ℕ, List, ◌++◌}
 use Rattle.std.specs.List.{count_by}
-use Rattle.deck_walk.specs.declared.place.Place.{Place}
+use Rattle.deck_diagnosis.specs.declared.place.Place.{Place}
 
 -- how many line feeds there are
 abbrev pub line_feeds : List ℕ → ℕ
