@@ -1,6 +1,6 @@
 -- Where a cursor is in its tree.
 use Rattle.std.specs.Prelude.{◌≡◌, ℕ, ◌+◌, ◌^◌, ◌-◌, ◌<◌, ◌≤◌, Bool, false, List, take, Option, Some, None}
-use Rattle.std.specs.Prelude.{IsSome, Result, IfOk, OnErr, option_map}
+use Rattle.std.specs.Prelude.{IsSome, Result, Ok, Err, IfOk, OnErr, option_map}
 use Rattle.std.specs.Option.{option_map_or}
 use Rattle.arrayvec.specs.ArrayVec.{ArrayVec}
 use Rattle.io_state.specs.declared.fault.Fault.{Fault}
@@ -12,6 +12,7 @@ use Rattle.bplus_tree.specs.declared.cursor.Cursor.{Cursor}
 use Rattle.tree_search.specs.declared.spot.Spot.{Spot}
 use Rattle.pages.specs.Answer.{IsAnswer}
 use Rattle.tree_search.specs.Calls.{first_after}
+use Rattle.tree_search.specs.Search.{filled}
 use Rattle.tree_search.specs.LookUps.{WhenHonest}
 use Rattle.tree_search.specs.Spot.{StandsAt, FoundAt, begins_with}
 use Rattle.bplus_tree.specs.Standing.{TreeStands}
@@ -92,6 +93,11 @@ abbrev pub key_after : ℕ → List ℕ → Option (ArrayVec ℕ) → List ℕ
 key_after width key None = key
 key_after width key (Some e) = take width e.items
 
+-- what a call answers that lends an entry to be filled: that entry, or none
+abbrev pub lent : ArrayVec ℕ → Result Bool Fault → Result (Option (ArrayVec ℕ)) Fault
+lent entry (Ok found) = Ok (filled entry found)
+lent entry (Err fault) = Err fault
+
 -- What a step of a cursor to the next entry leaves: at a fault the cursor is as it was.
 pub record StepsOn {S : Type 0} (shown : ShownPages S) (most : ℕ) (tree : Tree) (was is : Cursor)
     (old new : S) (result : Result (Option (ArrayVec ℕ)) Fault) : Type 0 where
@@ -100,3 +106,9 @@ pub record StepsOn {S : Type 0} (shown : ShownPages S) (most : ℕ) (tree : Tree
   pub near : HasNeighbour was tree → (shown.state new).asked ≤ (shown.state old).asked + 1
   pub reads : ReadsPages shown most old new result
   pub err : OnErr result (is ≡ was)
+
+-- the same of a step to another leaf: only where the next entry is not in the same leaf
+abbrev pub StepsFurther : {S : Type 0} → ShownPages S → ℕ → Tree → (was is : Cursor) → (old new : S)
+    → Result (Option (ArrayVec ℕ)) Fault → Type 0
+StepsFurther shown most tree was is old new result =
+    (HasNeighbour was tree → ⊥) → StepsOn shown most tree was is old new result

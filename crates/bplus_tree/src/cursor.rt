@@ -40,31 +40,26 @@ impl Tree {
 
 impl Cursor {
     ghost use Rattle.bplus_tree.specs.LookUps.{LooksAlong};
-    ghost use Rattle.bplus_tree.specs.Cursor.{HasNeighbour, CanStep, LooksBehind, StepsOn, TellsNext};
+    ghost use Rattle.bplus_tree.specs.Cursor.{HasNeighbour, CanStep, LooksBehind, StepsOn};
+    ghost use Rattle.bplus_tree.specs.Cursor.{StepsFurther, TellsNext, lent};
 
-    /// The next entry: the first one whose key is above that of the entry given last. Where there
-    /// is none the cursor stays where it is, and at a fault. It asks one page mostly, and never
-    /// more than twice the height.
-    pub fn next<P: Pages>(&mut self, tree: &Tree, pages: &mut P) -> Result<Option<Entry>, Fault>
+    /// The next entry goes to `entry`: the first one whose key is above that of the entry given
+    /// last. The answer is whether there is one. Where there is none the cursor stays where it is,
+    /// and at a fault. It asks one page mostly, and never more than twice the height.
+    pub fn next<P: Pages>(
+        &mut self,
+        tree: &Tree,
+        pages: &mut P,
+        entry: &mut Entry,
+    ) -> Result<bool, Fault>
         requires ready { P.shown.IsReady pages.old }
         ensures { StepsOn P.shown (2 * (tree.now.levels + 1)) tree.now self.old self.new pages.old
-            pages.new result }
+            pages.new (lent entry.new result) }
     {
         if self.has_neighbour(tree) {
-            return self.step(tree, pages);
+            return self.step(tree, pages, entry);
         }
-        let mut spot = Spot::nowhere();
-        match self.look_behind(tree, pages, &mut spot)? {
-            None => Ok(None),
-            Some(entry) => {
-                *self = Cursor {
-                    key: key_of(&entry, tree.shape),
-                    changes: tree.changes,
-                    spot,
-                };
-                Ok(Some(entry))
-            }
-        }
+        self.find_next(tree, pages, entry)
     }
 
     /// Whether there is a next entry, and it begins with these bytes. The cursor stays where it is.
@@ -96,19 +91,49 @@ impl Cursor {
     }
 
     /// The next entry where it stands in the same leaf.
-    fn step<P: Pages>(&mut self, tree: &Tree, pages: &mut P) -> Result<Option<Entry>, Fault>
+    fn step<P: Pages>(
+        &mut self,
+        tree: &Tree,
+        pages: &mut P,
+        entry: &mut Entry,
+    ) -> Result<bool, Fault>
         requires { CanStep P.shown self.old tree.now pages.old }
-        ensures { StepsOn P.shown 1 tree.now self.old self.new pages.old pages.new result }
+        ensures { StepsOn P.shown 1 tree.now self.old self.new pages.old pages.new (lent entry.new result) }
     {
         let Spot { leaf, place, count } = self.spot;
         let place = place + 1;
-        let mut entry = Entry::new();
-        if !copy_entry(pages, tree.shape, leaf, place as usize, &mut entry)? {
+        if !copy_entry(pages, tree.shape, leaf, place as usize, entry)? {
             return Err(Fault::Damage);
         }
-        take_key(&mut self.key, &entry, tree.shape);
+        take_key(&mut self.key, entry, tree.shape);
         self.spot = Spot { leaf, place, count };
-        Ok(Some(entry))
+        Ok(true)
+    }
+
+    /// The next entry where it may stand in another leaf. This has an entry among its locals, so it
+    /// is not inlined.
+    #[inline(never)]
+    fn find_next<P: Pages>(
+        &mut self,
+        tree: &Tree,
+        pages: &mut P,
+        entry: &mut Entry,
+    ) -> Result<bool, Fault>
+        requires ready { P.shown.IsReady pages.old }
+        ensures { StepsFurther P.shown (2 * (tree.now.levels + 1)) tree.now self.old self.new pages.old
+            pages.new (lent entry.new result) }
+    {
+        let mut spot = Spot::nowhere();
+        match self.look_behind(tree, pages, &mut spot)? {
+            None => Ok(false),
+            Some(found) => {
+                *entry = found;
+                take_key(&mut self.key, entry, tree.shape);
+                self.changes = tree.changes;
+                self.spot = spot;
+                Ok(true)
+            }
+        }
     }
 
     /// The first entry above the key, and where it stands.
@@ -133,15 +158,6 @@ impl Cursor {
             && self.changes < u64::MAX
             && (self.spot.place as u32) + 1 < self.spot.count as u32
     }
-}
-
-/// The tree key of an entry.
-fn key_of(entry: &Entry, shape: Shape) -> TreeKey
-    ensures { result.items ≡ take shape.width entry.now.items }
-{
-    let mut key = TreeKey::new();
-    take_key(&mut key, entry, shape);
-    key
 }
 
 /// Makes the tree key that of an entry.

@@ -1,6 +1,6 @@
 //! The index of an alternate key.
 
-ghost use Rattle.std.specs.Prelude.{◌≡◌, ◌+◌, ◌≤◌, find, IfErr};
+ghost use Rattle.std.specs.Prelude.{◌≡◌, ◌+◌, ◌≤◌, Some, find, IfErr};
 
 use crate::entry::{AltEntry, AltFirst};
 use crate::keys::{greatest_key, rank_key};
@@ -148,7 +148,7 @@ impl AltIndex {
             .tree
             .first_within(pages, least.as_slice(), greatest.as_slice())?;
         match found {
-            Some(First { entry, followed }) => self.told_first(entry, followed),
+            Some(First { entry, followed }) => self.told_first(&entry, followed),
             None => Ok(None),
         }
     }
@@ -253,11 +253,11 @@ impl AltIndex {
 
     /// The first entry of a value, whose bytes the tree gave, and whether another one follows.
     /// Damage where they are not as many as an entry has.
-    fn told_first(&self, bytes: Entry, followed: bool) -> Result<Option<AltFirst>, Fault>
-        ensures told { TellsFirst self.now.width self.now.prime bytes.items followed result }
+    fn told_first(&self, bytes: &Entry, followed: bool) -> Result<Option<AltFirst>, Fault>
+        ensures told { TellsFirst self.now.width self.now.prime bytes.now.items followed result }
         ensures damage { IfErr result (λ fault. fault ≡ Fault.Damage) }
     {
-        match self.told(Some(bytes))? {
+        match self.decode(bytes)? {
             Some(entry) => Ok(Some(AltFirst { entry, followed })),
             None => Ok(None),
         }
@@ -267,9 +267,16 @@ impl AltIndex {
     pub(crate) fn told(&self, found: Option<Entry>) -> Result<Option<AltEntry>, Fault>
         ensures { TellsAlt self.now found result }
     {
-        let Some(bytes) = found else {
-            return Ok(None);
-        };
+        match found {
+            Some(bytes) => self.decode(&bytes),
+            None => Ok(None),
+        }
+    }
+
+    /// The entry of these bytes. Damage where they are not as many as an entry has.
+    pub(crate) fn decode(&self, bytes: &Entry) -> Result<Option<AltEntry>, Fault>
+        ensures { TellsAlt self.now (Some bytes.now) result }
+    {
         let width = usize::from(self.width);
         let prime = usize::from(self.prime);
         if bytes.len() != width + 8 + prime {

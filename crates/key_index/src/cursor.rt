@@ -10,6 +10,7 @@ use crate::prime_index::PrimeIndex;
 use bplus_tree::Cursor;
 use io_state::Fault;
 use pages::Pages;
+use tree_node::Entry;
 
 /// Gives the entries of a prime index behind a value, one after another.
 #[derive(Drop)]
@@ -58,8 +59,11 @@ impl PrimeCursor {
         requires ready { P.shown.IsReady pages.old }
         ensures { MovesInPrime P.shown pages.old pages.new self.old self.new index.now result }
     {
-        let found = self.cursor.next(&index.tree, pages)?;
-        index.told(found)
+        let mut bytes = Entry::new();
+        if !self.cursor.next(&index.tree, pages, &mut bytes)? {
+            return Ok(None);
+        }
+        index.decode(&bytes)
     }
 }
 
@@ -101,8 +105,11 @@ impl AltCursor {
         requires ready { P.shown.IsReady pages.old }
         ensures { MovesInAlt P.shown pages.old pages.new self.old self.new index.now result }
     {
-        let found = self.cursor.next(&index.tree, pages)?;
-        index.told(found)
+        let mut bytes = Entry::new();
+        if !self.cursor.next(&index.tree, pages, &mut bytes)? {
+            return Ok(None);
+        }
+        index.decode(&bytes)
     }
 
     /// Whether the next entry has the value that the cursor stands behind. The cursor stays where

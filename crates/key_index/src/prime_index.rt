@@ -1,6 +1,6 @@
 //! The index of the prime key.
 
-ghost use Rattle.std.specs.Prelude.{◌≡◌, ◌+◌, ◌≤◌, find};
+ghost use Rattle.std.specs.Prelude.{◌≡◌, ◌+◌, ◌≤◌, Some, find};
 
 use crate::entry::{PrimeEntry, place_in};
 use crate::keys::greatest_key;
@@ -208,9 +208,16 @@ impl PrimeIndex {
     pub(crate) fn told(&self, found: Option<Entry>) -> Result<Option<PrimeEntry>, Fault>
         ensures { TellsPrime self.now found result }
     {
-        let Some(bytes) = found else {
-            return Ok(None);
-        };
+        match found {
+            Some(bytes) => self.decode(&bytes),
+            None => Ok(None),
+        }
+    }
+
+    /// The entry of these bytes. Damage where they are not as many as an entry has.
+    pub(crate) fn decode(&self, bytes: &Entry) -> Result<Option<PrimeEntry>, Fault>
+        ensures { TellsPrime self.now (Some bytes.now) result }
+    {
         let width = usize::from(self.width);
         if bytes.len() != width + 6 {
             return Err(Fault::Damage);

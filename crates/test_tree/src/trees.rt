@@ -109,8 +109,11 @@ fn after(tree: &Tree, pages: &mut MemoryPages, number: Option<u64>) -> Result<Op
 }
 
 fn next(cursor: &mut Cursor, tree: &Tree, pages: &mut MemoryPages) -> Result<Option<u64>, Fault> {
-    let found = cursor.next(tree, pages)?;
-    Ok(found.map(|entry| number_of(&entry, tree.shape)))
+    let mut entry = Entry::new();
+    if !cursor.next(tree, pages, &mut entry)? {
+        return Ok(None);
+    }
+    Ok(Some(number_of(&entry, tree.shape)))
 }
 
 // Whether the next number is this one. The cursor stays.

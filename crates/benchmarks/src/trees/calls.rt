@@ -35,7 +35,7 @@ pub fn remove_all<P: Pages>(tree: &mut Tree, pages: &mut P, entries: &[Bytes]) -
     let mut sum = 0u64;
     for entry in entries {
         let found = tree.remove(pages, &entry[..18])?;
-        sum = added(sum, &found);
+        sum = added(sum, found.as_ref());
     }
     Ok(sum)
 }
@@ -48,7 +48,7 @@ pub fn find_all<P: Pages>(tree: &Tree, pages: &mut P, entries: &[Bytes]) -> Resu
     let mut sum = 0u64;
     for entry in entries {
         let found = tree.find(pages, &entry[..18])?;
-        sum = added(sum, &found);
+        sum = added(sum, found.as_ref());
     }
     Ok(sum)
 }
@@ -60,15 +60,17 @@ pub fn step_over<P: Pages>(tree: &Tree, pages: &mut P) -> Result<u64, Fault>
 {
     let mut sum = 0u64;
     let mut cursor = tree.cursor(&[]);
+    let mut entry = Entry::new();
     for _ in 0..tree.count {
-        let found = cursor.next(tree, pages)?;
-        sum = added(sum, &found);
+        if cursor.next(tree, pages, &mut entry)? {
+            sum = added(sum, Some(&entry));
+        }
     }
     Ok(sum)
 }
 
 /// The sum with the last byte of an entry.
-fn added(sum: u64, found: &Option<Entry>) -> u64 {
+fn added(sum: u64, found: Option<&Entry>) -> u64 {
     match found {
         None => sum,
         Some(entry) => sum

@@ -1,7 +1,7 @@
 use Rattle.std.proofs.Common.{◌+◌, Bool, Ok, refl, subst, rules}
+use Rattle.std.proofs.lemmas.Result.{err_from_is_err_and}
 use Rattle.tree_search.specs.Spot.{CopiesEntry}
 use Rattle.tree_search.specs.declared.spot.Spot.{Spot}
-use Rattle.tree_search.proofs.AnswerLemmas.{fails}
 use Rattle.bplus_tree.proofs.CursorLemmas.{stepped, has_next, no_damage, moved}
 use Rattle.bplus_tree.proofs.cursor.Cursor.step.Goals as goal
 
@@ -9,9 +9,13 @@ pub returns-in_err-copy_entry : goal.returns-in_err-copy_entry
 returns-in_err-copy_entry g c = record {
   moved = λ honest entries own stands belongs.
       let cursor = c.args.self.now in
-      fails c.from_residual.result _ _ c.from_residual.ensures.1
-      (no_damage cursor c.args.tree.now (g.P.Pages.shown.state c.args.pages.now).live entries own stands belongs c.requires.near (cursor.spot.place + 1) refl cursor.spot c.copy_entry.new.to.items
-      c.in_err-copy_entry.field-0.0 (c.in_err-copy_entry.ensures.found honest));
+      let p = err_from_is_err_and c.from_residual.result c.from_residual.ensures.1 in
+      rw (p.1, p.2) (record {
+        answer = tt;
+        no_damage =
+            (no_damage cursor c.args.tree.now (g.P.Pages.shown.state c.args.pages.now).live entries own stands belongs c.requires.near (cursor.spot.place + 1) refl cursor.spot c.copy_entry.new.to.items
+            c.in_err-copy_entry.field-0.0 (c.in_err-copy_entry.ensures.found honest));
+      });
   key = search rules;
   near = search rules;
   reads = search rules;
