@@ -1,5 +1,6 @@
 -- What the words ask for, by what a parse of them gave.
 use Rattle.std.proofs.Common.{◌≡◌, ◌≢◌, ◌⊎◌, List, Option, Result, Ok, Err, IfOk, IfErr, true, refl, sym, subst, inl, inr}
+use Rattle.std.proofs.lemmas.Bool.{and_parts}
 use Rattle.clap.specs.Words.{App, HasKind, Row, Text, fault_of, is_simple, is_simple_and_free, kind_of, subcommand_of}
 use Rattle.clap.specs.declared.error.Error.{Error}
 use Rattle.clap.specs.declared.error.ErrorKind.TheVariants.{OutOfMemory}
@@ -12,33 +13,32 @@ use Rattle.command_words.specs.declared.request.Request.{Request}
 use Rattle.command_words.specs.declared.request.Request.TheVariants.{Run, Check, Serve, Schema, Explain, Deck, List as ListRecords, Cobol, Load, Stat, Help}
 
 -- the matches of the program's command line, and its faults, are known
-is_known : is_simple program_app ≡ true
+is_known : is_simple_and_free program_app ≡ true
 unfolding clap_on_literals
 is_known = refl
 
-has_known_faults : is_simple_and_free program_app ≡ true
-unfolding clap_on_literals
-has_known_faults = refl
+pub simple_and_free : (app : App) → app ≡ program_app → is_simple_and_free app ≡ true
+simple_and_free app is = subst (λ (a : App). is_simple_and_free a ≡ true) (sym is) is_known
 
 pub simple : (app : App) → app ≡ program_app → is_simple app ≡ true
-simple app is = rw is is_known
-
-pub simple_and_free : (app : App) → app ≡ program_app → is_simple_and_free app ≡ true
-simple_and_free app is = rw is has_known_faults
+simple app is = (and_parts (is_simple app) _ (simple_and_free app is)).0
 
 -- what was met is what the words ask for
+asked : (words : List Text) (request : Request) → AreFaultless words → IsRequestMet (subcommand_of program_app words) request → Ask words request
+asked words (Run deck folder limits) faultless h = (faultless, h)
+asked words (Check files quiet) faultless h = (faultless, h)
+asked words (Serve folder limits) faultless h = (faultless, h)
+asked words (Schema file deck name) faultless h = (faultless, h)
+asked words (Explain kind number) faultless h = (faultless, h)
+asked words (Deck deck) faultless h = (faultless, h)
+asked words (ListRecords file key from to first form quiet) faultless h = (faultless, h)
+asked words (Cobol deck fixed) faultless h = (faultless, h)
+asked words (Load deck folder file text form into limits quiet) faultless h = (faultless, h)
+asked words (Stat file) faultless h = (faultless, h)
+asked words (Help text) faultless h = absurd h
+
 pub met_asked : (words : List Text) (met : Option (Text × List Row)) (request : Request) → AreFaultless words → met ≡ subcommand_of program_app words → IsRequestMet met request → Ask words request
-met_asked words met (Run deck folder limits) faultless is h = (faultless, rw (← is) h)
-met_asked words met (Check files quiet) faultless is h = (faultless, rw (← is) h)
-met_asked words met (Serve folder limits) faultless is h = (faultless, rw (← is) h)
-met_asked words met (Schema file deck name) faultless is h = (faultless, rw (← is) h)
-met_asked words met (Explain kind number) faultless is h = (faultless, rw (← is) h)
-met_asked words met (Deck deck) faultless is h = (faultless, rw (← is) h)
-met_asked words met (ListRecords file key from to first form quiet) faultless is h = (faultless, rw (← is) h)
-met_asked words met (Cobol deck fixed) faultless is h = (faultless, rw (← is) h)
-met_asked words met (Load deck folder file text form into limits quiet) faultless is h = (faultless, rw (← is) h)
-met_asked words met (Stat file) faultless is h = (faultless, rw (← is) h)
-met_asked words met (Help text) faultless is h = absurd h
+met_asked words met request faultless is h = asked words request faultless (subst (λ (m : Option (Text × List Row)). IsRequestMet m request) is h)
 
 -- of two things, the second
 second : {A B : Type 0} → A ⊎ B → (A → ⊥) → B
