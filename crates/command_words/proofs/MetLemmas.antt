@@ -1,6 +1,8 @@
 -- The subcommand that a parse met, and its values.
-use Rattle.std.proofs.Common.{◌≡◌, List, map, Option, Some, None, option_map, sym, ap, ap₂, ◌∙◌, Bor}
-use Rattle.clap.specs.Words.{Text, Row, all_of, first_of, matched_of, raw_values, first_value, rows_of, subcommand_name_of, subcommand_rows_of}
+use Rattle.std.proofs.Common.{◌≡◌, ◌↔◌, List, map, Option, Some, None, option_map, IsSome, refl, sym, ap, ap₂, ◌∙◌, Bor}
+use Rattle.std.proofs.lemmas.Bool.{false≢true}
+use Rattle.std.specs.Option.{IfSome}
+use Rattle.clap.specs.Words.{Text, Row, all_of, first_of, found_of, matched_of, raw_values, first_value, rows_of, subcommand_name_of, subcommand_rows_of}
 use Rattle.clap.specs.declared.parser.matches.ArgMatches.{ArgMatches}
 use Rattle.clap.specs.declared.parser.matches.ArgMatches.TheViews.{out-ArgMatches}
 use Rattle.clap.specs.declared.parser.matches.Found.{Found}
@@ -16,15 +18,26 @@ module _ {X : Type 0} (f : X → Text) (g : X → List Row) where
   joined None name rows n r = absurd (cc)
   joined (Some x) name rows n r = ap Some (ap₂ (λ (a : Text) (b : List Row). (a, b)) (some_same (f x) name n) (some_same (g x) rows r))
 
--- its name and its rows together
-pub met_rows : (m : ArgMatches) (name : Text) (rows : List Row) → subcommand_name_of m ≡ Some name → option_map (λ (p : Text × List Row). p.1) (subcommand_rows_of m) ≡ Some rows
-    → subcommand_rows_of m ≡ Some (name, rows)
-met_rows m name rows n r = joined _ _ (out-ArgMatches m).subcommand name rows n r
+  first_part : (o : Option X) (name : Text) (rows : List Row) → option_map {U = Text × List Row} (λ x. (f x, g x)) o ≡ Some (name, rows) → option_map f o ≡ Some name
+  first_part None name rows e = ap (option_map (λ (p : Text × List Row). p.0)) e
+  first_part (Some x) name rows e = ap (option_map (λ (p : Text × List Row). p.0)) e
+
+-- the subcommand of a name, where one was met
+pub met_some : (m : ArgMatches) (name : Text) (found : Option (Bor ArgMatches)) → (IsSome found ↔ (subcommand_name_of m ≡ Some name))
+    → IfSome found (λ it. option_map (λ (p : Text × List Row). p.1) (subcommand_rows_of m) ≡ Some (rows_of (found_of it.now)))
+    → IfSome found (λ it. subcommand_rows_of m ≡ Some (name, rows_of (found_of it.now)))
+met_some m name None is rows = tt
+met_some m name (Some it) is rows = joined _ _ (out-ArgMatches m).subcommand name (rows_of (found_of it.now)) (is.0 refl) rows
+
+pub met_none : (m : ArgMatches) (name : Text) (found : Option (Bor ArgMatches)) → (IsSome found ↔ (subcommand_name_of m ≡ Some name)) → found ≡ None
+    → (rows : List Row) → subcommand_rows_of m ≡ Some (name, rows) → ⊥
+met_none m name found is none rows met =
+    let some : IsSome found = is.1 (first_part _ _ (out-ArgMatches m).subcommand name rows met) in
+    absurd (false≢true (rw none at some))
 
 -- the rows are those
-pub same_rows : (m : ArgMatches) (name : Text) (rows other : List Row) → option_map (λ (p : Text × List Row). p.1) (subcommand_rows_of m) ≡ Some rows
-    → subcommand_rows_of m ≡ Some (name, other) → other ≡ rows
-same_rows m name rows other r e = some_same other rows (sym (ap (λ (o : Option (Text × List Row)). option_map (λ (p : Text × List Row). p.1) o) e) ∙ r)
+pub same_rows : {met : Option (Text × List Row)} {name : Text} {rows other : List Row} → met ≡ Some (name, rows) → met ≡ Some (name, other) → other ≡ rows
+same_rows is was = ap (λ (p : Text × List Row). p.1) (some_same _ _ (sym was ∙ is))
 
 -- a text that was read
 pub text_read : (f : Found) (id : Text) (text : Option Text) → text ≡ first_value f id → first_of id (rows_of f) ≡ text

@@ -1,7 +1,7 @@
 //! What the matches of a parse ask for.
-ghost use Rattle.std.specs.Prelude.{◌≡◌, ℕ, Bool, List, Option, None, IfOk};
+ghost use Rattle.std.specs.Prelude.{◌≡◌, ℕ, Bool, List, Option, Some, None, IfOk};
 ghost use Rattle.std.specs.Option.{IfSome};
-ghost use Rattle.clap.specs.Words.{found_of, rows_of, subcommand_rows_of};
+ghost use Rattle.clap.specs.Words.{Row, found_of, rows_of, subcommand_rows_of};
 ghost use Rattle.command_words.specs.Asks.{AreLimits, IsQuietRequest, FormText, form_text, IsForm};
 ghost use Rattle.command_words.specs.Asks.{IsRequestMet, IsNoRun};
 ghost use Rattle.command_words.specs.Asks.{IsNoCheck, IsNoServe, IsNoSchema, IsNoExplain, IsNoDeckList};
@@ -13,6 +13,16 @@ use crate::limits::Limits;
 use crate::request::Request;
 use clap::ArgMatches;
 use std::alloc::{AllocError, Global};
+
+/// The matches of this subcommand, if it was met.
+fn met<'m, 'a>(matches: &'m ArgMatches<'a>, name: &str) -> Option<&'m ArgMatches<'a>>
+    ensures some { IfSome result (λ found.
+        subcommand_rows_of matches.now ≡ Some (name.now, rows_of (found_of found.now))) }
+    ensures none { result ≡ None → (rows : List Row)
+        → subcommand_rows_of matches.now ≡ Some (name.now, rows) → ⊥ }
+{
+    matches.subcommand_matches(name)
+}
 
 /// The limits of a run, of a session or of a load.
 fn limits_of(files: &ArgMatches<'_>) -> Option<Limits>
@@ -31,7 +41,7 @@ fn run_of<'a>(matches: &ArgMatches<'a>) -> Option<Request<'a>>
     ensures some { IfSome result (IsRequestMet (subcommand_rows_of matches.now)) }
     ensures none { result ≡ None → IsNoRun (subcommand_rows_of matches.now) }
 {
-    let run = matches.subcommand_matches("run")?;
+    let run = met(matches, "run")?;
     let deck = run.get_str("deck")?;
     let folder = run.get_str("folder")?;
     let limits = limits_of(run)?;
@@ -55,7 +65,7 @@ fn check_of<'a>(alloc: Global, matches: &ArgMatches<'a>) -> Result<Option<Reques
     ensures some { IfOk result (λ found. IfSome found (IsRequestMet (subcommand_rows_of matches.now))) }
     ensures none { IfOk result (λ found. found ≡ None → IsNoCheck (subcommand_rows_of matches.now)) }
 {
-    let check = match matches.subcommand_matches("check") {
+    let check = match met(matches, "check") {
         Some(check) => check,
         None => return Ok(None),
     };
@@ -77,7 +87,7 @@ fn serve_of<'a>(matches: &ArgMatches<'a>) -> Option<Request<'a>>
     ensures some { IfSome result (IsRequestMet (subcommand_rows_of matches.now)) }
     ensures none { result ≡ None → IsNoServe (subcommand_rows_of matches.now) }
 {
-    let serve = matches.subcommand_matches("serve")?;
+    let serve = met(matches, "serve")?;
     let folder = serve.get_str("folder")?;
     let limits = limits_of(serve)?;
     Some(Request::Serve { folder, limits })
@@ -88,7 +98,7 @@ fn schema_of<'a>(matches: &ArgMatches<'a>) -> Option<Request<'a>>
     ensures some { IfSome result (IsRequestMet (subcommand_rows_of matches.now)) }
     ensures none { result ≡ None → IsNoSchema (subcommand_rows_of matches.now) }
 {
-    let schema = matches.subcommand_matches("schema")?;
+    let schema = met(matches, "schema")?;
     let file = schema.get_str("file")?;
     Some(Request::Schema {
         file,
@@ -102,7 +112,7 @@ fn explain_of<'a>(matches: &ArgMatches<'a>) -> Option<Request<'a>>
     ensures some { IfSome result (IsRequestMet (subcommand_rows_of matches.now)) }
     ensures none { result ≡ None → IsNoExplain (subcommand_rows_of matches.now) }
 {
-    let explain = matches.subcommand_matches("explain")?;
+    let explain = met(matches, "explain")?;
     let kind = explain.get_str("kind")?;
     let number = explain.get_str("number")?;
     Some(Request::Explain { kind, number })
@@ -113,7 +123,7 @@ fn deck_of<'a>(matches: &ArgMatches<'a>) -> Option<Request<'a>>
     ensures some { IfSome result (IsRequestMet (subcommand_rows_of matches.now)) }
     ensures none { result ≡ None → IsNoDeckList (subcommand_rows_of matches.now) }
 {
-    let listed = matches.subcommand_matches("deck")?;
+    let listed = met(matches, "deck")?;
     let deck = listed.get_str("deck")?;
     Some(Request::Deck { deck })
 }
@@ -137,7 +147,7 @@ fn list_of<'a>(matches: &ArgMatches<'a>) -> Option<Request<'a>>
     ensures some { IfSome result (IsRequestMet (subcommand_rows_of matches.now)) }
     ensures none { result ≡ None → IsNoList (subcommand_rows_of matches.now) }
 {
-    let list = matches.subcommand_matches("list")?;
+    let list = met(matches, "list")?;
     let file = list.get_str("file")?;
     let key = list.get_one("key")?;
     let first = list.get_one("first")?;
@@ -159,7 +169,7 @@ fn cobol_of<'a>(matches: &ArgMatches<'a>) -> Option<Request<'a>>
     ensures some { IfSome result (IsRequestMet (subcommand_rows_of matches.now)) }
     ensures none { result ≡ None → IsNoCobol (subcommand_rows_of matches.now) }
 {
-    let cobol = matches.subcommand_matches("cobol")?;
+    let cobol = met(matches, "cobol")?;
     let deck = cobol.get_str("deck")?;
     let fixed = cobol.get_one("fixed")?;
     Some(Request::Cobol { deck, fixed })
@@ -170,7 +180,7 @@ fn load_of<'a>(matches: &ArgMatches<'a>) -> Option<Request<'a>>
     ensures some { IfSome result (IsRequestMet (subcommand_rows_of matches.now)) }
     ensures none { result ≡ None → IsNoLoad (subcommand_rows_of matches.now) }
 {
-    let load = matches.subcommand_matches("load")?;
+    let load = met(matches, "load")?;
     let deck = load.get_str("deck")?;
     let folder = load.get_str("folder")?;
     let file = load.get_str("file")?;
@@ -196,7 +206,7 @@ fn stat_of<'a>(matches: &ArgMatches<'a>) -> Option<Request<'a>>
     ensures some { IfSome result (IsRequestMet (subcommand_rows_of matches.now)) }
     ensures none { result ≡ None → IsNoStat (subcommand_rows_of matches.now) }
 {
-    let stat = matches.subcommand_matches("stat")?;
+    let stat = met(matches, "stat")?;
     let file = stat.get_str("file")?;
     Some(Request::Stat { file })
 }

@@ -2,7 +2,7 @@ use Rattle.std.proofs.Common.{rules, ◌≡◌, List, Some, map, sym, subst, Bor
 use Rattle.std.specs.Prelude.{codes}
 use Rattle.clap.specs.Words.{Row, Text, all_of, found_of, rows_of}
 use Rattle.command_words.specs.Asks.{IsQuietRequest}
-use Rattle.command_words.proofs.MetLemmas.{met_rows, no_texts, same_rows, texts_read}
+use Rattle.command_words.proofs.MetLemmas.{no_texts, same_rows, texts_read}
 use Rattle.command_words.proofs.asked.check_of.Goals as goal
 
 pub returns-in_ok-files-in-Some-get_strs-clause-some : goal.returns-in_ok-files-in-Some-get_strs-clause-some
@@ -11,7 +11,7 @@ returns-in_ok-files-in-Some-get_strs-clause-some c =
     let same : c.in_ok-files-in-Some-get_strs.files.items ≡ c.in-Some-get_strs.files.now = search rules in
     record {
       rows = rows_of f;
-      is = met_rows c.args.matches.now (codes "check") (rows_of f) (c.in-Some.ensures.found.0 (search rules)) c.in-Some.ensures.rows;
+      is = c.in-Some.ensures.some;
       files_given =
           subst (λ (files : List (Bor Text)). all_of (codes "file") (rows_of f) ≡ Some (map (λ file. file.now) files)) (sym same)
           (texts_read f (codes "file") c.get_strs.result c.get_strs.ensures c.in-Some-get_strs.files c.in-Some-get_strs.is);
@@ -21,12 +21,11 @@ returns-in_ok-files-in-Some-get_strs-clause-some c =
 pub returns-in-None-quiet_of-clause-none : goal.returns-in-None-quiet_of-clause-none
 returns-in-None-quiet_of-clause-none c =
     λ none files quiet check.
-    let f = found_of c.in-Some.check.now in
     c.quiet_of.ensures.none c.in-None-quiet_of.is quiet
-    (subst (λ (rows : List Row). IsQuietRequest rows quiet) (same_rows c.args.matches.now (codes "check") (rows_of f) check.rows c.in-Some.ensures.rows check.is) check.quiet_is)
+    (subst (λ (rows : List Row). IsQuietRequest rows quiet) (same_rows c.in-Some.ensures.some check.is) check.quiet_is)
 
 pub returns-in-None-get_strs-clause-none : goal.returns-in-None-get_strs-clause-none
 returns-in-None-get_strs-clause-none c =
     λ none files quiet check.
     let f = found_of c.in-Some.check.now in
-    no_texts f (codes "file") c.get_strs.result c.get_strs.ensures c.in-None-get_strs.is check.rows (same_rows c.args.matches.now (codes "check") (rows_of f) check.rows c.in-Some.ensures.rows check.is) files check.files_given
+    no_texts f (codes "file") c.get_strs.result c.get_strs.ensures c.in-None-get_strs.is check.rows (same_rows c.in-Some.ensures.some check.is) files check.files_given

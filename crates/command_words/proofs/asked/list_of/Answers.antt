@@ -1,10 +1,10 @@
-use Rattle.std.proofs.Common.{rules, ℕ, List, Result, subst}
+use Rattle.std.proofs.Common.{ℕ, List, Result, subst}
 use Rattle.std.specs.Prelude.{codes}
 use Rattle.std.specs.Str.Parse.{ParsesUnsigned, ExplainsUnsignedError, HasUnsignedDigitsIfOk}
 use Rattle.std.specs.declared.num.ParseIntError.{ParseIntError}
 use Rattle.clap.specs.Words.{Row, found_of, rows_of}
 use Rattle.command_words.specs.Asks.{IsForm, IsQuietRequest}
-use Rattle.command_words.proofs.MetLemmas.{met_rows, no_text, same_rows, text_read}
+use Rattle.command_words.proofs.MetLemmas.{no_text, same_rows, text_read}
 use Rattle.command_words.proofs.NumberLemmas.{Given, is_read, none_read}
 use Rattle.command_words.proofs.asked.list_of.Goals as goal
 
@@ -16,14 +16,14 @@ pub returns-in_err-file-clause-none : goal.returns-in_err-file-clause-none
 returns-in_err-file-clause-none c =
     λ none file key from to first form quiet list.
     let f = found_of c.in_ok-list.list.now in
-    no_text f (codes "file") c.get_str.result c.get_str.ensures c.in_err-file.was list.rows (same_rows c.args.matches.now (codes "list") (rows_of f) list.rows c.in_ok-list.ensures.rows list.is) file list.file_given
+    no_text f (codes "file") c.get_str.result c.get_str.ensures c.in_err-file.was list.rows (same_rows c.in_ok-list.ensures.some list.is) file list.file_given
 
 pub returns-in_err-key-clause-none : goal.returns-in_err-key-clause-none
 returns-in_err-key-clause-none c =
     λ none file key from to first form quiet list.
     let f = found_of c.in_ok-list.list.now in
     none_read f (codes "key") 8 (Gives 8) (λ t x g. g.0) c.get_one.result c.get_one.ensures.value c.in_err-key.was key
-    (subst (λ (rows : List Row). Given rows (codes "key") 8 key) (same_rows c.args.matches.now (codes "list") (rows_of f) list.rows c.in_ok-list.ensures.rows list.is)
+    (subst (λ (rows : List Row). Given rows (codes "key") 8 key) (same_rows c.in_ok-list.ensures.some list.is)
     (list.key_text, list.key_given, list.key_is))
 
 pub returns-in_err-first-clause-none : goal.returns-in_err-first-clause-none
@@ -31,22 +31,20 @@ returns-in_err-first-clause-none c =
     λ none file key from to first form quiet list.
     let f = found_of c.in_ok-list.list.now in
     none_read f (codes "first") 64 (Gives 64) (λ t x g. g.0) c.get_one-2.result c.get_one-2.ensures.value c.in_err-first.was first
-    (subst (λ (rows : List Row). Given rows (codes "first") 64 first) (same_rows c.args.matches.now (codes "list") (rows_of f) list.rows c.in_ok-list.ensures.rows list.is)
+    (subst (λ (rows : List Row). Given rows (codes "first") 64 first) (same_rows c.in_ok-list.ensures.some list.is)
     (list.first_text, list.first_given, list.first_is))
 
 pub returns-in_err-form-clause-none : goal.returns-in_err-form-clause-none
 returns-in_err-form-clause-none c =
     λ none file key from to first form quiet list.
-    let f = found_of c.in_ok-list.list.now in
     c.form_of.ensures.none c.in_err-form.was form
-    (subst (λ (rows : List Row). IsForm rows form) (same_rows c.args.matches.now (codes "list") (rows_of f) list.rows c.in_ok-list.ensures.rows list.is) list.form_is)
+    (subst (λ (rows : List Row). IsForm rows form) (same_rows c.in_ok-list.ensures.some list.is) list.form_is)
 
 pub returns-in_err-quiet-clause-none : goal.returns-in_err-quiet-clause-none
 returns-in_err-quiet-clause-none c =
     λ none file key from to first form quiet list.
-    let f = found_of c.in_ok-list.list.now in
     c.quiet_of.ensures.none c.in_err-quiet.was quiet
-    (subst (λ (rows : List Row). IsQuietRequest rows quiet) (same_rows c.args.matches.now (codes "list") (rows_of f) list.rows c.in_ok-list.ensures.rows list.is) list.quiet_is)
+    (subst (λ (rows : List Row). IsQuietRequest rows quiet) (same_rows c.in_ok-list.ensures.some list.is) list.quiet_is)
 
 pub returns-clause-some : goal.returns-clause-some
 returns-clause-some c =
@@ -55,7 +53,7 @@ returns-clause-some c =
     let first = is_read f (codes "first") 64 (Gives 64) (λ t x g. g.0) c.get_one-2.result c.get_one-2.ensures.none c.get_one-2.ensures.value c.in_ok-first.first c.in_ok-first.was in
     record {
       rows = rows_of f;
-      is = met_rows c.args.matches.now (codes "list") (rows_of f) (c.in_ok-list.ensures.found.0 (search rules)) c.in_ok-list.ensures.rows;
+      is = c.in_ok-list.ensures.some;
       file_given = text_read f (codes "file") _ c.in_ok-file.ensures;
       key_text = key.0;
       key_given = key.1;

@@ -1,35 +1,34 @@
-use Rattle.std.proofs.Common.{rules, List, subst}
+use Rattle.std.proofs.Common.{List, subst}
 use Rattle.std.specs.Prelude.{codes}
 use Rattle.clap.specs.Words.{Row, found_of, rows_of}
 use Rattle.command_words.specs.Asks.{AreLimits}
-use Rattle.command_words.proofs.MetLemmas.{met_rows, no_text, same_rows, text_read}
+use Rattle.command_words.proofs.MetLemmas.{no_text, same_rows, text_read}
 use Rattle.command_words.proofs.asked.run_of.Goals as goal
 
 pub returns-in_err-deck-clause-none : goal.returns-in_err-deck-clause-none
 returns-in_err-deck-clause-none c =
     λ none deck folder pages frames run.
     let f = found_of c.in_ok-run.run'.now in
-    no_text f (codes "deck") c.get_str.result c.get_str.ensures c.in_err-deck.was run.rows (same_rows c.args.matches.now (codes "run") (rows_of f) run.rows c.in_ok-run.ensures.rows run.is) deck run.deck_given
+    no_text f (codes "deck") c.get_str.result c.get_str.ensures c.in_err-deck.was run.rows (same_rows c.in_ok-run.ensures.some run.is) deck run.deck_given
 
 pub returns-in_err-folder-clause-none : goal.returns-in_err-folder-clause-none
 returns-in_err-folder-clause-none c =
     λ none deck folder pages frames run.
     let f = found_of c.in_ok-run.run'.now in
-    no_text f (codes "folder") c.get_str-2.result c.get_str-2.ensures c.in_err-folder.was run.rows (same_rows c.args.matches.now (codes "run") (rows_of f) run.rows c.in_ok-run.ensures.rows run.is) folder run.folder_given
+    no_text f (codes "folder") c.get_str-2.result c.get_str-2.ensures c.in_err-folder.was run.rows (same_rows c.in_ok-run.ensures.some run.is) folder run.folder_given
 
 pub returns-in_err-limits-clause-none : goal.returns-in_err-limits-clause-none
 returns-in_err-limits-clause-none c =
     λ none deck folder pages frames run.
-    let f = found_of c.in_ok-run.run'.now in
     c.limits_of.ensures.none c.in_err-limits.was pages frames
-    (subst (λ (rows : List Row). AreLimits rows pages frames) (same_rows c.args.matches.now (codes "run") (rows_of f) run.rows c.in_ok-run.ensures.rows run.is) run.limits)
+    (subst (λ (rows : List Row). AreLimits rows pages frames) (same_rows c.in_ok-run.ensures.some run.is) run.limits)
 
 pub returns-clause-some : goal.returns-clause-some
 returns-clause-some c =
     let f = found_of c.in_ok-run.run'.now in
     record {
       rows = rows_of f;
-      is = met_rows c.args.matches.now (codes "run") (rows_of f) (c.in_ok-run.ensures.found.0 (search rules)) c.in_ok-run.ensures.rows;
+      is = c.in_ok-run.ensures.some;
       deck_given = text_read f (codes "deck") _ c.in_ok-deck.ensures;
       folder_given = text_read f (codes "folder") _ c.in_ok-folder.ensures;
       limits = c.in_ok-limits.ensures.some;
