@@ -1,6 +1,7 @@
 //! The subcommands, with their words and options.
 ghost use Rattle.std.specs.Prelude.{◌≡◌, IfOk};
 ghost use Rattle.clap.specs.Words.{app_of};
+ghost use Rattle.clap.specs.Simple.{new_shape};
 ghost use Rattle.command_words.specs.Commands.{IsLocal, IsApp, HasShape, with_files, with_limits, with_quiet};
 ghost use Rattle.command_words.specs.Commands.{with_deck, with_values, with_bounds, with_form};
 ghost use Rattle.command_words.specs.Commands.{with_file_words};
@@ -16,6 +17,13 @@ use crate::help::{
 };
 use clap::Command;
 use std::alloc::{AllocError, Global};
+
+/// A subcommand without its words: its name, what it does, and what is told below its help.
+fn named<'a>(alloc: Global, name: &'a str, about: &'a str, after: &'a str) -> Command<'a>
+    ensures { HasShape (new_shape name.entry.now) result }
+{
+    Command::new(alloc, name).about(about).after_help(after)
+}
 
 /// `run` or `load` with its deck and its folder.
 fn with_files<'a>(alloc: Global, run: Command<'a>) -> Result<Command<'a>, AllocError>
@@ -66,9 +74,12 @@ fn with_quiet<'a>(alloc: Global, long: Command<'a>) -> Result<Command<'a>, Alloc
 fn run_command<'a>(alloc: Global) -> Result<Command<'a>, AllocError>
     ensures { IfOk result (HasShape run_shape) }
 {
-    let run = Command::new(alloc, "run")
-        .about("Runs a deck, and writes its transcript to standard output")
-        .after_help(ANSWERS);
+    let run = named(
+        alloc,
+        "run",
+        "Runs a deck, and writes its transcript to standard output",
+        ANSWERS,
+    );
     with_limits(alloc, with_files(alloc, run)?)
 }
 
@@ -82,9 +93,12 @@ fn check_command<'a>(alloc: Global) -> Result<Command<'a>, AllocError>
         "FILE",
         "The files that are checked; they are not changed",
     );
-    let check = Command::new(alloc, "check")
-        .about("Checks whether files stand for records")
-        .after_help(REASONS);
+    let check = named(
+        alloc,
+        "check",
+        "Checks whether files stand for records",
+        REASONS,
+    );
     with_quiet(alloc, check.arg(files)?)
 }
 
@@ -92,9 +106,12 @@ fn check_command<'a>(alloc: Global) -> Result<Command<'a>, AllocError>
 fn serve_command<'a>(alloc: Global) -> Result<Command<'a>, AllocError>
     ensures { IfOk result (HasShape serve_shape) }
 {
-    let serve = Command::new(alloc, "serve")
-        .about("Performs the verbs that frames on standard input ask for")
-        .after_help(SERVING);
+    let serve = named(
+        alloc,
+        "serve",
+        "Performs the verbs that frames on standard input ask for",
+        SERVING,
+    );
     let with_folder = serve.arg(folder(alloc, "The folder in which the files stay"))?;
     with_limits(alloc, with_folder)
 }
@@ -123,9 +140,12 @@ fn schema_command<'a>(alloc: Global) -> Result<Command<'a>, AllocError>
         "FILE",
         "The file whose first page is read; it is not changed",
     );
-    let schema = Command::new(alloc, "schema")
-        .about("Tells the lengths, the keys and the counts of a file, by its first page")
-        .after_help(SCHEMA);
+    let schema = named(
+        alloc,
+        "schema",
+        "Tells the lengths, the keys and the counts of a file, by its first page",
+        SCHEMA,
+    );
     with_deck(
         alloc,
         schema.arg(file)?,
@@ -139,9 +159,12 @@ fn explain_command<'a>(alloc: Global) -> Result<Command<'a>, AllocError>
 {
     let kind = word(alloc, "kind", "KIND", "'status', 'fault' or 'unsound'");
     let number = word(alloc, "number", "NUMBER", "Which one, as it is written");
-    let explain = Command::new(alloc, "explain")
-        .about("Explains a status, a fault of a deck, or a reason of a check")
-        .after_help(EXPLAINED);
+    let explain = named(
+        alloc,
+        "explain",
+        "Explains a status, a fault of a deck, or a reason of a check",
+        EXPLAINED,
+    );
     explain.arg(kind)?.arg(number)
 }
 
@@ -149,9 +172,12 @@ fn explain_command<'a>(alloc: Global) -> Result<Command<'a>, AllocError>
 fn deck_command<'a>(alloc: Global) -> Result<Command<'a>, AllocError>
     ensures { IfOk result (HasShape deck_shape) }
 {
-    let listed = Command::new(alloc, "deck")
-        .about("Lists the files, the verbs and the paragraphs of a deck")
-        .after_help(LISTED);
+    let listed = named(
+        alloc,
+        "deck",
+        "Lists the files, the verbs and the paragraphs of a deck",
+        LISTED,
+    );
     listed.arg(deck(alloc))
 }
 
@@ -216,9 +242,12 @@ fn list_command<'a>(alloc: Global) -> Result<Command<'a>, AllocError>
         "FILE",
         "The file whose records are listed; it is not changed",
     );
-    let list = Command::new(alloc, "list")
-        .about("Lists the records of a file, a line each, in the order of a key")
-        .after_help(RECORDS);
+    let list = named(
+        alloc,
+        "list",
+        "Lists the records of a file, a line each, in the order of a key",
+        RECORDS,
+    );
     let bounded = with_bounds(alloc, list.arg(file)?)?;
     let formed = with_form(alloc, bounded.arg(first(alloc))?)?;
     with_quiet(alloc, formed)
@@ -233,9 +262,12 @@ fn cobol_command<'a>(alloc: Global) -> Result<Command<'a>, AllocError>
         "fixed",
         "Writes it in columns 8 to 72, and not in free form",
     );
-    let cobol = Command::new(alloc, "cobol")
-        .about("Writes a deck as a COBOL program that displays the same transcript")
-        .after_help(COBOL);
+    let cobol = named(
+        alloc,
+        "cobol",
+        "Writes a deck as a COBOL program that displays the same transcript",
+        COBOL,
+    );
     cobol.arg(deck(alloc))?.arg(fixed)
 }
 
@@ -283,9 +315,12 @@ fn with_text<'a>(alloc: Global, load: Command<'a>) -> Result<Command<'a>, AllocE
 fn load_command<'a>(alloc: Global) -> Result<Command<'a>, AllocError>
     ensures { IfOk result (HasShape load_shape) }
 {
-    let load = Command::new(alloc, "load")
-        .about("Writes the lines of a text as records into a file")
-        .after_help(LOADED);
+    let load = named(
+        alloc,
+        "load",
+        "Writes the lines of a text as records into a file",
+        LOADED,
+    );
     let limited = with_limits(alloc, with_text(alloc, with_files(alloc, load)?)?)?;
     with_quiet(alloc, limited)
 }
@@ -300,9 +335,12 @@ fn stat_command<'a>(alloc: Global) -> Result<Command<'a>, AllocError>
         "FILE",
         "The file whose pages are counted; it is not changed",
     );
-    let stat = Command::new(alloc, "stat")
-        .about("Counts the pages of a file, its slots, and the levels of its trees")
-        .after_help(COUNTED);
+    let stat = named(
+        alloc,
+        "stat",
+        "Counts the pages of a file, its slots, and the levels of its trees",
+        COUNTED,
+    );
     stat.arg(file)
 }
 

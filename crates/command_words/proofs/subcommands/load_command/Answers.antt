@@ -1,0 +1,8 @@
+use Rattle.command_words.specs.Commands.{with_files, with_text, with_limits, with_quiet}
+use Rattle.command_words.proofs.ShapeLemmas.{last_more, with_more}
+use Rattle.command_words.proofs.subcommands.load_command.Goals as goal
+
+pub returns : goal.returns
+returns c =
+    let texts = with_more with_text (with_more with_files c.named-load.ensures c.in_ok-with_files.ensures) c.in_ok-with_text.ensures in
+    last_more with_quiet c.with_quiet.result (with_more with_limits texts c.in_ok-limited.ensures) c.with_quiet.ensures
