@@ -40,11 +40,11 @@ impl Connector {
         if !updatable {
             return Status::NotOpenForUpdating;
         }
+        let fit = is_length(&self.schema, length);
         let unread = is_unread(self.access, was_read);
         if unread {
             return Status::NoRecordRead;
         }
-        let fit = is_length(&self.schema, length);
         if !fit {
             return Status::WrongLength;
         }

@@ -1,6 +1,6 @@
-use Rattle.std.proofs.Common.{rules, arith, sym, ap}
+use Rattle.std.proofs.Common.{rules, arith, sym, refl}
 use Rattle.std.proofs.lemmas.Grind.{common_steps}
-use Rattle.verbs.proofs.ChangeLemmas.{delete_done}
+use Rattle.verbs.proofs.ChangeLemmas.{none_alike, delete_done, refused}
 use Rattle.verbs.proofs.connector.Connector.answer_delete.Goals as goal
 
 pub returns : goal.returns
@@ -24,3 +24,20 @@ returns g c n = record {
   asked = first_of (search rules, grind (arith, common_steps));
   images = first_of (search rules, grind (arith, common_steps));
 }
+
+pub returns-then-self : goal.returns-then-self
+returns-then-self g c n =
+    refused c.self.inside c.args.self.now c.in-Some.mode c.self.inside.position c.requires.fits c.self.view_is c.in-Some.is refl
+    (rw (← c.self.view_is, c.in-Some.is, c.if-self.true) (refl, refl)) (search rules) refl refl refl refl refl
+
+pub returns-then-not-updatable : goal.returns-then-not-updatable
+returns-then-not-updatable g c n =
+    refused c.self.inside c.args.self.now c.in-Some.mode c.self.inside.position c.requires.fits c.self.view_is c.in-Some.is refl
+    (rw (← c.self.view_is, c.in-Some.is, c.if-self.false, sym c.if-not-updatable.ensures) (refl, refl))
+    (search rules) refl refl refl refl refl
+
+pub returns-then-unread : goal.returns-then-unread
+returns-then-unread g c n =
+    refused c.self.inside c.args.self.now c.in-Some.mode c.self.inside.position c.requires.fits c.self.view_is c.in-Some.is refl
+    (rw (← c.self.view_is, c.in-Some.is, c.if-self.false, sym c.if-not-updatable.ensures, none_alike c.self.inside.was_read c.self.inside.last_read, sym c.if-unread.ensures) (refl, refl))
+    (search rules) refl refl refl refl refl

@@ -1,7 +1,9 @@
-use Rattle.std.proofs.Common.{sym, ◌∙◌, rules, arith}
+use Rattle.std.proofs.Common.{sym, ◌∙◌, refl, rules, arith}
 use Rattle.std.proofs.lemmas.Grind.{common_steps}
 use Rattle.indexed_file.specs.Rank.{has_value}
 use Rattle.verbs.proofs.ReadLemmas.{equal_record, standing_after_read}
+use Rattle.io_state.specs.declared.position.Position.TheVariants.{Invalid}
+use Rattle.verbs.proofs.ChangeLemmas.{has_lost, refused}
 use Rattle.verbs.proofs.connector.Connector.answer_read.Goals as goal
 
 pub returns-in-Ok-Some : goal.returns-in-Ok-Some
@@ -28,3 +30,23 @@ returns-in-Ok-Some g c n = record {
   asked = first_of (search rules, grind (arith, common_steps));
   images = first_of (search rules, grind (arith, common_steps));
 }
+
+pub returns-then-self : goal.returns-then-self
+returns-then-self g c n =
+    rw c.silent-then-self.ensures (refused c.self.inside c.args.self.now c.in-Some.mode c.self.inside.position
+    c.requires.fits c.self.view_is c.in-Some.is refl
+    (rw (← c.self.view_is, c.in-Some.is, c.if-self.true) (refl, refl)) (search rules) refl refl refl refl refl)
+
+pub returns-then-not-readable : goal.returns-then-not-readable
+returns-then-not-readable g c n =
+    rw c.silent-then-not-readable.ensures (refused c.self.inside c.args.self.now c.in-Some.mode c.self.inside.position
+    c.requires.fits c.self.view_is c.in-Some.is refl
+    (rw (← c.self.view_is, c.in-Some.is, c.if-self.false, sym c.if-not-readable.ensures) (refl, refl))
+    (search rules) refl refl refl refl refl)
+
+pub returns-then-self-2 : goal.returns-then-self-2
+returns-then-self-2 g c n =
+    rw (c.silent-then-self-2.ensures, c.lose.ensures.status) (refused c.self.inside c.args.self.now c.in-Some.mode Invalid
+    c.requires.fits c.self.view_is c.in-Some.is (c.lose.ensures.held ∙ has_lost c.self.inside c.in-Some.mode c.in-Some.is)
+    (rw (← c.self.view_is, c.in-Some.is, c.if-self.false, sym c.if-not-readable.ensures, c.if-self-2.true) (refl, refl))
+    (search rules) refl refl refl refl refl)

@@ -1,8 +1,10 @@
-use Rattle.std.proofs.Common.{sym, ap, ◌∙◌, Ok, rules, arith}
+use Rattle.std.proofs.Common.{sym, ap, ◌∙◌, refl, Ok, rules, arith}
 use Rattle.std.proofs.lemmas.Grind.{common_steps}
 use Rattle.indexed_file.specs.Rank.{admits}
 use Rattle.verbs.specs.Held.{silent}
 use Rattle.verbs.proofs.ReadLemmas.{at_end, next_record, standing_after_read}
+use Rattle.io_state.specs.declared.position.Position.TheVariants.{Invalid}
+use Rattle.verbs.proofs.ChangeLemmas.{had_none, has_lost, refused}
 use Rattle.verbs.proofs.connector.Connector.answer_read_next.Goals as goal
 
 pub returns-in-Ok-Some : goal.returns-in-Ok-Some
@@ -50,3 +52,30 @@ returns-in-Ok-None g c n = record {
   asked = first_of (search rules, grind (arith, common_steps));
   images = first_of (search rules, grind (arith, common_steps));
 }
+
+pub returns-then-self : goal.returns-then-self
+returns-then-self g c n =
+    rw c.silent-then-self.ensures (refused c.self.inside c.args.self.now c.in-Some.mode c.self.inside.position
+    c.requires.fits c.self.view_is c.in-Some.is refl
+    (rw (← c.self.view_is, c.in-Some.is, c.if-self.true) (refl, refl)) (search rules) refl refl refl refl refl)
+
+pub returns-then-not-readable : goal.returns-then-not-readable
+returns-then-not-readable g c n =
+    rw c.silent-then-not-readable.ensures (refused c.self.inside c.args.self.now c.in-Some.mode c.self.inside.position
+    c.requires.fits c.self.view_is c.in-Some.is refl
+    (rw (← c.self.view_is, c.in-Some.is, c.if-self.false, sym c.if-not-readable.ensures) (refl, refl))
+    (search rules) refl refl refl refl refl)
+
+pub returns-then-lost : goal.returns-then-lost
+returns-then-lost g c n =
+    rw c.silent-then-lost.ensures (refused c.self.inside c.args.self.now c.in-Some.mode Invalid
+    c.requires.fits c.self.view_is c.in-Some.is (had_none c.self.inside c.self.inside.position refl (sym c.if-lost.ensures))
+    (rw (← c.self.view_is, c.in-Some.is, c.if-self.false, sym c.if-not-readable.ensures, sym c.if-lost.ensures) (refl, refl))
+    (search rules) refl refl refl refl refl)
+
+pub returns-then-self-2 : goal.returns-then-self-2
+returns-then-self-2 g c n =
+    rw (c.silent-then-self-2.ensures, c.lose.ensures.status) (refused c.self.inside c.args.self.now c.in-Some.mode Invalid
+    c.requires.fits c.self.view_is c.in-Some.is (c.lose.ensures.held ∙ has_lost c.self.inside c.in-Some.mode c.in-Some.is)
+    (rw (← c.self.view_is, c.in-Some.is, c.if-self.false, sym c.if-not-readable.ensures, sym c.if-lost.ensures, c.if-self-2.true) (refl, refl))
+    (search rules) refl refl refl refl refl)
