@@ -17,3 +17,9 @@ returns-in-Start g c = rw (c.in-Start.is, c.silent-in-Start.ensures) (c.start.en
 
 pub returns-in-Delete : goal.returns-in-Delete
 returns-in-Delete g c = rw (c.in-Delete.is, c.silent-in-Delete.ensures) (c.delete.ensures c.args.length)
+
+pub returns-in-Write : goal.returns-in-Write
+returns-in-Write g c = rw (c.in-Write.is, c.silent-in-Write.ensures) c.write.ensures
+
+pub returns-in-Rewrite : goal.returns-in-Rewrite
+returns-in-Rewrite g c = rw (c.in-Rewrite.is, c.silent-in-Rewrite.ensures) c.rewrite.ensures
