@@ -1,5 +1,4 @@
-use Rattle.std.proofs.Common.{sym, ◌∙◌, refl, rules, arith}
-use Rattle.std.proofs.lemmas.Grind.{common_steps}
+use Rattle.std.proofs.Common.{sym, ◌∙◌, refl, rules}
 use Rattle.indexed_file.specs.Rank.{has_value}
 use Rattle.verbs.proofs.ReadLemmas.{equal_record, standing_after_read}
 use Rattle.io_state.specs.declared.position.Position.TheVariants.{Invalid}
@@ -8,15 +7,15 @@ use Rattle.verbs.proofs.connector.Connector.answer_read.Goals as goal
 
 pub returns-in-Ok-Some : goal.returns-in-Ok-Some
 returns-in-Ok-Some g c n = record {
-  fits = first_of (search rules, grind (arith, common_steps));
-  schema = first_of (search rules, grind (arith, common_steps));
-  only = first_of (search rules, grind (arith, common_steps));
-  keeps = first_of (search rules, grind (arith, common_steps));
-  early = first_of (search rules, grind (arith, common_steps));
-  refusal = first_of (search rules, grind (arith, common_steps));
-  known = first_of (search rules, grind (arith, common_steps));
-  failed_close = first_of (search rules, grind (arith, common_steps));
-  cause = first_of (search rules, grind (arith, common_steps));
+  fits = search rules;
+  schema = search rules;
+  only = search rules;
+  keeps = search rules;
+  early = search rules;
+  refusal = search rules;
+  known = search rules;
+  failed_close = search rules;
+  cause = search rules;
   step = λ honest truly standing. equal_record c.self.inside c.args.self.now c.deliver.new.self c.in-Some.mode (g.L.Library.shown.world c.args.lib.now) (g.L.Library.shown.world c.by_key.new.self) c.args.u n c.args.area.now c.by_key.new.area
       c.in-Ok-Some.found c.deliver.result
       c.requires.fits c.self.view_is c.in-Some.is c.if-self.false (sym c.if-not-readable.ensures) c.if-self-2.false (c.by_key.ensures.reads.world.same honest)
@@ -26,9 +25,9 @@ returns-in-Ok-Some g c n = record {
       c.in-Ok-Some.found (λ schema. has_value schema c.args.k c.value-wanted.result.items)
       c.requires.fits c.self.view_is c.in-Some.is c.if-self-2.false (c.by_key.ensures.reads.world.same honest)
       (sym c.in-Ok-Some.field-0-is ∙ c.in-Ok-Some.ensures.found honest truly) (c.in-Ok-Some.ensures.area honest truly) c.deliver.ensures.held standing;
-  room = first_of (search rules, grind (arith, common_steps));
-  asked = first_of (search rules, grind (arith, common_steps));
-  images = first_of (search rules, grind (arith, common_steps));
+  room = search rules;
+  asked = search rules;
+  images = search rules;
 }
 
 pub returns-then-self : goal.returns-then-self

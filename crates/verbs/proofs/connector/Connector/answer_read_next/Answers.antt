@@ -1,5 +1,4 @@
-use Rattle.std.proofs.Common.{sym, ap, ◌∙◌, refl, Ok, rules, arith}
-use Rattle.std.proofs.lemmas.Grind.{common_steps}
+use Rattle.std.proofs.Common.{sym, ap, ◌∙◌, refl, Ok, rules}
 use Rattle.indexed_file.specs.Rank.{admits}
 use Rattle.verbs.specs.Held.{silent}
 use Rattle.verbs.proofs.ReadLemmas.{at_end, next_record, standing_after_read}
@@ -9,15 +8,15 @@ use Rattle.verbs.proofs.connector.Connector.answer_read_next.Goals as goal
 
 pub returns-in-Ok-Some : goal.returns-in-Ok-Some
 returns-in-Ok-Some g c n = record {
-  fits = first_of (search rules, grind (arith, common_steps));
-  schema = first_of (search rules, grind (arith, common_steps));
-  only = first_of (search rules, grind (arith, common_steps));
-  keeps = first_of (search rules, grind (arith, common_steps));
-  early = first_of (search rules, grind (arith, common_steps));
-  refusal = first_of (search rules, grind (arith, common_steps));
-  known = first_of (search rules, grind (arith, common_steps));
-  failed_close = first_of (search rules, grind (arith, common_steps));
-  cause = first_of (search rules, grind (arith, common_steps));
+  fits = search rules;
+  schema = search rules;
+  only = search rules;
+  keeps = search rules;
+  early = search rules;
+  refusal = search rules;
+  known = search rules;
+  failed_close = search rules;
+  cause = search rules;
   step = λ honest truly standing. next_record c.self.inside c.args.self.now c.deliver.new.self c.in-Some.mode (g.L.Library.shown.world c.args.lib.now) (g.L.Library.shown.world c.next.new.self) c.args.u n c.args.area.now c.next.new.area
       c.in-Ok-Some.found c.deliver.result
       c.requires.fits c.self.view_is c.in-Some.is c.if-self.false (sym c.if-not-readable.ensures) c.if-self-2.false (c.next.ensures.reads.world.same honest)
@@ -27,30 +26,30 @@ returns-in-Ok-Some g c n = record {
       c.in-Ok-Some.found (λ schema. admits schema c.self.inside.key c.self.inside.position)
       c.requires.fits c.self.view_is c.in-Some.is c.if-self-2.false (c.next.ensures.reads.world.same honest)
       (sym c.in-Ok-Some.field-0-is ∙ c.in-Ok-Some.ensures.found honest truly) (c.in-Ok-Some.ensures.area honest truly) c.deliver.ensures.held standing;
-  room = first_of (search rules, grind (arith, common_steps));
-  asked = first_of (search rules, grind (arith, common_steps));
-  images = first_of (search rules, grind (arith, common_steps));
+  room = search rules;
+  asked = search rules;
+  images = search rules;
 }
 
 pub returns-in-Ok-None : goal.returns-in-Ok-None
 returns-in-Ok-None g c n = record {
-  fits = first_of (search rules, grind (arith, common_steps));
-  schema = first_of (search rules, grind (arith, common_steps));
-  only = first_of (search rules, grind (arith, common_steps));
-  keeps = first_of (search rules, grind (arith, common_steps));
-  early = first_of (search rules, grind (arith, common_steps));
-  refusal = first_of (search rules, grind (arith, common_steps));
-  known = first_of (search rules, grind (arith, common_steps));
-  failed_close = first_of (search rules, grind (arith, common_steps));
-  cause = first_of (search rules, grind (arith, common_steps));
+  fits = search rules;
+  schema = search rules;
+  only = search rules;
+  keeps = search rules;
+  early = search rules;
+  refusal = search rules;
+  known = search rules;
+  failed_close = search rules;
+  cause = search rules;
   step = λ honest truly standing. at_end c.self.inside c.args.self.now c.lose-in-Ok-None.new.self c.in-Some.mode (g.L.Library.shown.world c.args.lib.now) (g.L.Library.shown.world c.next.new.self) c.args.u n c.args.area.now c.next.new.area c.silent-in-Ok-None.result
       c.requires.fits c.self.view_is c.in-Some.is c.if-self.false (sym c.if-not-readable.ensures) c.if-self-2.false (c.next.ensures.reads.world.same honest)
       (c.silent-in-Ok-None.ensures ∙ ap (λ status. silent status) c.lose-in-Ok-None.ensures.status) (sym c.if-lost.ensures)
       (sym c.in-Ok-None.field-0-is ∙ c.in-Ok-None.ensures.found honest truly) (c.in-Ok-None.ensures.none (ap Ok c.in-Ok-None.field-0-is)) c.lose-in-Ok-None.ensures.held;
-  standing = first_of (search rules, grind (arith, common_steps));
-  room = first_of (search rules, grind (arith, common_steps));
-  asked = first_of (search rules, grind (arith, common_steps));
-  images = first_of (search rules, grind (arith, common_steps));
+  standing = search rules;
+  room = search rules;
+  asked = search rules;
+  images = search rules;
 }
 
 pub returns-then-self : goal.returns-then-self

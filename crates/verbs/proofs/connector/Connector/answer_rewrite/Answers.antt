@@ -1,5 +1,4 @@
-use Rattle.std.proofs.Common.{◌≡◌, sym, ap, ◌∙◌, take, refl, rules, arith}
-use Rattle.std.proofs.lemmas.Grind.{common_steps}
+use Rattle.std.proofs.Common.{◌≡◌, sym, ap, ◌∙◌, take, refl, rules}
 use Rattle.record_layout.specs.Schema.{prime_of}
 use Rattle.verbs.proofs.ChangeLemmas.{none_alike, rewrite_done, rewrite_room, refused, rewrite_misfits, rewrites_another, rewrite_reaches}
 use Rattle.verbs.proofs.connector.Connector.answer_rewrite.Goals as goal
@@ -12,28 +11,28 @@ returns g c =
     c.self.view_is c.in-Some.is c.if-self.false (sym c.if-not-updatable.ensures) (sym c.if-unread.ensures)
     c.value-prime.result (sym c.if-not-fit.ensures) is_prime (sym c.if-other.ensures) in
     record {
-      fits = first_of (search rules, grind (arith, common_steps));
-      schema = first_of (search rules, grind (arith, common_steps));
-      only = first_of (search rules, grind (arith, common_steps));
-      keeps = first_of (search rules, grind (arith, common_steps));
+      fits = search rules;
+      schema = search rules;
+      only = search rules;
+      keeps = search rules;
       early = λ none. absurd (cc);
       refusal = λ refused. let late = c.substitute.ensures.late in absurd (cc);
-      known = first_of (search rules, grind (arith, common_steps));
-      failed_close = first_of (search rules, grind (arith, common_steps));
-      cause = first_of (search rules, grind (arith, common_steps));
+      known = search rules;
+      failed_close = search rules;
+      cause = search rules;
       step = λ honest truly standing. rewrite_done c.self.inside c.args.self.now c.substitute.new.self c.in-Some.mode (g.L.Library.shown.world c.args.lib.now) (g.L.Library.shown.world c.substitute.new.lib) c.args.u c.args.length c.args.area.now c.substitute.result
           c.self.view_is c.in-Some.is c.if-self.false
           c.value-prime.result (sym c.if-not-updatable.ensures) (sym c.if-unread.ensures) (sym c.if-not-fit.ensures)
           is_prime (sym c.if-other.ensures)
           (λ session is. rw (← c.from.ensures) ((c.substitute.ensures.updates.change honest truly).step session is c.args.area.now));
-      standing = first_of (search rules, grind (arith, common_steps));
+      standing = search rules;
       room = λ honest truly standing. rewrite_room c.self.inside c.args.self.now c.substitute.new.self c.in-Some.mode (g.L.Library.shown.world c.args.lib.now) (g.L.Library.shown.world c.substitute.new.lib) c.args.u c.args.length c.args.area.now c.substitute.result
           c.self.view_is c.in-Some.is c.if-self.false
           c.value-prime.result (g.L.Library.shown.room c.args.lib.now c.args.u) (sym c.if-not-updatable.ensures) (sym c.if-unread.ensures) (sym c.if-not-fit.ensures)
           is_prime (sym c.if-other.ensures)
           (λ session. rw (← c.from.ensures) ((c.substitute.ensures.updates.change honest truly).room c.args.area.now session));
-      asked = first_of (search rules, grind (arith, common_steps));
-      images = first_of (search rules, grind (arith, common_steps));
+      asked = search rules;
+      images = search rules;
     }
 
 pub returns-then-not-fit : goal.returns-then-not-fit
