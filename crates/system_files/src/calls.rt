@@ -9,6 +9,11 @@ use std::rt::Files;
 /// So many interrupted calls in a row are a fault of the device.
 pub(crate) const MOST_INTERRUPTED: u32 = 1000;
 
+/// Whether a signal interrupted a call.
+pub(crate) fn is_interrupted(error: &io::Error) -> bool {
+    error.kind() == io::ErrorKind::Interrupted
+}
+
 /// Makes a call again while it is interrupted.
 pub(crate) fn again<T, F: Fn() -> io::Result<T> + Drop>(call: F) -> io::Result<T>
     requires { F.IsAlwaysCallable call }
@@ -17,7 +22,7 @@ pub(crate) fn again<T, F: Fn() -> io::Result<T> + Drop>(call: F) -> io::Result<T
         match call() {
             Ok(answer) => return Ok(answer),
             Err(error) => {
-                if error.kind() != io::ErrorKind::Interrupted {
+                if !is_interrupted(&error) {
                     return Err(error);
                 }
             }
@@ -81,7 +86,7 @@ fn read_part<F: FileExt>(file: &F, at: u64, bytes: &mut [u8]) -> Option<usize>
         match file.read_at(bytes, at) {
             Ok(n) => return if n > 0 { Some(n) } else { None },
             Err(error) => {
-                if error.kind() != io::ErrorKind::Interrupted {
+                if !is_interrupted(&error) {
                     return None;
                 }
             }
@@ -112,7 +117,7 @@ fn write_part<F: FileExt>(file: &F, at: u64, bytes: &[u8]) -> Option<usize>
         match file.write_at(bytes, at) {
             Ok(n) => return if n > 0 { Some(n) } else { None },
             Err(error) => {
-                if error.kind() != io::ErrorKind::Interrupted {
+                if !is_interrupted(&error) {
                     return None;
                 }
             }

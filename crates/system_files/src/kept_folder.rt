@@ -32,9 +32,11 @@ impl KeptFolder {
     pub(crate) fn sync<R: Files>(&mut self, rt: &R) -> bool
         ensures { self.new.path ≡ self.old.path }
     {
-        if !self.is_lost {
-            self.is_lost = !sync_folder(rt, self.path.as_str());
+        if self.is_lost {
+            return false;
         }
-        !self.is_lost
+        let is_done = sync_folder(rt, self.path.as_str());
+        self.is_lost = !is_done;
+        is_done
     }
 }

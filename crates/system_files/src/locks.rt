@@ -1,7 +1,7 @@
 //! Locks of the system on open files. A lock belongs to the file as it was opened: it goes when
 //! that is closed, and so with the process.
 
-use crate::calls::{MOST_INTERRUPTED, again};
+use crate::calls::{MOST_INTERRUPTED, again, is_interrupted};
 use std::fs::{File, TryLockError};
 use std::io;
 
@@ -54,7 +54,7 @@ fn was_had<F: Fn() -> Result<(), TryLockError> + Drop>(call: F) -> bool
             Ok(()) => return true,
             Err(TryLockError::WouldBlock) => return false,
             Err(TryLockError::Error(error)) => {
-                if error.kind() != io::ErrorKind::Interrupted {
+                if !is_interrupted(&error) {
                     return true;
                 }
             }

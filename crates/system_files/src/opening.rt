@@ -43,20 +43,20 @@ where
 }
 
 fn open_path<R: Files>(rt: &R, path: &str, is_written: bool, is_new: bool) -> io::Result<R::File> {
-    again(|| {
-        OpenOptions::new()
-            .read(true)
-            .write(is_written)
-            .create_new(is_new)
-            .open(rt, path)
-    })
+    again(|| options(is_written, is_new).open(rt, path))
+}
+
+fn options(is_written: bool, is_new: bool) -> OpenOptions {
+    let mut options = OpenOptions::new();
+    options.read(true);
+    options.write(is_written);
+    options.create_new(is_new);
+    options
 }
 
 fn refuses_writing(error: &io::Error) -> bool {
-    matches!(
-        error.kind(),
-        io::ErrorKind::PermissionDenied | io::ErrorKind::ReadOnlyFilesystem
-    )
+    let kind = error.kind();
+    kind == io::ErrorKind::PermissionDenied || kind == io::ErrorKind::ReadOnlyFilesystem
 }
 
 fn is_same(a: &Metadata, b: &Metadata) -> bool {
