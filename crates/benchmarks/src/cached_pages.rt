@@ -125,7 +125,7 @@ fn in_memory(rt: &HostRuntime) -> anyhow::Result<()> {
     fill(&mut pages, 16)?;
     write_all(&mut pages, 16, 1)?;
     let sum = read_all(&mut pages, 16, 2)?;
-    println!(rt; "pages {} sum {sum}", file.pager.count)?;
+    println!(rt; "pages {} sum {sum}", file.pager().count())?;
     Ok(())
 }
 

@@ -1,7 +1,7 @@
 //! The file that is worked on.
 
 ghost use Rattle.std.specs.Prelude.{◌≡◌, true, IfOk};
-ghost use Rattle.page_alloc.specs.PagedFile.{IsOpenOver};
+ghost use Rattle.page_alloc.specs.PagedFile.{IsOpenOver, is_begun};
 
 use folder_shelf::{EmptyDisk, FolderShelf};
 use io_state::{Fault, FileName};
@@ -28,7 +28,7 @@ pub fn new_file<S: Shelf>(
     frames: NonZeroUsize,
 ) -> Result<PagedFile, Fault>
     ensures ready { IfOk result (λ file. IsOpenOver file (S.state shelf.new)) }
-    ensures changed { IfOk result (λ file. file.changed ≡ true) }
+    ensures changed { IfOk result (λ file. is_begun file ≡ true) }
 {
     shelf.attach(&[file_name()])?;
     PagedFile::create(rt.alloc(), shelf, 0, frames, u32::MAX, &[0; 4096])

@@ -8,6 +8,22 @@ use Rattle.pages.specs.PagesState.{PagesState}
 use Rattle.page_alloc.specs.declared.pager.Pager.{Pager}
 use Rattle.page_alloc.specs.Chain.{chain, used}
 
+-- how many pages are counted, the first free one, how many are free, and the greatest count
+abbrev pub pages_counted : Pager → ℕ
+pages_counted pager = pager.count
+
+abbrev pub first_free_page : Pager → ℕ
+first_free_page pager = pager.first
+
+abbrev pub pages_free : Pager → ℕ
+pages_free pager = pager.free
+
+abbrev pub page_limit : Pager → ℕ
+page_limit pager = pager.limit
+
+abbrev pub pager_with : (count first free limit : ℕ) → Pager
+pager_with count first free limit = record { count = count; first = first; free = free; limit = limit }
+
 -- the free pages, the one to be taken next first; nothing where the chain is not what it should be
 abbrev pub free_pages : Cache → Pager → ShelfState → Option (List ℕ)
 free_pages cache pager shelf = chain (cached_pages_of cache shelf) pager.count pager.first pager.free

@@ -1,6 +1,6 @@
 -- A file that is open, and what its making and its closing leave.
 use Rattle.std.specs.Prelude.{◌≡◌, ◌⊎◌, ℕ, ◌*◌, ◌≤◌, if◌then◌else◌, List, [], ◌∷◌, length, drop, true, false}
-use Rattle.std.specs.Prelude.{IsTrue, Some}
+use Rattle.std.specs.Prelude.{Bool, IsTrue, Some}
 use Rattle.page_store.specs.DeviceFile.{DeviceFile, content}
 use Rattle.page_store.specs.Images.{IsSettled}
 use Rattle.page_store.specs.Moments.{Throughout}
@@ -13,6 +13,34 @@ use Rattle.page_cache.specs.Cached.{cached_pages_of, is_counted_page, IsClean}
 use Rattle.page_alloc.specs.declared.pager.Pager.{Pager}
 use Rattle.page_alloc.specs.declared.paged_file.PagedFile.{PagedFile}
 use Rattle.page_alloc.specs.Joining.{IsJoined}
+
+-- its cache, and its numbers of pages
+abbrev pub cache_of : PagedFile → Cache
+cache_of held = held.cache
+
+abbrev pub counts_of : PagedFile → Pager
+counts_of held = held.pager
+
+-- whether a change was begun, and the file where one is
+abbrev pub is_begun : PagedFile → Bool
+is_begun held = held.changed
+
+abbrev pub begun_from : PagedFile → PagedFile
+begun_from held = record held { changed = true }
+
+-- the unit of its file, how often a page was asked for, and how many may be in memory
+abbrev pub unit_of_pages : PagedFile → ℕ
+unit_of_pages held = held.cache.store.unit
+
+abbrev pub times_asked : PagedFile → ℕ
+times_asked held = held.cache.asked
+
+abbrev pub most_held : PagedFile → ℕ
+most_held held = held.cache.frames.cap
+
+-- the same pages, with no page asked for yet
+abbrev pub asked_anew : PagedFile → PagedFile
+asked_anew held = record held { cache = record held.cache { asked = 0 } }
 
 -- calls may be made, and the gate is open on the disk where a change was begun; where none was, no
 -- page was changed

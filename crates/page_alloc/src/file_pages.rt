@@ -17,7 +17,7 @@ impl<'a, S: Shelf> Pages for FilePages<'a, S> {
     ghost use Rattle.std.specs.Prelude.{◌≡◌, true, refl};
     ghost use Rattle.std.proofs.Common.{◌∙◌};
     ghost use Rattle.page_alloc.specs.Joining.{FaultsRose as Failed};
-    ghost use Rattle.page_alloc.specs.PagedFile.{IsOpenOver};
+    ghost use Rattle.page_alloc.specs.PagedFile.{IsOpenOver, is_begun};
     ghost use Rattle.page_alloc.specs.Steps.{pages_state_of, ReadsFilePages, Goes as GoesOn};
     ghost use Rattle.page_alloc.specs.Steps.{Moves as MovesOn};
     ghost use Rattle.page_alloc.specs.StepLaws.{goes_nothing, goes_on, goes_moves, reads_nothing, reads_on};
@@ -26,7 +26,7 @@ impl<'a, S: Shelf> Pages for FilePages<'a, S> {
     ghost shown = { record {
       state = λ p. pages_state_of p.file.now (S.Shelf.state p.shelf.now);
       IsReady = λ p. IsOpenOver p.file.now (S.Shelf.state p.shelf.now);
-      CanChange = λ p. p.file.now.changed ≡ true;
+      CanChange = λ p. is_begun p.file.now ≡ true;
       Reads = λ a b. (b.file.ghost_name ≡ a.file.ghost_name) × (b.shelf.ghost_name ≡ a.shelf.ghost_name)
           × ReadsFilePages a.file.now b.file.now (S.Shelf.state a.shelf.now) (S.Shelf.state b.shelf.now)
           (S.Shelf.fault_count a.shelf.now) (S.Shelf.fault_count b.shelf.now);

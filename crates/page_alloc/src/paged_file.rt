@@ -5,7 +5,9 @@ ghost use Rattle.page_store.specs.ShelfState.{HasUnit, KeepsOthers, FaultHasCaus
 ghost use Rattle.page_cache.specs.Calls.{ShowsSame};
 ghost use Rattle.page_cache.specs.HeaderCalls.{OpensGate};
 ghost use Rattle.page_alloc.specs.PagedFile.{IsOpenOver, IsNewPagedFile, IsOldPagedFile, StandsOrRefused};
-ghost use Rattle.page_alloc.specs.PagedFile.{MayShut, IsShut};
+ghost use Rattle.page_alloc.specs.PagedFile.{MayShut, IsShut, cache_of, counts_of, is_begun, begun_from};
+ghost use Rattle.page_alloc.specs.PagedFile.{unit_of_pages, most_held, asked_anew};
+ghost use Rattle.page_alloc.specs.Joining.{pages_counted};
 ghost use Rattle.page_alloc.specs.Steps.{MovesOnShelf};
 
 use crate::pager::Pager;
@@ -19,9 +21,9 @@ use std::num::NonZeroUsize;
 /// The cache and the free pages of a file, and whether its gate was opened.
 #[derive(Drop)]
 pub struct PagedFile {
-    pub cache: Cache,
-    pub pager: Pager,
-    pub changed: bool,
+    pub(crate) cache: Cache,
+    pub(crate) pager: Pager,
+    changed: bool,
 }
 
 impl PagedFile {
@@ -38,7 +40,7 @@ impl PagedFile {
         requires unit { HasUnit (S.state shelf.old) unit }
         ensures made { IfOk result (λ held. IsNewPagedFile held unit limit) }
         ensures ready { IfOk result (λ held. IsOpenOver held (S.state shelf.new)) }
-        ensures frames { IfOk result (λ held. held.cache.frames.cap ≡ non_zero_usize_get frames) }
+        ensures frames { IfOk result (λ held. most_held held ≡ non_zero_usize_get frames) }
         ensures opens { OpensGate S.state S.fault_count unit StandsOrRefused shelf.old shelf.new result }
     {
         let mut store = Store::make(shelf, unit)?;
@@ -60,8 +62,8 @@ impl PagedFile {
         frames: NonZeroUsize,
         pager: Pager,
     ) -> Result<PagedFile, Fault>
-        requires counted { pager.count ≤ store.pages }
-        requires header { 0 < pager.count }
+        requires counted { pages_counted pager ≤ store.pages }
+        requires header { 0 < pages_counted pager }
         ensures { MatchResult result
             (IsOldPagedFile store (non_zero_usize_get frames) pager) (λ fault. fault ≡ Fault.Memory) }
     {
@@ -72,14 +74,36 @@ impl PagedFile {
         })
     }
 
+    /// Its cache.
+    pub fn cache(&self) -> &Cache
+        ensures { result.now ≡ cache_of self.now }
+    {
+        &self.cache
+    }
+
+    /// Its numbers of pages.
+    pub fn pager(&self) -> Pager
+        ensures { result ≡ counts_of self.now }
+    {
+        self.pager
+    }
+
+    /// Counts the pages asked for from 0 again.
+    pub fn restart_count(&mut self)
+        ensures { self.new ≡ asked_anew self.old }
+    {
+        self.cache.restart_count();
+    }
+
     /// Opens the gate before the first change; later it does nothing. A fault leaves all pages as they were,
     /// and the file as it was or refused; the call may be made again.
     pub fn begin<S: Shelf>(&mut self, shelf: &mut S) -> Result<(), Fault>
         requires ready { IsOpenOver self.old (S.state shelf.old) }
-        ensures begun { MatchResult result (λ _. self.new ≡ record self.old { changed = true })
+        ensures begun { MatchResult result (λ _. self.new ≡ begun_from self.old)
             (λ _. self.new ≡ self.old) }
-        ensures same { ShowsSame self.old.cache self.new.cache (S.state shelf.old) (S.state shelf.new) }
-        ensures nothing { self.old.changed ≡ true → (S.state shelf.new).file ≡ (S.state shelf.old).file }
+        ensures same { ShowsSame (cache_of self.old) (cache_of self.new) (S.state shelf.old)
+            (S.state shelf.new) }
+        ensures nothing { is_begun self.old ≡ true → (S.state shelf.new).file ≡ (S.state shelf.old).file }
         ensures moves { MovesOnShelf S.state S.fault_count self.old self.new shelf.old shelf.new }
         ensures cause { FaultHasCause (S.fault_count shelf.old) (S.fault_count shelf.new) result }
     {
@@ -95,10 +119,10 @@ impl PagedFile {
     /// does nothing. After a fault the file is refused, or it is closed.
     pub fn close<S: Shelf>(&mut self, shelf: &mut S, header: &[u8; PAGE_SIZE]) -> Result<(), Fault>
         requires ready { IsOpenOver self.old (S.state shelf.old) }
-        ensures nothing { self.old.changed ≡ false → (S.state shelf.new).file ≡ (S.state shelf.old).file }
+        ensures nothing { is_begun self.old ≡ false → (S.state shelf.new).file ≡ (S.state shelf.old).file }
         ensures closed { OnOk result (IsShut header.now self.old (S.state shelf.old) (S.state shelf.new)) }
         ensures images { MayShut header.now self.old (S.state shelf.old) (S.state shelf.new) }
-        ensures others { KeepsOthers self.old.cache.store.unit (S.state shelf.old) (S.state shelf.new) }
+        ensures others { KeepsOthers (unit_of_pages self.old) (S.state shelf.old) (S.state shelf.new) }
         ensures cause { FaultHasCause (S.fault_count shelf.old) (S.fault_count shelf.new) result }
     {
         if !self.changed {

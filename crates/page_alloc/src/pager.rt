@@ -3,6 +3,7 @@ ghost use Rattle.std.specs.Prelude.{◌≡◌, OnOk, OnErr, ⊤};
 ghost use Rattle.page_cache.specs.Cached.{IsOver, IsOverPage};
 ghost use Rattle.page_cache.specs.Calls.{KeepsPages};
 ghost use Rattle.page_alloc.specs.Joining.{available_of, IsJoined, CanTakeFree, CanTakeNew};
+ghost use Rattle.page_alloc.specs.Joining.{pages_counted, first_free_page, pages_free, pager_with};
 ghost use Rattle.page_alloc.specs.PagerCalls.{FailsOnly, FailsToGive, FollowsFree, AsksOnce, PagerGoes};
 ghost use Rattle.page_alloc.specs.PagerCalls.{TakesAnyPage, TakesFreePage, TakesNewPage, GivesPage};
 ghost use Rattle.page_alloc.specs.Taking.{Freed};
@@ -15,20 +16,20 @@ use page_store::Shelf;
 /// What the header says of pages.
 #[derive(Clone, Copy, Debug)]
 pub struct Pager {
-    /// How many pages are counted, the header among them.
-    pub count: u32,
-    /// The first free page, 0 where there is none.
-    pub first: u32,
-    /// How many pages are free.
-    pub free: u32,
-    /// The greatest count.
-    pub limit: u32,
+    // How many pages are counted, the header among them.
+    pub(crate) count: u32,
+    // The first free page, 0 where there is none.
+    pub(crate) first: u32,
+    // How many pages are free.
+    pub(crate) free: u32,
+    // The greatest count.
+    pub(crate) limit: u32,
 }
 
 impl Pager {
     /// The pages of a new file: the header alone.
     pub fn fresh(limit: u32) -> Pager
-        ensures { result ≡ record { count = 1; first = 0; free = 0; limit = limit } }
+        ensures { result ≡ pager_with 1 0 0 limit }
     {
         Pager {
             count: 1,
@@ -36,6 +37,39 @@ impl Pager {
             free: 0,
             limit,
         }
+    }
+
+    /// The pages of a file with these numbers in its header.
+    pub fn numbered(count: u32, first: u32, free: u32, limit: u32) -> Pager
+        ensures { result ≡ pager_with count first free limit }
+    {
+        Pager {
+            count,
+            first,
+            free,
+            limit,
+        }
+    }
+
+    /// How many pages are counted, the header among them.
+    pub fn count(&self) -> u32
+        ensures { result ≡ pages_counted self.now }
+    {
+        self.count
+    }
+
+    /// The first free page, 0 where there is none.
+    pub fn first(&self) -> u32
+        ensures { result ≡ first_free_page self.now }
+    {
+        self.first
+    }
+
+    /// How many pages are free.
+    pub fn free(&self) -> u32
+        ensures { result ≡ pages_free self.now }
+    {
+        self.free
     }
 
     /// How many pages can be taken.

@@ -10,8 +10,9 @@ use Rattle.page_store.specs.Pages.{page_of_bytes}
 use Rattle.page_store.specs.ShelfState.{ShelfState}
 use Rattle.page_cache.specs.Cached.{cached_pages_of}
 use Rattle.page_alloc.specs.Chain.{chain, used}
-use Rattle.page_alloc.specs.PagedFile.{IsClosedWith, ClosedWith, ClosesPages}
+use Rattle.page_alloc.specs.PagedFile.{IsClosedWith, ClosedWith, ClosesPages, cache_of, counts_of}
 use Rattle.page_alloc.specs.Steps.{pages_state_of}
+use Rattle.page_alloc.specs.Joining.{first_free_page, pages_counted, pages_free}
 use Rattle.file_header.specs.declared.header.Header.{Header}
 use Rattle.file_header.specs.Bounds.{FitsItsBytes, IsHeader}
 use Rattle.file_header.specs.FirstPage.{header_bytes, closed_page}
@@ -46,9 +47,9 @@ unpathed_stands opened live file stands = record {
 }
 
 module _ (held : ShelfFile) (shelf : ShelfState) (file : File) (header : Header) (page : List ℕ) (ready : IsReady held shelf) (unbroken : IsFalse held.file.broken) (stood : StandsFor held shelf file)
-    (of : IsHeaderOf header held.file) (counts : Counts header held.pages.pager.count held.pages.pager.first held.pages.pager.free) (room : FitsItsBytes header) (written : page ≡ header_bytes header) where
+    (of : IsHeaderOf header held.file) (counts : Counts header (pages_counted (counts_of held.pages)) (first_free_page (counts_of held.pages)) (pages_free (counts_of held.pages))) (room : FitsItsBytes header) (written : page ≡ header_bytes header) where
   allowed : IsHeader header
-  allowed = closed_header held.file (cached_pages_of held.pages.cache shelf) held.pages.pager.count held.pages.pager.first held.pages.pager.free file header stood.stands stood.sound ready.shaped of counts room
+  allowed = closed_header held.file (cached_pages_of (cache_of held.pages) shelf) (pages_counted (counts_of held.pages)) (first_free_page (counts_of held.pages)) (pages_free (counts_of held.pages)) file header stood.stands stood.sound ready.shaped of counts room
 
   by_header : IsOpenedBy header (unpathed held.file)
   by_header = record {
@@ -74,23 +75,23 @@ module _ (held : ShelfFile) (shelf : ShelfState) (file : File) (header : Header)
     no_path = refl;
   }
 
-  module _ (bytes : List ℕ) (closed : IsClosedWith page held.pages.cache shelf bytes) where
-    alike : AreAlike held.pages.pager.count (page_of_bytes bytes) (cached_pages_of held.pages.cache shelf)
+  module _ (bytes : List ℕ) (closed : IsClosedWith page (cache_of held.pages) shelf bytes) where
+    alike : AreAlike (pages_counted (counts_of held.pages)) (page_of_bytes bytes) (cached_pages_of (cache_of held.pages) shelf)
     alike n counted =
-        let low = and_parts (ltb 0 n) (ltb n held.pages.pager.count) counted in
-        let below = ltb-true n held.pages.pager.count low.1 in
+        let low = and_parts (ltb 0 n) (ltb n (pages_counted (counts_of held.pages))) counted in
+        let below = ltb-true n (pages_counted (counts_of held.pages)) low.1 in
         let all = ready.over.joined.counted in
-        closed.pages n (and_from (ltb 0 n) (ltb n held.pages.cache.store.pages) low.0 (lt-ltb n held.pages.cache.store.pages (omega arith)))
+        closed.pages n (and_from (ltb 0 n) (ltb n (cache_of held.pages).store.pages) low.0 (lt-ltb n (cache_of held.pages).store.pages (omega arith)))
 
-    same_free : free_in header bytes ≡ chain (cached_pages_of held.pages.cache shelf) held.pages.pager.count held.pages.pager.first held.pages.pager.free
+    same_free : free_in header bytes ≡ chain (cached_pages_of (cache_of held.pages) shelf) (pages_counted (counts_of held.pages)) (first_free_page (counts_of held.pages)) (pages_free (counts_of held.pages))
     same_free =
         (λ i. chain (page_of_bytes bytes) (counts.pages_are i) (counts.first_is i) (counts.free_are i))
-        ∙ same_chain (page_of_bytes bytes) (cached_pages_of held.pages.cache shelf) held.pages.pager.count alike held.pages.pager.first held.pages.pager.free
+        ∙ same_chain (page_of_bytes bytes) (cached_pages_of (cache_of held.pages) shelf) (pages_counted (counts_of held.pages)) alike (first_free_page (counts_of held.pages)) (pages_free (counts_of held.pages))
 
     live_same : live_in header bytes ≡ (pages_state_of held.pages shelf).live
     live_same =
         (λ i. used (page_of_bytes bytes) (counts.pages_are i) (chain (page_of_bytes bytes) (counts.pages_are i) (counts.first_is i) (counts.free_are i)))
-        ∙ same_live (page_of_bytes bytes) (cached_pages_of held.pages.cache shelf) held.pages.pager.count alike held.pages.pager.first held.pages.pager.free
+        ∙ same_live (page_of_bytes bytes) (cached_pages_of (cache_of held.pages) shelf) (pages_counted (counts_of held.pages)) alike (first_free_page (counts_of held.pages)) (pages_free (counts_of held.pages))
 
     accepted : look_of (Some bytes) ≡ Accepted header
     accepted =
@@ -115,11 +116,11 @@ module _ (held : ShelfFile) (shelf : ShelfState) (file : File) (header : Header)
       };
     }
 
-  ends : (c : Option (List ℕ)) → IsRefused c ⊎ ((bytes : List ℕ) × (c ≡ Some bytes) × IsClosedWith page held.pages.cache shelf bytes) → ClosedFileOrRefused held.file.schema file c
+  ends : (c : Option (List ℕ)) → IsRefused c ⊎ ((bytes : List ℕ) × (c ≡ Some bytes) × IsClosedWith page (cache_of held.pages) shelf bytes) → ClosedFileOrRefused held.file.schema file c
   ends c (inl refused) = inl refused
   ends c (inr is) = inr (is.0, is.1, are_closed is.0 is.2)
 
-  pub closes : {E : Type 0} (old new : DeviceFile) (result : Result (Unit {0}) E) → ClosesPages page held.pages.cache shelf old new → OnOk result (ClosedWith page held.pages.cache shelf new)
+  pub closes : {E : Type 0} (old new : DeviceFile) (result : Result (Unit {0}) E) → ClosesPages page (cache_of held.pages) shelf old new → OnOk result (ClosedWith page (cache_of held.pages) shelf new)
       → Closes held.file.schema file old new result
   closes old new (Ok x) images closed = record {
     images = throughout_weaker _ (ClosedFileOrRefused held.file.schema file) old new ends images;

@@ -8,7 +8,7 @@ use Rattle.file_header.specs.declared.header.Header.{Header}
 use Rattle.file_header.specs.Reading.{header_in}
 use Rattle.file_header.specs.Bounds.{IsHeader}
 use Rattle.shelf_file.specs.declared.look.Look.{Look}
-use Rattle.shelf_file.specs.declared.look.Look.TheVariants.{NoFile, Refused, Accepted}
+use Rattle.shelf_file.specs.declared.look.Look.TheVariants.{Accepted}
 use Rattle.shelf_file.specs.Named.{look_of, look_by}
 
 -- a call that only answers leaves the unit's file

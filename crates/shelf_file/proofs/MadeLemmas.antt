@@ -13,15 +13,14 @@ use Rattle.page_store.proofs.OpenLemmas.{open_kept, all_refused}
 use Rattle.page_store.specs.ShelfState.{ShelfState, unit_file}
 use Rattle.page_alloc.specs.declared.paged_file.PagedFile.{PagedFile}
 use Rattle.page_alloc.specs.Chain.{is_page}
-use Rattle.page_alloc.specs.Joining.{FaultsRose, available_of}
-use Rattle.page_alloc.specs.PagedFile.{IsOpenOver, IsNewPagedFile}
+use Rattle.page_alloc.specs.Joining.{FaultsRose, available_of, page_limit}
+use Rattle.page_alloc.specs.PagedFile.{IsOpenOver, IsNewPagedFile, counts_of, most_held}
 use Rattle.page_alloc.specs.Steps.{Goes, pages_state_of}
 use Rattle.page_alloc.specs.StepLaws.{failed_after}
 use Rattle.page_alloc.proofs.OpenLemmas.{made_quietly}
 use Rattle.open_file.specs.Creating.{IsNewFile, IsNewOpenFile}
 use Rattle.open_file.specs.Faults.{IsCausedIn}
 use Rattle.open_file.specs.declared.open_file.OpenFile.{OpenFile}
-use Rattle.page_alloc.specs.declared.pager.Pager.{Pager}
 use Rattle.shelf_file.specs.Shelves.{IsMade}
 use Rattle.shelf_file.specs.Standing.{HasLimits}
 
@@ -52,11 +51,11 @@ module _ (unit limit : ℕ) (a b : PagedFile) (s t : ShelfState) (failed fails :
   pub new_free : (n : ℕ) → (pages_state_of a s).live n ≡ None
   new_free n = rw (made.pager, none_counted n) refl
 
-  pub new_available : available_of a.pager ≡ limit - 1
+  pub new_available : available_of (counts_of a) ≡ limit - 1
   new_available = rw made.pager (omega arith)
 
   -- a fault is no lack of pages
-  pub made_cause : (first keys : ℕ) (e : Fault) → first ≤ failed → 16 ≤ limit → keys ≤ 9 → IsCaused (FaultsRose failed fails) (available_of a.pager < keys) e
+  pub made_cause : (first keys : ℕ) (e : Fault) → first ≤ failed → 16 ≤ limit → keys ≤ 9 → IsCaused (FaultsRose failed fails) (available_of (counts_of a) < keys) e
       → IsCausedIn false (FaultsRose first fails) ⊥ e
   made_cause first keys e before enough few cause = record {
     device = λ is. failed_after first failed fails before (cause.device is);
@@ -64,7 +63,7 @@ module _ (unit limit : ℕ) (a b : PagedFile) (s t : ShelfState) (failed fails :
     broken = λ is. absurd (cause.not_broken is);
   }
 
-  pub is_made : (file : OpenFile) (schema : Schema) → IsNewOpenFile file schema → available_of b.pager + length schema.keys ≡ available_of a.pager
+  pub is_made : (file : OpenFile) (schema : Schema) → IsNewOpenFile file schema → available_of (counts_of b) + length schema.keys ≡ available_of (counts_of a)
       → (IsTrue t.is_honest → IsNewFile file (pages_state_of b t).live (IsTrue (pages_state_of b t).is_sound)) → IsMade (record { file = file; pages = b }) unit limit schema t
   is_made file schema parts spent new = record {
     unit_is = goes.parts.unit ∙ made.unit_is;
@@ -72,7 +71,7 @@ module _ (unit limit : ℕ) (a b : PagedFile) (s t : ShelfState) (failed fails :
     unbroken = parts.unbroken;
     changed = goes.gate ∙ made.changed;
     room =
-        let left : available_of b.pager ≡ limit - (1 + length schema.keys) = let has = new_available in omega arith in
+        let left : available_of (counts_of b) ≡ limit - (1 + length schema.keys) = let has = new_available in omega arith in
         λ i. Pages (parts.heights i) (left i);
     ready = record { over = goes.ready ready; shaped = parts.shaped };
     stands = λ honest. record { stands = (new honest).stands; sound = (new honest).sound };
@@ -88,9 +87,9 @@ at_err (Ok x) P p = tt
 at_err (Err e) P p = p
 
 -- what was made has as many frames as its pages had at the start, and their limit
-pub made_limits : (unit limit frames : ℕ) (a b : PagedFile) (s t : ShelfState) (failed fails : ℕ) → IsNewPagedFile a unit limit → a.cache.frames.cap ≡ frames
+pub made_limits : (unit limit frames : ℕ) (a b : PagedFile) (s t : ShelfState) (failed fails : ℕ) → IsNewPagedFile a unit limit → most_held a ≡ frames
     → Goes a b s t failed fails → (file : OpenFile) → HasLimits limit frames (record { file = file; pages = b })
 made_limits unit limit frames a b s t failed fails made cap goes file = record {
-  limit = goes.limit ∙ ap (λ (pager : Pager). pager.limit) made.pager;
+  limit = goes.limit ∙ ap page_limit made.pager;
   cap = goes.parts.cap ∙ cap;
 }

@@ -6,27 +6,28 @@ use Rattle.page_store.specs.ShelfState.{ShelfState, unit_file}
 use Rattle.page_cache.specs.Cached.{cached_pages_of, is_counted_page}
 use Rattle.page_alloc.specs.declared.paged_file.PagedFile.{PagedFile}
 use Rattle.page_alloc.specs.Chain.{chain, used}
-use Rattle.page_alloc.specs.Joining.{free_pages}
+use Rattle.page_alloc.specs.Joining.{free_pages, pages_counted, first_free_page, pages_free, pager_with}
 use Rattle.page_alloc.specs.Steps.{pages_state_of}
+use Rattle.page_alloc.specs.PagedFile.{cache_of, counts_of}
 use Rattle.file_header.specs.declared.header.Header.{Header}
 use Rattle.shelf_file.specs.Named.{free_in, live_in}
 use Rattle.shelf_file.proofs.PagesLemmas.{AreAlike, same_chain, same_live}
 
 module _ (held : PagedFile) (shelf : ShelfState) (unit limit : ℕ) (header : Header)
-    (pager : held.pager ≡ record { count = header.pages; first = header.first_free; free = header.free; limit = limit })
-    (store : held.cache.store ≡ record { unit = unit; pages = header.pages })
-    (pages : (n : ℕ) → cached_pages_of held.cache shelf n ≡ (if is_counted_page held.cache n then page_of_bytes (content (unit_file shelf unit)) n else [])) where
-  alike : AreAlike header.pages (cached_pages_of held.cache shelf) (page_of_bytes (content (unit_file shelf unit)))
+    (pager : counts_of held ≡ pager_with header.pages header.first_free header.free limit)
+    (store : (cache_of held).store ≡ record { unit = unit; pages = header.pages })
+    (pages : (n : ℕ) → cached_pages_of (cache_of held) shelf n ≡ (if is_counted_page (cache_of held) n then page_of_bytes (content (unit_file shelf unit)) n else [])) where
+  alike : AreAlike header.pages (cached_pages_of (cache_of held) shelf) (page_of_bytes (content (unit_file shelf unit)))
   alike n page =
-      let counted : is_counted_page held.cache n ≡ true = ap (λ x. ltb 0 n && ltb n x.pages) store ∙ page in
+      let counted : is_counted_page (cache_of held) n ≡ true = ap (λ x. ltb 0 n && ltb n x.pages) store ∙ page in
       pages n ∙ ap (λ b. if b then page_of_bytes (content (unit_file shelf unit)) n else []) counted
 
-  pub opened_free : free_pages held.cache held.pager shelf ≡ free_in header (content (unit_file shelf unit))
+  pub opened_free : free_pages (cache_of held) (counts_of held) shelf ≡ free_in header (content (unit_file shelf unit))
   opened_free =
-      ap (λ p. chain (cached_pages_of held.cache shelf) p.count p.first p.free) pager
-      ∙ same_chain (cached_pages_of held.cache shelf) (page_of_bytes (content (unit_file shelf unit))) header.pages alike header.first_free header.free
+      ap (λ p. chain (cached_pages_of (cache_of held) shelf) (pages_counted p) (first_free_page p) (pages_free p)) pager
+      ∙ same_chain (cached_pages_of (cache_of held) shelf) (page_of_bytes (content (unit_file shelf unit))) header.pages alike header.first_free header.free
 
   pub opened_live : (pages_state_of held shelf).live ≡ live_in header (content (unit_file shelf unit))
   opened_live =
-      ap (λ p. used (cached_pages_of held.cache shelf) p.count (chain (cached_pages_of held.cache shelf) p.count p.first p.free)) pager
-      ∙ same_live (cached_pages_of held.cache shelf) (page_of_bytes (content (unit_file shelf unit))) header.pages alike header.first_free header.free
+      ap (λ p. used (cached_pages_of (cache_of held) shelf) (pages_counted p) (chain (cached_pages_of (cache_of held) shelf) (pages_counted p) (first_free_page p) (pages_free p))) pager
+      ∙ same_live (cached_pages_of (cache_of held) shelf) (page_of_bytes (content (unit_file shelf unit))) header.pages alike header.first_free header.free

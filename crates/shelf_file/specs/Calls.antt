@@ -18,6 +18,7 @@ use Rattle.record_layout.specs.Schema.{Schema}
 use Rattle.page_store.specs.ShelfState.{ShelfState}
 use Rattle.page_alloc.specs.Joining.{FaultsRose}
 use Rattle.page_alloc.specs.Steps.{ReadsFilePages, Moves, pages_state_of}
+use Rattle.page_alloc.specs.PagedFile.{is_begun, times_asked}
 use Rattle.open_file.specs.Stands.{Stands}
 use Rattle.open_file.specs.Faults.{IsCausedIn}
 use Rattle.open_file.specs.Reading.{FindsFirst, Seeks}
@@ -67,9 +68,9 @@ shown_on_shelf = record {
   is_broken = λ at. at.held.file.broken;
   schema = λ at. at.held.file.schema;
   room = λ at. room_in at.held;
-  asked = λ at. at.held.pages.cache.asked;
+  asked = λ at. times_asked at.held.pages;
   IsReady = λ at. IsReady at.held at.shelf;
-  CanChange = λ at. at.held.pages.changed ≡ true;
+  CanChange = λ at. is_begun at.held.pages ≡ true;
   Reads = λ before after. OnlyReadsFile before.held after.held before.shelf after.shelf before.faults
       after.faults;
   Begins = λ before after. Moves before.held.pages after.held.pages before.shelf after.shelf before.faults
@@ -82,7 +83,7 @@ pub record ReadsOnShelf {X : Type 0} (most : ℕ) (before after : FileOnShelf)
     (result : Result X Fault) : Type 0 where
   pub broken : IsTrue before.held.file.broken → result ≡ Err Broken
   pub cause : IfErr result (IsCausedIn before.held.file.broken (FaultsRose before.faults after.faults) ⊥)
-  pub asked : after.held.pages.cache.asked ≤ before.held.pages.cache.asked + most
+  pub asked : times_asked after.held.pages ≤ times_asked before.held.pages + most
   pub step : OnlyReadsFile before.held after.held before.shelf after.shelf before.faults after.faults
 
 -- a call that makes this change of the file, or may break it

@@ -8,8 +8,8 @@ use Rattle.page_store.specs.Gate.{WasOrRefused}
 use Rattle.page_store.specs.Moments.{Throughout}
 use Rattle.page_store.specs.ShelfState.{ShelfState, FileGoes, KeepsOthers, OnlyAnswers, FaultHasCause}
 use Rattle.page_store.specs.ShelfState.{unit_file}
-use Rattle.page_alloc.specs.Joining.{FaultsRose}
-use Rattle.page_alloc.specs.PagedFile.{StandsOrRefused}
+use Rattle.page_alloc.specs.Joining.{FaultsRose, pages_counted, pages_free}
+use Rattle.page_alloc.specs.PagedFile.{StandsOrRefused, counts_of, is_begun, unit_of_pages}
 use Rattle.file_header.specs.declared.header.Header.{Header}
 use Rattle.open_file.specs.Faults.{IsCausedIn}
 use Rattle.shelf_file.specs.declared.look.Look.{Look}
@@ -51,8 +51,8 @@ pub record MakesOnShelf (unit limit frames : ℕ) (schema : Schema) (old new : C
 pub record OpensByHeader (unit limit frames : ℕ) (header : Header)
     (result : Result ShelfFile Fault) : Type 0 where
   pub opened : IfOk result (λ held. IsOpened held unit header)
-  pub counts : IfOk result (λ held. (held.pages.pager.count ≡ header.pages)
-      × (held.pages.pager.free ≡ header.free))
+  pub counts : IfOk result (λ held. (pages_counted (counts_of held.pages) ≡ header.pages)
+      × (pages_free (counts_of held.pages) ≡ header.free))
   pub limits : IfOk result (HasLimits limit frames)
   pub memory : OnErr result (result ≡ Err Memory)
 
@@ -61,12 +61,12 @@ pub record ClosesOnShelf (held : ShelfFile) (old new : CountedShelf)
     (result : Result (Unit {0}) Fault) : Type 0 where
   pub broken : IsTrue held.file.broken → result ≡ Err Broken
   pub nothing : IsTrue held.file.broken → new.shelf.file ≡ old.shelf.file
-  pub unchanged : held.pages.changed ≡ false → new.shelf.file ≡ old.shelf.file
-  pub closes : IsTrue new.shelf.is_honest → IsFalse held.file.broken → held.pages.changed ≡ true
+  pub unchanged : is_begun held.pages ≡ false → new.shelf.file ≡ old.shelf.file
+  pub closes : IsTrue new.shelf.is_honest → IsFalse held.file.broken → is_begun held.pages ≡ true
       → (file : File) → StandsFor held old.shelf file
-      → Closes held.file.schema file (unit_file old.shelf held.pages.cache.store.unit)
-      (unit_file new.shelf held.pages.cache.store.unit) result
-  pub others : KeepsOthers held.pages.cache.store.unit old.shelf new.shelf
+      → Closes held.file.schema file (unit_file old.shelf (unit_of_pages held.pages))
+      (unit_file new.shelf (unit_of_pages held.pages)) result
+  pub others : KeepsOthers (unit_of_pages held.pages) old.shelf new.shelf
   pub count : old.faults ≤ new.faults
   pub cause : IfErr result (IsCausedIn held.file.broken (FaultsRose old.faults new.faults) ⊥)
   pub damage : IfErr result (λ e. e ≢ Damage)

@@ -16,6 +16,7 @@ use Rattle.shelf_file.specs.declared.shelf_file.ShelfFile.{ShelfFile}
 use Rattle.shelf_file.specs.Named.{look_of, live_in, StandsIn}
 use Rattle.shelf_file.specs.ReadOff.{file_by}
 use Rattle.shelf_file.specs.Standing.{IsReady, StandsFor, file_read_off, room_in}
+use Rattle.page_alloc.specs.PagedFile.{is_begun, times_asked, unit_of_pages}
 
 -- a header that was accepted is one that a file may have
 abbrev pub HasHeader : Look → Type 0
@@ -29,11 +30,11 @@ HasAccepted shelf unit header = look_of (unit_file shelf unit).seen ≡ Accepted
 
 -- the file of a unit that is open, and not changed yet
 pub record IsOpened (held : ShelfFile) (unit : ℕ) (header : Header) : Type 0 where
-  pub unit_is : held.pages.cache.store.unit ≡ unit
+  pub unit_is : unit_of_pages held.pages ≡ unit
   pub schema_is : held.file.schema ≡ header.schema
   pub unbroken : IsFalse held.file.broken
-  pub unchanged : held.pages.changed ≡ false
-  pub asked : held.pages.cache.asked ≡ 0
+  pub unchanged : is_begun held.pages ≡ false
+  pub asked : times_asked held.pages ≡ 0
   pub ready : (shelf : ShelfState) → HasUnit shelf unit
       → (IsTrue shelf.is_honest → HasAccepted shelf unit header) → IsReady held shelf
   -- it reads as its file does, and stands for what its file stands for
@@ -44,10 +45,10 @@ pub record IsOpened (held : ShelfFile) (unit : ℕ) (header : Header) : Type 0 w
 
 -- the file of a unit that was made, behind an open gate
 pub record IsMade (held : ShelfFile) (unit limit : ℕ) (schema : Schema) (shelf : ShelfState) : Type 0 where
-  pub unit_is : held.pages.cache.store.unit ≡ unit
+  pub unit_is : unit_of_pages held.pages ≡ unit
   pub schema_is : held.file.schema ≡ schema
   pub unbroken : IsFalse held.file.broken
-  pub changed : held.pages.changed ≡ true
+  pub changed : is_begun held.pages ≡ true
   pub room : room_in held ≡ room_of_new (Some limit) schema
   pub ready : IsReady held shelf
   pub stands : IsTrue shelf.is_honest → StandsFor held shelf empty_file

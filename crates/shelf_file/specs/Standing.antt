@@ -1,15 +1,36 @@
 -- An indexed file that is open on a shelf, and what it stands for.
-use Rattle.std.specs.Prelude.{◌≡◌, ℕ, IsTrue}
+use Rattle.std.specs.Prelude.{◌≡◌, ℕ, Bool, IsTrue}
+use Rattle.record_layout.specs.Schema.{Schema}
 use Rattle.indexed_file.specs.File.{File}
 use Rattle.indexed_file.specs.Room.{Room}
 use Rattle.pages.specs.PageMap.{PageMap}
 use Rattle.page_store.specs.ShelfState.{ShelfState}
-use Rattle.page_alloc.specs.PagedFile.{IsOpenOver}
-use Rattle.page_alloc.specs.Joining.{available_of}
+use Rattle.page_alloc.specs.PagedFile.{IsOpenOver, counts_of, most_held, asked_anew}
+use Rattle.page_alloc.specs.declared.paged_file.PagedFile.{PagedFile}
+use Rattle.open_file.specs.declared.open_file.OpenFile.{OpenFile}
+use Rattle.page_alloc.specs.Joining.{available_of, page_limit}
 use Rattle.page_alloc.specs.Steps.{pages_state_of}
 use Rattle.open_file.specs.Stands.{Stands, IsShaped, room_of}
 use Rattle.open_file.specs.ReadOff.{file_off}
 use Rattle.shelf_file.specs.declared.shelf_file.ShelfFile.{ShelfFile}
+
+-- its indexes and its heap, and the pages that they are in
+abbrev pub parts_of : ShelfFile → OpenFile
+parts_of held = held.file
+
+abbrev pub pages_behind : ShelfFile → PagedFile
+pages_behind held = held.pages
+
+-- its schema, and whether an earlier change failed
+abbrev pub schema_behind : ShelfFile → Schema
+schema_behind held = held.file.schema
+
+abbrev pub is_broken_file : ShelfFile → Bool
+is_broken_file held = held.file.broken
+
+-- the same file, with no page asked for yet
+abbrev pub recounted : ShelfFile → ShelfFile
+recounted held = record held { pages = asked_anew held.pages }
 
 -- its pages in use
 abbrev pub live_of : ShelfFile → ShelfState → PageMap
@@ -31,9 +52,9 @@ pub record StandsFor (held : ShelfFile) (shelf : ShelfState) (file : File) : Typ
 
 -- the pages that it needs and has
 abbrev pub room_in : ShelfFile → Room
-room_in held = room_of held.file (available_of held.pages.pager)
+room_in held = room_of held.file (available_of (counts_of held.pages))
 
 -- the limit of its pages, and the most of them that are held in memory
 pub record HasLimits (most frames : ℕ) (held : ShelfFile) : Type 0 where
-  pub limit : held.pages.pager.limit ≡ most
-  pub cap : held.pages.cache.frames.cap ≡ frames
+  pub limit : page_limit (counts_of held.pages) ≡ most
+  pub cap : most_held held.pages ≡ frames

@@ -3,6 +3,8 @@
 ghost use Rattle.std.specs.Prelude.{◌≤◌};
 ghost use Rattle.std.specs.NonZero.{non_zero_usize_get};
 ghost use Rattle.page_store.specs.ShelfState.{HasUnit};
+ghost use Rattle.page_alloc.specs.Joining.{pages_counted, first_free_page, pages_free};
+ghost use Rattle.page_alloc.specs.PagedFile.{counts_of};
 ghost use Rattle.file_header.specs.Bounds.{FitsItsBytes, IsHeader};
 ghost use Rattle.open_file.specs.Headers.{IsHeaderOf, Counts};
 ghost use Rattle.open_file.specs.Stands.{IsShaped};
@@ -70,12 +72,7 @@ impl ShelfFile {
             unit,
             pages: header.pages,
         };
-        let pager = Pager {
-            count: header.pages,
-            first: header.first_free,
-            free: header.free,
-            limit,
-        };
+        let pager = Pager::numbered(header.pages, header.first_free, header.free, limit);
         let pages = PagedFile::open(alloc, store, frames, pager)?;
         Ok(ShelfFile {
             file: OpenFile::from_header(header),
@@ -104,11 +101,11 @@ impl ShelfFile {
     fn header(&self) -> Header
         requires { IsShaped self.now.file }
         ensures told { IsHeaderOf result self.now.file }
-        ensures counts { let pager = self.now.pages.pager in
-            Counts result pager.count pager.first pager.free }
+        ensures counts { let pager = counts_of self.now.pages in
+            Counts result (pages_counted pager) (first_free_page pager) (pages_free pager) }
         ensures room { FitsItsBytes result }
     {
-        let pager = &self.pages.pager;
-        self.file.header(pager.count, pager.first, pager.free)
+        let pager = self.pages.pager();
+        self.file.header(pager.count(), pager.first(), pager.free())
     }
 }

@@ -16,12 +16,15 @@ use Rattle.page_store.specs.Pages.{page_of_bytes, HoldsPages}
 use Rattle.page_cache.specs.Cached.{cached_pages_in}
 use Rattle.page_alloc.specs.Chain.{chain, used}
 use Rattle.page_alloc.specs.Steps.{pages_state_of}
+use Rattle.page_alloc.specs.Joining.{first_free_page, pages_counted, pages_free}
+use Rattle.page_alloc.specs.PagedFile.{cache_of, counts_of, unit_of_pages}
 use Rattle.open_file.specs.ReadOff.{file_off}
 use Rattle.open_file.specs.Stands.{Stands}
 use Rattle.file_header.specs.declared.header.Header.{Header}
 use Rattle.shelf_file.specs.declared.shelf_file.ShelfFile.{ShelfFile}
 use Rattle.shelf_file.specs.Named.{look_of, named_of}
 use Rattle.shelf_file.specs.Standing.{IsReady, StandsFor, live_of, file_read_off}
+use Rattle.shelf_file.specs.Standing.{is_broken_file, pages_behind, parts_of, schema_behind}
 use Rattle.shelf_file.specs.Shelves.{AreClosed}
 use Rattle.shelf_library.specs.declared.held.Held.{Held}
 use Rattle.shelf_library.specs.declared.held.Held.TheVariants.{Nothing, Looked, Opened}
@@ -54,28 +57,28 @@ names_differ (name ∷ names) (suc u) (suc v) distinct lu lv other = names_diffe
 
 -- ---- an open file whose bytes are as they were
 
-module _ (file : ShelfFile) (old new : ShelfState) (same : unit_file new file.pages.cache.store.unit ≡ unit_file old file.pages.cache.store.unit) where
+module _ (file : ShelfFile) (old new : ShelfState) (same : unit_file new (unit_of_pages (pages_behind file)) ≡ unit_file old (unit_of_pages (pages_behind file))) where
   abbrev free_over : DeviceFile → Option (List ℕ)
-  free_over bytes = chain (cached_pages_in file.pages.cache bytes) file.pages.pager.count file.pages.pager.first file.pages.pager.free
+  free_over bytes = chain (cached_pages_in (cache_of (pages_behind file)) bytes) (pages_counted (counts_of (pages_behind file))) (first_free_page (counts_of (pages_behind file))) (pages_free (counts_of (pages_behind file)))
 
   pub same_live : live_of file new ≡ live_of file old
-  same_live = ap (λ (bytes : DeviceFile). used (cached_pages_in file.pages.cache bytes) file.pages.pager.count (free_over bytes)) same
+  same_live = ap (λ (bytes : DeviceFile). used (cached_pages_in (cache_of (pages_behind file)) bytes) (pages_counted (counts_of (pages_behind file))) (free_over bytes)) same
 
-  pub same_sound : (pages_state_of file.pages new).is_sound ≡ (pages_state_of file.pages old).is_sound
+  pub same_sound : (pages_state_of (pages_behind file) new).is_sound ≡ (pages_state_of (pages_behind file) old).is_sound
   same_sound = ap (λ (bytes : DeviceFile). is_some (free_over bytes)) same
 
   pub same_file_in : file_read_off file new ≡ file_read_off file old
-  same_file_in = ap (λ live. file_off file.file live) same_live
+  same_file_in = ap (λ live. file_off (parts_of file) live) same_live
 
   pub stands_same : (rows : File) → StandsFor file old rows → StandsFor file new rows
   stands_same rows s = record {
-    stands = subst (λ live. Stands file.file live rows) (sym same_live) s.stands;
+    stands = subst (λ live. Stands (parts_of file) live rows) (sym same_live) s.stands;
     sound = subst (λ (sound : Bool). IsTrue sound) (sym same_sound) s.sound;
   }
 
   pub ready_same : new.names ≡ old.names → (IsTrue new.is_honest → IsTrue old.is_honest) → IsReady file old → IsReady file new
   ready_same names honest ready =
-      let unit = file.pages.cache.store.unit in
+      let unit = unit_of_pages (pages_behind file) in
       let joined = ready.over.joined in
       record {
         over = record {
@@ -83,7 +86,7 @@ module _ (file : ShelfFile) (old new : ShelfState) (same : unit_file new file.pa
             over = record {
               attached = record { attached = subst (λ (ns : List (List ℕ)). unit < length ns) (sym names) joined.over.attached.attached };
               counted = joined.over.counted;
-              pages = λ h. subst (λ (bytes : DeviceFile). HoldsPages file.pages.cache.store.pages bytes) (sym same) (joined.over.pages (honest h));
+              pages = λ h. subst (λ (bytes : DeviceFile). HoldsPages (cache_of (pages_behind file)).store.pages bytes) (sym same) (joined.over.pages (honest h));
               clean = λ h n frame is unchanged. joined.over.clean (honest h) n frame is unchanged ∙ ap (λ (bytes : DeviceFile). page_of_bytes (content bytes) n) (sym same);
             };
             counted = joined.counted;
@@ -117,7 +120,7 @@ module _ (u : ℕ) (one : Held) (old new : ShelfState) (held now : List Held) (a
   file_aside v within other =
       ap (λ (names : List (List ℕ)). new.file (get_or names v [])) call.others.names ∙ call.others.others (unit_name old v) (name_aside v within other)
 
-  open_aside : (v : ℕ) (file : ShelfFile) → v < length old.names → v ≢ u → held_at held v ≡ Opened file → unit_file new file.pages.cache.store.unit ≡ unit_file old file.pages.cache.store.unit
+  open_aside : (v : ℕ) (file : ShelfFile) → v < length old.names → v ≢ u → held_at held v ≡ Opened file → unit_file new (unit_of_pages (pages_behind file)) ≡ unit_file old (unit_of_pages (pages_behind file))
   open_aside v file within other is =
       let unit = (are.ready v file is).unit_is in
       subst (λ (w : ℕ). unit_file new w ≡ unit_file old w) (sym unit) (file_aside v within other)
@@ -126,7 +129,7 @@ module _ (u : ℕ) (one : Held) (old new : ShelfState) (held now : List Held) (a
   shows_aside v within other Nothing is = refl
   shows_aside v within other (Looked header) is = refl
   shows_aside v within other (Opened file) is =
-      ap (λ rows. if file.file.broken then Broken file.file.schema else HasOpened file.file.schema rows) (same_file_in file old new (open_aside v file within other is))
+      ap (λ rows. if is_broken_file file then Broken (schema_behind file) else HasOpened (schema_behind file) rows) (same_file_in file old new (open_aside v file within other is))
 
   pub long_after : length now ≡ length new.names
   long_after = ap (λ (l : List Held). length l) call.holds ∙ set_long held u one ∙ are.many ∙ sym (ap (λ (ns : List (List ℕ)). length ns) call.others.names)
@@ -236,7 +239,7 @@ module _ (u : ℕ) (one : Held) (old new : ShelfState) (held now : List Held) (a
             record {
               rows = was.rows;
               stands = stands_same file old new (open_aside v file lt apart held_was) was.rows was.stands;
-              closed = λ unchanged. subst (λ (bytes : DeviceFile). AreClosed file.file.schema was.rows (content bytes)) (sym same) (was.closed unchanged);
+              closed = λ unchanged. subst (λ (bytes : DeviceFile). AreClosed (schema_behind file) was.rows (content bytes)) (sym same) (was.closed unchanged);
             };
       }
 

@@ -12,6 +12,7 @@ use Rattle.io_state.specs.declared.fault.Fault.{Fault}
 use Rattle.io_state.specs.declared.fault.Fault.TheVariants.{Device, Memory, Full, Damage, Broken as BrokenFile}
 use Rattle.indexed_file.specs.FileChange.{FileChange, has_room_for, LacksRoomFor}
 use Rattle.shelf_file.specs.declared.shelf_file.ShelfFile.{ShelfFile}
+use Rattle.shelf_file.specs.Standing.{pages_behind, schema_behind}
 use Rattle.shelf_library.specs.State.{LibraryState, held_at}
 use Rattle.shelf_library.specs.Units.{world_of, room_of_held, pages_asked_of}
 use Rattle.shelf_library.specs.Library.{shown_by}
@@ -23,6 +24,7 @@ use Rattle.shelf_library.proofs.AsideLemmas.{only_here, held_truly, truth_after}
 use Rattle.shelf_library.proofs.ReadsLemmas.{reads_images, reads_pages}
 use Rattle.shelf_library.proofs.MovingLemmas.{others, changes_at, reads_at, goes_unfinished}
 use Rattle.shelf_library.proofs.ChangingLemmas.{broken_now, schema_before, schema_now, open_now, held_now, broken_told, truly_after, fault_after, answers, done_at_ok, told_at_ok, told_at_full, takes_at_full, rests_at_full}
+use Rattle.page_alloc.specs.PagedFile.{times_asked}
 
 module _
     {S X : Type 0} (state : S → LibraryState) (a b : S) (u : ℕ) (file after : ShelfFile) (call : MovesAt u file after (state a) (state b))
@@ -34,7 +36,7 @@ module _
   new = state b
 
   abbrev is_made : X → Bool
-  is_made = (change_of file.file.schema).is_made
+  is_made = (change_of (schema_behind file)).is_made
 
   abbrev Change : Result X Fault → Type 0
   Change result = ChangesFile change_of file after old new result
@@ -94,7 +96,7 @@ module _
   shown_change = change_of (schema_at before u)
 
   -- what is so of the schema of the file is so of that which is shown
-  as_shown : (P : Schema → Type 0) → P file.file.schema → P (schema_at before u)
+  as_shown : (P : Schema → Type 0) → P (schema_behind file) → P (schema_at before u)
   as_shown P = subst P (sym (schema_before u file after old new call))
 
   room_after : (result : Result X Fault) → Change result → Believed (shown_by state) u a b
@@ -123,7 +125,7 @@ module _
         (subst (λ (one : Held). pages_asked_of one ≤ pages_asked_of (Opened file) + most_to_change (room_of_held (Opened file))) (sym (held_now u file after old new call)) change.changes.keeps.asked);
     counted =
         subst (λ (one : Held). pages_asked_of one ≤ pages_asked_of (held_at new.held u)) (sym call.opened)
-        (subst (λ (one : Held). file.pages.cache.asked ≤ pages_asked_of one) (sym (held_now u file after old new call)) call.moves.asked);
+        (subst (λ (one : Held). times_asked (pages_behind file) ≤ pages_asked_of one) (sym (held_now u file after old new call)) call.moves.asked);
     broken = broken_told u file after old new call change_of result change;
     fault = fault_after u file after old new call change_of result change;
     unbroken = unbroken_after result change;

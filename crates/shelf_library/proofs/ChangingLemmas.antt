@@ -15,6 +15,7 @@ use Rattle.indexed_file.specs.FileChange.{FileChange}
 use Rattle.shelf_file.specs.declared.shelf_file.ShelfFile.{ShelfFile}
 use Rattle.shelf_file.specs.Named.{named_of}
 use Rattle.shelf_file.specs.Standing.{StandsFor, live_of, file_read_off, room_in}
+use Rattle.shelf_file.specs.Standing.{is_broken_file, pages_behind, parts_of, schema_behind}
 use Rattle.shelf_library.specs.State.{LibraryState, held_at}
 use Rattle.shelf_library.specs.Truth.{IsTrulyOpen, IsShownTruly}
 use Rattle.shelf_library.specs.Units.{world_of, room_of_held}
@@ -29,6 +30,7 @@ use Rattle.shelf_library.proofs.FaultLemmas.{may_fail}
 use Rattle.shelf_library.proofs.MovingLemmas.{changes_at, fits, reads_at, same_or_unsound, unsound_after, closed_truly}
 use Rattle.shelf_library.proofs.KnownLemmas.{known}
 use Rattle.shelf_library.proofs.ShownLemmas.{holding_shown, schema_shown, open_shown, broken_shown, told}
+use Rattle.page_alloc.specs.PagedFile.{is_begun}
 
 opened_is : (a b : ShelfFile) → Opened a ≡ Opened b → a ≡ b
 opened_is a b e = cc
@@ -53,26 +55,26 @@ module _ (u : ℕ) (file after : ShelfFile) (old new : LibraryState) (call : Mov
   pub held_now : held_at new.held u ≡ Opened after
   held_now = held_here u (Opened after) old.shelf new.shelf old.held new.held call.units at
 
-  pub broken_before : is_broken (holding_at before u) ≡ file.file.broken
+  pub broken_before : is_broken (holding_at before u) ≡ is_broken_file file
   broken_before = broken_shown u file old call.units call.attached call.opened
 
-  pub schema_before : schema_at before u ≡ file.file.schema
+  pub schema_before : schema_at before u ≡ schema_behind file
   schema_before = schema_shown u file old call.units call.attached call.opened
 
-  pub broken_now : is_broken (holding_at now u) ≡ after.file.broken
+  pub broken_now : is_broken (holding_at now u) ≡ is_broken_file after
   broken_now = broken_shown u after new units_after within_after held_now
 
-  pub schema_now : schema_at now u ≡ after.file.schema
+  pub schema_now : schema_at now u ≡ schema_behind after
   schema_now = schema_shown u after new units_after within_after held_now
 
   pub open_now : is_open (holding_at now u) ≡ true
   open_now = open_shown u after new units_after within_after held_now
 
   -- a change that failed
-  leaves_broken : IsTrue after.file.broken → after.file.schema ≡ file.file.schema → LeavesBroken u new.shelf.is_honest before now
+  leaves_broken : IsTrue (is_broken_file after) → schema_behind after ≡ schema_behind file → LeavesBroken u new.shelf.is_honest before now
   leaves_broken broken schema = record {
     holding = holding_shown u after new units_after within_after held_now
-        ∙ ap (λ (b : Bool). if b then Broken after.file.schema else HasOpened after.file.schema (file_read_off after new.shelf)) broken
+        ∙ ap (λ (b : Bool). if b then Broken (schema_behind after) else HasOpened (schema_behind after) (file_read_off after new.shelf)) broken
         ∙ ap Broken (schema ∙ sym schema_before);
     named = λ honest. kept (same_or_unsound u file after old new call honest);
   }
@@ -89,22 +91,22 @@ module _ (u : ℕ) (file after : ShelfFile) (old new : LibraryState) (call : Mov
       kept (inr unsound) = inr (named_is ∙ unsound)
 
   -- a change that was made
-  pub world_made : IsTrue new.shelf.is_honest → after.pages.changed ≡ true → IsFalse after.file.broken → after.file.schema ≡ file.file.schema → (rows : File)
+  pub world_made : IsTrue new.shelf.is_honest → is_begun (pages_behind after) ≡ true → IsFalse (is_broken_file after) → schema_behind after ≡ schema_behind file → (rows : File)
       → StandsFor after new.shelf rows → now ≡ with_unit before u Unsound (HasOpened (schema_at before u) rows)
   world_made honest begun works schema rows stands =
       let named : named_at now u ≡ Unsound = named_after u (Opened after) old.shelf new.shelf old.held new.held call.units at ∙ unsound_after u file after old new call honest begun in
       let holding : holding_at now u ≡ HasOpened (schema_at before u) rows =
       holding_shown u after new units_after within_after held_now
-      ∙ ap (λ (b : Bool). if b then Broken after.file.schema else HasOpened after.file.schema (file_read_off after new.shelf)) works
+      ∙ ap (λ (b : Bool). if b then Broken (schema_behind after) else HasOpened (schema_behind after) (file_read_off after new.shelf)) works
       ∙ ap (λ (s : Schema). HasOpened s (file_read_off after new.shelf)) (schema ∙ sym schema_before)
-      ∙ ap (λ (f : File). HasOpened (schema_at before u) f) (reads_as after.file (live_of after new.shelf) rows stands.stands) in
+      ∙ ap (λ (f : File). HasOpened (schema_at before u) f) (reads_as (parts_of after) (live_of after new.shelf) rows stands.stands) in
       only_here u (Opened after) old.shelf new.shelf old.held new.held call.units at
       ∙ ap (λ (n : Named). with_unit before u n (holding_at now u)) named
       ∙ ap (λ (h : Holding). with_unit before u Unsound h) holding
 
   module _ {X : Type 0} (change_of : Schema → FileChange X) where
     abbrev pub is_made : X → Bool
-    is_made = (change_of file.file.schema).is_made
+    is_made = (change_of (schema_behind file)).is_made
 
     abbrev pub Change : Result X Fault → Type 0
     Change result = ChangesFile change_of file after old new result
@@ -113,9 +115,9 @@ module _ (u : ℕ) (file after : ShelfFile) (old new : LibraryState) (call : Mov
     pub broken_told : (result : Result X Fault) → Change result → IsTrue (is_broken (holding_at before u)) → result ≡ Err BrokenFile
     broken_told result change broken = (change.breaks.broken (sym broken_before ∙ broken)).0
 
-    unbroken_at_ok : (x : X) → Change (Ok x) → IsFalse file.file.broken
+    unbroken_at_ok : (x : X) → Change (Ok x) → IsFalse (is_broken_file file)
     unbroken_at_ok x change =
-        either file.file.broken (IsFalse file.file.broken) (λ is. let told = (change.breaks.broken is).0 in absurd (cc)) (λ works. works)
+        either (is_broken_file file) (IsFalse (is_broken_file file)) (λ is. let told = (change.breaks.broken is).0 in absurd (cc)) (λ works. works)
 
     -- what is shown of the unit is true where it was
     made_truly : (x : X) → Change (Ok x) → is_made x ≡ true → IsTrue new.shelf.is_honest → IsTrulyHeld u (Opened file) old.shelf → IsTrulyHeld u (Opened after) new.shelf
@@ -125,13 +127,13 @@ module _ (u : ℕ) (file after : ShelfFile) (old new : LibraryState) (call : Mov
           let was = truly.opened file refl (unbroken_at_ok x change) in
           let has = (change.changes.done honest was.stands.sound was.rows was.stands.stands).answer in
           subst (λ (h : ShelfFile). IsTrulyOpen new.shelf h (unit_file new.shelf u)) (opened_is after held same) (record {
-            rows = (change_of file.file.schema).leaves was.rows;
+            rows = (change_of (schema_behind file)).leaves was.rows;
             stands = record { stands = has.stands; sound = has.sound };
             closed = λ unchanged. let begun = change.changes.begun is in absurd (cc);
           });
     }
 
-    broken_truly : IsTrue after.file.broken → IsTrue new.shelf.is_honest → IsTrulyHeld u (Opened file) old.shelf → IsTrulyHeld u (Opened after) new.shelf
+    broken_truly : IsTrue (is_broken_file after) → IsTrue new.shelf.is_honest → IsTrulyHeld u (Opened file) old.shelf → IsTrulyHeld u (Opened after) new.shelf
     broken_truly broken honest truly = record {
       closed = closed_truly u file after old new call honest truly.closed;
       opened = λ held same unbroken. let is : after ≡ held = opened_is after held same in absurd (cc);
@@ -156,13 +158,13 @@ module _ (u : ℕ) (file after : ShelfFile) (old new : LibraryState) (call : Mov
     fault_after (Err fault) change = λ other. (
       leaves_broken (change.breaks.breaks other) change.changes.keeps.schema,
       subst (λ (b : Bool). MayFail b new.shelf.is_honest (IsShownTruly old.shelf old.held (name_at before u)) old.faults new.faults fault) (sym broken_before)
-          (may_fail file.file.broken new.shelf.is_honest (IsShownTruly old.shelf old.held (name_at before u)) _ old.faults new.faults fault change.breaks.cause
+          (may_fail (is_broken_file file) new.shelf.is_honest (IsShownTruly old.shelf old.held (name_at before u)) _ old.faults new.faults fault change.breaks.cause
           (λ broken. (change.breaks.broken broken).0) (no_damage fault change) other),
     )
       where
         no_damage : (fault : Fault) → Change (Err fault) → IsTrue new.shelf.is_honest → IsShownTruly old.shelf old.held (name_at before u) → fault ≢ Damage
         no_damage fault change honest shown =
-            either file.file.broken (fault ≢ Damage)
+            either (is_broken_file file) (fault ≢ Damage)
             (λ broken. let told : ◌≡◌ {A = Result X Fault} (Err fault) (Err BrokenFile) = (change.breaks.broken broken).0 in λ damage. cc)
             (λ works. let is = known u file old call.units call.attached call.opened shown works in (change.changes.done honest is.stands.sound is.rows is.stands.stands).no_damage)
 
@@ -182,7 +184,7 @@ module _ (u : ℕ) (file after : ShelfFile) (old new : LibraryState) (call : Mov
         (unbroken_at_ok x change)
         (λ rows stands.
         let has = (change.changes.done honest stands.sound rows stands.stands).answer in
-        world_made honest (change.changes.begun is) change.breaks.unbroken change.changes.keeps.schema ((change_of file.file.schema).leaves rows) (record { stands = has.stands; sound = has.sound }))
+        world_made honest (change.changes.begun is) change.breaks.unbroken change.changes.keeps.schema ((change_of (schema_behind file)).leaves rows) (record { stands = has.stands; sound = has.sound }))
 
     -- the world after an answer
     pub world_after : (x : X) → Change (Ok x) → IsTrue new.shelf.is_honest → IsShownTruly old.shelf old.held (name_at before u) → (b : Bool) → is_made x ≡ b
@@ -204,17 +206,17 @@ module _ (u : ℕ) (file after : ShelfFile) (old new : LibraryState) (call : Mov
 
     -- what is so at an answer, and at Full, of each file that the open one stands for
     pub told_at_ok : (P : Schema → Room → File → Type 0) (result : Result X Fault) → Change result → IsShownTruly old.shelf old.held (name_at before u)
-        → ((rows : File) → StandsFor file old.shelf rows → OnOk result (P file.file.schema (room_in file) rows))
+        → ((rows : File) → StandsFor file old.shelf rows → OnOk result (P (schema_behind file) (room_in file) rows))
         → OnOk result (P (schema_at before u) (room_of_held (held_at old.held u)) (file_at before u))
     told_at_ok P (Ok x) change shown is = told u file old call.units call.attached call.opened P shown (unbroken_at_ok x change) is
     told_at_ok P (Err fault) change shown is = tt
 
     pub told_at_full : (P : Schema → Room → File → Type 0) (result : Result X Fault) → Change result → result ≡ Err Full → IsShownTruly old.shelf old.held (name_at before u)
-        → ((rows : File) → StandsFor file old.shelf rows → P file.file.schema (room_in file) rows)
+        → ((rows : File) → StandsFor file old.shelf rows → P (schema_behind file) (room_in file) rows)
         → P (schema_at before u) (room_of_held (held_at old.held u)) (file_at before u)
     told_at_full P result change full shown is =
         told u file old call.units call.attached call.opened P shown
-        (either file.file.broken (IsFalse file.file.broken) (λ broken. let answer = (change.breaks.broken broken).0 in absurd (cc)) (λ works. works))
+        (either (is_broken_file file) (IsFalse (is_broken_file file)) (λ broken. let answer = (change.breaks.broken broken).0 in absurd (cc)) (λ works. works))
         is
 
     -- Full is answered only where pages may be taken

@@ -19,6 +19,7 @@ use Rattle.shelf_file.specs.declared.look.Look.TheVariants.{Accepted, Refused}
 use Rattle.shelf_file.specs.declared.shelf_file.ShelfFile.{ShelfFile}
 use Rattle.shelf_file.specs.Named.{look_of, named_of, StandsIn}
 use Rattle.shelf_file.specs.Shelves.{AreClosed, ClosedFileOrRefused, Closes}
+use Rattle.shelf_file.specs.Standing.{is_broken_file, pages_behind, schema_behind}
 use Rattle.shelf_library.specs.declared.held.Held.TheVariants.{Nothing}
 use Rattle.shelf_library.specs.Crashes.{IsSoundImage, MayReadAs}
 use Rattle.shelf_library.specs.MomentLaws.{EachRead, each_read}
@@ -28,6 +29,7 @@ use Rattle.shelf_library.specs.OneUnit.{ChangesAt, IsTrulyHeld}
 use Rattle.shelf_library.specs.Closing.{ClosesUnitAt}
 use Rattle.shelf_library.proofs.RefusedLemmas.{refused_look, refused_named}
 use Rattle.shelf_library.proofs.AcceptedLemmas.{closed_named, closed_there}
+use Rattle.page_alloc.specs.PagedFile.{is_begun}
 
 -- ---- bytes that are closed
 
@@ -100,61 +102,61 @@ module _ (u : ℕ) (file : ShelfFile) (result : Result (Unit {0}) Fault) (old ne
   still same = same_place old.shelf new.shelf u same others_stay.names
 
   -- behind an open gate the name is unsound
-  pub was_unsound : file.pages.changed ≡ true → IsTrue new.shelf.is_honest → named_of (unit_file old.shelf u).seen ≡ Unsound
+  pub was_unsound : is_begun (pages_behind file) ≡ true → IsTrue new.shelf.is_honest → named_of (unit_file old.shelf u).seen ≡ Unsound
   was_unsound changed honest =
       let was_honest = others_stay.honest honest in
       let all = subst (λ unit. AllOpen (unit_file old.shelf unit)) is_ready.unit_is (is_ready.ready.over.gate changed was_honest) in
       let seen = (unit_file old.shelf u).seen in
       refused_named seen (refused_open seen (all seen (call.image_before was_honest)))
 
-  module _ (honest : IsTrue new.shelf.is_honest) (works : IsFalse file.file.broken) (known : IsTrulyOpen old.shelf file (unit_file old.shelf u)) where
-    pub closes_here : file.pages.changed ≡ true → Closes file.file.schema known.rows (unit_file old.shelf u) (unit_file new.shelf u) result
+  module _ (honest : IsTrue new.shelf.is_honest) (works : IsFalse (is_broken_file file)) (known : IsTrulyOpen old.shelf file (unit_file old.shelf u)) where
+    pub closes_here : is_begun (pages_behind file) ≡ true → Closes (schema_behind file) known.rows (unit_file old.shelf u) (unit_file new.shelf u) result
     closes_here changed =
-        subst (λ unit. Closes file.file.schema known.rows (unit_file old.shelf unit) (unit_file new.shelf unit) result) is_ready.unit_is
+        subst (λ unit. Closes (schema_behind file) known.rows (unit_file old.shelf unit) (unit_file new.shelf unit) result) is_ready.unit_is
         (call.close.closes honest works changed known.rows known.stands)
 
-    was_closed : file.pages.changed ≡ false → AreClosed file.file.schema known.rows (content (unit_file new.shelf u))
+    was_closed : is_begun (pages_behind file) ≡ false → AreClosed (schema_behind file) known.rows (content (unit_file new.shelf u))
     was_closed unchanged =
-        subst (λ (bytes : DeviceFile). AreClosed file.file.schema known.rows (content bytes)) (sym (still (call.close.unchanged unchanged))) (known.closed unchanged)
+        subst (λ (bytes : DeviceFile). AreClosed (schema_behind file) known.rows (content bytes)) (sym (still (call.close.unchanged unchanged))) (known.closed unchanged)
 
     -- after a success it is closed
-    pub closed_after : OnOk result (AreClosed file.file.schema known.rows (content (unit_file new.shelf u)))
-    closed_after = elim (cases_Bool file.pages.changed) [
+    pub closed_after : OnOk result (AreClosed (schema_behind file) known.rows (content (unit_file new.shelf u)))
+    closed_after = elim (cases_Bool (is_begun (pages_behind file))) [
       | inl changed ↦ (closes_here changed).closed
       | inr unchanged ↦ on_any result _ (was_closed unchanged)
     ]
 
     -- after a fault too it is closed or refused
-    pub ends_closed : ClosedFileOrRefused file.file.schema known.rows (unit_file new.shelf u).seen
-    ends_closed = elim (cases_Bool file.pages.changed) [
+    pub ends_closed : ClosedFileOrRefused (schema_behind file) known.rows (unit_file new.shelf u).seen
+    ends_closed = elim (cases_Bool (is_begun (pages_behind file))) [
       | inl changed ↦
-          throughout_last (ClosedFileOrRefused file.file.schema known.rows) (unit_file old.shelf u) (unit_file new.shelf u) (closes_here changed).images (unit_file new.shelf u).seen (call.image_after honest)
+          throughout_last (ClosedFileOrRefused (schema_behind file) known.rows) (unit_file old.shelf u) (unit_file new.shelf u) (closes_here changed).images (unit_file new.shelf u).seen (call.image_after honest)
       | inr unchanged ↦
           let closed = was_closed unchanged in
-          inr (content (unit_file new.shelf u), closed_there (unit_file new.shelf u) file.file.schema known.rows closed, closed)
+          inr (content (unit_file new.shelf u), closed_there (unit_file new.shelf u) (schema_behind file) known.rows closed, closed)
     ]
 
-    pub named_closed : OnOk result (named_of (unit_file new.shelf u).seen ≡ Closed file.file.schema known.rows)
+    pub named_closed : OnOk result (named_of (unit_file new.shelf u).seen ≡ Closed (schema_behind file) known.rows)
     named_closed =
         on_more result _ _
-        (λ closed. ap named_of (closed_there (unit_file new.shelf u) file.file.schema known.rows closed) ∙ closed_named (content (unit_file new.shelf u)) file.file.schema known.rows closed)
+        (λ closed. ap named_of (closed_there (unit_file new.shelf u) (schema_behind file) known.rows closed) ∙ closed_named (content (unit_file new.shelf u)) (schema_behind file) known.rows closed)
         closed_after
 
-    pub named_before : file.pages.changed ≡ false → named_of (unit_file old.shelf u).seen ≡ Closed file.file.schema known.rows
+    pub named_before : is_begun (pages_behind file) ≡ false → named_of (unit_file old.shelf u).seen ≡ Closed (schema_behind file) known.rows
     named_before unchanged =
         let closed = known.closed unchanged in
-        ap named_of (closed_there (unit_file old.shelf u) file.file.schema known.rows closed) ∙ closed_named (content (unit_file old.shelf u)) file.file.schema known.rows closed
+        ap named_of (closed_there (unit_file old.shelf u) (schema_behind file) known.rows closed) ∙ closed_named (content (unit_file old.shelf u)) (schema_behind file) known.rows closed
 
   -- what is shown of the name stays true
   pub closes_truly : IsTrue new.shelf.is_honest → IsTrulyHeld u (held_at old.held u) old.shelf → IsTrulyHeld u Nothing new.shelf
   closes_truly honest truly = record {
     closed = λ header is.
-        either file.file.broken (IsTrulyClosed (unit_file new.shelf u) header)
+        either (is_broken_file file) (IsTrulyClosed (unit_file new.shelf u) header)
         (λ broken.
         let same = still (call.close.nothing broken) in
         subst (λ (bytes : DeviceFile). IsTrulyClosed bytes header) (sym same) (truly.closed header (ap (λ (bytes : DeviceFile). look_of bytes.seen) (sym same) ∙ is)))
         (λ works.
         let known = truly.opened file call.opened works in
-        closing_truly (unit_file new.shelf u) header file.file.schema known.rows (ends_closed honest works known) is);
+        closing_truly (unit_file new.shelf u) header (schema_behind file) known.rows (ends_closed honest works known) is);
     opened = λ other is. absurd (cc);
   }

@@ -8,6 +8,7 @@ use Rattle.page_store.specs.ShelfState.{ShelfState, KeepsOthers, unit_file}
 use Rattle.file_header.specs.declared.header.Header.{Header}
 use Rattle.shelf_file.specs.declared.shelf_file.ShelfFile.{ShelfFile}
 use Rattle.shelf_file.specs.Named.{named_of}
+use Rattle.shelf_file.specs.Standing.{is_broken_file, recounted}
 use Rattle.shelf_library.specs.declared.held.Held.{Held}
 use Rattle.shelf_library.specs.declared.held.Held.TheVariants.{Nothing, Looked, Opened}
 use Rattle.shelf_library.specs.State.{LibraryState, held_at, IsReadyAt}
@@ -27,10 +28,6 @@ rests shelf u = record { names = refl; others = λ name other. refl; honest = λ
 -- an element that is read is the one that is there
 pub read_held : (held : List Held) (u : ℕ) (one : Held) → u < length held → one ≡ slice_index_or held u one → held_at held u ≡ one
 read_held held u one within is = get_or_default held u Nothing one within ∙ sym is
-
--- the file, its count being 0
-abbrev pub recounted : ShelfFile → ShelfFile
-recounted file = record { file = file.file; pages = record { cache = record file.pages.cache { asked = 0 }; pager = file.pages.pager; changed = file.pages.changed } }
 
 abbrev pub recount : Held → Held
 recount Nothing = Nothing
@@ -82,7 +79,7 @@ recount_truly shelf u (Opened file) truly = record {
   closed = truly.closed;
   opened = λ other e unbroken.
       let same = same_open (recounted file) other e in
-      subst (λ f. IsTrulyOpen shelf f (unit_file shelf u)) same (recounted_truly shelf file (unit_file shelf u) (truly.opened file refl (subst (λ f. IsFalse f.file.broken) (sym same) unbroken)));
+      subst (λ f. IsTrulyOpen shelf f (unit_file shelf u)) same (recounted_truly shelf file (unit_file shelf u) (truly.opened file refl (subst (λ f. IsFalse (is_broken_file f)) (sym same) unbroken)));
 }
 
 recount_asked : (one : Held) → pages_asked_of (recount one) ≡ 0

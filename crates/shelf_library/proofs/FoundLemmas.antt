@@ -15,7 +15,7 @@ use Rattle.pages.specs.Answer.{IsAnswer}
 use Rattle.open_file.specs.Reading.{Delivers, Seeks}
 use Rattle.open_file.specs.Stands.{Stands}
 use Rattle.shelf_file.specs.declared.shelf_file.ShelfFile.{ShelfFile}
-use Rattle.shelf_file.specs.Standing.{live_of}
+use Rattle.shelf_file.specs.Standing.{live_of, is_broken_file, parts_of, schema_behind}
 use Rattle.shelf_library.specs.State.{LibraryState}
 use Rattle.shelf_library.specs.Units.{world_of}
 use Rattle.shelf_library.specs.Truth.{IsShownTruly}
@@ -37,55 +37,55 @@ no_damage_broken {X} result is = subst (λ (result : Result X Fault). IfErr resu
 
 module _ (u : ℕ) (file after : ShelfFile) (old new : LibraryState) (call : ReadsAt u file after old new) (truly : IsShownTruly old.shelf old.held (name_at (world_of old.shelf old.held) u)) where
   -- an answer that is known where the pages stand for a file is no damage
-  pub never_damage : {X : Type 0} (P : File → X → Type 0) (result : Result X Fault) → (IsTrue file.file.broken → result ≡ Err BrokenUnit)
-      → ((rows : File) → Stands file.file (live_of file old.shelf) rows → IsAnswer result (P rows)) → IfErr result (λ fault. fault ≢ Damage)
+  pub never_damage : {X : Type 0} (P : File → X → Type 0) (result : Result X Fault) → (IsTrue (is_broken_file file) → result ≡ Err BrokenUnit)
+      → ((rows : File) → Stands (parts_of file) (live_of file old.shelf) rows → IsAnswer result (P rows)) → IfErr result (λ fault. fault ≢ Damage)
   never_damage P result broken answers =
       by_known u file old call.units call.attached call.opened truly (λ holding. IfErr result (λ fault. fault ≢ Damage))
       (λ is holding. no_damage_broken result (broken is)) (λ rows s. (answers rows s.stands).no_damage)
 
-  pub delivers_found : (k : ℕ) (test : Schema → Row → Bool) (area new_area : List ℕ) (result : Result (Option Found) Fault) → (IsTrue file.file.broken → result ≡ Err BrokenUnit)
-      → Delivers file.file (live_of file old.shelf) k (test file.file.schema) area new_area result
+  pub delivers_found : (k : ℕ) (test : Schema → Row → Bool) (area new_area : List ℕ) (result : Result (Option Found) Fault) → (IsTrue (is_broken_file file) → result ≡ Err BrokenUnit)
+      → Delivers (parts_of file) (live_of file old.shelf) k (test (schema_behind file)) area new_area result
       → let world = world_of old.shelf old.held in IfOk result (λ found. found ≡ found_at world u k (first_at world u k (test (schema_at world u))))
   delivers_found k test area new_area result broken delivers =
       by_known u file old call.units call.attached call.opened truly
       (λ holding. IfOk result (λ found. found ≡ option_map (found_of (schema_in holding) k (rows_in holding)) (least (schema_in holding) k (test (schema_in holding)) (rows_in holding))))
       (λ is holding. none_broken result _ (broken is)) (λ rows s. (delivers rows s.stands).answered.answer)
 
-  pub delivers_area : (k : ℕ) (test : Schema → Row → Bool) (area new_area : List ℕ) (result : Result (Option Found) Fault) → (IsTrue file.file.broken → result ≡ Err BrokenUnit)
-      → Delivers file.file (live_of file old.shelf) k (test file.file.schema) area new_area result
+  pub delivers_area : (k : ℕ) (test : Schema → Row → Bool) (area new_area : List ℕ) (result : Result (Option Found) Fault) → (IsTrue (is_broken_file file) → result ≡ Err BrokenUnit)
+      → Delivers (parts_of file) (live_of file old.shelf) k (test (schema_behind file)) area new_area result
       → let world = world_of old.shelf old.held in OnOk result (new_area ≡ area_after area (first_at world u k (test (schema_at world u))))
   delivers_area k test area new_area result broken delivers =
       by_known u file old call.units call.attached call.opened truly
       (λ holding. OnOk result (new_area ≡ area_after area (least (schema_in holding) k (test (schema_in holding)) (rows_in holding))))
       (λ is holding. nothing_broken result _ (broken is)) (λ rows s. (delivers rows s.stands).area)
 
-  pub delivers_undamaged : (k : ℕ) (test : Row → Bool) (area new_area : List ℕ) (result : Result (Option Found) Fault) → (IsTrue file.file.broken → result ≡ Err BrokenUnit)
-      → Delivers file.file (live_of file old.shelf) k test area new_area result → IfErr result (λ fault. fault ≢ Damage)
+  pub delivers_undamaged : (k : ℕ) (test : Row → Bool) (area new_area : List ℕ) (result : Result (Option Found) Fault) → (IsTrue (is_broken_file file) → result ≡ Err BrokenUnit)
+      → Delivers (parts_of file) (live_of file old.shelf) k test area new_area result → IfErr result (λ fault. fault ≢ Damage)
   delivers_undamaged k test area new_area result broken delivers =
-      never_damage (λ rows found. found ≡ option_map (found_of file.file.schema k rows) (least file.file.schema k test rows)) result broken (λ rows s. (delivers rows s).answered)
+      never_damage (λ rows found. found ≡ option_map (found_of (schema_behind file) k rows) (least (schema_behind file) k test rows)) result broken (λ rows s. (delivers rows s).answered)
 
-  pub seeks_found : (k : ℕ) (relation : Relation) (operand : List ℕ) (result : Result (Option (ArrayVec ℕ)) Fault) → (IsTrue file.file.broken → result ≡ Err BrokenUnit)
-      → Seeks file.file (live_of file old.shelf) k relation operand result
+  pub seeks_found : (k : ℕ) (relation : Relation) (operand : List ℕ) (result : Result (Option (ArrayVec ℕ)) Fault) → (IsTrue (is_broken_file file) → result ≡ Err BrokenUnit)
+      → Seeks (parts_of file) (live_of file old.shelf) k relation operand result
       → let world = world_of old.shelf old.held in IfOk result (λ found. found ≡ key_of_row_at world u k (row_sought world u k relation operand))
   seeks_found k relation operand result broken seeks =
       by_known u file old call.units call.attached call.opened truly
       (λ holding. IfOk result (λ found. found ≡ option_map (key_of_row (schema_in holding) k) (least (schema_in holding) k (satisfies (schema_in holding) k relation operand) (rows_in holding))))
       (λ is holding. none_broken result _ (broken is)) (λ rows s. (seeks rows s.stands).answer)
 
-  pub highest_found : (result : Result (Option (ArrayVec ℕ)) Fault) → (IsTrue file.file.broken → result ≡ Err BrokenUnit)
-      → ((rows : File) → Stands file.file (live_of file old.shelf) rows → IsAnswer result (λ key. option_map (λ key. key.items) key ≡ highest_of file.file.schema rows.rows))
+  pub highest_found : (result : Result (Option (ArrayVec ℕ)) Fault) → (IsTrue (is_broken_file file) → result ≡ Err BrokenUnit)
+      → ((rows : File) → Stands (parts_of file) (live_of file old.shelf) rows → IsAnswer result (λ key. option_map (λ key. key.items) key ≡ highest_of (schema_behind file) rows.rows))
       → IfOk result (λ found. option_map (λ key. key.items) found ≡ highest_at (world_of old.shelf old.held) u)
   highest_found result broken highest =
       by_known u file old call.units call.attached call.opened truly
       (λ holding. IfOk result (λ found. option_map (λ key. key.items) found ≡ highest_of (schema_in holding) (rows_in holding).rows))
       (λ is holding. none_broken result _ (broken is)) (λ rows s. (highest rows s.stands).answer)
 
-  pub seeks_undamaged : (k : ℕ) (relation : Relation) (operand : List ℕ) (result : Result (Option (ArrayVec ℕ)) Fault) → (IsTrue file.file.broken → result ≡ Err BrokenUnit)
-      → Seeks file.file (live_of file old.shelf) k relation operand result → IfErr result (λ fault. fault ≢ Damage)
+  pub seeks_undamaged : (k : ℕ) (relation : Relation) (operand : List ℕ) (result : Result (Option (ArrayVec ℕ)) Fault) → (IsTrue (is_broken_file file) → result ≡ Err BrokenUnit)
+      → Seeks (parts_of file) (live_of file old.shelf) k relation operand result → IfErr result (λ fault. fault ≢ Damage)
   seeks_undamaged k relation operand result broken seeks =
-      never_damage (λ rows key. key ≡ option_map (key_of_row file.file.schema k) (least file.file.schema k (satisfies file.file.schema k relation operand) rows)) result broken seeks
+      never_damage (λ rows key. key ≡ option_map (key_of_row (schema_behind file) k) (least (schema_behind file) k (satisfies (schema_behind file) k relation operand) rows)) result broken seeks
 
-  pub highest_undamaged : (result : Result (Option (ArrayVec ℕ)) Fault) → (IsTrue file.file.broken → result ≡ Err BrokenUnit)
-      → ((rows : File) → Stands file.file (live_of file old.shelf) rows → IsAnswer result (λ key. option_map (λ key. key.items) key ≡ highest_of file.file.schema rows.rows))
+  pub highest_undamaged : (result : Result (Option (ArrayVec ℕ)) Fault) → (IsTrue (is_broken_file file) → result ≡ Err BrokenUnit)
+      → ((rows : File) → Stands (parts_of file) (live_of file old.shelf) rows → IsAnswer result (λ key. option_map (λ key. key.items) key ≡ highest_of (schema_behind file) rows.rows))
       → IfErr result (λ fault. fault ≢ Damage)
-  highest_undamaged result broken highest = never_damage (λ rows key. option_map (λ key. key.items) key ≡ highest_of file.file.schema rows.rows) result broken highest
+  highest_undamaged result broken highest = never_damage (λ rows key. option_map (λ key. key.items) key ≡ highest_of (schema_behind file) rows.rows) result broken highest

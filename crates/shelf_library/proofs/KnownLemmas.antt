@@ -5,6 +5,7 @@ use Rattle.indexed_file.specs.File.{File}
 use Rattle.indexed_file.specs.World.{Holding, Opened as HasOpened, Broken, holding_at, name_at}
 use Rattle.shelf_file.specs.declared.shelf_file.ShelfFile.{ShelfFile}
 use Rattle.shelf_file.specs.Standing.{StandsFor, live_of, file_read_off}
+use Rattle.shelf_file.specs.Standing.{is_broken_file, parts_of, schema_behind}
 use Rattle.shelf_library.specs.State.{LibraryState, held_at}
 use Rattle.shelf_library.specs.Units.{world_of, holding_of}
 use Rattle.shelf_library.specs.Truth.{IsTrulyOpen, IsShownTruly}
@@ -16,25 +17,25 @@ use Rattle.shelf_library.proofs.WorldLemmas.{name_now, holding_now}
 
 module _ (u : ℕ) (file : ShelfFile) (state : LibraryState) (units : AreUnits state.shelf state.held) (within : u < length state.held) (opened : held_at state.held u ≡ Opened file)
     (truly : IsShownTruly state.shelf state.held (name_at (world_of state.shelf state.held) u)) where
-  pub truly_open : IsFalse file.file.broken → IsTrulyOpen state.shelf file (state.shelf.file (name_at (world_of state.shelf state.held) u))
+  pub truly_open : IsFalse (is_broken_file file) → IsTrulyOpen state.shelf file (state.shelf.file (name_at (world_of state.shelf state.held) u))
   truly_open works =
       truly.opened u file (let many = units.many in omega (arith, many, within)) (sym (name_now state.shelf state.held u within units.many)) opened works
 
-  pub known : IsFalse file.file.broken → IsKnown u file state
+  pub known : IsFalse (is_broken_file file) → IsKnown u file state
   known works =
       let is = truly_open works in
       record {
         rows = is.rows;
         stands = is.stands;
         holding = holding_now state.shelf state.held u within units.many ∙ ap (holding_of state.shelf) opened
-            ∙ ap (λ (broken : Bool). if broken then Broken file.file.schema else HasOpened file.file.schema (file_read_off file state.shelf)) works
-            ∙ ap (HasOpened file.file.schema) (reads_as file.file (live_of file state.shelf) is.rows is.stands.stands);
+            ∙ ap (λ (broken : Bool). if broken then Broken (schema_behind file) else HasOpened (schema_behind file) (file_read_off file state.shelf)) works
+            ∙ ap (HasOpened (schema_behind file)) (reads_as (parts_of file) (live_of file state.shelf) is.rows is.stands.stands);
       }
 
   -- what holds of any holding where the file is broken, and else of the rows that the file stands for, holds of the unit
-  pub by_known : (P : Holding → Type 0) → (IsTrue file.file.broken → (holding : Holding) → P holding) → ((rows : File) → StandsFor file state.shelf rows → P (HasOpened file.file.schema rows))
+  pub by_known : (P : Holding → Type 0) → (IsTrue (is_broken_file file) → (holding : Holding) → P holding) → ((rows : File) → StandsFor file state.shelf rows → P (HasOpened (schema_behind file) rows))
       → P (holding_at (world_of state.shelf state.held) u)
   by_known P broken stands =
-      either file.file.broken (P (holding_at (world_of state.shelf state.held) u))
+      either (is_broken_file file) (P (holding_at (world_of state.shelf state.held) u))
       (λ is. broken is (holding_at (world_of state.shelf state.held) u))
       (λ works. let k = known works in subst P (sym k.holding) (stands k.rows k.stands))

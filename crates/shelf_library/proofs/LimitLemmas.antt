@@ -9,7 +9,7 @@ use Rattle.file_header.specs.declared.header.Header.{Header}
 use Rattle.shelf_file.specs.declared.look.Look.{Look}
 use Rattle.shelf_file.specs.declared.look.Look.TheVariants.{NoFile, Refused, Accepted}
 use Rattle.shelf_file.specs.declared.shelf_file.ShelfFile.{ShelfFile}
-use Rattle.shelf_file.specs.Standing.{HasLimits}
+use Rattle.shelf_file.specs.Standing.{HasLimits, pages_behind}
 use Rattle.shelf_library.specs.declared.held.Held.{Held}
 use Rattle.shelf_library.specs.declared.held.Held.TheVariants.{Nothing, Opened}
 use Rattle.shelf_library.specs.State.{LibraryState, held_at, AreLimited}
@@ -22,6 +22,8 @@ use Rattle.shelf_library.specs.Opening.{OpensAt, MakesAt}
 use Rattle.shelf_library.specs.Reading.{ReadsAt}
 use Rattle.shelf_library.proofs.WorldLemmas.{set_here, set_aside}
 use Rattle.shelf_library.proofs.AttachLemmas.{holds_nothing}
+use Rattle.page_alloc.specs.Joining.{page_limit}
+use Rattle.page_alloc.specs.PagedFile.{counts_of, most_held}
 
 opened_is : (a b : ShelfFile) → Opened a ≡ Opened b → a ≡ b
 opened_is a b e = cc
@@ -35,8 +37,8 @@ module _ (limit frames : ℕ) (held : List Held) (u : ℕ) (within : u < length 
       (λ miss. are v file (sym (set_aside held u v one (eqb-false v u miss)) ∙ is))
 
   -- so has the file that it held, after a call that left them
-  pub limits_after : (file after : ShelfFile) → held_at held u ≡ Opened file → after.pages.pager.limit ≡ file.pages.pager.limit
-      → after.pages.cache.frames.cap ≡ file.pages.cache.frames.cap → AreLimited limit frames (slice_set held u (Opened after))
+  pub limits_after : (file after : ShelfFile) → held_at held u ≡ Opened file → page_limit (counts_of (pages_behind after)) ≡ page_limit (counts_of (pages_behind file))
+      → most_held (pages_behind after) ≡ most_held (pages_behind file) → AreLimited limit frames (slice_set held u (Opened after))
   limits_after file after at limit_is cap_is =
       let had = are u file at in
       limits_set (Opened after) (λ other same. subst (λ (f : ShelfFile). HasLimits limit frames f) (opened_is after other same)

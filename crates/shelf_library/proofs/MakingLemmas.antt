@@ -14,7 +14,7 @@ use Rattle.page_alloc.specs.PagedFile.{StandsOrRefused}
 use Rattle.shelf_file.specs.declared.look.Look.TheVariants.{Accepted, Refused}
 use Rattle.shelf_file.specs.declared.shelf_file.ShelfFile.{ShelfFile}
 use Rattle.shelf_file.specs.Named.{named_of}
-use Rattle.shelf_file.specs.Standing.{file_read_off, live_of}
+use Rattle.shelf_file.specs.Standing.{file_read_off, live_of, is_broken_file, parts_of, schema_behind}
 use Rattle.shelf_file.specs.Shelves.{IsMade}
 use Rattle.shelf_library.specs.declared.held.Held.TheVariants.{Opened}
 use Rattle.shelf_library.specs.State.{LibraryState, held_at}
@@ -40,7 +40,7 @@ module _ (u limit : ℕ) (schema : Schema) (shelf : ShelfState) (file : ShelfFil
   gate_open honest = subst (λ unit. AllOpen (unit_file shelf unit)) made.unit_is (made.ready.over.gate made.changed honest)
 
   new_rows : IsTrue shelf.is_honest → file_read_off file shelf ≡ empty_file
-  new_rows honest = reads_as file.file (live_of file shelf) empty_file (made.stands honest).stands
+  new_rows honest = reads_as (parts_of file) (live_of file shelf) empty_file (made.stands honest).stands
 
   new_holding : IsTrue shelf.is_honest → holding_of shelf (Opened file) ≡ HasOpened schema empty_file
   new_holding honest = let rows = new_rows honest in open_holding shelf file made.unbroken ∙ (λ i. HasOpened (made.schema_is i) (rows i))
@@ -58,11 +58,11 @@ module _ (u : ℕ) (schema : Schema) (r : Result ShelfFile Fault) (old new : Lib
   fits (Ok file) made = open_fits u file new.shelf (record { unit_is = made.unit_is; ready = made.ready })
   fits (Err fault) made = nothing_fits u new.shelf
 
-  fine : (x : Result ShelfFile Fault) → IfOk x (λ file. IsMade file u new.limit schema new.shelf) → IfOk x (λ file. IsFalse file.file.broken × (file.file.schema ≡ schema))
+  fine : (x : Result ShelfFile Fault) → IfOk x (λ file. IsMade file u new.limit schema new.shelf) → IfOk x (λ file. IsFalse (is_broken_file file) × (schema_behind file ≡ schema))
   fine (Ok file) made = (made.unbroken, made.schema_is)
   fine (Err fault) made = tt
 
-  unbroken : (x : Result ShelfFile Fault) → IfOk x (λ file. IsMade file u new.limit schema new.shelf) → IfOk x (λ file. IsFalse file.file.broken)
+  unbroken : (x : Result ShelfFile Fault) → IfOk x (λ file. IsMade file u new.limit schema new.shelf) → IfOk x (λ file. IsFalse (is_broken_file file))
   unbroken (Ok file) made = made.unbroken
   unbroken (Err fault) made = tt
 

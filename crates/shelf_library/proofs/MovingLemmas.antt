@@ -9,12 +9,13 @@ use Rattle.page_store.proofs.MomentLemmas.{throughout_weaker, throughout_first}
 use Rattle.page_store.proofs.OpenLemmas.{refused_open}
 use Rattle.page_store.specs.Gate.{AllOpen, SameOrRefused, WasOrRefused}
 use Rattle.page_store.specs.ShelfState.{KeepsOthers, unit_name, unit_file}
-use Rattle.page_alloc.specs.PagedFile.{StandsOrRefused}
+use Rattle.page_alloc.specs.PagedFile.{StandsOrRefused, is_begun, unit_of_pages}
 use Rattle.file_header.specs.declared.header.Header.{Header}
 use Rattle.shelf_file.specs.declared.look.Look.TheVariants.{Accepted}
 use Rattle.shelf_file.specs.declared.shelf_file.ShelfFile.{ShelfFile}
 use Rattle.shelf_file.specs.Calls.{OnlyReadsFile}
 use Rattle.shelf_file.specs.Named.{look_of, named_of, StandsIn}
+use Rattle.shelf_file.specs.Standing.{pages_behind}
 use Rattle.shelf_library.specs.State.{LibraryState, IsReadyAt}
 use Rattle.shelf_library.specs.Truth.{IsTrulyClosed}
 use Rattle.shelf_library.specs.Crashes.{IsSoundImage, MayReadAs}
@@ -58,7 +59,7 @@ module _ (u : ℕ) (file after : ShelfFile) (old new : LibraryState) (call : Mov
   before : IsReadyAt old.shelf u file
   before = call.units.ready u file call.opened
 
-  unit_after : after.pages.cache.store.unit ≡ u
+  unit_after : unit_of_pages (pages_behind after) ≡ u
   unit_after = call.moves.unit ∙ before.unit_is
 
   pub others : KeepsOthers u old.shelf new.shelf
@@ -106,7 +107,7 @@ module _ (u : ℕ) (file after : ShelfFile) (old new : LibraryState) (call : Mov
   same_or_unsound honest = named_kept (unit_file old.shelf u) (unit_file new.shelf u) (same_or_refused honest)
 
   -- behind an open gate the name is unsound
-  pub unsound_after : IsTrue new.shelf.is_honest → after.pages.changed ≡ true → named_of (unit_file new.shelf u).seen ≡ Unsound
+  pub unsound_after : IsTrue new.shelf.is_honest → is_begun (pages_behind after) ≡ true → named_of (unit_file new.shelf u).seen ≡ Unsound
   unsound_after honest begun =
       let all = subst (λ unit. AllOpen (unit_file new.shelf unit)) unit_after (call.ready.over.gate begun honest) in
       let seen = (unit_file new.shelf u).seen in

@@ -11,7 +11,7 @@ use Rattle.page_store.specs.ShelfState.{ShelfState, unit_name}
 use Rattle.page_alloc.specs.Steps.{Moves}
 use Rattle.shelf_file.specs.declared.shelf_file.ShelfFile.{ShelfFile}
 use Rattle.shelf_file.specs.Calls.{OnlyReadsFile}
-use Rattle.shelf_file.specs.Standing.{IsReady, file_read_off}
+use Rattle.shelf_file.specs.Standing.{IsReady, file_read_off, is_broken_file, pages_behind, schema_behind}
 use Rattle.shelf_library.specs.State.{held_at}
 use Rattle.shelf_library.specs.Units.{world_of, holding_of}
 use Rattle.shelf_library.specs.Reading.{ReadsAt}
@@ -63,10 +63,10 @@ module _ {S : Type 0} (shelf : Ghosts S) (s : ShelfLibrary S shelf) (u : ℕ)
     opened_at = is_one ∙ is
 
     -- of its schema
-    pub schema_is : schema_at (world_of (shelf.state s.shelf) s.units.items) u ≡ file.file.schema
+    pub schema_is : schema_at (world_of (shelf.state s.shelf) s.units.items) u ≡ schema_behind file
     schema_is =
         ap schema_in (is_shown ∙ ap (holding_of (shelf.state s.shelf)) is)
-        ∙ schema_open file.file.broken file.file.schema (file_read_off file (shelf.state s.shelf))
+        ∙ schema_open (is_broken_file file) (schema_behind file) (file_read_off file (shelf.state s.shelf))
 
     -- on which calls may be made
     pub may_call : IsReady file (shelf.state s.shelf)
@@ -93,7 +93,7 @@ module _ {S : Type 0} (shelf : Ghosts S) (s : ShelfLibrary S shelf) (u : ℕ)
     -- a call that may have opened the gate
     pub moves_at :
         (after : ShelfFile) (now : S)
-        → Moves file.pages after.pages (shelf.state s.shelf) (shelf.state now) (shelf.fault_count s.shelf) (shelf.fault_count now)
+        → Moves (pages_behind file) (pages_behind after) (shelf.state s.shelf) (shelf.state now) (shelf.fault_count s.shelf) (shelf.fault_count now)
         → IsReady after (shelf.state now)
         → ((x : S) (name : List ℕ) → IsTrue (shelf.state x).is_honest → Leaves ((shelf.state x).file name) ((shelf.state x).file name).seen)
         → MovesAt u file after (library_state shelf s) (state_left shelf s now (slice_set s.units.items u (Opened after)))

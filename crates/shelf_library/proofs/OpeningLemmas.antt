@@ -35,7 +35,10 @@ use Rattle.shelf_library.proofs.WorldLemmas.{set_twice}
 use Rattle.shelf_library.proofs.AsideLemmas.{are_after, held_here, holding_before, holding_after, named_before, named_after, images_aside}
 use Rattle.shelf_library.proofs.UnitLemmas.{keeps_at, images_at}
 use Rattle.shelf_file.proofs.AcceptedLemmas.{accepted_there, accepted_named}
+use Rattle.shelf_file.specs.Standing.{is_broken_file, pages_behind, schema_behind}
 use Rattle.shelf_library.proofs.OpensLemmas.{same_open, nothing_fits, open_fits, open_holding, is_opened, opens_unit}
+use Rattle.page_alloc.specs.Joining.{pages_counted, pages_free}
+use Rattle.page_alloc.specs.PagedFile.{counts_of}
 
 pub nothing_changes : (u : ℕ) (shelf : ShelfState) → KeepsOthers u shelf shelf
 nothing_changes u shelf = record { names = refl; others = λ name other. refl; honest = λ honest. honest }
@@ -58,11 +61,11 @@ module _ (u : ℕ) (shelf : ShelfState) (header : Header) (has : HasUnit shelf u
   opened_fits (Ok file) opened = open_fits u file shelf (record { unit_is = opened.unit_is; ready = opened.ready shelf has accepted })
   opened_fits (Err fault) opened = nothing_fits u shelf
 
-  pub opened_fine : (r : Result ShelfFile Fault) → IfOk r (λ held. IsOpened held u header) → IfOk r (λ file. IsFalse file.file.broken × (file.file.schema ≡ header.schema))
+  pub opened_fine : (r : Result ShelfFile Fault) → IfOk r (λ held. IsOpened held u header) → IfOk r (λ file. IsFalse (is_broken_file file) × (schema_behind file ≡ header.schema))
   opened_fine (Ok file) opened = (opened.unbroken, opened.schema_is)
   opened_fine (Err fault) opened = tt
 
-  pub opened_unbroken : (r : Result ShelfFile Fault) → IfOk r (λ held. IsOpened held u header) → IfOk r (λ file. IsFalse file.file.broken)
+  pub opened_unbroken : (r : Result ShelfFile Fault) → IfOk r (λ held. IsOpened held u header) → IfOk r (λ file. IsFalse (is_broken_file file))
   opened_unbroken (Ok file) opened = opened.unbroken
   opened_unbroken (Err fault) opened = tt
 
@@ -151,7 +154,7 @@ module _ (u : ℕ) (header : Header) (r : Result ShelfFile Fault) (old new : Lib
       (subst (λ (n : Named). OnOk (answer_open r) (holding_of new.shelf (held_open r) ≡ opened_from n)) named
       (opened_reads u new.shelf header has_unit accepted_now r call.by_header.opened honest))
 
-  counts_after : (x : Result ShelfFile Fault) (seen : Option (List ℕ)) → IfOk x (λ held. (held.pages.pager.count ≡ header.pages) × (held.pages.pager.free ≡ header.free))
+  counts_after : (x : Result ShelfFile Fault) (seen : Option (List ℕ)) → IfOk x (λ held. (pages_counted (counts_of (pages_behind held)) ≡ header.pages) × (pages_free (counts_of (pages_behind held)) ≡ header.free))
       → OnOk (answer_open x) (counts_of_held seen (held_open x) ≡ counts_by (Accepted header))
   counts_after (Ok file) seen is = let count = is.0 in let free = is.1 in λ i. record { count = count i; free = free i }
   counts_after (Err fault) seen is = tt

@@ -9,7 +9,7 @@ use Rattle.indexed_file.specs.World.{World, Shut, Opened as HasOpened, Broken, h
 use Rattle.page_store.specs.ShelfState.{ShelfState}
 use Rattle.file_header.specs.declared.header.Header.{Header}
 use Rattle.shelf_file.specs.declared.shelf_file.ShelfFile.{ShelfFile}
-use Rattle.shelf_file.specs.Standing.{file_read_off}
+use Rattle.shelf_file.specs.Standing.{file_read_off, is_broken_file, schema_behind}
 use Rattle.shelf_library.specs.declared.held.Held.{Held}
 use Rattle.shelf_library.specs.declared.held.Held.TheVariants.{Nothing, Looked, Opened}
 use Rattle.shelf_library.specs.State.{LibraryState, IsReadyAt}
@@ -31,16 +31,16 @@ pub open_fits : (u : ℕ) (file : ShelfFile) (shelf : ShelfState) → IsReadyAt 
 open_fits u file shelf ready = record { looked = λ header is. absurd (cc); ready = λ other is. subst (IsReadyAt shelf u) (same_open file other is) ready }
 
 -- a file that is not broken is open
-pub open_holding : (shelf : ShelfState) (file : ShelfFile) → IsFalse file.file.broken → holding_of shelf (Opened file) ≡ HasOpened file.file.schema (file_read_off file shelf)
+pub open_holding : (shelf : ShelfState) (file : ShelfFile) → IsFalse (is_broken_file file) → holding_of shelf (Opened file) ≡ HasOpened (schema_behind file) (file_read_off file shelf)
 open_holding shelf file unbroken = rw unbroken refl
 
 -- the unit held no open file, and held the header that a look had accepted
 pub was_looked : (shelf : ShelfState) (one : Held) → IsTrue (is_looked (holding_of shelf one)) → (header : Header) × (one ≡ Looked header)
 was_looked shelf Nothing is = absurd (cc)
 was_looked shelf (Looked header) is = (header, refl)
-was_looked shelf (Opened file) is = absurd (never file.file.broken is)
+was_looked shelf (Opened file) is = absurd (never (is_broken_file file) is)
   where
-    never : (broken : Bool) → IsTrue (is_looked (if broken then Broken file.file.schema else HasOpened file.file.schema (file_read_off file shelf))) → ⊥
+    never : (broken : Bool) → IsTrue (is_looked (if broken then Broken (schema_behind file) else HasOpened (schema_behind file) (file_read_off file shelf))) → ⊥
     never true is = let e : false ≡ true = is in cc
     never false is = let e : false ≡ true = is in cc
 
@@ -62,15 +62,15 @@ module _ {S : Type 0} (state : S → LibraryState) (u : ℕ) (old new : S) (r : 
   shut (Err fault) is = is
 
   -- it is open, with this schema
-  pub is_opened : (schema : Schema) (x : Result ShelfFile Fault) → x ≡ r → IfOk x (λ file. IsFalse file.file.broken × (file.file.schema ≡ schema))
+  pub is_opened : (schema : Schema) (x : Result ShelfFile Fault) → x ≡ r → IfOk x (λ file. IsFalse (is_broken_file file) × (schema_behind file ≡ schema))
       → OnOk (answer_open x) (IsTrue (is_open (holding_at after u)) × (schema_at after u ≡ schema))
   is_opened schema (Err fault) is fine = tt
   is_opened schema (Ok file) is fine =
-      let holds : holding_at after u ≡ HasOpened file.file.schema (file_read_off file (state new).shelf) =
+      let holds : holding_at after u ≡ HasOpened (schema_behind file) (file_read_off file (state new).shelf) =
       holding_now ∙ ap (λ x. holding_of (state new).shelf (held_open x)) (sym is) ∙ open_holding (state new).shelf file fine.0 in
       (ap is_open holds, ap schema_in holds ∙ fine.1)
 
-  unbroken : (x : Result ShelfFile Fault) → x ≡ r → IfOk x (λ file. IsFalse file.file.broken) → OnOk (answer_open x) (IsFalse (is_broken (holding_at after u)))
+  unbroken : (x : Result ShelfFile Fault) → x ≡ r → IfOk x (λ file. IsFalse (is_broken_file file)) → OnOk (answer_open x) (IsFalse (is_broken (holding_at after u)))
   unbroken (Err fault) is fine = tt
   unbroken (Ok file) is fine = ap is_broken (holding_now ∙ ap (λ x. holding_of (state new).shelf (held_open x)) (sym is) ∙ open_holding (state new).shelf file fine)
 
@@ -78,7 +78,7 @@ module _ {S : Type 0} (state : S → LibraryState) (u : ℕ) (old new : S) (r : 
   faulted (Ok file) may = tt
   faulted (Err fault) may = may
 
-  pub opens_unit : (trace : Trace) → IfOk r (λ file. IsFalse file.file.broken) → IfErr r (MayAnswerShut (shown_by state) u old new)
+  pub opens_unit : (trace : Trace) → IfOk r (λ file. IsFalse (is_broken_file file)) → IfErr r (MayAnswerShut (shown_by state) u old new)
       → CallGoes (shown_by state) u trace old new → Keeps (shown_by state) old new → OpensUnit (shown_by state) u trace old new (answer_open r)
   opens_unit trace fine may images keeps = record {
     err = shut r holding_now;

@@ -17,6 +17,7 @@ use Rattle.shelf_file.specs.declared.shelf_file.ShelfFile.{ShelfFile}
 use Rattle.shelf_file.specs.Named.{look_of, named_of}
 use Rattle.shelf_file.specs.Shelves.{AreClosed}
 use Rattle.shelf_file.specs.Standing.{live_of, file_read_off}
+use Rattle.shelf_file.specs.Standing.{is_broken_file, pages_behind, parts_of, schema_behind}
 use Rattle.shelf_library.specs.State.{LibraryState, IsReadyAt}
 use Rattle.shelf_library.specs.Units.{holding_of}
 use Rattle.shelf_library.specs.Truth.{IsTrulyClosed, IsTrulyOpen}
@@ -25,6 +26,7 @@ use Rattle.shelf_library.specs.Reading.{ReadsAt, GoesOpen}
 use Rattle.shelf_library.specs.declared.held.Held.TheVariants.{Opened}
 use Rattle.shelf_library.proofs.AsideLemmas.{are_after}
 use Rattle.shelf_library.proofs.RefusedLemmas.{refused_look, refused_named}
+use Rattle.page_alloc.specs.PagedFile.{is_begun}
 
 opened_is : (a b : ShelfFile) → Opened a ≡ Opened b → a ≡ b
 opened_is a b e = cc
@@ -59,7 +61,7 @@ module _ (u : ℕ) (file after : ShelfFile) (old new : LibraryState) (call : Rea
 
   -- behind a closed gate nothing was written
   pub still_or_open : IsTrue new.shelf.is_honest → (new.shelf.file ≡ old.shelf.file) ⊎ GoesOpen (unit_file old.shelf u) (unit_file new.shelf u)
-  still_or_open honest = elim (cases_Bool file.pages.changed) [
+  still_or_open honest = elim (cases_Bool (is_begun (pages_behind file))) [
     | inl begun ↦
         let before = subst (λ unit. AllOpen (unit_file old.shelf unit)) is_ready.unit_is (is_ready.ready.over.gate begun (was_honest honest)) in
         inr (record { before = before; after = open_kept (unit_file old.shelf u) (unit_file new.shelf u) before quietly.quiet; quiet = quietly.quiet })
@@ -80,16 +82,16 @@ module _ (u : ℕ) (file after : ShelfFile) (old new : LibraryState) (call : Rea
         ∙ sym (refused_named seen (refused_open seen (goes.before seen (call.image_before (was_honest honest)))))
   ]
 
-  pub same_schema : after.file.schema ≡ file.file.schema
+  pub same_schema : schema_behind after ≡ schema_behind file
   same_schema = ap (λ (parts : OpenFile). parts.schema) call.reads.file
 
-  pub same_broken : after.file.broken ≡ file.file.broken
+  pub same_broken : is_broken_file after ≡ is_broken_file file
   same_broken = ap (λ (parts : OpenFile). parts.broken) call.reads.file
 
   same_rows : IsTrue new.shelf.is_honest → file_read_off after new.shelf ≡ file_read_off file old.shelf
   same_rows honest =
       ap (λ (parts : OpenFile). file_off parts (live_of after new.shelf)) call.reads.file
-      ∙ ap (λ live. file_off file.file live) (call.reads.pages.rests.live honest)
+      ∙ ap (λ live. file_off (parts_of file) live) (call.reads.pages.rests.live honest)
 
   -- the unit holds what it held
   pub same_holding : IsTrue new.shelf.is_honest → holding_of new.shelf (Opened after) ≡ holding_of old.shelf (Opened file)
@@ -109,17 +111,17 @@ module _ (u : ℕ) (file after : ShelfFile) (old new : LibraryState) (call : Rea
             absurd (cc)
       ]
 
-      opened : (held : ShelfFile) → Opened after ≡ Opened held → IsFalse held.file.broken → IsTrulyOpen new.shelf held (unit_file new.shelf u)
+      opened : (held : ShelfFile) → Opened after ≡ Opened held → IsFalse (is_broken_file held) → IsTrulyOpen new.shelf held (unit_file new.shelf u)
       opened held is unbroken =
           let same : after ≡ held = opened_is after held is in
-          let works : IsFalse file.file.broken = sym same_broken ∙ ap (λ (h : ShelfFile). h.file.broken) same ∙ unbroken in
+          let works : IsFalse (is_broken_file file) = sym same_broken ∙ ap (λ (h : ShelfFile). is_broken_file h) same ∙ unbroken in
           let was = truly.opened file refl works in
           subst (λ held. IsTrulyOpen new.shelf held (unit_file new.shelf u)) same (record {
             rows = was.rows;
             stands = call.reads.stands honest was.rows was.stands;
             closed = λ unchanged.
-                let shut : file.pages.changed ≡ false = sym call.reads.pages.goes.gate ∙ unchanged in
+                let shut : is_begun (pages_behind file) ≡ false = sym call.reads.pages.goes.gate ∙ unchanged in
                 let still = call.reads.pages.goes.still is_ready.ready.over shut in
-                subst (λ (bytes : DeviceFile). AreClosed after.file.schema was.rows (content bytes)) (sym (same_file still))
+                subst (λ (bytes : DeviceFile). AreClosed (schema_behind after) was.rows (content bytes)) (sym (same_file still))
                 (subst (λ (schema : Schema). AreClosed schema was.rows (content (unit_file old.shelf u))) (sym same_schema) (was.closed shut));
           })

@@ -14,8 +14,10 @@ use Rattle.open_file.specs.Faults.{IsCausedIn}
 use Rattle.open_file.specs.Stands.{room_of}
 use Rattle.open_file.specs.declared.open_file.OpenFile.{OpenFile}
 use Rattle.page_alloc.specs.Joining.{available_of}
+use Rattle.page_alloc.specs.PagedFile.{counts_of, times_asked}
 use Rattle.shelf_file.specs.declared.shelf_file.ShelfFile.{ShelfFile}
 use Rattle.shelf_file.specs.Standing.{file_read_off, room_in}
+use Rattle.shelf_file.specs.Standing.{is_broken_file, pages_behind, parts_of, schema_behind}
 use Rattle.shelf_library.specs.State.{LibraryState, held_at}
 use Rattle.shelf_library.specs.Units.{world_of, holding_of, room_of_held, counts_of_pager, counts_of_held, pages_asked_of}
 use Rattle.shelf_library.specs.Truth.{IsShownTruly}
@@ -82,19 +84,19 @@ module _ {S : Type 0} (state : S → LibraryState) (a b : S) (u : ℕ) (file aft
   was_open = holding_before u (Opened after) old.shelf new.shelf old.held new.held call.units at ∙ ap (holding_of old.shelf) call.opened
 
   -- the unit is broken where its file is
-  pub broken_is : is_broken (holding_at (world_of old.shelf old.held) u) ≡ file.file.broken
-  broken_is = ap is_broken was_open ∙ broken_open file.file.broken file.file.schema (file_read_off file old.shelf)
+  pub broken_is : is_broken (holding_at (world_of old.shelf old.held) u) ≡ is_broken_file file
+  broken_is = ap is_broken was_open ∙ broken_open (is_broken_file file) (schema_behind file) (file_read_off file old.shelf)
 
   pub reads_world : ReadsWorld u new.shelf.is_honest (world_of old.shelf old.held) (world_of new.shelf new.held)
   reads_world = record {
     only = only_here u (Opened after) old.shelf new.shelf old.held new.held call.units at;
     state = record {
-      opened = ap is_open now_open ∙ open_open after.file.broken after.file.schema (file_read_off after new.shelf)
-          ∙ sym (ap is_open was_open ∙ open_open file.file.broken file.file.schema (file_read_off file old.shelf));
-      broken = ap is_broken now_open ∙ broken_open after.file.broken after.file.schema (file_read_off after new.shelf) ∙ same_broken u file after old new call ∙ sym broken_is;
+      opened = ap is_open now_open ∙ open_open (is_broken_file after) (schema_behind after) (file_read_off after new.shelf)
+          ∙ sym (ap is_open was_open ∙ open_open (is_broken_file file) (schema_behind file) (file_read_off file old.shelf));
+      broken = ap is_broken now_open ∙ broken_open (is_broken_file after) (schema_behind after) (file_read_off after new.shelf) ∙ same_broken u file after old new call ∙ sym broken_is;
     };
-    schema = ap schema_in now_open ∙ schema_open after.file.broken after.file.schema (file_read_off after new.shelf) ∙ same_schema u file after old new call
-        ∙ sym (ap schema_in was_open ∙ schema_open file.file.broken file.file.schema (file_read_off file old.shelf));
+    schema = ap schema_in now_open ∙ schema_open (is_broken_file after) (schema_behind after) (file_read_off after new.shelf) ∙ same_schema u file after old new call
+        ∙ sym (ap schema_in was_open ∙ schema_open (is_broken_file file) (schema_behind file) (file_read_off file old.shelf));
     same = λ honest. world_same u (Opened after) old.shelf new.shelf old.held new.held call.units at
         (same_holding u file after old new call honest ∙ sym (ap (holding_of old.shelf) call.opened)) (same_named u file after old new call honest);
   }
@@ -104,7 +106,7 @@ module _ {S : Type 0} (state : S → LibraryState) (a b : S) (u : ℕ) (file aft
 
   same_room : room_in after ≡ room_in file
   same_room =
-      ap (λ (parts : OpenFile). room_of parts (available_of after.pages.pager)) call.reads.file ∙ ap (room_of file.file) call.reads.pages.rests.available
+      ap (λ (parts : OpenFile). room_of parts (available_of (counts_of (pages_behind after)))) call.reads.file ∙ ap (room_of (parts_of file)) call.reads.pages.rests.available
 
   pub reads_room : room_of_held (held_at new.held u) ≡ room_of_held (held_at old.held u)
   reads_room = ap room_of_held now_held ∙ same_room ∙ sym (ap room_of_held call.opened)
@@ -131,8 +133,8 @@ module _ {S : Type 0} (state : S → LibraryState) (a b : S) (u : ℕ) (file aft
 
   -- ---- all of it, with the pages that were asked for and with why the file gave up
 
-  pub reads_unit : {X : Type 0} (most : Held → ℕ) (result : Result X Fault) → after.pages.cache.asked ≤ file.pages.cache.asked + most (Opened file)
-      → (IsTrue file.file.broken → result ≡ Err BrokenUnit) → IfErr result (IsCausedIn file.file.broken (FaultsRose old.faults new.faults) ⊥)
+  pub reads_unit : {X : Type 0} (most : Held → ℕ) (result : Result X Fault) → times_asked (pages_behind after) ≤ times_asked (pages_behind file) + most (Opened file)
+      → (IsTrue (is_broken_file file) → result ≡ Err BrokenUnit) → IfErr result (IsCausedIn (is_broken_file file) (FaultsRose old.faults new.faults) ⊥)
       → (IsTrue new.shelf.is_honest → IsShownTruly old.shelf old.held (name_at (world_of old.shelf old.held) u) → IfErr result (λ fault. fault ≢ Damage))
       → ReadsUnit (shown_by state) u (most (held_at old.held u)) a b result
   reads_unit most result asks broken cause no_damage = record {
@@ -142,7 +144,7 @@ module _ {S : Type 0} (state : S → LibraryState) (a b : S) (u : ℕ) (file aft
     pages = reads_pages;
     broken = λ is. broken (sym broken_is ∙ is);
     fault = subst (λ (fails : Bool). IfErr result (MayFail fails new.shelf.is_honest (IsShownTruly old.shelf old.held (name_at (world_of old.shelf old.held) u)) old.faults new.faults)) (sym broken_is)
-        (faults_are file.file.broken new.shelf.is_honest (IsShownTruly old.shelf old.held (name_at (world_of old.shelf old.held) u)) old.faults new.faults result cause broken no_damage);
+        (faults_are (is_broken_file file) new.shelf.is_honest (IsShownTruly old.shelf old.held (name_at (world_of old.shelf old.held) u)) old.faults new.faults result cause broken no_damage);
     images = λ honest truly. reads_images honest;
     keeps = reads_keeps;
   }
@@ -150,9 +152,9 @@ module _ {S : Type 0} (state : S → LibraryState) (a b : S) (u : ℕ) (file aft
       asked : pages_asked_of (held_at new.held u) ≤ pages_asked_of (held_at old.held u) + most (held_at old.held u)
       asked =
           subst (λ (one : Held). pages_asked_of (held_at new.held u) ≤ pages_asked_of one + most one) (sym call.opened)
-          (subst (λ (one : Held). pages_asked_of one ≤ file.pages.cache.asked + most (Opened file)) (sym now_held) asks)
+          (subst (λ (one : Held). pages_asked_of one ≤ times_asked (pages_behind file) + most (Opened file)) (sym now_held) asks)
 
       counted : pages_asked_of (held_at old.held u) ≤ pages_asked_of (held_at new.held u)
       counted =
           subst (λ (one : Held). pages_asked_of one ≤ pages_asked_of (held_at new.held u)) (sym call.opened)
-          (subst (λ (one : Held). file.pages.cache.asked ≤ pages_asked_of one) (sym now_held) call.reads.pages.goes.parts.asked)
+          (subst (λ (one : Held). times_asked (pages_behind file) ≤ pages_asked_of one) (sym now_held) call.reads.pages.goes.parts.asked)

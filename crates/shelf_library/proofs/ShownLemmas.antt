@@ -6,7 +6,7 @@ use Rattle.indexed_file.specs.File.{File, empty_file}
 use Rattle.indexed_file.specs.Room.{Room}
 use Rattle.indexed_file.specs.World.{Holding, holding_at, name_at, schema_at, schema_in, file_at, file_in as rows_in, is_open, is_broken}
 use Rattle.shelf_file.specs.declared.shelf_file.ShelfFile.{ShelfFile}
-use Rattle.shelf_file.specs.Standing.{StandsFor, file_read_off, room_in}
+use Rattle.shelf_file.specs.Standing.{StandsFor, file_read_off, room_in, is_broken_file, schema_behind}
 use Rattle.shelf_library.specs.State.{LibraryState, held_at}
 use Rattle.shelf_library.specs.Truth.{IsShownTruly}
 use Rattle.shelf_library.specs.Units.{world_of, holding_of, room_of_held}
@@ -21,20 +21,20 @@ module _ (u : ℕ) (file : ShelfFile) (state : LibraryState) (units : AreUnits s
   pub holding_shown : holding_at (world_of state.shelf state.held) u ≡ holding_of state.shelf (Opened file)
   holding_shown = holding_now state.shelf state.held u within units.many ∙ ap (holding_of state.shelf) opened
 
-  pub schema_shown : schema_at (world_of state.shelf state.held) u ≡ file.file.schema
-  schema_shown = ap schema_in holding_shown ∙ schema_open file.file.broken file.file.schema (file_read_off file state.shelf)
+  pub schema_shown : schema_at (world_of state.shelf state.held) u ≡ schema_behind file
+  schema_shown = ap schema_in holding_shown ∙ schema_open (is_broken_file file) (schema_behind file) (file_read_off file state.shelf)
 
   pub open_shown : is_open (holding_at (world_of state.shelf state.held) u) ≡ true
-  open_shown = ap is_open holding_shown ∙ open_open file.file.broken file.file.schema (file_read_off file state.shelf)
+  open_shown = ap is_open holding_shown ∙ open_open (is_broken_file file) (schema_behind file) (file_read_off file state.shelf)
 
-  pub broken_shown : is_broken (holding_at (world_of state.shelf state.held) u) ≡ file.file.broken
-  broken_shown = ap is_broken holding_shown ∙ broken_open file.file.broken file.file.schema (file_read_off file state.shelf)
+  pub broken_shown : is_broken (holding_at (world_of state.shelf state.held) u) ≡ is_broken_file file
+  broken_shown = ap is_broken holding_shown ∙ broken_open (is_broken_file file) (schema_behind file) (file_read_off file state.shelf)
 
   -- what is so of each file that the open one stands for is so of the one that is shown
-  pub told : (P : Schema → Room → File → Type 0) → IsShownTruly state.shelf state.held (name_at (world_of state.shelf state.held) u) → IsFalse file.file.broken
-      → ((rows : File) → StandsFor file state.shelf rows → P file.file.schema (room_in file) rows)
+  pub told : (P : Schema → Room → File → Type 0) → IsShownTruly state.shelf state.held (name_at (world_of state.shelf state.held) u) → IsFalse (is_broken_file file)
+      → ((rows : File) → StandsFor file state.shelf rows → P (schema_behind file) (room_in file) rows)
       → P (schema_at (world_of state.shelf state.held) u) (room_of_held (held_at state.held u)) (file_at (world_of state.shelf state.held) u)
   told P truly works is =
       let shown = known u file state units within opened truly works in
       subst (λ (holding : Holding). P (schema_in holding) (room_of_held (held_at state.held u)) (unwrap_or (rows_in holding) empty_file)) (sym shown.holding)
-      (subst (λ (one : Held). P file.file.schema (room_of_held one) shown.rows) (sym opened) (is shown.rows shown.stands))
+      (subst (λ (one : Held). P (schema_behind file) (room_of_held one) shown.rows) (sym opened) (is shown.rows shown.stands))

@@ -8,7 +8,7 @@ use Rattle.page_alloc.specs.Steps.{Moves}
 use Rattle.indexed_file.specs.FileChange.{FileChange}
 use Rattle.shelf_file.specs.declared.shelf_file.ShelfFile.{ShelfFile}
 use Rattle.shelf_file.specs.Calls.{ChangesOnShelf, on_shelf}
-use Rattle.shelf_file.specs.Standing.{IsReady}
+use Rattle.shelf_file.specs.Standing.{IsReady, pages_behind}
 use Rattle.shelf_library.specs.State.{LibraryState, held_at}
 use Rattle.shelf_library.specs.OneUnit.{AreUnits}
 use Rattle.shelf_library.specs.declared.held.Held.TheVariants.{Opened}
@@ -21,7 +21,7 @@ pub record MovesAt (u : ℕ) (file after : ShelfFile) (old new : LibraryState) :
   pub holds : new.held ≡ slice_set old.held u (Opened after)
   pub limit : new.limit ≡ old.limit
   pub frames : new.frames ≡ old.frames
-  pub moves : Moves file.pages after.pages old.shelf new.shelf old.faults new.faults
+  pub moves : Moves (pages_behind file) (pages_behind after) old.shelf new.shelf old.faults new.faults
   pub ready : IsReady after new.shelf
   -- what reads give is one of the images
   pub image_before : IsTrue old.shelf.is_honest → Leaves (unit_file old.shelf u) (unit_file old.shelf u).seen

@@ -13,13 +13,15 @@ use Rattle.indexed_file.specs.World.{Opened as HasOpened, unit_at, holding_at, n
 use Rattle.record_layout.specs.Schema.{Schema}
 use Rattle.page_store.specs.DeviceFile.{DeviceFile, content}
 use Rattle.page_store.specs.ShelfState.{ShelfState, unit_name, unit_file}
-use Rattle.page_alloc.specs.Joining.{available_of}
+use Rattle.page_alloc.specs.Joining.{available_of, pages_counted, pages_free}
+use Rattle.page_alloc.specs.PagedFile.{counts_of}
 use Rattle.file_header.specs.declared.header.Header.{Header}
 use Rattle.shelf_file.specs.declared.look.Look.{Look}
 use Rattle.shelf_file.specs.declared.look.Look.TheVariants.{NoFile, Refused, Accepted}
 use Rattle.shelf_file.specs.declared.shelf_file.ShelfFile.{ShelfFile}
 use Rattle.shelf_file.specs.Named.{look_of, named_of, named_by}
 use Rattle.shelf_file.specs.Standing.{file_read_off, live_of, room_in}
+use Rattle.shelf_file.specs.Standing.{is_broken_file, pages_behind, parts_of, schema_behind}
 use Rattle.shelf_library.specs.State.{held_at, AreReady, AreLimited}
 use Rattle.shelf_library.specs.Units.{world_of, units_of, holding_of, room_of_held, counts_of_held}
 use Rattle.shelf_library.specs.Units.{frames_of_held, pages_asked_of}
@@ -77,14 +79,14 @@ module _ (shelf : ShelfState) (held : List Held) (many : length held ≡ length 
       → IsShownTruly shelf held (unit_name shelf u) → IsTrue (is_sound_holding (holding_of shelf one))
   held_files u Nothing within is truly = refl
   held_files u (Looked header) within is truly = refl
-  held_files u (Opened file) within is truly = elim (cases_Bool file.file.broken) [
+  held_files u (Opened file) within is truly = elim (cases_Bool (is_broken_file file)) [
     | inl broken ↦ rw broken refl
     | inr unbroken ↦
         let lies : u < length shelf.names = omega (arith, within, many) in
         let open_truly = truly.opened u file lies refl is unbroken in
         let back : file_read_off file shelf ≡ open_truly.rows =
-        reads_as file.file (live_of file shelf) open_truly.rows open_truly.stands.stands in
-        rw unbroken (subst (λ (rows : File). IsTrue (is_file file.file.schema rows))
+        reads_as (parts_of file) (live_of file shelf) open_truly.rows open_truly.stands.stands in
+        rw unbroken (subst (λ (rows : File). IsTrue (is_file (schema_behind file) rows))
         (sym back) open_truly.stands.stands.sound)
   ]
 
@@ -113,14 +115,15 @@ module _ (shelf : ShelfState) (held : List Held) (many : length held ≡ length 
   -- an open unit has a file of this schema, that reads so
   opened_by : (u : ℕ) (one : Held) (schema : Schema) (rows : File)
       → holding_of shelf one ≡ HasOpened schema rows
-      → (file : ShelfFile) × (one ≡ Opened file) × IsFalse file.file.broken × (file.file.schema ≡ schema)
-      × (file_read_off file shelf ≡ rows)
+      → (file : ShelfFile) × (one ≡ Opened file) × IsFalse (is_broken_file file)
+      × (schema_behind file ≡ schema) × (file_read_off file shelf ≡ rows)
   opened_by u Nothing schema rows is = absurd (cc)
   opened_by u (Looked header) schema rows is = absurd (cc)
-  opened_by u (Opened file) schema rows is = elim (cases_Bool file.file.broken) [
-    | inl broken ↦ let e : Broken file.file.schema ≡ HasOpened schema rows = rw broken at is in absurd (cc)
-    | inr unbroken ↦ let e : HasOpened file.file.schema (file_read_off file shelf) ≡ HasOpened schema rows =
-        rw unbroken at is in (file, refl, unbroken, cc, cc)
+  opened_by u (Opened file) schema rows is = elim (cases_Bool (is_broken_file file)) [
+    | inl broken ↦ let e : Broken (schema_behind file) ≡ HasOpened schema rows = rw broken at is in
+        absurd (cc)
+    | inr unbroken ↦ let e : HasOpened (schema_behind file) (file_read_off file shelf)
+        ≡ HasOpened schema rows = rw unbroken at is in (file, refl, unbroken, cc, cc)
   ]
 
 pub shows_files : (shelf : ShelfState) (held : List Held) (name : List ℕ)
@@ -149,13 +152,14 @@ fills shelf held u schema file many ready truly is = elim (cases_Bool (nat_lt u 
       let here = subst (λ (name : List ℕ). IsShownTruly shelf held name)
       (name_now shelf held u within many) truly in
       let open_truly = here.opened u of.0 lies refl of.1 of.2 in
-      let back : open_truly.rows ≡ file = sym (reads_as of.0.file
+      let back : open_truly.rows ≡ file = sym (reads_as (parts_of of.0)
       (live_of of.0 shelf) open_truly.rows open_truly.stands.stands) ∙ of.4 in
-      let full = filled of.0.file (live_of of.0 shelf) open_truly.rows (available_of of.0.pages.pager)
+      let full = filled (parts_of of.0) (live_of of.0 shelf) open_truly.rows
+      (available_of (counts_of (pages_behind of.0)))
       (ready u of.0 of.1).ready.shaped open_truly.stands.stands in
       subst (λ (one : Held). IsFilled (room_of_held one) schema file) (sym of.1)
       (subst (λ (s : Schema). IsFilled (room_in of.0) s file) of.3
-      (subst (λ (rows : File). IsFilled (room_in of.0) of.0.file.schema rows) back full))
+      (subst (λ (rows : File). IsFilled (room_in of.0) (schema_behind of.0) rows) back full))
   | inr miss ↦
       let none = ap (λ (unit : FileUnit). unit.holding)
       (no_such shelf held many u (ltb-false u (length held) miss)) in
@@ -194,7 +198,8 @@ module _
       let file = file_at.0 in
       subst (λ (one : Held). available_in (room_of_held one) ≡ Some
       (available_under (counts_of_held (unit_file shelf u).seen one) limit)) (sym file_at.1)
-      (ap (λ (n : ℕ). Some (file.pages.pager.free + (n - file.pages.pager.count)))
+      (let pager = counts_of (pages_behind file) in
+      ap (λ (n : ℕ). Some (pages_free pager + (n - pages_counted pager)))
       (are u file file_at.1).limit)
 
   pub frames_within : frames_of_held (held_at held u) ≡ Some frames
@@ -206,9 +211,9 @@ not_counted : (shelf : ShelfState) (one : Held) → IsFalse (is_open (holding_of
     → pages_asked_of one ≡ 0
 not_counted shelf Nothing closed = refl
 not_counted shelf (Looked header) closed = refl
-not_counted shelf (Opened file) closed = elim (cases_Bool file.file.broken) [
-  | inl broken ↦ let e : IsFalse (is_open (Broken file.file.schema)) = rw broken at closed in absurd (cc)
-  | inr works ↦ let e : IsFalse (is_open (HasOpened file.file.schema (file_read_off file shelf))) =
+not_counted shelf (Opened file) closed = elim (cases_Bool (is_broken_file file)) [
+  | inl broken ↦ let e : IsFalse (is_open (Broken (schema_behind file))) = rw broken at closed in absurd (cc)
+  | inr works ↦ let e : IsFalse (is_open (HasOpened (schema_behind file) (file_read_off file shelf))) =
       rw works at closed in absurd (cc)
 ]
 

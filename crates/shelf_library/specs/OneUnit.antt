@@ -7,6 +7,7 @@ use Rattle.file_header.specs.declared.header.Header.{Header}
 use Rattle.shelf_file.specs.declared.look.Look.TheVariants.{Accepted}
 use Rattle.shelf_file.specs.declared.shelf_file.ShelfFile.{ShelfFile}
 use Rattle.shelf_file.specs.Named.{look_of}
+use Rattle.shelf_file.specs.Standing.{is_broken_file}
 use Rattle.shelf_library.specs.State.{AreLooked, AreReady, IsLooked, IsReadyAt}
 use Rattle.shelf_library.specs.Truth.{IsTrulyClosed, IsTrulyOpen}
 use Rattle.shelf_library.specs.declared.held.Held.{Held}
@@ -34,5 +35,5 @@ pub record FitsItsFile (u : ℕ) (one : Held) (shelf : ShelfState) : Type 0 wher
 pub record IsTrulyHeld (u : ℕ) (one : Held) (shelf : ShelfState) : Type 0 where
   pub closed : (header : Header) → look_of (unit_file shelf u).seen ≡ Accepted header
       → IsTrulyClosed (unit_file shelf u) header
-  pub opened : (file : ShelfFile) → one ≡ Opened file → IsFalse file.file.broken
+  pub opened : (file : ShelfFile) → one ≡ Opened file → IsFalse (is_broken_file file)
       → IsTrulyOpen shelf file (unit_file shelf u)

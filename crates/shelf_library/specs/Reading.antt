@@ -9,7 +9,7 @@ use Rattle.page_store.specs.Gate.{AllOpen}
 use Rattle.page_store.specs.ShelfState.{unit_file}
 use Rattle.shelf_file.specs.declared.shelf_file.ShelfFile.{ShelfFile}
 use Rattle.shelf_file.specs.Calls.{OnlyReadsFile}
-use Rattle.shelf_file.specs.Standing.{StandsFor}
+use Rattle.shelf_file.specs.Standing.{StandsFor, schema_behind}
 use Rattle.shelf_library.specs.State.{LibraryState, held_at}
 use Rattle.shelf_library.specs.Units.{world_of}
 use Rattle.shelf_library.specs.OneUnit.{AreUnits}
@@ -38,4 +38,4 @@ pub record GoesOpen (old new : DeviceFile) : Type 0 where
 pub record IsKnown (u : ℕ) (file : ShelfFile) (state : LibraryState) : Type 0 where
   pub rows : File
   pub stands : StandsFor file state.shelf rows
-  pub holding : holding_at (world_of state.shelf state.held) u ≡ HasOpened file.file.schema rows
+  pub holding : holding_at (world_of state.shelf state.held) u ≡ HasOpened (schema_behind file) rows

@@ -4,10 +4,11 @@ use Rattle.page_store.specs.ShelfState.{ShelfState}
 use Rattle.file_header.specs.declared.header.Header.{Header}
 use Rattle.file_header.specs.Bounds.{IsHeader}
 use Rattle.shelf_file.specs.declared.shelf_file.ShelfFile.{ShelfFile}
-use Rattle.shelf_file.specs.Standing.{IsReady, HasLimits}
+use Rattle.shelf_file.specs.Standing.{IsReady, HasLimits, pages_behind}
 use Rattle.shelf_file.specs.Shelves.{HasAccepted}
 use Rattle.shelf_library.specs.declared.held.Held.{Held}
 use Rattle.shelf_library.specs.declared.held.Held.TheVariants.{Nothing, Looked, Opened}
+use Rattle.page_alloc.specs.PagedFile.{unit_of_pages}
 
 pub record LibraryState : Type 0 where
   pub shelf : ShelfState
@@ -33,7 +34,7 @@ AreLooked shelf held = (u : ℕ) (header : Header) → held_at held u ≡ Looked
 
 -- calls may be made on the file of unit u
 pub record IsReadyAt (shelf : ShelfState) (u : ℕ) (file : ShelfFile) : Type 0 where
-  pub unit_is : file.pages.cache.store.unit ≡ u
+  pub unit_is : unit_of_pages (pages_behind file) ≡ u
   pub ready : IsReady file shelf
 
 abbrev pub AreReady : ShelfState → List Held → Type 0

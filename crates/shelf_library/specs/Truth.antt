@@ -7,11 +7,12 @@ use Rattle.file_header.specs.declared.header.Header.{Header}
 use Rattle.shelf_file.specs.declared.look.Look.TheVariants.{Accepted}
 use Rattle.shelf_file.specs.declared.shelf_file.ShelfFile.{ShelfFile}
 use Rattle.shelf_file.specs.Named.{look_of, StandsIn}
-use Rattle.shelf_file.specs.Standing.{StandsFor}
+use Rattle.shelf_file.specs.Standing.{StandsFor, is_broken_file, pages_behind, schema_behind}
 use Rattle.shelf_file.specs.Shelves.{AreClosed}
 use Rattle.shelf_library.specs.State.{held_at}
 use Rattle.shelf_library.specs.declared.held.Held.{Held}
 use Rattle.shelf_library.specs.declared.held.Held.TheVariants.{Opened}
+use Rattle.page_alloc.specs.PagedFile.{is_begun}
 
 -- a file whose first page is accepted stands for some rows
 pub record IsTrulyClosed (bytes : DeviceFile) (header : Header) : Type 0 where
@@ -22,12 +23,12 @@ pub record IsTrulyClosed (bytes : DeviceFile) (header : Header) : Type 0 where
 pub record IsTrulyOpen (shelf : ShelfState) (file : ShelfFile) (bytes : DeviceFile) : Type 0 where
   pub rows : File
   pub stands : StandsFor file shelf rows
-  pub closed : file.pages.changed ≡ false → AreClosed file.file.schema rows (content bytes)
+  pub closed : is_begun (pages_behind file) ≡ false → AreClosed (schema_behind file) rows (content bytes)
 
 -- what is shown of a name is what its file is, closed or open
 pub record IsShownTruly (shelf : ShelfState) (held : List Held) (name : List ℕ) : Type 0 where
   pub closed : (header : Header) → look_of (shelf.file name).seen ≡ Accepted header
       → IsTrulyClosed (shelf.file name) header
   pub opened : (u : ℕ) (file : ShelfFile) → u < length shelf.names → unit_name shelf u ≡ name
-      → held_at held u ≡ Opened file → IsFalse file.file.broken
+      → held_at held u ≡ Opened file → IsFalse (is_broken_file file)
       → IsTrulyOpen shelf file (shelf.file name)

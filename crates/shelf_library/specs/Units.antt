@@ -7,18 +7,20 @@ use Rattle.indexed_file.specs.World.{World, FileUnit, Named, Absent, Holding, Sh
 use Rattle.indexed_file.specs.World.{Opened as HasOpened, Broken}
 use Rattle.page_store.specs.ShelfState.{ShelfState}
 use Rattle.page_alloc.specs.declared.pager.Pager.{Pager}
+use Rattle.page_alloc.specs.PagedFile.{counts_of, most_held, times_asked}
+use Rattle.page_alloc.specs.Joining.{pages_counted, pages_free}
 use Rattle.shelf_file.specs.declared.look.Look.{Look}
 use Rattle.shelf_file.specs.declared.look.Look.TheVariants.{NoFile, Refused, Accepted}
 use Rattle.shelf_file.specs.Named.{look_of, named_of}
-use Rattle.shelf_file.specs.Standing.{file_read_off, room_in}
+use Rattle.shelf_file.specs.Standing.{file_read_off, room_in, is_broken_file, pages_behind, schema_behind}
 use Rattle.shelf_library.specs.declared.held.Held.{Held}
 use Rattle.shelf_library.specs.declared.held.Held.TheVariants.{Nothing, Looked, Opened}
 
 abbrev pub holding_of : ShelfState → Held → Holding
 holding_of shelf Nothing = Shut
 holding_of shelf (Looked header) = HasLooked header.schema
-holding_of shelf (Opened file) = if file.file.broken then Broken file.file.schema else HasOpened
-    file.file.schema (file_read_off file shelf)
+holding_of shelf (Opened file) = if is_broken_file file then Broken (schema_behind file) else HasOpened
+    (schema_behind file) (file_read_off file shelf)
 
 abbrev pub unit_of : ShelfState → List ℕ → Held → FileUnit
 unit_of shelf name one = record {
@@ -49,12 +51,12 @@ room_of_held (Opened file) = room_in file
 abbrev pub pages_asked_of : Held → ℕ
 pages_asked_of Nothing = 0
 pages_asked_of (Looked header) = 0
-pages_asked_of (Opened file) = file.pages.cache.asked
+pages_asked_of (Opened file) = times_asked (pages_behind file)
 
 -- the pages of an open file are those that its pager counts; of another one, those that its header
 -- counts, where a look accepts it
 abbrev pub counts_of_pager : Pager → PageCounts
-counts_of_pager pager = record { count = pager.count; free = pager.free }
+counts_of_pager pager = record { count = pages_counted pager; free = pages_free pager }
 
 abbrev pub counts_by : Look → PageCounts
 counts_by NoFile = record { count = 0; free = 0 }
@@ -64,10 +66,10 @@ counts_by (Accepted header) = record { count = header.pages; free = header.free 
 abbrev pub counts_of_held : Option (List ℕ) → Held → PageCounts
 counts_of_held seen Nothing = counts_by (look_of seen)
 counts_of_held seen (Looked header) = counts_by (look_of seen)
-counts_of_held seen (Opened file) = counts_of_pager file.pages.pager
+counts_of_held seen (Opened file) = counts_of_pager (counts_of (pages_behind file))
 
 -- the most pages of an open file that are held in memory
 abbrev pub frames_of_held : Held → Option ℕ
 frames_of_held Nothing = None
 frames_of_held (Looked header) = None
-frames_of_held (Opened file) = Some file.pages.cache.frames.cap
+frames_of_held (Opened file) = Some (most_held (pages_behind file))

@@ -121,7 +121,7 @@ impl<S: Shelf> ShelfLibrary<S> {
         ensures { result ≡ height_at (room_of_held (held_at self.now.units.items u)) k }
     {
         match self.units.get(u) {
-            Some(Held::Opened(file)) => tree_height(&file.file, k as usize),
+            Some(Held::Opened(file)) => tree_height(file.parts(), k as usize),
             _ => 0,
         }
     }
@@ -182,14 +182,14 @@ impl<S: Shelf> Library for ShelfLibrary<S> {
 
     fn asked(&self, u: usize) -> u64 {
         match &self.units[u] {
-            Held::Opened(file) => file.pages.cache.asked(),
+            Held::Opened(file) => file.asked(),
             _ => 0,
         }
     }
 
     fn restart_count(&mut self, u: usize) {
         if let Held::Opened(file) = &mut self.units[u] {
-            file.pages.cache.restart_count();
+            file.restart_count();
         }
     }
 

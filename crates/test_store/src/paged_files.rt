@@ -95,7 +95,7 @@ fn make<S: Shelf>(
         },
         count,
     )?;
-    file.pager.save(&mut header);
+    file.pager().save(&mut header);
     file.close(shelf, &header)?;
     Ok(right)
 }
@@ -120,7 +120,7 @@ fn reopen<S: Shelf>(
     let mut header = [0; 4096];
     store.read_page(shelf, 0, &mut header)?;
     let pager = Pager::load(&header, 1000);
-    if header[0] != b'C' || pager.count == 0 || pager.count > store.pages {
+    if header[0] != b'C' || pager.count() == 0 || pager.count() > store.pages {
         return Ok(None);
     }
     Ok(Some(PagedFile::open(alloc, store, frames, pager)?))
@@ -133,7 +133,7 @@ fn find<S: Shelf>(alloc: Global, shelf: &mut S, frames: NonZeroUsize) -> Result<
     let Some(mut file) = reopen(alloc, shelf, frames)? else {
         return Ok(Found::Refused);
     };
-    let count = file.pager.count;
+    let count = file.pager().count();
     let right = count_marked(
         &mut FilePages {
             file: &mut file,
@@ -308,7 +308,7 @@ fn a_limit_of_sixteen_leaves_twelve_pages_behind_four(rt: HostRuntime) -> Result
     assert_equal(&rt, (pages.take(), pages.take()), (Ok(9), Ok(7)));
     assert_equal(&rt, take_all(&mut pages), Ok(0));
     let mut header = [0; 4096];
-    file.cache.read_header(&mut shelf, &mut header)?;
+    file.cache().read_header(&mut shelf, &mut header)?;
     assert_equal(&rt, (header[0], header[1], header[4095]), (b'D', 9, 9));
     Ok(())
 }
@@ -343,12 +343,16 @@ fn a_page_is_read_once_while_it_is_held_and_written_when_the_file_is_closed(
     })?;
     assert_equal(&rt, shelf.calls(Kind::Reads).wrapping_sub(reads), 8);
     assert_equal(&rt, shelf.calls(Kind::Writes), writes);
-    assert_equal(&rt, (file.cache.asked(), file.cache.held_pages()), (80, 8));
+    assert_equal(
+        &rt,
+        (file.cache().asked(), file.cache().held_pages()),
+        (80, 8),
+    );
     file.close(&mut shelf, &[0; 4096])?;
     // Eight pages, the header and the gate.
     assert_equal(&rt, shelf.calls(Kind::Writes).wrapping_sub(writes), 10);
-    file.cache.restart_count();
-    assert_equal(&rt, file.cache.asked(), 0);
+    file.restart_count();
+    assert_equal(&rt, file.cache().asked(), 0);
     Ok(())
 }
 
@@ -407,7 +411,7 @@ fn a_page_inside_the_file_is_taken_without_a_read(rt: HostRuntime) -> Result<(),
         };
         assert_equal(&rt, take_next(&mut pages, 8), Ok(8));
         assert_equal(&rt, shelf.calls(Kind::Reads), reads);
-        assert_equal(&rt, file.cache.asked(), 8);
+        assert_equal(&rt, file.cache().asked(), 8);
         let mut pages = FilePages {
             file: &mut file,
             shelf: &mut shelf,

@@ -1,6 +1,7 @@
 use Rattle.std.proofs.Common.{◌∙◌, IsSome, ap, subst, sym}
 use Rattle.page_store.specs.DeviceFile.{content}
 use Rattle.page_store.specs.ShelfState.{unit_file}
+use Rattle.page_alloc.specs.Joining.{pages_counted, pages_free, page_limit}
 use Rattle.open_file.specs.Stands.{Stands}
 use Rattle.open_file.specs.ReadOff.{file_off}
 use Rattle.open_file.proofs.HeaderLemmas.{read_back}
@@ -17,6 +18,7 @@ returns c =
     let opened = c.from_header.result in
     let pages = c.in_ok-pages.pages in
     let unit = c.args.unit in
+    let pager = held.pager ∙ c.numbered-pager.ensures in
     record {
       opened = record {
         unit_is = ap (λ store. store.unit) held.store;
@@ -29,18 +31,18 @@ returns c =
           shaped = c.from_header.ensures.shaped;
         };
         reads = λ shelf accepted.
-            ap (file_off opened) (opened_live pages shelf unit c.args.limit header held.pager held.store (held.pages shelf))
+            ap (file_off opened) (opened_live pages shelf unit c.args.limit header pager held.store (held.pages shelf))
             ∙ reads_by_header opened header (live_in header (content (unit_file shelf unit))) c.requires.header c.from_header.ensures;
         stands = λ shelf file accepted is. record {
           stands = subst (λ live. Stands opened live file)
-              (sym (opened_live pages shelf unit c.args.limit header held.pager held.store (held.pages shelf)))
+              (sym (opened_live pages shelf unit c.args.limit header pager held.store (held.pages shelf)))
               (read_back is.opened opened header (live_in header (content (unit_file shelf unit))) file
               is.stands is.by_header.shaped is.by_header.header_is c.from_header.ensures);
           sound = subst (λ free. IsSome free)
-              (sym (opened_free pages shelf unit c.args.limit header held.pager held.store (held.pages shelf))) is.sound;
+              (sym (opened_free pages shelf unit c.args.limit header pager held.store (held.pages shelf))) is.sound;
         };
       };
-      counts = (ap (λ pager. pager.count) held.pager, ap (λ pager. pager.free) held.pager);
-      limits = record { limit = ap (λ pager. pager.limit) held.pager; cap = held.frames };
+      counts = (ap pages_counted pager, ap pages_free pager);
+      limits = record { limit = ap page_limit pager; cap = held.frames };
       memory = tt;
     }

@@ -10,6 +10,7 @@ use Rattle.shelf_library.proofs.ReadingLemmas.{reads_units}
 use Rattle.shelf_library.proofs.ReadsLemmas.{reads_unit}
 use Rattle.shelf_library.proofs.FoundLemmas.{delivers_found, delivers_area, delivers_undamaged}
 use Rattle.shelf_library.proofs.LimitLemmas.{limits_read}
+use Rattle.shelf_file.specs.Standing.{schema_behind}
 use Rattle.shelf_library.proofs.library.ShelfLibraryLibrary.by_key.Goals as goal
 
 pub index_mut-requires : goal.index_mut-requires
@@ -72,6 +73,6 @@ returns g c =
           (λ one. most_to_read (room_of_held one) c.args.k) c.by_key.result
           c.by_key.ensures.reads.asked c.by_key.ensures.reads.broken c.by_key.ensures.reads.cause
           (λ honest truly. delivers_undamaged _ _ _ _ _ call truly c.args.k
-          (has_value c.in-Opened.file.file.schema c.args.k c.args.key.now.items)
+          (has_value (schema_behind c.in-Opened.file) c.args.k c.args.key.now.items)
           c.args.area.now c.by_key.new.area c.by_key.result c.by_key.ensures.reads.broken (c.by_key.ensures.finds.found honest));
     }

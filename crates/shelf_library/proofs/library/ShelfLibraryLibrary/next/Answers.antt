@@ -10,6 +10,7 @@ use Rattle.shelf_library.proofs.ReadingLemmas.{reads_units}
 use Rattle.shelf_library.proofs.ReadsLemmas.{reads_unit}
 use Rattle.shelf_library.proofs.FoundLemmas.{delivers_found, delivers_area, delivers_undamaged}
 use Rattle.shelf_library.proofs.LimitLemmas.{limits_read}
+use Rattle.shelf_file.specs.Standing.{schema_behind}
 use Rattle.shelf_library.proofs.library.ShelfLibraryLibrary.next.Goals as goal
 
 pub index_mut-requires : goal.index_mut-requires
@@ -72,6 +73,6 @@ returns g c =
           (λ one. most_to_read (room_of_held one) c.args.k) c.next.result
           c.next.ensures.reads.asked c.next.ensures.reads.broken c.next.ensures.reads.cause
           (λ honest truly. delivers_undamaged _ _ _ _ _ call truly c.args.k
-          (admits c.in-Opened.file.file.schema c.args.k c.args.position.now)
+          (admits (schema_behind c.in-Opened.file) c.args.k c.args.position.now)
           c.args.area.now c.next.new.area c.next.result c.next.ensures.reads.broken (c.next.ensures.finds.found honest));
     }

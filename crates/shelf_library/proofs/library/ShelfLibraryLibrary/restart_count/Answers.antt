@@ -1,5 +1,7 @@
 use Rattle.std.proofs.Common.{◌≡◌, refl, ap, sym, ◌∙◌, arith, slice_set}
-use Rattle.page_cache.specs.declared.cache.Cache.{Cache}
+use Rattle.page_alloc.specs.PagedFile.{counts_of, most_held}
+use Rattle.page_alloc.specs.Joining.{page_limit}
+use Rattle.shelf_file.specs.Standing.{pages_behind}
 use Rattle.shelf_file.specs.declared.shelf_file.ShelfFile.{ShelfFile}
 use Rattle.shelf_library.specs.declared.held.Held.TheVariants.{Opened}
 use Rattle.shelf_library.specs.State.{held_at}
@@ -24,20 +26,8 @@ invariant_of-self g c =
     let within = is_within g.S.Shelf c.args.self.now u c.requires.attached in
     let at : held_at held u ≡ Opened c.in-Opened.file = read_held held u c.index_mut.result.now within c.index_mut.ensures.value
     ∙ c.in-Opened.is in
-    let file : ShelfFile = record {
-      file = c.in-Opened.file.file;
-      pages = record {
-        cache = c.restart_count.new.self;
-        pager = c.in-Opened.file.pages.pager;
-        changed = c.in-Opened.file.pages.changed;
-      };
-    } in
-    let is : Opened file ≡ recount (held_at held u) =
-    ap (λ cache. Opened (record {
-      file = c.in-Opened.file.file;
-      pages = record { cache = cache; pager = c.in-Opened.file.pages.pager; changed = c.in-Opened.file.pages.changed };
-    }))
-    c.restart_count.ensures ∙ sym (ap recount at) in
+    let file = c.restart_count.new.self in
+    let is : Opened file ≡ recount (held_at held u) = ap Opened c.restart_count.ensures ∙ sym (ap recount at) in
     let call : ChangesAt u (recount (held_at held u)) shelf shelf held (slice_set held u (Opened file)) =
     record { attached = within; others = rests shelf u; holds = ap (λ one. slice_set held u one) is } in
     let after = are_after u (recount (held_at held u)) shelf shelf held (slice_set held u (Opened file)) are call
@@ -48,8 +38,9 @@ invariant_of-self g c =
       distinct = after.distinct;
       looked = after.looked;
       ready = after.ready;
-      limits = limits_after _ _ held u within c.args.self.now.limits c.in-Opened.file file at refl
-          (ap (λ (cache : Cache). cache.frames.cap) c.restart_count.ensures);
+      limits = limits_after _ _ held u within c.args.self.now.limits c.in-Opened.file file at
+          (ap (λ (file : ShelfFile). page_limit (counts_of (pages_behind file))) c.restart_count.ensures)
+          (ap (λ (file : ShelfFile). most_held (pages_behind file)) c.restart_count.ensures);
     }
 
 pub invariant_of-self-in_default : goal.invariant_of-self-in_default
@@ -85,20 +76,8 @@ returns-in-Opened g c =
     let within = is_within g.S.Shelf c.args.self.now u c.requires.attached in
     let at : held_at held u ≡ Opened c.in-Opened.file = read_held held u c.index_mut.result.now within c.index_mut.ensures.value
     ∙ c.in-Opened.is in
-    let file : ShelfFile = record {
-      file = c.in-Opened.file.file;
-      pages = record {
-        cache = c.restart_count.new.self;
-        pager = c.in-Opened.file.pages.pager;
-        changed = c.in-Opened.file.pages.changed;
-      };
-    } in
-    let is : Opened file ≡ recount (held_at held u) =
-    ap (λ cache. Opened (record {
-      file = c.in-Opened.file.file;
-      pages = record { cache = cache; pager = c.in-Opened.file.pages.pager; changed = c.in-Opened.file.pages.changed };
-    }))
-    c.restart_count.ensures ∙ sym (ap recount at) in
+    let file = c.restart_count.new.self in
+    let is : Opened file ≡ recount (held_at held u) = ap Opened c.restart_count.ensures ∙ sym (ap recount at) in
     recounts (library_state g.S.Shelf)
     u c.args.self.now _ are (record { attached = within; others = rests shelf u; holds = ap (λ one. slice_set held u one) is }) refl
     refl refl refl
