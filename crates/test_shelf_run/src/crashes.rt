@@ -1,5 +1,6 @@
 //! A device that stops, and then a crash.
 
+use crate::checks::assert_that;
 use crate::failing::{Failing, fails_in_turn};
 use crate::left::{Crash, reads_as};
 use crate::running::{run_over, shelf_before};
@@ -33,7 +34,7 @@ fn stops_at_each_change(
     before: &MemShelf,
     frames: usize,
 ) -> Result<(), Fail> {
-    for after in [false, true] {
+    for &after in &[false, true] {
         let failing = Failing {
             kind: Kind::Changes,
             after,
@@ -52,15 +53,31 @@ fn stopped(alloc: Global, worked: &Worked, before: MemShelf, at: u64) -> Result<
     Ok(fuse.into_inner().crash(alloc, Image::AsRead)?)
 }
 
+/// The same with one frame, and with 64.
+fn stops_with_any_frames(rt: &impl Abort, alloc: Global, files: &[Worked]) -> Result<(), Fail> {
+    let [first, ..] = files else {
+        return Ok(());
+    };
+    let before = shelf_before(alloc, first)?;
+    stops_at_each_change(rt, alloc, files, &before, 1)?;
+    stops_at_each_change(rt, alloc, files, &before, 64)
+}
+
 #[test]
 fn a_crash_leaves_no_false_file_where_one_is_made_or_changed(rt: HostRuntime) -> Result<(), Fail> {
-    for worked in [WRITTEN_AND_READ_BACK, A_DUPLICATE_REWRITTEN] {
-        let before = shelf_before(rt.alloc(), &worked)?;
-        for frames in [1, 64] {
-            stops_at_each_change(&rt, rt.alloc(), &[worked], &before, frames)?;
-        }
-    }
-    Ok(())
+    stops_with_any_frames(&rt, rt.alloc(), &[WRITTEN_AND_READ_BACK])?;
+    stops_with_any_frames(&rt, rt.alloc(), &[A_DUPLICATE_REWRITTEN])
+}
+
+/// The device stops at each change where a file that is refused is replaced.
+fn stops_over_a_refused_file(
+    rt: &impl Abort,
+    alloc: Global,
+    before: &MemShelf,
+) -> Result<(), Fail> {
+    let worked = &REPLACED_WHERE_REFUSED;
+    assert_that(rt, reads_as(alloc, before, worked.heading, worked.refused)?);
+    stops_at_each_change(rt, alloc, &[REPLACED_WHERE_REFUSED], before, 64)
 }
 
 #[test]
@@ -70,13 +87,9 @@ fn a_crash_leaves_no_false_file_where_one_is_replaced(rt: HostRuntime) -> Result
     stops_at_each_change(&rt, alloc, &[REPLACED], &before, 64)?;
     // A file whose gate is open, and one without a byte.
     let open = stopped(alloc, &REPLACED, before, 3)?;
+    stops_over_a_refused_file(&rt, alloc, &open)?;
     let empty = stopped(alloc, &REPLACED, MemShelf::new(alloc), 2)?;
-    for before in [&open, &empty] {
-        let worked = REPLACED_WHERE_REFUSED;
-        assert!(rt; reads_as(alloc, before, worked.heading, worked.refused)?);
-        stops_at_each_change(&rt, alloc, &[worked], before, 64)?;
-    }
-    Ok(())
+    stops_over_a_refused_file(&rt, alloc, &empty)
 }
 
 #[test]

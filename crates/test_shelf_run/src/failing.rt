@@ -11,7 +11,7 @@ use std::test::Fail;
 use worked_decks::{Worked, deck_of, transcript_of};
 
 /// How a device fails.
-#[derive(Clone, Copy, Debug, PartialEq, Eq)]
+#[derive(Clone, Copy, Debug)]
 pub struct Failing {
     /// Which calls fail in turn.
     pub kind: Kind,
@@ -19,6 +19,103 @@ pub struct Failing {
     pub after: bool,
     /// Whether each later call fails too.
     pub for_good: bool,
+}
+
+/// Something holds of a run whose call of this number failed, and of its transcript.
+fn holds_of(rt: &impl Abort, failing: Failing, at: u64, transcript: &str, what: &str, holds: bool) {
+    assert!(rt; holds, "{what}: {failing:?} {at}\n{transcript}");
+}
+
+/// A shelf with these files, of which this call fails.
+fn failing_at(
+    alloc: Global,
+    before: &MemShelf,
+    failing: Failing,
+    at: u64,
+) -> Result<FuseShelf<MemShelf>, Fail> {
+    let copy = before.crash(alloc, Image::AsRead)?;
+    Ok(FuseShelf::new(copy, failing.kind, at, failing.after, failing.for_good))
+}
+
+/// Whether each of these files is left as a run with this transcript may leave it.
+fn are_allowed(
+    alloc: Global,
+    files: &[Worked],
+    transcript: &str,
+    for_good: bool,
+    shelf: &MemShelf,
+    crashes: &[Crash],
+) -> Result<bool, Fail> {
+    let fault = Fault {
+        answer: "30",
+        again: for_good,
+    };
+    for worked in files {
+        if !is_allowed(alloc, worked, transcript, fault, shelf, crashes)? {
+            return Ok(false);
+        }
+    }
+    Ok(true)
+}
+
+/// A deck with its transcript, over files of a shelf.
+#[derive(Clone, Copy)]
+struct Run<'a> {
+    files: &'a [Worked],
+    deck: &'a str,
+    expected: &'a str,
+    before: &'a MemShelf,
+    frames: usize,
+}
+
+/// Runs a deck where this call fails, and answers whether there was no such call.
+fn fails_at(
+    rt: &impl Abort,
+    alloc: Global,
+    run: Run,
+    failing: Failing,
+    at: u64,
+    crashes: &[Crash],
+) -> Result<bool, Fail> {
+    let fuse = failing_at(alloc, run.before, failing, at)?;
+    let (fuse, transcript, end) = run_to_end(alloc, fuse, run.deck, run.frames)?;
+    let told = tells(&end, &transcript);
+    holds_of(
+        rt,
+        failing,
+        at,
+        &transcript,
+        "the end tells the lines",
+        told,
+    );
+    let is_last = fuse.calls(failing.kind) < at;
+    let is_so = (transcript.as_str() == run.expected) == is_last;
+    holds_of(
+        rt,
+        failing,
+        at,
+        &transcript,
+        "the worked lines where no call fails",
+        is_so,
+    );
+    let shelf = fuse.into_inner();
+    let allowed = are_allowed(
+        alloc,
+        run.files,
+        &transcript,
+        failing.for_good,
+        &shelf,
+        crashes,
+    )?;
+    holds_of(
+        rt,
+        failing,
+        at,
+        &transcript,
+        "the files are as they may be",
+        allowed,
+    );
+    Ok(is_last)
 }
 
 /// Runs a deck, as each of its files meets it, over the files of a shelf again and again, and each time the next call fails, until there is no further one.
@@ -37,32 +134,15 @@ pub fn fails_in_turn(
     };
     let deck = deck_of(alloc, first.heading, first.steps)?;
     let expected = transcript_of(alloc, first.steps)?;
-    let Failing {
-        kind,
-        after,
-        for_good,
-    } = failing;
-    let fault = Fault {
-        answer: "30",
-        again: for_good,
+    let run = Run {
+        files,
+        deck: &deck,
+        expected: &expected,
+        before,
+        frames,
     };
     for at in 1..1000 {
-        let copy = before.crash(alloc, Image::AsRead)?;
-        let fuse = FuseShelf::new(copy, kind, at, after, for_good);
-        let (fuse, transcript, end) = run_to_end(alloc, fuse, &deck, frames)?;
-        assert!(rt; tells(&end, &transcript), "{failing:?} {at}\n{transcript}");
-        let is_last = fuse.calls(kind) < at;
-        assert_eq!(rt;
-            transcript == expected,
-            is_last,
-            "{failing:?} {at}\n{transcript}"
-        );
-        let shelf = fuse.into_inner();
-        for worked in files {
-            let allowed = is_allowed(alloc, worked, &transcript, fault, &shelf, crashes)?;
-            assert!(rt; allowed, "{failing:?} {at}\n{transcript}");
-        }
-        if is_last {
+        if fails_at(rt, alloc, run, failing, at, crashes)? {
             return Ok(());
         }
     }

@@ -3,7 +3,7 @@
 use crate::failing::{Failing, fails_in_turn};
 use crate::left::Crash;
 use crate::running::shelf_before;
-use memory_shelf::{Image, Kind};
+use memory_shelf::{Image, Kind, MemShelf};
 use std::alloc::Global;
 use std::process::Abort;
 use std::test::Fail;
@@ -12,24 +12,39 @@ use worked_decks::{
     Worked,
 };
 
+/// How a call fails: after it was performed or before, and once or for good.
+const WAYS: [(bool, bool); 4] = [(false, false), (true, false), (false, true), (true, true)];
+
+/// The calls of a kind fail in turn, in each way.
+fn each_call_fails_of(
+    rt: &impl Abort,
+    alloc: Global,
+    files: &[Worked],
+    before: &MemShelf,
+    kind: Kind,
+    frames: usize,
+) -> Result<(), Fail> {
+    for &(after, for_good) in &WAYS {
+        let failing = Failing {
+            kind,
+            after,
+            for_good,
+        };
+        let crashes = &[Crash::Whole(Image::AsRead)];
+        fails_in_turn(rt, alloc, files, before, frames, failing, crashes)?;
+    }
+    Ok(())
+}
+
 /// Each read of a deck fails in turn, and each creation, write and sync, before it is performed and after it, once and for good.
 fn each_call_fails(rt: &impl Abort, alloc: Global, files: &[Worked]) -> Result<(), Fail> {
     let [first, ..] = files else {
         return Ok(());
     };
     let before = shelf_before(alloc, first)?;
-    for kind in [Kind::Reads, Kind::Changes] {
-        for (after, for_good) in [(false, false), (true, false), (false, true), (true, true)] {
-            let failing = Failing {
-                kind,
-                after,
-                for_good,
-            };
-            for frames in [1, 64] {
-                let crashes = [Crash::Whole(Image::AsRead)];
-                fails_in_turn(rt, alloc, files, &before, frames, failing, &crashes)?;
-            }
-        }
+    for &frames in &[1, 64] {
+        each_call_fails_of(rt, alloc, files, &before, Kind::Reads, frames)?;
+        each_call_fails_of(rt, alloc, files, &before, Kind::Changes, frames)?;
     }
     Ok(())
 }

@@ -1,10 +1,10 @@
 //! What a transcript says of the file that its run leaves.
 
-use crate::answers::{Connector, Fault, Found, Line, Mode, State, after};
+use crate::answers::{Connector, Fault, Found, Line, Mode, State, Verb, after, is_one_of, verb_of};
 use worked_decks::{Step, Worked};
 
 /// What the lines so far say.
-#[derive(Clone, Copy, Debug, PartialEq, Eq)]
+#[derive(Clone, Copy)]
 pub struct Judged {
     connector: Connector,
     /// How many CLOSE there were.
@@ -36,41 +36,62 @@ const NOTHING: Judged = Judged {
 };
 
 /// Whether a statement changes the file, or may have changed it when it failed.
-fn is_change(verb: &str, answer: &str) -> bool {
+fn is_change(verb: Verb, answer: &str) -> bool {
     match verb {
-        "OPEN OUTPUT" | "WRITE" | "REWRITE" | "DELETE" => {
-            matches!(answer, "00" | "02" | "30" | "90")
+        Verb::Open(Mode::Output) | Verb::Write | Verb::Rewrite | Verb::Delete => {
+            is_one_of(answer, &["00", "02", "30", "90"])
         }
         _ => false,
     }
 }
 
 impl Judged {
+    /// With a CLOSE more, on a connector that had this state.
+    fn with_close(self, was: State, answer: &str, fault: Fault) -> Judged {
+        let closes = self.closes.saturating_add(1);
+        if self.changed && answer == "00" {
+            return Judged {
+                closes,
+                kept: closes,
+                tried: None,
+                changed: false,
+                ..self
+            };
+        }
+        let failed = answer == fault.answer && was != State::Failed;
+        let tried = if failed { Some(closes) } else { self.tried };
+        Judged {
+            closes,
+            tried,
+            ..self
+        }
+    }
+
     /// With one line more, of a file that is there at first or not.
     fn with(self, is_there: bool, line: Line, fault: Fault) -> Option<Judged> {
-        let Line { verb, answer, .. } = line;
         let found = Found {
             absent: !is_there && !self.made,
             refused: self.changed,
         };
-        let mut judged = Judged {
-            connector: after(self.connector, line, fault, found)?,
-            changed: self.changed || is_change(verb, answer),
-            made: self.made || verb == "OPEN OUTPUT" && answer == "00",
-            astray: self.astray || verb == "READ" && answer == fault.answer,
-            ..self
-        };
-        if verb == "CLOSE" {
-            judged.closes = self.closes.saturating_add(1);
-            if judged.changed && answer == "00" {
-                judged.kept = judged.closes;
-                judged.tried = None;
-                judged.changed = false;
-            } else if answer == fault.answer && self.connector.state != State::Failed {
-                judged.tried = Some(judged.closes);
-            }
-        }
-        Some(judged)
+        let connector = after(self.connector, line, fault, found)?;
+        let judged = Judged { connector, ..self };
+        Some(match line.verb {
+            Verb::Close => judged.with_close(self.connector.state, line.answer, fault),
+            Verb::Read if line.answer == fault.answer => Judged {
+                astray: true,
+                ..judged
+            },
+            Verb::Open(Mode::Output) if line.answer == "00" => Judged {
+                changed: true,
+                made: true,
+                ..judged
+            },
+            verb if is_change(verb, line.answer) => Judged {
+                changed: true,
+                ..judged
+            },
+            _ => judged,
+        })
     }
 }
 
@@ -97,6 +118,21 @@ fn is_of_file(worked: &Worked, answer: &str) -> bool {
     }
 }
 
+/// The next line of a transcript, which has to be of the verb of the worked one.
+fn line_of<'a>(worked: &Worked, line: &'a str, found: &'a str) -> Option<Line<'a>> {
+    let (verb, expected) = parts(line, worked.file)?;
+    let (other, answer) = parts(found, worked.file)?;
+    if other == verb && is_of_file(worked, answer) {
+        Some(Line {
+            verb: verb_of(verb),
+            answer,
+            worked: expected,
+        })
+    } else {
+        None
+    }
+}
+
 /// What a transcript of the deck says of the file; none where it has a line of it that it may not have.
 pub fn judge(worked: &Worked, transcript: &str, fault: Fault) -> Option<Judged> {
     let mut rest = transcript.lines().filter(|line| line.contains(worked.file));
@@ -107,16 +143,7 @@ pub fn judge(worked: &Worked, transcript: &str, fault: Fault) -> Option<Judged> 
         if !line.contains(worked.file) || is_closed_by_then {
             continue;
         }
-        let (verb, expected) = parts(line, worked.file)?;
-        let (found, answer) = parts(rest.next()?, worked.file)?;
-        if found != verb || !is_of_file(worked, answer) {
-            return None;
-        }
-        let line = Line {
-            verb,
-            answer,
-            worked: expected,
-        };
+        let line = line_of(worked, line, rest.next()?)?;
         so_far = so_far.with(!worked.before.is_empty(), line, fault)?;
     }
     if rest.next().is_some() {

@@ -13,7 +13,7 @@ use std::test::Fail;
 use worked_decks::{Step, Worked, deck_of, transcript_of};
 
 /// What a crash leaves.
-#[derive(Clone, Copy, Debug, PartialEq, Eq)]
+#[derive(Clone, Copy)]
 pub enum Crash {
     /// Every file as in this image.
     Whole(Image),
@@ -51,6 +51,25 @@ fn put_page<S: Shelf>(shelf: &mut S, start: u64, bytes: &[u8; 4096]) -> Result<(
     shelf.write_at(0, start, bytes)
 }
 
+/// The shelf of the last successful sync, but this page of the file of a deck, which is as reads give it.
+fn with_one_page(
+    alloc: Global,
+    shelf: &MemShelf,
+    worked: &Worked,
+    page: u64,
+) -> Result<MemShelf, Fail> {
+    let mut from = shelf.crash(alloc, Image::AsRead)?;
+    let mut to = shelf.crash(alloc, Image::Synced)?;
+    let names = [FileName::from(worked.assigned)?];
+    from.attach(&names)?;
+    to.attach(&names)?;
+    let start = page.saturating_mul(4096);
+    if let Some(bytes) = page_of(&mut from, start)? {
+        put_page(&mut to, start, &bytes)?;
+    }
+    Ok(to)
+}
+
 /// The shelf that a crash leaves; the one file is that of a deck.
 fn crashed(
     alloc: Global,
@@ -60,18 +79,7 @@ fn crashed(
 ) -> Result<MemShelf, Fail> {
     match crash {
         Crash::Whole(image) => Ok(shelf.crash(alloc, image)?),
-        Crash::OnePage(page) => {
-            let mut from = shelf.crash(alloc, Image::AsRead)?;
-            let mut to = shelf.crash(alloc, Image::Synced)?;
-            let names = [FileName::from(worked.assigned)?];
-            from.attach(&names)?;
-            to.attach(&names)?;
-            let start = page.saturating_mul(4096);
-            if let Some(bytes) = page_of(&mut from, start)? {
-                put_page(&mut to, start, &bytes)?;
-            }
-            Ok(to)
-        }
+        Crash::OnePage(page) => with_one_page(alloc, shelf, worked, page),
     }
 }
 
@@ -87,6 +95,32 @@ pub fn reads_as(
     Ok(transcript == transcript_of(alloc, steps)?)
 }
 
+/// Whether it reads as after a CLOSE that may be the last one.
+fn is_closed(
+    alloc: Global,
+    shelf: &MemShelf,
+    worked: &Worked,
+    judged: &Judged,
+) -> Result<bool, Fail> {
+    for (place, steps) in worked.reads.iter().enumerate() {
+        let allowed = place == judged.kept || judged.tried == Some(place);
+        if allowed && reads_as(alloc, shelf, worked.heading, steps)? {
+            return Ok(true);
+        }
+    }
+    Ok(false)
+}
+
+/// Whether it reads as it may where a READ by key has failed.
+fn is_astray(alloc: Global, shelf: &MemShelf, worked: &Worked) -> Result<bool, Fail> {
+    for steps in worked.astray {
+        if reads_as(alloc, shelf, worked.heading, steps)? {
+            return Ok(true);
+        }
+    }
+    Ok(false)
+}
+
 /// Whether it reads as one that a run of such a transcript may leave.
 fn is_left(
     alloc: Global,
@@ -94,22 +128,16 @@ fn is_left(
     worked: &Worked,
     judged: &Judged,
 ) -> Result<bool, Fail> {
-    let heading = worked.heading;
-    if judged.changed && reads_as(alloc, shelf, heading, worked.refused)? {
+    if judged.changed && reads_as(alloc, shelf, worked.heading, worked.refused)? {
         return Ok(true);
     }
-    for (place, steps) in worked.reads.iter().enumerate() {
-        let allowed = place == judged.kept || judged.tried == Some(place);
-        if allowed && reads_as(alloc, shelf, heading, steps)? {
-            return Ok(true);
-        }
+    if is_closed(alloc, shelf, worked, judged)? {
+        return Ok(true);
     }
-    for steps in worked.astray {
-        if judged.astray && reads_as(alloc, shelf, heading, steps)? {
-            return Ok(true);
-        }
+    if !judged.astray {
+        return Ok(false);
     }
-    Ok(false)
+    is_astray(alloc, shelf, worked)
 }
 
 /// Whether the deck may have this transcript over a device with such a fault, and each of these crashes leaves the file as a run with this transcript may

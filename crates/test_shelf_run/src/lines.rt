@@ -1,10 +1,13 @@
 //! What the end of a run says of its lines.
 
+use crate::checks::{assert_equal, assert_equal_for};
 use crate::ends::tells;
 use crate::running::{run_to_end, run_within, shelf_before};
 use deck_runner::{RunEnd, RunFault};
 use memory_shelf::{FuseShelf, Image, Kind, MemShelf};
+use page_store::Shelf;
 use std::alloc::Global;
+use std::process::Abort;
 use std::test::Fail;
 use unit_calls::NarrowShelf;
 use worked_decks::{
@@ -28,22 +31,43 @@ fn ends_so(
     Ok(is_worked && tells(&end, transcript) && end == Ok(RunEnd { clean, lines }))
 }
 
+/// A run over an empty shelf has the lines of these steps, so many, all clean or not.
+fn ends_over_none(
+    rt: &impl Abort,
+    alloc: Global,
+    heading: &str,
+    steps: &[Step],
+    lines: u64,
+    clean: bool,
+) -> Result<(), Fail> {
+    let deck = deck_of(alloc, heading, steps)?;
+    let (_, transcript, end) = run_within(alloc, MemShelf::new(alloc), &deck, LIMIT, 1)?;
+    let is_so = ends_so(alloc, steps, &transcript, end, lines, clean)?;
+    assert_equal_for(rt, transcript, is_so, true);
+    Ok(())
+}
+
 #[test]
 fn a_run_of_clean_lines_is_clean_and_one_with_24_is_not(rt: HostRuntime) -> Result<(), Fail> {
-    let alloc = rt.alloc();
-    let plain = WRITTEN_AND_READ_BACK;
-    for (heading, steps, lines, clean) in [
-        (plain.heading, plain.steps, 8, true),
-        (WIDE, FILLED_UP, 16, false),
-    ] {
-        let deck = deck_of(alloc, heading, steps)?;
-        let (_, transcript, end) = run_within(alloc, MemShelf::new(alloc), &deck, LIMIT, 1)?;
-        assert!(rt;
-            ends_so(alloc, steps, &transcript, end, lines, clean)?,
-            "{transcript}"
-        );
-    }
-    Ok(())
+    let plain = &WRITTEN_AND_READ_BACK;
+    ends_over_none(&rt, rt.alloc(), plain.heading, plain.steps, 8, true)?;
+    ends_over_none(&rt, rt.alloc(), WIDE, FILLED_UP, 16, false)
+}
+
+/// A run over customers has the lines of these steps, so many, all clean or not. It answers the shelf.
+fn ends_over<S: Shelf + Drop>(
+    rt: &impl Abort,
+    alloc: Global,
+    shelf: S,
+    steps: &[Step],
+    lines: u64,
+    clean: bool,
+) -> Result<S, Fail> {
+    let deck = deck_of(alloc, CUSTOMERS, steps)?;
+    let (shelf, transcript, end) = run_to_end(alloc, shelf, &deck, 1)?;
+    let is_so = ends_so(alloc, steps, &transcript, end, lines, clean)?;
+    assert_equal_for(rt, transcript, is_so, true);
+    Ok(shelf)
 }
 
 // The first write is that of the gate.
@@ -51,27 +75,34 @@ fn a_run_of_clean_lines_is_clean_and_one_with_24_is_not(rt: HostRuntime) -> Resu
 fn a_run_with_30_and_92_is_not_clean_and_one_with_91_at_open_is(
     rt: HostRuntime,
 ) -> Result<(), Fail> {
-    let alloc = rt.alloc();
-    let fuse = FuseShelf::new(
-        shelf_before(alloc, &A_CLASH)?,
-        Kind::Writes,
-        3,
-        false,
-        false,
-    );
-    let deck = deck_of(alloc, CUSTOMERS, WRITE_THAT_FAILS)?;
-    let (fuse, transcript, end) = run_to_end(alloc, fuse, &deck, 1)?;
-    assert!(rt;
-        ends_so(alloc, WRITE_THAT_FAILS, &transcript, end, 5, false)?,
-        "{transcript}"
-    );
-    let deck = deck_of(alloc, CUSTOMERS, REFUSED)?;
-    let (_, transcript, end) = run_to_end(alloc, fuse.into_inner(), &deck, 1)?;
-    assert!(rt;
-        ends_so(alloc, REFUSED, &transcript, end, 1, true)?,
-        "{transcript}"
-    );
+    let before = shelf_before(rt.alloc(), &A_CLASH)?;
+    let fuse = FuseShelf::new(before, Kind::Writes, 3, false, false);
+    let fuse = ends_over(&rt, rt.alloc(), fuse, WRITE_THAT_FAILS, 5, false)?;
+    ends_over(&rt, rt.alloc(), fuse.into_inner(), REFUSED, 1, true)?;
     Ok(())
+}
+
+/// Whether a READ wants memory where this call of the shelf does. The run is not clean then.
+fn has_90(
+    rt: &impl Abort,
+    alloc: Global,
+    before: &MemShelf,
+    deck: &str,
+    at: u64,
+) -> Result<bool, Fail> {
+    let shelf = NarrowShelf::new(before.crash(alloc, Image::AsRead)?, at, false);
+    let (_, transcript, end) = run_to_end(alloc, shelf, deck, 1)?;
+    if !transcript.starts_with("OPEN INPUT CUST 00\nREAD NEXT CUST 90\n") {
+        return Ok(false);
+    }
+    let told = tells(&end, &transcript);
+    assert_equal_for(rt, transcript, told, true);
+    let expected = RunEnd {
+        clean: false,
+        lines: 5,
+    };
+    assert_equal(rt, end, Ok(expected));
+    Ok(true)
 }
 
 #[test]
@@ -82,18 +113,10 @@ fn a_run_with_90_is_not_clean(rt: HostRuntime) -> Result<(), Fail> {
     let mut found = false;
     // The first call is the one that forgets the units of the run before.
     for at in 2..20 {
-        let shelf = NarrowShelf::new(before.crash(alloc, Image::AsRead)?, at, false);
-        let (_, transcript, end) = run_to_end(alloc, shelf, &deck, 1)?;
-        if transcript.starts_with("OPEN INPUT CUST 00\nREAD NEXT CUST 90\n") {
-            assert!(rt; tells(&end, &transcript), "{transcript}");
-            let expected = RunEnd {
-                clean: false,
-                lines: 5,
-            };
-            assert!(rt; end == Ok(expected));
+        if has_90(&rt, alloc, &before, &deck, at)? {
             found = true;
         }
     }
-    assert!(rt; found);
+    assert_equal(&rt, found, true);
     Ok(())
 }

@@ -2,6 +2,7 @@
 
 ghost use Rattle.std.specs.Prelude.{◌≤◌, length};
 
+use crate::checks::{assert_equal, assert_equal_for, assert_that};
 use crate::left::reads_as;
 use crate::running::{run_over_lists, shelf_before};
 use deck_runner::{RunEnd, RunFault, run_deck};
@@ -14,11 +15,11 @@ use std::io::{self, ErrorKind, Write};
 use std::num::NonZeroUsize;
 use std::test::Fail;
 use worked_decks::{
-    A_CLASH, ONE_IS_READ, REFUSED, Step, WRITTEN_AND_READ_BACK, Worked, deck_of, transcript_of,
+    A_CLASH, ONE_IS_READ, REFUSED, Step, WRITTEN_AND_READ_BACK, deck_of, transcript_of,
 };
 
 /// What a writer does where it has no room left.
-#[derive(Clone, Copy, Debug, PartialEq, Eq)]
+#[derive(Clone, Copy, Debug)]
 enum Refusal {
     TakesNothing,
     Fails,
@@ -104,42 +105,87 @@ fn left_of(taken: &[u8]) -> &'static [Step] {
     if lines < 3 { REFUSED } else { ONE_IS_READ }
 }
 
+/// A run with a writer that has room for the front of its transcript alone.
+#[derive(Clone, Copy)]
+struct Cut<'a> {
+    heading: &'a str,
+    deck: &'a str,
+    room: usize,
+    refusal: Refusal,
+    /// What the writer takes.
+    front: &'a [u8],
+    /// What the file reads as afterwards.
+    left: &'static [Step],
+}
+
+impl<'a> Cut<'a> {
+    /// Whether the run was broken off by a writer, behind what it has taken.
+    fn is_met(&self, out: &Narrow, end: Result<RunEnd, RunFault>) -> bool {
+        end == Err(RunFault::Output) && out.taken.as_slice() == self.front
+    }
+
+    /// Whether the run over these pages is broken off, and the next run over the same files finds what it has to.
+    fn is_broken_off_over_pages(
+        &self,
+        alloc: Global,
+        shelf: MemShelf,
+        limit: u32,
+    ) -> Result<bool, Fail>
+        requires { 16 ≤ limit }
+    {
+        let mut shelf = shelf;
+        shelf.attach(&[])?;
+        let deck = self.deck.as_bytes();
+        let mut out = Narrow::new(alloc, self.room, self.refusal);
+        let (shelf, end) = run_on_shelf(alloc, deck, shelf, limit, NonZeroUsize::MIN, &mut out);
+        Ok(self.is_met(&out, end) && reads_as(alloc, &shelf, self.heading, self.left)?)
+    }
+
+    /// The same over lists.
+    fn is_broken_off_over_lists(
+        &self,
+        alloc: Global,
+        library: &mut ListLibrary,
+    ) -> Result<bool, Fail> {
+        let mut out = Narrow::new(alloc, self.room, self.refusal);
+        let end = run_deck(alloc, self.deck.as_bytes(), library, &mut out);
+        let next = deck_of(alloc, self.heading, self.left)?;
+        let (read, _) = run_over_lists(alloc, library, &next)?;
+        Ok(self.is_met(&out, end) && read == transcript_of(alloc, self.left)?)
+    }
+}
+
 /// Whether a run with this writer is broken off behind what the writer has taken, over pages and over lists, and the next run over the same files finds what it has to.
 fn is_broken_off(alloc: Global, room: usize, refusal: Refusal) -> Result<bool, Fail> {
-    let worked = WRITTEN_AND_READ_BACK;
+    let worked = &WRITTEN_AND_READ_BACK;
     let deck = deck_of(alloc, worked.heading, worked.steps)?;
     let transcript = transcript_of(alloc, worked.steps)?;
     let whole = transcript.as_bytes();
     let front = &whole[..room.min(whole.len())];
-    let mut out = Narrow::new(alloc, room, refusal);
-    let (shelf, end) = run_over_pages(alloc, &deck, &mut out);
-    let over_pages = end == Err(RunFault::Output)
-        && out.taken.as_slice() == front
-        && reads_as(alloc, &shelf, worked.heading, left_of(front))?;
-    let mut library = ListLibrary::new(alloc);
-    let mut out = Narrow::new(alloc, room, refusal);
-    let end = run_deck(alloc, deck.as_bytes(), &mut library, &mut out);
-    let next = deck_of(alloc, worked.heading, left_of(front))?;
-    let (read, _) = run_over_lists(alloc, &mut library, &next)?;
-    let over_lists = end == Err(RunFault::Output)
-        && out.taken.as_slice() == front
-        && read == transcript_of(alloc, left_of(front))?;
+    let cut = Cut {
+        heading: worked.heading,
+        deck: &deck,
+        room,
+        refusal,
+        front,
+        left: left_of(front),
+    };
+    let over_pages = cut.is_broken_off_over_pages(alloc, MemShelf::new(alloc), 16)?;
+    let over_lists = cut.is_broken_off_over_lists(alloc, &mut ListLibrary::new(alloc))?;
     Ok(over_pages && over_lists)
 }
 
 #[test]
 fn behind_a_line_that_the_writer_refuses_no_file_is_changed(rt: HostRuntime) -> Result<(), Fail> {
     let transcript = transcript_of(rt.alloc(), WRITTEN_AND_READ_BACK.steps)?;
-    for refusal in [
+    for &refusal in &[
         Refusal::TakesNothing,
         Refusal::Fails,
         Refusal::Interrupted(1000),
     ] {
-        for (room, _) in transcript.bytes().enumerate() {
-            assert!(rt;
-                is_broken_off(rt.alloc(), room, refusal)?,
-                "{refusal:?} {room}"
-            );
+        for room in 0..transcript.len() {
+            let is_so = is_broken_off(rt.alloc(), room, refusal)?;
+            assert_equal_for(&rt, (refusal, room), is_so, true);
         }
     }
     Ok(())
@@ -147,7 +193,7 @@ fn behind_a_line_that_the_writer_refuses_no_file_is_changed(rt: HostRuntime) -> 
 
 /// Whether a run is whole, over pages and over lists, where each write behind the first bytes is interrupted so many times and then takes all.
 fn is_whole(alloc: Global, room: usize, times: u32) -> Result<bool, Fail> {
-    let worked = WRITTEN_AND_READ_BACK;
+    let worked = &WRITTEN_AND_READ_BACK;
     let deck = deck_of(alloc, worked.heading, worked.steps)?;
     let transcript = transcript_of(alloc, worked.steps)?;
     let mut out = Narrow::new(alloc, room, Refusal::Interrupted(times));
@@ -161,9 +207,10 @@ fn is_whole(alloc: Global, room: usize, times: u32) -> Result<bool, Fail> {
 
 #[test]
 fn a_writer_may_be_interrupted_999_times_in_a_row(rt: HostRuntime) -> Result<(), Fail> {
-    for room in [0, 1, 18, 19, 20, 100] {
-        for times in [1, 999] {
-            assert!(rt; is_whole(rt.alloc(), room, times)?, "{room} {times}");
+    for &room in &[0, 1, 18, 19, 20, 100] {
+        for &times in &[1, 999] {
+            let is_so = is_whole(rt.alloc(), room, times)?;
+            assert_equal_for(&rt, (room, times), is_so, true);
         }
     }
     Ok(())
@@ -203,50 +250,41 @@ fn left_behind_reads(taken: &[u8]) -> &'static [Step] {
     if lines < 5 { THREE_ARE_READ } else { REFUSED }
 }
 
+/// Lists with that file.
+fn lists_before(alloc: Global) -> Result<ListLibrary, Fail> {
+    let mut library = ListLibrary::new(alloc);
+    let before = deck_of(alloc, A_CLASH.heading, A_CLASH.before)?;
+    let (_, end) = run_over_lists(alloc, &mut library, &before)?;
+    end?;
+    Ok(library)
+}
+
 /// Whether the run with a writer of so much room leaves, over pages and over lists, what it has to.
 fn leaves_what_was_read(alloc: Global, room: usize, refusal: Refusal) -> Result<bool, Fail> {
-    let worked: Worked = A_CLASH;
-    let deck = deck_of(alloc, worked.heading, READ_AND_WRITTEN)?;
+    let deck = deck_of(alloc, A_CLASH.heading, READ_AND_WRITTEN)?;
     let transcript = transcript_of(alloc, READ_AND_WRITTEN)?;
     let whole = transcript.as_bytes();
     let front = &whole[..room.min(whole.len())];
-    let left = left_behind_reads(front);
-    let mut shelf = shelf_before(alloc, &worked)?;
-    shelf.attach(&[])?;
-    let mut out = Narrow::new(alloc, room, refusal);
-    let (shelf, end) = run_on_shelf(
-        alloc,
-        deck.as_bytes(),
-        shelf,
-        4000,
-        NonZeroUsize::MIN,
-        &mut out,
-    );
-    let over_pages = end == Err(RunFault::Output)
-        && out.taken.as_slice() == front
-        && reads_as(alloc, &shelf, worked.heading, left)?;
-    let mut library = ListLibrary::new(alloc);
-    let before = deck_of(alloc, worked.heading, worked.before)?;
-    run_over_lists(alloc, &mut library, &before)?.1?;
-    let mut out = Narrow::new(alloc, room, refusal);
-    let end = run_deck(alloc, deck.as_bytes(), &mut library, &mut out);
-    let next = deck_of(alloc, worked.heading, left)?;
-    let (read, _) = run_over_lists(alloc, &mut library, &next)?;
-    let over_lists = end == Err(RunFault::Output)
-        && out.taken.as_slice() == front
-        && read == transcript_of(alloc, left)?;
+    let cut = Cut {
+        heading: A_CLASH.heading,
+        deck: &deck,
+        room,
+        refusal,
+        front,
+        left: left_behind_reads(front),
+    };
+    let over_pages = cut.is_broken_off_over_pages(alloc, shelf_before(alloc, &A_CLASH)?, 4000)?;
+    let over_lists = cut.is_broken_off_over_lists(alloc, &mut lists_before(alloc)?)?;
     Ok(over_pages && over_lists)
 }
 
 // The lines of the READs are held until the WRITE, which is performed only where the writer took all of them: 160 bytes.
 #[test]
 fn a_write_behind_reads_waits_for_their_lines(rt: HostRuntime) -> Result<(), Fail> {
-    for refusal in [Refusal::TakesNothing, Refusal::Fails] {
-        for room in [0, 16, 17, 18, 54, 90, 128, 159, 160, 161, 173] {
-            assert!(rt;
-                leaves_what_was_read(rt.alloc(), room, refusal)?,
-                "{refusal:?} {room}"
-            );
+    for &refusal in &[Refusal::TakesNothing, Refusal::Fails] {
+        for &room in &[0, 16, 17, 18, 54, 90, 128, 159, 160, 161, 173] {
+            let is_so = leaves_what_was_read(rt.alloc(), room, refusal)?;
+            assert_equal_for(&rt, (refusal, room), is_so, true);
         }
     }
     Ok(())
@@ -266,7 +304,8 @@ fn the_lines_of_reads_are_handed_over_together(rt: HostRuntime) -> Result<(), Fa
     deck.push_str("    STOP RUN.\n")?;
     let mut out = Narrow::new(alloc, usize::MAX, Refusal::Fails);
     let (_, end) = run_over_pages(alloc, &deck, &mut out);
-    assert!(rt; end.is_ok() && out.taken.as_slice() == transcript.as_bytes());
-    assert!(rt; out.calls == 3);
+    assert_that(&rt, end.is_ok());
+    assert_that(&rt, out.taken.as_slice() == transcript.as_bytes());
+    assert_equal(&rt, out.calls, 3);
     Ok(())
 }
