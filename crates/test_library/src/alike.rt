@@ -4,11 +4,12 @@ ghost use Rattle.std.specs.Prelude.{OnOk};
 ghost use Rattle.indexed_file.specs.Clients.{IsNotOpen};
 ghost use Rattle.test_library.specs.Alike.{AreAlike};
 
+use crate::checks::{assert_equal, assert_equal_for, assert_that};
+use crate::opening::opens_sound;
 use indexed_file::Library;
 use io_state::{Fault, Key, Position, Relation};
 use record_layout::Schema;
 use std::process::Abort;
-use unit_calls::Told;
 
 /// Opens a new file in both.
 pub fn creates<L: Library, M: Library>(
@@ -38,11 +39,8 @@ pub fn reopens<L: Library, M: Library>(
 {
     unit_calls::shuts(library, u, schema)?;
     unit_calls::shuts(other, u, schema)?;
-    let told = unit_calls::opens(library, u, schema)?;
-    assert_eq!(rt; told, Told::Sound);
-    let expected = unit_calls::opens(other, u, schema)?;
-    assert_eq!(rt; expected, Told::Sound);
-    Ok(())
+    opens_sound(rt, library, u, schema)?;
+    opens_sound(rt, other, u, schema)
 }
 
 /// Adds a record to both.
@@ -59,7 +57,7 @@ pub fn adds<L: Library, M: Library>(
 {
     let answer = unit_calls::adds(library, u, schema, record)?;
     let expected = unit_calls::adds(other, u, schema, record)?;
-    assert_eq!(rt; answer, expected);
+    assert_equal(rt, answer, expected);
     Ok(())
 }
 
@@ -77,7 +75,7 @@ pub fn replaces<L: Library, M: Library>(
 {
     let answer = unit_calls::replaces(library, u, schema, record)?;
     let expected = unit_calls::replaces(other, u, schema, record)?;
-    assert_eq!(rt; answer, expected);
+    assert_equal(rt, answer, expected);
     Ok(())
 }
 
@@ -95,7 +93,7 @@ pub fn removes<L: Library, M: Library>(
 {
     let answer = unit_calls::removes(library, u, schema, prime)?;
     let expected = unit_calls::removes(other, u, schema, prime)?;
-    assert_eq!(rt; answer, expected);
+    assert_equal(rt, answer, expected);
     Ok(())
 }
 
@@ -114,7 +112,7 @@ pub fn finds<L: Library, M: Library>(
 {
     let answer = unit_calls::finds(library, u, schema, k, value)?;
     let expected = unit_calls::finds(other, u, schema, k, value)?;
-    assert!(rt; answer.is_same(&expected), "key {k}");
+    assert_equal_for(rt, k, answer.is_same(&expected), true);
     Ok(())
 }
 
@@ -133,7 +131,7 @@ pub fn goes_on<L: Library, M: Library>(
 {
     let answer = unit_calls::goes_on(library, u, schema, k, position)?;
     let expected = unit_calls::goes_on(other, u, schema, k, position)?;
-    assert!(rt; answer.is_same(&expected), "key {k}");
+    assert_equal_for(rt, k, answer.is_same(&expected), true);
     Ok(answer.behind())
 }
 
@@ -159,6 +157,15 @@ pub fn reads_all<L: Library, M: Library>(
     Ok(10_000)
 }
 
+/// Whether both are the same key, or none.
+pub fn is_same_key(one: &Option<Key>, other: &Option<Key>) -> bool {
+    match (one, other) {
+        (None, None) => true,
+        (Some(one), Some(other)) => one.as_slice() == other.as_slice(),
+        _ => false,
+    }
+}
+
 /// The first value in both that begins so related to the operand, by each relation.
 pub fn seeks<L: Library, M: Library>(
     rt: &impl Abort,
@@ -172,14 +179,10 @@ pub fn seeks<L: Library, M: Library>(
     requires { AreAlike (L.shown.world library.old) (M.shown.world other.old) u schema.now }
     ensures { AreAlike (L.shown.world library.new) (M.shown.world other.new) u schema.now }
 {
-    for relation in [Relation::Equal, Relation::Greater, Relation::NotLess] {
+    for &relation in &[Relation::Equal, Relation::Greater, Relation::NotLess] {
         let answer = unit_calls::seeks(library, u, schema, k, operand, relation)?;
         let expected = unit_calls::seeks(other, u, schema, k, operand, relation)?;
-        let value = answer.as_ref().map(|key| key.as_slice());
-        assert!(rt;
-            value == expected.as_ref().map(|key| key.as_slice()),
-            "key {k}"
-        );
+        assert_equal_for(rt, k, is_same_key(&answer, &expected), true);
     }
     Ok(())
 }
@@ -197,7 +200,6 @@ pub fn tops<L: Library, M: Library>(
 {
     let answer = unit_calls::tops(library, u, schema)?;
     let expected = unit_calls::tops(other, u, schema)?;
-    let value = answer.as_ref().map(|key| key.as_slice());
-    assert!(rt; value == expected.as_ref().map(|key| key.as_slice()));
+    assert_that(rt, is_same_key(&answer, &expected));
     Ok(())
 }

@@ -1,8 +1,12 @@
 //! The pages that calls ask for, over a file of two thousand records with keys of 120 bytes.
 
+ghost use Rattle.std.specs.Prelude.{OnOk};
 ghost use Rattle.indexed_file.specs.Clients.{IsOpenWith, IsNotOpen};
 
+use crate::alike::is_same_key;
 use crate::bounds::asked_at_most;
+use crate::checks::{assert_equal, assert_equal_for, assert_that};
+use crate::opening::opens_sound;
 use indexed_file::{Added, Library, Replaced};
 use io_state::{Fault, Key, Position, Relation};
 use memory_shelf::{FuseShelf, Kind, MemShelf};
@@ -11,9 +15,9 @@ use std::alloc::Global;
 use std::process::Abort;
 use std::test::Fail;
 use unit_calls::{
-    HasTrees, Record, Told, adds_numbers, creates, finds, goes_on, key_of, library_over,
-    most_to_change, most_to_read, most_to_seek, opens, record_of, removes, replaces, restarts,
-    seeks, shuts, tops, two_long_keys,
+    HasTrees, Record, adds_numbers, creates, finds, goes_on, key_of, library_over, most_to_change,
+    most_to_read, most_to_seek, record_of, removes, replaces, restarts, seeks, shuts, tops,
+    two_long_keys,
 };
 
 /// One more than the greatest number of a record.
@@ -37,7 +41,7 @@ fn adds_all<L: Library + HasTrees>(
     for n in 1..END {
         let most = most_to_change(library);
         let added = adds_numbers(library, 0, schema, &[n, n % 7])?;
-        assert_eq!(rt; added, Added::Done { repeated: n > 7 });
+        assert_equal(rt, added, Added::Done { repeated: n > 7 });
         pages = pages.saturating_add(asked_at_most(rt, library, schema, most));
     }
     Ok(pages)
@@ -57,7 +61,8 @@ fn removes_even<L: Library + HasTrees>(
         if n % 2 == 0 {
             let most = most_to_change(library);
             let number = key_of(schema, 0, n)?;
-            assert!(rt; removes(library, 0, schema, number.as_slice())?);
+            let removed = removes(library, 0, schema, number.as_slice())?;
+            assert_that(rt, removed);
             pages = pages.saturating_add(asked_at_most(rt, library, schema, most));
         }
     }
@@ -79,7 +84,7 @@ fn changes_some<L: Library + HasTrees>(
             let most = most_to_change(library);
             let record = record_of(schema, &[n, (n + 1) % 7], 240);
             let replaced = replaces(library, 0, schema, record.as_slice())?;
-            assert_eq!(rt; replaced, Replaced::Done { repeated: true });
+            assert_equal(rt, replaced, Replaced::Done { repeated: true });
             pages = pages.saturating_add(asked_at_most(rt, library, schema, most));
         }
     }
@@ -100,12 +105,10 @@ fn reads_record<L: Library + HasTrees>(
 {
     let most = most_to_read(library, k);
     let read = goes_on(library, 0, schema, k, position)?;
-    assert!(rt;
-        read.has(record(schema, n).as_slice()),
-        "key {k}, record {n}"
-    );
+    let has_record = read.has(record(schema, n).as_slice());
+    assert_equal_for(rt, (k, n), has_record, true);
     let is_repeated = k > 0 && n < END - 14;
-    assert_eq!(rt; read.repeats(), is_repeated, "key {k}, record {n}");
+    assert_equal_for(rt, (k, n), read.repeats(), is_repeated);
     let behind = read.behind().unwrap_or(Position::Invalid);
     Ok((behind, asked_at_most(rt, library, schema, most)))
 }
@@ -154,7 +157,7 @@ fn ends_by<L: Library + HasTrees>(
     let value = key_of(schema, k, last)?;
     let most = most_to_read(library, k);
     let read = goes_on(library, 0, schema, k, &Position::After(value, u64::MAX))?;
-    assert!(rt; read.found.is_none());
+    assert_that(rt, read.found.is_none());
     Ok(asked_at_most(rt, library, schema, most))
 }
 
@@ -173,11 +176,11 @@ fn finds_number<L: Library + HasTrees>(
     let value = key_of(schema, k, n)?;
     let most = most_to_read(library, k);
     let read = finds(library, 0, schema, k, value.as_slice())?;
-    assert_eq!(rt; read.found.is_some(), is_there, "key {k}, value {n}");
+    assert_equal_for(rt, (k, n), read.found.is_some(), is_there);
     let to_find = asked_at_most(rt, library, schema, most);
     let most = most_to_seek(library, k);
     let sought = seeks(library, 0, schema, k, value.as_slice(), Relation::Equal)?;
-    assert_eq!(rt; sought.is_some(), is_there, "key {k}, value {n}");
+    assert_equal_for(rt, (k, n), sought.is_some(), is_there);
     Ok(to_find.saturating_add(asked_at_most(rt, library, schema, most)))
 }
 
@@ -191,7 +194,7 @@ fn finds_some<L: Library + HasTrees>(
     ensures { IsOpenWith (L.shown.world library.new) 0 schema.now }
 {
     let mut pages = 0u64;
-    for (k, n, is_there) in [
+    for &(k, n, is_there) in &[
         (0, 1, true),
         (0, 2, false),
         (0, 999, true),
@@ -222,8 +225,47 @@ fn has_highest<L: Library + HasTrees>(
     let value = key_of(schema, 0, n)?;
     let most = most_to_seek(library, 0);
     let highest = tops(library, 0, schema)?;
-    assert!(rt; highest.as_ref().map(|key| key.as_slice()) == Some(value.as_slice()));
+    assert_that(rt, is_same_key(&highest, &Some(value)));
     Ok(asked_at_most(rt, library, schema, most))
+}
+
+/// Makes the file, and removes records of it once it was shut and opened. It answers the pages that were asked for.
+fn fills<L: Library + HasTrees>(
+    rt: &impl Abort,
+    library: &mut L,
+    schema: &Schema,
+) -> Result<u64, Fault>
+    requires { IsNotOpen (L.shown.world library.old) 0 }
+    ensures { OnOk result (IsOpenWith (L.shown.world library.new) 0 schema.now) }
+{
+    creates(library, 0, schema)?;
+    let added = adds_all(rt, library, schema)?;
+    shuts(library, 0, schema)?;
+    opens_sound(rt, library, 0, schema)?;
+    restarts(library, 0, schema);
+    let removed = removes_even(rt, library, schema)?;
+    Ok(added.saturating_add(removed))
+}
+
+/// Reads the file by both keys to its end.
+fn reads_both<L: Library + HasTrees>(
+    rt: &impl Abort,
+    library: &mut L,
+    schema: &Schema,
+) -> Result<u64, Fault>
+    requires { IsOpenWith (L.shown.world library.old) 0 schema.now }
+    ensures { IsOpenWith (L.shown.world library.new) 0 schema.now }
+{
+    let read = reads_odd(rt, library, schema, 0)?;
+    assert!(rt; read < 3000, "{read} pages for 1,000 records in a row");
+    let by_value = reads_odd(rt, library, schema, 1)?;
+    let ends = ends_by(rt, library, schema, 0, 1999)?;
+    let ends_by_value = ends_by(rt, library, schema, 1, 6)?;
+    Ok(
+        read.saturating_add(by_value)
+            .saturating_add(ends)
+            .saturating_add(ends_by_value),
+    )
 }
 
 /// Calls of each kind. It answers the pages that they asked for.
@@ -234,36 +276,18 @@ fn runs<L: Library + HasTrees>(
 ) -> Result<u64, Fault>
     requires { IsNotOpen (L.shown.world library.old) 0 }
 {
-    creates(library, 0, schema)?;
-    let added = adds_all(rt, library, schema)?;
-    shuts(library, 0, schema)?;
-    assert_eq!(rt; opens(library, 0, schema)?, Told::Sound);
-    restarts(library, 0, schema);
-    let removed = removes_even(rt, library, schema)?;
-    let read = reads_odd(rt, library, schema, 0)?;
-    assert!(rt; read < 3000, "{read} pages for 1,000 records in a row");
-    let by_value = reads_odd(rt, library, schema, 1)?;
-    let ends = ends_by(rt, library, schema, 0, 1999)?;
-    let ends_by_value = ends_by(rt, library, schema, 1, 6)?;
+    let filled = fills(rt, library, schema)?;
+    let read = reads_both(rt, library, schema)?;
     let found = finds_some(rt, library, schema)?;
     let highest = has_highest(rt, library, schema, 1999)?;
     let changed = changes_some(rt, library, schema)?;
     shuts(library, 0, schema)?;
-    let parts = [
-        added,
-        removed,
-        read,
-        by_value,
-        ends,
-        ends_by_value,
-        found,
-        highest,
-        changed,
-    ];
     Ok(
-        parts
-            .iter()
-            .fold(0u64, |pages, part| pages.saturating_add(*part)),
+        filled
+            .saturating_add(read)
+            .saturating_add(found)
+            .saturating_add(highest)
+            .saturating_add(changed),
     )
 }
 
@@ -276,10 +300,10 @@ fn reads_one<L: Library + HasTrees>(
 ) -> Result<u8, Fault>
     requires { IsNotOpen (L.shown.world library.old) 0 }
 {
-    assert_eq!(rt; opens(library, 0, schema)?, Told::Sound);
+    opens_sound(rt, library, 0, schema)?;
     let number = key_of(schema, 0, n)?;
     let read = finds(library, 0, schema, 0, number.as_slice())?;
-    assert!(rt; read.has(record(schema, n).as_slice()));
+    assert_that(rt, read.has(record(schema, n).as_slice()));
     Ok(library.tree_height(0))
 }
 
@@ -292,26 +316,22 @@ fn reads_no_more(rt: &impl Abort, alloc: Global, frames: usize) -> Result<(), Fa
     let shelf = library.into_shelf();
     let reads = shelf.calls(Kind::Reads);
     // The file was opened twice.
-    assert!(rt;
-        reads <= pages.saturating_add(6),
-        "{reads} reads, {pages} pages"
-    );
+    assert_equal_for(rt, (reads, pages), reads <= pages.saturating_add(6), true);
     let mut library = library_over(alloc, shelf, 4000, frames)?;
     let height = u64::from(reads_one(rt, &mut library, &schema, 1999)?);
-    assert_eq!(rt; height, 3);
+    assert_equal(rt, height, 3);
     let more = library
         .into_shelf()
         .calls(Kind::Reads)
         .saturating_sub(reads);
-    assert!(rt; more <= 5 * height + 4, "{more} reads, height {height}");
+    assert_equal_for(rt, (more, height), more <= 5 * height + 4, true);
     Ok(())
 }
 
 // Each page that is asked for, and is not the one before, is read off the shelf.
 #[test]
 fn calls_ask_for_few_pages(rt: HostRuntime) -> Result<(), Fail> {
-    for frames in [1, 4096] {
-        reads_no_more(&rt, rt.alloc(), frames)?;
-    }
+    reads_no_more(&rt, rt.alloc(), 1)?;
+    reads_no_more(&rt, rt.alloc(), 4096)?;
     Ok(())
 }

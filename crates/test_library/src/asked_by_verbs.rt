@@ -2,6 +2,7 @@
 
 ghost use Rattle.test_library.specs.Ready.{IsReadyConnector};
 
+use crate::checks::{assert_equal, assert_equal_for};
 use crate::performing::{begins, performs};
 use indexed_file::Library;
 use io_state::{Access, Fault, FileStatement, OpenMode, Status};
@@ -35,11 +36,8 @@ fn takes<S: Shelf + Drop>(
             step.reference,
             &mut area,
         );
-        assert!(rt;
-            step.statuses.contains(&status),
-            "{:?} {i}: {status:?}",
-            step.statement
-        );
+        let is_one = step.statuses.contains(&status);
+        assert_equal_for(rt, (step.statement, i, status), is_one, true);
         pages = pages.saturating_add(asked);
     }
     pages
@@ -84,7 +82,7 @@ fn reads_no_more(
     pages = pages.saturating_add(more);
     let shelf = library.into_shelf();
     let reads = shelf.calls(Kind::Reads);
-    assert!(rt; reads <= pages, "{reads} reads, {pages} pages");
+    assert_equal_for(rt, (reads, pages), reads <= pages, true);
     Ok(shelf)
 }
 
@@ -102,22 +100,22 @@ fn reads_one(
     area[116..120].copy_from_slice(&10_199u32.to_be_bytes());
     let open = FileStatement::Open(OpenMode::Input);
     let (opened, _) = performs(rt, &mut connector, &mut library, &open, 0, &mut area);
-    assert_eq!(rt; opened, Status::Successful);
+    assert_equal(rt, opened, Status::Successful);
     let read = FileStatement::Read { key: 0 };
     let (found, to_read) = performs(rt, &mut connector, &mut library, &read, 0, &mut area);
-    assert_eq!(rt; found, Status::Successful);
+    assert_equal(rt, found, Status::Successful);
     let write = FileStatement::Write;
     let (refused, asked) = performs(rt, &mut connector, &mut library, &write, 0, &mut area);
-    assert_eq!(rt; refused, Status::NotOpenForWriting);
-    assert_eq!(rt; asked, 0);
+    assert_equal(rt, refused, Status::NotOpenForWriting);
+    assert_equal(rt, asked, 0);
     let height = u64::from(library.height(0, 0));
-    assert_eq!(rt; height, 3);
-    assert_eq!(rt; to_read, height + 1);
+    assert_equal(rt, height, 3);
+    assert_equal(rt, to_read, height + 1);
     let reads = library
         .into_shelf()
         .calls(Kind::Reads)
         .saturating_sub(before);
-    assert!(rt; reads <= 5 * height + 4, "{reads} reads, height {height}");
+    assert_equal_for(rt, (reads, height), reads <= 5 * height + 4, true);
     Ok(())
 }
 

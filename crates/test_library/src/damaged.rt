@@ -4,6 +4,8 @@
 ghost use Rattle.indexed_file.specs.Clients.{IsOpenWith};
 
 use crate::bounds::asked_at_most;
+use crate::checks::{assert_equal, assert_equal_for, assert_that};
+use crate::opening::opens_sound;
 use indexed_file::Library;
 use io_state::{Fault, Key, Position, Relation};
 use memory_shelf::{FuseShelf, Kind, MemShelf};
@@ -12,9 +14,9 @@ use std::alloc::Global;
 use std::process::Abort;
 use std::test::Fail;
 use unit_calls::{
-    HasTrees, Told, adds_numbers, bytes_of, creates, finds, goes_on, key_of, library_over,
-    most_to_change, most_to_read, most_to_seek, opens, put, puts, record_of, removes, replaces,
-    restarts, seeks, shuts, tops, two_long_keys,
+    HasTrees, adds_numbers, bytes_of, creates, finds, goes_on, key_of, library_over,
+    most_to_change, most_to_read, most_to_seek, put, puts, record_of, removes, replaces, restarts,
+    seeks, shuts, tops, two_long_keys,
 };
 
 /// Bytes that are put into a file, and where.
@@ -72,7 +74,8 @@ fn fills<L: Library>(rt: &impl Abort, library: &mut L, schema: &Schema) -> Resul
     adds_numbers(library, 0, schema, &[2, 1])?;
     adds_numbers(library, 0, schema, &[3, 2])?;
     let number = key_of(schema, 0, 2)?;
-    assert!(rt; removes(library, 0, schema, number.as_slice())?);
+    let removed = removes(library, 0, schema, number.as_slice())?;
+    assert_that(rt, removed);
     Ok(())
 }
 
@@ -85,7 +88,7 @@ fn made(rt: &impl Abort, alloc: Global, schema: &Schema) -> Result<Vec<u8>, Fail
     let mut shelf = library.into_shelf();
     let mut bytes = bytes_of(alloc, &mut shelf)?;
     bytes.extend_from_slice(&[0; 4096])?;
-    assert_eq!(rt; bytes.len(), 5 * 4096);
+    assert_equal(rt, bytes.len(), 5 * 4096);
     Ok(bytes)
 }
 
@@ -167,7 +170,7 @@ fn is_bounded(
     puts(&mut shelf, bytes)?;
     let fuse = FuseShelf::new(shelf, Kind::Reads, 0, false, false);
     let mut library = library_over(alloc, fuse, 100, 1)?;
-    assert_eq!(rt; opens(&mut library, 0, schema)?, Told::Sound, "{what}");
+    opens_sound(rt, &mut library, 0, schema)?;
     restarts(&mut library, 0, schema);
     let most = makes(&mut library, schema, call)?;
     let pages = asked_at_most(rt, &mut library, schema, most);
@@ -175,14 +178,10 @@ fn is_bounded(
     let reads = shelf.calls(Kind::Reads);
     let writes = shelf.calls(Kind::Writes);
     // Three reads are those of OPEN, and a write is the gate's.
-    assert!(rt;
-        reads <= pages.saturating_add(3),
-        "{what}, call {call}: {reads} reads"
-    );
-    assert!(rt;
-        writes <= pages.saturating_add(1),
-        "{what}, call {call}: {writes} writes"
-    );
+    let is_read_once = reads <= pages.saturating_add(3);
+    assert_equal_for(rt, (what, call, reads), is_read_once, true);
+    let is_written_once = writes <= pages.saturating_add(1);
+    assert_equal_for(rt, (what, call, writes), is_written_once, true);
     Ok(())
 }
 
@@ -191,7 +190,7 @@ fn is_bounded(
 fn damage_takes_no_more_calls_of_the_shelf(rt: HostRuntime) -> Result<(), Fail> {
     let alloc = rt.alloc();
     let schema = two_long_keys()?;
-    for (what, edits) in DAMAGES {
+    for &(what, edits) in &DAMAGES {
         let mut bytes = made(&rt, alloc, &schema)?;
         for (at, new) in edits {
             put(&mut bytes, *at, new);

@@ -6,11 +6,13 @@ ghost use Rattle.test_library.specs.Alike.{AreAlike};
 use crate::alike::{
     adds, creates, finds, goes_on, reads_all, removes, reopens, replaces, seeks, tops,
 };
+use crate::checks::assert_equal;
 use indexed_file::Library;
 use io_state::{Fault, Position};
 use list_library::ListLibrary;
 use memory_shelf::MemShelf;
 use record_layout::{KeyPart, Schema};
+use std::alloc::Global;
 use std::process::Abort;
 use std::test::Fail;
 use unit_calls::{Draw, NARROW, WIDE, attaches, draws_record, library_over, schema, value_of};
@@ -87,7 +89,7 @@ fn compares<L: Library, M: Library>(
     let count = reads_all(rt, library, other, 1, schema, 0)?;
     for k in 1..4 {
         let others = reads_all(rt, library, other, 1, schema, k)?;
-        assert_eq!(rt; others, count);
+        assert_equal(rt, others, count);
     }
     Ok(())
 }
@@ -116,23 +118,50 @@ fn runs<L: Library, M: Library>(
     Ok(())
 }
 
-/// A row of a table: the lengths of the records, their keys, and how many prime values there are.
-type Shape = (u16, u16, [KeyPart; 4], u64);
+/// Records of two lengths, their keys, and how many prime values there are.
+struct Shape {
+    least: u16,
+    greatest: u16,
+    keys: [KeyPart; 4],
+    primes: u64,
+}
+
+const NARROW_RECORDS: Shape = Shape {
+    least: 12,
+    greatest: 19,
+    keys: NARROW,
+    primes: 20,
+};
+
+const WIDE_RECORDS: Shape = Shape {
+    least: 1000,
+    greatest: 1010,
+    keys: WIDE,
+    primes: 240,
+};
+
+/// So many drawn calls of each kind answer over pages, with so many frames, as those of lists.
+fn answer_alike(
+    rt: &impl Abort,
+    alloc: Global,
+    shape: &Shape,
+    seed: u64,
+    frames: usize,
+    calls: u32,
+) -> Result<(), Fail> {
+    let schema = schema(shape.least, shape.greatest, &shape.keys)?;
+    let mut library = library_over(alloc, MemShelf::new(alloc), 4000, frames)?;
+    let mut lists = ListLibrary::new(alloc);
+    let primes = shape.primes;
+    runs(rt, &mut library, &mut lists, &schema, seed, calls, primes)?;
+    Ok(())
+}
 
 #[test]
 fn drawn_calls_answer_as_those_of_lists(rt: HostRuntime) -> Result<(), Fail> {
-    let narrow: Shape = (12, 19, NARROW, 20);
-    let wide: Shape = (1000, 1010, WIDE, 240);
-    for (seed, frames, calls, (least, greatest, keys, primes)) in [
-        (1974, 1, 1000, narrow),
-        (1985, 3, 1000, narrow),
-        (2002, 64, 1000, narrow),
-        (2023, 2, 600, wide),
-    ] {
-        let schema = schema(least, greatest, &keys)?;
-        let mut library = library_over(rt.alloc(), MemShelf::new(rt.alloc()), 4000, frames)?;
-        let mut lists = ListLibrary::new(rt.alloc());
-        runs(&rt, &mut library, &mut lists, &schema, seed, calls, primes)?;
-    }
-    Ok(())
+    let alloc = rt.alloc();
+    answer_alike(&rt, alloc, &NARROW_RECORDS, 1974, 1, 1000)?;
+    answer_alike(&rt, alloc, &NARROW_RECORDS, 1985, 3, 1000)?;
+    answer_alike(&rt, alloc, &NARROW_RECORDS, 2002, 64, 1000)?;
+    answer_alike(&rt, alloc, &WIDE_RECORDS, 2023, 2, 600)
 }

@@ -16,6 +16,8 @@ mod asked_by_verbs;
 #[cfg(test)]
 mod bounds;
 #[cfg(test)]
+mod checks;
+#[cfg(test)]
 mod damaged;
 #[cfg(test)]
 mod drawn_alike;
@@ -23,6 +25,8 @@ mod drawn_alike;
 mod lengths;
 #[cfg(test)]
 mod looks;
+#[cfg(test)]
+mod opening;
 #[cfg(test)]
 mod performing;
 #[cfg(test)]

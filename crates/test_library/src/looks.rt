@@ -3,6 +3,7 @@
 ghost use Rattle.std.specs.Prelude.{OnOk};
 ghost use Rattle.indexed_file.specs.Clients.{IsOpenWith, IsNotOpen};
 
+use crate::checks::{assert_equal, assert_that};
 use indexed_file::Library;
 use io_state::Fault;
 use memory_shelf::MemShelf;
@@ -31,8 +32,8 @@ fn a_file_without_a_first_page_is_unsound(rt: HostRuntime) -> Result<(), Fail> {
     let schema = numbers()?;
     let zeros = [0; 4096];
     let closed = [b'C'; 4096];
-    for bytes in [b"".as_slice(), b"C", b"CUSTO", &zeros, &closed] {
-        assert!(rt; is_unsound(rt.alloc(), &schema, bytes)?);
+    for &bytes in &[b"".as_slice(), b"C", b"CUSTO", &zeros, &closed] {
+        assert_that(&rt, is_unsound(rt.alloc(), &schema, bytes)?);
     }
     Ok(())
 }
@@ -54,9 +55,9 @@ fn a_file_that_was_changed_and_not_shut_is_unsound(rt: HostRuntime) -> Result<()
     let mut library = library_over(rt.alloc(), MemShelf::new(rt.alloc()), 100, 2)?;
     makes(&mut library, &schema)?;
     attaches(&mut library)?;
-    assert!(rt; looks(&mut library, 0, &schema)? == Told::Unsound);
+    assert_equal(&rt, looks(&mut library, 0, &schema)?, Told::Unsound);
     makes(&mut library, &schema)?;
     shuts(&mut library, 0, &schema)?;
-    assert!(rt; opens(&mut library, 0, &schema)? == Told::Sound);
+    assert_equal(&rt, opens(&mut library, 0, &schema)?, Told::Sound);
     Ok(())
 }

@@ -5,6 +5,7 @@ ghost use Rattle.record_layout.specs.Schema.{Schema as Keys};
 ghost use Rattle.verbs.specs.Fits.{HasOperands};
 ghost use Rattle.test_library.specs.Ready.{IsReadyConnector};
 
+use crate::checks::assert_equal_for;
 use indexed_file::Library;
 use io_state::{Access, Fault, FileName, FileStatement, Status};
 use page_store::Shelf;
@@ -86,9 +87,6 @@ pub fn performs<S: Shelf + Drop>(
         return (answer.status, 0);
     };
     let asked = library.asked(0);
-    assert!(rt;
-        asked <= most,
-        "{statement:?}: {asked} pages, and not {most}"
-    );
+    assert_equal_for(rt, (*statement, asked, most), asked <= most, true);
     (answer.status, asked)
 }

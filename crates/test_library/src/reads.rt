@@ -2,6 +2,7 @@
 
 ghost use Rattle.indexed_file.specs.Clients.{IsOpenWith};
 
+use crate::checks::{assert_equal, assert_equal_for};
 use indexed_file::{Added, Library};
 use io_state::Fault;
 use memory_shelf::MemShelf;
@@ -41,7 +42,7 @@ fn adds_all<L: Library>(rt: &impl Abort, library: &mut L, schema: &Schema) -> Re
     for i in 0..RECORDS {
         let n = i.wrapping_mul(1237) % RECORDS;
         let added = adds_numbers(library, 0, schema, &values(n))?;
-        assert!(rt; matches!(added, Added::Done { .. }), "record {n}");
+        assert_equal_for(rt, n, matches!(added, Added::Done { .. }), true);
     }
     Ok(())
 }
@@ -79,12 +80,12 @@ fn reads_unique<L: Library>(
     for n in 0..RECORDS {
         let [number, other, _] = values(n);
         let by_number = reads(library, schema, 0, number)?;
-        assert_eq!(rt; by_number, (prime + 1, Some(false)), "{n}");
+        assert_equal_for(rt, n, by_number, (prime + 1, Some(false)));
         let by_other = reads(library, schema, 1, other)?;
-        assert_eq!(rt; by_other, (unique + prime + 1, Some(false)), "{n}");
+        assert_equal_for(rt, n, by_other, (unique + prime + 1, Some(false)));
     }
-    assert_eq!(rt; reads(library, schema, 0, RECORDS)?, (prime, None));
-    assert_eq!(rt; reads(library, schema, 1, 0)?, (unique, None));
+    assert_equal(rt, reads(library, schema, 0, RECORDS)?, (prime, None));
+    assert_equal(rt, reads(library, schema, 1, 0)?, (unique, None));
     Ok(())
 }
 
@@ -105,22 +106,17 @@ fn reads_shared<L: Library>(
     for n in 0..RECORDS {
         let [_, _, value] = values(n);
         let (pages, repeated) = reads(library, schema, 2, value)?;
-        assert_eq!(rt; repeated, Some(n < PAIRED), "{n}");
-        assert!(rt;
-            pages >= shared + prime + 1 && pages <= 2 * shared + prime + 1,
-            "{n}: {pages}"
-        );
+        assert_equal_for(rt, n, repeated, Some(n < PAIRED));
+        let is_within = pages >= shared + prime + 1 && pages <= 2 * shared + prime + 1;
+        assert_equal_for(rt, (n, pages), is_within, true);
         if n >= PAIRED && pages > shared + prime + 1 {
             more = more.saturating_add(1);
         }
     }
-    assert!(rt; more <= (RECORDS - PAIRED) / 8 + 1, "{more}");
+    assert_equal_for(rt, more, more <= (RECORDS - PAIRED) / 8 + 1, true);
     for value in PAIRED / 2..PAIRED {
-        assert_eq!(rt;
-            reads(library, schema, 2, value)?,
-            (shared, None),
-            "{value}"
-        );
+        let found = reads(library, schema, 2, value)?;
+        assert_equal_for(rt, value, found, (shared, None));
     }
     Ok(())
 }
@@ -137,7 +133,7 @@ fn a_read_by_key_asks_for_a_page_a_level(rt: HostRuntime) -> Result<(), Fail> {
         library.height(0, 1),
         library.height(0, 2),
     ];
-    assert_eq!(rt; heights, [3, 3, 3]);
+    assert_equal(&rt, heights, [3, 3, 3]);
     reads_unique(&rt, &mut library, &schema, heights)?;
     reads_shared(&rt, &mut library, &schema, heights)?;
     Ok(())
