@@ -115,6 +115,15 @@ fn write_rounds<P: Pages>(
     Ok(fastest)
 }
 
+// Writes sixteen pages that were filled, and reads them. The sum of what was read.
+fn change_sixteen<P: Pages>(pages: &mut P) -> Result<u64, Fault>
+    requires ready { P.shown.IsReady pages.old }
+    requires open { P.shown.CanChange pages.old }
+{
+    write_all(pages, 16, 1)?;
+    read_all(pages, 16, 2)
+}
+
 fn in_memory(rt: &HostRuntime) -> anyhow::Result<()> {
     let mut shelf = MemShelf::new(rt.alloc());
     let mut file = new_file(rt, &mut shelf, NonZeroUsize::MIN)?;
@@ -123,10 +132,26 @@ fn in_memory(rt: &HostRuntime) -> anyhow::Result<()> {
         shelf: &mut shelf,
     };
     fill(&mut pages, 16)?;
-    write_all(&mut pages, 16, 1)?;
-    let sum = read_all(&mut pages, 16, 2)?;
+    let sum = change_sixteen(&mut pages)?;
     println!(rt; "pages {} sum {sum}", file.pager().count())?;
     Ok(())
+}
+
+// The sum over rounds of pages that were filled, and the nanoseconds of the fastest one that read, and of the fastest that wrote.
+fn work_in_rounds<P: Pages>(
+    rt: &HostRuntime,
+    pages: &mut P,
+    count: u32,
+    rounds: u32,
+) -> anyhow::Result<(u64, u128, u128)>
+    requires ready { P.shown.IsReady pages.old }
+    requires open { P.shown.CanChange pages.old }
+{
+    // The first round writes what was changed.
+    read_all(pages, count, 0)?;
+    let (sum, read_time) = read_rounds(rt, pages, count, rounds)?;
+    let write_time = write_rounds(rt, pages, count, rounds)?;
+    Ok((sum, read_time, write_time))
 }
 
 /// Works in the folder that a word names, or in memory where there is none.
@@ -144,10 +169,7 @@ pub fn run(rt: &HostRuntime, words: &mut Args) -> anyhow::Result<()> {
         shelf: &mut shelf,
     };
     fill(&mut pages, count)?;
-    // The first round writes what was changed.
-    read_all(&mut pages, count, 0)?;
-    let (sum, read_time) = read_rounds(rt, &mut pages, count, rounds)?;
-    let write_time = write_rounds(rt, &mut pages, count, rounds)?;
+    let (sum, read_time, write_time) = work_in_rounds(rt, &mut pages, count, rounds)?;
     println!(rt; "sum {sum} read {read_time} write {write_time}")?;
     Ok(())
 }

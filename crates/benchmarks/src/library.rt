@@ -92,6 +92,22 @@ fn measure<S: Shelf + Drop>(
     Ok((shelf, cost))
 }
 
+/// Prints what calls of one kind asked for, and where they are `timed`, all that they took.
+fn print_cost(rt: &HostRuntime, what: &str, cost: &Cost, timed: bool) -> anyhow::Result<()> {
+    let Tally { calls, asked, most } = cost.tally;
+    if !timed {
+        println!(rt; "{what}: {asked} pages asked, {most} at most")?;
+        return Ok(());
+    }
+    println!(rt;
+        "{what}: {calls} calls, {} ns each, {asked} pages asked, {most} at most, {} reads, {} writes",
+        cost.nanoseconds / u128::from(calls.max(1)),
+        cost.reads,
+        cost.writes
+    )?;
+    Ok(())
+}
+
 /// Makes the calls of every kind on a new file, and prints what they asked for, and where they are `timed`, all that they took.
 fn measure_all<S: Shelf + Drop>(
     rt: &HostRuntime,
@@ -100,20 +116,10 @@ fn measure_all<S: Shelf + Drop>(
     timed: bool,
 ) -> anyhow::Result<()> {
     let mut shelf = FuseShelf::new(shelf, Kind::Changes, 0, false, false);
-    for (work, what) in ALL {
+    for &(work, what) in &ALL {
         let (back, cost) = measure(rt, shelf, plan, work)?;
         shelf = back;
-        let Tally { calls, asked, most } = cost.tally;
-        if !timed {
-            println!(rt; "{what}: {asked} pages asked, {most} at most")?;
-            continue;
-        }
-        println!(rt;
-            "{what}: {calls} calls, {} ns each, {asked} pages asked, {most} at most, {} reads, {} writes",
-            cost.nanoseconds / u128::from(calls.max(1)),
-            cost.reads,
-            cost.writes
-        )?;
+        print_cost(rt, what, &cost, timed)?;
     }
     Ok(())
 }

@@ -40,6 +40,137 @@ impl Figures {
             insert: u128::MAX,
         }
     }
+
+    // With those of one round more.
+    fn with(self, find: Timed, step: Timed, remove: Timed, insert: Timed) -> Figures {
+        let answers = find
+            .sum
+            .wrapping_add(step.sum)
+            .wrapping_add(remove.sum)
+            .wrapping_add(insert.sum);
+        Figures {
+            sum: self.sum.wrapping_add(answers),
+            find: self.find.min(find.time),
+            step: self.step.min(step.time),
+            remove: self.remove.min(remove.time),
+            insert: self.insert.min(insert.time),
+        }
+    }
+
+    // Prints the sum behind that of the entries, and what a call of each kind took where they are `timed`.
+    fn print(&self, rt: &HostRuntime, count: u64, fill: Timed, timed: bool) -> anyhow::Result<()> {
+        let inserted = fill.sum;
+        print!(rt; "entries {count} inserted {inserted} sum {}", self.sum)?;
+        if timed {
+            print!(rt;
+                " fill {} find {} step {} remove {} insert {}",
+                fill.time, self.find, self.step, self.remove, self.insert
+            )?;
+        }
+        println!(rt)?;
+        Ok(())
+    }
+}
+
+// What calls of one kind answered, and the nanoseconds that they took.
+#[derive(Clone, Copy)]
+struct Timed {
+    sum: u64,
+    time: u128,
+}
+
+fn time_find<P: Pages>(
+    rt: &HostRuntime,
+    tree: &Tree,
+    pages: &mut P,
+    entries: &[Bytes],
+) -> anyhow::Result<Timed>
+    requires ready { P.shown.IsReady pages.old }
+    ensures goes { P.shown.Writes pages.old pages.new }
+{
+    let start = Instant::now(rt)?;
+    let sum = find_all(tree, pages, entries)?;
+    let time = nanoseconds_since(rt, start)?;
+    Ok(Timed { sum, time })
+}
+
+fn time_step<P: Pages>(rt: &HostRuntime, tree: &Tree, pages: &mut P) -> anyhow::Result<Timed>
+    requires ready { P.shown.IsReady pages.old }
+    ensures goes { P.shown.Writes pages.old pages.new }
+{
+    let start = Instant::now(rt)?;
+    let sum = step_over(tree, pages)?;
+    let time = nanoseconds_since(rt, start)?;
+    Ok(Timed { sum, time })
+}
+
+fn time_remove<P: Pages>(
+    rt: &HostRuntime,
+    tree: &mut Tree,
+    pages: &mut P,
+    entries: &[Bytes],
+) -> anyhow::Result<Timed>
+    requires shape { tree.old.shape.entry ≡ 24 }
+    requires ready { P.shown.IsReady pages.old }
+    requires open { P.shown.CanChange pages.old }
+    ensures goes { P.shown.Writes pages.old pages.new }
+    ensures shape { tree.new.shape ≡ tree.old.shape }
+{
+    let start = Instant::now(rt)?;
+    let sum = remove_all(tree, pages, entries)?;
+    let time = nanoseconds_since(rt, start)?;
+    Ok(Timed { sum, time })
+}
+
+fn time_insert<P: Pages>(
+    rt: &HostRuntime,
+    tree: &mut Tree,
+    pages: &mut P,
+    entries: &[Bytes],
+) -> anyhow::Result<Timed>
+    requires shape { tree.old.shape.entry ≡ 24 }
+    requires ready { P.shown.IsReady pages.old }
+    requires open { P.shown.CanChange pages.old }
+    ensures goes { P.shown.Writes pages.old pages.new }
+    ensures shape { tree.new.shape ≡ tree.old.shape }
+{
+    let start = Instant::now(rt)?;
+    let sum = insert_all(tree, pages, entries)?;
+    let time = nanoseconds_since(rt, start)?;
+    Ok(Timed { sum, time })
+}
+
+// Looks each entry up, and goes over all.
+fn time_reading<P: Pages>(
+    rt: &HostRuntime,
+    tree: &Tree,
+    pages: &mut P,
+    entries: &[Bytes],
+) -> anyhow::Result<(Timed, Timed)>
+    requires ready { P.shown.IsReady pages.old }
+    ensures goes { P.shown.Writes pages.old pages.new }
+{
+    let find = time_find(rt, tree, pages, entries)?;
+    let step = time_step(rt, tree, pages)?;
+    Ok((find, step))
+}
+
+// Takes some entries out, and puts them in again.
+fn time_changes<P: Pages>(
+    rt: &HostRuntime,
+    tree: &mut Tree,
+    pages: &mut P,
+    some: &[Bytes],
+) -> anyhow::Result<(Timed, Timed)>
+    requires shape { tree.old.shape.entry ≡ 24 }
+    requires ready { P.shown.IsReady pages.old }
+    requires open { P.shown.CanChange pages.old }
+    ensures goes { P.shown.Writes pages.old pages.new }
+    ensures shape { tree.new.shape ≡ tree.old.shape }
+{
+    let remove = time_remove(rt, tree, pages, some)?;
+    let insert = time_insert(rt, tree, pages, some)?;
+    Ok((remove, insert))
 }
 
 // Looks each entry up, goes over all, and takes some of them out and puts them in again.
@@ -57,29 +188,9 @@ fn round<P: Pages>(
     ensures goes { P.shown.Writes pages.old pages.new }
     ensures shape { tree.new.shape ≡ tree.old.shape }
 {
-    let start = Instant::now(rt)?;
-    let found = find_all(tree, pages, entries)?;
-    let find = nanoseconds_since(rt, start)?;
-    let start = Instant::now(rt)?;
-    let gone_over = step_over(tree, pages)?;
-    let step = nanoseconds_since(rt, start)?;
-    let start = Instant::now(rt)?;
-    let removed = remove_all(tree, pages, some)?;
-    let remove = nanoseconds_since(rt, start)?;
-    let start = Instant::now(rt)?;
-    let inserted = insert_all(tree, pages, some)?;
-    let insert = nanoseconds_since(rt, start)?;
-    let answers = found
-        .wrapping_add(gone_over)
-        .wrapping_add(removed)
-        .wrapping_add(inserted);
-    Ok(Figures {
-        sum: before.sum.wrapping_add(answers),
-        find: before.find.min(find),
-        step: before.step.min(step),
-        remove: before.remove.min(remove),
-        insert: before.insert.min(insert),
-    })
+    let (find, step) = time_reading(rt, tree, pages, entries)?;
+    let (remove, insert) = time_changes(rt, tree, pages, some)?;
+    Ok(before.with(find, step, remove, insert))
 }
 
 // So many rounds, each with another tenth of the entries that is taken out and put in again.
@@ -125,22 +236,9 @@ fn work<S: Shelf>(
     let mut tree = Tree::empty(&mut pages, SHAPE)?;
     let filling = mixed(rt.alloc(), count, FILLING)?;
     let entries = mixed(rt.alloc(), count, CALLING)?;
-    let start = Instant::now(rt)?;
-    let inserted = insert_all(&mut tree, &mut pages, &filling)?;
-    let fill = nanoseconds_since(rt, start)?;
+    let fill = time_insert(rt, &mut tree, &mut pages, &filling)?;
     let done = rounds(rt, &mut tree, &mut pages, &entries, turns)?;
-    print!(rt;
-        "entries {} inserted {inserted} sum {}",
-        tree.count, done.sum
-    )?;
-    if timed {
-        print!(rt;
-            " fill {fill} find {} step {} remove {} insert {}",
-            done.find, done.step, done.remove, done.insert
-        )?;
-    }
-    println!(rt)?;
-    Ok(())
+    done.print(rt, tree.count, fill, timed)
 }
 
 /// Works in the folder that a word names, or in memory where there is none.
