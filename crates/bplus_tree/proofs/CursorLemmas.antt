@@ -16,7 +16,7 @@ use Rattle.io_state.specs.declared.fault.Fault.TheVariants.{Damage}
 use Rattle.pages.specs.Answer.{IsAnswer}
 use Rattle.pages.specs.Owners.{IsOutside}
 use Rattle.tree_search.specs.Stored.{IsLeafAt}
-use Rattle.tree_search.specs.Spot.{CopiesEntry, TellsStart, begins_with, StandsAt}
+use Rattle.tree_search.specs.Spot.{CopiesEntry, TellsStart, begins_with, IsAtSpot}
 use Rattle.bplus_tree.specs.Cursor.{IsCursorAt, Belongs, HasNeighbour, IsBehind, HasMoved}
 use Rattle.tree_search.proofs.SearchLemmas.{after_at}
 use Rattle.tree_search.proofs.DescentLemmas.{tree_ascends}
@@ -136,7 +136,7 @@ moved old new tree pages entries own spot e is key changes at = record {
   found_is = is.found_is;
   belongs = record {
     earlier = λ low. omega arith;
-    at = λ same low some. record { entry = e.items; stands = subst (λ (s : Spot). StandsAt tree.shape pages own entries s e.items) (sym at) is.at; key = sym key };
+    at = λ same low some. record { entry = e.items; stands = subst (λ (s : Spot). IsAtSpot tree.shape pages own entries s e.items) (sym at) is.at; key = sym key };
   };
   kept = λ here.
       let within = is.at.within in

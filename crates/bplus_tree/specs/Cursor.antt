@@ -14,14 +14,14 @@ use Rattle.pages.specs.Answer.{IsAnswer}
 use Rattle.tree_search.specs.Calls.{first_after}
 use Rattle.tree_search.specs.Search.{filled}
 use Rattle.tree_search.specs.LookUps.{WhenHonest}
-use Rattle.tree_search.specs.Spot.{StandsAt, FoundAt, begins_with}
+use Rattle.tree_search.specs.Spot.{IsAtSpot, FoundAt, begins_with}
 use Rattle.bplus_tree.specs.Standing.{TreeStands}
 
 -- the entry that the cursor gave last stands where the cursor says
 pub record IsCursorAt (cursor : Cursor) (tree : Tree) (pages : PageMap) (entries : List (List ℕ))
     (own : List ℕ) : Type 0 where
   pub entry : List ℕ
-  pub stands : StandsAt tree.shape pages own entries cursor.spot entry
+  pub stands : IsAtSpot tree.shape pages own entries cursor.spot entry
   pub key : take tree.shape.width entry ≡ cursor.key.items
 
 -- The cursor is one of this tree. Where the tree has not changed since the cursor gave an entry,

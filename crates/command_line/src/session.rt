@@ -48,7 +48,7 @@ where
 }
 
 /// Why a session ended, as the program tells it.
-fn told(fault: ServeFault) -> Fault
+fn program_fault(fault: ServeFault) -> Fault
     ensures { result ≡ session_told_as fault }
 {
     match fault {
@@ -64,7 +64,7 @@ fn ended(end: Result<(), ServeFault>) -> Result<(), Fault>
 {
     match end {
         Ok(()) => Ok(()),
-        Err(fault) => Err(told(fault)),
+        Err(fault) => Err(program_fault(fault)),
     }
 }
 

@@ -133,7 +133,7 @@ impl Fault {
     }
 
     /// Tells the fault on standard error, as far as that takes it, and answers the exit status.
-    pub fn tell<E: Write>(self, err: &mut E) -> u8
+    pub fn report<E: Write>(self, err: &mut E) -> u8
         ensures { result ≡ status_of self }
     {
         let _ = self.write(err);

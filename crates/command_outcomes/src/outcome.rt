@@ -127,7 +127,7 @@ pub fn status_by_verdict(verdict: Verdict) -> u8
 impl Outcome {
     /// Tells why a file has no schema or no list, or was not made, on standard error, as far as
     /// that takes it, and answers the exit status.
-    fn tell<E: Write>(self, err: &mut E) -> u8
+    fn report<E: Write>(self, err: &mut E) -> u8
         ensures { result ≡ status_for self }
     {
         if let Outcome::SchemaRefused(refusal) = self {
@@ -165,11 +165,11 @@ impl Outcome {
 
 /// The exit status of what happened. A fault, and why a file has no schema or no list, is told as
 /// far as the writer takes it.
-pub fn tell<E: Write>(outcome: Result<Outcome, Fault>, err: &mut E) -> u8
+pub fn report<E: Write>(outcome: Result<Outcome, Fault>, err: &mut E) -> u8
     ensures { result ≡ exit_status outcome }
 {
     match outcome {
-        Ok(outcome) => outcome.tell(err),
-        Err(fault) => fault.tell(err),
+        Ok(outcome) => outcome.report(err),
+        Err(fault) => fault.report(err),
     }
 }

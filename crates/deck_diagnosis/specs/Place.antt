@@ -8,10 +8,10 @@ abbrev pub line_feeds : List ℕ → ℕ
 line_feeds bytes = count_by (λ byte. byte == 10) bytes
 
 -- the bytes stand in the deck, behind as many line feeds as there are lines above theirs
-abbrev pub StandsInDeck : List ℕ → ℕ → List ℕ → Type 0
-StandsInDeck deck line text =
+abbrev pub IsTextAtLine : List ℕ → ℕ → List ℕ → Type 0
+IsTextAtLine deck line text =
     (before behind : List ℕ) × (deck ≡ before ++ (text ++ behind)) × (line ≡ line_feeds before + 1)
 
 -- the line is one of the deck, and the bytes stand there
 abbrev pub IsPlaceInDeck : List ℕ → Place → Type 0
-IsPlaceInDeck deck place = StandsInDeck deck place.line place.text.now
+IsPlaceInDeck deck place = IsTextAtLine deck place.line place.text.now

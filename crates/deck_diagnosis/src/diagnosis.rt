@@ -91,7 +91,7 @@ fn copied(text: &[u8]) -> ArrayVec<u8, 31>
 }
 
 /// A finding, told of a deck.
-fn told(bytes: &[u8], finding: Finding<'_>) -> Diagnosis
+fn diagnosis_of(bytes: &[u8], finding: Finding<'_>) -> Diagnosis
     ensures { TellsOf bytes.now result }
 {
     let place = told_place(bytes, &finding);
@@ -172,5 +172,5 @@ pub fn diagnose(alloc: Global, bytes: &[u8], fault: DeckFault) -> Result<Diagnos
         Some(finding) => finding,
         None => Finding::of_line(fault.line),
     };
-    Ok(told(bytes, finding))
+    Ok(diagnosis_of(bytes, finding))
 }

@@ -10,7 +10,7 @@ use Rattle.deck_runner.specs.Line.{Line}
 use Rattle.deck_runner.specs.Steps.{until_stop, closes_from, AreStepsOf, AreStepsInPart}
 use Rattle.deck_runner.specs.Stretches.{Point, AreStretches, IsRunOver, AreStretchesInPart, IsBrokenOff}
 use Rattle.deck_runner.specs.Beginning.{run_before, WorldIsLeft, DeckLeads}
-use Rattle.deck_runner.specs.NoFalseFile.{first_ledger, IsOfLedger, Judged, IsSafeStretch, StandNow, IsSafeRun, IsSafeBrokenOff, DeckRuns, RunsWhole, RunsInPart}
+use Rattle.deck_runner.specs.NoFalseFile.{first_ledger, IsOfLedger, Judged, IsSafeStretch, AreWithinLedgers, IsSafeRun, IsSafeBrokenOff, DeckRuns, RunsWhole, RunsInPart}
 use Rattle.deck_runner.proofs.FalseFileLaws.{no_false_file}
 
 module _
@@ -19,9 +19,9 @@ module _
     (start : S) where
   -- what comes of a run of stretches
   abbrev Safe : (Judged S → List Line → Judged S → Type 0) → Judged S → List Line → Point S → Type 0
-  Safe AreSuch before lines next = (after : Judged S) × (after.point ≡ next) × AreSuch before lines after × StandNow library start after
+  Safe AreSuch before lines next = (after : Judged S) × (after.point ≡ next) × AreSuch before lines after × AreWithinLedgers library start after
 
-  part : (statements : List Statement) (before : Judged S) (lines : List Line) (next : Point S) → AreStretchesInPart library statements before.point lines next → StandNow library start before
+  part : (statements : List Statement) (before : Judged S) (lines : List Line) (next : Point S) → AreStretchesInPart library statements before.point lines next → AreWithinLedgers library start before
       → Safe (AreStepsInPart (IsSafeStretch library start) statements) before lines next
   part statements before lines next p now =
       let done = no_false_file library ends start p.0 before lines next p.3 now in
@@ -30,7 +30,7 @@ module _
   closes_of : (stopped : Point S) (point : Point S) → point ≡ stopped → closes_from 0 stopped.run.files ≡ closes_from 0 point.run.files
   closes_of stopped point same = ap (λ (p : Point S). closes_from 0 p.run.files) (sym same)
 
-  whole : (statements : List Statement) (before : Judged S) (lines : List Line) (next : Point S) → IsRunOver library statements before.point lines next → StandNow library start before
+  whole : (statements : List Statement) (before : Judged S) (lines : List Line) (next : Point S) → IsRunOver library statements before.point lines next → AreWithinLedgers library start before
       → Safe (IsSafeRun library start statements) before lines next
   whole statements before lines next p now =
       let first = no_false_file library ends start (until_stop statements) before p.1 p.0 p.3 now in
@@ -39,7 +39,7 @@ module _
       let others = no_false_file library ends start (closes_from 0 first.0.point.run.files) first.0 p.2 next closes first.3 in
       (others.0, others.1, (first.0, p.1, p.2, first.2, others.2, p.5), others.3)
 
-  broken : (statements : List Statement) (before : Judged S) (lines : List Line) (next : Point S) → IsBrokenOff library statements before.point lines next → StandNow library start before
+  broken : (statements : List Statement) (before : Judged S) (lines : List Line) (next : Point S) → IsBrokenOff library statements before.point lines next → AreWithinLedgers library start before
       → Safe (IsSafeBrokenOff library start statements) before lines next
   broken statements before lines next (inl p) now =
       let done = part (until_stop statements) before lines next p now in
@@ -61,13 +61,13 @@ module _
       each_weaker library.moments _ _ begun begun name (λ image is. inl (refl, all.1 image is)) (ends start begun name all.0)
 
   stands : (new : S) (deck : Deck) (Steps : Point S → List Line → Point S → Type 0) (Stretches : Judged S → List Line → Judged S → Type 0)
-      → ((before : Judged S) (lines : List Line) (next : Point S) → Steps before.point lines next → StandNow library start before → Safe Stretches before lines next)
+      → ((before : Judged S) (lines : List Line) (next : Point S) → Steps before.point lines next → AreWithinLedgers library start before → Safe Stretches before lines next)
       → (lines : List Line) → DeckLeads library start new deck Steps lines → DeckRuns library start new deck Stretches lines
   stands new deck Steps Stretches safe lines p = record {
     stretches = λ honest shown.
         let led = p.steps honest shown in
         let before : Judged S = record { point = record { run = run_before (library.world start) deck; library = led.0 }; ledger = λ name. first_ledger } in
-        let now : StandNow library start before = λ name was. begun_stands led.0 name (led.2.images name) (was refl) in
+        let now : AreWithinLedgers library start before = λ name was. begun_stands led.0 name (led.2.images name) (was refl) in
         let done = safe before lines (record { run = led.1; library = new }) led.3 now in (
           led.0,
           done.0,

@@ -72,8 +72,8 @@ pub record IsSafeStretch {S : Type 0} (library : Shown S) (start : S) (statement
       after.ledger name ≡ behind trace (before.ledger name)
 
 -- each name stands by its ledger now
-abbrev pub StandNow : {S : Type 0} → Shown S → S → Judged S → Type 0
-StandNow library start judged =
+abbrev pub AreWithinLedgers : {S : Type 0} → Shown S → S → Judged S → Type 0
+AreWithinLedgers library start judged =
     (name : List ℕ) → StandsBy library.moments start name
     (judged.ledger name) judged.point.library judged.point.library
 
@@ -81,9 +81,9 @@ StandNow library start judged =
 abbrev pub NoFalseFile : {S : Type 0} → Shown S → Type 0
 NoFalseFile {S} library =
     (start : S) → (statements : List Statement) → (before : Judged S) → (lines : List Line) → (next : Point S)
-    → AreStretches library statements before.point lines next → StandNow library start before
+    → AreStretches library statements before.point lines next → AreWithinLedgers library start before
     → (after : Judged S) × (after.point ≡ next) × AreStepsOf
-    (IsSafeStretch library start) statements before lines after × StandNow library start after
+    (IsSafeStretch library start) statements before lines after × AreWithinLedgers library start after
 
 -- ---- in so many words
 
@@ -124,7 +124,7 @@ pub record DeckRuns {S : Type 0} (library : Shown S) (old new : S) (deck : Deck)
         point = record { run = run_before (library.world old) deck; library = begun };
         ledger = λ name. first_ledger;
       }) lines after
-      × (after.point.library ≡ new) × StandNow library old after
+      × (after.point.library ≡ new) × AreWithinLedgers library old after
       × WorldIsLeft (library.world new) deck after.point.run)
   pub lines_are : AreLinesOf library (program_names deck) old new lines
 

@@ -14,24 +14,24 @@ use Rattle.file_listing.specs.declared.listing.FileList.{FileList}
 use Rattle.file_listing.specs.declared.listing.FileList.TheVariants.{Listed, NoKey, Unsound}
 
 -- the bytes stand for a file of a schema, and this is so of it
-abbrev pub StandFor : List ℕ → (Schema → File → Type 0) → Type 0
-StandFor bytes P = (schema : Schema) × (file : File) × AreClosed schema file bytes × P schema file
+abbrev pub HoldsFileWith : List ℕ → (Schema → File → Type 0) → Type 0
+HoldsFileWith bytes P = (schema : Schema) × (file : File) × AreClosed schema file bytes × P schema file
 
 -- a list of these bytes in a form ends so: the list of their rows that are asked for was written;
 -- or nothing was, since they stand for a file that does not have the key, or a check tells this
 -- reason
 abbrev pub EndsWithIn : Form → List ℕ → Asked → (before behind : Option (List ℕ)) → FileList → Type 0
 EndsWithIn form bytes asked before behind Listed =
-    StandFor bytes (λ schema file. WritesLines form schema file asked before behind)
+    HoldsFileWith bytes (λ schema file. WritesLines form schema file asked before behind)
 EndsWithIn form bytes asked before behind NoKey =
-    StandFor bytes (λ schema file. (length schema.keys ≤ asked.key) × (behind ≡ before))
+    HoldsFileWith bytes (λ schema file. (length schema.keys ≤ asked.key) × (behind ≡ before))
 EndsWithIn form bytes asked before behind (Unsound reason) =
     IsRight bytes (IsRefused reason) × (behind ≡ before)
 
 -- it ends before its end: nothing was written, or a front of the list
 abbrev pub BreaksOffIn : Form → List ℕ → Asked → (before behind : Option (List ℕ)) → Type 0
 BreaksOffIn form bytes asked before behind = (behind ≡ before)
-    ⊎ StandFor bytes (λ schema file. WritesFront form schema file asked before behind)
+    ⊎ HoldsFileWith bytes (λ schema file. WritesFront form schema file asked before behind)
 
 abbrev pub EndsIn : Form → List ℕ → Asked → (before behind : Option (List ℕ)) → Result FileList ListFault
     → Type 0

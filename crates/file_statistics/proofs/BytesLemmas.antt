@@ -16,7 +16,7 @@ use Rattle.file_checker.specs.Sound.{IsSound}
 use Rattle.indexed_file.specs.File.{File}
 use Rattle.open_file.specs.declared.open_file.OpenFile.{OpenFile}
 use Rattle.file_statistics.specs.declared.statistics.FileStatistics.{FileStatistics}
-use Rattle.file_statistics.specs.Statistics.{live_by, StandBy, HasFile, HasStatistics}
+use Rattle.file_statistics.specs.Statistics.{live_by, PagesHoldFile, HasFile, HasStatistics}
 use Rattle.file_statistics.specs.Lines.{statistics_text}
 use Rattle.file_statistics.specs.Listing.{IsTextFor}
 use Rattle.std.proofs.lemmas.List.{drop-drop}
@@ -86,7 +86,7 @@ module _ (bytes : List ℕ) (records pages : ℕ) (sound : IsSound bytes records
       let both : Some sound.header ≡ Some header = sym (accepted_page bytes sound.header sound.accepted) ∙ sym (ap header_in page) ∙ sym first in
       cc
 
-  standing : StandBy (page_of_bytes bytes) sound.header sound.stands.opened sound.file
+  standing : PagesHoldFile (page_of_bytes bytes) sound.header sound.stands.opened sound.file
   standing = record { by_header = sound.stands.by_header; stands = sound.stands.stands; sound = sound.stands.sound }
 
   shown : AreShown (live_by (page_of_bytes bytes) sound.header) list
@@ -97,10 +97,10 @@ module _ (bytes : List ℕ) (records pages : ℕ) (sound : IsSound bytes records
       (record { page = page_of_bytes bytes; opened = sound.stands.opened; file = sound.file; standing = standing; shown = shown })
 
   pub text_for : (counts : FileStatistics) (text : List ℕ)
-      → ((page : ℕ → List ℕ) (opened : OpenFile) (file : File) → StandBy page header opened file → AreShown (live_by page header) list → HasStatistics page header file counts)
+      → ((page : ℕ → List ℕ) (opened : OpenFile) (file : File) → PagesHoldFile page header opened file → AreShown (live_by page header) list → HasStatistics page header file counts)
       → text ≡ statistics_text counts → IsTextFor bytes text
   text_for counts text told text_is =
-      let back = subst (λ (h : Header). (page : ℕ → List ℕ) (opened : OpenFile) (file : File) → StandBy page h opened file → AreShown (live_by page h) list → HasStatistics page h file counts)
+      let back = subst (λ (h : Header). (page : ℕ → List ℕ) (opened : OpenFile) (file : File) → PagesHoldFile page h opened file → AreShown (live_by page h) list → HasStatistics page h file counts)
       (sym same) told in
       record {
         schema = sound.header.schema;

@@ -14,21 +14,21 @@ use Rattle.page_counts.specs.Levels.{AreShown}
 use Rattle.page_counts.specs.Runs.{IsGreatestCount}
 use Rattle.file_statistics.specs.declared.statistics.KeyStatistics.{KeyStatistics}
 use Rattle.file_statistics.specs.declared.statistics.FileStatistics.{FileStatistics}
-use Rattle.file_statistics.specs.Statistics.{live_by, all_key_pages, StandBy, HasFile}
+use Rattle.file_statistics.specs.Statistics.{live_by, all_key_pages, PagesHoldFile, HasFile}
 use Rattle.file_statistics.specs.Statistics.{HasFileStanding, KeysCounted, HasStatistics, values_in}
 use Rattle.file_statistics.proofs.FileLemmas.{parts_count, part_few, keys_count}
 use Rattle.file_statistics.proofs.RowLemmas.{prime_greatest, alt_greatest}
 
 module _ (header : Header) (list : List (List ℕ)) (opened : OpenFile) (is_header : IsHeader header) (by : IsOpenedBy header opened) where
   -- what stands by the header stands as it is opened now
-  pub again : (page : ℕ → List ℕ) (before : OpenFile) (file : File) → StandBy page header before file → StandBy page header opened file
+  pub again : (page : ℕ → List ℕ) (before : OpenFile) (file : File) → PagesHoldFile page header before file → PagesHoldFile page header opened file
   again page before file standing = record {
     by_header = by;
     stands = read_back before opened header (live_by page header) file standing.stands standing.by_header.shaped standing.by_header.header_is by;
     sound = standing.sound;
   }
 
-  parts_are : (page : ℕ → List ℕ) (file : File) → (standing : StandBy page header opened file) → length (all_of standing.stands.parts.owns) + header.free + 1 ≡ header.pages
+  parts_are : (page : ℕ → List ℕ) (file : File) → (standing : PagesHoldFile page header opened file) → length (all_of standing.stands.parts.owns) + header.free + 1 ≡ header.pages
   parts_are page file standing =
       let some = is_header.within.counted in
       parts_count page header opened file standing.stands standing.sound (header.pages - 1) (omega (arith, some))
@@ -49,7 +49,7 @@ module _ (header : Header) (list : List (List ℕ)) (opened : OpenFile) (is_head
       }
 
   module _ (keys : List KeyStatistics) (counts : KeysCounted opened list (length opened.alternates.items) keys) where
-    key_pages : (page : ℕ → List ℕ) (file : File) → (standing : StandBy page header opened file) → AreShown (live_by page header) list
+    key_pages : (page : ℕ → List ℕ) (file : File) → (standing : PagesHoldFile page header opened file) → AreShown (live_by page header) list
         → (i : ℕ) (key : KeyStatistics) → i < length keys → key ≡ slice_index_or keys i key → key.pages ≡ length (own_at standing.stands.parts.owns (suc i))
     key_pages page file standing shown zero key inside at = ((counts.are (live_by page header) file standing.stands shown).prime key at).pages_are
     key_pages page file standing shown (suc j) key inside at =
@@ -63,7 +63,7 @@ module _ (header : Header) (list : List (List ℕ)) (opened : OpenFile) (is_head
         told.pages_are ∙ ap (λ (n : ℕ). length (own_at standing.stands.parts.owns n)) down
 
     -- how many rows have one value of a key at most
-    key_longest : (page : ℕ → List ℕ) (file : File) → (standing : StandBy page header opened file)
+    key_longest : (page : ℕ → List ℕ) (file : File) → (standing : PagesHoldFile page header opened file)
         → AreShown (live_by page header) list → (k : ℕ) (key : KeyStatistics) → k < length keys
         → key ≡ slice_index_or keys k key
         → IsGreatestCount (values_in opened.schema k file.rows) key.longest
@@ -86,7 +86,7 @@ module _ (header : Header) (list : List (List ℕ)) (opened : OpenFile) (is_head
         (alt_greatest opened.schema (j + 1) index.0.width index.0.prime file.rows key.longest each
         told.longest_is)
 
-    pub pages_whole : (page : ℕ → List ℕ) (file : File) → (standing : StandBy page header opened file) → AreShown (live_by page header) list
+    pub pages_whole : (page : ℕ → List ℕ) (file : File) → (standing : PagesHoldFile page header opened file) → AreShown (live_by page header) list
         → all_key_pages keys + length (own_at standing.stands.parts.owns 0) + header.free + 1 ≡ header.pages
     pages_whole page file standing shown =
         let n = standing.stands.parts.owners in
@@ -98,7 +98,7 @@ module _ (header : Header) (list : List (List ℕ)) (opened : OpenFile) (is_head
     pub known_whole : (has : HasFile header list) → all_key_pages keys + length (own_at (again has.page has.opened has.file has.standing).stands.parts.owns 0) + header.free + 1 ≡ header.pages
     known_whole has = pages_whole has.page has.file (again has.page has.opened has.file has.standing) has.shown
 
-    pub statistics_are : (page : ℕ → List ℕ) (before : OpenFile) (file : File) → StandBy page header before file → AreShown (live_by page header) list
+    pub statistics_are : (page : ℕ → List ℕ) (before : OpenFile) (file : File) → PagesHoldFile page header before file → AreShown (live_by page header) list
         → (told : FileStatistics) → told.pages ≡ header.pages → told.free ≡ header.free → told.records ≡ header.records → told.keys.items ≡ keys → told.trees ≡ all_key_pages keys
         → told.heap ≡ header.pages - 1 - told.trees - header.free → told.slots ≡ told.heap * room opened.heap.shape → HasStatistics page header file told
     statistics_are page before file standing shown told pages free records items trees heap slots =

@@ -26,7 +26,8 @@ abbrev pub live_by : (ℕ → List ℕ) → Header → PageMap
 live_by page header = used page header.pages (chain page header.pages header.first_free header.free)
 
 -- the pages, by the header, stand for a file
-pub record StandBy (page : ℕ → List ℕ) (header : Header) (opened : OpenFile) (file : File) : Type 0 where
+pub record PagesHoldFile (page : ℕ → List ℕ) (header : Header) (opened : OpenFile) (file : File)
+    : Type 0 where
   pub by_header : IsOpenedBy header opened
   pub stands : Stands opened (live_by page header) file
   pub sound : IsSome (chain page header.pages header.first_free header.free)
@@ -122,13 +123,13 @@ pub record AreStatistics (header : Header) (opened : OpenFile) (pages : PageMap)
 pub record HasStatistics (page : ℕ → List ℕ) (header : Header) (file : File)
     (counts : FileStatistics) : Type 0 where
   pub opened : OpenFile
-  pub standing : StandBy page header opened file
+  pub standing : PagesHoldFile page header opened file
   pub counted : AreStatistics header opened (live_by page header) file standing.stands counts
 
 -- so, whatever file they stand for where the pages in use are those of the list
 abbrev pub CountsFile : {X : Type 0} → Header → List (List ℕ) → Result FileStatistics X → Type 0
 CountsFile header list result = (page : ℕ → List ℕ) (opened : OpenFile) (file : File)
-    → StandBy page header opened file → AreShown (live_by page header) list
+    → PagesHoldFile page header opened file → AreShown (live_by page header) list
     → IfOk result (HasStatistics page header file)
 
 -- the pages by the header stand for a file, and those in use are those of the list
@@ -136,5 +137,5 @@ pub record HasFile (header : Header) (list : List (List ℕ)) : Type 0 where
   pub page : ℕ → List ℕ
   pub opened : OpenFile
   pub file : File
-  pub standing : StandBy page header opened file
+  pub standing : PagesHoldFile page header opened file
   pub shown : AreShown (live_by page header) list

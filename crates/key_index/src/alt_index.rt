@@ -111,7 +111,7 @@ impl AltIndex {
         }
         let wanted = rank_key(value, stamp);
         let found = self.tree.find(pages, wanted.as_slice())?;
-        self.told(found)
+        self.decode_found(found)
     }
 
     /// The first entry whose value is not less than this one, which may have any length.
@@ -127,7 +127,7 @@ impl AltIndex {
             return self.first_past(pages, value);
         }
         let found = self.tree.at_or_after(pages, value)?;
-        self.told(found)
+        self.decode_found(found)
     }
 
     /// The first entry of a value, and whether the next entry has the value too. A value of another
@@ -148,7 +148,7 @@ impl AltIndex {
             .tree
             .first_within(pages, least.as_slice(), greatest.as_slice())?;
         match found {
-            Some(First { entry, followed }) => self.told_first(&entry, followed),
+            Some(First { entry, followed }) => self.decode_first(&entry, followed),
             None => Ok(None),
         }
     }
@@ -173,7 +173,7 @@ impl AltIndex {
         }
         let key = rank_key(value, stamp);
         let found = self.tree.after(pages, key.as_slice())?;
-        self.told(found)
+        self.decode_found(found)
     }
 
     /// The first entry past every value that begins with these bytes.
@@ -188,7 +188,7 @@ impl AltIndex {
         let width = usize::from(self.width);
         let key = greatest_key(value, width, width + 8);
         let found = self.tree.after(pages, key.as_slice())?;
-        self.told(found)
+        self.decode_found(found)
     }
 
     /// The entry of the greatest value, and of these the greatest stamp.
@@ -197,7 +197,7 @@ impl AltIndex {
         ensures { FindsInAlt P.shown pages.old pages.new self.now last_of result }
     {
         let found = self.tree.last(pages)?;
-        self.told(found)
+        self.decode_found(found)
     }
 
     /// Adds an entry, and answers true; where its value and stamp are there, answers false, and
@@ -253,7 +253,7 @@ impl AltIndex {
 
     /// The first entry of a value, whose bytes the tree gave, and whether another one follows.
     /// Damage where they are not as many as an entry has.
-    fn told_first(&self, bytes: &Entry, followed: bool) -> Result<Option<AltFirst>, Fault>
+    fn decode_first(&self, bytes: &Entry, followed: bool) -> Result<Option<AltFirst>, Fault>
         ensures told { TellsFirst self.now.width self.now.prime bytes.now.items followed result }
         ensures damage { IfErr result (λ fault. fault ≡ Fault.Damage) }
     {
@@ -264,7 +264,7 @@ impl AltIndex {
     }
 
     /// The entry whose bytes the tree gave. Damage where they are not as many as an entry has.
-    pub(crate) fn told(&self, found: Option<Entry>) -> Result<Option<AltEntry>, Fault>
+    pub(crate) fn decode_found(&self, found: Option<Entry>) -> Result<Option<AltEntry>, Fault>
         ensures { TellsAlt self.now found result }
     {
         match found {

@@ -89,7 +89,7 @@ impl PrimeIndex {
         ensures { FindsInPrime P.shown pages.old pages.new self.now (find (has_prime value.now)) result }
     {
         let found = self.tree.find(pages, value)?;
-        self.told(found)
+        self.decode_found(found)
     }
 
     /// The place of the record of a value of any length, read from the leaf.
@@ -122,7 +122,7 @@ impl PrimeIndex {
         ensures { SeeksInPrime P.shown pages.old pages.new self.now (find (from_prime value.now)) result }
     {
         let found = self.tree.at_or_after(pages, value)?;
-        self.told(found)
+        self.decode_found(found)
     }
 
     /// The first entry whose value comes after this one, which may have any length. A value that
@@ -136,7 +136,7 @@ impl PrimeIndex {
         ensures { SeeksInPrime P.shown pages.old pages.new self.now (find (after_prime value.now)) result }
     {
         let found = self.tree.after(pages, value)?;
-        self.told(found)
+        self.decode_found(found)
     }
 
     /// The first entry past every value that begins with these bytes.
@@ -151,7 +151,7 @@ impl PrimeIndex {
         let width = usize::from(self.width);
         let key = greatest_key(value, width, width);
         let found = self.tree.after(pages, key.as_slice())?;
-        self.told(found)
+        self.decode_found(found)
     }
 
     /// The entry of the greatest value.
@@ -160,7 +160,7 @@ impl PrimeIndex {
         ensures { FindsInPrime P.shown pages.old pages.new self.now last_of result }
     {
         let found = self.tree.last(pages)?;
-        self.told(found)
+        self.decode_found(found)
     }
 
     /// Adds an entry, and answers true; where its value is there, answers false, and nothing is
@@ -205,7 +205,7 @@ impl PrimeIndex {
     }
 
     /// The entry whose bytes the tree gave. Damage where they are not as many as an entry has.
-    pub(crate) fn told(&self, found: Option<Entry>) -> Result<Option<PrimeEntry>, Fault>
+    pub(crate) fn decode_found(&self, found: Option<Entry>) -> Result<Option<PrimeEntry>, Fault>
         ensures { TellsPrime self.now found result }
     {
         match found {

@@ -101,7 +101,7 @@ impl ListFile {
         let place = lowest(&self.schema, k, wanted, self.rows.as_slice())?;
         let row = self.row(place);
         read_into(area, row.bytes());
-        Some(told(&self.schema, k, row, self.rows.as_slice()))
+        Some(found_row(&self.schema, k, row, self.rows.as_slice()))
     }
 
     /// The full value of key k of the row of least rank by that key among those wanted.
@@ -252,7 +252,7 @@ fn read_into(area: &mut [u8], bytes: &[u8])
 }
 
 /// What is told of a row that was found by key k.
-fn told(schema: &Schema, k: u8, row: &ListRow, rows: &[ListRow]) -> Found
+fn found_row(schema: &Schema, k: u8, row: &ListRow, rows: &[ListRow]) -> Found
     requires key { k < length schema.now.keys }
     requires fit { IsFit schema.now (length row.now.bytes) }
     ensures { result ≡ found_in schema.now k rows.now row.now }

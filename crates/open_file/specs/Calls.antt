@@ -12,7 +12,7 @@ use Rattle.open_file.specs.Asked.{OfHonestPages, AsksFor, AsksAlone, pages_to_re
 use Rattle.open_file.specs.Asked.{most_by_key, most_by_unique_key}
 use Rattle.open_file.specs.Faults.{ReadsFile}
 use Rattle.open_file.specs.Reading.{FindsByValue, FindsNext, Seeks, TellsHighest, TellsThere}
-use Rattle.open_file.specs.Steps.{StandsStill}
+use Rattle.open_file.specs.Steps.{KeepsEachFile}
 use Rattle.open_file.specs.declared.open_file.OpenFile.{OpenFile}
 
 -- the first record by key k that has a value is looked for, and read into the area
@@ -28,7 +28,7 @@ pub record ReadsByKey {S : Type 0} (shown : ShownPages S) (opened : OpenFile) (k
 pub record ReadsNext {S : Type 0} (shown : ShownPages S) (opened now : OpenFile) (k : ℕ) (position : Position)
     (before after : S) (old new : List ℕ) (result : Result (Option Found) Fault) : Type 0 where
   pub finds : FindsNext shown opened k position before after old new result
-  pub stands : OfHonestPages shown before after (StandsStill opened now)
+  pub stands : OfHonestPages shown before after (KeepsEachFile opened now)
   pub rest : now ≡ record opened { path = now.path }
   pub reads : ReadsFile shown opened.broken (pages_to_read shown opened before k) before after result
 

@@ -104,18 +104,18 @@ TellsNextOfKey shown opened k value stamp before after result = OfHonestPages sh
     (find (after_rank value stamp) (alt_entries opened.schema k file.rows)) false))
 
 -- what the pages stood for they stand for still
-abbrev pub StandsStill : OpenFile → OpenFile → PageMap → Type 0
-StandsStill old new pages = (file : File) → Stands old pages file → Stands new pages file
+abbrev pub KeepsEachFile : OpenFile → OpenFile → PageMap → Type 0
+KeepsEachFile old new pages = (file : File) → Stands old pages file → Stands new pages file
 
 -- only the path is another, and what any pages stood for they stand for still
 pub record MovesPath (old new : OpenFile) : Type 0 where
-  pub stands : (pages : PageMap) → StandsStill old new pages
+  pub stands : (pages : PageMap) → KeepsEachFile old new pages
   pub rest : new ≡ record old { path = new.path }
 
 -- only the path is another, and the file stands as it did
 pub record MovesPathIn {S : Type 0} (shown : ShownPages S) (before after : S)
     (old new : OpenFile) : Type 0 where
-  pub stands : OfHonestPages shown before after (StandsStill old new)
+  pub stands : OfHonestPages shown before after (KeepsEachFile old new)
   pub rest : new ≡ record old { path = new.path }
 
 -- a step in the prime index: the first entry that passes a test is given where no wrong answer of
@@ -124,7 +124,7 @@ pub record StepsInPrime {S : Type 0} (shown : ShownPages S) (test : PrimeEntry �
     (before after : S)
     (result : Result (Option PrimeEntry) Fault) : Type 0 where
   pub found : OfHonestPages shown before after (λ live. GivesPrime old live test result)
-  pub stands : OfHonestPages shown before after (StandsStill old new)
+  pub stands : OfHonestPages shown before after (KeepsEachFile old new)
   pub rest : new ≡ record old { path = new.path }
   pub reads : ReadsPages shown (2 * prime_height old.prime) before after result
 
@@ -133,6 +133,6 @@ pub record StepsInAlternate {S : Type 0} (shown : ShownPages S) (k : ℕ) (index
     → Bool) (old new : OpenFile)
     (before after : S) (result : Result (Option AltEntry) Fault) : Type 0 where
   pub found : OfHonestPages shown before after (λ live. GivesAlt old live k test result)
-  pub stands : OfHonestPages shown before after (StandsStill old new)
+  pub stands : OfHonestPages shown before after (KeepsEachFile old new)
   pub rest : new ≡ record old { path = new.path }
   pub reads : ReadsPages shown (2 * alt_height index) before after result

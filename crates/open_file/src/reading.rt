@@ -102,7 +102,7 @@ impl OpenFile {
         ensures reads { ReadsPages P.shown (most_by_key self.now k) pages.old pages.new result }
     {
         match self.first_of(pages, k, key.as_slice())? {
-            Some(AltFirst { entry, followed }) => Ok(Some(self.tell(
+            Some(AltFirst { entry, followed }) => Ok(Some(self.found_of(
                 pages, entry, followed, area,
             )?)),
             None => Ok(None),
@@ -151,11 +151,11 @@ impl OpenFile {
             area.old area.new result }
     {
         let repeated = self.is_followed(pages, k, index, entry.value.as_slice(), entry.stamp)?;
-        self.tell(pages, entry, repeated, area)
+        self.found_of(pages, entry, repeated, area)
     }
 
     /// The same of an entry of which it is known whether the next one has its value.
-    fn tell<P: Pages>(
+    fn found_of<P: Pages>(
         &self,
         pages: &mut P,
         entry: AltEntry,

@@ -12,7 +12,7 @@ use Rattle.page_cache.proofs.QuietLemmas.{goes_nowhere}
 use Rattle.page_cache.specs.Lending.{FrameSet, SameFrames}
 use Rattle.page_cache.proofs.OverLemmas.{over_same, pages_same, clean_same, held_page, set_page, set_others}
 use Rattle.page_alloc.specs.declared.pager.Pager.{Pager}
-use Rattle.pages.specs.PagesState.{Shows, Rests, LeavesPage}
+use Rattle.pages.specs.PagesState.{Shows, KeepsEachPage, LeavesPage}
 use Rattle.pages.specs.ShownPages.{ShownPages}
 use Rattle.pages.specs.PageChanges.{TakesUnused, GivesBack}
 use Rattle.page_alloc.specs.Chain.{chain, used}
@@ -24,7 +24,7 @@ use Rattle.page_store.specs.ShelfState.{unit_file}
 use Rattle.page_store.specs.Gate.{AllOpen}
 use Rattle.page_alloc.specs.declared.paged_file.PagedFile.{PagedFile}
 use Rattle.page_alloc.specs.PagedFile.{IsOpenOver}
-use Rattle.page_alloc.specs.Steps.{Goes, ReadsFilePages, pages_state_of}
+use Rattle.page_alloc.specs.Steps.{KeepsGate, ReadsFilePages, pages_state_of}
 use Rattle.page_alloc.proofs.ChainLemmas.{in_use, use_kept, same_chain}
 
 pub counted_page : (c : Cache) (p : Pager) (s : ShelfState) (n : ℕ) → IsJoined c p s → (n ≡ 0 → ⊥) → n < p.count → IsTrue (is_counted_page c n)
@@ -36,7 +36,7 @@ pub joined_after : (c d : Cache) (p : Pager) (s t : ShelfState) → IsJoined c p
 joined_after c d p s t joined same over = record { over = over; counted = subst (λ x. p.count ≤ x.pages) (sym same) joined.counted; header = joined.header }
 
 -- no page of the list has changed
-pub rested : (c d : Cache) (p : Pager) (s t : ShelfState) → (IsTrue t.is_honest → cached_pages_of d t ≡ cached_pages_of c s) → (IsTrue t.is_honest → IsTrue s.is_honest) → Rests (pages_state c p s) (pages_state d p t)
+pub rested : (c d : Cache) (p : Pager) (s t : ShelfState) → (IsTrue t.is_honest → cached_pages_of d t ≡ cached_pages_of c s) → (IsTrue t.is_honest → IsTrue s.is_honest) → KeepsEachPage (pages_state c p s) (pages_state d p t)
 rested c d p s t same honest = record {
   live = λ h. ap (λ pages. used pages p.count (chain pages p.count p.first p.free)) (same h);
   sound = λ h. ap (λ pages. is_some (chain pages p.count p.first p.free)) (same h);
@@ -94,7 +94,7 @@ at_err_where honest P (Ok x) p = tt
 at_err_where honest P (Err x) p = p
 
 -- a page was taken, or all pages are as they were
-pub takes_unused : {S : Type 0} (shown : ShownPages S) (a b : S) (r : Result ℕ Fault) → IfOk r (Taken (shown.state a) (shown.state b)) → OnErr r (Rests (shown.state a) (shown.state b))
+pub takes_unused : {S : Type 0} (shown : ShownPages S) (a b : S) (r : Result ℕ Fault) → IfOk r (Taken (shown.state a) (shown.state b)) → OnErr r (KeepsEachPage (shown.state a) (shown.state b))
     → IfErr r (CallFails (IsTrue (shown.state b).is_honest × IsTrue (shown.state a).is_sound) (shown.HasFailed a b) ((shown.state a).available ≡ 0))
     → (IsTrue (shown.state b).is_honest → IsTrue (shown.state a).is_honest) → (shown.state b).asked ≤ (shown.state a).asked + 1 → shown.Writes a b → TakesUnused shown a b r
 takes_unused shown a b (Ok n) taken kept fails honest asked step = record {
@@ -119,7 +119,7 @@ takes_unused shown a b (Err e) taken kept fails honest asked step = record {
 }
 
 -- page n was given back, or all pages are as they were
-pub gives_back : {S X : Type 0} (shown : ShownPages S) (n : ℕ) (a b : S) (r : Result X Fault) → OnOk r (GivenBack (shown.state a) (shown.state b) n) → OnErr r (Rests (shown.state a) (shown.state b))
+pub gives_back : {S X : Type 0} (shown : ShownPages S) (n : ℕ) (a b : S) (r : Result X Fault) → OnOk r (GivenBack (shown.state a) (shown.state b) n) → OnErr r (KeepsEachPage (shown.state a) (shown.state b))
     → IfErr r (CallFails (IsTrue (shown.state b).is_honest × IsSome ((shown.state a).live n)) (shown.HasFailed a b) ⊥)
     → (IsTrue (shown.state b).is_honest → IsTrue (shown.state a).is_honest) → (shown.state b).asked ≤ (shown.state a).asked + 1 → shown.Writes a b → GivesBack shown n a b r
 gives_back shown n a b (Ok x) given kept fails honest asked step = record {
@@ -158,7 +158,7 @@ reads_after a b s t i j pager gate kept looks asked faults = record {
     still = λ r shut. looks.file (r.clean shut);
   };
   pager = pager;
-  rests = subst (λ x. Rests (pages_state_of a s) (pages_state b.cache x t)) (sym pager) (rested a.cache b.cache a.pager s t kept.pages kept.goes.others.honest);
+  rests = subst (λ x. KeepsEachPage (pages_state_of a s) (pages_state b.cache x t)) (sym pager) (rested a.cache b.cache a.pager s t kept.pages kept.goes.others.honest);
 }
   where
     gate_open : IsOpenOver a s → a.changed ≡ true → IsTrue t.is_honest → AllOpen (unit_file t b.cache.store.unit)
@@ -166,7 +166,7 @@ reads_after a b s t i j pager gate kept looks asked faults = record {
         (open_kept (unit_file s a.cache.store.unit) (unit_file t a.cache.store.unit) (r.gate changed (kept.goes.others.honest honest)) kept.goes.quiet)
 
 -- pages were changed behind an open gate
-pub goes_after : (a b : PagedFile) (s t : ShelfState) (i j : ℕ) → a.changed ≡ true → b.changed ≡ a.changed → b.pager.limit ≡ a.pager.limit → PartsGo a.cache b.cache s t i j → IsJoined b.cache b.pager t → Goes a b s t i j
+pub goes_after : (a b : PagedFile) (s t : ShelfState) (i j : ℕ) → a.changed ≡ true → b.changed ≡ a.changed → b.pager.limit ≡ a.pager.limit → PartsGo a.cache b.cache s t i j → IsJoined b.cache b.pager t → KeepsGate a b s t i j
 goes_after a b s t i j changed gate limit parts joined = record {
   parts = parts;
   gate = gate;

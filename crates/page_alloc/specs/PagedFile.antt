@@ -57,8 +57,8 @@ pub record IsNewPagedFile (held : PagedFile) (unit limit : ℕ) : Type 0 where
   pub changed : held.changed ≡ true
 
 -- what reads give is as it was, or is refused, or the file is refused after every crash
-abbrev pub StandsOrRefused : DeviceFile → DeviceFile → Type 0
-StandsOrRefused old new = SameOrRefused old new ⊎ AllRefused new
+abbrev pub IsKeptOrRefused : DeviceFile → DeviceFile → Type 0
+IsKeptOrRefused old new = SameOrRefused old new ⊎ AllRefused new
 
 -- these bytes have a closed gate, this header, and the pages that the cache showed, each of them whole
 pub record IsClosedWith (page : List ℕ) (cache : Cache) (shelf : ShelfState) (bytes : List ℕ) : Type 0 where

@@ -5,7 +5,7 @@ use Rattle.page_store.specs.ShelfState.{ShelfState}
 use Rattle.page_cache.specs.declared.cache.Cache.{Cache}
 use Rattle.page_cache.specs.Cached.{cached_pages_of}
 use Rattle.page_cache.specs.Calls.{KeepsPages}
-use Rattle.pages.specs.PagesState.{Rests}
+use Rattle.pages.specs.PagesState.{KeepsEachPage}
 use Rattle.page_alloc.specs.declared.pager.Pager.{Pager}
 use Rattle.page_alloc.specs.FreePage.{is_free, next_of}
 use Rattle.page_alloc.specs.Joining.{pages_state, free_pages, HasNoRoom, IsJoined, PartsGo, FaultsRose}
@@ -57,7 +57,8 @@ module _ {H : Type 0} (state : H → ShelfState) where
   pub record TakesPage (old new : Cache) (from to : Pager) (before after : H)
       (result : Result ℕ Fault) : Type 0 where
     pub taken : IfOk result (Taken (pages_state old from (state before)) (pages_state new to (state after)))
-    pub kept : OnErr result (Rests (pages_state old from (state before)) (pages_state new to (state after)))
+    pub kept : OnErr result (KeepsEachPage (pages_state old from (state before))
+        (pages_state new to (state after)))
     pub order : IsTrue (state after).is_honest → TakesInOrder from to (free_pages old from (state before))
         (free_pages new to (state after)) result
 
@@ -66,7 +67,8 @@ module _ {H : Type 0} (state : H → ShelfState) where
       (result : Result X Fault) : Type 0 where
     pub given : OnOk result (GivenBack (pages_state old from (state before))
         (pages_state new to (state after)) n)
-    pub kept : OnErr result (Rests (pages_state old from (state before)) (pages_state new to (state after)))
+    pub kept : OnErr result (KeepsEachPage (pages_state old from (state before))
+        (pages_state new to (state after)))
     pub order : IsTrue (state after).is_honest → IsSome ((pages_state old from (state before)).live n)
         → GivesInOrder n from to (free_pages old from (state before)) (free_pages new to (state after)) result
 

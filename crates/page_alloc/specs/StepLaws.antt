@@ -14,8 +14,8 @@ use Rattle.page_cache.specs.Quietly.{GoesQuietly}
 use Rattle.page_cache.proofs.QuietLemmas.{goes_nowhere, goes_then}
 use Rattle.page_alloc.specs.declared.paged_file.PagedFile.{PagedFile}
 use Rattle.page_alloc.specs.Joining.{PartsGo, FaultsRose}
-use Rattle.page_alloc.specs.PagedFile.{IsOpenOver, StandsOrRefused}
-use Rattle.page_alloc.specs.Steps.{Goes, ReadsFilePages, Moves}
+use Rattle.page_alloc.specs.PagedFile.{IsOpenOver, IsKeptOrRefused}
+use Rattle.page_alloc.specs.Steps.{KeepsGate, ReadsFilePages, MayOpenGate}
 
 pub parts_stay : (c : Cache) (s : ShelfState) (n : ℕ) → PartsGo c c s s n n
 parts_stay c s n = record {
@@ -44,7 +44,7 @@ failed_before i j k p q = omega arith
 pub failed_after : (i j k : ℕ) → i ≤ j → FaultsRose j k → FaultsRose i k
 failed_after i j k p q = omega arith
 
-pub goes_nothing : (a : PagedFile) (s : ShelfState) (n : ℕ) → Goes a a s s n n
+pub goes_nothing : (a : PagedFile) (s : ShelfState) (n : ℕ) → KeepsGate a a s s n n
 goes_nothing a s n = record {
   parts = parts_stay a.cache s n;
   gate = refl;
@@ -53,8 +53,9 @@ goes_nothing a s n = record {
   still = λ r shut. refl;
 }
 
-pub goes_on : (a b c : PagedFile) (x y z : ShelfState) (i j k : ℕ) → Goes a b x y i j → Goes b c y z j k
-    → Goes a c x z i k
+pub goes_on : (a b c : PagedFile) (x y z : ShelfState) (i j k : ℕ) → KeepsGate a b x y i j
+    → KeepsGate b c y z j k
+    → KeepsGate a c x z i k
 goes_on a b c x y z i j k ab bc = record {
   parts = parts_then a.cache b.cache c.cache x y z i j k ab.parts bc.parts;
   gate = bc.gate ∙ ab.gate;
@@ -83,7 +84,8 @@ reads_on a b c x y z i j k ab bc = record {
   };
 }
 
-pub goes_moves : (a b : PagedFile) (x y : ShelfState) (i j : ℕ) → Goes a b x y i j → Moves a b x y i j
+pub goes_moves : (a b : PagedFile) (x y : ShelfState) (i j : ℕ) → KeepsGate a b x y i j
+    → MayOpenGate a b x y i j
 goes_moves a b x y i j goes = record {
   unit = goes.parts.unit;
   cap = goes.parts.cap;
@@ -116,16 +118,17 @@ goes_moves a b x y i j goes = record {
     same : IsOpenOver a x → a.changed ≡ false → g ≡ f
     same r shut = same_place x y a.cache.store.unit (goes.still r shut) goes.parts.quietly.others.names
 
-stands_then : (f g h : DeviceFile) → Throughout (WasOrRefused g) g h → StandsOrRefused f g
-    → StandsOrRefused g h → StandsOrRefused f h
+stands_then : (f g h : DeviceFile) → Throughout (WasOrRefused g) g h → IsKeptOrRefused f g
+    → IsKeptOrRefused g h → IsKeptOrRefused f h
 stands_then f g h gh (inr all) next = inr (refused_after g h all gh)
 stands_then f g h gh (inl was) (inr all) = inr all
 stands_then f g h gh (inl was) (inl (inr refused)) = inl (inr refused)
 stands_then f g h gh (inl (inl same)) (inl (inl again)) = inl (inl (again ∙ same))
 stands_then f g h gh (inl (inr refused)) (inl (inl again)) = inl (inr (subst IsRefused (sym again) refused))
 
-pub moves_on : (a b c : PagedFile) (x y z : ShelfState) (i j k : ℕ) → Moves a b x y i j → Moves b c y z j k
-    → Moves a c x z i k
+pub moves_on : (a b c : PagedFile) (x y z : ShelfState) (i j k : ℕ) → MayOpenGate a b x y i j
+    → MayOpenGate b c y z j k
+    → MayOpenGate a c x z i k
 moves_on a b c x y z i j k ab bc = record {
   unit = bc.unit ∙ ab.unit;
   cap = bc.cap ∙ ab.cap;
@@ -151,6 +154,6 @@ moves_on a b c x y z i j k ab bc = record {
     images r honest = subst (λ n. Throughout (WasOrRefused (unit_file y n)) (unit_file y n)
         (unit_file z n)) ab.unit (bc.images r honest)
 
-    stands : IsOpenOver b y → IsTrue z.is_honest → StandsOrRefused (unit_file y unit) (unit_file z unit)
-    stands r honest = subst (λ n. StandsOrRefused (unit_file y n) (unit_file z n)) ab.unit
+    stands : IsOpenOver b y → IsTrue z.is_honest → IsKeptOrRefused (unit_file y unit) (unit_file z unit)
+    stands r honest = subst (λ n. IsKeptOrRefused (unit_file y n) (unit_file z n)) ab.unit
         (bc.stands r honest)

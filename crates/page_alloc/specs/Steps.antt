@@ -2,10 +2,10 @@
 use Rattle.std.specs.Prelude.{◌≡◌, ℕ, ◌≤◌, false, IsTrue}
 use Rattle.page_store.specs.ShelfState.{ShelfState, unit_file, KeepsOthers}
 use Rattle.page_cache.specs.HeaderCalls.{MayRefuse}
-use Rattle.pages.specs.PagesState.{PagesState, Rests}
+use Rattle.pages.specs.PagesState.{PagesState, KeepsEachPage}
 use Rattle.page_alloc.specs.declared.paged_file.PagedFile.{PagedFile}
 use Rattle.page_alloc.specs.Joining.{pages_state, PartsGo}
-use Rattle.page_alloc.specs.PagedFile.{IsOpenOver, StandsOrRefused}
+use Rattle.page_alloc.specs.PagedFile.{IsOpenOver, IsKeptOrRefused}
 
 -- what the pages of an open file show
 abbrev pub pages_state_of : PagedFile → ShelfState → PagesState
@@ -13,7 +13,7 @@ pages_state_of held shelf = pages_state held.cache held.pager shelf
 
 -- a call that leaves the gate and the limit of pages: behind a closed gate nothing is written,
 -- behind an open one each crash image begins as some image before did
-pub record Goes (old new : PagedFile) (before after : ShelfState) (failed fails : ℕ) : Type 0 where
+pub record KeepsGate (old new : PagedFile) (before after : ShelfState) (failed fails : ℕ) : Type 0 where
   pub parts : PartsGo old.cache new.cache before after failed fails
   pub gate : new.changed ≡ old.changed
   pub limit : new.pager.limit ≡ old.pager.limit
@@ -22,14 +22,14 @@ pub record Goes (old new : PagedFile) (before after : ShelfState) (failed fails 
 
 -- a call that only reads
 pub record ReadsFilePages (old new : PagedFile) (before after : ShelfState) (failed fails : ℕ) : Type 0 where
-  pub goes : Goes old new before after failed fails
+  pub goes : KeepsGate old new before after failed fails
   pub pager : new.pager ≡ old.pager
-  pub rests : Rests (pages_state_of old before) (pages_state_of new after)
+  pub rests : KeepsEachPage (pages_state_of old before) (pages_state_of new after)
 
 -- a call that may open the gate: at each moment a crash leaves what it could leave before, or a
 -- refused file. As many frames stay, and the limit of pages; the count of pages asked for does not
 -- fall
-pub record Moves (old new : PagedFile) (before after : ShelfState) (failed fails : ℕ) : Type 0 where
+pub record MayOpenGate (old new : PagedFile) (before after : ShelfState) (failed fails : ℕ) : Type 0 where
   pub unit : new.cache.store.unit ≡ old.cache.store.unit
   pub cap : new.cache.frames.cap ≡ old.cache.frames.cap
   pub limit : new.pager.limit ≡ old.pager.limit
@@ -39,9 +39,10 @@ pub record Moves (old new : PagedFile) (before after : ShelfState) (failed fails
   pub ready : IsOpenOver old before → IsOpenOver new after
   pub images : IsOpenOver old before → MayRefuse old.cache.store.unit before after
   pub stands : IsOpenOver old before → IsTrue after.is_honest →
-      StandsOrRefused (unit_file before old.cache.store.unit) (unit_file after old.cache.store.unit)
+      IsKeptOrRefused (unit_file before old.cache.store.unit) (unit_file after old.cache.store.unit)
 
 -- so, of shelves that show this state and count their faults so
-abbrev pub MovesOnShelf : {H : Type 0} → (H → ShelfState) → (H → ℕ) → (old new : PagedFile) → H → H → Type 0
-MovesOnShelf state count old new before after =
-    Moves old new (state before) (state after) (count before) (count after)
+abbrev pub MayOpenGateOnShelf : {H : Type 0} → (H → ShelfState) → (H → ℕ) → (old new : PagedFile) → H → H
+    → Type 0
+MayOpenGateOnShelf state count old new before after =
+    MayOpenGate old new (state before) (state after) (count before) (count after)

@@ -18,8 +18,8 @@ impl<'a, S: Shelf> Pages for FilePages<'a, S> {
     ghost use Rattle.std.proofs.Common.{◌∙◌};
     ghost use Rattle.page_alloc.specs.Joining.{FaultsRose as Failed};
     ghost use Rattle.page_alloc.specs.PagedFile.{IsOpenOver, is_begun};
-    ghost use Rattle.page_alloc.specs.Steps.{pages_state_of, ReadsFilePages, Goes as GoesOn};
-    ghost use Rattle.page_alloc.specs.Steps.{Moves as MovesOn};
+    ghost use Rattle.page_alloc.specs.Steps.{pages_state_of, ReadsFilePages, KeepsGate as GoesOn};
+    ghost use Rattle.page_alloc.specs.Steps.{MayOpenGate as MovesOn};
     ghost use Rattle.page_alloc.specs.StepLaws.{goes_nothing, goes_on, goes_moves, reads_nothing, reads_on};
     ghost use Rattle.page_alloc.specs.StepLaws.{moves_on, failed_before, failed_after};
 

@@ -4,11 +4,11 @@ ghost use Rattle.std.specs.NonZero.{non_zero_usize_get};
 ghost use Rattle.page_store.specs.ShelfState.{HasUnit, KeepsOthers, FaultHasCause};
 ghost use Rattle.page_cache.specs.Calls.{ShowsSame};
 ghost use Rattle.page_cache.specs.HeaderCalls.{OpensGate};
-ghost use Rattle.page_alloc.specs.PagedFile.{IsOpenOver, IsNewPagedFile, IsOldPagedFile, StandsOrRefused};
+ghost use Rattle.page_alloc.specs.PagedFile.{IsOpenOver, IsNewPagedFile, IsOldPagedFile, IsKeptOrRefused};
 ghost use Rattle.page_alloc.specs.PagedFile.{MayShut, IsShut, cache_of, counts_of, is_begun, begun_from};
 ghost use Rattle.page_alloc.specs.PagedFile.{unit_of_pages, most_held, asked_anew};
 ghost use Rattle.page_alloc.specs.Joining.{pages_counted};
-ghost use Rattle.page_alloc.specs.Steps.{MovesOnShelf};
+ghost use Rattle.page_alloc.specs.Steps.{MayOpenGateOnShelf};
 
 use crate::pager::Pager;
 use io_state::Fault;
@@ -41,7 +41,7 @@ impl PagedFile {
         ensures made { IfOk result (λ held. IsNewPagedFile held unit limit) }
         ensures ready { IfOk result (λ held. IsOpenOver held (S.state shelf.new)) }
         ensures frames { IfOk result (λ held. most_held held ≡ non_zero_usize_get frames) }
-        ensures opens { OpensGate S.state S.fault_count unit StandsOrRefused shelf.old shelf.new result }
+        ensures opens { OpensGate S.state S.fault_count unit IsKeptOrRefused shelf.old shelf.new result }
     {
         let mut store = Store::make(shelf, unit)?;
         store.write_page(shelf, 0, header)?;
@@ -104,7 +104,7 @@ impl PagedFile {
         ensures same { ShowsSame (cache_of self.old) (cache_of self.new) (S.state shelf.old)
             (S.state shelf.new) }
         ensures nothing { is_begun self.old ≡ true → (S.state shelf.new).file ≡ (S.state shelf.old).file }
-        ensures moves { MovesOnShelf S.state S.fault_count self.old self.new shelf.old shelf.new }
+        ensures moves { MayOpenGateOnShelf S.state S.fault_count self.old self.new shelf.old shelf.new }
         ensures cause { FaultHasCause (S.fault_count shelf.old) (S.fault_count shelf.new) result }
     {
         if self.changed {

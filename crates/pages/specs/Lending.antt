@@ -3,7 +3,7 @@ use Rattle.std.specs.Prelude.{ℕ, ◌+◌, ◌≤◌, List, Result, IsTrue, IfO
 use Rattle.std.specs.Borrow.{LendsSoOk, follows_so, RattleType, Bor, MutBor, Fml, Array, u8}
 use mathlib.Core.Option.{none}
 use Rattle.io_state.specs.declared.fault.Fault.{Fault}
-use Rattle.pages.specs.PagesState.{Shows, Rests, LeavesPage}
+use Rattle.pages.specs.PagesState.{Shows, KeepsEachPage, LeavesPage}
 use Rattle.pages.specs.PageChanges.{FindsNoDamage}
 use Rattle.pages.specs.Cause.{IsCaused}
 use Rattle.pages.specs.ShownPages.{ShownPages}
@@ -21,7 +21,8 @@ module _ (R : RattleType) (shown : ShownPages R.Denot) (s : MutBor R.Denot) (n :
   -- a page in use is shown as it is, and every page stays
   abbrev pub LendsToRead : Result (Bor (List ℕ)) Fault → Fml
   LendsToRead result = follows_so R R s.ghost_name none (λ _ _. ⊤) (λ after.
-      Rests (shown.state s.now) (shown.state after) × AsksForOne shown s.now after × shown.Reads s.now after
+      KeepsEachPage (shown.state s.now) (shown.state after) × AsksForOne shown s.now after
+      × shown.Reads s.now after
       × (IsTrue (shown.state after).is_honest → IfOk result (λ page. Shows (shown.state s.now) n page.now))
       × FindsNoDamage n (shown.state s.now) (shown.state after) result
       × FailsByCause shown s.now after result)
@@ -32,7 +33,7 @@ module _ (R : RattleType) (shown : ShownPages R.Denot) (s : MutBor R.Denot) (n :
       (λ after bytes. LeavesPage n bytes (shown.state s.now) (shown.state after)
       × AsksForOne shown s.now after × shown.Writes s.now after
       × (IsTrue (shown.state after).is_honest → IfOk result (λ page. Shows (shown.state s.now) n page.now)))
-      (λ after. Rests (shown.state s.now) (shown.state after) × AsksForOne shown s.now after
+      (λ after. KeepsEachPage (shown.state s.now) (shown.state after) × AsksForOne shown s.now after
       × shown.Reads s.now after
       × FindsNoDamage n (shown.state s.now) (shown.state after) result
       × FailsByCause shown s.now after result)

@@ -4,7 +4,7 @@ use Rattle.std.specs.Prelude.{OnErr}
 use Rattle.io_state.specs.declared.fault.Fault.{Fault}
 use Rattle.io_state.specs.declared.fault.Fault.TheVariants.{Damage}
 use Rattle.pages.specs.PageMap.{Writes, Takes, Gives}
-use Rattle.pages.specs.PagesState.{PagesState, Rests}
+use Rattle.pages.specs.PagesState.{PagesState, KeepsEachPage}
 use Rattle.pages.specs.Cause.{IsCaused}
 use Rattle.pages.specs.ShownPages.{ShownPages}
 use Rattle.pages.specs.PageCalls.{WritesPages}
@@ -72,7 +72,7 @@ module _ {S : Type 0} (shown : ShownPages S) where
   -- the gate is open, and all pages are as they were, at a fault too, which is no damage
   pub record OpensForChange {X : Type 0} (old new : S) (result : Result X Fault) : Type 0 where
     pub «open» : OnOk result (shown.CanChange new)
-    pub rests : Rests (shown.state old) (shown.state new)
+    pub rests : KeepsEachPage (shown.state old) (shown.state new)
     pub asked : (shown.state new).asked ≡ (shown.state old).asked
     pub damage : IfErr result (λ e. e ≢ Damage)
     pub cause : IfErr result (IsCaused (shown.HasFailed old new) ⊥)

@@ -19,7 +19,7 @@ abbrev pub Shows : PagesState → ℕ → List ℕ → Type 0
 Shows pages n bytes = IsSome (pages.live n) → pages.live n ≡ Some bytes
 
 -- no page has changed, and none was taken or given back
-pub record Rests (old new : PagesState) : Type 0 where
+pub record KeepsEachPage (old new : PagesState) : Type 0 where
   pub live : IsTrue new.is_honest → new.live ≡ old.live
   pub sound : IsTrue new.is_honest → new.is_sound ≡ old.is_sound
   pub available : new.available ≡ old.available

@@ -183,14 +183,14 @@ neither true b e f = e
 neither false b e f = f
 
 -- a name that no entry before has is not the name of this one of them
-abbrev Stands : Entry → List Entry → Type 0
-Stands entry before = (name : Option (List ℕ)) → is_name_of before name ≡ false → is_name_of (entry ∷ []) name ≡ false
+abbrev IsNamedBefore : Entry → List Entry → Type 0
+IsNamedBefore entry before = (name : Option (List ℕ)) → is_name_of before name ≡ false → is_name_of (entry ∷ []) name ≡ false
 
-stands_first : (entry : Entry) (before : List Entry) → Stands entry (entry ∷ before)
+stands_first : (entry : Entry) (before : List Entry) → IsNamedBefore entry (entry ∷ before)
 stands_first entry before None e = refl
 stands_first entry before (Some name) e = neither (is_named name entry.name) false (nor (is_named name entry.name) _ e).0 refl
 
-stands_more : (entry next : Entry) (before : List Entry) → Stands entry before → Stands entry (next ∷ before)
+stands_more : (entry next : Entry) (before : List Entry) → IsNamedBefore entry before → IsNamedBefore entry (next ∷ before)
 stands_more entry next before stands None e = refl
 stands_more entry next before stands (Some name) e = stands (Some name) (nor (is_named name next.name) (is_name_of before (Some name)) e).1
 
@@ -201,14 +201,14 @@ other_name entry name (Some other) is e =
     let here : bytes_eq name other ≡ false = subst (λ o. is_named other o ≡ false) is (nor (is_named other entry.name) false e).0 in
     nat_list_eq_equiv.symm other name ∙ here
 
-none_named : (entry : Entry) (name : List ℕ) (before : List Entry) (total : ℕ) (items : List PlacedEntry) → entry.name ≡ Some name → Stands entry before → ArePlaced before total items → is_name_of (map (λ item. item.entry) items) (Some name) ≡ false
+none_named : (entry : Entry) (name : List ℕ) (before : List Entry) (total : ℕ) (items : List PlacedEntry) → entry.name ≡ Some name → IsNamedBefore entry before → ArePlaced before total items → is_name_of (map (λ item. item.entry) items) (Some name) ≡ false
 none_named entry name before total [] is stands h = refl
 none_named entry name before total (item ∷ items) is stands h =
     neither (is_named name item.entry.name) _
     (other_name entry name item.entry.name is (stands item.entry.name (in_place before item.entry h.0).unnamed))
     (none_named entry name (item.entry ∷ before) (total + item.field.length) items is (stands_more entry item.entry before stands) h.2)
 
-unnamed_after : (entry : Entry) (before : List Entry) (total : ℕ) (items : List PlacedEntry) (name : Option (List ℕ)) → entry.name ≡ name → Stands entry before → ArePlaced before total items → is_name_of (map (λ item. item.entry) items) name ≡ false
+unnamed_after : (entry : Entry) (before : List Entry) (total : ℕ) (items : List PlacedEntry) (name : Option (List ℕ)) → entry.name ≡ name → IsNamedBefore entry before → ArePlaced before total items → is_name_of (map (λ item. item.entry) items) name ≡ false
 unnamed_after entry before total items None is stands h = refl
 unnamed_after entry before total items (Some name) is stands h = none_named entry name before total items is stands h
 

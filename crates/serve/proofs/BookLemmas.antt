@@ -17,7 +17,7 @@ use Rattle.deck_runner.proofs.FalseFileLaws.{stands_during, stands_behind}
 use Rattle.request_frames.specs.Request.{Described, Performed}
 use Rattle.file_session.specs.Files.{NumberedFile}
 use Rattle.file_session.specs.Steps.{AttachesName, file_described, with_bytes}
-use Rattle.serve.specs.Books.{Book, first_book, book_during, book_behind, AllStand, StandsByBook}
+use Rattle.serve.specs.Books.{Book, first_book, book_during, book_behind, AllStand, IsWithinBook}
 use Rattle.serve.specs.NoFalseFile.{trace_for_file}
 
 -- what is known of a file and its book: its library has it as unit 0; and where that library has not lied, and what the given one showed of the
@@ -28,7 +28,7 @@ pub record IsKept {S : Type 0} (shown : Shown S) (file : NumberedFile S) (book :
   pub truly : IsTrue (shown.is_honest file.memory.library) → shown.IsShownTruly book.given file.name → shown.IsShownTruly file.memory.library file.name
   pub standing : IsTrue (shown.is_honest file.memory.library) → shown.IsShownTruly book.given file.name
       → IsStanding file.memory.held (shown.world file.memory.library) 0
-  pub stands : StandsByBook shown file book
+  pub stands : IsWithinBook shown file book
 
 -- what is left of a name where the file of this name has left this
 abbrev trace_at : List ℕ → Trace → List ℕ → Trace

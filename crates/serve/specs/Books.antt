@@ -39,7 +39,7 @@ AllReal shown file book now =
 
 -- a file and its book: each name stands by its ledger now, and has had no false image since the
 -- file was described
-pub record StandsByBook {S : Type 0} (shown : Shown S) (file : NumberedFile S) (book : Book S) : Type 0 where
+pub record IsWithinBook {S : Type 0} (shown : Shown S) (file : NumberedFile S) (book : Book S) : Type 0 where
   pub now : AllStand shown file.name book file.memory.library file.memory.library
   pub since : AllReal shown file.name book file.memory.library
 
@@ -65,7 +65,7 @@ abbrev pub BookStandsAt : {S : Type 0} → Shown S → Option (NumberedFile S) �
 BookStandsAt shown None None = Unit {0}
 BookStandsAt shown None (Some book) = ⊥
 BookStandsAt shown (Some file) None = ⊥
-BookStandsAt shown (Some file) (Some book) = StandsByBook shown file book
+BookStandsAt shown (Some file) (Some book) = IsWithinBook shown file book
 
 abbrev pub BooksStandNow : {S : Type 0} → Shown S → JudgedFiles S → Type 0
 BooksStandNow shown judged = (number : ℕ)

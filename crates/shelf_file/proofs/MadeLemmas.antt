@@ -15,7 +15,7 @@ use Rattle.page_alloc.specs.declared.paged_file.PagedFile.{PagedFile}
 use Rattle.page_alloc.specs.Chain.{is_page}
 use Rattle.page_alloc.specs.Joining.{FaultsRose, available_of, page_limit}
 use Rattle.page_alloc.specs.PagedFile.{IsOpenOver, IsNewPagedFile, counts_of, most_held}
-use Rattle.page_alloc.specs.Steps.{Goes, pages_state_of}
+use Rattle.page_alloc.specs.Steps.{KeepsGate, pages_state_of}
 use Rattle.page_alloc.specs.StepLaws.{failed_after}
 use Rattle.page_alloc.proofs.OpenLemmas.{made_quietly}
 use Rattle.open_file.specs.Creating.{IsNewFile, IsNewOpenFile}
@@ -29,7 +29,7 @@ none_counted : (n : ℕ) → is_page 1 n ≡ false
 none_counted zero = refl
 none_counted (suc n) = rw (lt-ltb 0 (suc n) (omega arith), le-ltb (suc n) 1 (omega arith)) refl
 
-module _ (unit limit : ℕ) (a b : PagedFile) (s t : ShelfState) (failed fails : ℕ) (made : IsNewPagedFile a unit limit) (ready : IsOpenOver a s) (goes : Goes a b s t failed fails) where
+module _ (unit limit : ℕ) (a b : PagedFile) (s t : ShelfState) (failed fails : ℕ) (made : IsNewPagedFile a unit limit) (ready : IsOpenOver a s) (goes : KeepsGate a b s t failed fails) where
   all_open : IsTrue t.is_honest → AllOpen (unit_file s unit)
   all_open honest = subst (λ n. AllOpen (unit_file s n)) made.unit_is (ready.gate made.changed (goes.parts.quietly.others.honest honest))
 
@@ -88,7 +88,7 @@ at_err (Err e) P p = p
 
 -- what was made has as many frames as its pages had at the start, and their limit
 pub made_limits : (unit limit frames : ℕ) (a b : PagedFile) (s t : ShelfState) (failed fails : ℕ) → IsNewPagedFile a unit limit → most_held a ≡ frames
-    → Goes a b s t failed fails → (file : OpenFile) → HasLimits limit frames (record { file = file; pages = b })
+    → KeepsGate a b s t failed fails → (file : OpenFile) → HasLimits limit frames (record { file = file; pages = b })
 made_limits unit limit frames a b s t failed fails made cap goes file = record {
   limit = goes.limit ∙ ap page_limit made.pager;
   cap = goes.parts.cap ∙ cap;

@@ -17,7 +17,7 @@ use Rattle.pages.specs.Answer.{IsAnswer}
 use Rattle.record_layout.specs.Schema.{Schema}
 use Rattle.page_store.specs.ShelfState.{ShelfState}
 use Rattle.page_alloc.specs.Joining.{FaultsRose}
-use Rattle.page_alloc.specs.Steps.{ReadsFilePages, Moves, pages_state_of}
+use Rattle.page_alloc.specs.Steps.{ReadsFilePages, MayOpenGate, pages_state_of}
 use Rattle.page_alloc.specs.PagedFile.{is_begun, times_asked}
 use Rattle.open_file.specs.Stands.{Stands}
 use Rattle.open_file.specs.Faults.{IsCausedIn}
@@ -73,8 +73,8 @@ shown_on_shelf = record {
   CanChange = λ at. is_begun at.held.pages ≡ true;
   Reads = λ before after. OnlyReadsFile before.held after.held before.shelf after.shelf before.faults
       after.faults;
-  Begins = λ before after. Moves before.held.pages after.held.pages before.shelf after.shelf before.faults
-      after.faults;
+  Begins = λ before after. MayOpenGate before.held.pages after.held.pages before.shelf after.shelf
+      before.faults after.faults;
   HasFailed = λ before after. FaultsRose before.faults after.faults;
 }
 

@@ -9,7 +9,7 @@ use Rattle.page_store.specs.Moments.{Throughout}
 use Rattle.page_store.specs.ShelfState.{ShelfState, FileGoes, KeepsOthers, OnlyAnswers, FaultHasCause}
 use Rattle.page_store.specs.ShelfState.{unit_file}
 use Rattle.page_alloc.specs.Joining.{FaultsRose, pages_counted, pages_free}
-use Rattle.page_alloc.specs.PagedFile.{StandsOrRefused, counts_of, is_begun, unit_of_pages}
+use Rattle.page_alloc.specs.PagedFile.{IsKeptOrRefused, counts_of, is_begun, unit_of_pages}
 use Rattle.file_header.specs.declared.header.Header.{Header}
 use Rattle.open_file.specs.Faults.{IsCausedIn}
 use Rattle.shelf_file.specs.declared.look.Look.{Look}
@@ -41,7 +41,7 @@ pub record MakesOnShelf (unit limit frames : ℕ) (schema : Schema) (old new : C
   pub limits : IfOk result (HasLimits limit frames)
   pub images : IsTrue new.shelf.is_honest → Throughout (WasOrRefused (unit_file old.shelf unit))
       (unit_file old.shelf unit) (unit_file new.shelf unit)
-  pub failed : OnErr result (IsTrue new.shelf.is_honest → FileGoes unit old.shelf new.shelf StandsOrRefused)
+  pub failed : OnErr result (IsTrue new.shelf.is_honest → FileGoes unit old.shelf new.shelf IsKeptOrRefused)
   pub others : KeepsOthers unit old.shelf new.shelf
   pub count : old.faults ≤ new.faults
   pub cause : IfErr result (IsCausedIn false (FaultsRose old.faults new.faults) ⊥)

@@ -10,7 +10,7 @@ use Rattle.page_store.specs.Gate.{AllOpen, SameOrRefused, WasOrRefused}
 use Rattle.page_store.specs.Moments.{Throughout}
 use Rattle.page_store.proofs.OpenLemmas.{refused_open}
 use Rattle.page_store.specs.ShelfState.{ShelfState, unit_name, unit_file}
-use Rattle.page_alloc.specs.PagedFile.{StandsOrRefused}
+use Rattle.page_alloc.specs.PagedFile.{IsKeptOrRefused}
 use Rattle.shelf_file.specs.declared.look.Look.TheVariants.{Accepted, Refused}
 use Rattle.shelf_file.specs.declared.shelf_file.ShelfFile.{ShelfFile}
 use Rattle.shelf_file.specs.Named.{named_of}
@@ -76,17 +76,17 @@ module _ (u : ℕ) (schema : Schema) (r : Result ShelfFile Fault) (old new : Lib
 
   -- a file that was made has an open gate, and else it is as it was or refused
   same_or_refused : IsTrue new.shelf.is_honest → (x : Result ShelfFile Fault) → IfOk x (λ file. IsMade file u new.limit schema new.shelf)
-      → OnErr x (StandsOrRefused (unit_file old.shelf u) (unit_file new.shelf u)) → SameOrRefused (unit_file old.shelf u) (unit_file new.shelf u)
+      → OnErr x (IsKeptOrRefused (unit_file old.shelf u) (unit_file new.shelf u)) → SameOrRefused (unit_file old.shelf u) (unit_file new.shelf u)
   same_or_refused honest (Ok file) made failed =
       let seen = (unit_file new.shelf u).seen in inr (refused_open seen (gate_open u new.limit schema new.shelf file made honest seen (call.image_after honest)))
   same_or_refused honest (Err fault) made failed = one failed
     where
-      one : StandsOrRefused (unit_file old.shelf u) (unit_file new.shelf u) → SameOrRefused (unit_file old.shelf u) (unit_file new.shelf u)
+      one : IsKeptOrRefused (unit_file old.shelf u) (unit_file new.shelf u) → SameOrRefused (unit_file old.shelf u) (unit_file new.shelf u)
       one (inl stands) = stands
       one (inr all) = inr (all (unit_file new.shelf u).seen (call.image_after honest))
 
-  failed_now : (x : Result ShelfFile Fault) → IsTrue new.shelf.is_honest → OnErr x (IsTrue new.shelf.is_honest → StandsOrRefused (unit_file old.shelf u) (unit_file new.shelf u))
-      → OnErr x (StandsOrRefused (unit_file old.shelf u) (unit_file new.shelf u))
+  failed_now : (x : Result ShelfFile Fault) → IsTrue new.shelf.is_honest → OnErr x (IsTrue new.shelf.is_honest → IsKeptOrRefused (unit_file old.shelf u) (unit_file new.shelf u))
+      → OnErr x (IsKeptOrRefused (unit_file old.shelf u) (unit_file new.shelf u))
   failed_now (Ok file) honest failed = tt
   failed_now (Err fault) honest failed = failed honest
 

@@ -9,7 +9,7 @@ use Rattle.page_store.proofs.MomentLemmas.{throughout_weaker, throughout_first}
 use Rattle.page_store.proofs.OpenLemmas.{refused_open}
 use Rattle.page_store.specs.Gate.{AllOpen, SameOrRefused, WasOrRefused}
 use Rattle.page_store.specs.ShelfState.{KeepsOthers, unit_name, unit_file}
-use Rattle.page_alloc.specs.PagedFile.{StandsOrRefused, is_begun, unit_of_pages}
+use Rattle.page_alloc.specs.PagedFile.{IsKeptOrRefused, is_begun, unit_of_pages}
 use Rattle.file_header.specs.declared.header.Header.{Header}
 use Rattle.shelf_file.specs.declared.look.Look.TheVariants.{Accepted}
 use Rattle.shelf_file.specs.declared.shelf_file.ShelfFile.{ShelfFile}
@@ -96,9 +96,9 @@ module _ (u : ℕ) (file after : ShelfFile) (old new : LibraryState) (call : Mov
   -- what reads give is as it was, or refused
   same_or_refused : IsTrue new.shelf.is_honest → SameOrRefused (unit_file old.shelf u) (unit_file new.shelf u)
   same_or_refused honest =
-      one (subst (λ unit. StandsOrRefused (unit_file old.shelf unit) (unit_file new.shelf unit)) before.unit_is (call.moves.stands before.ready.over honest))
+      one (subst (λ unit. IsKeptOrRefused (unit_file old.shelf unit) (unit_file new.shelf unit)) before.unit_is (call.moves.stands before.ready.over honest))
     where
-      one : StandsOrRefused (unit_file old.shelf u) (unit_file new.shelf u) → SameOrRefused (unit_file old.shelf u) (unit_file new.shelf u)
+      one : IsKeptOrRefused (unit_file old.shelf u) (unit_file new.shelf u) → SameOrRefused (unit_file old.shelf u) (unit_file new.shelf u)
       one (inl stands) = stands
       one (inr all) = inr (all (unit_file new.shelf u).seen (call.image_after honest))
 

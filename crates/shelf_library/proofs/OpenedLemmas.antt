@@ -8,7 +8,7 @@ use Rattle.record_layout.specs.Schema.{Schema}
 use Rattle.page_store.specs.declared.shelf.Shelf.{Ghosts}
 use Rattle.page_store.specs.Images.{Leaves}
 use Rattle.page_store.specs.ShelfState.{ShelfState, unit_name}
-use Rattle.page_alloc.specs.Steps.{Moves}
+use Rattle.page_alloc.specs.Steps.{MayOpenGate}
 use Rattle.shelf_file.specs.declared.shelf_file.ShelfFile.{ShelfFile}
 use Rattle.shelf_file.specs.Calls.{OnlyReadsFile}
 use Rattle.shelf_file.specs.Standing.{IsReady, file_read_off, is_broken_file, pages_behind, schema_behind}
@@ -93,7 +93,7 @@ module _ {S : Type 0} (shelf : Ghosts S) (s : ShelfLibrary S shelf) (u : ℕ)
     -- a call that may have opened the gate
     pub moves_at :
         (after : ShelfFile) (now : S)
-        → Moves (pages_behind file) (pages_behind after) (shelf.state s.shelf) (shelf.state now) (shelf.fault_count s.shelf) (shelf.fault_count now)
+        → MayOpenGate (pages_behind file) (pages_behind after) (shelf.state s.shelf) (shelf.state now) (shelf.fault_count s.shelf) (shelf.fault_count now)
         → IsReady after (shelf.state now)
         → ((x : S) (name : List ℕ) → IsTrue (shelf.state x).is_honest → Leaves ((shelf.state x).file name) ((shelf.state x).file name).seen)
         → MovesAt u file after (library_state shelf s) (state_left shelf s now (slice_set s.units.items u (Opened after)))

@@ -4,7 +4,7 @@ use Rattle.record_layout.specs.Schema.{Schema}
 use Rattle.io_state.specs.declared.fault.Fault.{Fault}
 use Rattle.page_store.specs.Images.{Leaves}
 use Rattle.page_store.specs.ShelfState.{unit_file}
-use Rattle.page_alloc.specs.Steps.{Moves}
+use Rattle.page_alloc.specs.Steps.{MayOpenGate}
 use Rattle.indexed_file.specs.FileChange.{FileChange}
 use Rattle.shelf_file.specs.declared.shelf_file.ShelfFile.{ShelfFile}
 use Rattle.shelf_file.specs.Calls.{ChangesOnShelf, on_shelf}
@@ -21,7 +21,7 @@ pub record MovesAt (u : ℕ) (file after : ShelfFile) (old new : LibraryState) :
   pub holds : new.held ≡ slice_set old.held u (Opened after)
   pub limit : new.limit ≡ old.limit
   pub frames : new.frames ≡ old.frames
-  pub moves : Moves (pages_behind file) (pages_behind after) old.shelf new.shelf old.faults new.faults
+  pub moves : MayOpenGate (pages_behind file) (pages_behind after) old.shelf new.shelf old.faults new.faults
   pub ready : IsReady after new.shelf
   -- what reads give is one of the images
   pub image_before : IsTrue old.shelf.is_honest → Leaves (unit_file old.shelf u) (unit_file old.shelf u).seen

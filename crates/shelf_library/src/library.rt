@@ -42,7 +42,7 @@ pub struct ShelfLibrary<S: Shelf> {
 }
 
 /// What a unit holds after a look, and what is answered.
-fn told(look: Result<Look, Fault>) -> (Held, Result<Seen, Fault>)
+fn held_and_seen(look: Result<Look, Fault>) -> (Held, Result<Seen, Fault>)
     ensures held { result.0 ≡ held_after look }
     ensures seen { result.1 ≡ seen_after look }
 {
@@ -194,7 +194,7 @@ impl<S: Shelf> Library for ShelfLibrary<S> {
     }
 
     fn look(&mut self, u: usize) -> Result<Seen, Fault> {
-        let (held, seen) = told(look_at(&mut self.shelf, u));
+        let (held, seen) = held_and_seen(look_at(&mut self.shelf, u));
         self.units[u] = held;
         seen
     }

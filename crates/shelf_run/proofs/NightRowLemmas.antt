@@ -16,7 +16,7 @@ use Rattle.deck_reader.specs.declared.deck.Deck.{Deck}
 use Rattle.deck_runner.specs.Line.{Line}
 use Rattle.deck_runner.specs.Run.{Run}
 use Rattle.deck_runner.specs.Running.{unit_names}
-use Rattle.deck_runner.specs.NoFalseFile.{Ledger, first_ledger, StandNow, IsOfLedger, during, behind, StandsBy, trace_for, Judged, IsSafeStretch, IsSafeRun, IsSafeBrokenOff}
+use Rattle.deck_runner.specs.NoFalseFile.{Ledger, first_ledger, AreWithinLedgers, IsOfLedger, during, behind, StandsBy, trace_for, Judged, IsSafeStretch, IsSafeRun, IsSafeBrokenOff}
 use Rattle.deck_runner.specs.Steps.{AreStepsOf, AreStepsInPart, IsRunOf, IsRunInPart, until_stop, closes_from}
 use Rattle.deck_runner.specs.Stretches.{name_by, trace_by}
 use Rattle.deck_runner.proofs.FalseFileLaws.{behind_stretch}
@@ -94,21 +94,21 @@ same_trace world deck names statement run lines name =
 
 module _ (start : LibraryState) where
   stand_step : (statement : Statement) (before : Judged LibraryState) (lines : List Line) (after : Judged LibraryState) → IsSafeStretch shown_of_state start statement before lines after
-      → StandNow shown_of_state start before → StandNow shown_of_state start after
+      → AreWithinLedgers shown_of_state start before → AreWithinLedgers shown_of_state start after
   stand_step statement before lines after is now name =
       subst (λ (ledger : Ledger). StandsBy shown_of_state.moments start name ledger after.point.library after.point.library) (sym (is.ledger name))
       (behind_stretch shown_of_state (λ first last. ends first.shelf last.shelf)
       start statement before.point lines after.point is.stretch name (before.ledger name) (now name))
 
   pub stand_after : (statements : List Statement) (before : Judged LibraryState) (lines : List Line) (after : Judged LibraryState) → AreStepsOf (IsSafeStretch shown_of_state start) statements before lines after
-      → StandNow shown_of_state start before → StandNow shown_of_state start after
-  stand_after [] before lines after are now = subst (λ (at : Judged LibraryState). StandNow shown_of_state start at) (sym are.1) now
+      → AreWithinLedgers shown_of_state start before → AreWithinLedgers shown_of_state start after
+  stand_after [] before lines after are now = subst (λ (at : Judged LibraryState). AreWithinLedgers shown_of_state start at) (sym are.1) now
   stand_after (statement ∷ rest) before lines after are now =
       stand_after rest are.1 are.2 after are.4 (stand_step statement before are.0 are.1 are.3 now)
 
   pub stand_at_point : (statements : List Statement) (before : Judged LibraryState) (seen : List Line) (point : Judged LibraryState) (later : List Line) (after : Judged LibraryState)
       → RunGoesThrough (IsSafeStretch shown_of_state start) (λ judged. closes_from 0 judged.point.run.files) statements before seen point later after
-      → StandNow shown_of_state start before → StandNow shown_of_state start point
+      → AreWithinLedgers shown_of_state start before → AreWithinLedgers shown_of_state start point
   stand_at_point statements before seen point later after (inl go) now = stand_after go.3.0 before seen point go.3.3 now
   stand_at_point statements before seen point later after (inr go) now =
       stand_after go.4.0 go.0 go.2 point go.4.3 (stand_after (until_stop statements) before go.1 go.0 go.3 now)

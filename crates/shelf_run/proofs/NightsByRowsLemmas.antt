@@ -9,7 +9,7 @@ use Rattle.deck_reader.specs.declared.deck.Deck.{Deck}
 use Rattle.deck_reader.specs.Deck.{IsDeck}
 use Rattle.deck_runner.specs.Beginning.{run_before, IsAttached}
 use Rattle.deck_runner.specs.Line.{Line}
-use Rattle.deck_runner.specs.NoFalseFile.{Judged, first_ledger, IsOfLedger, StandNow, RunsWhole, RunsInPart}
+use Rattle.deck_runner.specs.NoFalseFile.{Judged, first_ledger, IsOfLedger, AreWithinLedgers, RunsWhole, RunsInPart}
 use Rattle.deck_runner.proofs.FalseFileRuns.{begun_stands}
 use Rattle.shelf_library.specs.Crashes.{moments_on}
 use Rattle.shelf_library.specs.MomentLaws.{joins, ends}
@@ -94,7 +94,7 @@ module _ (may : Allowed) (night : AnyNight) (honest : IsTrue night.new.is_honest
             let LeftHere : List Line → Named → Type 0 = LeftBehind start deck name (may name) now seen deck.statements (watched start deck name first_mark (begins is.0)) in
             let gives : (named : Named) → LeftHere (seen ++ later) named → P named =
             λ named left. (deck, is_deck, shown_of_state.world start, allowed, told (λ all. LeftHere all named) (subst (λ (all : List Line). LeftHere all named) (sym through.3) left)) in
-            let first : StandNow shown_of_state start (begins is.0) =
+            let first : AreWithinLedgers shown_of_state start (begins is.0) =
             λ other was. begun_stands shown_of_state (λ first last. ends first.shelf last.shelf) start is.0 other (is.2.images other) (was refl) in
             let stands = stand_at_point start deck.statements (begins is.0) seen point later is.1 through.4 first in
             let ran = cover_through start deck name (may name) now P deck.statements (begins is.0) seen point later is.1 is.2.names gives (stands name) through.4 in
@@ -103,7 +103,7 @@ module _ (may : Allowed) (night : AnyNight) (honest : IsTrue night.new.is_honest
             subst (λ (from : ShelfState). Covers P from night.new name) through.2 to_end
 
       -- the end of the run
-      at_end : (P : Named → Type 0) (after : Judged LibraryState) → after.point.library ≡ end → StandNow shown_of_state start after
+      at_end : (P : Named → Type 0) (after : Judged LibraryState) → after.point.library ≡ end → AreWithinLedgers shown_of_state start after
           → ((named : Named) → IsOfLedger (may name) (after.ledger name) named → P named) → Covers P night.new night.new name
       at_end P after same stands gives =
           subst (λ (library : LibraryState). Covers P library.shelf library.shelf name) same

@@ -218,15 +218,15 @@ fn standard_error_may_refuse_too(rt: HostRuntime) -> Result<(), Fail> {
     Ok(())
 }
 
-fn told(rt: &HostRuntime, fault: Fault) -> (u8, Vec<u8>) {
+fn reported(rt: &HostRuntime, fault: Fault) -> (u8, Vec<u8>) {
     let mut err = Vec::new(rt.alloc());
-    let status = fault.tell(&mut err);
+    let status = fault.report(&mut err);
     (status, err)
 }
 
 #[test]
 fn want_of_memory_is_told(rt: HostRuntime) {
-    let (status, err) = told(&rt, Fault::of_input(ErrorKind::OutOfMemory.into()));
+    let (status, err) = reported(&rt, Fault::of_input(ErrorKind::OutOfMemory.into()));
     assert_equal(&rt, status, 4);
     assert_equal(&rt, err.as_slice(), b"cobix: memory\n");
 }

@@ -27,7 +27,7 @@ fn codes() -> Result<Schema, Fault> {
 }
 
 /// The lines that are told of the end of a load, or that the name has a file.
-fn told(alloc: Global, end: ShelfEnd) -> Result<String, Fail> {
+fn reported(alloc: Global, end: ShelfEnd) -> Result<String, Fail> {
     match end {
         ShelfEnd::IsThere => Ok("is there".to_string(alloc)?),
         ShelfEnd::Loaded(end) => {
@@ -71,7 +71,7 @@ pub fn loads_with<P: Progress>(
         NonZeroUsize::MIN,
         progress,
     );
-    Ok((shelf, told(alloc, end?)?))
+    Ok((shelf, reported(alloc, end?)?))
 }
 
 /// The lines of the records of the file on a shelf, whose units are forgotten.

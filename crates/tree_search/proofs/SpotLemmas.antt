@@ -16,7 +16,7 @@ use Rattle.tree_search.specs.Tree.{TreeOf, page_of, entries_of, pages_of, size_o
 use Rattle.tree_search.specs.Stored.{Holds, IsLeafAt, IsInnerAt}
 use Rattle.tree_search.specs.Descent.{Steps}
 use Rattle.tree_search.specs.Search.{first_of, head_of, IsFound, IsPlace, FirstChild}
-use Rattle.tree_search.specs.Spot.{IsInLeaf, IsInLeafIf, IsEntryAt, StandsAt, FoundAt, Spots, SpotsFirst, SpotsInLeaf, SpotsFirstInLeaf}
+use Rattle.tree_search.specs.Spot.{IsInLeaf, IsInLeafIf, IsEntryAt, IsAtSpot, FoundAt, Spots, SpotsFirst, SpotsInLeaf, SpotsFirstInLeaf}
 use Rattle.tree_search.proofs.RowLemmas.{each_left, each_right}
 use Rattle.tree_search.proofs.DescentLemmas.{step_of}
 use Rattle.tree_search.proofs.DescentLemmas.{below}
@@ -40,7 +40,7 @@ in_leaf leaf place es spot None at = tt
 in_leaf leaf place es spot (Some e) at = at.1
 
 -- an entry of a tree that is one leaf
-pub whole_leaf : (shape : Shape) (pages : PageMap) (page : ℕ) (es : List (List ℕ)) (spot : Spot) (entry : List ℕ) → IsLeafAt shape pages page es → IsInLeaf page es spot entry → StandsAt shape pages (page ∷ []) es spot entry
+pub whole_leaf : (shape : Shape) (pages : PageMap) (page : ℕ) (es : List (List ℕ)) (spot : Spot) (entry : List ℕ) → IsLeafAt shape pages page es → IsInLeaf page es spot entry → IsAtSpot shape pages (page ∷ []) es spot entry
 whole_leaf shape pages page es spot entry at is = record {
   before = [];
   here = es;
@@ -61,7 +61,7 @@ whole_leaf_if shape pages page es spot (Some e) at is = whole_leaf shape pages p
 -- ---- below an inner node
 
 in_row : (shape : Shape) (pages : PageMap) (k page : ℕ) (xs : List (TreeOf k)) (front : List (TreeOf k)) (here : TreeOf k) (back : List (TreeOf k)) (spot : Spot) (entry : List ℕ) → xs ≡ front ++ here ∷ back
-    → StandsAt shape pages (pages_of k here) (entries_of k here) spot entry → StandsAt shape pages (page ∷ flat_map (pages_of k) xs) (flat_map (entries_of k) xs) spot entry
+    → IsAtSpot shape pages (pages_of k here) (entries_of k here) spot entry → IsAtSpot shape pages (page ∷ flat_map (pages_of k) xs) (flat_map (entries_of k) xs) spot entry
 in_row shape pages k page xs front here back spot entry is at =
     let f = flat_map (entries_of k) front in
     let b = flat_map (entries_of k) back in
@@ -90,13 +90,13 @@ first_entry leaf es spot e some at = head_at es some ∙ ap Some (sym (at.1.entr
 pub spots_first_leaf : (shape : Shape) (pages : PageMap) (h page : ℕ) (spot : Spot) (out : Result (ArrayVec ℕ) Fault) → h ≡ 0 → SpotsFirstInLeaf shape pages page spot out → SpotsFirst shape pages h page spot out
 spots_first_leaf shape pages zero page spot (Ok e) none first t holds is filled some =
     let at = subst (λ (n : ℕ). IsLeafAt shape pages n t.1) is holds in
-    subst (λ (n : ℕ). StandsAt shape pages (n ∷ []) t.1 spot e.items) (sym is) (whole_leaf shape pages page t.1 spot e.items at (first t.1 at))
+    subst (λ (n : ℕ). IsAtSpot shape pages (n ∷ []) t.1 spot e.items) (sym is) (whole_leaf shape pages page t.1 spot e.items at (first t.1 at))
 spots_first_leaf shape pages zero page spot (Err e) none first t holds is filled some = tt
 spots_first_leaf shape pages (suc h) page spot out none first t holds is filled some = absurd (omega arith)
 
 first_in_row : (shape : Shape) (pages : PageMap) (k child : ℕ) (xs : List (TreeOf k)) (spot : Spot) (out : Result (ArrayVec ℕ) Fault) → 0 < length xs → Each (Holds shape pages k) xs
     → child ≡ slice_index (map (page_of k) xs) 0 → Each (λ c. (least_entries shape k ≤ size_of k c) × IsHalfFull shape k c) xs → SpotsFirst shape pages k child spot out
-    → (page : ℕ) (front all : List (TreeOf k)) → all ≡ front ++ xs → IfOk out (λ e. StandsAt shape pages (page ∷ flat_map (pages_of k) all) (flat_map (entries_of k) all) spot e.items)
+    → (page : ℕ) (front all : List (TreeOf k)) → all ≡ front ++ xs → IfOk out (λ e. IsAtSpot shape pages (page ∷ flat_map (pages_of k) all) (flat_map (entries_of k) all) spot e.items)
 first_in_row shape pages k child [] spot out some holds is filled first page front all split = absurd (omega arith)
 first_in_row shape pages k child (x ∷ xs) spot (Err e) some holds is filled first page front all split = tt
 first_in_row shape pages k child (x ∷ xs) spot (Ok e) some holds is filled first page front all split =

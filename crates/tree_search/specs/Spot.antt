@@ -54,7 +54,7 @@ TellsStart shape pages page place start result =
     → IsAnswer result (λ told. told ≡ begins_with start (slice_index_or entries place []))
 
 -- the entry stands at this place of this leaf of these pages, between these of the entries
-pub record StandsAt (shape : Shape) (pages : PageMap) (own : List ℕ) (entries : List (List ℕ))
+pub record IsAtSpot (shape : Shape) (pages : PageMap) (own : List ℕ) (entries : List (List ℕ))
     (spot : Spot) (entry : List ℕ) : Type 0 where
   pub before : List (List ℕ)
   pub here : List (List ℕ)
@@ -69,7 +69,7 @@ pub record StandsAt (shape : Shape) (pages : PageMap) (own : List ℕ) (entries 
 -- where the entry that was found stands
 abbrev pub FoundAt : Shape → PageMap → List ℕ → List (List ℕ) → Spot → Option (ArrayVec ℕ) → Type 0
 FoundAt shape pages own entries spot None = ⊤
-FoundAt shape pages own entries spot (Some entry) = StandsAt shape pages own entries spot entry.items
+FoundAt shape pages own entries spot (Some entry) = IsAtSpot shape pages own entries spot entry.items
 
 abbrev pub Spots : Shape → PageMap → (h page : ℕ) → Spot → Result (Option (ArrayVec ℕ)) Fault → Type 0
 Spots shape pages h page spot result =
@@ -79,7 +79,7 @@ Spots shape pages h page spot result =
 abbrev pub SpotsFirst : Shape → PageMap → (h page : ℕ) → Spot → Result (ArrayVec ℕ) Fault → Type 0
 SpotsFirst shape pages h page spot result =
     (t : TreeOf h) → Holds shape pages h t → page_of h t ≡ page → IsHalfFull shape h t → 1 ≤ size_of h t
-    → IfOk result (λ e. StandsAt shape pages (pages_of h t) (entries_of h t) spot e.items)
+    → IfOk result (λ e. IsAtSpot shape pages (pages_of h t) (entries_of h t) spot e.items)
 
 -- the same of a leaf alone
 abbrev pub SpotsInLeaf : Shape → PageMap → ℕ → Spot → Result (Option (ArrayVec ℕ)) Fault → Type 0

@@ -4,7 +4,7 @@ use Rattle.command_line.proofs.performing.program.Goals as goal
 pub returns-clause-did : goal.returns-clause-did
 returns-clause-did g c = record {
   outcome = c.perform-ran.result.1;
-  status_is = c.tell.ensures;
+  status_is = c.report.ensures;
   did = c.perform-ran.ensures.did;
   session = c.perform-ran.ensures.session;
   right = c.perform-ran.ensures.right;

@@ -25,7 +25,7 @@ returns g c = record {
   found = λ honest entries own stands.
       let index = c.args.self.now in
       let long : length c.args.value.now ≡ index.width = omega arith in
-      finds alt_bytes (IsAltEntry index.width index.prime) c.told.result c.in_ok-found.found c.told.ensures.told _ _
+      finds alt_bytes (IsAltEntry index.width index.prime) c.decode_found.result c.in_ok-found.found c.decode_found.ensures.told _ _
       (alt_has_at index c.as_slice.result.now c.args.value.now c.args.stamp (c.as_slice.ensures.value ∙ c.rank_key-wanted.ensures) long c.ranges.stamp.fits) entries stands.each
       (c.in_ok-found.ensures.found honest (map alt_bytes entries) own stands.tree).answer;
   reads = search rules;

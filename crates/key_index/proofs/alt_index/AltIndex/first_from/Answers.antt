@@ -20,7 +20,7 @@ returns g c = record {
   found = λ honest entries own stands.
       let index = c.args.self.now in
       let short : length c.args.value.now ≤ index.width = omega arith in
-      finds alt_bytes (IsAltEntry index.width index.prime) c.told.result c.in_ok-found.found c.told.ensures.told _ _ (alt_from_at index c.args.value.now short) entries stands.each
+      finds alt_bytes (IsAltEntry index.width index.prime) c.decode_found.result c.in_ok-found.found c.decode_found.ensures.told _ _ (alt_from_at index c.args.value.now short) entries stands.each
       (c.in_ok-found.ensures.found honest (map alt_bytes entries) own stands.tree).answer;
   reads = search rules;
 }

@@ -46,6 +46,6 @@ returns-in-Some g c = record {
       let long : length v ≡ index.width = omega arith in
       let first = rw c.in-Some.is at (c.in_ok-found.ensures.found honest (map alt_bytes entries) own stands.tree).answer in
       let the = the_first index v c.as_slice.result.now c.as_slice-2.result.now long (c.as_slice.ensures.value ∙ c.rank_key-least.ensures) (c.as_slice-2.ensures.value ∙ c.rank_key-greatest.ensures) entries stands.each c.in-Some.field-0 first in
-      subst (λ (r : Result (Option AltFirst) Fault). IsAnswer r (IsAltFirst v entries)) (sym (c.told_first.ensures.told the.entry the.fits the.bytes)) (record { answer = the.is_first; no_damage = tt });
+      subst (λ (r : Result (Option AltFirst) Fault). IsAnswer r (IsAltFirst v entries)) (sym (c.decode_first.ensures.told the.entry the.fits the.bytes)) (record { answer = the.is_first; no_damage = tt });
   reads = search rules;
 }

@@ -15,7 +15,7 @@ pub returns : goal.returns
 returns g c = record {
   found = λ honest entries own stands.
       let index = c.args.self.now in
-      finds alt_bytes (IsAltEntry index.width index.prime) c.told.result c.in_ok-found.found c.told.ensures.told _ _ (alt_past_at index c.as_slice.result.now c.args.value.now (c.as_slice.ensures.value ∙ c.greatest_key-key.ensures ∙ ap (λ (n : ℕ). greatest_key n (n + 8) c.args.value.now) c.from-width.ensures)) entries stands.each
+      finds alt_bytes (IsAltEntry index.width index.prime) c.decode_found.result c.in_ok-found.found c.decode_found.ensures.told _ _ (alt_past_at index c.as_slice.result.now c.args.value.now (c.as_slice.ensures.value ∙ c.greatest_key-key.ensures ∙ ap (λ (n : ℕ). greatest_key n (n + 8) c.args.value.now) c.from-width.ensures)) entries stands.each
       (c.in_ok-found.ensures.found honest (map alt_bytes entries) own stands.tree).answer;
   reads = search rules;
 }

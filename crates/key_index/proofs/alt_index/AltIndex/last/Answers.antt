@@ -14,7 +14,7 @@ pub returns : goal.returns
 returns g c = record {
   found = λ honest entries own stands.
       let index = c.args.self.now in
-      finds_last alt_bytes (IsAltEntry index.width index.prime) c.told.result c.in_ok-found.found c.told.ensures.told entries stands.each
+      finds_last alt_bytes (IsAltEntry index.width index.prime) c.decode_found.result c.in_ok-found.found c.decode_found.ensures.told entries stands.each
       (c.in_ok-found.ensures.found honest (map alt_bytes entries) own stands.tree).answer;
   reads = search rules;
 }

@@ -14,7 +14,7 @@ pub returns : goal.returns
 returns g c = record {
   found = λ honest entries own stands.
       let index = c.args.self.now in
-      finds prime_bytes (IsPrimeEntry index.width) c.told.result c.in_ok-found.found c.told.ensures.told _ _ (prime_from_at index c.args.value.now) entries stands.each
+      finds prime_bytes (IsPrimeEntry index.width) c.decode_found.result c.in_ok-found.found c.decode_found.ensures.told _ _ (prime_from_at index c.args.value.now) entries stands.each
       (c.in_ok-found.ensures.found honest (map prime_bytes entries) own stands.tree).answer;
   reads = search rules;
 }

@@ -14,26 +14,26 @@ returns-in-None-clause-finds g c = record {
   kept = search rules;
 }
 
-pub returns-in_err-tell-in-Some-clause-finds : goal.returns-in_err-tell-in-Some-clause-finds
-returns-in_err-tell-in-Some-clause-finds g c =
-    fails_finding c.from_residual-in_err-tell-in-Some.result _ c.from_residual-in_err-tell-in-Some.ensures.1 _ _ _ _ _ _ _
+pub returns-in_err-found_of-in-Some-clause-finds : goal.returns-in_err-found_of-in-Some-clause-finds
+returns-in_err-found_of-in-Some-clause-finds g c =
+    fails_finding c.from_residual-in_err-found_of-in-Some.result _ c.from_residual-in_err-found_of-in-Some.ensures.1 _ _ _ _ _ _ _
     (λ honest file stands.
-    let before = g.met.P.Pages.writes_honestly c.first_of.new.pages c.tell.new.pages (g.met.P.Pages.reads_writes c.first_of.new.pages c.tell.new.pages c.tell.ensures.keeps.reads.step) honest in
+    let before = g.met.P.Pages.writes_honestly c.first_of.new.pages c.found_of.new.pages (g.met.P.Pages.reads_writes c.first_of.new.pages c.found_of.new.pages c.found_of.ensures.keeps.reads.step) honest in
     let still = subst (λ p. Stands c.args.self.now p file) (sym (g.met.P.Pages.reads_live c.args.pages.now c.first_of.new.pages c.first_of.ensures.reads.step before)) stands in
     let found = rw (c.in-Some.is, c.as_slice.ensures.value) at (c.in_ok-entry.ensures.found before file stands).answer in
     let first = first_row c.args.self.now.schema c.args.k file c.args.key.now.items c.in-Some.field-0 stands.sound found in
-    (c.in_err-tell-in-Some.ensures.found honest file still c.args.k first.of.row first.is first.repeated).answered.no_damage)
-    c.in_err-tell-in-Some.ensures.keeps.kept
+    (c.in_err-found_of-in-Some.ensures.found honest file still c.args.k first.of.row first.is first.repeated).answered.no_damage)
+    c.in_err-found_of-in-Some.ensures.keeps.kept
 
-pub returns-in_ok-tell-in-Some-clause-finds : goal.returns-in_ok-tell-in-Some-clause-finds
-returns-in_ok-tell-in-Some-clause-finds g c = record {
+pub returns-in_ok-found_of-in-Some-clause-finds : goal.returns-in_ok-found_of-in-Some-clause-finds
+returns-in_ok-found_of-in-Some-clause-finds g c = record {
   found = λ honest file stands.
-      let before = g.met.P.Pages.writes_honestly c.first_of.new.pages c.tell.new.pages (g.met.P.Pages.reads_writes c.first_of.new.pages c.tell.new.pages c.tell.ensures.keeps.reads.step) honest in
+      let before = g.met.P.Pages.writes_honestly c.first_of.new.pages c.found_of.new.pages (g.met.P.Pages.reads_writes c.first_of.new.pages c.found_of.new.pages c.found_of.ensures.keeps.reads.step) honest in
       let still = subst (λ p. Stands c.args.self.now p file) (sym (g.met.P.Pages.reads_live c.args.pages.now c.first_of.new.pages c.first_of.ensures.reads.step before)) stands in
       let found = rw (c.in-Some.is, c.as_slice.ensures.value) at (c.in_ok-entry.ensures.found before file stands).answer in
       let first = first_row c.args.self.now.schema c.args.k file c.args.key.now.items c.in-Some.field-0 stands.sound found in
-      found_it c.args.self.now.schema c.args.k file c.args.key.now.items c.in-Some.field-0.entry first.of c.in_ok-tell-in-Some.field-0 c.args.area.now c.tell.new.area
-      (c.in_ok-tell-in-Some.ensures.found honest file still c.args.k first.of.row first.is first.repeated);
+      found_it c.args.self.now.schema c.args.k file c.args.key.now.items c.in-Some.field-0.entry first.of c.in_ok-found_of-in-Some.field-0 c.args.area.now c.found_of.new.area
+      (c.in_ok-found_of-in-Some.ensures.found honest file still c.args.k first.of.row first.is first.repeated);
   none = search rules;
   kept = search rules;
 }

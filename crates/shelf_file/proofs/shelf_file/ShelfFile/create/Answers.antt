@@ -6,7 +6,7 @@ use Rattle.page_store.specs.Gate.{WasOrRefused}
 use Rattle.page_store.specs.Moments.{Throughout}
 use Rattle.page_store.specs.ShelfState.{unit_file, FileGoes}
 use Rattle.page_alloc.specs.Joining.{FaultsRose}
-use Rattle.page_alloc.specs.PagedFile.{StandsOrRefused}
+use Rattle.page_alloc.specs.PagedFile.{IsKeptOrRefused}
 use Rattle.open_file.specs.Faults.{IsCausedIn}
 use Rattle.shelf_file.specs.Shelves.{IsMade}
 use Rattle.shelf_file.specs.Standing.{HasLimits}
@@ -35,7 +35,7 @@ returns-in_err-file g c =
           (made_images unit limit a _ _ _ _ _ made ready goes old c.create.ensures.opens.images);
       failed =
           at_end (λ s. OnErr c.from_residual-in_err-file.result
-          (IsTrue (g.S.Shelf.state s).is_honest → FileGoes unit (g.S.Shelf.state c.args.shelf.now) (g.S.Shelf.state s) StandsOrRefused))
+          (IsTrue (g.S.Shelf.state s).is_honest → FileGoes unit (g.S.Shelf.state c.args.shelf.now) (g.S.Shelf.state s) IsKeptOrRefused))
           _ _ c.shelf-1.given.1 c.create-2.ensures.takes.writes.step.1
           (at_err c.from_residual-in_err-file.result _ (λ honest. inr (made_refused unit limit a _ _ _ _ _ made ready goes honest)));
       others = first_of (search rules, grind (arith, common_steps));

@@ -27,8 +27,8 @@ index_mut-requires g c =
 pub invariant_of-self : goal.invariant_of-self
 invariant_of-self g c =
     let s = c.args.self.now in
-    let call = looks_at g.S.Shelf s c.args.u c.requires.attached c.look_at.result c.look_at.new.shelf c.told-held.result.0
-    c.told-held.ensures.held c.look_at.ensures in
+    let call = looks_at g.S.Shelf s c.args.u c.requires.attached c.look_at.result c.look_at.new.shelf c.held_and_seen-held.result.0
+    c.held_and_seen-held.ensures.held c.look_at.ensures in
     let after = units_looked _ _ _ _ call in
     record {
       room = s.room;
@@ -46,23 +46,23 @@ module _ (g : given.Over) (c : goal.Joined-index_mut-held g) where
 
   abbrev after : LibraryState
   after = state_left g.S.Shelf c.args.self.now c.look_at.new.shelf
-      (slice_set c.args.self.now.units.items c.args.u c.told-held.result.0)
+      (slice_set c.args.self.now.units.items c.args.u c.held_and_seen-held.result.0)
 
   call : LooksAt c.args.u c.look_at.result before after
-  call = looks_at g.S.Shelf c.args.self.now c.args.u c.requires.attached c.look_at.result c.look_at.new.shelf c.told-held.result.0
-      c.told-held.ensures.held c.look_at.ensures
+  call = looks_at g.S.Shelf c.args.self.now c.args.u c.requires.attached c.look_at.result c.look_at.new.shelf c.held_and_seen-held.result.0
+      c.held_and_seen-held.ensures.held c.look_at.ensures
 
 pub returns-clause-seen : goal.returns-clause-seen
 returns-clause-seen g c honest =
     subst (λ (told : Result Seen Fault). IfOk told (λ seen.
     seen ≡ seen_of (named_at (world_of (before g c).shelf (before g c).held) c.args.u)))
-    (sym c.told-held.ensures.seen) (look_seen c.args.u c.look_at.result (before g c) (after g c) (call g c) honest)
+    (sym c.held_and_seen-held.ensures.seen) (look_seen c.args.u c.look_at.result (before g c) (after g c) (call g c) honest)
 
 pub returns-clause-holding : goal.returns-clause-holding
 returns-clause-holding g c =
     subst (λ (told : Result Seen Fault). IfOk told (λ seen.
     holding_at (world_of (after g c).shelf (after g c).held) c.args.u ≡ looked_at seen))
-    (sym c.told-held.ensures.seen) (look_holding c.args.u c.look_at.result (before g c) (after g c) (call g c))
+    (sym c.held_and_seen-held.ensures.seen) (look_holding c.args.u c.look_at.result (before g c) (after g c) (call g c))
 
 pub returns-clause-named : goal.returns-clause-named
 returns-clause-named g c = look_named c.args.u c.look_at.result (before g c) (after g c) (call g c)
@@ -70,4 +70,4 @@ returns-clause-named g c = look_named c.args.u c.look_at.result (before g c) (af
 pub returns-clause-opens : goal.returns-clause-opens
 returns-clause-opens g c =
     look_opens (library_state g.S.Shelf) c.args.u c.look_at.result c.args.self.now _ (call g c)
-    c.told-held.result.1 c.told-held.ensures.seen
+    c.held_and_seen-held.result.1 c.held_and_seen-held.ensures.seen

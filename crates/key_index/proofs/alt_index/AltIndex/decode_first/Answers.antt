@@ -1,7 +1,7 @@
 use Rattle.std.proofs.Common.{Ok, Some, sym, ap, ◌∙◌}
 use Rattle.key_index.specs.declared.entry.AltEntry.{AltEntry}
 use Rattle.key_index.proofs.FirstLemmas.{no_fault, one_entry, some_entry}
-use Rattle.key_index.proofs.alt_index.AltIndex.told_first.Goals as goal
+use Rattle.key_index.proofs.alt_index.AltIndex.decode_first.Goals as goal
 
 pub returns-in_err-entry-clause-told : goal.returns-in_err-entry-clause-told
 returns-in_err-entry-clause-told c e fits same = absurd (no_fault _ _ (sym c.in_err-entry.was ∙ c.decode.ensures.told (Some e) fits (ap Some same)))

@@ -1,6 +1,6 @@
 use Rattle.open_file.proofs.ExitLemmas.{fails_reading}
 use Rattle.open_file.proofs.DeliverLemmas.{told}
-use Rattle.open_file.proofs.open_file.OpenFile.tell.Goals as goal
+use Rattle.open_file.proofs.open_file.OpenFile.found_of.Goals as goal
 
 pub returns-in_err-length-clause-found : goal.returns-in_err-length-clause-found
 returns-in_err-length-clause-found g c honest file stands k row is same =
