@@ -3,3 +3,4 @@ pub mod MetLemmas
 pub mod AskLemmas
 pub mod FlagLemmas
 pub mod ShapeLemmas
+pub mod ArgLemmas

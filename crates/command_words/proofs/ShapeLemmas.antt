@@ -1,10 +1,13 @@
 -- What each argument and each subcommand makes of the program.
-use Rattle.std.proofs.Common.{◌∙◌, ap, ap₂, refl, Result, IfOk}
+use Rattle.std.proofs.Common.{◌≡◌, ◌∙◌, false, ap, ap₂, refl, Result, IfOk}
 use Rattle.std.specs.Prelude.{◌||◌}
 use Rattle.std.proofs.lemmas.Result.{IfOk-weaker}
+use Rattle.clap.specs.Simple.{app_of_fields}
 use Rattle.clap.specs.Words.{AddsArg, AddsSubcommand, App, Rule, Shape, app_of, with_rule, with_subcommand}
 use Rattle.clap.specs.declared.builder.arg.Arg.{Arg}
 use Rattle.clap.specs.declared.builder.command.Command.{Command}
+use Rattle.clap.specs.declared.builder.command.Command.TheOpen.{Command-F}
+use Rattle.clap.specs.declared.builder.command.Command.TheViews.{out-Command}
 use Rattle.command_words.specs.Commands.{HasRule, HasShape, IsApp, IsLocal}
 
 -- as it is
@@ -34,4 +37,12 @@ pub with_command : {app : App} {shape : Shape} {old sub new : Command} → AddsS
 with_command added is sub = record {
   shape = added.shape sub.local ∙ ap₂ with_subcommand is.shape (ap (λ (a : App). a.top) sub.shape);
   local = added.globals ∙ ap₂ ◌||◌ is.local sub.local;
+}
+
+-- a command whose fields are these
+pub with_fields : {app : App} (new : Command) (fields : Command-F Command) → out-Command new ≡ fields → app_of_fields fields ≡ app
+    → fields.has_globals ≡ false → IsApp app new
+with_fields new fields is shape local = record {
+  shape = ap app_of_fields is ∙ shape;
+  local = ap (λ (f : Command-F Command). f.has_globals) is ∙ local;
 }

@@ -1,6 +1,6 @@
 //! The subcommands, with their words and options.
 ghost use Rattle.std.specs.Prelude.{◌≡◌, IfOk};
-ghost use Rattle.clap.specs.Words.{app_of};
+ghost use Rattle.clap.specs.Words.{App, Shape, app_of, with_subcommand};
 ghost use Rattle.clap.specs.Simple.{new_shape};
 ghost use Rattle.command_words.specs.Commands.{IsLocal, IsApp, HasShape, with_files, with_limits, with_quiet};
 ghost use Rattle.command_words.specs.Commands.{with_deck, with_values, with_bounds, with_form};
@@ -360,39 +360,49 @@ fn program<'a>(alloc: Global) -> Command<'a>
     versioned(alloc).subcommand_required(true)
 }
 
+/// The program with this subcommand too, where memory was there for both.
+fn with_added<'a>(
+    program: Result<Command<'a>, AllocError>,
+    added: Result<Command<'a>, AllocError>,
+) -> Result<Command<'a>, AllocError>
+    ensures { (app : App) (shape : Shape) → IfOk program.entry (IsApp app) → IfOk added.entry (HasShape shape)
+        → IfOk result (IsApp (with_subcommand app shape)) }
+{
+    let whole = program?;
+    let subcommand = added?;
+    whole.subcommand(subcommand)
+}
+
 /// The program with the subcommands that run, check and serve.
 fn with_runs<'a>(alloc: Global) -> Result<Command<'a>, AllocError>
     ensures { IfOk result (IsApp runs_app) }
 {
-    program(alloc)
-        .subcommand(run_command(alloc)?)?
-        .subcommand(check_command(alloc)?)?
-        .subcommand(serve_command(alloc)?)
+    let run = with_added(Ok(program(alloc)), run_command(alloc));
+    let check = with_added(run, check_command(alloc));
+    with_added(check, serve_command(alloc))
 }
 
 /// The program with these, and those that tell of a file, of a number or of a deck.
 fn with_lists<'a>(alloc: Global) -> Result<Command<'a>, AllocError>
     ensures { IfOk result (IsApp lists_app) }
 {
-    with_runs(alloc)?
-        .subcommand(schema_command(alloc)?)?
-        .subcommand(explain_command(alloc)?)?
-        .subcommand(deck_command(alloc)?)
+    let schema = with_added(with_runs(alloc), schema_command(alloc));
+    let explain = with_added(schema, explain_command(alloc));
+    with_added(explain, deck_command(alloc))
 }
 
 /// The program with these, and those that list or load records or write a deck in COBOL.
 fn with_records<'a>(alloc: Global) -> Result<Command<'a>, AllocError>
     ensures { IfOk result (IsApp records_app) }
 {
-    with_lists(alloc)?
-        .subcommand(list_command(alloc)?)?
-        .subcommand(cobol_command(alloc)?)?
-        .subcommand(load_command(alloc)?)
+    let list = with_added(with_lists(alloc), list_command(alloc));
+    let cobol = with_added(list, cobol_command(alloc));
+    with_added(cobol, load_command(alloc))
 }
 
 /// The program with all its subcommands.
 pub fn command<'a>(alloc: Global) -> Result<Command<'a>, AllocError>
     ensures { IfOk result (λ command. app_of command ≡ program_app) }
 {
-    with_records(alloc)?.subcommand(stat_command(alloc)?)
+    with_added(with_records(alloc), stat_command(alloc))
 }

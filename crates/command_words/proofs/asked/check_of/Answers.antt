@@ -2,7 +2,7 @@ use Rattle.std.proofs.Common.{rules, ◌≡◌, List, Some, map, sym, subst, Bor
 use Rattle.std.specs.Prelude.{codes}
 use Rattle.clap.specs.Words.{Row, Text, all_of, found_of, rows_of}
 use Rattle.command_words.specs.Asks.{IsQuietRequest}
-use Rattle.command_words.proofs.MetLemmas.{no_texts, same_rows, texts_read}
+use Rattle.command_words.proofs.MetLemmas.{no_texts, same_rows, some_not_none, texts_read}
 use Rattle.command_words.proofs.asked.check_of.Goals as goal
 
 pub returns-in_ok-files-in-Some-get_strs-clause-some : goal.returns-in_ok-files-in-Some-get_strs-clause-some
@@ -29,3 +29,9 @@ returns-in-None-get_strs-clause-none c =
     λ none files quiet check.
     let f = found_of c.in-Some.check.now in
     no_texts f (codes "file") c.get_strs.result c.get_strs.ensures c.in-None-get_strs.is check.rows (same_rows c.in-Some.ensures.some check.is) files check.files_given
+
+pub returns-in_ok-files-in-Some-get_strs-clause-none : goal.returns-in_ok-files-in-Some-get_strs-clause-none
+returns-in_ok-files-in-Some-get_strs-clause-none c = λ none files quiet check. some_not_none none
+
+pub returns-in-None-clause-none : goal.returns-in-None-clause-none
+returns-in-None-clause-none c = λ none files quiet check. c.met.ensures.none c.in-None.is check.rows check.is

@@ -1,9 +1,12 @@
 use Rattle.std.proofs.Common.{List, subst}
 use Rattle.std.specs.Prelude.{codes}
 use Rattle.clap.specs.Words.{Row, found_of, rows_of}
-use Rattle.command_words.proofs.MetLemmas.{no_text, same_rows, text_read}
+use Rattle.command_words.proofs.MetLemmas.{no_text, same_rows, some_not_none, text_read}
 use Rattle.command_words.proofs.FlagLemmas.{GivenFlag, flag_read, no_flag}
 use Rattle.command_words.proofs.asked.cobol_of.Goals as goal
+
+pub returns-in_err-cobol-clause-none : goal.returns-in_err-cobol-clause-none
+returns-in_err-cobol-clause-none c = λ none deck fixed cobol. c.met.ensures.none c.in_err-cobol.was cobol.rows cobol.is
 
 pub returns-in_err-deck-clause-none : goal.returns-in_err-deck-clause-none
 returns-in_err-deck-clause-none c =
@@ -31,3 +34,6 @@ returns-clause-some c =
       fixed_given = fixed.1;
       fixed_is = fixed.2;
     }
+
+pub returns-clause-none : goal.returns-clause-none
+returns-clause-none c = λ none deck fixed cobol. some_not_none none

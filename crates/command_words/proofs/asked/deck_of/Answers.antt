@@ -1,7 +1,10 @@
 use Rattle.std.specs.Prelude.{codes}
 use Rattle.clap.specs.Words.{found_of, rows_of}
-use Rattle.command_words.proofs.MetLemmas.{no_text, same_rows, text_read}
+use Rattle.command_words.proofs.MetLemmas.{no_text, same_rows, some_not_none, text_read}
 use Rattle.command_words.proofs.asked.deck_of.Goals as goal
+
+pub returns-in_err-listed-clause-none : goal.returns-in_err-listed-clause-none
+returns-in_err-listed-clause-none c = λ none deck listed. c.met.ensures.none c.in_err-listed.was listed.rows listed.is
 
 pub returns-in_err-deck-clause-none : goal.returns-in_err-deck-clause-none
 returns-in_err-deck-clause-none c =
@@ -17,3 +20,6 @@ returns-clause-some c =
       is = c.in_ok-listed.ensures.some;
       deck_given = text_read f (codes "deck") _ c.in_ok-deck.ensures;
     }
+
+pub returns-clause-none : goal.returns-clause-none
+returns-clause-none c = λ none deck listed. some_not_none none

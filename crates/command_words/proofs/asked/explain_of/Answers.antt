@@ -1,7 +1,10 @@
 use Rattle.std.specs.Prelude.{codes}
 use Rattle.clap.specs.Words.{found_of, rows_of}
-use Rattle.command_words.proofs.MetLemmas.{no_text, same_rows, text_read}
+use Rattle.command_words.proofs.MetLemmas.{no_text, same_rows, some_not_none, text_read}
 use Rattle.command_words.proofs.asked.explain_of.Goals as goal
+
+pub returns-in_err-explain-clause-none : goal.returns-in_err-explain-clause-none
+returns-in_err-explain-clause-none c = λ none kind number explain. c.met.ensures.none c.in_err-explain.was explain.rows explain.is
 
 pub returns-in_err-kind-clause-none : goal.returns-in_err-kind-clause-none
 returns-in_err-kind-clause-none c =
@@ -24,3 +27,6 @@ returns-clause-some c =
       kind_given = text_read f (codes "kind") _ c.in_ok-kind.ensures;
       number_given = text_read f (codes "number") _ c.in_ok-number.ensures;
     }
+
+pub returns-clause-none : goal.returns-clause-none
+returns-clause-none c = λ none kind number explain. some_not_none none

@@ -1,7 +1,7 @@
 use Rattle.std.proofs.Common.{refl}
 use Rattle.std.specs.Prelude.{codes}
 use Rattle.clap.specs.Words.{found_of, rows_of}
-use Rattle.command_words.proofs.MetLemmas.{no_text, text_read}
+use Rattle.command_words.proofs.MetLemmas.{no_text, some_not_none, text_read}
 use Rattle.command_words.proofs.asked.form_of.Goals as goal
 
 pub returns-in_err-kind-clause-none : goal.returns-in_err-kind-clause-none
@@ -19,3 +19,6 @@ returns-clause-some c =
       deck_is = text_read f (codes "deck") _ c.get_str-3.ensures;
       name_is = text_read f (codes "name") _ c.get_str-4.ensures;
     }
+
+pub returns-clause-none : goal.returns-clause-none
+returns-clause-none c = λ none form given. some_not_none none

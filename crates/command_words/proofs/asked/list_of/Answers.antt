@@ -4,13 +4,16 @@ use Rattle.std.specs.Str.Parse.{ParsesUnsigned, ExplainsUnsignedError, HasUnsign
 use Rattle.std.specs.declared.num.ParseIntError.{ParseIntError}
 use Rattle.clap.specs.Words.{Row, found_of, rows_of}
 use Rattle.command_words.specs.Asks.{IsForm, IsQuietRequest}
-use Rattle.command_words.proofs.MetLemmas.{no_text, same_rows, text_read}
+use Rattle.command_words.proofs.MetLemmas.{no_text, same_rows, some_not_none, text_read}
 use Rattle.command_words.proofs.NumberLemmas.{Given, is_read, none_read}
 use Rattle.command_words.proofs.asked.list_of.Goals as goal
 
 -- what a number of so many bits is read of a text as
 abbrev Gives : ℕ → List ℕ → Result ℕ ParseIntError → Type 0
 Gives bits text read = ParsesUnsigned bits 10 text read × ExplainsUnsignedError 10 text read × HasUnsignedDigitsIfOk text read
+
+pub returns-in_err-list-clause-none : goal.returns-in_err-list-clause-none
+returns-in_err-list-clause-none c = λ none file key from to first form quiet list. c.met.ensures.none c.in_err-list.was list.rows list.is
 
 pub returns-in_err-file-clause-none : goal.returns-in_err-file-clause-none
 returns-in_err-file-clause-none c =
@@ -66,3 +69,6 @@ returns-clause-some c =
       form_is = c.in_ok-form.ensures.some;
       quiet_is = c.in_ok-quiet.ensures.some;
     }
+
+pub returns-clause-none : goal.returns-clause-none
+returns-clause-none c = λ none file key from to first form quiet list. some_not_none none

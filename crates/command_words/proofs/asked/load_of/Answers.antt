@@ -2,9 +2,14 @@ use Rattle.std.proofs.Common.{List, subst}
 use Rattle.std.specs.Prelude.{codes}
 use Rattle.clap.specs.Words.{Row, found_of, rows_of}
 use Rattle.command_words.specs.Asks.{AreLimits, IsQuietRequest}
-use Rattle.command_words.proofs.MetLemmas.{no_text, same_rows, text_read}
+use Rattle.command_words.proofs.MetLemmas.{no_text, same_rows, some_not_none, text_read}
 use Rattle.command_words.proofs.FlagLemmas.{GivenFlag, flag_read, no_flag}
 use Rattle.command_words.proofs.asked.load_of.Goals as goal
+
+pub returns-in_err-load-clause-none : goal.returns-in_err-load-clause-none
+returns-in_err-load-clause-none c =
+    λ none deck folder file text form into pages frames quiet load.
+    c.met.ensures.none c.in_err-load.was load.rows load.is
 
 pub returns-in_err-deck-clause-none : goal.returns-in_err-deck-clause-none
 returns-in_err-deck-clause-none c =
@@ -74,3 +79,6 @@ returns-clause-some c =
       limits = c.in_ok-limits.ensures.some;
       quiet_is = c.in_ok-quiet.ensures.some;
     }
+
+pub returns-clause-none : goal.returns-clause-none
+returns-clause-none c = λ none deck folder file text form into pages frames quiet load. some_not_none none

@@ -1,7 +1,10 @@
 use Rattle.std.specs.Prelude.{codes}
 use Rattle.clap.specs.Words.{found_of, rows_of}
-use Rattle.command_words.proofs.MetLemmas.{no_text, same_rows, text_read}
+use Rattle.command_words.proofs.MetLemmas.{no_text, same_rows, some_not_none, text_read}
 use Rattle.command_words.proofs.asked.schema_of.Goals as goal
+
+pub returns-in_err-schema-clause-none : goal.returns-in_err-schema-clause-none
+returns-in_err-schema-clause-none c = λ none file deck name schema. c.met.ensures.none c.in_err-schema.was schema.rows schema.is
 
 pub returns-in_err-file-clause-none : goal.returns-in_err-file-clause-none
 returns-in_err-file-clause-none c =
@@ -19,3 +22,6 @@ returns-clause-some c =
       deck_is = text_read f (codes "deck") _ c.get_str-2.ensures;
       name_is = text_read f (codes "name") _ c.get_str-3.ensures;
     }
+
+pub returns-clause-none : goal.returns-clause-none
+returns-clause-none c = λ none file deck name schema. some_not_none none

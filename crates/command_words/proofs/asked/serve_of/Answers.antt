@@ -2,8 +2,11 @@ use Rattle.std.proofs.Common.{List, subst}
 use Rattle.std.specs.Prelude.{codes}
 use Rattle.clap.specs.Words.{Row, found_of, rows_of}
 use Rattle.command_words.specs.Asks.{AreLimits}
-use Rattle.command_words.proofs.MetLemmas.{no_text, same_rows, text_read}
+use Rattle.command_words.proofs.MetLemmas.{no_text, same_rows, some_not_none, text_read}
 use Rattle.command_words.proofs.asked.serve_of.Goals as goal
+
+pub returns-in_err-serve-clause-none : goal.returns-in_err-serve-clause-none
+returns-in_err-serve-clause-none c = λ none folder pages frames serve. c.met.ensures.none c.in_err-serve.was serve.rows serve.is
 
 pub returns-in_err-folder-clause-none : goal.returns-in_err-folder-clause-none
 returns-in_err-folder-clause-none c =
@@ -26,3 +29,6 @@ returns-clause-some c =
       folder_given = text_read f (codes "folder") _ c.in_ok-folder.ensures;
       limits = c.in_ok-limits.ensures.some;
     }
+
+pub returns-clause-none : goal.returns-clause-none
+returns-clause-none c = λ none folder pages frames serve. some_not_none none

@@ -1,7 +1,10 @@
 use Rattle.std.specs.Prelude.{codes}
 use Rattle.clap.specs.Words.{found_of, rows_of}
-use Rattle.command_words.proofs.MetLemmas.{no_text, same_rows, text_read}
+use Rattle.command_words.proofs.MetLemmas.{no_text, same_rows, some_not_none, text_read}
 use Rattle.command_words.proofs.asked.stat_of.Goals as goal
+
+pub returns-in_err-stat-clause-none : goal.returns-in_err-stat-clause-none
+returns-in_err-stat-clause-none c = λ none file stat. c.met.ensures.none c.in_err-stat.was stat.rows stat.is
 
 pub returns-in_err-file-clause-none : goal.returns-in_err-file-clause-none
 returns-in_err-file-clause-none c =
@@ -17,3 +20,6 @@ returns-clause-some c =
       is = c.in_ok-stat.ensures.some;
       file_given = text_read f (codes "file") _ c.in_ok-file.ensures;
     }
+
+pub returns-clause-none : goal.returns-clause-none
+returns-clause-none c = λ none file stat. some_not_none none

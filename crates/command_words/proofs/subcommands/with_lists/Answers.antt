@@ -1,9 +1,8 @@
-use Rattle.std.proofs.lemmas.Result.{IfOk-weaker}
-use Rattle.command_words.proofs.ShapeLemmas.{with_command}
+use Rattle.command_words.specs.CommandLine.{schema_shape, explain_shape, deck_shape}
 use Rattle.command_words.proofs.subcommands.with_lists.Goals as goal
 
 pub returns : goal.returns
 returns c =
-    let one = with_command c.in_ok-subcommand.ensures c.in_ok-with_runs.ensures c.in_ok-schema_command.ensures in
-    let two = with_command c.in_ok-subcommand-2.ensures one c.in_ok-explain_command.ensures in
-    IfOk-weaker c.subcommand-3.result _ _ (λ command added. with_command added two c.in_ok-deck_command.ensures) c.subcommand-3.ensures
+    let schemas = c.with_added-schema.ensures _ schema_shape c.with_runs.ensures c.schema_command.ensures in
+    let explains = c.with_added-explain.ensures _ explain_shape schemas c.explain_command.ensures in
+    c.with_added.ensures _ deck_shape explains c.deck_command.ensures

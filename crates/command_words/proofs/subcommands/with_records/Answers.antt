@@ -1,9 +1,8 @@
-use Rattle.std.proofs.lemmas.Result.{IfOk-weaker}
-use Rattle.command_words.proofs.ShapeLemmas.{with_command}
+use Rattle.command_words.specs.CommandLine.{list_shape, cobol_shape, load_shape}
 use Rattle.command_words.proofs.subcommands.with_records.Goals as goal
 
 pub returns : goal.returns
 returns c =
-    let one = with_command c.in_ok-subcommand.ensures c.in_ok-with_lists.ensures c.in_ok-list_command.ensures in
-    let two = with_command c.in_ok-subcommand-2.ensures one c.in_ok-cobol_command.ensures in
-    IfOk-weaker c.subcommand-3.result _ _ (λ command added. with_command added two c.in_ok-load_command.ensures) c.subcommand-3.ensures
+    let lists = c.with_added-list.ensures _ list_shape c.with_lists.ensures c.list_command.ensures in
+    let cobols = c.with_added-cobol.ensures _ cobol_shape lists c.cobol_command.ensures in
+    c.with_added.ensures _ load_shape cobols c.load_command.ensures

@@ -1,0 +1,7 @@
+use Rattle.command_words.proofs.ArgLemmas.{with_long}
+use Rattle.std.specs.Prelude.{codes}
+use Rattle.clap.specs.Words.{Text}
+use Rattle.command_words.proofs.arguments.name.Goals as goal
+
+pub returns : goal.returns
+returns c = with_long _ c.text.result c.long.result c.text.ensures _ c.long.ensures

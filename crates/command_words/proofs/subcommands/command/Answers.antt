@@ -1,0 +1,8 @@
+use Rattle.std.proofs.lemmas.Result.{IfOk-weaker}
+use Rattle.command_words.specs.CommandLine.{stat_shape}
+use Rattle.command_words.proofs.subcommands.command.Goals as goal
+
+pub returns : goal.returns
+returns c =
+    IfOk-weaker c.with_added.result _ _ (λ command is. is.shape)
+    (c.with_added.ensures _ stat_shape c.with_records.ensures c.stat_command.ensures)
