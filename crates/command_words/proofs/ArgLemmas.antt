@@ -1,6 +1,6 @@
 -- What each call of a builder makes of the rule of an argument.
-use Rattle.std.proofs.Common.{◌≡◌, ◌∙◌, true, List, [], ◌∷◌, Option, Some, sym, subst, ap, Bor}
-use Rattle.clap.specs.Words.{Rule, Text, rule_of}
+use Rattle.std.proofs.Common.{◌≡◌, ◌∙◌, true, [], ◌∷◌, Option, Some, sym, subst, ap, Bor}
+use Rattle.clap.specs.Words.{Rule, Text}
 use Rattle.clap.specs.declared.builder.action.ArgAction.{ArgAction}
 use Rattle.clap.specs.declared.builder.arg.Arg.{Arg}
 use Rattle.clap.specs.declared.builder.texts.Texts.TheVariants.{One}

@@ -1,8 +1,8 @@
 //! The subcommands, with their words and options.
 ghost use Rattle.std.specs.Prelude.{◌≡◌, IfOk};
-ghost use Rattle.clap.specs.Words.{App, Shape, app_of, with_subcommand};
+ghost use Rattle.clap.specs.Words.{App, Rule, Shape, app_of, with_rule, with_subcommand};
 ghost use Rattle.clap.specs.Simple.{new_shape};
-ghost use Rattle.command_words.specs.Commands.{IsLocal, IsApp, HasShape, with_files, with_limits, with_quiet};
+ghost use Rattle.command_words.specs.Commands.{HasRule, IsLocal, IsApp, HasShape, with_files, with_limits, with_quiet};
 ghost use Rattle.command_words.specs.Commands.{with_deck, with_values, with_bounds, with_form};
 ghost use Rattle.command_words.specs.Commands.{with_file_words};
 ghost use Rattle.command_words.specs.Commands.{with_text};
@@ -15,7 +15,7 @@ use crate::arguments::{deck, first, flag, folder, name, number, option, text, us
 use crate::help::{
     ANSWERS, COBOL, COUNTED, EXPLAINED, LISTED, LOADED, REASONS, RECORDS, SCHEMA, SERVING, VERSION,
 };
-use clap::Command;
+use clap::{Arg, Command};
 use std::alloc::{AllocError, Global};
 
 /// A subcommand without its words: its name, what it does, and what is told below its help.
@@ -25,13 +25,27 @@ fn named<'a>(alloc: Global, name: &'a str, about: &'a str, after: &'a str) -> Co
     Command::new(alloc, name).about(about).after_help(after)
 }
 
+/// A command with this argument too, where memory was there for what it has so far.
+fn with_argument<'a>(
+    command: Result<Command<'a>, AllocError>,
+    argument: Arg<'a>,
+) -> Result<Command<'a>, AllocError>
+    ensures { (app : App) (rule : Rule) → IfOk command.entry (IsApp app) → HasRule rule argument.entry
+        → IfOk result (IsApp (with_rule app rule)) }
+{
+    let begun = command?;
+    begun.arg(argument)
+}
+
 /// `run` or `load` with its deck and its folder.
 fn with_files<'a>(alloc: Global, run: Command<'a>) -> Result<Command<'a>, AllocError>
     requires { IsLocal run }
     ensures { IfOk result (IsApp (with_files (app_of run.entry))) }
 {
-    run.arg(deck(alloc))?
-        .arg(folder(alloc, "The folder in which the deck's files stay"))
+    with_argument(
+        run.arg(deck(alloc)),
+        folder(alloc, "The folder in which the deck's files stay"),
+    )
 }
 
 /// `run`, `serve` or `load` with its limits.
@@ -55,7 +69,7 @@ fn with_limits<'a>(alloc: Global, files: Command<'a>) -> Result<Command<'a>, All
         "64",
         "How many pages of an open file are held in memory at most, from 1 to 4,096",
     );
-    files.arg(pages)?.arg(frames)
+    with_argument(files.arg(pages), frames)
 }
 
 /// `check`, `list` or `load` with the option by which it shows no progress.
@@ -125,9 +139,7 @@ fn with_deck<'a>(
     requires { IsLocal listed }
     ensures { IfOk result (IsApp (with_deck (app_of listed.entry))) }
 {
-    listed
-        .arg(text(alloc, "deck", "DECK", help))?
-        .arg(name(alloc))
+    with_argument(listed.arg(text(alloc, "deck", "DECK", help)), name(alloc))
 }
 
 /// `schema`.
@@ -165,7 +177,7 @@ fn explain_command<'a>(alloc: Global) -> Result<Command<'a>, AllocError>
         "Explains a status, a fault of a deck, or a reason of a check",
         EXPLAINED,
     );
-    explain.arg(kind)?.arg(number)
+    with_argument(explain.arg(kind), number)
 }
 
 /// `deck`.
@@ -188,7 +200,7 @@ fn with_values<'a>(alloc: Global, list: Command<'a>) -> Result<Command<'a>, Allo
 {
     let from = text(alloc, "from", "V", "The first value, or its first bytes");
     let to = text(alloc, "to", "V", "The last value, or its first bytes");
-    list.arg(from)?.arg(to)
+    with_argument(list.arg(from), to)
 }
 
 /// The bounds of a list.
@@ -227,7 +239,7 @@ fn with_form<'a>(alloc: Global, list: Command<'a>) -> Result<Command<'a>, AllocE
     );
     with_deck(
         alloc,
-        list.arg(form)?.arg(cut)?,
+        with_argument(list.arg(form), cut)?,
         "Takes the columns from the record of a file of the deck in this file, or '-' for standard input",
     )
 }
@@ -268,7 +280,7 @@ fn cobol_command<'a>(alloc: Global) -> Result<Command<'a>, AllocError>
         "Writes a deck as a COBOL program that displays the same transcript",
         COBOL,
     );
-    cobol.arg(deck(alloc))?.arg(fixed)
+    with_argument(cobol.arg(deck(alloc)), fixed)
 }
 
 /// A load with the name of its file, and its text.
@@ -288,7 +300,7 @@ fn with_names<'a>(alloc: Global, load: Command<'a>) -> Result<Command<'a>, Alloc
         "TEXT",
         "The file of the lines, or '-' for standard input",
     );
-    load.arg(file)?.arg(text)
+    with_argument(load.arg(file), text)
 }
 
 /// The options of a load, and its text.
@@ -308,7 +320,8 @@ fn with_text<'a>(alloc: Global, load: Command<'a>) -> Result<Command<'a>, AllocE
         "into",
         "Writes them into the file that is there; where it is not given, a new file is made",
     );
-    with_names(alloc, load)?.arg(form)?.arg(into)
+    let formed = with_argument(with_names(alloc, load), form);
+    with_argument(formed, into)
 }
 
 /// `load`.

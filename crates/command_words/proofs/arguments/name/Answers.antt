@@ -1,6 +1,4 @@
 use Rattle.command_words.proofs.ArgLemmas.{with_long}
-use Rattle.std.specs.Prelude.{codes}
-use Rattle.clap.specs.Words.{Text}
 use Rattle.command_words.proofs.arguments.name.Goals as goal
 
 pub returns : goal.returns

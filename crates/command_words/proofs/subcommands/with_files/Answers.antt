@@ -1,5 +1,6 @@
-use Rattle.command_words.proofs.ShapeLemmas.{last_arg, with_arg, as_it_is}
+use Rattle.command_words.proofs.ShapeLemmas.{last_arg, as_it_is}
 use Rattle.command_words.proofs.subcommands.with_files.Goals as goal
 
 pub returns : goal.returns
-returns c = last_arg _ _ c.arg-2.result c.arg-2.ensures (with_arg c.in_ok-arg.ensures (as_it_is c.requires) c.deck.ensures) c.folder.ensures
+returns c =
+    c.with_argument.ensures _ _ (last_arg _ _ c.arg.result c.arg.ensures (as_it_is c.requires) c.deck.ensures) c.folder.ensures

@@ -1,4 +1,3 @@
-use Rattle.command_words.proofs.ShapeLemmas.{last_arg, with_arg}
 use Rattle.command_words.proofs.subcommands.with_text.Goals as goal
 
 pub with_names-requires : goal.with_names-requires
@@ -6,4 +5,4 @@ with_names-requires c = c.requires
 
 pub returns : goal.returns
 returns c =
-    last_arg _ _ c.arg-2.result c.arg-2.ensures (with_arg c.in_ok-arg.ensures c.in_ok-with_names.ensures c.usual-form.ensures) c.flag-into.ensures
+    c.with_argument.ensures _ _ (c.with_argument-formed.ensures _ _ c.with_names.ensures c.usual-form.ensures) c.flag-into.ensures
