@@ -1,11 +1,11 @@
 -- What a call of the cache leaves of the joined parts.
-use Rattle.std.proofs.Common.{◌≡◌, ◌≢◌, inl, inr, ℕ, ◌+◌, ◌<◌, ◌≤◌, ltb, Bool, true, List, Some, option_map, is_some, IsTrue, Result, Ok, Err, is_ok, IsSome, IfOk, IfErr, OnOk, OnErr, true, refl, sym, ◌∙◌, ap, subst, arith}
+use Rattle.std.proofs.Common.{◌≡◌, ◌≢◌, inl, inr, ℕ, ◌+◌, ◌<◌, ◌≤◌, ltb, Bool, true, List, Some, is_some, IsTrue, Result, Ok, Err, is_ok, IsSome, IfOk, IfErr, OnOk, OnErr, true, refl, sym, ◌∙◌, ap, subst, arith}
 use Rattle.std.proofs.lemmas.Bool.{and_from, lt-ltb, both_ways}
 use Rattle.io_state.specs.declared.fault.Fault.{Fault}
 use Rattle.io_state.specs.declared.fault.Fault.TheVariants.{Device, Memory, Full, Damage, Broken}
 use Rattle.page_store.specs.ShelfState.{ShelfState, FaultHasCause}
 use Rattle.page_cache.specs.declared.cache.Cache.{Cache}
-use Rattle.page_cache.specs.Cached.{frame_of, is_counted_page, cached_pages_of, IsOver}
+use Rattle.page_cache.specs.Cached.{store_of, pages_asked, bytes_held, is_counted_page, cached_pages_of, IsOver}
 use Rattle.page_cache.specs.Calls.{KeepsStore, OnlyLooks, KeepsPages}
 use Rattle.page_cache.specs.Quietly.{GoesQuietly}
 use Rattle.page_cache.proofs.QuietLemmas.{goes_nowhere}
@@ -23,16 +23,16 @@ use Rattle.page_store.proofs.OpenLemmas.{open_kept}
 use Rattle.page_store.specs.ShelfState.{unit_file}
 use Rattle.page_store.specs.Gate.{AllOpen}
 use Rattle.page_alloc.specs.declared.paged_file.PagedFile.{PagedFile}
-use Rattle.page_alloc.specs.PagedFile.{IsOpenOver}
+use Rattle.page_alloc.specs.PagedFile.{unit_of_pages, times_asked, IsOpenOver}
 use Rattle.page_alloc.specs.Steps.{KeepsGate, ReadsFilePages, pages_state_of}
 use Rattle.page_alloc.proofs.ChainLemmas.{in_use, use_kept, same_chain}
 
 pub counted_page : (c : Cache) (p : Pager) (s : ShelfState) (n : ℕ) → IsJoined c p s → (n ≡ 0 → ⊥) → n < p.count → IsTrue (is_counted_page c n)
 counted_page c p s n joined positive low =
     let counted = joined.counted in
-    and_from (ltb 0 n) (ltb n c.store.pages) (lt-ltb 0 n (omega arith)) (lt-ltb n c.store.pages (omega arith))
+    and_from (ltb 0 n) (ltb n (store_of c).pages) (lt-ltb 0 n (omega arith)) (lt-ltb n (store_of c).pages (omega arith))
 
-pub joined_after : (c d : Cache) (p : Pager) (s t : ShelfState) → IsJoined c p s → d.store ≡ c.store → IsOver d t → IsJoined d p t
+pub joined_after : (c d : Cache) (p : Pager) (s t : ShelfState) → IsJoined c p s → store_of d ≡ store_of c → IsOver d t → IsJoined d p t
 joined_after c d p s t joined same over = record { over = over; counted = subst (λ x. p.count ≤ x.pages) (sym same) joined.counted; header = joined.header }
 
 -- no page of the list has changed
@@ -56,11 +56,11 @@ left n w c d e p s t set same honest = record {
     others : IsTrue t.is_honest → (k : ℕ) → k ≢ n → cached_pages_of e t k ≡ cached_pages_of c s k
     others h k differs = set_others n w d e set t k differs ∙ ap (λ pages. pages k) (same h)
 
-pub parts_after : (c d : Cache) (s t : ShelfState) (i j : ℕ) → KeepsStore c d → GoesQuietly c.store.unit s t → c.asked ≤ d.asked → i ≤ j → PartsGo c d s t i j
+pub parts_after : (c d : Cache) (s t : ShelfState) (i j : ℕ) → KeepsStore c d → GoesQuietly (store_of c).unit s t → pages_asked c ≤ pages_asked d → i ≤ j → PartsGo c d s t i j
 parts_after c d s t i j keeps quietly asked faults = record {
   unit = ap (λ x. x.unit) keeps.store;
   cap = keeps.cap;
-  pages = let e : d.store.pages ≡ c.store.pages = ap (λ x. x.pages) keeps.store in omega arith;
+  pages = let e : (store_of d).pages ≡ (store_of c).pages = ap (λ x. x.pages) keeps.store in omega arith;
   asked = asked;
   quietly = quietly;
   faults = faults;
@@ -81,7 +81,7 @@ kept_after c d e s t kept same = record {
 -- nothing was asked of the shelf
 pub reordered : (c d : Cache) (s : ShelfState) → IsOver c s → SameFrames c d → KeepsPages c d s s × OnlyLooks c d s s
 reordered c d s over same = (
-  kept_after c c d s s (record { over = over; pages = λ h. refl; keeps = record { store = refl; cap = refl }; goes = goes_nowhere c.store.unit s }) same,
+  kept_after c c d s s (record { over = over; pages = λ h. refl; keeps = record { store = refl; cap = refl }; goes = goes_nowhere (store_of c).unit s }) same,
   looks_after c c d s s (record { clean = λ clean. clean; file = λ clean. refl }) same,
 )
 
@@ -144,14 +144,14 @@ gives_back shown n a b (Err e) given kept fails honest asked step = record {
 }
 
 -- a page of the cache is lent, or could not be loaded
-pub reads_after : (a b : PagedFile) (s t : ShelfState) (i j : ℕ) → b.pager ≡ a.pager → b.changed ≡ a.changed → KeepsPages a.cache b.cache s t → OnlyLooks a.cache b.cache s t → a.cache.asked ≤ b.cache.asked → i ≤ j → ReadsFilePages a b s t i j
+pub reads_after : (a b : PagedFile) (s t : ShelfState) (i j : ℕ) → b.pager ≡ a.pager → b.changed ≡ a.changed → KeepsPages a.cache b.cache s t → OnlyLooks a.cache b.cache s t → times_asked a ≤ times_asked b → i ≤ j → ReadsFilePages a b s t i j
 reads_after a b s t i j pager gate kept looks asked faults = record {
   goes = record {
     parts = parts_after a.cache b.cache s t i j kept.keeps kept.goes asked faults;
     gate = gate;
     limit = ap (λ x. x.limit) pager;
     ready = λ r. record {
-      joined = record { over = kept.over; counted = subst (λ x. x.count ≤ b.cache.store.pages) (sym pager) (subst (λ x. a.pager.count ≤ x.pages) (sym kept.keeps.store) r.joined.counted); header = subst (λ x. 0 < x.count) (sym pager) r.joined.header };
+      joined = record { over = kept.over; counted = subst (λ x. x.count ≤ (store_of b.cache).pages) (sym pager) (subst (λ x. a.pager.count ≤ x.pages) (sym kept.keeps.store) r.joined.counted); header = subst (λ x. 0 < x.count) (sym pager) r.joined.header };
       clean = λ shut. looks.clean (r.clean (sym gate ∙ shut));
       gate = λ changed honest. gate_open r (sym gate ∙ changed) honest;
     };
@@ -161,9 +161,9 @@ reads_after a b s t i j pager gate kept looks asked faults = record {
   rests = subst (λ x. KeepsEachPage (pages_state_of a s) (pages_state b.cache x t)) (sym pager) (rested a.cache b.cache a.pager s t kept.pages kept.goes.others.honest);
 }
   where
-    gate_open : IsOpenOver a s → a.changed ≡ true → IsTrue t.is_honest → AllOpen (unit_file t b.cache.store.unit)
+    gate_open : IsOpenOver a s → a.changed ≡ true → IsTrue t.is_honest → AllOpen (unit_file t (unit_of_pages b))
     gate_open r changed honest = subst (λ x. AllOpen (unit_file t x.unit)) (sym kept.keeps.store)
-        (open_kept (unit_file s a.cache.store.unit) (unit_file t a.cache.store.unit) (r.gate changed (kept.goes.others.honest honest)) kept.goes.quiet)
+        (open_kept (unit_file s (unit_of_pages a)) (unit_file t (unit_of_pages a)) (r.gate changed (kept.goes.others.honest honest)) kept.goes.quiet)
 
 -- pages were changed behind an open gate
 pub goes_after : (a b : PagedFile) (s t : ShelfState) (i j : ℕ) → a.changed ≡ true → b.changed ≡ a.changed → b.pager.limit ≡ a.pager.limit → PartsGo a.cache b.cache s t i j → IsJoined b.cache b.pager t → KeepsGate a b s t i j
@@ -175,13 +175,13 @@ goes_after a b s t i j changed gate limit parts joined = record {
     joined = joined;
     clean = λ shut. absurd (both_ways b.changed shut (gate ∙ changed));
     gate = λ still honest. subst (λ unit. AllOpen (unit_file t unit)) (sym parts.unit)
-        (open_kept (unit_file s a.cache.store.unit) (unit_file t a.cache.store.unit) (r.gate changed (parts.quietly.others.honest honest)) parts.quietly.quiet);
+        (open_kept (unit_file s (unit_of_pages a)) (unit_file t (unit_of_pages a)) (r.gate changed (parts.quietly.others.honest honest)) parts.quietly.quiet);
   };
   still = λ r shut. absurd (both_ways a.changed shut changed);
 }
 
 -- a page that is held is the page in use
-pub shown : (c d : Cache) (p : Pager) (s t : ShelfState) (n : ℕ) (bytes : List ℕ) → cached_pages_of d t ≡ cached_pages_of c s → option_map (λ frame. frame.page.value) (frame_of d n) ≡ Some bytes → Shows (pages_state c p s) n bytes
+pub shown : (c d : Cache) (p : Pager) (s t : ShelfState) (n : ℕ) (bytes : List ℕ) → cached_pages_of d t ≡ cached_pages_of c s → bytes_held d n ≡ Some bytes → Shows (pages_state c p s) n bytes
 shown c d p s t n bytes same held there =
     let u = in_use (cached_pages_of c s) p.count n (free_pages c p s) there in rw (u.1, u.2, u.3) (ap Some (sym (ap (λ pages. pages n) same) ∙ held_page d t n bytes held))
 
@@ -208,6 +208,3 @@ fails_as x i j P full cause = record {
 
     neither : (y : Fault) → x ≡ y → (y ≡ Device → ⊥) → (y ≡ Memory → ⊥) → ⊥
     neither y is a b = elim cause.kinds [ inl d ↦ a (sym is ∙ bare Device d) | inr m ↦ b (sym is ∙ bare Memory m) ]
-
-pub counted_after : (c d : Cache) (n : ℕ) → d.store ≡ c.store → IsTrue (is_counted_page c n) → IsTrue (is_counted_page d n)
-counted_after c d n same is = subst (λ x. IsTrue (is_counted_page (record c { store = x }) n)) (sym same) is

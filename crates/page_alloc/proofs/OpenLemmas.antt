@@ -11,10 +11,10 @@ use Rattle.page_store.specs.Gate.{IsRefused, IsOpen, AllOpen, AllRefused, with_g
 use Rattle.page_store.specs.Pages.{page_of_bytes}
 use Rattle.page_store.specs.PageFacts.{page_over}
 use Rattle.page_store.specs.ShelfState.{ShelfState, unit_file}
-use Rattle.page_cache.specs.declared.frame.Frame.{Frame}
 use Rattle.page_cache.specs.declared.cache.Cache.{Cache}
-use Rattle.page_cache.specs.Cached.{frame_of, cached_pages_of, is_counted_page, IsOver, IsClean}
+use Rattle.page_cache.specs.Cached.{store_of, cached_pages_of, is_counted_page, IsOver, IsClean}
 use Rattle.page_cache.proofs.HeaderLemmas.{gate_page}
+use Rattle.page_cache.proofs.OverLemmas.{counted_same, clean_shows}
 use Rattle.page_alloc.specs.PagedFile.{IsClosedWith, ClosedWith, ClosesPages}
 
 abbrev Ends : List ℕ → Cache → ShelfState → Option (List ℕ) → Type 0
@@ -30,22 +30,14 @@ header_closed n [] header now low is = absurd (omega arith)
 header_closed n (x ∷ old) header [] low is = absurd (cc)
 header_closed n (x ∷ old) header (y ∷ now) low is = ap (λ l. 67 ∷ drop 1 l) is
 
--- a cache without changed pages shows those of the file
-pub clean_shows : (c : Cache) (s : ShelfState) (k : ℕ) → IsOver c s → IsClean c → IsTrue s.is_honest → IsTrue (is_counted_page c k) → cached_pages_of c s k ≡ page_of_bytes (content (unit_file s c.store.unit)) k
-clean_shows c s k over clean honest counted = go (frame_of c k) refl
-  where
-    go : (o : Option Frame) → frame_of c k ≡ o → cached_pages_of c s k ≡ page_of_bytes (content (unit_file s c.store.unit)) k
-    go None is = rw (is, counted) refl
-    go (Some frame) is = rw is (over.clean honest k frame is (clean.clean k frame is))
-
 module _ (header : List ℕ) (c d : Cache) (s t : ShelfState) (f before g h : DeviceFile) (whole : 1 ≤ length (content before)) (written : page_of_bytes (content g) 0 ≡ page_over 0 (content before) header)
-    (pages : (k : ℕ) → IsTrue (is_counted_page c k) → page_of_bytes (content g) k ≡ cached_pages_of c s k) (long : 4096 * c.store.pages ≤ length (content g)) where
+    (pages : (k : ℕ) → IsTrue (is_counted_page c k) → page_of_bytes (content g) k ≡ cached_pages_of c s k) (long : 4096 * (store_of c).pages ≤ length (content g)) where
   pub closed_with : IsClosedWith header c s (with_gate 67 (content g))
   closed_with = record {
     closed = refl;
     long = omega (arith, long, length-drop 1 (content g));
     header = header_closed 4095 (content before) header (content g) whole written;
-    pages = λ k counted. let low = and_parts (ltb 0 k) (ltb k c.store.pages) counted in gate_page 67 (content g) k (ltb-true 0 k low.0) ∙ pages k counted;
+    pages = λ k counted. let low = and_parts (ltb 0 k) (ltb k (store_of c).pages) counted in gate_page 67 (content g) k (ltb-true 0 k low.0) ∙ pages k counted;
   }
 
   pub finish_closes : Throughout (ClosedOrRefused g) g h → ClosesPages header c s g h
@@ -62,42 +54,42 @@ module _ (header : List ℕ) (c d : Cache) (s t : ShelfState) (f before g h : De
   is_closed is settled = record { bytes = subst (IsClosedWith header c s) (sym is) closed_with; settled = settled }
 
 -- a flush, the header, and the gate: d is the cache after the flush, t, u and v the shelf after each of the three
-module _ (header : List ℕ) (c d : Cache) (s t u v : ShelfState) (store : d.store ≡ c.store) (over1 : IsOver d t) (over2 : IsOver d u) (clean : IsClean d) (h1 : IsTrue t.is_honest) (h2 : IsTrue u.is_honest)
+module _ (header : List ℕ) (c d : Cache) (s t u v : ShelfState) (store : store_of d ≡ store_of c) (over1 : IsOver d t) (over2 : IsOver d u) (clean : IsClean d) (h1 : IsTrue t.is_honest) (h2 : IsTrue u.is_honest)
     (p1 : cached_pages_of d t ≡ cached_pages_of c s) (p2 : cached_pages_of d u ≡ cached_pages_of d t)
-    (written : page_of_bytes (content (unit_file u d.store.unit)) 0 ≡ page_over 0 (content (unit_file t d.store.unit)) header)
-    (q1 : Quiet (unit_file s c.store.unit) (unit_file t c.store.unit)) (q2 : Quiet (unit_file t d.store.unit) (unit_file u d.store.unit))
-    (all : AllOpen (unit_file s c.store.unit)) where
-  unit : d.store.unit ≡ c.store.unit
+    (written : page_of_bytes (content (unit_file u (store_of d).unit)) 0 ≡ page_over 0 (content (unit_file t (store_of d).unit)) header)
+    (q1 : Quiet (unit_file s (store_of c).unit) (unit_file t (store_of c).unit)) (q2 : Quiet (unit_file t (store_of d).unit) (unit_file u (store_of d).unit))
+    (all : AllOpen (unit_file s (store_of c).unit)) where
+  unit : (store_of d).unit ≡ (store_of c).unit
   unit = ap (λ x. x.unit) store
 
-  pages : (k : ℕ) → IsTrue (is_counted_page c k) → page_of_bytes (content (unit_file u c.store.unit)) k ≡ cached_pages_of c s k
+  pages : (k : ℕ) → IsTrue (is_counted_page c k) → page_of_bytes (content (unit_file u (store_of c).unit)) k ≡ cached_pages_of c s k
   pages k counted =
       ap (λ n. page_of_bytes (content (unit_file u n)) k) (sym unit)
-      ∙ sym (clean_shows d u k over2 clean h2 (subst (λ x. IsTrue (is_counted_page (record c { store = x }) k)) (sym store) counted))
+      ∙ sym (clean_shows d u k over2 clean h2 (counted_same c d k store counted))
       ∙ ap (λ (p : ℕ → List ℕ). p k) (p2 ∙ p1)
 
-  whole : 1 ≤ length (content (unit_file t c.store.unit))
+  whole : 1 ≤ length (content (unit_file t (store_of c).unit))
   whole = let l = (over1.pages h1).long in subst (λ n. 1 ≤ length (content (unit_file t n))) unit (omega arith)
 
-  here : page_of_bytes (content (unit_file u c.store.unit)) 0 ≡ page_over 0 (content (unit_file t c.store.unit)) header
+  here : page_of_bytes (content (unit_file u (store_of c).unit)) 0 ≡ page_over 0 (content (unit_file t (store_of c).unit)) header
   here = subst (λ n. page_of_bytes (content (unit_file u n)) 0 ≡ page_over 0 (content (unit_file t n)) header) unit written
 
-  long : 4096 * c.store.pages ≤ length (content (unit_file u c.store.unit))
+  long : 4096 * (store_of c).pages ≤ length (content (unit_file u (store_of c).unit))
   long = subst (λ x. 4096 * x.pages ≤ length (content (unit_file u x.unit))) store (let l = (over2.pages h2).long in omega arith)
 
-  quiet : Quiet (unit_file s c.store.unit) (unit_file u c.store.unit)
-  quiet = quiet_then (unit_file s c.store.unit) (unit_file t c.store.unit) (unit_file u c.store.unit) q1 (subst (λ n. Quiet (unit_file t n) (unit_file u n)) unit q2)
+  quiet : Quiet (unit_file s (store_of c).unit) (unit_file u (store_of c).unit)
+  quiet = quiet_then (unit_file s (store_of c).unit) (unit_file t (store_of c).unit) (unit_file u (store_of c).unit) q1 (subst (λ n. Quiet (unit_file t n) (unit_file u n)) unit q2)
 
-  pub all_closes : (AllRefused (unit_file u d.store.unit) → Throughout (ClosedOrRefused (unit_file u d.store.unit)) (unit_file u d.store.unit) (unit_file v d.store.unit)) → ClosesPages header c s (unit_file s c.store.unit) (unit_file v c.store.unit)
+  pub all_closes : (AllRefused (unit_file u (store_of d).unit) → Throughout (ClosedOrRefused (unit_file u (store_of d).unit)) (unit_file u (store_of d).unit) (unit_file v (store_of d).unit)) → ClosesPages header c s (unit_file s (store_of c).unit) (unit_file v (store_of c).unit)
   all_closes images =
-      let refused : AllRefused (unit_file u c.store.unit) = all_refused (unit_file u c.store.unit) (open_kept (unit_file s c.store.unit) (unit_file u c.store.unit) all quiet) in
+      let refused : AllRefused (unit_file u (store_of c).unit) = all_refused (unit_file u (store_of c).unit) (open_kept (unit_file s (store_of c).unit) (unit_file u (store_of c).unit) all quiet) in
       let images_here = subst (λ n. AllRefused (unit_file u n) → Throughout (ClosedOrRefused (unit_file u n)) (unit_file u n) (unit_file v n)) unit images in
-      closes header c d s t (unit_file s c.store.unit) (unit_file t c.store.unit) (unit_file u c.store.unit) (unit_file v c.store.unit) whole here pages long all quiet (images_here refused)
+      closes header c d s t (unit_file s (store_of c).unit) (unit_file t (store_of c).unit) (unit_file u (store_of c).unit) (unit_file v (store_of c).unit) whole here pages long all quiet (images_here refused)
 
-  pub all_closed : (content (unit_file v d.store.unit) ≡ with_gate 67 (content (unit_file u d.store.unit))) × IsSettled (unit_file v d.store.unit) → ClosedWith header c s (unit_file v c.store.unit)
+  pub all_closed : (content (unit_file v (store_of d).unit) ≡ with_gate 67 (content (unit_file u (store_of d).unit))) × IsSettled (unit_file v (store_of d).unit) → ClosedWith header c s (unit_file v (store_of c).unit)
   all_closed end =
       let there = subst (λ n. (content (unit_file v n) ≡ with_gate 67 (content (unit_file u n))) × IsSettled (unit_file v n)) unit end in
-      is_closed header c d s t (unit_file s c.store.unit) (unit_file t c.store.unit) (unit_file u c.store.unit) (unit_file v c.store.unit) whole here pages long there.0 there.1
+      is_closed header c d s t (unit_file s (store_of c).unit) (unit_file t (store_of c).unit) (unit_file u (store_of c).unit) (unit_file v (store_of c).unit) whole here pages long there.0 there.1
 
 -- a quiet step behind a gate that was opened
 pub made_quietly : (f g h : DeviceFile) → Throughout (WasOrRefused f) f g → AllOpen g → Quiet g h → Throughout (WasOrRefused f) f h

@@ -2,7 +2,7 @@
 use Rattle.std.specs.Prelude.{◌≡◌, ℕ, ◌+◌, ◌-◌, ◌^◌, ◌<◌, ◌≤◌, min, is_some, List, Option}
 use Rattle.page_store.specs.ShelfState.{ShelfState}
 use Rattle.page_cache.specs.declared.cache.Cache.{Cache}
-use Rattle.page_cache.specs.Cached.{cached_pages_of, IsOver}
+use Rattle.page_cache.specs.Cached.{store_of, pages_asked, most_frames, cached_pages_of, IsOver}
 use Rattle.page_cache.specs.Quietly.{GoesQuietly}
 use Rattle.pages.specs.PagesState.{PagesState}
 use Rattle.page_alloc.specs.declared.pager.Pager.{Pager}
@@ -39,7 +39,7 @@ abbrev pub pages_state : Cache → Pager → ShelfState → PagesState
 pages_state cache pager shelf = record {
   live = used (cached_pages_of cache shelf) pager.count (free_pages cache pager shelf);
   available = available_of pager;
-  asked = cache.asked;
+  asked = pages_asked cache;
   is_sound = is_some (free_pages cache pager shelf);
   is_honest = shelf.is_honest;
 }
@@ -48,7 +48,7 @@ pages_state cache pager shelf = record {
 pub record IsJoined (cache : Cache) (pager : Pager) (shelf : ShelfState) : Type 0 where
   pub over : IsOver cache shelf
   -- the store has the pages that are counted
-  pub counted : pager.count ≤ cache.store.pages
+  pub counted : pager.count ≤ (store_of cache).pages
   pub header : 0 < pager.count
 
 -- so, and there is a free page
@@ -64,11 +64,11 @@ pub record CanTakeNew (cache : Cache) (pager : Pager) (shelf : ShelfState) : Typ
 -- what a call leaves of cache and shelf, at a fault too: the unit, as many frames, no fewer pages,
 -- a count of pages asked for that does not fall, other files; the unit's file went quietly
 pub record PartsGo (old new : Cache) (before after : ShelfState) (failed fails : ℕ) : Type 0 where
-  pub unit : new.store.unit ≡ old.store.unit
-  pub cap : new.frames.cap ≡ old.frames.cap
-  pub pages : old.store.pages ≤ new.store.pages
-  pub asked : old.asked ≤ new.asked
-  pub quietly : GoesQuietly old.store.unit before after
+  pub unit : (store_of new).unit ≡ (store_of old).unit
+  pub cap : most_frames new ≡ most_frames old
+  pub pages : (store_of old).pages ≤ (store_of new).pages
+  pub asked : pages_asked old ≤ pages_asked new
+  pub quietly : GoesQuietly (store_of old).unit before after
   pub faults : failed ≤ fails
 
 -- the count of the device's faults rose, or stands at its greatest value

@@ -3,7 +3,7 @@ use Rattle.std.specs.Prelude.{◌≡◌, ℕ, ◌+◌, ◌≤◌, IsTrue, IsSome
 use Rattle.io_state.specs.declared.fault.Fault.{Fault}
 use Rattle.page_store.specs.ShelfState.{ShelfState}
 use Rattle.page_cache.specs.declared.cache.Cache.{Cache}
-use Rattle.page_cache.specs.Cached.{cached_pages_of}
+use Rattle.page_cache.specs.Cached.{pages_asked, cached_pages_of}
 use Rattle.page_cache.specs.Calls.{KeepsPages}
 use Rattle.pages.specs.PagesState.{KeepsEachPage}
 use Rattle.page_alloc.specs.declared.pager.Pager.{Pager}
@@ -22,12 +22,12 @@ module _ {H : Type 0} (count : H → ℕ) where
 module _ {H : Type 0} (state : H → ShelfState) (count : H → ℕ) where
   -- a call that asks for one page at most
   pub record AsksOnce (old new : Cache) (before after : H) : Type 0 where
-    pub asked : new.asked ≤ old.asked + 1
+    pub asked : pages_asked new ≤ pages_asked old + 1
     pub goes : PartsGo old new (state before) (state after) (count before) (count after)
 
   -- so, and further calls may be made, with the same limit of pages
   pub record PagerGoes (old new : Cache) (from to : Pager) (before after : H) : Type 0 where
-    pub asked : new.asked ≤ old.asked + 1
+    pub asked : pages_asked new ≤ pages_asked old + 1
     pub limit : to.limit ≡ from.limit
     pub goes : PartsGo old new (state before) (state after) (count before) (count after)
     pub ready : IsJoined new to (state after)

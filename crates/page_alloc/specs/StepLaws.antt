@@ -10,11 +10,12 @@ use Rattle.page_store.proofs.ShelfLemmas.{same_place, others_then}
 use Rattle.page_store.specs.Gate.{IsRefused, IsOpen, WasOrRefused}
 use Rattle.page_store.specs.ShelfState.{ShelfState, unit_file, KeepsOthers}
 use Rattle.page_cache.specs.declared.cache.Cache.{Cache}
+use Rattle.page_cache.specs.Cached.{store_of}
 use Rattle.page_cache.specs.Quietly.{GoesQuietly}
 use Rattle.page_cache.proofs.QuietLemmas.{goes_nowhere, goes_then}
 use Rattle.page_alloc.specs.declared.paged_file.PagedFile.{PagedFile}
 use Rattle.page_alloc.specs.Joining.{PartsGo, FaultsRose}
-use Rattle.page_alloc.specs.PagedFile.{IsOpenOver, IsKeptOrRefused}
+use Rattle.page_alloc.specs.PagedFile.{unit_of_pages, IsOpenOver, IsKeptOrRefused}
 use Rattle.page_alloc.specs.Steps.{KeepsGate, ReadsFilePages, MayOpenGate}
 
 pub parts_stay : (c : Cache) (s : ShelfState) (n : ℕ) → PartsGo c c s s n n
@@ -23,7 +24,7 @@ parts_stay c s n = record {
   cap = refl;
   pages = omega arith;
   asked = omega arith;
-  quietly = goes_nowhere c.store.unit s;
+  quietly = goes_nowhere (store_of c).unit s;
   faults = omega arith;
 }
 
@@ -34,7 +35,7 @@ parts_then c d e x y z i j k cd de = record {
   cap = de.cap ∙ cd.cap;
   pages = let p = cd.pages in let q = de.pages in omega arith;
   asked = let p = cd.asked in let q = de.asked in omega arith;
-  quietly = goes_then c.store.unit x y z cd.quietly (subst (λ unit. GoesQuietly unit y z) cd.unit de.quietly);
+  quietly = goes_then (store_of c).unit x y z cd.quietly (subst (λ unit. GoesQuietly unit y z) cd.unit de.quietly);
   faults = let p = cd.faults in let q = de.faults in omega arith;
 }
 
@@ -110,13 +111,13 @@ goes_moves a b x y i j goes = record {
 }
   where
     f : DeviceFile
-    f = unit_file x a.cache.store.unit
+    f = unit_file x (unit_of_pages a)
 
     g : DeviceFile
-    g = unit_file y a.cache.store.unit
+    g = unit_file y (unit_of_pages a)
 
     same : IsOpenOver a x → a.changed ≡ false → g ≡ f
-    same r shut = same_place x y a.cache.store.unit (goes.still r shut) goes.parts.quietly.others.names
+    same r shut = same_place x y (unit_of_pages a) (goes.still r shut) goes.parts.quietly.others.names
 
 stands_then : (f g h : DeviceFile) → Throughout (WasOrRefused g) g h → IsKeptOrRefused f g
     → IsKeptOrRefused g h → IsKeptOrRefused f h
@@ -144,7 +145,7 @@ moves_on a b c x y z i j k ab bc = record {
 }
   where
     unit : ℕ
-    unit = a.cache.store.unit
+    unit = unit_of_pages a
 
     others : KeepsOthers unit y z
     others = subst (λ n. KeepsOthers n y z) ab.unit bc.others

@@ -5,7 +5,7 @@ use Rattle.page_cache.specs.HeaderCalls.{MayRefuse}
 use Rattle.pages.specs.PagesState.{PagesState, KeepsEachPage}
 use Rattle.page_alloc.specs.declared.paged_file.PagedFile.{PagedFile}
 use Rattle.page_alloc.specs.Joining.{pages_state, PartsGo}
-use Rattle.page_alloc.specs.PagedFile.{IsOpenOver, IsKeptOrRefused}
+use Rattle.page_alloc.specs.PagedFile.{unit_of_pages, times_asked, most_held, IsOpenOver, IsKeptOrRefused}
 
 -- what the pages of an open file show
 abbrev pub pages_state_of : PagedFile → ShelfState → PagesState
@@ -30,16 +30,16 @@ pub record ReadsFilePages (old new : PagedFile) (before after : ShelfState) (fai
 -- refused file. As many frames stay, and the limit of pages; the count of pages asked for does not
 -- fall
 pub record MayOpenGate (old new : PagedFile) (before after : ShelfState) (failed fails : ℕ) : Type 0 where
-  pub unit : new.cache.store.unit ≡ old.cache.store.unit
-  pub cap : new.cache.frames.cap ≡ old.cache.frames.cap
+  pub unit : unit_of_pages new ≡ unit_of_pages old
+  pub cap : most_held new ≡ most_held old
   pub limit : new.pager.limit ≡ old.pager.limit
-  pub asked : old.cache.asked ≤ new.cache.asked
-  pub others : KeepsOthers old.cache.store.unit before after
+  pub asked : times_asked old ≤ times_asked new
+  pub others : KeepsOthers (unit_of_pages old) before after
   pub faults : failed ≤ fails
   pub ready : IsOpenOver old before → IsOpenOver new after
-  pub images : IsOpenOver old before → MayRefuse old.cache.store.unit before after
+  pub images : IsOpenOver old before → MayRefuse (unit_of_pages old) before after
   pub stands : IsOpenOver old before → IsTrue after.is_honest →
-      IsKeptOrRefused (unit_file before old.cache.store.unit) (unit_file after old.cache.store.unit)
+      IsKeptOrRefused (unit_file before (unit_of_pages old)) (unit_file after (unit_of_pages old))
 
 -- so, of shelves that show this state and count their faults so
 abbrev pub MayOpenGateOnShelf : {H : Type 0} → (H → ShelfState) → (H → ℕ) → (old new : PagedFile) → H → H

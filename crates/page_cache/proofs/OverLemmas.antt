@@ -1,5 +1,5 @@
 -- What a cache that has the same frames needs of its shelf, and shows.
-use Rattle.std.proofs.Common.{◌≡◌, ◌≢◌, inl, inr, ℕ, ltb, ◌&&◌, true, if◌then◌else◌, ◌<◌, length, Option, Some, None, List, [], sym, ◌∙◌, ap, subst, IsTrue, option_map}
+use Rattle.std.proofs.Common.{◌≡◌, ◌≢◌, inl, inr, ℕ, ltb, ◌&&◌, true, if◌then◌else◌, ◌<◌, length, Option, Some, None, List, [], refl, sym, ◌∙◌, ap, subst, IsTrue, option_map}
 use Rattle.std.specs.Option.{option_map_or}
 use Rattle.std.proofs.lemmas.Bool.{cases_eq, both_ways}
 use Rattle.page_store.specs.DeviceFile.{content}
@@ -8,14 +8,17 @@ use Rattle.page_store.specs.ShelfState.{ShelfState, HasUnit, unit_name, unit_fil
 use Rattle.page_cache.specs.declared.frame.Frame.{Frame}
 use Rattle.page_cache.specs.declared.cache.Cache.{Cache}
 use Rattle.page_cache.specs.Lending.{FrameSet}
-use Rattle.page_cache.specs.Cached.{frame_of, is_counted_page, cached_pages_of, IsOver, IsClean}
+use Rattle.page_cache.specs.Cached.{frame_of, bytes_held, is_counted_page, cached_pages_of, IsOver, IsClean}
 use Rattle.page_cache.specs.Calls.{KeepsPages}
 use Rattle.page_cache.proofs.QuietLemmas.{goes_nowhere}
+
+pub counted_same : (c d : Cache) (n : ℕ) → d.store ≡ c.store → IsTrue (is_counted_page c n) → IsTrue (is_counted_page d n)
+counted_same c d n same is = subst (λ x. IsTrue (is_counted_page (record c { store = x }) n)) (sym same) is
 
 pub over_same : (c d : Cache) (s : ShelfState) → d.store ≡ c.store → ((k : ℕ) → frame_of d k ≡ frame_of c k) → IsOver c s → IsOver d s
 over_same c d s store same over = record {
   attached = subst (λ unit. HasUnit s unit) (sym (ap (λ x. x.unit) store)) over.attached;
-  counted = λ n frame is. subst (λ x. IsTrue (is_counted_page (record c { store = x }) n)) (sym store) (over.counted n frame (sym (same n) ∙ is));
+  counted = λ n frame is. counted_same c d n store (over.counted n frame (sym (same n) ∙ is));
   pages = λ honest. subst (λ x. HoldsPages x.pages (unit_file s x.unit)) (sym store) (over.pages honest);
   clean = λ honest n frame is unchanged. over.clean honest n frame (sym (same n) ∙ is) unchanged ∙ ap (λ x. page_of_bytes (content (unit_file s x.unit)) n) (sym store);
 }
@@ -37,7 +40,7 @@ mapped None w rest is = absurd (cc)
 mapped (Some frame) w rest is = cc
 
 -- a held page is what the cache shows
-pub held_page : (c : Cache) (s : ShelfState) (n : ℕ) (w : List ℕ) → option_map (λ frame. frame.page.value) (frame_of c n) ≡ Some w → cached_pages_of c s n ≡ w
+pub held_page : (c : Cache) (s : ShelfState) (n : ℕ) (w : List ℕ) → bytes_held c n ≡ Some w → cached_pages_of c s n ≡ w
 held_page c s n w is = mapped (frame_of c n) w _ is
 
 changed_at : (o : Option Frame) (frame : Frame) → option_map (λ frame. frame.changed) o ≡ Some true → o ≡ Some frame → frame.changed ≡ true
@@ -54,7 +57,7 @@ module _ (n : ℕ) (w : List ℕ) (c d : Cache) (set : FrameSet n w c d) where
   pub over_set : (s : ShelfState) → IsTrue (is_counted_page c n) → IsOver c s → IsOver d s
   over_set s here over = record {
     attached = subst (λ unit. HasUnit s unit) (sym (ap (λ x. x.unit) set.store)) over.attached;
-    counted = λ k frame is. subst (λ x. IsTrue (is_counted_page (record c { store = x }) k)) (sym set.store)
+    counted = λ k frame is. counted_same c d k set.store
         (elim (cases_eq k n) [ inl same ↦ rw same here | inr differs ↦ over.counted k frame (sym (set.others k differs) ∙ is) ]);
     pages = λ honest. subst (λ x. HoldsPages x.pages (unit_file s x.unit)) (sym set.store) (over.pages honest);
     clean = λ honest k frame is unchanged. elim (cases_eq k n) [
@@ -62,6 +65,14 @@ module _ (n : ℕ) (w : List ℕ) (c d : Cache) (set : FrameSet n w c d) where
       | inr differs ↦ over.clean honest k frame (sym (set.others k differs) ∙ is) unchanged ∙ ap (λ x. page_of_bytes (content (unit_file s x.unit)) k) (sym set.store)
     ];
   }
+
+-- a cache without changed pages shows those of the file
+pub clean_shows : (c : Cache) (s : ShelfState) (k : ℕ) → IsOver c s → IsClean c → IsTrue s.is_honest → IsTrue (is_counted_page c k) → cached_pages_of c s k ≡ page_of_bytes (content (unit_file s c.store.unit)) k
+clean_shows c s k over clean honest counted = go (frame_of c k) refl
+  where
+    go : (o : Option Frame) → frame_of c k ≡ o → cached_pages_of c s k ≡ page_of_bytes (content (unit_file s c.store.unit)) k
+    go None is = rw (is, counted) refl
+    go (Some frame) is = rw is (over.clean honest k frame is (clean.clean k frame is))
 
 -- the shelf only answered
 module _ (c : Cache) (t u : ShelfState) (only : OnlyAnswers t u) where

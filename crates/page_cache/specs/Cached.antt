@@ -1,6 +1,6 @@
 -- The pages of a file, some of them in memory.
 use Rattle.std.specs.Prelude.{◌≡◌, ℕ, ◌-◌, ◌^◌, ◌<◌, ◌≤◌, ltb, ◌&&◌, if◌then◌else◌, Bool, false, IsTrue}
-use Rattle.std.specs.Prelude.{nat_eq, List, [], Option, Some, None}
+use Rattle.std.specs.Prelude.{nat_eq, List, [], length, Option, Some, None, option_map}
 use Rattle.std.specs.Option.{option_map_or}
 use Rattle.std.specs.Map.{lookup}
 use Rattle.lru.specs.LruCache.{lru_cache}
@@ -11,9 +11,30 @@ use Rattle.page_store.specs.ShelfState.{ShelfState, HasUnit, unit_file, WhereHon
 use Rattle.page_cache.specs.declared.frame.Frame.{Frame}
 use Rattle.page_cache.specs.declared.cache.Cache.{Cache}
 
+-- its store, how often a page was asked for, how many pages are in memory, and how many may be
+abbrev pub store_of : Cache → Store
+store_of cache = cache.store
+
+abbrev pub pages_asked : Cache → ℕ
+pages_asked cache = cache.asked
+
+abbrev pub pages_held : Cache → ℕ
+pages_held cache = length cache.frames.entries
+
+abbrev pub most_frames : Cache → ℕ
+most_frames cache = cache.frames.cap
+
+-- the same, with no page asked for yet
+abbrev pub count_restarted : Cache → Cache
+count_restarted cache = record cache { asked = 0 }
+
 -- the frame of page n, if it is in memory
 abbrev pub frame_of : Cache → ℕ → Option Frame
 frame_of cache n = lookup (nat_eq n) cache.frames.entries
+
+-- the bytes of page n, if it is in memory
+abbrev pub bytes_held : Cache → ℕ → Option (List ℕ)
+bytes_held cache n = option_map (λ frame. frame.page.value) (frame_of cache n)
 
 -- n is a page of the store, and not the header
 abbrev pub is_counted_page : Cache → ℕ → Bool

@@ -6,7 +6,7 @@ use mathlib.Core.Option.{none}
 use Rattle.io_state.specs.declared.fault.Fault.{Fault}
 use Rattle.page_cache.specs.declared.cache.Cache.{Cache}
 use Rattle.page_cache.specs.contracts.cache.Cache.{the_row}
-use Rattle.page_cache.specs.Cached.{frame_of}
+use Rattle.page_cache.specs.Cached.{frame_of, bytes_held}
 
 -- the same frames, in another order perhaps
 pub record SameFrames (old new : Cache) : Type 0 where
@@ -25,12 +25,11 @@ pub record PutsFirst (n : ℕ) (old new : Cache) (result : Bool) : Type 0 where
 pub record FindsBytes {X : Type 0} (n : ℕ) (cache : Cache) (result : Result X Fault)
     (bytes_of : X → List ℕ) : Type 0 where
   pub ok : IsSome (frame_of cache n) → IsOk result
-  pub value : IfOk result (λ page.
-      option_map (λ frame. frame.page.value) (frame_of cache n) ≡ Some (bytes_of page))
+  pub value : IfOk result (λ page. bytes_held cache n ≡ Some (bytes_of page))
 
 -- the frame of page n holds these bytes, and counts as changed; every other frame is as it was
 pub record FrameSet (n : ℕ) (bytes : List ℕ) (old new : Cache) : Type 0 where
-  pub this : option_map (λ frame. frame.page.value) (frame_of new n) ≡ Some bytes
+  pub this : bytes_held new n ≡ Some bytes
   pub changed : option_map (λ frame. frame.changed) (frame_of new n) ≡ Some true
   pub others : (k : ℕ) → k ≢ n → frame_of new k ≡ frame_of old k
   pub cap : new.frames.cap ≡ old.frames.cap

@@ -1,10 +1,11 @@
 //! The cache, and what it reads and writes.
-ghost use Rattle.std.specs.Prelude.{◌≡◌, ◌≤◌, length, slice_get, option_map, None, Some, IsSome, IsTrue};
+ghost use Rattle.std.specs.Prelude.{◌≡◌, ◌≤◌, slice_get, option_map, None, Some, IsSome, IsTrue};
 ghost use Rattle.std.specs.Prelude.{OnOk, MatchResult};
 ghost use Rattle.std.specs.NonZero.{non_zero_usize_get};
 ghost use Rattle.lru.specs.LruCache.{lru_cache};
 ghost use Rattle.page_cache.specs.Cached.{frame_of, IsOver, IsOverPage, IsOverMissing, IsOverNext};
-ghost use Rattle.page_cache.specs.Cached.{IsOverPageOrNext, IsEmptyCache};
+ghost use Rattle.page_cache.specs.Cached.{IsOverPageOrNext, IsEmptyCache, pages_asked, pages_held, most_frames};
+ghost use Rattle.page_cache.specs.Cached.{count_restarted};
 ghost use Rattle.page_cache.specs.Calls.{asked_once, ChangesFrames, TakesBox, PutsFrame, PagesStay};
 ghost use Rattle.page_cache.specs.Calls.{BringsPage, ReadsIntoBox, WritesLast, WritesChanged, PutsZeros};
 ghost use Rattle.page_cache.specs.Lending.{SameFrames, PutsFirst};
@@ -21,11 +22,11 @@ use std::num::NonZeroUsize;
 /// The pages of one unit, some of them in memory.
 #[derive(Drop)]
 pub struct Cache {
-    pub store: Store,
-    pub frames: Frames,
-    pub spare: Option<Box<[u8; PAGE_SIZE]>>,
-    pub asked: u64,
-    pub alloc: Global,
+    pub(crate) store: Store,
+    pub(crate) frames: Frames,
+    spare: Option<Box<[u8; PAGE_SIZE]>>,
+    asked: u64,
+    alloc: Global,
 }
 
 impl Cache {
@@ -46,22 +47,22 @@ impl Cache {
 
     /// How many pages are held.
     pub fn held_pages(&self) -> usize
-        ensures held { result ≡ length self.now.frames.entries }
-        ensures few { result ≤ self.now.frames.cap }
+        ensures held { result ≡ pages_held self.now }
+        ensures few { result ≤ most_frames self.now }
     {
         self.frames.len()
     }
 
     /// How often a page was asked for since the last restart, at most 2^64 - 1.
     pub fn asked(&self) -> u64
-        ensures { result ≡ self.now.asked }
+        ensures { result ≡ pages_asked self.now }
     {
         self.asked
     }
 
     /// Counts from 0 again.
     pub fn restart_count(&mut self)
-        ensures { self.new ≡ record self.old { asked = 0 } }
+        ensures { self.new ≡ count_restarted self.old }
     {
         self.asked = 0;
     }

@@ -2,7 +2,7 @@
 ghost use Rattle.std.specs.Prelude.{OnOk};
 ghost use Rattle.page_store.specs.Gate.{AllOpen, SameOrRefused};
 ghost use Rattle.page_store.specs.ShelfState.{WhereHonest};
-ghost use Rattle.page_cache.specs.Cached.{IsOver, IsOverHeader};
+ghost use Rattle.page_cache.specs.Cached.{IsOver, IsOverHeader, store_of};
 ghost use Rattle.page_cache.specs.HeaderCalls.{OpensGate};
 ghost use Rattle.page_cache.specs.HeaderChanges.{ReadsHeader, WritesHeader, FinishesChange};
 ghost use Rattle.page_cache.specs.Calls.{ShowsSame};
@@ -42,9 +42,9 @@ impl Cache {
     /// written. After a fault the cache is as it was, and the call may be made again.
     pub fn begin_change<S: Shelf>(&self, shelf: &mut S) -> Result<(), Fault>
         requires over { IsOver self.now (S.state shelf.old) }
-        ensures open { OnOk result (WhereHonest (S.state shelf.new) self.now.store.unit AllOpen) }
+        ensures open { OnOk result (WhereHonest (S.state shelf.new) (store_of self.now).unit AllOpen) }
         ensures same { ShowsSame self.now self.now (S.state shelf.old) (S.state shelf.new) }
-        ensures opens { OpensGate S.state S.fault_count self.now.store.unit SameOrRefused shelf.old
+        ensures opens { OpensGate S.state S.fault_count (store_of self.now).unit SameOrRefused shelf.old
             shelf.new result }
     {
         self.store.begin_change(shelf)

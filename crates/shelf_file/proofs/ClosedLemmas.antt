@@ -8,7 +8,7 @@ use Rattle.page_store.proofs.MomentLemmas.{throughout_weaker}
 use Rattle.page_store.specs.DeviceFile.{DeviceFile, content}
 use Rattle.page_store.specs.Pages.{page_of_bytes}
 use Rattle.page_store.specs.ShelfState.{ShelfState}
-use Rattle.page_cache.specs.Cached.{cached_pages_of}
+use Rattle.page_cache.specs.Cached.{store_of, cached_pages_of}
 use Rattle.page_alloc.specs.Chain.{chain, used}
 use Rattle.page_alloc.specs.PagedFile.{IsClosedWith, ClosedWith, ClosesPages, cache_of, counts_of}
 use Rattle.page_alloc.specs.Steps.{pages_state_of}
@@ -81,7 +81,7 @@ module _ (held : ShelfFile) (shelf : ShelfState) (file : File) (header : Header)
         let low = and_parts (ltb 0 n) (ltb n (pages_counted (counts_of held.pages))) counted in
         let below = ltb-true n (pages_counted (counts_of held.pages)) low.1 in
         let all = ready.over.joined.counted in
-        closed.pages n (and_from (ltb 0 n) (ltb n (cache_of held.pages).store.pages) low.0 (lt-ltb n (cache_of held.pages).store.pages (omega arith)))
+        closed.pages n (and_from (ltb 0 n) (ltb n (store_of (cache_of held.pages)).pages) low.0 (lt-ltb n (store_of (cache_of held.pages)).pages (omega arith)))
 
     same_free : free_in header bytes ≡ chain (cached_pages_of (cache_of held.pages) shelf) (pages_counted (counts_of held.pages)) (first_free_page (counts_of held.pages)) (pages_free (counts_of held.pages))
     same_free =

@@ -3,7 +3,7 @@ use Rattle.std.proofs.Common.{◌≡◌, ℕ, ltb, ◌&&◌, true, [], if◌then
 use Rattle.page_store.specs.DeviceFile.{content}
 use Rattle.page_store.specs.Pages.{page_of_bytes}
 use Rattle.page_store.specs.ShelfState.{ShelfState, unit_file}
-use Rattle.page_cache.specs.Cached.{cached_pages_of, is_counted_page}
+use Rattle.page_cache.specs.Cached.{store_of, cached_pages_of, is_counted_page}
 use Rattle.page_alloc.specs.declared.paged_file.PagedFile.{PagedFile}
 use Rattle.page_alloc.specs.Chain.{chain, used}
 use Rattle.page_alloc.specs.Joining.{free_pages, pages_counted, first_free_page, pages_free, pager_with}
@@ -15,7 +15,7 @@ use Rattle.shelf_file.proofs.PagesLemmas.{AreAlike, same_chain, same_live}
 
 module _ (held : PagedFile) (shelf : ShelfState) (unit limit : ℕ) (header : Header)
     (pager : counts_of held ≡ pager_with header.pages header.first_free header.free limit)
-    (store : (cache_of held).store ≡ record { unit = unit; pages = header.pages })
+    (store : store_of (cache_of held) ≡ record { unit = unit; pages = header.pages })
     (pages : (n : ℕ) → cached_pages_of (cache_of held) shelf n ≡ (if is_counted_page (cache_of held) n then page_of_bytes (content (unit_file shelf unit)) n else [])) where
   alike : AreAlike header.pages (cached_pages_of (cache_of held) shelf) (page_of_bytes (content (unit_file shelf unit)))
   alike n page =

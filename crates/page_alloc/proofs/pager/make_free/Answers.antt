@@ -1,7 +1,7 @@
 use Rattle.std.proofs.Common.{rules, ◌≡◌, ◌∙◌, sym, ap, subst, is_ok, true, arith}
-use Rattle.page_cache.proofs.OverLemmas.{set_page, set_others, over_set}
+use Rattle.page_cache.proofs.OverLemmas.{counted_same, set_page, set_others, over_set}
 use Rattle.page_alloc.specs.FreePage.{is_free, next_of}
-use Rattle.page_alloc.proofs.JoinLemmas.{counted_after, parts_after}
+use Rattle.page_alloc.proofs.JoinLemmas.{parts_after}
 use Rattle.page_alloc.proofs.pager.make_free.Goals as goal
 
 pub returns-clause-freed : goal.returns-clause-freed
@@ -21,7 +21,7 @@ pub returns-clause-over : goal.returns-clause-over
 returns-clause-over g c =
     let w = c.link.new.page in
     let set = c.held_mut.follows.holds w (ap is_ok c.in_ok-page.was) in
-    over_set c.args.n w c.load.new.self (c.held_mut.follows.lender w) set (g.S.Shelf.state c.load.new.shelf) (counted_after c.args.cache.now c.load.new.self c.args.n c.load.ensures.looks.kept.keeps.store c.requires.page) c.load.ensures.looks.kept.over
+    over_set c.args.n w c.load.new.self (c.held_mut.follows.lender w) set (g.S.Shelf.state c.load.new.shelf) (counted_same c.args.cache.now c.load.new.self c.args.n c.load.ensures.looks.kept.keeps.store c.requires.page) c.load.ensures.looks.kept.over
 
 pub returns-clause-asks : goal.returns-clause-asks
 returns-clause-asks g c =

@@ -2,18 +2,19 @@ use Rattle.std.proofs.Common.{◌≡◌, ◌∙◌, sym, subst, IsTrue}
 use Rattle.page_store.proofs.MomentLemmas.{quiet_then}
 use Rattle.page_store.specs.ShelfState.{unit_file, IsQuiet}
 use Rattle.page_cache.specs.Cached.{cached_pages_of, IsOver}
+use Rattle.page_alloc.specs.PagedFile.{unit_of_pages}
 use Rattle.page_alloc.proofs.OpenLemmas.{quiet_closes, all_closes, all_closed}
 use Rattle.page_alloc.proofs.paged_file.PagedFile.close.Goals as goal
 
 pub returns-in_err-flush-clause-images : goal.returns-in_err-flush-clause-images
 returns-in_err-flush-clause-images g c honest changed =
-    let unit = c.args.self.now.cache.store.unit in
+    let unit = unit_of_pages c.args.self.now in
     quiet_closes c.args.header.now c.args.self.now.cache (g.S.Shelf.state c.args.shelf.now) (unit_file (g.S.Shelf.state c.args.shelf.now) unit) (unit_file (g.S.Shelf.state c.flush.new.shelf) unit)
     (c.requires.ready.gate changed (c.flush.ensures.stay.kept.goes.others.honest honest)) c.flush.ensures.stay.kept.goes.quiet
 
 pub returns-in_err-write_header-clause-images : goal.returns-in_err-write_header-clause-images
 returns-in_err-write_header-clause-images g c honest changed =
-    let unit = c.args.self.now.cache.store.unit in
+    let unit = unit_of_pages c.args.self.now in
     let s = g.S.Shelf.state c.args.shelf.now in
     let t = g.S.Shelf.state c.flush.new.shelf in
     let u = g.S.Shelf.state c.write_header.new.shelf in
