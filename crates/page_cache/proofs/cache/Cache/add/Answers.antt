@@ -1,4 +1,4 @@
-use Rattle.std.proofs.Common.{rules, ◌∙◌, refl, sym, ap, nat_eq, false, Err}
+use Rattle.std.proofs.Common.{rules, ◌∙◌, refl, sym, ap, nat_eq, false, Err, arith}
 use Rattle.std.specs.Box.{with_value}
 use Rattle.page_cache.specs.declared.frame.Frame.{Frame}
 use Rattle.page_cache.specs.Calls.{KeepsPages}
@@ -6,6 +6,7 @@ use Rattle.page_cache.proofs.QuietLemmas.{keeps_then}
 use Rattle.page_cache.proofs.AddLemmas.{absent_past, all_added, zeroed_put, goes_on_put, zeroed_then, goes_on_then}
 use Rattle.page_cache.proofs.OverLemmas.{keeps_same}
 use Rattle.page_cache.proofs.WriteLemmas.{at_err}
+use Rattle.page_cache.proofs.CauseLemmas.{memory_cause, cause_since, handed_on}
 use Rattle.std.specs.Map.{lookup}
 use Rattle.page_cache.proofs.cache.Cache.add.Goals as goal
 
@@ -18,7 +19,7 @@ returns-in_err-make_room g c =
       goes_on = record { over = room.over; cap = room.keeps.cap; goes = room.goes };
       asked = search rules;
       grows = search rules;
-      cause = search rules;
+      cause = handed_on c.from_residual.result _ _ _ c.from_residual.ensures.1 c.in_err-make_room.ensures.looks.cause;
     }
 
 pub returns-in_err-page : goal.returns-in_err-page
@@ -37,7 +38,8 @@ returns-in_err-page g c =
       goes_on = record { over = same.over; cap = ap (λ f. f.cap) box.frames ∙ room.keeps.cap; goes = room.goes };
       asked = search rules;
       grows = search rules;
-      cause = search rules;
+      cause = handed_on c.from_residual-in_err-page.result _ _ _ c.from_residual-in_err-page.ensures.1
+          (memory_cause _ _ _ c.make_room.ensures.looks.cause.no_fewer c.in_err-page.ensures.memory);
     }
 
 pub returns-in-Ok : goal.returns-in-Ok
@@ -68,7 +70,11 @@ returns-in-Ok g c =
           (goes_on_put m e d t u c.args.n frame c.requires.page.0 last room.over c.in_ok-make_room.ensures.written valid box.frames extends goes added w.zeros refl c.put-put.ensures.same.store c.put-put.result put.put put.kept);
       asked = search rules;
       grows = search rules;
-      cause = search rules;
+      cause = record {
+        no_fewer = let a = c.make_room.ensures.looks.cause.no_fewer in let b = w.writes.cause.no_fewer in omega arith;
+        device = λ d. absurd (cc);
+        kinds = tt;
+      };
     }
 
 pub returns-in-Err : goal.returns-in-Err
@@ -90,7 +96,7 @@ returns-in-Err g c =
       goes_on = goes_on_then old m _ s t u kept all.goes_on;
       asked = search rules;
       grows = search rules;
-      cause = search rules;
+      cause = cause_since _ _ _ _ c.make_room.ensures.looks.cause.no_fewer c.in-Err.ensures.writes.cause;
     }
 
 pub put-put-requires : goal.put-put-requires

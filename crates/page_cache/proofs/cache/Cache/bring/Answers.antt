@@ -1,8 +1,9 @@
-use Rattle.std.proofs.Common.{rules, ◌≡◌, ◌∙◌, refl, sym, ap, nat_eq, false}
+use Rattle.std.proofs.Common.{rules, ◌≡◌, ◌∙◌, refl, sym, ap, nat_eq, false, arith}
 use Rattle.std.specs.Map.{lookup}
 use Rattle.page_cache.specs.Cached.{cached_pages_of}
 use Rattle.page_cache.proofs.QuietLemmas.{goes_then, reads_quietly}
-use Rattle.page_cache.proofs.OverLemmas.{over_same, over_read, pages_same, pages_read}
+use Rattle.page_cache.proofs.OverLemmas.{over_same, clean_same, over_read, pages_same, pages_read}
+use Rattle.page_cache.proofs.CauseLemmas.{memory_cause, cause_since, handed_on}
 use Rattle.page_cache.proofs.PutLemmas.{Brought, brought, cap_kept}
 use Rattle.page_cache.proofs.cache.Cache.bring.Goals as goal
 
@@ -14,6 +15,7 @@ returns-in_err-page g c =
     let room = c.make_room.ensures in
     let frames = c.read.ensures.same.frames ∙ ap (λ x. x.frames) room.same in
     let store = c.read.ensures.same.store ∙ ap (λ x. x.store) room.same in
+    let asked = c.read.ensures.same.asked ∙ room.looks.asked in
     let same : (k : _) → lookup (nat_eq k) c.read.new.self.frames.entries ≡ lookup (nat_eq k) old.frames.entries = λ k. ap (λ frames. lookup (nat_eq k) frames.entries) frames in
     record {
       held = search rules;
@@ -24,10 +26,14 @@ returns-in_err-page g c =
           keeps = record { store = store; cap = ap (λ x. x.cap) frames };
           goes = goes_then old.store.unit (g.S.Shelf.state c.args.shelf.now) s t room.looks.kept.goes (reads_quietly old.store.unit s t c.read.ensures.only);
         };
-        asked = search rules;
-        grows = search rules;
-        looks = search rules;
-        cause = search rules;
+        asked = asked;
+        grows = omega arith;
+        looks = record {
+          clean = λ clean. clean_same old c.read.new.self same clean;
+          file = λ clean. c.read.ensures.only.file ∙ room.looks.looks.file clean;
+        };
+        cause = handed_on c.from_residual-in_err-page.result _ _ _ c.from_residual-in_err-page.ensures.1
+            (cause_since _ _ _ _ room.looks.cause.no_fewer c.in_err-page.ensures.cause);
       };
     }
 
@@ -48,6 +54,7 @@ returns g c =
     let room = c.make_room.ensures in
     let frames = c.read.ensures.same.frames ∙ ap (λ x. x.frames) room.same in
     let store = c.read.ensures.same.store ∙ ap (λ x. x.store) room.same in
+    let asked = c.put.ensures.same.asked ∙ c.read.ensures.same.asked ∙ room.looks.asked in
     record {
       held = (all g c).held;
       looks = record {
@@ -57,10 +64,11 @@ returns g c =
           keeps = record { store = c.put.ensures.same.store ∙ store; cap = cap_kept old.frames c.read.new.self.frames c.put.new.self.frames _ c.put.result frames c.put.ensures.pushed.put c.put.ensures.pushed.kept };
           goes = goes_then old.store.unit (g.S.Shelf.state c.args.shelf.now) s t room.looks.kept.goes (reads_quietly old.store.unit s t c.read.ensures.only);
         };
-        asked = search rules;
-        grows = search rules;
+        asked = asked;
+        grows = omega arith;
         looks = record { clean = (all g c).clean; file = λ clean. c.read.ensures.only.file ∙ room.looks.looks.file clean };
-        cause = search rules;
+        cause = memory_cause c.put.result _ _
+            (let a = room.looks.cause.no_fewer in let b = c.read.ensures.cause.no_fewer in omega arith) c.put.ensures.memory;
       };
     }
 

@@ -19,7 +19,7 @@ returns-in_err-write_back g c =
     let held = last_held old c.in-Some.n.now c.in-Some.frame.now c.len-held.ensures.valid (sym c.peek_lru.ensures ∙ ap (option_map deref_pair) c.in-Some.is) in
     rw w.store (record {
       written = search rules;
-      same = refl;
+      same = refl {a = old};
       looks = looks_rewritten g.S.Shelf.state g.S.Shelf.fault_count old c.args.shelf.now c.write_back.new.shelf c.in-Some.n.now c.in-Some.frame.now _ c.requires.over held c.if-frame.true w.rewrites w.writes.goes (search rules);
     })
 
@@ -31,7 +31,7 @@ returns-in_ok-write_back g c =
     let held = last_held old c.in-Some.n.now c.in-Some.frame.now c.len-held.ensures.valid last in
     rw w.store (record {
       written = last_written old (g.S.Shelf.state c.write_back.new.shelf) c.in-Some.n.now c.in-Some.frame.now last (λ honest. sym (c.in_ok-write_back.ensures.written honest ∙ c.deref.ensures));
-      same = refl;
+      same = refl {a = old};
       looks = looks_rewritten g.S.Shelf.state g.S.Shelf.fault_count old c.args.shelf.now c.write_back.new.shelf c.in-Some.n.now c.in-Some.frame.now _ c.requires.over held c.if-frame.true w.rewrites w.writes.goes c.in_ok-write_back.ensures.writes.cause;
     })
 
