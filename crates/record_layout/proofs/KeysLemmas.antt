@@ -14,9 +14,11 @@ use Rattle.std.proofs.lemmas.Map.Keys.{IsDistinct-IsPermutation}
 use Rattle.std.proofs.Math.ListN.{get_or-map}
 use Rattle.record_layout.specs.declared.fault.SchemaFault.{SchemaFault}
 use Rattle.record_layout.specs.declared.item.Field.{Field}
+use Rattle.record_layout.specs.declared.schema.KeyKind.{KeyKind}
+use Rattle.record_layout.specs.declared.schema.KeyKind.TheVariants.{Prime}
 use Rattle.record_layout.specs.declared.schema.KeyPart.{KeyPart}
 use Rattle.record_layout.specs.Layout.{Placed, is_named, field_of, length_of, IsRecord}
-use Rattle.record_layout.specs.Schema.{schema_of_fields, IsKey, AreKeys, IsSchema}
+use Rattle.record_layout.specs.Schema.{alternate_kind, schema_of_fields, IsKey, AreKeys, IsSchema}
 use Rattle.record_layout.specs.SchemaFault.{KeyClause, begins_one, key_of_item, key_of_clause, where_a_key, keys_behind, keys_given, HasKeys, GivesSchema}
 
 abbrev pub offset_of : KeyPart → ℕ
@@ -59,21 +61,21 @@ at_most : (a b : ℕ) → ltb a b ≡ false → b ≤ a
 at_most a b e = grind (arith, nat_tests)
 
 -- what a key that is taken is
-pub record IsTaken (least : ℕ) (keys : List KeyPart) (duplicates : Bool) (found : Option Field) (key : KeyPart) : Type 0 where
+pub record IsTaken (least : ℕ) (keys : List KeyPart) (kind : KeyKind) (found : Option Field) (key : KeyPart) : Type 0 where
   pub field : Field
   pub named : found ≡ Some field
   pub short : field.length ≤ 250
   pub apart : begins_one keys field ≡ false
   pub within : field.offset + field.length ≤ least
-  pub is : record { offset = field.offset; length = field.length; duplicates = duplicates } ≡ key
+  pub is : record { offset = field.offset; length = field.length; kind = kind } ≡ key
 
-taken : (least : ℕ) (keys : List KeyPart) (duplicates : Bool) (found : Option Field) (key : KeyPart) → key_of_item least keys duplicates found ≡ Ok key → IsTaken least keys duplicates found key
-taken least keys duplicates None key e = absurd (cc)
-taken least keys duplicates (Some field) key e =
+taken : (least : ℕ) (keys : List KeyPart) (kind : KeyKind) (found : Option Field) (key : KeyPart) → key_of_item least keys kind found ≡ Ok key → IsTaken least keys kind found key
+taken least keys kind None key e = absurd (cc)
+taken least keys kind (Some field) key e =
     let short = passed (ltb 250 field.length) _ _ key e in
     let apart = passed (begins_one keys field) _ _ key short.1 in
     let within = passed (ltb least (field.offset + field.length)) _ _ key apart.1 in
-    let is : record { offset = field.offset; length = field.length; duplicates = duplicates } ≡ key = same_ok _ key within.1 in
+    let is : record { offset = field.offset; length = field.length; kind = kind } ≡ key = same_ok _ key within.1 in
     record {
       field = field;
       named = refl;
@@ -90,9 +92,9 @@ all_some : (layout : List Placed) → IsRecord layout → All (λ item. 1 ≤ it
 all_some layout is = λ k d h. (is.within k d h).0
 
 -- keys that are apart, and one more
-one_more : (layout : List Placed) (least : ℕ) (keys : List KeyPart) (clause : KeyClause) (key : KeyPart) → IsRecord layout → AreApart least keys → IsTaken least keys clause.duplicates (field_of layout clause.name) key → AreApart least (keys ++ key ∷ [])
-one_more layout least keys clause key is so new =
-    let some = named_some layout clause.name new.field (all_some layout is) new.named in
+one_more : (layout : List Placed) (least : ℕ) (keys : List KeyPart) (kind : KeyKind) (name : List ℕ) (key : KeyPart) → IsRecord layout → AreApart least keys → IsTaken least keys kind (field_of layout name) key → AreApart least (keys ++ key ∷ [])
+one_more layout least keys kind name key is so new =
+    let some = named_some layout name new.field (all_some layout is) new.named in
     let P : KeyPart → Type 0 = IsKey least in
     record {
       whole = All-push P keys key so.whole (subst P new.is (record { some = some; short = new.short; within = new.within }));
@@ -111,27 +113,41 @@ pub record IsBehind (least : ℕ) (keys all : List KeyPart) (count : ℕ) : Type
   pub rest : List KeyPart
   pub is : all ≡ keys ++ rest
   pub count_is : length rest ≡ count
+  pub alternates : All (λ part. part.kind ≢ Prime) rest
   pub so : AreApart least all
+
+not_prime : (duplicates : Bool) → alternate_kind duplicates ≢ Prime
+not_prime true = λ e. absurd (cc)
+not_prime false = λ e. absurd (cc)
 
 behind : (layout : List Placed) (least : ℕ) (clauses : List KeyClause) (keys all : List KeyPart) → IsRecord layout → AreApart least keys → keys_behind layout least keys clauses ≡ Ok all → IsBehind least keys all (length clauses)
 behind layout least [] keys all is so e =
     let same : keys ≡ all = same_ok keys all e in
-    record { rest = []; is = sym same ∙ sym (append-nil keys); count_is = refl; so = subst (AreApart least) same so }
+    record { rest = []; is = sym same ∙ sym (append-nil keys); count_is = refl; alternates = λ k d h. absurd (omega (arith, h)); so = subst (AreApart least) same so }
   where
     same_ok : (a b : List KeyPart) → ◌≡◌ {A = Result (List KeyPart) SchemaFault} (Ok a) (Ok b) → a ≡ b
     same_ok a b e = cc
 behind layout least (clause ∷ clauses) keys all is so e =
     let t = then_key (key_of_clause layout least keys clause) (λ key. keys_behind layout least (keys ++ key ∷ []) clauses) all e in
-    let more = one_more layout least keys clause t.0 is so (taken least keys clause.duplicates (field_of layout clause.name) t.0 t.1) in
+    let key = taken least keys (alternate_kind clause.duplicates) (field_of layout clause.name) t.0 t.1 in
+    let more = one_more layout least keys (alternate_kind clause.duplicates) clause.name t.0 is so key in
     let r = behind layout least clauses (keys ++ t.0 ∷ []) all is more t.2 in
-    record { rest = t.0 ∷ r.rest; is = r.is ∙ append_assoc keys (t.0 ∷ []) r.rest; count_is = omega (arith, r.count_is); so = r.so }
+    let alternate : t.0.kind ≢ Prime = λ e. not_prime clause.duplicates (ap (λ part. part.kind) key.is ∙ e) in
+    record {
+      rest = t.0 ∷ r.rest;
+      is = r.is ∙ append_assoc keys (t.0 ∷ []) r.rest;
+      count_is = omega (arith, r.count_is);
+      alternates = All-cons (λ part. part.kind ≢ Prime) t.0 r.rest alternate r.alternates;
+      so = r.so;
+    }
 
 -- the keys of a prime clause and of alternate clauses
 pub record AreGiven (least : ℕ) (all : List KeyPart) : Type 0 where
   pub prime : KeyPart
   pub alternates : List KeyPart
   pub is : all ≡ prime ∷ alternates
-  pub unique : prime.duplicates ≡ false
+  pub first : prime.kind ≡ Prime
+  pub others : All (λ part. part.kind ≢ Prime) alternates
   pub few : length alternates ≤ 8
   pub so : AreApart least (prime ∷ alternates)
 
@@ -141,15 +157,15 @@ none_yet least = record { whole = λ k d h. absurd (omega (arith, h)); apart = �
 given : (layout : List Placed) (least : ℕ) (prime : List ℕ) (alternates : List KeyClause) (all : List KeyPart) → IsRecord layout → keys_given layout least prime alternates ≡ Ok all → AreGiven least all
 given layout least prime alternates all is e =
     let few = passed (ltb 8 (length alternates)) _ _ all e in
-    let clause : KeyClause = record { name = prime; duplicates = false } in
-    let t = then_key (key_of_clause layout least [] clause) (λ key. keys_behind layout least ([] ++ key ∷ []) alternates) all few.1 in
-    let first = taken least [] false (field_of layout prime) t.0 t.1 in
-    let r = behind layout least alternates (t.0 ∷ []) all is (one_more layout least [] clause t.0 is (none_yet least) first) t.2 in
+    let t = then_key (key_of_item least [] Prime (field_of layout prime)) (λ key. keys_behind layout least (key ∷ []) alternates) all few.1 in
+    let first = taken least [] Prime (field_of layout prime) t.0 t.1 in
+    let r = behind layout least alternates (t.0 ∷ []) all is (one_more layout least [] Prime prime t.0 is (none_yet least) first) t.2 in
     record {
       prime = t.0;
       alternates = r.rest;
       is = r.is;
-      unique = ap (λ key. key.duplicates) (sym first.is);
+      first = ap (λ key. key.kind) (sym first.is);
+      others = r.alternates;
       few = omega (arith, r.count_is, at_most 8 (length alternates) few.0);
       so = subst (AreApart least) r.is r.so;
     }
@@ -188,7 +204,7 @@ is_schema layout least prime alternates all sorted is some within e front permut
     let sorted_is : sorted ≡ g.prime ∷ others = sym (take-append-drop 1 sorted) ∙ (ap (λ (xs : List KeyPart). xs ++ others) (front ∙ ap (take 1) g.is)) in
     let moves : IsPermutation g.alternates others = subst (λ xs. IsPermutation (drop 1 xs) others) g.is permutation in
     let tail = tail_apart g.prime g.alternates g.so.apart in
-    let keys : AreKeys (g.prime ∷ others) = (g.unique, All-permutation (λ part. part.offset ≢ g.prime.offset) g.alternates others moves (none_as_prime g.prime g.alternates g.so.apart), rising others (moved_apart g.alternates others moves tail) order) in
+    let keys : AreKeys (g.prime ∷ others) = (g.first, All-permutation (λ part. part.offset ≢ g.prime.offset) g.alternates others moves (none_as_prime g.prime g.alternates g.so.apart), rising others (moved_apart g.alternates others moves tail) order, All-permutation (λ part. part.kind ≢ Prime) g.alternates others moves g.others) in
     let whole : All (IsKey least) (g.prime ∷ others) = All-cons (IsKey least) g.prime others (All-get_or (IsKey least) (g.prime ∷ g.alternates) 0 g.prime (omega arith) g.so.whole) (All-permutation (IsKey least) g.alternates others moves (All-tail (IsKey least) g.prime g.alternates g.so.whole)) in
     let count : length others ≡ length g.alternates = length_permutation g.alternates others moves in (
       record {

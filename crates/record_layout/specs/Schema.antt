@@ -1,11 +1,12 @@
 -- The keys of a file's records, and the values of a record's keys.
 -- ANSI X3.23-1985, Indexed I-O module, FILE-CONTROL entry: RECORD KEY and ALTERNATE RECORD KEY clauses.
-use Rattle.std.specs.Prelude.{◌≡◌, ℕ, ◌+◌, ◌<◌, ◌≤◌, ◌==◌, Bool, false, not, ◌&&◌, if◌then◌else◌, List, []}
+use Rattle.std.specs.Prelude.{◌≡◌, ◌≢◌, ℕ, ◌+◌, ◌<◌, ◌≤◌, ◌==◌, Bool, true, false, ◌&&◌, List, []}
 use Rattle.std.specs.Prelude.{◌∷◌, length, take, drop, nat_le, slice_index_or, Option, position, IfSome, All}
-use Rattle.std.specs.Prelude.{AllPairs, refl}
-use Rattle.std.specs.Coded.{Coded, code_by, coded×, coded_ℕ, coded_bool, coded_list}
+use Rattle.std.specs.Prelude.{AllPairs}
 use Rattle.std.specs.Cmp.Lexicographic.{pointwise}
 use Rattle.record_layout.specs.declared.item.Field.{Field}
+use Rattle.record_layout.specs.declared.schema.KeyKind.{KeyKind}
+use Rattle.record_layout.specs.declared.schema.KeyKind.TheVariants.{Prime, Unique, Duplicates}
 use Rattle.record_layout.specs.declared.schema.KeyPart.{KeyPart}
 
 -- the least and the greatest length of a file's records, and its keys: key 0 is the prime key, and
@@ -18,9 +19,28 @@ pub record Schema : Type 0 where
 abbrev pub schema_of_fields : ℕ → ℕ → List KeyPart → Schema
 schema_of_fields least greatest keys = record { least = least; greatest = greatest; keys = keys }
 
--- key k (no bytes where there is no such key)
+-- the kind of an alternate key, by whether its clause says WITH DUPLICATES
+abbrev pub alternate_kind : Bool → KeyKind
+alternate_kind true = Duplicates
+alternate_kind false = Unique
+
+-- whether keys of this kind may have duplicates
+abbrev pub is_duplicates : KeyKind → Bool
+is_duplicates Prime = false
+is_duplicates Unique = false
+is_duplicates Duplicates = true
+
+-- whether the key may have duplicates
+abbrev pub has_duplicates : KeyPart → Bool
+has_duplicates part = is_duplicates part.kind
+
+-- the part of a key that a schema does not have: no bytes
+abbrev pub no_key : KeyPart
+no_key = record { offset = 0; length = 0; kind = Prime }
+
+-- key k
 abbrev pub key_at : Schema → ℕ → KeyPart
-key_at schema k = slice_index_or schema.keys k (record { offset = 0; length = 0; duplicates = false })
+key_at schema k = slice_index_or schema.keys k no_key
 
 -- the bytes of a part of a record
 abbrev pub part_of : KeyPart → List ℕ → List ℕ
@@ -40,12 +60,13 @@ pub record IsKey (least : ℕ) (part : KeyPart) : Type 0 where
   pub short : part.length ≤ 250
   pub within : part.offset + part.length ≤ least
 
--- the prime key is unique, begins elsewhere than each alternate, and the alternates stand by rising offset
+-- the first key alone is the prime key, it begins elsewhere than each alternate, and the alternates stand
+-- by rising offset
 abbrev pub AreKeys : List KeyPart → Type 0
 AreKeys [] = ⊥
 AreKeys (prime ∷ alternates) =
-    (prime.duplicates ≡ false) × All (λ part. (part.offset ≡ prime.offset → ⊥)) alternates
-    × AllPairs (λ a b. a.offset < b.offset) alternates
+    (prime.kind ≡ Prime) × All (λ part. (part.offset ≡ prime.offset → ⊥)) alternates
+    × AllPairs (λ a b. a.offset < b.offset) alternates × All (λ part. part.kind ≢ Prime) alternates
 
 -- what is true of every schema: records have 1 to 4,000 bytes, and there are 1 to 9 keys
 pub record IsSchema (schema : Schema) : Type 0 where
@@ -56,23 +77,16 @@ pub record IsSchema (schema : Schema) : Type 0 where
   pub whole : All (IsKey schema.least) schema.keys
   pub keys : AreKeys schema.keys
 
--- a part is stored as the triple of its fields
-abbrev pub part_code : Coded KeyPart
-part_code =
-    code_by (ℕ × (ℕ × Bool)) (coded× coded_ℕ (coded× coded_ℕ coded_bool))
-    (λ p. (p.offset, (p.length, p.duplicates))) (λ q.
-    record { offset = q.0; length = q.1.0; duplicates = q.1.1 }) (λ _. refl)
+-- the kinds are the same
+abbrev pub same_kind : KeyKind → KeyKind → Bool
+same_kind Prime Prime = true
+same_kind Unique Unique = true
+same_kind Duplicates Duplicates = true
+same_kind _ _ = false
 
--- a schema is stored as the triple of its fields
-abbrev pub schema_code : Coded Schema
-schema_code =
-    code_by (ℕ × (ℕ × List KeyPart)) (coded× coded_ℕ (coded× coded_ℕ (coded_list part_code)))
-    (λ s. (s.least, (s.greatest, s.keys))) (λ p. schema_of_fields p.0 p.1.0 p.1.1) (λ _. refl)
-
--- the parts are the same bytes of a record, and both may have duplicates or neither
+-- the parts are the same bytes of a record, and keys of the same kind
 abbrev pub same_part : KeyPart → KeyPart → Bool
-same_part a b = (a.offset == b.offset) && (a.length == b.length)
-    && (if a.duplicates then b.duplicates else not b.duplicates)
+same_part a b = (a.offset == b.offset) && (a.length == b.length) && same_kind a.kind b.kind
 
 -- the lengths and all keys are the same
 abbrev pub same_schema : Schema → Schema → Bool

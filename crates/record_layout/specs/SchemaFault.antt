@@ -4,7 +4,7 @@
 -- ANSI X3.23-1985, Indexed I-O module, FILE-CONTROL entry: the leftmost character of no key is that
 -- of another; RECORD clause: each key is within the least record length. The limits of 250
 -- characters and 8 alternate keys are ours.
-use Rattle.std.specs.Prelude.{◌≡◌, ℕ, ◌+◌, ◌==◌, Bool, false, List, [], ◌∷◌, ◌++◌, length, nat_lt, Option}
+use Rattle.std.specs.Prelude.{◌≡◌, ℕ, ◌+◌, ◌==◌, Bool, List, [], ◌∷◌, ◌++◌, length, nat_lt, Option}
 use Rattle.std.specs.Prelude.{Some, None, Result, Ok, Err, IsPermutation, if◌then◌else◌}
 use Rattle.std.specs.List.{list_any}
 use Rattle.arrayvec.specs.ArrayString.{ArrayString as Text}
@@ -13,11 +13,13 @@ use Rattle.record_layout.specs.declared.fault.SchemaFault.{SchemaFault}
 use Rattle.record_layout.specs.declared.fault.SchemaFault.TheVariants.{NoSuchField, KeyTooLong, SameLeftmost}
 use Rattle.record_layout.specs.declared.fault.SchemaFault.TheVariants.{TooManyKeys, KeyPastLeast}
 use Rattle.record_layout.specs.declared.item.Field.{Field}
+use Rattle.record_layout.specs.declared.schema.KeyKind.{KeyKind}
+use Rattle.record_layout.specs.declared.schema.KeyKind.TheVariants.{Prime}
 use Rattle.record_layout.specs.declared.schema.KeyPart.{KeyPart}
 use Rattle.record_layout.specs.Layout.{Placed, field_of, length_of}
-use Rattle.record_layout.specs.Schema.{Schema}
+use Rattle.record_layout.specs.Schema.{Schema, alternate_kind}
 
--- a key clause: the name of an item, and whether it says WITH DUPLICATES
+-- the clause of an alternate key: the name of an item, and whether it says WITH DUPLICATES
 pub record KeyClause : Type 0 where
   pub name : List ℕ
   pub duplicates : Bool
@@ -31,17 +33,17 @@ abbrev pub begins_one : List KeyPart → Field → Bool
 begins_one keys field = list_any (λ key. key.offset == field.offset) keys
 
 -- the key that an item is, or its first fault, behind these keys
-abbrev pub key_of_item : ℕ → List KeyPart → Bool → Option Field → Result KeyPart SchemaFault
-key_of_item least keys duplicates None = Err NoSuchField
-key_of_item least keys duplicates (Some field) =
+abbrev pub key_of_item : ℕ → List KeyPart → KeyKind → Option Field → Result KeyPart SchemaFault
+key_of_item least keys kind None = Err NoSuchField
+key_of_item least keys kind (Some field) =
     if nat_lt 250 field.length then Err KeyTooLong
     else if begins_one keys field then Err SameLeftmost
     else if nat_lt least (field.offset + field.length) then Err KeyPastLeast
-    else Ok (record { offset = field.offset; length = field.length; duplicates = duplicates })
+    else Ok (record { offset = field.offset; length = field.length; kind = kind })
 
 abbrev pub key_of_clause : List Placed → ℕ → List KeyPart → KeyClause → Result KeyPart SchemaFault
-key_of_clause layout least keys clause = key_of_item least keys clause.duplicates
-    (field_of layout clause.name)
+key_of_clause layout least keys clause =
+    key_of_item least keys (alternate_kind clause.duplicates) (field_of layout clause.name)
 
 -- what follows a key, or its fault
 abbrev pub where_a_key : Result KeyPart SchemaFault → (KeyPart → Result (List KeyPart) SchemaFault)
@@ -60,7 +62,8 @@ keys_behind layout least keys (clause ∷ clauses) =
 abbrev pub keys_given : List Placed → ℕ → List ℕ → List KeyClause → Result (List KeyPart) SchemaFault
 keys_given layout least prime alternates =
     if nat_lt 8 (length alternates) then Err TooManyKeys
-    else keys_behind layout least [] (record { name = prime; duplicates = false } ∷ alternates)
+    else where_a_key (key_of_item least [] Prime (field_of layout prime))
+    (λ key. keys_behind layout least (key ∷ []) alternates)
 
 -- a schema of these keys: the prime key first, and then the same alternates, by rising offset as
 -- each schema has them

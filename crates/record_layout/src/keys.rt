@@ -2,12 +2,13 @@
 ghost use Rattle.std.specs.Prelude.{◌≡◌, ◌<◌, length, map, take, drop, IsPermutation};
 ghost use Rattle.std.specs.List.Sorted.{IsNonDecreasingBy};
 ghost use Rattle.record_layout.specs.Layout.{field_of};
+ghost use Rattle.record_layout.specs.Schema.{alternate_kind};
 ghost use Rattle.record_layout.specs.SchemaFault.{clause_of, begins_one, key_of_item, AnswersKeys};
 
 use crate::fault::SchemaFault;
 use crate::item::Field;
 use crate::layout::Layout;
-use crate::schema::KeyPart;
+use crate::schema::{KeyKind, KeyPart};
 use arrayvec::ArrayVec;
 use io_state::Name;
 
@@ -24,13 +25,24 @@ pub fn keys_in_order(
         return Err(SchemaFault::TooManyKeys);
     }
     let mut keys = ArrayVec::new();
-    let key = key_part(layout, least, &[], prime, false)?;
+    let key = key_part(layout, least, &[], prime, KeyKind::Prime)?;
     keys.push(key);
     for (name, duplicates) in alternates {
-        let key = key_part(layout, least, &keys, name, *duplicates)?;
+        let key = key_part(layout, least, &keys, name, alternate_kind(*duplicates))?;
         keys.push(key);
     }
     Ok(keys)
+}
+
+/// The kind of an alternate key, by whether its clause says WITH DUPLICATES.
+fn alternate_kind(duplicates: bool) -> KeyKind
+    ensures { result ≡ alternate_kind duplicates }
+{
+    if duplicates {
+        KeyKind::Duplicates
+    } else {
+        KeyKind::Unique
+    }
 }
 
 /// The key that the item of a name is, behind other keys.
@@ -39,9 +51,9 @@ fn key_part(
     least: u16,
     keys: &[KeyPart],
     name: &str,
-    duplicates: bool,
+    kind: KeyKind,
 ) -> Result<KeyPart, SchemaFault>
-    ensures { result ≡ key_of_item least keys.now duplicates (field_of layout.now name.now) }
+    ensures { result ≡ key_of_item least keys.now kind (field_of layout.now name.now) }
 {
     let field = layout.field(name).ok_or(SchemaFault::NoSuchField)?;
     if field.length > 250 {
@@ -56,7 +68,7 @@ fn key_part(
     Ok(KeyPart {
         offset: field.offset,
         length: field.length,
-        duplicates,
+        kind,
     })
 }
 

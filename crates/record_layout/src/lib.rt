@@ -27,4 +27,4 @@ pub use fault::{LayoutFault, SchemaFault};
 pub use item::{Field, Item, Placed};
 pub use layout::{Layout, one_outcome};
 pub use picture::{Picture, one_picture};
-pub use schema::{KeyPart, Schema};
+pub use schema::{KeyKind, KeyPart, Schema};

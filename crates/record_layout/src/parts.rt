@@ -1,12 +1,13 @@
 //! A schema from its numbers, as a file's header has them.
 ghost use Rattle.std.specs.Prelude.{◌≡◌, ◌≢◌, ◌<◌, ◌↔◌, IsTrue, All, AllPairs};
+ghost use Rattle.record_layout.specs.declared.schema.KeyKind.TheVariants.{Prime};
 ghost use Rattle.record_layout.specs.Schema.{IsKey, AreKeys};
 
-use crate::schema::KeyPart;
+use crate::schema::{KeyKind, KeyPart};
 
 /// Whether these are the keys of a schema: records have at least `least` bytes, and each key is
-/// whole in each record; the first key is the prime key, which has no duplicates, and the alternate
-/// keys stand by rising offset.
+/// whole in each record; the first key alone is the prime key, and the alternate keys begin elsewhere
+/// and stand by rising offset.
 pub fn are_keys(least: u16, keys: &[KeyPart]) -> bool
     ensures whole { IsTrue result → All (IsKey least) keys.now }
     ensures keys { IsTrue result → AreKeys keys.now }
@@ -15,10 +16,11 @@ pub fn are_keys(least: u16, keys: &[KeyPart]) -> bool
     match keys.split_first() {
         None => false,
         Some((prime, alternates)) => {
-            !prime.duplicates
+            prime.kind == KeyKind::Prime
                 && are_whole(least, keys)
                 && begin_elsewhere(prime.offset, alternates)
                 && rise(alternates)
+                && are_alternates(alternates)
         }
     }
 }
@@ -35,6 +37,12 @@ fn is_key(least: u16, part: &KeyPart) -> bool
     1 <= part.length
         && part.length <= 250
         && u32::from(part.offset) + u32::from(part.length) <= u32::from(least)
+}
+
+fn are_alternates(alternates: &[KeyPart]) -> bool
+    ensures { IsTrue result ↔ All (λ part. part.kind ≢ Prime) alternates.now }
+{
+    alternates.iter().all(|part| part.kind != KeyKind::Prime)
 }
 
 fn begin_elsewhere(offset: u16, alternates: &[KeyPart]) -> bool

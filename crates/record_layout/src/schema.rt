@@ -12,13 +12,24 @@ use arrayvec::ArrayVec;
 use io_state::{Key, Name};
 use std::marker::Model;
 
-/// A part of a record that is a key: bytes from the record's first on, and whether records may
-/// share its value.
+/// What a key is in its file.
+#[derive(Clone, Copy, Debug, PartialEq, Eq, Default)]
+pub enum KeyKind {
+    /// The prime record key, whose values are unique.
+    #[default]
+    Prime,
+    /// An alternate record key whose values are unique.
+    Unique,
+    /// An alternate record key that may have duplicates, WITH DUPLICATES.
+    Duplicates,
+}
+
+/// A part of a record that is a key: bytes from the record's first on, and its kind.
 #[derive(Clone, Copy, Debug, PartialEq, Eq, Default)]
 pub struct KeyPart {
     pub offset: u16,
     pub length: u16,
-    pub duplicates: bool,
+    pub kind: KeyKind,
 }
 
 /// The least and the greatest length of a file's records, in bytes, and the keys: key 0 is the
@@ -31,11 +42,9 @@ pub struct Schema {
 }
 
 impl Model for Schema {
-    ghost use Rattle.record_layout.specs.Schema.{Schema as Keys, schema_code, IsSchema, schema_of_fields};
+    ghost use Rattle.record_layout.specs.Schema.{Schema as Keys, IsSchema, schema_of_fields};
 
     ghost Value = { Keys };
-
-    ghost coded = { schema_code };
 
     ghost view = { λ s. schema_of_fields s.least s.greatest s.keys.items };
 
@@ -44,7 +53,7 @@ impl Model for Schema {
 
 impl KeyPart {
     ghost use Rattle.std.specs.Prelude.{◌≡◌};
-    ghost use Rattle.record_layout.specs.Schema.{part_of};
+    ghost use Rattle.record_layout.specs.Schema.{part_of, has_duplicates};
 
     /// Its bytes in a record, as many as the record has of them.
     pub fn of<'a>(&self, bytes: &'a [u8]) -> &'a [u8]
@@ -53,6 +62,16 @@ impl KeyPart {
         let start = usize::from(self.offset).min(bytes.len());
         let rest = &bytes[start..];
         &rest[..usize::from(self.length).min(rest.len())]
+    }
+
+    /// Whether it may have duplicates.
+    pub fn has_duplicates(&self) -> bool
+        ensures { result ≡ has_duplicates self.now }
+    {
+        match self.kind {
+            KeyKind::Prime | KeyKind::Unique => false,
+            KeyKind::Duplicates => true,
+        }
     }
 }
 
@@ -222,7 +241,7 @@ impl Schema {
     }
 }
 
-/// Whether both have the same keys, with or without duplicates.
+/// Whether both have the same keys, of the same kinds.
 fn same_keys(keys: &[KeyPart], others: &[KeyPart]) -> bool
     ensures { result ≡ pointwise same_part keys.now others.now }
 {
