@@ -6,13 +6,15 @@ use Rattle.byteorder.specs.Endian.{big_number, big_bytes}
 use Rattle.byteorder.specs.Numbers.{big_number-reads_back}
 use Rattle.page_bytes.specs.Chunks.{chunks}
 use Rattle.page_bytes.proofs.ChunkLemmas.{one_chunk}
+use Rattle.record_layout.specs.declared.schema.KeyKind.{KeyKind}
+use Rattle.record_layout.specs.declared.schema.KeyKind.TheVariants.{Prime, Unique, Duplicates}
 use Rattle.record_layout.specs.declared.schema.KeyPart.{KeyPart}
-use Rattle.record_layout.specs.Schema.{IsKey, AreKeys}
+use Rattle.record_layout.specs.Schema.{IsKey}
 use Rattle.file_header.specs.declared.header.Header.{Header}
 use Rattle.file_header.specs.declared.header.TreeNumbers.{TreeNumbers}
 use Rattle.file_header.specs.Bounds.{AreTreeNumbers, IsHeader}
-use Rattle.file_header.specs.FirstPage.{first_bytes, header_bytes, closed_page, key_row_bytes, key_rows_bytes, zeros}
-use Rattle.file_header.specs.Reading.{number_in, greatest_in, least_in, key_count_in, key_rows_in, part_in, tree_in, numbers_in}
+use Rattle.file_header.specs.FirstPage.{first_bytes, header_bytes, closed_page, kind_byte, key_row_bytes, key_rows_bytes, zeros}
+use Rattle.file_header.specs.Reading.{number_in, greatest_in, least_in, key_count_in, key_rows_in, kind_in, part_in, tree_in, numbers_in}
 use Rattle.file_header.proofs.RowLemmas.{length-row}
 
 number_back : (n x : ℕ) → x < 256 ^ n → big_number n (big_bytes n x) ≡ x
@@ -32,61 +34,46 @@ told_small : (b : Bool) (least : ℕ) → least < 256 ^ 2 → (if b then 0 else 
 told_small true least h = omega arith
 told_small false least h = h
 
--- whether a key has duplicates, by its kind
-kind_back : (b d : Bool) → (b ≡ true → d ≡ false) → ((if b then 0 else if d then 2 else 1) == 2) ≡ d
-kind_back true d same = sym (same refl)
-kind_back false true same = refl
-kind_back false false same = refl
+kind_back : (kind : KeyKind) → kind_in (kind_byte kind) ≡ kind
+kind_back Prime = refl
+kind_back Unique = refl
+kind_back Duplicates = refl
 
-abbrev StartsUnique : List KeyPart → Type 0
-StartsUnique [] = Unit {0}
-StartsUnique (part ∷ parts) = part.duplicates ≡ false
-
-part_back : (k : ℕ) (part : KeyPart) (tree : TreeNumbers) → part.offset < 256 ^ 2 → part.length < 256 ^ 2 → (k ≡ 0 → part.duplicates ≡ false)
-    → part_in (key_row_bytes k part tree) ≡ part
+part_back : (part : KeyPart) (tree : TreeNumbers) → part.offset < 256 ^ 2 → part.length < 256 ^ 2 → part_in (key_row_bytes part tree) ≡ part
 unfolding key_row_bytes
-part_back k part tree offset size unique =
-    λ i. record {
-      offset = number_back 2 part.offset offset i;
-      length = number_back 2 part.length size i;
-      duplicates = kind_back (k == 0) part.duplicates (λ e. unique ((Decides-eqb k 0).0 e)) i;
-    }
+part_back part tree offset size = λ i. record { offset = number_back 2 part.offset offset i; length = number_back 2 part.length size i; kind = kind_back part.kind i }
 
-tree_back : (k : ℕ) (part : KeyPart) (tree : TreeNumbers) → tree.root < 256 ^ 4 → tree_in (key_row_bytes k part tree) ≡ tree
+tree_back : (part : KeyPart) (tree : TreeNumbers) → tree.root < 256 ^ 4 → tree_in (key_row_bytes part tree) ≡ tree
 unfolding key_row_bytes
-tree_back k part tree root = λ i. record { height = tree.height; root = number_back 4 tree.root root i }
+tree_back part tree root = λ i. record { height = tree.height; root = number_back 4 tree.root root i }
 
-first_row : (n k : ℕ) (part : KeyPart) (tree : TreeNumbers) (rows rest : List ℕ)
-    → chunks 16 (suc n) ((key_row_bytes k part tree ++ rows) ++ rest) ≡ key_row_bytes k part tree ∷ chunks 16 n (rows ++ rest)
-first_row n k part tree rows rest =
-    ap (chunks 16 (suc n)) (append_assoc (key_row_bytes k part tree) rows rest) ∙ one_chunk 16 n (key_row_bytes k part tree) (rows ++ rest) (length-row k part tree)
+first_row : (n : ℕ) (part : KeyPart) (tree : TreeNumbers) (rows rest : List ℕ)
+    → chunks 16 (suc n) ((key_row_bytes part tree ++ rows) ++ rest) ≡ key_row_bytes part tree ∷ chunks 16 n (rows ++ rest)
+first_row n part tree rows rest =
+    ap (chunks 16 (suc n)) (append_assoc (key_row_bytes part tree) rows rest) ∙ one_chunk 16 n (key_row_bytes part tree) (rows ++ rest) (length-row part tree)
 
-parts_back : (k least : ℕ) (keys : List KeyPart) (trees : List TreeNumbers) (rest : List ℕ) → length trees ≡ length keys → least ≤ 4000 → All (IsKey least) keys
-    → (k ≡ 0 → StartsUnique keys) → map part_in (chunks 16 (length keys) (key_rows_bytes k keys trees ++ rest)) ≡ keys
+parts_back : (least : ℕ) (keys : List KeyPart) (trees : List TreeNumbers) (rest : List ℕ) → length trees ≡ length keys → least ≤ 4000 → All (IsKey least) keys
+    → map part_in (chunks 16 (length keys) (key_rows_bytes keys trees ++ rest)) ≡ keys
 unfolding key_rows_bytes chunks
-parts_back k least [] trees rest same limit whole unique = refl
-parts_back k least (key ∷ keys) [] rest same limit whole unique = absurd (omega arith)
-parts_back k least (key ∷ keys) (tree ∷ trees) rest same limit whole unique =
+parts_back least [] trees rest same limit whole = refl
+parts_back least (key ∷ keys) [] rest same limit whole = absurd (omega arith)
+parts_back least (key ∷ keys) (tree ∷ trees) rest same limit whole =
     let first : IsKey least key = whole 0 key (omega arith) in
     let later : All (IsKey least) keys = λ j d h. whole (suc j) d (omega arith) in
-    ap (map part_in) (first_row (length keys) k key tree (key_rows_bytes (k + 1) keys trees) rest)
-    ∙ λ i. (part_back k key tree (omega (arith, first.within)) (omega (arith, first.short)) unique i) ∷ (parts_back (k + 1) least keys trees rest (omega arith) limit later (λ e. absurd (omega arith)) i)
+    ap (map part_in) (first_row (length keys) key tree (key_rows_bytes keys trees) rest)
+    ∙ λ i. (part_back key tree (omega (arith, first.within)) (omega (arith, first.short)) i) ∷ (parts_back least keys trees rest (omega arith) limit later i)
 
-trees_back : (k pages : ℕ) (keys : List KeyPart) (trees : List TreeNumbers) (rest : List ℕ) → length trees ≡ length keys → pages ≤ 256 ^ 4 → All (AreTreeNumbers pages) trees
-    → map tree_in (chunks 16 (length keys) (key_rows_bytes k keys trees ++ rest)) ≡ trees
+trees_back : (pages : ℕ) (keys : List KeyPart) (trees : List TreeNumbers) (rest : List ℕ) → length trees ≡ length keys → pages ≤ 256 ^ 4 → All (AreTreeNumbers pages) trees
+    → map tree_in (chunks 16 (length keys) (key_rows_bytes keys trees ++ rest)) ≡ trees
 unfolding key_rows_bytes chunks
-trees_back k pages [] [] rest same limit whole = refl
-trees_back k pages [] (tree ∷ trees) rest same limit whole = absurd (omega arith)
-trees_back k pages (key ∷ keys) [] rest same limit whole = absurd (omega arith)
-trees_back k pages (key ∷ keys) (tree ∷ trees) rest same limit whole =
+trees_back pages [] [] rest same limit whole = refl
+trees_back pages [] (tree ∷ trees) rest same limit whole = absurd (omega arith)
+trees_back pages (key ∷ keys) [] rest same limit whole = absurd (omega arith)
+trees_back pages (key ∷ keys) (tree ∷ trees) rest same limit whole =
     let first : AreTreeNumbers pages tree = whole 0 tree (omega arith) in
     let later : All (AreTreeNumbers pages) trees = λ j d h. whole (suc j) d (omega arith) in
-    ap (map tree_in) (first_row (length keys) k key tree (key_rows_bytes (k + 1) keys trees) rest)
-    ∙ λ i. (tree_back k key tree (omega (arith, first.within)) i) ∷ (trees_back (k + 1) pages keys trees rest (omega arith) limit later i)
-
-starts_unique : (keys : List KeyPart) → AreKeys keys → StartsUnique keys
-starts_unique [] none = tt
-starts_unique (part ∷ parts) are = are.0
+    ap (map tree_in) (first_row (length keys) key tree (key_rows_bytes keys trees) rest)
+    ∙ λ i. (tree_back key tree (omega (arith, first.within)) i) ∷ (trees_back pages keys trees rest (omega arith) limit later i)
 
 -- the page of a header has its numbers
 pub numbers_back : (header : Header) → IsHeader header → numbers_in (closed_page header) ≡ header
@@ -95,7 +82,7 @@ numbers_back header is =
     let page = closed_page header in
     let schema = header.schema in
     let trees = header.trees.items in
-    let rest = zeros (4096 - length (first_bytes header ++ key_rows_bytes 0 schema.keys trees)) in
+    let rest = zeros (4096 - length (first_bytes header ++ key_rows_bytes schema.keys trees)) in
     let same = schema.least == schema.greatest in
     let under : schema.least < 256 ^ 2 = omega (arith, is.schema.limit, is.schema.ordered) in
     let greatest : greatest_in page ≡ schema.greatest = number_back 2 schema.greatest (omega (arith, is.schema.limit)) in
@@ -106,10 +93,10 @@ numbers_back header is =
     let count : key_count_in page ≡ length schema.keys = let h : min (length schema.keys) 9 ≡ length schema.keys = omega (arith, is.schema.few) in h in
     let keys : map part_in (key_rows_in page (key_count_in page)) ≡ schema.keys =
     ap (λ (n : ℕ). map part_in (key_rows_in page n)) count
-    ∙ parts_back 0 schema.least schema.keys trees rest is.trees (omega (arith, is.schema.limit, is.schema.ordered)) is.schema.whole (λ _. starts_unique schema.keys is.schema.keys) in
+    ∙ parts_back schema.least schema.keys trees rest is.trees (omega (arith, is.schema.limit, is.schema.ordered)) is.schema.whole in
     let roots : map tree_in (key_rows_in page (key_count_in page)) ≡ trees =
     ap (λ (n : ℕ). map tree_in (key_rows_in page n)) count
-    ∙ trees_back 0 header.pages schema.keys trees rest is.trees (omega (arith, is.room.pages)) is.within.trees in
+    ∙ trees_back header.pages schema.keys trees rest is.trees (omega (arith, is.room.pages)) is.within.trees in
     λ i. record {
       schema = record { least = told i; greatest = greatest i; keys = keys i };
       pages = number_back 4 header.pages is.room.pages i;

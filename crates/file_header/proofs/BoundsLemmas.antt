@@ -1,12 +1,14 @@
 -- Each test of a header decides its fact.
-use Rattle.std.proofs.Common.{◌≡◌, ℕ, ◌+◌, ◌<◌, ◌≤◌, ◌==◌, Bool, true, false, not, List, [], ◌∷◌, length, nat_le, nat_lt, inl, inr, All, AllPairs, Decides, refl, sym, ◌∙◌, arith}
+use Rattle.std.proofs.Common.{◌≡◌, ◌≢◌, ℕ, ◌+◌, ◌<◌, ◌≤◌, ◌==◌, Bool, true, false, not, List, [], ◌∷◌, length, nat_le, nat_lt, inl, inr, All, AllPairs, Decides, refl, sym, ◌∙◌, arith}
 use Rattle.std.specs.List.{list_all}
 use Rattle.std.proofs.lemmas.Bool.{false≢true}
 use Rattle.std.proofs.lemmas.Bool.Decides.{Decides-eqb, Decides-ltb, Decides-not, Decides-and, Decides-like, Decides-by_and, leb_tells}
 use Rattle.std.proofs.lemmas.List.Kept.{AllPairs-cons}
+use Rattle.record_layout.specs.declared.schema.KeyKind.TheVariants.{Prime}
 use Rattle.record_layout.specs.declared.schema.KeyPart.{KeyPart}
-use Rattle.record_layout.specs.Schema.{Schema, IsKey, AreKeys, IsSchema}
+use Rattle.record_layout.specs.Schema.{Schema, IsKey, AreKeys, IsSchema, same_kind}
 use Rattle.record_layout.proofs.PartsLemmas.{first_below, later_rise}
+use Rattle.record_layout.proofs.SchemaLemmas.{same_kind-Decides}
 use Rattle.file_header.specs.declared.header.Header.{Header}
 use Rattle.file_header.specs.declared.header.TreeNumbers.{TreeNumbers}
 use Rattle.file_header.specs.Bounds.{AreTreeNumbers, AreLinksWithin, FitsItsBytes, IsHeader}
@@ -20,10 +22,6 @@ le a b = elim (leb_tells a b) [
 
 each : {X : Type 0} (p : X → Bool) (P : X → Type 0) → ((x : X) → Decides (p x) (P x)) → (xs : List X) → Decides (list_all p xs) (All P xs)
 each p P decides xs = Decides-by_and p P (list_all p) decides refl (λ _ _. refl) xs
-
-unset : (b : Bool) → Decides (not b) (b ≡ false)
-unset true = (λ e. absurd (false≢true e), λ e. sym e)
-unset false = (λ _. refl, λ _. refl)
 
 is_tree-Decides : (pages : ℕ) (tree : TreeNumbers) → Decides (is_tree pages tree) (AreTreeNumbers pages tree)
 is_tree-Decides pages tree =
@@ -64,10 +62,11 @@ rise-Decides (part ∷ parts) =
 are_keys-Decides : (keys : List KeyPart) → Decides (are_keys keys) (AreKeys keys)
 are_keys-Decides [] = (λ e. absurd (false≢true e), λ none. absurd none)
 are_keys-Decides (prime ∷ alternates) =
-    Decides-like (are_keys (prime ∷ alternates)) (λ p. (p.0.0, p.0.1, p.1)) (λ k. ((k.0, k.1), k.2))
-    (Decides-and _ _ (Decides-and _ _ (unset prime.duplicates)
+    Decides-like (are_keys (prime ∷ alternates)) (λ p. (p.0.0.0, p.0.0.1, p.0.1, p.1)) (λ k. (((k.0, k.1), k.2), k.3))
+    (Decides-and _ _ (Decides-and _ _ (Decides-and _ _ (same_kind-Decides prime.kind Prime)
     (each (λ part. not (part.offset == prime.offset)) (λ part. (part.offset ≡ prime.offset → ⊥)) (λ part. Decides-not _ (Decides-eqb part.offset prime.offset)) alternates))
     (rise-Decides alternates))
+    (each (λ part. not (same_kind part.kind Prime)) (λ part. part.kind ≢ Prime) (λ part. Decides-not _ (same_kind-Decides part.kind Prime)) alternates))
 
 is_schema-Decides : (schema : Schema) → Decides (is_schema schema) (IsSchema schema)
 is_schema-Decides schema =

@@ -27,7 +27,7 @@ read_more f page k = ap (map f) (row_more page k) ∙ map-append f (key_rows_in 
 -- one row more is written
 pub write_more : (keys : List KeyPart) (trees : List TreeNumbers) (k : ℕ) (part : KeyPart) (tree : TreeNumbers) (rows : List ℕ)
     → k < length keys → k < length trees
-    → (rows ++ key_row_bytes k (get_or keys k part) (get_or trees k tree)) ++ key_rows_bytes (k + 1) (drop (k + 1) keys) (drop (k + 1) trees) ≡ rows ++ key_rows_bytes k (drop k keys) (drop k trees)
+    → (rows ++ key_row_bytes (get_or keys k part) (get_or trees k tree)) ++ key_rows_bytes (drop (k + 1) keys) (drop (k + 1) trees) ≡ rows ++ key_rows_bytes (drop k keys) (drop k trees)
 unfolding key_rows_bytes
 write_more keys trees k part tree rows in_keys in_trees =
     rw (drop_more keys k part in_keys, drop_more trees k tree in_trees) (append_assoc rows _ _)
@@ -36,17 +36,17 @@ pub row_none : (page : List ℕ) → key_rows_in page 0 ≡ []
 unfolding chunks
 row_none page = refl
 
-pub length-row : (k : ℕ) (part : KeyPart) (tree : TreeNumbers) → length (key_row_bytes k part tree) ≡ 16
+pub length-row : (part : KeyPart) (tree : TreeNumbers) → length (key_row_bytes part tree) ≡ 16
 unfolding key_row_bytes
-length-row k part tree = refl
+length-row part tree = refl
 
-no_rows : (k : ℕ) (keys : List KeyPart) (trees : List TreeNumbers) → min (length keys) (length trees) ≡ 0 → key_rows_bytes k keys trees ≡ []
+no_rows : (keys : List KeyPart) (trees : List TreeNumbers) → min (length keys) (length trees) ≡ 0 → key_rows_bytes keys trees ≡ []
 unfolding key_rows_bytes
-no_rows k [] trees h = refl
-no_rows k (key ∷ keys) [] h = refl
-no_rows k (key ∷ keys) (tree ∷ trees) h = absurd (omega arith)
+no_rows [] trees h = refl
+no_rows (key ∷ keys) [] h = refl
+no_rows (key ∷ keys) (tree ∷ trees) h = absurd (omega arith)
 
 -- behind the last of them there are no more
-pub rows_end : (k : ℕ) (keys : List KeyPart) (trees : List TreeNumbers) → min (length keys) (length trees) ≤ k → key_rows_bytes k (drop k keys) (drop k trees) ≡ []
+pub rows_end : (k : ℕ) (keys : List KeyPart) (trees : List TreeNumbers) → min (length keys) (length trees) ≤ k → key_rows_bytes (drop k keys) (drop k trees) ≡ []
 rows_end k keys trees h =
-    no_rows k (drop k keys) (drop k trees) (omega (arith, length-drop k keys, length-drop k trees))
+    no_rows (drop k keys) (drop k trees) (omega (arith, length-drop k keys, length-drop k trees))

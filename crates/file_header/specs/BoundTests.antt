@@ -2,8 +2,9 @@
 use Rattle.std.specs.Prelude.{ℕ, ◌+◌, ◌^◌, ◌==◌, Bool, true, false, not, ◌&&◌, List, [], ◌∷◌, length, nat_lt}
 use Rattle.std.specs.Prelude.{nat_le}
 use Rattle.std.specs.List.{list_all}
+use Rattle.record_layout.specs.declared.schema.KeyKind.TheVariants.{Prime}
 use Rattle.record_layout.specs.declared.schema.KeyPart.{KeyPart}
-use Rattle.record_layout.specs.Schema.{Schema}
+use Rattle.record_layout.specs.Schema.{Schema, same_kind}
 use Rattle.file_header.specs.declared.header.Header.{Header}
 use Rattle.file_header.specs.declared.header.TreeNumbers.{TreeNumbers}
 
@@ -38,11 +39,12 @@ abbrev pub rise : List KeyPart → Bool
 rise [] = true
 rise (part ∷ parts) = list_all (λ later. nat_lt part.offset later.offset) parts && rise parts
 
--- whether the first one is a prime key, and the others its alternates
+-- whether the first one alone is a prime key, and the others are its alternates
 abbrev pub are_keys : List KeyPart → Bool
 are_keys [] = false
 are_keys (prime ∷ alternates) =
-    not prime.duplicates && list_all (λ part. not (part.offset == prime.offset)) alternates && rise alternates
+    same_kind prime.kind Prime && list_all (λ part. not (part.offset == prime.offset)) alternates
+    && rise alternates && list_all (λ part. not (same_kind part.kind Prime)) alternates
 
 -- whether it is a schema
 abbrev pub is_schema : Schema → Bool

@@ -1,8 +1,10 @@
 -- The bytes of a file's first page, row for row of its table. Numbers are big-endian.
-use Rattle.std.specs.Prelude.{ℕ, ◌+◌, ◌-◌, ◌==◌, Bool, List, [], ◌∷◌, ◌++◌, length, drop, replicate, codes}
+use Rattle.std.specs.Prelude.{ℕ, ◌-◌, ◌==◌, List, [], ◌∷◌, ◌++◌, length, drop, replicate, codes}
 use Rattle.std.specs.Prelude.{if◌then◌else◌}
 use Rattle.std.specs.List.{concat}
 use Rattle.byteorder.specs.Endian.{big_bytes}
+use Rattle.record_layout.specs.declared.schema.KeyKind.{KeyKind}
+use Rattle.record_layout.specs.declared.schema.KeyKind.TheVariants.{Prime, Unique, Duplicates}
 use Rattle.record_layout.specs.declared.schema.KeyPart.{KeyPart}
 use Rattle.file_header.specs.declared.header.Header.{Header}
 use Rattle.file_header.specs.declared.header.TreeNumbers.{TreeNumbers}
@@ -41,28 +43,29 @@ first_bytes header = concat (
     ∷ zeros 8
     ∷ [])
 
--- the kind of key k: 0 the prime key, 1 an alternate key whose values are unique, 2 one with duplicates
-abbrev pub kind_of_key : ℕ → Bool → ℕ
-kind_of_key k duplicates = if k == 0 then 0 else if duplicates then 2 else 1
+-- the byte of a key's kind: 0 the prime key, 1 an alternate key whose values are unique, 2 one with duplicates
+abbrev pub kind_byte : KeyKind → ℕ
+kind_byte Prime = 0
+kind_byte Unique = 1
+kind_byte Duplicates = 2
 
--- the 16 bytes of key k and of its tree
-unfoldable pub key_row_bytes : ℕ → KeyPart → TreeNumbers → List ℕ
-key_row_bytes k part tree = concat (
+-- the 16 bytes of a key and of its tree
+unfoldable pub key_row_bytes : KeyPart → TreeNumbers → List ℕ
+key_row_bytes part tree = concat (
     big_bytes 2 part.offset
     ∷ big_bytes 2 part.length
-    ∷ (kind_of_key k part.duplicates ∷ [])
+    ∷ (kind_byte part.kind ∷ [])
     ∷ (tree.height ∷ [])
     ∷ zeros 2
     ∷ big_bytes 4 tree.root
     ∷ zeros 4
     ∷ [])
 
--- the rows of the keys from key k on, each with its tree
-unfoldable pub key_rows_bytes : ℕ → List KeyPart → List TreeNumbers → List ℕ
-key_rows_bytes k [] trees = []
-key_rows_bytes k (part ∷ parts) [] = []
-key_rows_bytes k (part ∷ parts) (tree ∷ trees) = key_row_bytes k part tree
-    ++ key_rows_bytes (k + 1) parts trees
+-- the rows of the keys, each with its tree
+unfoldable pub key_rows_bytes : List KeyPart → List TreeNumbers → List ℕ
+key_rows_bytes [] trees = []
+key_rows_bytes (part ∷ parts) [] = []
+key_rows_bytes (part ∷ parts) (tree ∷ trees) = key_row_bytes part tree ++ key_rows_bytes parts trees
 
 -- all bytes of a page, up to its 4,096th
 abbrev pub filled_page : List ℕ → List ℕ
@@ -71,7 +74,7 @@ filled_page bytes = bytes ++ zeros (4096 - length bytes)
 -- the first page of a file with this header, as it is written: its gate is open
 unfoldable pub header_bytes : Header → List ℕ
 header_bytes header = filled_page
-    (first_bytes header ++ key_rows_bytes 0 header.schema.keys header.trees.items)
+    (first_bytes header ++ key_rows_bytes header.schema.keys header.trees.items)
 
 -- the first page of a file that was closed with this header: its gate is closed
 abbrev pub closed_page : Header → List ℕ

@@ -4,6 +4,8 @@ use Rattle.std.specs.Prelude.{Option, Some, None, if◌then◌else◌}
 use Rattle.std.specs.Cmp.Lexicographic.{pointwise}
 use Rattle.byteorder.specs.Endian.{big_number}
 use Rattle.page_bytes.specs.Chunks.{chunks}
+use Rattle.record_layout.specs.declared.schema.KeyKind.{KeyKind}
+use Rattle.record_layout.specs.declared.schema.KeyKind.TheVariants.{Prime, Unique, Duplicates}
 use Rattle.record_layout.specs.declared.schema.KeyPart.{KeyPart}
 use Rattle.record_layout.specs.Schema.{Schema}
 use Rattle.file_header.specs.declared.header.Header.{Header}
@@ -37,12 +39,17 @@ key_count_in page = min (slice_index page 34) 9
 abbrev pub key_rows_in : List ℕ → ℕ → List (List ℕ)
 key_rows_in page count = chunks 16 count (drop 64 page)
 
+-- the kind that a byte tells, which is of no use where the byte is not that of a kind: then the page is not
+-- the one that its numbers make
+abbrev pub kind_in : ℕ → KeyKind
+kind_in byte = if byte == 0 then Prime else if byte == 2 then Duplicates else Unique
+
 -- the part of a record that a row tells
 abbrev pub part_in : List ℕ → KeyPart
 part_in row = record {
   offset = number_in row 0 2;
   length = number_in row 2 2;
-  duplicates = slice_index row 4 == 2;
+  kind = kind_in (slice_index row 4);
 }
 
 -- the tree that a row tells

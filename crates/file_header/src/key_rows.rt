@@ -10,15 +10,15 @@
 //! | 8 to 11 | root page |
 //! | 12 to 15 | zero |
 ghost use Rattle.std.specs.Prelude.{◌≡◌, ◌≤◌, length, map};
-ghost use Rattle.file_header.specs.FirstPage.{kind_of_key, key_row_bytes, key_rows_bytes};
-ghost use Rattle.file_header.specs.Reading.{part_in, tree_in, key_rows_in};
+ghost use Rattle.file_header.specs.FirstPage.{kind_byte, key_row_bytes, key_rows_bytes};
+ghost use Rattle.file_header.specs.Reading.{kind_in, part_in, tree_in, key_rows_in};
 
 use crate::header::TreeNumbers;
 use crate::numbers::END;
 use arrayvec::ArrayVec;
 use byteorder::{BigEndian, ByteOrder};
 use page_bytes::PAGE_SIZE;
-use record_layout::KeyPart;
+use record_layout::{KeyKind, KeyPart};
 
 const OFFSET: usize = 0;
 
@@ -38,34 +38,34 @@ const ROW: usize = 16;
 /// The rows of the keys, with their trees.
 pub fn key_rows(keys: &[KeyPart], trees: &[TreeNumbers]) -> ArrayVec<u8, 144>
     requires { length trees.now ≤ 9 }
-    ensures { result.items ≡ key_rows_bytes 0 keys.now trees.now }
+    ensures { result.items ≡ key_rows_bytes keys.now trees.now }
 {
     let mut rows = ArrayVec::new();
     for k in 0..keys.len().min(trees.len()) {
-        let _ = rows.try_extend_from_slice(&row(k, keys[k], trees[k]));
+        let _ = rows.try_extend_from_slice(&row(keys[k], trees[k]));
     }
     rows
 }
 
-/// The kind of key k.
-fn kind(k: usize, duplicates: bool) -> u8
-    ensures { result ≡ kind_of_key k duplicates }
+/// The byte of a kind.
+fn kind_byte(kind: KeyKind) -> u8
+    ensures { result ≡ kind_byte kind }
 {
-    match (k, duplicates) {
-        (0, _) => 0,
-        (_, false) => 1,
-        (_, true) => 2,
+    match kind {
+        KeyKind::Prime => 0,
+        KeyKind::Unique => 1,
+        KeyKind::Duplicates => 2,
     }
 }
 
-/// The row of key k.
-fn row(k: usize, part: KeyPart, tree: TreeNumbers) -> [u8; ROW]
-    ensures { result ≡ key_row_bytes k part tree }
+/// The row of a key.
+fn row(part: KeyPart, tree: TreeNumbers) -> [u8; ROW]
+    ensures { result ≡ key_row_bytes part tree }
 {
     let mut bytes = [0; ROW];
     BigEndian::write_u16(&mut bytes[OFFSET..LENGTH], part.offset);
     BigEndian::write_u16(&mut bytes[LENGTH..KIND], part.length);
-    bytes[KIND] = kind(k, part.duplicates);
+    bytes[KIND] = kind_byte(part.kind);
     bytes[HEIGHT] = tree.height;
     BigEndian::write_u32(&mut bytes[ROOT..ROOT_END], tree.root);
     bytes
@@ -95,6 +95,17 @@ pub fn trees_in(page: &[u8; PAGE_SIZE], count: usize) -> ArrayVec<TreeNumbers, 9
     trees
 }
 
+/// The kind that a byte tells. A page with a byte that is not that of a kind is refused later on.
+fn kind_in(byte: u8) -> KeyKind
+    ensures { result ≡ kind_in byte }
+{
+    match byte {
+        0 => KeyKind::Prime,
+        2 => KeyKind::Duplicates,
+        _ => KeyKind::Unique,
+    }
+}
+
 fn part_in(row: &[u8]) -> KeyPart
     requires { 16 ≤ length row.now }
     ensures { result ≡ part_in row.now }
@@ -102,7 +113,7 @@ fn part_in(row: &[u8]) -> KeyPart
     KeyPart {
         offset: BigEndian::read_u16(&row[OFFSET..LENGTH]),
         length: BigEndian::read_u16(&row[LENGTH..KIND]),
-        duplicates: row[KIND] == 2,
+        kind: kind_in(row[KIND]),
     }
 }
 

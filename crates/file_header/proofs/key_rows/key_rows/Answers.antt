@@ -12,14 +12,14 @@ pub loop-k-preserved : goal.loop-k-preserved
 loop-k-preserved c =
     let k = c.loop-k.k in
     let rows = c.loop-k.rows.items in
-    let size : length c.row.result ≡ 16 = ap length c.row.ensures ∙ length-row _ _ _ in
+    let size : length c.row.result ≡ 16 = ap length c.row.ensures ∙ length-row _ _ in
     let fits : length rows + length c.row.result ≤ 144 → IsOk c.try_extend_from_slice.result = c.try_extend_from_slice.ensures.variant.1 in
     let ok : IsOk c.try_extend_from_slice.result = fits (omega arith) in
     let grown : c.try_extend_from_slice.new.self.items ≡ rows ++ c.row.result = held _ _ c.try_extend_from_slice.ensures.ok ok in
     let keys = c.args.keys.now in
     let trees = c.args.trees.now in
     let both : k < min (length keys) (length trees) = omega (arith, c.min-k-end.ensures, c.loop-k-test.true) in (
-      ap (λ (r : List ℕ). r ++ key_rows_bytes (k + 1) (drop (k + 1) keys) (drop (k + 1) trees)) (grown ∙ ap (λ (r : List ℕ). rows ++ r) c.row.ensures)
+      ap (λ (r : List ℕ). r ++ key_rows_bytes (drop (k + 1) keys) (drop (k + 1) trees)) (grown ∙ ap (λ (r : List ℕ). rows ++ r) c.row.ensures)
           ∙ write_more keys trees k _ _ rows (omega arith) (omega arith) ∙ c.loop-k.invariant.0,
       ap length grown ∙ omega (arith, length-append rows c.row.result, size, c.loop-k.invariant.1),
     )

@@ -7,8 +7,8 @@ pub returns : goal.returns
 unfolding header_bytes
 returns c =
     let first : c.copy_from_slice.new.self ≡ first_bytes c.args.self.now = c.copy_from_slice.ensures.after ∙ c.first_bytes.ensures in
-    let rows : c.copy_from_slice-2.new.self ≡ key_rows_bytes 0 c.args.self.now.schema.keys c.args.self.now.trees.items =
-    c.copy_from_slice-2.ensures.after ∙ c.deref-2.ensures.0 ∙ c.key_rows-rows.ensures ∙ (λ i. key_rows_bytes 0 (c.keys.ensures i) (c.deref.ensures.0 i)) in
+    let rows : c.copy_from_slice-2.new.self ≡ key_rows_bytes c.args.self.now.schema.keys c.args.self.now.trees.items =
+    c.copy_from_slice-2.ensures.after ∙ c.deref-2.ensures.0 ∙ c.key_rows-rows.ensures ∙ (λ i. key_rows_bytes (c.keys.ensures i) (c.deref.ensures.0 i)) in
     let copied : length c.copy_from_slice-2.new.self ≡ length c.key_rows-rows.result.items = ap length (c.copy_from_slice-2.ensures.after ∙ c.deref-2.ensures.0) in
     page_filled c.args.page.now c.copy_from_slice.new.self c.copy_from_slice-2.new.self c.fill.new.self (64 + c.len-end.result) (omega (arith, c.fits-page)) (ap length first ∙ length-first c.args.self.now) (omega (arith, c.len-end.ensures.value, copied)) (omega (arith, c.len-end.ensures.value, ap length c.deref-2.ensures.0, c.deref-2.ensures.1)) (c.fill.ensures.after (λ y e. e))
     ∙ λ i. filled_page (first i ++ rows i)
