@@ -6,7 +6,7 @@ use Rattle.std.proofs.lemmas.Bool.{and_parts, and_from, or_left, or_right, not_f
 use Rattle.std.proofs.lemmas.Grind.{common_steps}
 use Rattle.std.proofs.lemmas.Slice.Eq.{bytes_eq-Decides}
 use Rattle.record_layout.specs.declared.schema.KeyPart.{KeyPart}
-use Rattle.record_layout.specs.Schema.{key_at, value_of}
+use Rattle.record_layout.specs.Schema.{key_at, value_of, has_duplicates, no_key}
 use Rattle.indexed_file.specs.File.{stamp_of}
 use Rattle.indexed_file.specs.Laws.{apart_in_each_key}
 use Rattle.indexed_file.proofs.TestLemmas.{either}
@@ -55,12 +55,12 @@ differ_to v w duplicates s t (inr both) = or_right _ _ (and_from _ _ both.0 (not
 
 -- where there is no such key
 abbrev none : KeyPart
-none = record { offset = 0; length = 0; duplicates = false }
+none = no_key
 
 pub differ_in_each : apart_in_each_key
 differ_in_each schema a b many more = (
-  λ apart k lt. differ_from (value_of schema k a.bytes) (value_of schema k b.bytes) (key_at schema k).duplicates (stamp_of k a) (stamp_of k b)
+  λ apart k lt. differ_from (value_of schema k a.bytes) (value_of schema k b.bytes) (has_duplicates (key_at schema k)) (stamp_of k a) (stamp_of k b)
       (zipped (are_apart_in a.bytes b.bytes) schema.keys (0 ∷ a.stamps) (0 ∷ b.stamps) k none apart lt (omega (arith, lt, many)) (omega (arith, lt, more))),
   λ each. all_zipped (are_apart_in a.bytes b.bytes) schema.keys (0 ∷ a.stamps) (0 ∷ b.stamps) none (omega (arith, many)) (omega (arith, more))
-      (λ k lt. differ_to (value_of schema k a.bytes) (value_of schema k b.bytes) (key_at schema k).duplicates (stamp_of k a) (stamp_of k b) (each k lt)),
+      (λ k lt. differ_to (value_of schema k a.bytes) (value_of schema k b.bytes) (has_duplicates (key_at schema k)) (stamp_of k a) (stamp_of k b) (each k lt)),
 )

@@ -3,7 +3,7 @@
 use Rattle.std.specs.Prelude.{◌≡◌, ◌≢◌, ◌+◌, ◌<◌, ◌⊎◌, ◌↔◌, ℕ, Bool, true, false, List, [], ◌∷◌}
 use Rattle.std.specs.Prelude.{length, Option, Some, None}
 use Rattle.std.specs.Ordering.{is_lt}
-use Rattle.record_layout.specs.Schema.{Schema, key_at, value_of}
+use Rattle.record_layout.specs.Schema.{Schema, key_at, value_of, has_duplicates}
 use Rattle.indexed_file.specs.File.{Row, File, stamp_of}
 use Rattle.indexed_file.specs.Rank.{row_cmp, least}
 use Rattle.indexed_file.specs.Sound.{are_apart}
@@ -40,7 +40,7 @@ HasStamps schema row = length row.stamps + 1 ≡ length schema.keys
 -- two rows differ in their values of key k, or it may have duplicates and their stamps differ
 abbrev pub DifferIn : Schema → ℕ → Row → Row → Type 0
 DifferIn schema k a b = (value_of schema k a.bytes ≢ value_of schema k b.bytes)
-    ⊎ (((key_at schema k).duplicates ≡ true) × (stamp_of k a ≢ stamp_of k b))
+    ⊎ ((has_duplicates (key_at schema k) ≡ true) × (stamp_of k a ≢ stamp_of k b))
 
 -- rows that are apart differ in each key
 abbrev pub apart_in_each_key : Type 0
