@@ -43,7 +43,7 @@ first_bytes header = concat (
     ∷ zeros 8
     ∷ [])
 
--- the byte of a key's kind: 0 the prime key, 1 an alternate key whose values are unique, 2 one with duplicates
+-- the byte of a kind: 0 the prime key, 1 an alternate key whose values are unique, 2 one with duplicates
 abbrev pub kind_byte : KeyKind → ℕ
 kind_byte Prime = 0
 kind_byte Unique = 1
