@@ -17,17 +17,17 @@ one_behind front key None = refl
 one_behind front key (Some keys) = ap (λ (l : List KeyPart). Some l) (sym (append_assoc front (key ∷ []) keys))
 
 next_keys : (front : List KeyPart) (count k : ℕ) (rows : List ℕ) → k < count
-    → behind front (keys_in (count - k) rows) ≡ behind front (key_and (key_in rows) (keys_in (count - (k + 1)) (drop 5 rows)))
+    → behind front (keys_in k (count - k) rows) ≡ behind front (key_and (key_in k rows) (keys_in (k + 1) (count - (k + 1)) (drop 5 rows)))
 next_keys front count k rows h =
     let e : count - k ≡ suc (count - (k + 1)) = omega (arith, h) in
-    ap (λ (n : ℕ). behind front (keys_in n rows)) e
+    ap (λ (n : ℕ). behind front (keys_in k n rows)) e
 
 -- one more row
 pub more_keys : (front new : List KeyPart) (count k : ℕ) (rows later : List ℕ) (key : KeyPart) (whole : Option (List KeyPart)) → k < count
-    → key_in rows ≡ Some key → new ≡ front ++ key ∷ [] → later ≡ drop 5 rows → behind front (keys_in (count - k) rows) ≡ whole
-    → behind new (keys_in (count - (k + 1)) later) ≡ whole
+    → key_in k rows ≡ Some key → new ≡ front ++ key ∷ [] → later ≡ drop 5 rows → behind front (keys_in k (count - k) rows) ≡ whole
+    → behind new (keys_in (k + 1) (count - (k + 1)) later) ≡ whole
 more_keys front new count k rows later key whole h e pushed dropped before =
-    let keys = keys_in (count - (k + 1)) (drop 5 rows) in
-    (λ i. behind (pushed i) (keys_in (count - (k + 1)) (dropped i)))
+    let keys = keys_in (k + 1) (count - (k + 1)) (drop 5 rows) in
+    (λ i. behind (pushed i) (keys_in (k + 1) (count - (k + 1)) (dropped i)))
     ∙ sym (one_behind front key keys) ∙ ap (λ (first : Option KeyPart). behind front (key_and first keys)) (sym e)
     ∙ sym (next_keys front count k rows h) ∙ before

@@ -1,5 +1,5 @@
 -- What is written of a request is read as it was.
-use Rattle.std.proofs.Common.{◌≡◌, ◌⊎◌, inl, inr, ℕ, suc, ◌+◌, ◌*◌, ◌^◌, ◌<◌, ◌≤◌, ◌==◌, Bool, true, false, not, ◌&&◌, ◌||◌, nat_lt, if◌then◌else◌, List, [], ◌∷◌, ◌++◌, length, drop, flat_map, All, Option, None, Some, option_map, IsTrue, refl, sym, ap, ◌∙◌, append_assoc, arith}
+use Rattle.std.proofs.Common.{◌≡◌, ◌≢◌, ◌⊎◌, inl, inr, ℕ, suc, ◌+◌, ◌*◌, ◌^◌, ◌<◌, ◌≤◌, ◌==◌, Bool, true, false, not, ◌&&◌, ◌||◌, nat_lt, if◌then◌else◌, List, [], ◌∷◌, ◌++◌, length, drop, flat_map, All, Option, None, Some, option_map, IsTrue, refl, sym, ap, ◌∙◌, append_assoc, arith}
 use Rattle.std.proofs.lemmas.List.{append-nil, drop-drop}
 use Rattle.std.proofs.lemmas.Bool.{le-ltb}
 use Rattle.std.proofs.lemmas.Bool.Decides.{Decides-eqb}
@@ -14,10 +14,13 @@ use Rattle.io_state.specs.declared.modes.Relation.{Relation}
 use Rattle.io_state.specs.declared.modes.Relation.TheVariants.{Equal, Greater, NotLess}
 use Rattle.io_state.specs.declared.statement.FileStatement.{FileStatement}
 use Rattle.io_state.specs.declared.statement.FileStatement.TheVariants.{Open, Close, ReadNext, Read, Start, Write, Rewrite, Delete}
+use Rattle.record_layout.specs.declared.schema.KeyKind.{KeyKind}
+use Rattle.record_layout.specs.declared.schema.KeyKind.TheVariants.{Prime, Unique, Duplicates}
 use Rattle.record_layout.specs.declared.schema.KeyPart.{KeyPart}
+use Rattle.record_layout.specs.Schema.{is_duplicates, has_duplicates}
 use Rattle.request_frames.specs.Request.{Described, Performed, Asked, Describing, Performing, Releasing}
-use Rattle.request_frames.specs.Reading.{short_number_in, flag_in, access_in, mode_in, relation_in, statement_in, has_length, performed_by, performed_in, key_in, key_and, keys_in, described_from, is_short, described_in, request_in}
-use Rattle.request_frames.specs.Writing.{flag_byte, access_byte, mode_byte, relation_byte, statement_bytes, performed_body, key_row, described_body, request_body, FitsStatement, FitsPerformed, FitsKey, FitsDescribed, FitsRequest}
+use Rattle.request_frames.specs.Reading.{short_number_in, flag_in, access_in, mode_in, relation_in, statement_in, has_length, performed_by, performed_in, kind_in, key_in, key_and, keys_in, described_from, is_short, described_in, request_in}
+use Rattle.request_frames.specs.Writing.{flag_byte, access_byte, mode_byte, relation_byte, statement_bytes, performed_body, key_row, described_body, request_body, FitsStatement, FitsPerformed, FitsKey, AreFlagged, FitsDescribed, FitsRequest}
 
 number_back : (x : ℕ) → x < 2 ^ 16 → big_number 2 (big_bytes 2 x) ≡ x
 number_back x h = ap (big_number 2) (sym (append-nil (big_bytes 2 x))) ∙ big_number-reads_back 2 x [] (omega (arith, h))
@@ -89,18 +92,48 @@ performed_of file n bytes Delete fits small stored = finish file n 7 0 0 0 Delet
 
 -- ---- a description
 
-key_back : (key : KeyPart) (rest : List ℕ) → FitsKey key → key_in (key_row key ++ rest) ≡ Some key
-key_back key rest fits =
-    ap (λ (flag : Option Bool). option_map (λ duplicates. record { offset = short_number_in (key_row key ++ rest) 0; length = short_number_in (key_row key ++ rest) 2; duplicates = duplicates }) flag) (flag_back key.duplicates)
-    ∙ λ i. Some (record { offset = number_back key.offset fits.offset i; length = number_back key.length fits.length i; duplicates = key.duplicates })
+not_true : (b : Bool) → (b ≡ true → ⊥) → b ≡ false
+not_true true never = absurd (never refl)
+not_true false never = refl
 
-keys_back : (keys : List KeyPart) (name : List ℕ) → All FitsKey keys → keys_in (length keys) (flat_map key_row keys ++ name) ≡ Some keys
-keys_back [] name fits = refl
-keys_back (key ∷ keys) name fits =
+not_zero : (n : ℕ) → 1 ≤ n → (n == 0) ≡ false
+not_zero n h = not_true (n == 0) (λ e. let zero_is : n ≡ 0 = (Decides-eqb n 0).0 e in omega (arith, h, zero_is))
+
+key_back : (k : ℕ) (key : KeyPart) (rest : List ℕ) → FitsKey key → kind_in k (has_duplicates key) ≡ key.kind → key_in k (key_row key ++ rest) ≡ Some key
+key_back k key rest fits kind =
+    ap (option_map (λ duplicates. record { offset = short_number_in (key_row key ++ rest) 0; length = short_number_in (key_row key ++ rest) 2; kind = kind_in k duplicates }))
+    (flag_back (has_duplicates key))
+    ∙ λ i. Some (record { offset = number_back key.offset fits.offset i; length = number_back key.length fits.length i; kind = kind i })
+
+first_kind : (kind : KeyKind) → kind ≢ Unique → kind_in 0 (is_duplicates kind) ≡ kind
+first_kind Prime other = refl
+first_kind Unique other = absurd (other refl)
+first_kind Duplicates other = refl
+
+later_kind : (k : ℕ) (kind : KeyKind) → kind ≢ Prime → kind_in (k + 1) (is_duplicates kind) ≡ kind
+later_kind k Prime other = absurd (other refl)
+later_kind k Unique other = if_false (k + 1 == 0) Prime Unique (not_zero (k + 1) (omega arith))
+later_kind k Duplicates other = refl
+
+-- one key, and those behind it
+key_on : (k : ℕ) (key : KeyPart) (keys : List KeyPart) (name : List ℕ) → FitsKey key → kind_in k (has_duplicates key) ≡ key.kind
+    → keys_in (k + 1) (length keys) (flat_map key_row keys ++ name) ≡ Some keys → keys_in k (length (key ∷ keys)) (flat_map key_row (key ∷ keys) ++ name) ≡ Some (key ∷ keys)
+key_on k key keys name fits kind later =
+    ap (λ (found : Option KeyPart). key_and found (keys_in (k + 1) (length keys) (flat_map key_row keys ++ name))) (key_back k key (flat_map key_row keys ++ name) fits kind)
+    ∙ ap (key_and (Some key)) later
+
+later_back : (k : ℕ) (keys : List KeyPart) (name : List ℕ) → All FitsKey keys → All (λ key. key.kind ≢ Prime) keys → keys_in (k + 1) (length keys) (flat_map key_row keys ++ name) ≡ Some keys
+later_back k [] name fits kinds = refl
+later_back k (key ∷ keys) name fits kinds =
     let first : FitsKey key = fits 0 key (omega arith) in
-    let later : All FitsKey keys = λ j d h. fits (suc j) d (omega arith) in
-    ap (λ (found : Option KeyPart). key_and found (keys_in (length keys) (flat_map key_row keys ++ name))) (key_back key (flat_map key_row keys ++ name) first)
-    ∙ ap (key_and (Some key)) (keys_back keys name later)
+    let kind : key.kind ≢ Prime = kinds 0 key (omega arith) in
+    key_on (k + 1) key keys name first (later_kind k key.kind kind) (later_back (k + 1) keys name (λ j d h. fits (suc j) d (omega arith)) (λ j d h. kinds (suc j) d (omega arith)))
+
+keys_back : (keys : List KeyPart) (name : List ℕ) → All FitsKey keys → AreFlagged keys → keys_in 0 (length keys) (flat_map key_row keys ++ name) ≡ Some keys
+keys_back [] name fits kinds = refl
+keys_back (key ∷ keys) name fits kinds =
+    let first : FitsKey key = fits 0 key (omega arith) in
+    key_on 0 key keys name first (first_kind key.kind kinds.0) (later_back 0 keys name (λ j d h. fits (suc j) d (omega arith)) kinds.1)
 
 name_back : (keys : List KeyPart) (name : List ℕ) → drop (5 * length keys) (flat_map key_row keys ++ name) ≡ name
 name_back [] name = refl
@@ -113,13 +146,6 @@ rows_long : (keys : List KeyPart) (name : List ℕ) → 5 * length keys ≤ leng
 rows_long [] name = omega arith
 rows_long (key ∷ keys) name = let h = rows_long keys name in omega (arith, h)
 
-not_true : (b : Bool) → (b ≡ true → ⊥) → b ≡ false
-not_true true never = absurd (never refl)
-not_true false never = refl
-
-not_zero : (n : ℕ) → 1 ≤ n → (n == 0) ≡ false
-not_zero n h = not_true (n == 0) (λ e. let zero_is : n ≡ 0 = (Decides-eqb n 0).0 e in omega (arith, h, zero_is))
-
 described_back : (d : Described) → FitsDescribed d → described_in (described_body d) ≡ Some d
 described_back d fits =
     let body = described_body d in
@@ -130,7 +156,7 @@ described_back d fits =
     (λ i. not_zero count fits.some i || le-ltb 9 count fits.few i || le-ltb (length body) (9 + 5 * count) (omega (arith, long)) i) in
     let access = access_back d.access in
     let optional = flag_back d.optional in
-    let keys = keys_back d.keys d.name fits.keys in
+    let keys = keys_back d.keys d.name fits.keys fits.kinds in
     let named : drop (9 + 5 * count) body ≡ d.name = sym (drop-drop (5 * count) 9 body) ∙ name_back d.keys d.name in
     if_false (nat_lt (length body) 9) None _ (le-ltb (length body) 9 (omega arith))
     ∙ if_false (is_short body count) None _ whole

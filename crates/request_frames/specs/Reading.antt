@@ -13,6 +13,8 @@ use Rattle.io_state.specs.declared.modes.Relation.TheVariants.{Equal, Greater, N
 use Rattle.io_state.specs.declared.statement.FileStatement.{FileStatement}
 use Rattle.io_state.specs.declared.statement.FileStatement.TheVariants.{Open, Close, ReadNext, Read, Start}
 use Rattle.io_state.specs.declared.statement.FileStatement.TheVariants.{Write, Rewrite, Delete}
+use Rattle.record_layout.specs.declared.schema.KeyKind.{KeyKind}
+use Rattle.record_layout.specs.declared.schema.KeyKind.TheVariants.{Prime, Unique, Duplicates}
 use Rattle.record_layout.specs.declared.schema.KeyPart.{KeyPart}
 use Rattle.request_frames.specs.Request.{Described, Performed, Asked, Describing, Performing, Releasing}
 
@@ -88,13 +90,17 @@ performed_in body =
 
 -- ---- a description
 
--- the key that a row of five bytes tells
-abbrev pub key_in : List ℕ → Option KeyPart
-key_in row =
+-- the kind of key k: the first key is the prime key, and a flag says whether duplicates are allowed
+abbrev pub kind_in : ℕ → Bool → KeyKind
+kind_in k duplicates = if duplicates then Duplicates else if k == 0 then Prime else Unique
+
+-- key k, which a row of five bytes tells
+abbrev pub key_in : ℕ → List ℕ → Option KeyPart
+key_in k row =
     option_map (λ duplicates. record {
       offset = short_number_in row 0;
       length = short_number_in row 2;
-      duplicates = duplicates;
+      kind = kind_in k duplicates;
     }) (flag_in (slice_index row 4))
 
 -- these keys, and then those
@@ -102,10 +108,10 @@ abbrev pub key_and : Option KeyPart → Option (List KeyPart) → Option (List K
 key_and None keys = None
 key_and (Some key) keys = option_map (λ later. key ∷ later) keys
 
--- the keys of so many rows
-abbrev pub keys_in : ℕ → List ℕ → Option (List KeyPart)
-keys_in zero rows = Some []
-keys_in (suc n) rows = key_and (key_in rows) (keys_in n (drop 5 rows))
+-- the keys of so many rows, from key k on
+abbrev pub keys_in : ℕ → ℕ → List ℕ → Option (List KeyPart)
+keys_in k zero rows = Some []
+keys_in k (suc n) rows = key_and (key_in k rows) (keys_in (k + 1) n (drop 5 rows))
 
 abbrev pub described_from : List ℕ → ℕ → Option Access → Option Bool → Option (List KeyPart)
     → Option Described
@@ -131,7 +137,7 @@ described_in body =
     if nat_lt (length body) 9 then None
     else if is_short body (slice_index body 8) then None
     else described_from body (slice_index body 8) (access_in (slice_index body 2))
-    (flag_in (slice_index body 3)) (keys_in (slice_index body 8) (drop 9 body))
+    (flag_in (slice_index body 3)) (keys_in 0 (slice_index body 8) (drop 9 body))
 
 -- ---- any request
 

@@ -1,5 +1,5 @@
 -- The body of a request's frame. All of this is ours.
-use Rattle.std.specs.Prelude.{◌≡◌, ℕ, ◌^◌, ◌<◌, ◌≤◌, Bool, true, false, List, [], ◌∷◌, ◌++◌, length, flat_map}
+use Rattle.std.specs.Prelude.{◌≡◌, ◌≢◌, ℕ, ◌^◌, ◌<◌, ◌≤◌, Bool, true, false, List, [], ◌∷◌, ◌++◌, length, flat_map}
 use Rattle.std.specs.Prelude.{All, IsTrue, Some, ◌⊎◌}
 use Rattle.byteorder.specs.Endian.{big_bytes}
 use Rattle.io_state.specs.declared.modes.Access.{Access}
@@ -11,7 +11,9 @@ use Rattle.io_state.specs.declared.modes.Relation.TheVariants.{Equal, Greater, N
 use Rattle.io_state.specs.declared.statement.FileStatement.{FileStatement}
 use Rattle.io_state.specs.declared.statement.FileStatement.TheVariants.{Open, Close, ReadNext, Read, Start}
 use Rattle.io_state.specs.declared.statement.FileStatement.TheVariants.{Write, Rewrite, Delete}
+use Rattle.record_layout.specs.declared.schema.KeyKind.TheVariants.{Prime, Unique}
 use Rattle.record_layout.specs.declared.schema.KeyPart.{KeyPart}
+use Rattle.record_layout.specs.Schema.{has_duplicates}
 use Rattle.request_frames.specs.Request.{Described, Performed, Asked, Describing, Performing, Releasing}
 use Rattle.request_frames.specs.Reading.{has_length, request_in}
 
@@ -50,7 +52,7 @@ abbrev pub performed_body : Performed → List ℕ
 performed_body p = 2 ∷ p.file ∷ statement_bytes p.statement ++ big_bytes 2 p.length ++ p.bytes
 
 abbrev pub key_row : KeyPart → List ℕ
-key_row key = big_bytes 2 key.offset ++ big_bytes 2 key.length ++ flag_byte key.duplicates ∷ []
+key_row key = big_bytes 2 key.offset ++ big_bytes 2 key.length ++ flag_byte (has_duplicates key) ∷ []
 
 abbrev pub described_body : Described → List ℕ
 described_body d =
@@ -84,13 +86,19 @@ pub record FitsKey (key : KeyPart) : Type 0 where
   pub offset : key.offset < 2 ^ 16
   pub length : key.length < 2 ^ 16
 
--- each number has room in its bytes, and there are 1 to 9 keys
+-- a flag tells their kinds: the first one may be the prime key, and the others are alternate keys
+abbrev pub AreFlagged : List KeyPart → Type 0
+AreFlagged [] = Unit {0}
+AreFlagged (first ∷ later) = (first.kind ≢ Unique) × All (λ key. key.kind ≢ Prime) later
+
+-- each number has room in its bytes, there are 1 to 9 keys, and a flag tells the kind of each
 pub record FitsDescribed (d : Described) : Type 0 where
   pub least : d.least < 2 ^ 16
   pub greatest : d.greatest < 2 ^ 16
   pub some : 1 ≤ length d.keys
   pub few : length d.keys ≤ 9
   pub keys : All FitsKey d.keys
+  pub kinds : AreFlagged d.keys
 
 abbrev pub FitsRequest : Asked → Type 0
 FitsRequest (Describing d) = FitsDescribed d

@@ -13,13 +13,13 @@
 //! | 9 + 5 k to the end | the file's name in its folder |
 ghost use Rattle.std.specs.Prelude.{◌≡◌, ◌≤◌, ◌*◌, length, option_map};
 ghost use Rattle.request_frames.specs.Request.{described_of};
-ghost use Rattle.request_frames.specs.Reading.{access_in, key_in, keys_in, described_in};
+ghost use Rattle.request_frames.specs.Reading.{access_in, kind_in, key_in, keys_in, described_in};
 
 use crate::statement::flag_of;
 use arrayvec::ArrayVec;
 use byteorder::{BigEndian, ByteOrder};
 use io_state::Access;
-use record_layout::KeyPart;
+use record_layout::{KeyKind, KeyPart};
 
 const FILE: usize = 1;
 
@@ -64,15 +64,26 @@ fn access_of(byte: u8) -> Option<Access>
     }
 }
 
-/// The key of the first row.
-fn key_of(rows: &[u8]) -> Option<KeyPart>
+/// The kind of key k, by its flag. A prime key with duplicates makes no schema later on.
+fn kind_of(k: usize, duplicates: bool) -> KeyKind
+    ensures { result ≡ kind_in k duplicates }
+{
+    match (k, duplicates) {
+        (_, true) => KeyKind::Duplicates,
+        (0, false) => KeyKind::Prime,
+        (_, false) => KeyKind::Unique,
+    }
+}
+
+/// Key k, of the first row.
+fn key_of(k: usize, rows: &[u8]) -> Option<KeyPart>
     requires { 5 ≤ length rows.now }
-    ensures { result ≡ key_in rows.now }
+    ensures { result ≡ key_in k rows.now }
 {
     Some(KeyPart {
         offset: BigEndian::read_u16(&rows[0..2]),
         length: BigEndian::read_u16(&rows[2..4]),
-        duplicates: flag_of(rows[4])?,
+        kind: kind_of(k, flag_of(rows[4])?),
     })
 }
 
@@ -80,12 +91,12 @@ fn key_of(rows: &[u8]) -> Option<KeyPart>
 fn keys_of(rows: &[u8], count: usize) -> Option<ArrayVec<KeyPart, 9>>
     requires few { count ≤ 9 }
     requires whole { 5 * count ≤ length rows.now }
-    ensures { option_map (λ keys. keys.items) result ≡ keys_in count rows.now }
+    ensures { option_map (λ keys. keys.items) result ≡ keys_in 0 count rows.now }
 {
     let mut keys = ArrayVec::new();
     let mut rest = rows;
-    for _ in 0..count {
-        match key_of(rest) {
+    for k in 0..count {
+        match key_of(k, rest) {
             Some(key) => keys.push(key),
             None => return None,
         }
