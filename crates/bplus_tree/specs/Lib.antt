@@ -1,3 +1,4 @@
+pub mod Fields
 pub mod Edits
 pub mod Rebalance
 pub mod Remove

@@ -12,8 +12,8 @@ use tree_node::{InnerView, Shape, is_inner};
 /// A root, and how many levels are above the leaves.
 #[derive(Clone, Copy)]
 pub struct Base {
-    pub root: u32,
-    pub levels: u8,
+    pub(crate) root: u32,
+    pub(crate) levels: u8,
 }
 
 /// Gives the root back where it has one child only, which is the root then.

@@ -21,11 +21,12 @@ pub struct Cursor {
 
 impl Tree {
     ghost use Rattle.bplus_tree.specs.Cursor.{IsCursorOf};
+    ghost use Rattle.bplus_tree.specs.Fields.{cursor_key};
 
     /// A cursor that gives the entries whose keys are above this one.
     pub fn cursor(&self, key: &[u8]) -> Cursor
         requires width { length key.now ≤ 258 }
-        ensures key { result.key.items ≡ key.now }
+        ensures key { cursor_key result ≡ key.now }
         ensures belongs { IsCursorOf self.now result }
     {
         let mut start = TreeKey::new();
@@ -39,9 +40,17 @@ impl Tree {
 }
 
 impl Cursor {
+    ghost use Rattle.bplus_tree.specs.Fields.{cursor_key, tree_levels};
     ghost use Rattle.bplus_tree.specs.LookUps.{LooksAlong};
     ghost use Rattle.bplus_tree.specs.Cursor.{HasNeighbour, CanStep, LooksBehind, StepsOn};
     ghost use Rattle.bplus_tree.specs.Cursor.{StepsFurther, TellsNext, lent};
+
+    /// The key of the entry that was given last, at first the one that the cursor was made for.
+    pub fn key(&self) -> &[u8]
+        ensures { result.now ≡ cursor_key self.now }
+    {
+        self.key.as_slice()
+    }
 
     /// The next entry goes to `entry`: the first one whose key is above that of the entry given
     /// last. The answer is whether there is one. Where there is none the cursor stays where it is,
@@ -53,7 +62,7 @@ impl Cursor {
         entry: &mut Entry,
     ) -> Result<bool, Fault>
         requires ready { P.shown.IsReady pages.old }
-        ensures { StepsOn P.shown (2 * (tree.now.levels + 1)) tree.now self.old self.new pages.old
+        ensures { StepsOn P.shown (2 * (tree_levels tree.now + 1)) tree.now self.old self.new pages.old
             pages.new (lent entry.new result) }
     {
         if self.has_neighbour(tree) {
@@ -73,7 +82,7 @@ impl Cursor {
         requires ready { P.shown.IsReady pages.old }
         ensures told { WhenHonest P.shown pages.old pages.new
             (λ live. TellsNext self.now tree.now live start.now result) }
-        ensures reads { ReadsPages P.shown (2 * (tree.now.levels + 1)) pages.old pages.new result }
+        ensures reads { ReadsPages P.shown (2 * (tree_levels tree.now + 1)) pages.old pages.new result }
     {
         if self.has_neighbour(tree) {
             let Spot {

@@ -41,6 +41,7 @@ impl Tree {
     ghost use Rattle.bplus_tree.specs.TreeCalls.{InsertsInPages, RemovesInPages};
     ghost use Rattle.bplus_tree.specs.Within.{FindsWithin};
     ghost use Rattle.bplus_tree.specs.Depth.{IsPastAll, FindsDamage};
+    ghost use Rattle.bplus_tree.specs.Fields.{tree_shape, tree_root, tree_levels, tree_count};
     ghost use Rattle.bplus_tree.specs.Standing.{Answers, Tells, MakesTree, Inserts, Removes, one_more};
     ghost use Rattle.tree_search.specs.Tail.{CanFillTail, IsTail, TellsPresence};
     ghost use Rattle.tree_search.specs.Calls.{entry_of, first_from, first_after, last_of};
@@ -49,7 +50,7 @@ impl Tree {
     pub fn empty<P: Pages>(pages: &mut P, shape: Shape) -> Result<Tree, Fault>
         requires { CanWrite P.shown pages.old }
         ensures made { WhereSound P.shown pages.old pages.new (MakesTree shape result) }
-        ensures shape { IfOk result (λ tree. (tree.shape ≡ shape) × (tree.levels ≡ 0)) }
+        ensures shape { IfOk result (λ tree. (tree_shape tree ≡ shape) × (tree_levels tree ≡ 0)) }
         ensures one { OnOk result ((P.shown.state pages.new).available + 1
             ≡ (P.shown.state pages.old).available) }
         ensures writes { TakesOne P.shown 2 pages.old pages.new result }
@@ -65,18 +66,65 @@ impl Tree {
         })
     }
 
+    /// The tree that a header tells of: the page of its root, how many levels are above its leaves,
+    /// and how many entries it has. It begins at 0 changes.
+    pub fn stored(shape: Shape, root: u32, levels: u8, count: u64) -> Tree
+        requires low { levels < 20 }
+        ensures shape { tree_shape result ≡ shape }
+        ensures root { tree_root result ≡ root }
+        ensures levels { tree_levels result ≡ levels }
+        ensures count { tree_count result ≡ count }
+        ensures changes { result.changes ≡ 0 }
+    {
+        Tree {
+            shape,
+            root,
+            levels,
+            count,
+            changes: 0,
+        }
+    }
+
+    /// The key and the lengths of its entries.
+    pub fn shape(&self) -> Shape
+        ensures { result ≡ tree_shape self.now }
+    {
+        self.shape
+    }
+
+    /// The page of its root.
+    pub fn root(&self) -> u32
+        ensures { result ≡ tree_root self.now }
+    {
+        self.root
+    }
+
+    /// How many levels are above its leaves.
+    pub fn levels(&self) -> u8
+        ensures { result ≡ tree_levels self.now }
+    {
+        self.levels
+    }
+
     /// How many levels it has.
     pub fn height(&self) -> u8
-        ensures { result ≡ self.now.levels + 1 }
+        ensures { result ≡ tree_levels self.now + 1 }
     {
         self.levels + 1
+    }
+
+    /// How many entries it has.
+    pub fn count(&self) -> u64
+        ensures { result ≡ tree_count self.now }
+    {
+        self.count
     }
 
     /// The entry of a key. A key may have any length; one that is too short or too long is not found.
     pub fn find<P: Pages>(&self, pages: &mut P, key: &[u8]) -> Result<Option<Entry>, Fault>
         requires ready { P.shown.IsReady pages.old }
-        ensures { LooksDown P.shown self.now (Answers (entry_of self.now.shape.width key.now)) pages.old
-            pages.new result }
+        ensures { LooksDown P.shown self.now (Answers (entry_of (tree_shape self.now).width key.now))
+            pages.old pages.new result }
     {
         find_below(pages, self.shape, self.root, self.levels, key)
     }
@@ -89,9 +137,9 @@ impl Tree {
         key: &[u8],
         tail: &mut [u8],
     ) -> Result<bool, Fault>
-        requires { CanFillTail P.shown self.now.shape tail.old pages.old }
-        ensures { LooksDown P.shown self.now (Tells (IsTail self.now.shape.width tail.new) key.now)
-            pages.old pages.new result }
+        requires { CanFillTail P.shown (tree_shape self.now) tail.old pages.old }
+        ensures { LooksDown P.shown self.now (Tells (IsTail (tree_shape self.now).width tail.new)
+            key.now) pages.old pages.new result }
     {
         find_tail(pages, self.shape, self.root, self.levels, key, tail)
     }
@@ -107,8 +155,8 @@ impl Tree {
     /// The first entry whose key is not below this one, which may have any length.
     pub fn at_or_after<P: Pages>(&self, pages: &mut P, key: &[u8]) -> Result<Option<Entry>, Fault>
         requires ready { P.shown.IsReady pages.old }
-        ensures { LooksAlong P.shown self.now (Answers (first_from self.now.shape.width key.now)) pages.old
-            pages.new result }
+        ensures { LooksAlong P.shown self.now (Answers (first_from (tree_shape self.now).width key.now))
+            pages.old pages.new result }
     {
         let mut spot = Spot::nowhere();
         next_below(
@@ -125,8 +173,8 @@ impl Tree {
     /// The first entry whose key is above this one, which may have any length.
     pub fn after<P: Pages>(&self, pages: &mut P, key: &[u8]) -> Result<Option<Entry>, Fault>
         requires ready { P.shown.IsReady pages.old }
-        ensures { LooksAlong P.shown self.now (Answers (first_after self.now.shape.width key.now)) pages.old
-            pages.new result }
+        ensures { LooksAlong P.shown self.now (Answers (first_after (tree_shape self.now).width key.now))
+            pages.old pages.new result }
     {
         let mut spot = Spot::nowhere();
         next_below(
@@ -172,14 +220,14 @@ impl Tree {
     /// tree has 20 levels, or 4,096 times as many entries as the file has pages, which no tree that
     /// stands comes to. After a fault nothing is known of the tree.
     pub fn insert<P: Pages>(&mut self, pages: &mut P, entry: &[u8]) -> Result<Option<Entry>, Fault>
-        requires { CanInsert P.shown self.old.shape entry.now pages.old }
+        requires { CanInsert P.shown (tree_shape self.old) entry.now pages.old }
         ensures inserted { WhereSound P.shown pages.old pages.new
             (Inserts self.old self.new entry.now result) }
         ensures deep { IsPastAll self.old → FindsDamage self.old self.new pages.old pages.new result }
-        ensures shape { KeepsShape (self.old.levels + 1) self.old self.new }
+        ensures shape { KeepsShape (tree_levels self.old + 1) self.old self.new }
         ensures changes { result ≡ Ok None → self.new.changes ≡ one_more self.old.changes }
-        ensures writes { TakesUpTo P.shown (self.old.levels + 2)
-            (8 * (self.old.levels + 2)) pages.old pages.new result }
+        ensures writes { TakesUpTo P.shown (tree_levels self.old + 2)
+            (8 * (tree_levels self.old + 2)) pages.old pages.new result }
     {
         let room = 4096 * u64::from(pages.count());
         if self.levels >= GREATEST_LEVELS || self.count >= room {
@@ -225,9 +273,9 @@ impl Tree {
     pub fn remove<P: Pages>(&mut self, pages: &mut P, key: &[u8]) -> Result<Option<Entry>, Fault>
         requires { CanWrite P.shown pages.old }
         ensures removed { WhereSound P.shown pages.old pages.new (Removes self.old self.new key.now result) }
-        ensures shape { KeepsShape self.old.levels self.old self.new }
+        ensures shape { KeepsShape (tree_levels self.old) self.old self.new }
         ensures changes { IfOk result (λ found. IsSome found → self.new.changes ≡ one_more self.old.changes) }
-        ensures writes { GivesPages P.shown (8 * (self.old.levels + 2)) pages.old pages.new result }
+        ensures writes { GivesPages P.shown (8 * (tree_levels self.old + 2)) pages.old pages.new result }
     {
         let mut entry = Entry::new();
         if take_below(pages, self.shape, self.root, self.levels, key, &mut entry)? {
