@@ -11,6 +11,7 @@ use Rattle.pages.specs.Answer.{IsAnswer}
 use Rattle.tree_search.specs.Calls.{first_after}
 use Rattle.tree_search.specs.Spot.{begins_with}
 use Rattle.bplus_tree.specs.Cursor.{HasMoved, key_after}
+use Rattle.bplus_tree.specs.Fields.{tree_shape, cursor_key}
 use Rattle.key_index.specs.Stored.{prime_bytes, alt_bytes, IsPrimeEntry, IsAltEntry}
 use Rattle.key_index.specs.Entries.{entry_has_value, after_prime, after_rank}
 use Rattle.key_index.specs.Standing.{PrimeStands, AltStands}
@@ -37,15 +38,15 @@ pub prime_moved : (old new : PrimeCursor) (index : PrimeIndex) (pages : PageMap)
     (result : Result (Option PrimeEntry) Fault) (gave : Option (ArrayVec ℕ))
     → ((e : Option PrimeEntry) → IfSome e (IsPrimeEntry index.width) → option_map (λ b. b.items) gave ≡ option_map prime_bytes e → result ≡ Ok e)
     → PrimeStands index pages entries own → HasMoved old.cursor new.cursor index.tree pages (map prime_bytes entries) own gave
-    → new.cursor.key.items ≡ key_after index.tree.shape.width old.cursor.key.items gave
+    → cursor_key new.cursor ≡ key_after (tree_shape index.tree).width (cursor_key old.cursor) gave
     → IsAnswer result (PrimeHasMoved old new index pages entries own)
 prime_moved old new index pages entries own result gave told stands moved key =
-    let e : Option PrimeEntry = find (after_prime old.cursor.key.items) entries in
-    let fits : IfSome e (IsPrimeEntry index.width) = found_fits prime_bytes (IsPrimeEntry index.width) (after_prime old.cursor.key.items) entries stands.each in
+    let e : Option PrimeEntry = find (after_prime (cursor_key old.cursor)) entries in
+    let fits : IfSome e (IsPrimeEntry index.width) = found_fits prime_bytes (IsPrimeEntry index.width) (after_prime (cursor_key old.cursor)) entries stands.each in
     let same : option_map (λ b. b.items) gave ≡ option_map prime_bytes e =
-    moved.found_is ∙ found prime_bytes (IsPrimeEntry index.width) _ (after_prime old.cursor.key.items) (prime_after_at index old.cursor.key.items) entries stands.each in
-    let after : new.cursor.key.items ≡ value_after old.cursor.key.items e =
-    key ∙ ap (λ (n : ℕ). key_after n old.cursor.key.items gave) index.keys ∙ prime_key_after index.width old.cursor.key.items gave e fits same in
+    moved.found_is ∙ found prime_bytes (IsPrimeEntry index.width) _ (after_prime (cursor_key old.cursor)) (prime_after_at index (cursor_key old.cursor)) entries stands.each in
+    let after : cursor_key new.cursor ≡ value_after (cursor_key old.cursor) e =
+    key ∙ ap (λ (n : ℕ). key_after n (cursor_key old.cursor) gave) index.keys ∙ prime_key_after index.width (cursor_key old.cursor) gave e fits same in
     subst (λ (r : Result (Option PrimeEntry) Fault). IsAnswer r (PrimeHasMoved old new index pages entries own)) (sym (told e fits same))
     (record { answer = record { found_is = refl; after = after; belongs = moved.belongs }; no_damage = tt })
 
@@ -61,16 +62,16 @@ pub alt_moved : (value : List ℕ) (stamp : ℕ) (old new : AltCursor) (index : 
     (result : Result (Option AltEntry) Fault) (gave : Option (ArrayVec ℕ))
     → ((e : Option AltEntry) → IfSome e (IsAltEntry index.width index.prime) → option_map (λ b. b.items) gave ≡ option_map alt_bytes e → result ≡ Ok e)
     → AltStands index pages entries own → HasMoved old.cursor new.cursor index.tree pages (map alt_bytes entries) own gave
-    → new.cursor.key.items ≡ key_after index.tree.shape.width old.cursor.key.items gave
-    → length value ≡ index.width → stamp < 2 ^ 64 → old.cursor.key.items ≡ value ++ bytes_high_first 8 stamp
+    → cursor_key new.cursor ≡ key_after (tree_shape index.tree).width (cursor_key old.cursor) gave
+    → length value ≡ index.width → stamp < 2 ^ 64 → cursor_key old.cursor ≡ value ++ bytes_high_first 8 stamp
     → IsAnswer result (AltHasMoved value stamp old new index pages entries own)
 alt_moved value stamp old new index pages entries own result gave told stands moved key long small behind =
     let e : Option AltEntry = find (after_rank value stamp) entries in
     let fits : IfSome e (IsAltEntry index.width index.prime) = found_fits alt_bytes (IsAltEntry index.width index.prime) (after_rank value stamp) entries stands.each in
     let same : option_map (λ b. b.items) gave ≡ option_map alt_bytes e =
-    moved.found_is ∙ found alt_bytes (IsAltEntry index.width index.prime) _ (after_rank value stamp) (alt_after_at index old.cursor.key.items value stamp behind long small) entries stands.each in
-    let after : new.cursor.key.items ≡ rank_after old.cursor.key.items e =
-    key ∙ ap (λ (n : ℕ). key_after n old.cursor.key.items gave) index.keys ∙ alt_key_after index.width index.prime old.cursor.key.items gave e fits same in
+    moved.found_is ∙ found alt_bytes (IsAltEntry index.width index.prime) _ (after_rank value stamp) (alt_after_at index (cursor_key old.cursor) value stamp behind long small) entries stands.each in
+    let after : cursor_key new.cursor ≡ rank_after (cursor_key old.cursor) e =
+    key ∙ ap (λ (n : ℕ). key_after n (cursor_key old.cursor) gave) index.keys ∙ alt_key_after index.width index.prime (cursor_key old.cursor) gave e fits same in
     subst (λ (r : Result (Option AltEntry) Fault). IsAnswer r (AltHasMoved value stamp old new index pages entries own)) (sym (told e fits same))
     (record { answer = record { found_is = refl; after = after; belongs = moved.belongs }; no_damage = tt })
 
@@ -85,12 +86,12 @@ begins_found w p v long None fit = refl
 begins_found w p v long (Some e) fit = begins_alike w p v long e fit
 
 pub alt_told : (value : List ℕ) (stamp : ℕ) (cursor : AltCursor) (index : AltIndex) (pages : PageMap) (entries : List AltEntry) (own start : List ℕ) (result : Result Bool Fault)
-    → AltStands index pages entries own → length value ≡ index.width → stamp < 2 ^ 64 → cursor.cursor.key.items ≡ value ++ bytes_high_first 8 stamp → start ≡ value
-    → IsAnswer result (λ told. told ≡ option_map_or (begins_with start) (first_after index.tree.shape.width cursor.cursor.key.items (map alt_bytes entries)) false)
+    → AltStands index pages entries own → length value ≡ index.width → stamp < 2 ^ 64 → cursor_key cursor.cursor ≡ value ++ bytes_high_first 8 stamp → start ≡ value
+    → IsAnswer result (λ told. told ≡ option_map_or (begins_with start) (first_after (tree_shape index.tree).width (cursor_key cursor.cursor) (map alt_bytes entries)) false)
     → IsAnswer result (λ told. told ≡ option_map_or (entry_has_value value) (find (after_rank value stamp) entries) false)
 alt_told value stamp cursor index pages entries own start result stands long small behind is told =
-    let key = cursor.cursor.key.items in
-    let width = index.tree.shape.width in
+    let key = cursor_key cursor.cursor in
+    let width = (tree_shape index.tree).width in
     let first : first_after width key (map alt_bytes entries) ≡ option_map alt_bytes (find (after_rank value stamp) entries) =
     found alt_bytes (IsAltEntry index.width index.prime) _ (after_rank value stamp) (alt_after_at index key value stamp behind long small) entries stands.each in
     let same : option_map_or (begins_with start) (first_after width key (map alt_bytes entries)) false ≡ option_map_or (entry_has_value value) (find (after_rank value stamp) entries) false =

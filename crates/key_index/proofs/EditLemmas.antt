@@ -15,6 +15,7 @@ use Rattle.tree_node.specs.Order.{less}
 use Rattle.bplus_tree.specs.declared.tree.Tree.{Tree}
 use Rattle.bplus_tree.specs.Edits.{with_entry, without_key}
 use Rattle.bplus_tree.specs.Standing.{TreeStands, HasInserted, HasRemoved}
+use Rattle.bplus_tree.specs.Fields.{tree_shape}
 use Rattle.io_state.specs.Rank.{value_cmp, rank_cmp}
 use Rattle.key_index.specs.Stored.{prime_bytes, alt_bytes, IsPrimeEntry, IsAltEntry}
 use Rattle.key_index.specs.Entries.{has_prime, has_rank, with_prime, with_alt, without_prime, without_rank}
@@ -82,23 +83,23 @@ prime_put_fits w e fe (x ∷ xs) fit = by_test (prime_put_fits w e fe xs fit.1) 
     by_test rest false = (fit.0, rest)
 
 module _ (before after : PageMap) (old : PrimeIndex) (entries : List PrimeEntry) (own : List ℕ) (each : Each (IsPrimeEntry old.width) entries) where
-  prime_rows : (k : List ℕ) → find (λ r. bytes_eq (take old.tree.shape.width r) k) (map prime_bytes entries) ≡ option_map prime_bytes (find (has_prime k) entries)
+  prime_rows : (k : List ℕ) → find (λ r. bytes_eq (take (tree_shape old.tree).width r) k) (map prime_bytes entries) ≡ option_map prime_bytes (find (has_prime k) entries)
   prime_rows k = found prime_bytes (IsPrimeEntry old.width) _ (has_prime k) (prime_has_at old k) entries each
 
   module _ (e : PrimeEntry) (fits : IsPrimeEntry old.width e) where
-    value_is : take old.tree.shape.width (prime_bytes e) ≡ e.value.items
+    value_is : take (tree_shape old.tree).width (prime_bytes e) ≡ e.value.items
     value_is = ap (λ (n : ℕ). take n (prime_bytes e)) old.keys ∙ prime_key old.width e fits
 
-    prime_looked : find (λ r. bytes_eq (take old.tree.shape.width r) (take old.tree.shape.width (prime_bytes e))) (map prime_bytes entries)
+    prime_looked : find (λ r. bytes_eq (take (tree_shape old.tree).width r) (take (tree_shape old.tree).width (prime_bytes e))) (map prime_bytes entries)
         ≡ option_map prime_bytes (find (has_prime e.value.items) entries)
     prime_looked =
-        ap (λ (k : List ℕ). find (λ r. bytes_eq (take old.tree.shape.width r) k) (map prime_bytes entries)) value_is ∙ prime_rows e.value.items
+        ap (λ (k : List ℕ). find (λ r. bytes_eq (take (tree_shape old.tree).width r) k) (map prime_bytes entries)) value_is ∙ prime_rows e.value.items
 
     pub prime_added : (new : PrimeIndex) → new.width ≡ old.width → HasInserted before after old.tree new.tree (prime_bytes e) (map prime_bytes entries) own None
         → PrimeHasAdded before after old new e entries own true
     prime_added new width h =
         let absent : find (has_prime e.value.items) entries ≡ None = none_back prime_bytes (find (has_prime e.value.items) entries) (sym prime_looked ∙ h.0) in
-        let rows : with_entry old.tree.shape.width (prime_bytes e) (map prime_bytes entries) ≡ map prime_bytes (with_prime e entries) =
+        let rows : with_entry (tree_shape old.tree).width (prime_bytes e) (map prime_bytes entries) ≡ map prime_bytes (with_prime e entries) =
         ap (λ (n : ℕ). with_entry n (prime_bytes e) (map prime_bytes entries)) old.keys ∙ prime_put old.width e fits entries each absent in (
           absent,
           record {
@@ -119,7 +120,7 @@ module _ (before after : PageMap) (old : PrimeIndex) (entries : List PrimeEntry)
   pub prime_removed : (k : List ℕ) (new : PrimeIndex) (removed : ArrayVec ℕ) → new.width ≡ old.width → HasRemoved before after old.tree new.tree k (map prime_bytes entries) own (Some removed)
       → PrimeHasRemoved before after old new k entries own true
   prime_removed k new removed width h =
-      let rows : without_key old.tree.shape.width k (map prime_bytes entries) ≡ map prime_bytes (without_prime k entries) =
+      let rows : without_key (tree_shape old.tree).width k (map prime_bytes entries) ≡ map prime_bytes (without_prime k entries) =
       filtered prime_bytes (IsPrimeEntry old.width) _ (has_prime k) (prime_has_at old k) entries each in (
         some_back prime_bytes (find (has_prime k) entries) removed.items (sym (prime_rows k) ∙ h.0),
         record {
@@ -178,14 +179,14 @@ alt_each old new entries of each =
 
 module _ (before after : PageMap) (old : AltIndex) (entries : List AltEntry) (own : List ℕ) (each : Each (IsAltEntry old.width old.prime) entries) where
   module _ (key k : List ℕ) (t : ℕ) (is : key ≡ k ++ bytes_high_first 8 t) (long : length k ≡ old.width) (small : t < 2 ^ 64) where
-    alt_rows : find (λ r. bytes_eq (take old.tree.shape.width r) key) (map alt_bytes entries) ≡ option_map alt_bytes (find (has_rank k t) entries)
+    alt_rows : find (λ r. bytes_eq (take (tree_shape old.tree).width r) key) (map alt_bytes entries) ≡ option_map alt_bytes (find (has_rank k t) entries)
     alt_rows = found alt_bytes (IsAltEntry old.width old.prime) _ (has_rank k t) (alt_has_at old key k t is long small) entries each
 
     pub alt_removed : (new : AltIndex) (removed : ArrayVec ℕ) → IsOf old.width old.prime new
         → HasRemoved before after old.tree new.tree key (map alt_bytes entries) own (Some removed)
         → AltHasRemoved before after old new k t entries own true
     alt_removed new removed of h =
-        let rows : without_key old.tree.shape.width key (map alt_bytes entries) ≡ map alt_bytes (without_rank k t entries) =
+        let rows : without_key (tree_shape old.tree).width key (map alt_bytes entries) ≡ map alt_bytes (without_rank k t entries) =
         filtered alt_bytes (IsAltEntry old.width old.prime) _ (has_rank k t) (alt_has_at old key k t is long small) entries each in (
           some_back alt_bytes (find (has_rank k t) entries) removed.items (sym alt_rows ∙ h.0),
           record {
@@ -203,19 +204,19 @@ module _ (before after : PageMap) (old : AltIndex) (entries : List AltEntry) (ow
     alt_absent tree h = (none_back alt_bytes (find (has_rank k t) entries) (sym alt_rows ∙ h.0), h.1, refl)
 
   module _ (e : AltEntry) (fits : IsAltEntry old.width old.prime e) where
-    rank_is : take old.tree.shape.width (alt_bytes e) ≡ e.value.items ++ bytes_high_first 8 e.stamp
+    rank_is : take (tree_shape old.tree).width (alt_bytes e) ≡ e.value.items ++ bytes_high_first 8 e.stamp
     rank_is = ap (λ (n : ℕ). take n (alt_bytes e)) old.keys ∙ alt_key old.width old.prime e fits
 
-    alt_looked : find (λ r. bytes_eq (take old.tree.shape.width r) (take old.tree.shape.width (alt_bytes e))) (map alt_bytes entries)
+    alt_looked : find (λ r. bytes_eq (take (tree_shape old.tree).width r) (take (tree_shape old.tree).width (alt_bytes e))) (map alt_bytes entries)
         ≡ option_map alt_bytes (find (has_rank e.value.items e.stamp) entries)
     alt_looked =
-        ap (λ (k : List ℕ). find (λ r. bytes_eq (take old.tree.shape.width r) k) (map alt_bytes entries)) rank_is
+        ap (λ (k : List ℕ). find (λ r. bytes_eq (take (tree_shape old.tree).width r) k) (map alt_bytes entries)) rank_is
         ∙ alt_rows (e.value.items ++ bytes_high_first 8 e.stamp) e.value.items e.stamp refl fits.long fits.stamp
 
     pub alt_added : (new : AltIndex) → IsOf old.width old.prime new → HasInserted before after old.tree new.tree (alt_bytes e) (map alt_bytes entries) own None
         → AltHasAdded before after old new e entries own true
     alt_added new of h =
-        let rows : with_entry old.tree.shape.width (alt_bytes e) (map alt_bytes entries) ≡ map alt_bytes (with_alt e entries) =
+        let rows : with_entry (tree_shape old.tree).width (alt_bytes e) (map alt_bytes entries) ≡ map alt_bytes (with_alt e entries) =
         ap (λ (n : ℕ). with_entry n (alt_bytes e) (map alt_bytes entries)) old.keys ∙ alt_put old.width old.prime e fits entries each in (
           none_back alt_bytes (find (has_rank e.value.items e.stamp) entries) (sym alt_looked ∙ h.0),
           record {

@@ -18,6 +18,7 @@ use Rattle.tree_search.specs.declared.range.First.{First}
 use Rattle.tree_search.specs.Calls.{first_after}
 use Rattle.tree_search.specs.Range.{is_within, IsFirst}
 use Rattle.io_state.specs.Rank.{value_cmp}
+use Rattle.bplus_tree.specs.Fields.{tree_shape}
 use Rattle.key_index.specs.Stored.{alt_bytes, IsAltEntry}
 use Rattle.key_index.specs.Entries.{entry_has_value, after_rank}
 use Rattle.key_index.specs.Calls.{IsAltFirst}
@@ -65,32 +66,32 @@ no_value w p v other (e ∷ entries) each =
 
 module _ (index : AltIndex) (v least greatest : List ℕ) (long : length v ≡ index.width) (is_least : least ≡ v ++ bytes_high_first 8 0) (is_greatest : greatest ≡ v ++ bytes_high_first 8 (2 ^ 64 - 1)) where
   -- the entries of a value are those in the range of its tree keys
-  pub in_range : (e : AltEntry) → IsAltEntry index.width index.prime e → is_within index.tree.shape.width least greatest (alt_bytes e) ≡ entry_has_value v e
+  pub in_range : (e : AltEntry) → IsAltEntry index.width index.prime e → is_within (tree_shape index.tree).width least greatest (alt_bytes e) ≡ entry_has_value v e
   unfolding less
   in_range e fit =
       let stamp = fit.stamp in
-      let key : take index.tree.shape.width (alt_bytes e) ≡ e.value.items ++ bytes_high_first 8 e.stamp = ap (λ (n : ℕ). take n (alt_bytes e)) index.keys ∙ alt_key index.width index.prime e fit in
-      let low : less (take index.tree.shape.width (alt_bytes e)) least ≡ is_lt (ordering_then (value_cmp e.value.items v) (nat_cmp e.stamp 0)) =
+      let key : take (tree_shape index.tree).width (alt_bytes e) ≡ e.value.items ++ bytes_high_first 8 e.stamp = ap (λ (n : ℕ). take n (alt_bytes e)) index.keys ∙ alt_key index.width index.prime e fit in
+      let low : less (take (tree_shape index.tree).width (alt_bytes e)) least ≡ is_lt (ordering_then (value_cmp e.value.items v) (nat_cmp e.stamp 0)) =
       ap (λ (l : List ℕ). less l least) key ∙ ap (λ (l : List ℕ). less (e.value.items ++ bytes_high_first 8 e.stamp) l) is_least
       ∙ ap is_lt (ranks e.value.items v e.stamp 0 (fit.long ∙ sym long) fit.stamp (omega arith)) in
-      let high : less greatest (take index.tree.shape.width (alt_bytes e)) ≡ is_gt (ordering_then (value_cmp e.value.items v) (nat_cmp e.stamp (2 ^ 64 - 1))) =
+      let high : less greatest (take (tree_shape index.tree).width (alt_bytes e)) ≡ is_gt (ordering_then (value_cmp e.value.items v) (nat_cmp e.stamp (2 ^ 64 - 1))) =
       alt_after_at index greatest v (2 ^ 64 - 1) is_greatest long (omega arith) e fit in
-      ap (λ b. not b && not (less greatest (take index.tree.shape.width (alt_bytes e)))) low
+      ap (λ b. not b && not (less greatest (take (tree_shape index.tree).width (alt_bytes e)))) low
       ∙ ap (λ b. not (is_lt (ordering_then (value_cmp e.value.items v) (nat_cmp e.stamp 0))) && not b) high
       ∙ same_value (value_cmp e.value.items v) (nat_cmp e.stamp 0) (nat_cmp e.stamp (2 ^ 64 - 1)) (never_below e.stamp) (never_above e.stamp (2 ^ 64 - 1) (omega arith))
       ∙ is_eq-slice_cmp e.value.items v
 
   mapped : (o : Option AltEntry) → IfSome o (IsAltEntry index.width index.prime)
-      → option_map_or (is_within index.tree.shape.width least greatest) (option_map alt_bytes o) false ≡ option_map_or (entry_has_value v) o false
+      → option_map_or (is_within (tree_shape index.tree).width least greatest) (option_map alt_bytes o) false ≡ option_map_or (entry_has_value v) o false
   mapped None fit = refl
   mapped (Some e) fit = in_range e fit
 
   module _ (entries : List AltEntry) (each : Each (IsAltEntry index.width index.prime) entries) where
-    found_value : find (is_within index.tree.shape.width least greatest) (map alt_bytes entries) ≡ option_map alt_bytes (find (entry_has_value v) entries)
-    found_value = found alt_bytes (IsAltEntry index.width index.prime) (is_within index.tree.shape.width least greatest) (entry_has_value v) in_range entries each
+    found_value : find (is_within (tree_shape index.tree).width least greatest) (map alt_bytes entries) ≡ option_map alt_bytes (find (entry_has_value v) entries)
+    found_value = found alt_bytes (IsAltEntry index.width index.prime) (is_within (tree_shape index.tree).width least greatest) (entry_has_value v) in_range entries each
 
     -- no entry in the range
-    pub first_none : IsFirst index.tree.shape.width least greatest (map alt_bytes entries) None → find (entry_has_value v) entries ≡ None
+    pub first_none : IsFirst (tree_shape index.tree).width least greatest (map alt_bytes entries) None → find (entry_has_value v) entries ≡ None
     first_none h = unmapped (find (entry_has_value v) entries) (sym found_value ∙ h)
       where
         unmapped : (o : Option AltEntry) → option_map alt_bytes o ≡ None → o ≡ None
@@ -104,23 +105,23 @@ module _ (index : AltIndex) (v least greatest : List ℕ) (long : length v ≡ i
       pub bytes : gave.entry.items ≡ alt_bytes entry
       pub is_first : IsAltFirst v entries (Some (record { entry = entry; followed = gave.followed }))
 
-    of_found : (gave : First) → IsFirst index.tree.shape.width least greatest (map alt_bytes entries) (Some gave) → (o : Option AltEntry) → find (entry_has_value v) entries ≡ o → IfSome o (IsAltEntry index.width index.prime)
+    of_found : (gave : First) → IsFirst (tree_shape index.tree).width least greatest (map alt_bytes entries) (Some gave) → (o : Option AltEntry) → find (entry_has_value v) entries ≡ o → IfSome o (IsAltEntry index.width index.prime)
         → Some gave.entry.items ≡ option_map alt_bytes o → TheFirst gave
     of_found gave h None is fit same = absurd (cc)
     of_found gave h (Some e) is fit same =
         let bytes : gave.entry.items ≡ alt_bytes e = some_same gave.entry.items (alt_bytes e) same in
-        let key : take index.tree.shape.width gave.entry.items ≡ e.value.items ++ bytes_high_first 8 e.stamp =
-        ap (take index.tree.shape.width) bytes ∙ ap (λ (n : ℕ). take n (alt_bytes e)) index.keys ∙ alt_key index.width index.prime e fit in
-        let next : first_after index.tree.shape.width (take index.tree.shape.width gave.entry.items) (map alt_bytes entries) ≡ option_map alt_bytes (find (after_rank e.value.items e.stamp) entries) =
+        let key : take (tree_shape index.tree).width gave.entry.items ≡ e.value.items ++ bytes_high_first 8 e.stamp =
+        ap (take (tree_shape index.tree).width) bytes ∙ ap (λ (n : ℕ). take n (alt_bytes e)) index.keys ∙ alt_key index.width index.prime e fit in
+        let next : first_after (tree_shape index.tree).width (take (tree_shape index.tree).width gave.entry.items) (map alt_bytes entries) ≡ option_map alt_bytes (find (after_rank e.value.items e.stamp) entries) =
         found alt_bytes (IsAltEntry index.width index.prime) _ (after_rank e.value.items e.stamp)
-        (alt_after_at index (take index.tree.shape.width gave.entry.items) e.value.items e.stamp key fit.long fit.stamp) entries each in
+        (alt_after_at index (take (tree_shape index.tree).width gave.entry.items) e.value.items e.stamp key fit.long fit.stamp) entries each in
         record {
           entry = e;
           fits = fit;
           bytes = bytes;
           is_first = (
             is,
-            h.1 ∙ ap (λ (o : Option (List ℕ)). option_map_or (is_within index.tree.shape.width least greatest) o false) next
+            h.1 ∙ ap (λ (o : Option (List ℕ)). option_map_or (is_within (tree_shape index.tree).width least greatest) o false) next
                 ∙ mapped (find (after_rank e.value.items e.stamp) entries) (found_fits alt_bytes (IsAltEntry index.width index.prime) (after_rank e.value.items e.stamp) entries each),
           );
         }
@@ -128,5 +129,5 @@ module _ (index : AltIndex) (v least greatest : List ℕ) (long : length v ≡ i
         some_same : (a b : List ℕ) → Some a ≡ Some b → a ≡ b
         some_same a b e = cc
 
-    pub the_first : (gave : First) → IsFirst index.tree.shape.width least greatest (map alt_bytes entries) (Some gave) → TheFirst gave
+    pub the_first : (gave : First) → IsFirst (tree_shape index.tree).width least greatest (map alt_bytes entries) (Some gave) → TheFirst gave
     the_first gave h = of_found gave h (find (entry_has_value v) entries) refl (found_fits alt_bytes (IsAltEntry index.width index.prime) (entry_has_value v) entries each) (sym h.0 ∙ found_value)

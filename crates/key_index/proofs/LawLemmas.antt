@@ -8,21 +8,22 @@ use Rattle.bplus_tree.specs.Standing.{TreeStands}
 use Rattle.bplus_tree.specs.ReadOff.{entries_in}
 use Rattle.bplus_tree.proofs.PageLemmas.{pages_live, holds_still}
 use Rattle.bplus_tree.proofs.ReadOffLemmas.{reads_its_entries}
+use Rattle.bplus_tree.specs.Fields.{tree_shape, tree_root, tree_levels}
 use Rattle.key_index.specs.Stored.{prime_bytes, alt_bytes, prime_entry_in, alt_entry_in, IsPrimeEntry, IsAltEntry}
 use Rattle.key_index.specs.Laws.{AreInUse, prime_reads, prime_is_live, prime_is_kept, prime_stands_aside, alt_reads, alt_is_live, alt_is_kept, alt_stands_aside}
 use Rattle.key_index.proofs.StoredLemmas.{prime_back, alt_back}
 
 -- ---- trees
 
-tree_reads : (tree : Tree) (pages : PageMap) (rows : List (List ℕ)) (own : List ℕ) → TreeStands tree pages rows own → entries_in tree.shape pages tree.levels tree.root ≡ rows
+tree_reads : (tree : Tree) (pages : PageMap) (rows : List (List ℕ)) (own : List ℕ) → TreeStands tree pages rows own → entries_in (tree_shape tree) pages (tree_levels tree) (tree_root tree) ≡ rows
 tree_reads tree pages rows own stands =
-    ap (entries_in tree.shape pages tree.levels) (sym stands.whole.stands.root)
-    ∙ reads_its_entries tree.shape pages tree.levels stands.value stands.whole.stands.holds ∙ stands.has
+    ap (entries_in (tree_shape tree) pages (tree_levels tree)) (sym stands.whole.stands.root)
+    ∙ reads_its_entries (tree_shape tree) pages (tree_levels tree) stands.value stands.whole.stands.holds ∙ stands.has
 
 tree_live : (tree : Tree) (pages : PageMap) (rows : List (List ℕ)) (own : List ℕ) → TreeStands tree pages rows own → AreInUse pages own
 tree_live tree pages rows own stands =
     subst (AreInUse pages) stands.pages_are
-    (record { live = pages_live tree.shape pages tree.levels stands.value stands.whole.stands.holds; apart = stands.whole.apart })
+    (record { live = pages_live (tree_shape tree) pages (tree_levels tree) stands.value stands.whole.stands.holds; apart = stands.whole.apart })
 
 tree_kept : (tree : Tree) (before after : PageMap) (rows : List (List ℕ)) (own : List ℕ) → TreeStands tree before rows own → Each (λ n. after n ≡ before n) own → TreeStands tree after rows own
 tree_kept tree before after rows own stands same =
@@ -31,7 +32,7 @@ tree_kept tree before after rows own stands same =
       value = stands.value;
       whole = record {
         stands = record {
-          holds = holds_still tree.shape before after tree.levels stands.value stands.whole.stands.holds own_same;
+          holds = holds_still (tree_shape tree) before after (tree_levels tree) stands.value stands.whole.stands.holds own_same;
           root = stands.whole.stands.root;
           ordered = stands.whole.stands.ordered;
         };

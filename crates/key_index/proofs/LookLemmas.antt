@@ -10,6 +10,7 @@ use Rattle.page_bytes.specs.Each.{Each}
 use Rattle.pages.specs.Answer.{IsAnswer}
 use Rattle.tree_node.specs.Order.{less}
 use Rattle.tree_search.specs.Calls.{last_of}
+use Rattle.bplus_tree.specs.Fields.{tree_shape}
 use Rattle.key_index.specs.Keys.{greatest_key}
 use Rattle.key_index.specs.Stored.{prime_bytes, alt_bytes, IsPrimeEntry, IsAltEntry}
 use Rattle.key_index.specs.Entries.{has_prime, from_prime, after_prime, past_prime, has_rank, from_value, after_rank, past_value}
@@ -46,40 +47,40 @@ module _ {X : Type 0} (bytes : X → List ℕ) (Fits : X → Type 0) (result : R
 -- ---- the tests, at the width of the tree's keys
 
 module _ (index : PrimeIndex) where
-  pub prime_has_at : (k : List ℕ) (e : PrimeEntry) → IsPrimeEntry index.width e → bytes_eq (take index.tree.shape.width (prime_bytes e)) k ≡ has_prime k e
+  pub prime_has_at : (k : List ℕ) (e : PrimeEntry) → IsPrimeEntry index.width e → bytes_eq (take (tree_shape index.tree).width (prime_bytes e)) k ≡ has_prime k e
   prime_has_at k e fit = ap (λ (n : ℕ). bytes_eq (take n (prime_bytes e)) k) index.keys ∙ prime_has index.width k e fit
 
-  pub prime_from_at : (k : List ℕ) (e : PrimeEntry) → IsPrimeEntry index.width e → not (less (take index.tree.shape.width (prime_bytes e)) k) ≡ from_prime k e
+  pub prime_from_at : (k : List ℕ) (e : PrimeEntry) → IsPrimeEntry index.width e → not (less (take (tree_shape index.tree).width (prime_bytes e)) k) ≡ from_prime k e
   prime_from_at k e fit = ap (λ (n : ℕ). not (less (take n (prime_bytes e)) k)) index.keys ∙ prime_from index.width k e fit
 
-  pub prime_after_at : (k : List ℕ) (e : PrimeEntry) → IsPrimeEntry index.width e → less k (take index.tree.shape.width (prime_bytes e)) ≡ after_prime k e
+  pub prime_after_at : (k : List ℕ) (e : PrimeEntry) → IsPrimeEntry index.width e → less k (take (tree_shape index.tree).width (prime_bytes e)) ≡ after_prime k e
   prime_after_at k e fit = ap (λ (n : ℕ). less k (take n (prime_bytes e))) index.keys ∙ prime_after index.width k e fit
 
   pub prime_past_at : (key k : List ℕ) → key ≡ greatest_key index.width index.width k
-      → (e : PrimeEntry) → IsPrimeEntry index.width e → less key (take index.tree.shape.width (prime_bytes e)) ≡ past_prime k e
+      → (e : PrimeEntry) → IsPrimeEntry index.width e → less key (take (tree_shape index.tree).width (prime_bytes e)) ≡ past_prime k e
   prime_past_at key k is e fit =
-      ap (λ (l : List ℕ). less l (take index.tree.shape.width (prime_bytes e))) is
+      ap (λ (l : List ℕ). less l (take (tree_shape index.tree).width (prime_bytes e))) is
       ∙ ap (λ (n : ℕ). less (greatest_key index.width index.width k) (take n (prime_bytes e))) index.keys ∙ prime_past index.width k e fit
 
 module _ (index : AltIndex) where
   pub alt_has_at : (key k : List ℕ) (t : ℕ) → key ≡ k ++ bytes_high_first 8 t → length k ≡ index.width → t < 2 ^ 64
-      → (e : AltEntry) → IsAltEntry index.width index.prime e → bytes_eq (take index.tree.shape.width (alt_bytes e)) key ≡ has_rank k t e
+      → (e : AltEntry) → IsAltEntry index.width index.prime e → bytes_eq (take (tree_shape index.tree).width (alt_bytes e)) key ≡ has_rank k t e
   alt_has_at key k t is long small e fit =
-      ap (λ (l : List ℕ). bytes_eq (take index.tree.shape.width (alt_bytes e)) l) is
+      ap (λ (l : List ℕ). bytes_eq (take (tree_shape index.tree).width (alt_bytes e)) l) is
       ∙ ap (λ (n : ℕ). bytes_eq (take n (alt_bytes e)) (k ++ bytes_high_first 8 t)) index.keys ∙ alt_has index.width index.prime k t e long small fit
 
   pub alt_from_at : (k : List ℕ) → length k ≤ index.width
-      → (e : AltEntry) → IsAltEntry index.width index.prime e → not (less (take index.tree.shape.width (alt_bytes e)) k) ≡ from_value k e
+      → (e : AltEntry) → IsAltEntry index.width index.prime e → not (less (take (tree_shape index.tree).width (alt_bytes e)) k) ≡ from_value k e
   alt_from_at k long e fit = ap (λ (n : ℕ). not (less (take n (alt_bytes e)) k)) index.keys ∙ alt_from index.width index.prime k e long fit
 
   pub alt_after_at : (key k : List ℕ) (t : ℕ) → key ≡ k ++ bytes_high_first 8 t → length k ≡ index.width → t < 2 ^ 64
-      → (e : AltEntry) → IsAltEntry index.width index.prime e → less key (take index.tree.shape.width (alt_bytes e)) ≡ after_rank k t e
+      → (e : AltEntry) → IsAltEntry index.width index.prime e → less key (take (tree_shape index.tree).width (alt_bytes e)) ≡ after_rank k t e
   alt_after_at key k t is long small e fit =
-      ap (λ (l : List ℕ). less l (take index.tree.shape.width (alt_bytes e))) is
+      ap (λ (l : List ℕ). less l (take (tree_shape index.tree).width (alt_bytes e))) is
       ∙ ap (λ (n : ℕ). less (k ++ bytes_high_first 8 t) (take n (alt_bytes e))) index.keys ∙ alt_after index.width index.prime k t e long small fit
 
   pub alt_past_at : (key k : List ℕ) → key ≡ greatest_key index.width (index.width + 8) k
-      → (e : AltEntry) → IsAltEntry index.width index.prime e → less key (take index.tree.shape.width (alt_bytes e)) ≡ past_value k e
+      → (e : AltEntry) → IsAltEntry index.width index.prime e → less key (take (tree_shape index.tree).width (alt_bytes e)) ≡ past_value k e
   alt_past_at key k is e fit =
-      ap (λ (l : List ℕ). less l (take index.tree.shape.width (alt_bytes e))) is
+      ap (λ (l : List ℕ). less l (take (tree_shape index.tree).width (alt_bytes e))) is
       ∙ ap (λ (n : ℕ). less (greatest_key index.width (index.width + 8) k) (take n (alt_bytes e))) index.keys ∙ alt_past index.width index.prime k e fit

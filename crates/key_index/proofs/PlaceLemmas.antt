@@ -7,6 +7,7 @@ use Rattle.page_bytes.specs.Each.{Each}
 use Rattle.record_heap.specs.declared.shape.Place.{Place}
 use Rattle.tree_search.specs.Calls.{entry_of}
 use Rattle.tree_search.specs.Tail.{filled_tail, IsTail, TellsPresence}
+use Rattle.bplus_tree.specs.Fields.{tree_shape}
 use Rattle.key_index.specs.Stored.{prime_bytes, place_in, IsPrimeEntry}
 use Rattle.key_index.specs.Entries.{has_prime}
 use Rattle.key_index.specs.declared.entry.PrimeEntry.{PrimeEntry}
@@ -23,23 +24,23 @@ place_back w e fit =
     ap at slot ∙ ap (λ (x : PrimeEntry). x.place) (prime_back w e fit)
 
 module _ (index : PrimeIndex) (value : List ℕ) (entries : List PrimeEntry) (each : Each (IsPrimeEntry index.width) entries) where
-  entry_is : entry_of index.tree.shape.width value (map prime_bytes entries) ≡ option_map prime_bytes (find (has_prime value) entries)
+  entry_is : entry_of (tree_shape index.tree).width value (map prime_bytes entries) ≡ option_map prime_bytes (find (has_prime value) entries)
   entry_is = found prime_bytes (IsPrimeEntry index.width) _ (has_prime value) (prime_has_at index value) entries each
 
-  placed : (o : Option PrimeEntry) → IfSome o (IsPrimeEntry index.width) → option_map place_in (option_map (drop index.tree.shape.width) (option_map prime_bytes o)) ≡ option_map (λ e. e.place) o
+  placed : (o : Option PrimeEntry) → IfSome o (IsPrimeEntry index.width) → option_map place_in (option_map (drop (tree_shape index.tree).width) (option_map prime_bytes o)) ≡ option_map (λ e. e.place) o
   placed None fit = refl
   placed (Some e) fit = ap Some (ap (λ (n : ℕ). place_in (drop n (prime_bytes e))) index.keys ∙ place_back index.width e fit)
 
   -- the place in the bytes that were filled in
-  pub told_place : (tail : List ℕ) (told : Bool) → IsTail index.tree.shape.width tail (entry_of index.tree.shape.width value (map prime_bytes entries)) told
+  pub told_place : (tail : List ℕ) (told : Bool) → IsTail (tree_shape index.tree).width tail (entry_of (tree_shape index.tree).width value (map prime_bytes entries)) told
       → option_map place_in (filled_tail tail told) ≡ option_map (λ e. e.place) (find (has_prime value) entries)
   told_place tail told tells =
-      ap (option_map place_in) (tells ∙ ap (option_map (drop index.tree.shape.width)) entry_is)
+      ap (option_map place_in) (tells ∙ ap (option_map (drop (tree_shape index.tree).width)) entry_is)
       ∙ placed (find (has_prime value) entries) (found_fits prime_bytes (IsPrimeEntry index.width) (has_prime value) entries each)
 
   some_of : (o : Option PrimeEntry) → is_some (option_map prime_bytes o) ≡ is_some o
   some_of None = refl
   some_of (Some e) = refl
 
-  pub told_there : (told : Bool) → TellsPresence (entry_of index.tree.shape.width value (map prime_bytes entries)) told → told ≡ is_some (find (has_prime value) entries)
+  pub told_there : (told : Bool) → TellsPresence (entry_of (tree_shape index.tree).width value (map prime_bytes entries)) told → told ≡ is_some (find (has_prime value) entries)
   told_there told tells = tells ∙ ap is_some entry_is ∙ some_of (find (has_prime value) entries)

@@ -8,6 +8,7 @@ use Rattle.pages.specs.Cause.{IsCaused}
 use Rattle.pages.specs.ShownPages.{ShownPages}
 use Rattle.bplus_tree.specs.Depth.{IsPastAll, FindsDamage}
 use Rattle.bplus_tree.specs.declared.tree.Tree.{Tree}
+use Rattle.bplus_tree.specs.Fields.{tree_levels}
 use Rattle.key_index.specs.declared.entry.PrimeEntry.{PrimeEntry}
 use Rattle.key_index.specs.declared.entry.AltEntry.{AltEntry}
 use Rattle.key_index.specs.declared.prime_index.PrimeIndex.{PrimeIndex}
@@ -54,10 +55,10 @@ pub record AddsEntry {S I : Type 0} (shown : ShownPages S) (before after : S) (o
       (IsTrue (shown.state after).is_sound)
   pub deep : IsPastAll tree → FindsDamage old new before after result
   pub grows : Grows old new 1
-  pub spends : Spends (shown.state before) (shown.state after) (tree.levels + 1 + 1)
-      (8 * (tree.levels + 1 + 1))
+  pub spends : Spends (shown.state before) (shown.state after) (tree_levels tree + 1 + 1)
+      (8 * (tree_levels tree + 1 + 1))
   pub cause : IfErr result (IsCaused (shown.HasFailed before after)
-      ((shown.state before).available < tree.levels + 1 + 1))
+      ((shown.state before).available < tree_levels tree + 1 + 1))
   pub goes : shown.Writes before after
 
 -- a call that takes an entry out of an index that had this tree; no page is taken
@@ -69,7 +70,7 @@ pub record TakesEntry {S I : Type 0} (shown : ShownPages S) (before after : S) (
       → Removes old new result (shown.state before).live (shown.state after).live
       (IsTrue (shown.state after).is_sound)
   pub grows : Grows old new 0
-  pub spends : Spends (shown.state before) (shown.state after) 0 (8 * (tree.levels + 1 + 1))
+  pub spends : Spends (shown.state before) (shown.state after) 0 (8 * (tree_levels tree + 1 + 1))
   pub cause : IfErr result (IsCaused (shown.HasFailed before after) ⊥)
   pub goes : shown.Writes before after
 

@@ -9,6 +9,7 @@ use Rattle.pages.specs.Answer.{IsAnswer}
 use Rattle.pages.specs.ShownPages.{ShownPages}
 use Rattle.pages.specs.PageCalls.{ReadsPages}
 use Rattle.bplus_tree.specs.Cursor.{Belongs}
+use Rattle.bplus_tree.specs.Fields.{cursor_key}
 use Rattle.key_index.specs.declared.entry.PrimeEntry.{PrimeEntry}
 use Rattle.key_index.specs.declared.entry.AltEntry.{AltEntry}
 use Rattle.key_index.specs.declared.prime_index.PrimeIndex.{PrimeIndex}
@@ -29,13 +30,13 @@ AltBelongs cursor index pages entries own = Belongs cursor.cursor index.tree pag
 
 -- the cursor is one of this index, behind a value
 pub record IsPrimeCursor (cursor : PrimeCursor) (index : PrimeIndex) (value : List ℕ) : Type 0 where
-  pub after : cursor.cursor.key.items ≡ value
+  pub after : cursor_key cursor.cursor ≡ value
   pub belongs : (pages : PageMap) (entries : List PrimeEntry) (own : List ℕ)
       → PrimeBelongs cursor index pages entries own
 
 -- the cursor is one of this index, behind a value and stamp
 pub record IsAltCursor (cursor : AltCursor) (index : AltIndex) (value : List ℕ) (stamp : ℕ) : Type 0 where
-  pub after : cursor.cursor.key.items ≡ value ++ big_bytes 8 stamp
+  pub after : cursor_key cursor.cursor ≡ value ++ big_bytes 8 stamp
   pub belongs : (pages : PageMap) (entries : List AltEntry) (own : List ℕ)
       → AltBelongs cursor index pages entries own
 
@@ -52,8 +53,8 @@ rank_after key (Some e) = e.value.items ++ big_bytes 8 e.stamp
 -- the first entry behind the cursor, which stands behind that one then
 pub record PrimeHasMoved (old new : PrimeCursor) (index : PrimeIndex) (pages : PageMap)
     (entries : List PrimeEntry) (own : List ℕ) (found : Option PrimeEntry) : Type 0 where
-  pub found_is : found ≡ find (after_prime old.cursor.key.items) entries
-  pub after : new.cursor.key.items ≡ value_after old.cursor.key.items found
+  pub found_is : found ≡ find (after_prime (cursor_key old.cursor)) entries
+  pub after : cursor_key new.cursor ≡ value_after (cursor_key old.cursor) found
   pub belongs : PrimeBelongs new index pages entries own
 
 abbrev pub PrimeMoves : PrimeCursor → PrimeCursor → PrimeIndex → PageMap → Result (Option PrimeEntry) Fault
@@ -66,7 +67,7 @@ PrimeMoves old new index pages result =
 pub record AltHasMoved (value : List ℕ) (stamp : ℕ) (old new : AltCursor) (index : AltIndex)
     (pages : PageMap) (entries : List AltEntry) (own : List ℕ) (found : Option AltEntry) : Type 0 where
   pub found_is : found ≡ find (after_rank value stamp) entries
-  pub after : new.cursor.key.items ≡ rank_after old.cursor.key.items found
+  pub after : cursor_key new.cursor ≡ rank_after (cursor_key old.cursor) found
   pub belongs : AltBelongs new index pages entries own
 
 -- of a cursor behind a value and stamp
@@ -74,7 +75,7 @@ abbrev pub AltMoves : AltCursor → AltCursor → AltIndex → PageMap → Resul
 AltMoves old new index pages result =
     (value : List ℕ) (stamp : ℕ) (entries : List AltEntry) (own : List ℕ)
     → AltStands index pages entries own → AltBelongs old index pages entries own
-    → length value ≡ index.width → stamp < 2 ^ 64 → old.cursor.key.items ≡ value ++ big_bytes 8 stamp
+    → length value ≡ index.width → stamp < 2 ^ 64 → cursor_key old.cursor ≡ value ++ big_bytes 8 stamp
     → IsAnswer result (AltHasMoved value stamp old new index pages entries own)
 
 -- whether the entry behind a cursor, which stands behind a value and stamp, has that value too
@@ -82,7 +83,7 @@ abbrev pub AltTellsNext : AltCursor → AltIndex → PageMap → Result Bool Fau
 AltTellsNext cursor index pages result =
     (value : List ℕ) (stamp : ℕ) (entries : List AltEntry) (own : List ℕ)
     → AltStands index pages entries own → AltBelongs cursor index pages entries own
-    → length value ≡ index.width → stamp < 2 ^ 64 → cursor.cursor.key.items ≡ value ++ big_bytes 8 stamp
+    → length value ≡ index.width → stamp < 2 ^ 64 → cursor_key cursor.cursor ≡ value ++ big_bytes 8 stamp
     → IsAnswer result (λ told. told ≡ option_map_or (entry_has_value value)
     (find (after_rank value stamp) entries) false)
 

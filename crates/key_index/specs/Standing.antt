@@ -5,6 +5,7 @@ use Rattle.pages.specs.PageMap.{PageMap}
 use Rattle.pages.specs.Owners.{ChangesPages}
 use Rattle.bplus_tree.specs.Standing.{TreeStands}
 use Rattle.bplus_tree.specs.ReadOff.{entries_in}
+use Rattle.bplus_tree.specs.Fields.{tree_shape, tree_root, tree_levels, tree_count}
 use Rattle.key_index.specs.declared.entry.PrimeEntry.{PrimeEntry}
 use Rattle.key_index.specs.declared.entry.AltEntry.{AltEntry}
 use Rattle.key_index.specs.declared.prime_index.PrimeIndex.{PrimeIndex}
@@ -14,28 +15,28 @@ use Rattle.key_index.specs.Stored.{IsAltEntry}
 
 -- how many levels its tree has
 abbrev pub prime_height : PrimeIndex → ℕ
-prime_height index = index.tree.levels + 1
+prime_height index = tree_levels index.tree + 1
 
 abbrev pub alt_height : AltIndex → ℕ
-alt_height index = index.tree.levels + 1
+alt_height index = tree_levels index.tree + 1
 
 -- the number of its key
 abbrev pub alt_key : AltIndex → ℕ
-alt_key index = index.tree.shape.key
+alt_key index = (tree_shape index.tree).key
 
 -- the index is one for values of this length, of this root, height and number of entries
 pub record IsPrimeStored (index : PrimeIndex) (width root height count : ℕ) : Type 0 where
   pub width_is : index.width ≡ width
-  pub root_is : index.tree.root ≡ root
+  pub root_is : tree_root index.tree ≡ root
   pub height_is : prime_height index ≡ height
-  pub count_is : index.tree.count ≡ count
+  pub count_is : tree_count index.tree ≡ count
 
 pub record IsAltStored (index : AltIndex) (width prime root height count : ℕ) : Type 0 where
   pub width_is : index.width ≡ width
   pub prime_is : index.prime ≡ prime
-  pub root_is : index.tree.root ≡ root
+  pub root_is : tree_root index.tree ≡ root
   pub height_is : alt_height index ≡ height
-  pub count_is : index.tree.count ≡ count
+  pub count_is : tree_count index.tree ≡ count
 
 -- it has these entries, in the order of their ranks, in these pages
 pub record PrimeStands (index : PrimeIndex) (pages : PageMap) (entries : List PrimeEntry)
@@ -73,8 +74,9 @@ pub record AltChanged (before after : PageMap) (new : AltIndex) (own : List ℕ)
 -- the entries that are read off the pages, whether or not an index stands in them
 abbrev pub prime_off : PrimeIndex → PageMap → List PrimeEntry
 prime_off index pages = map (prime_entry_in index.width)
-    (entries_in index.tree.shape pages index.tree.levels index.tree.root)
+    (entries_in (tree_shape index.tree) pages (tree_levels index.tree) (tree_root index.tree))
 
 abbrev pub alt_off : AltIndex → PageMap → List AltEntry
 alt_off index pages =
-    map (alt_entry_in index.width) (entries_in index.tree.shape pages index.tree.levels index.tree.root)
+    map (alt_entry_in index.width)
+    (entries_in (tree_shape index.tree) pages (tree_levels index.tree) (tree_root index.tree))

@@ -1,6 +1,7 @@
 //! The index of an alternate key.
 
 ghost use Rattle.std.specs.Prelude.{◌≡◌, ◌+◌, ◌≤◌, Some, find, IfErr};
+ghost use Rattle.bplus_tree.specs.Fields.{tree_shape};
 
 use crate::entry::{AltEntry, AltFirst};
 use crate::keys::{greatest_key, rank_key};
@@ -20,8 +21,8 @@ pub struct AltIndex {
     ghost some: { 1 ≤ width },
     ghost wide: { width ≤ 250 },
     ghost narrow: { prime ≤ 250 },
-    ghost keys: { tree.shape.width ≡ width + 8 },
-    ghost entries: { tree.shape.entry ≡ width + 8 + prime },
+    ghost keys: { (tree_shape tree).width ≡ width + 8 },
+    ghost entries: { (tree_shape tree).entry ≡ width + 8 + prime },
 }
 
 /// A blank, for the places of an array that have no index yet. Its root is no page.
@@ -72,13 +73,7 @@ impl AltIndex {
             width: width + 8,
             entry: width + 8 + prime,
         };
-        let tree = Tree {
-            shape,
-            root,
-            levels: height - 1,
-            count,
-            changes: 0,
-        };
+        let tree = Tree::stored(shape, root, height - 1, count);
         AltIndex { width, prime, tree }
     }
 
@@ -86,14 +81,14 @@ impl AltIndex {
     pub fn height(&self) -> u8
         ensures { result ≡ alt_height self.now }
     {
-        self.tree.levels + 1
+        self.tree.height()
     }
 
     /// How many entries there are.
     pub fn count(&self) -> u64
         ensures { CountsAlt self.now result }
     {
-        self.tree.count
+        self.tree.count()
     }
 
     /// The entry of a value of any length and a stamp.

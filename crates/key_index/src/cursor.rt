@@ -2,6 +2,7 @@
 
 ghost use Rattle.std.specs.Prelude.{◌≡◌, ◌≤◌, ◌↔◌, ◌++◌, length, IsTrue};
 ghost use Rattle.byteorder.specs.Endian.{big_bytes};
+ghost use Rattle.bplus_tree.specs.Fields.{cursor_key};
 
 use crate::alt_index::AltIndex;
 use crate::entry::{AltEntry, PrimeEntry};
@@ -43,9 +44,9 @@ impl PrimeCursor {
 
     /// Whether it gives what comes after this value.
     pub fn is_after(&self, value: &[u8]) -> bool
-        ensures { IsTrue result ↔ (self.now.cursor.key.items ≡ value.now) }
+        ensures { IsTrue result ↔ (cursor_key self.now.cursor ≡ value.now) }
     {
-        self.cursor.key.as_slice() == value
+        self.cursor.key() == value
     }
 
     /// The next entry, behind which the cursor stands then; where there is none it stays. While the
@@ -88,10 +89,10 @@ impl AltCursor {
     /// Whether it gives what comes after this value and stamp.
     pub fn is_after(&self, value: &[u8], stamp: u64) -> bool
         requires { length value.now ≤ 250 }
-        ensures { IsTrue result ↔ (self.now.cursor.key.items ≡ value.now ++ big_bytes 8 stamp) }
+        ensures { IsTrue result ↔ (cursor_key self.now.cursor ≡ value.now ++ big_bytes 8 stamp) }
     {
         let key = rank_key(value, stamp);
-        self.cursor.key.as_slice() == key.as_slice()
+        self.cursor.key() == key.as_slice()
     }
 
     /// The next entry, behind which the cursor stands then; where there is none it stays. While the
@@ -118,7 +119,7 @@ impl AltCursor {
         requires ready { P.shown.IsReady pages.old }
         ensures { TellsNextInAlt P.shown pages.old pages.new self.now index.now result }
     {
-        let key = self.cursor.key.as_slice();
+        let key = self.cursor.key();
         let value = &key[..usize::from(index.width).min(key.len())];
         self.cursor.next_begins_with(&index.tree, pages, value)
     }

@@ -1,6 +1,7 @@
 //! The index of the prime key.
 
 ghost use Rattle.std.specs.Prelude.{◌≡◌, ◌+◌, ◌≤◌, Some, find};
+ghost use Rattle.bplus_tree.specs.Fields.{tree_shape};
 
 use crate::entry::{PrimeEntry, place_in};
 use crate::keys::greatest_key;
@@ -17,9 +18,9 @@ pub struct PrimeIndex {
     pub width: u16,
     pub tree: Tree,
     ghost narrow: { width ≤ 250 },
-    ghost keys: { tree.shape.width ≡ width },
-    ghost entries: { tree.shape.entry ≡ width + 6 },
-    ghost number: { tree.shape.key ≡ 0 },
+    ghost keys: { (tree_shape tree).width ≡ width },
+    ghost entries: { (tree_shape tree).entry ≡ width + 6 },
+    ghost number: { (tree_shape tree).key ≡ 0 },
 }
 
 impl PrimeIndex {
@@ -59,13 +60,7 @@ impl PrimeIndex {
             width,
             entry: width + 6,
         };
-        let tree = Tree {
-            shape,
-            root,
-            levels: height - 1,
-            count,
-            changes: 0,
-        };
+        let tree = Tree::stored(shape, root, height - 1, count);
         PrimeIndex { width, tree }
     }
 
@@ -73,14 +68,14 @@ impl PrimeIndex {
     pub fn height(&self) -> u8
         ensures { result ≡ prime_height self.now }
     {
-        self.tree.levels + 1
+        self.tree.height()
     }
 
     /// How many entries there are.
     pub fn count(&self) -> u64
         ensures { CountsPrime self.now result }
     {
-        self.tree.count
+        self.tree.count()
     }
 
     /// The entry of a value of any length.

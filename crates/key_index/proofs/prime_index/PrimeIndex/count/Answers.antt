@@ -4,4 +4,4 @@ use Rattle.key_index.specs.Stored.{prime_bytes}
 use Rattle.key_index.proofs.prime_index.PrimeIndex.count.Goals as goal
 
 pub returns : goal.returns
-returns c pages entries own stands = stands.tree.count ∙ length-map entries prime_bytes
+returns c pages entries own stands = c.count.ensures ∙ stands.tree.count ∙ length-map entries prime_bytes
