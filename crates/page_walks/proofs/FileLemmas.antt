@@ -7,6 +7,7 @@ use Rattle.page_bytes.specs.Each.{Each}
 use Rattle.pages.specs.Owners.{IsOutside}
 use Rattle.page_alloc.specs.Chain.{is_page, is_among, used}
 use Rattle.bplus_tree.proofs.PageLemmas.{holds_still}
+use Rattle.bplus_tree.specs.Fields.{tree_shape, tree_levels}
 use Rattle.page_marks.specs.Marks.{Marks}
 use Rattle.page_marks.specs.PageList.{pages_in}
 use Rattle.page_marks.specs.Parted.{all_of}
@@ -22,7 +23,7 @@ trees_stay tree before after entries own same stands = record {
   value = stands.value;
   whole = record {
     stands = record {
-      holds = holds_still tree.shape before after tree.levels stands.value stands.whole.stands.holds (subst (Each (λ n. after n ≡ before n)) (sym stands.pages_are) same);
+      holds = holds_still (tree_shape tree) before after (tree_levels tree) stands.value stands.whole.stands.holds (subst (Each (λ n. after n ≡ before n)) (sym stands.pages_are) same);
       root = stands.whole.stands.root;
       ordered = stands.whole.stands.ordered;
     };

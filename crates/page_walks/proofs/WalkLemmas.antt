@@ -18,6 +18,7 @@ use Rattle.page_marks.proofs.EachLemmas.{each_join}
 use Rattle.page_marks.proofs.MarksLemmas.{marks_none, marks_on}
 use Rattle.page_walks.specs.Order.{AreBetween}
 use Rattle.bplus_tree.specs.declared.tree.Tree.{Tree}
+use Rattle.bplus_tree.specs.Fields.{tree_shape, tree_root, tree_levels, tree_count}
 use Rattle.page_walks.specs.declared.spot.Spot.{Spot}
 use Rattle.page_walks.specs.Spots.{entry_at_spot}
 use Rattle.page_walks.specs.TreeWalk.{Reach, TreeWalked, reach_of, Walked, LeafFits, InnerFits, WalkedFront, AreFirstMembers, bound_at}
@@ -168,17 +169,17 @@ rooted zero t floor some large = tt
 rooted (suc h) t floor some large = let one : 1 ≤ floor = some (omega arith) in omega arith
 
 -- a whole tree stands
-pub whole_tree : (tree : Tree) (list : List (List ℕ)) (floor : ℕ) (before after : List Bool) (spots : List Spot) → (1 ≤ tree.levels → 1 ≤ floor)
-    → Walked tree.shape (pages_in list) tree.levels tree.root floor None None (reach_of tree.shape list before []) (reach_of tree.shape list after spots)
-    → length spots ≡ tree.count → TreeWalked tree list (marked_in before) (marked_in after) spots
+pub whole_tree : (tree : Tree) (list : List (List ℕ)) (floor : ℕ) (before after : List Bool) (spots : List Spot) → (1 ≤ tree_levels tree → 1 ≤ floor)
+    → Walked (tree_shape tree) (pages_in list) (tree_levels tree) (tree_root tree) floor None None (reach_of (tree_shape tree) list before []) (reach_of (tree_shape tree) list after spots)
+    → length spots ≡ tree_count tree → TreeWalked tree list (marked_in before) (marked_in after) spots
 whole_tree tree list floor before after spots some walked many = record {
-  own = pages_of tree.levels walked.tree;
+  own = pages_of (tree_levels tree) walked.tree;
   stands = record {
     value = walked.tree;
-    whole = record { stands = walked.stands; apart = walked.marks.apart; filled = walked.filled; rooted = rooted tree.levels walked.tree floor some walked.large };
+    whole = record { stands = walked.stands; apart = walked.marks.apart; filled = walked.filled; rooted = rooted (tree_levels tree) walked.tree floor some walked.large };
     has = sym walked.adds;
     pages_are = refl;
-    count = sym many ∙ sym (length-map spots (entry_at_spot tree.shape list));
+    count = sym many ∙ sym (length-map spots (entry_at_spot (tree_shape tree) list));
   };
   marks = walked.marks;
 }

@@ -15,6 +15,7 @@ use Rattle.tree_search.specs.Tree.{IsOrdered}
 use Rattle.tree_search.specs.Stored.{Holds}
 use Rattle.tree_search.specs.Calls.{IsTree}
 use Rattle.bplus_tree.specs.Standing.{TreeStands}
+use Rattle.bplus_tree.specs.Fields.{tree_shape}
 use Rattle.page_marks.specs.Marks.{Marks, marked_in}
 use Rattle.page_marks.specs.PageList.{pages_in}
 use Rattle.page_walks.specs.declared.spot.Spot.{Spot}
@@ -28,7 +29,7 @@ use Rattle.page_walks.specs.Spots.{entries_at, spots_in}
 pub record TreeWalked (tree : Tree) (list : List (List ℕ)) (before after : ℕ → Bool)
     (spots : List Spot) : Type 0 where
   pub own : List ℕ
-  pub stands : TreeStands tree (pages_in list) (entries_at tree.shape list spots) own
+  pub stands : TreeStands tree (pages_in list) (entries_at (tree_shape tree) list spots) own
   pub marks : Marks before after own
 
 -- so, of marks before and after, and of the leaves that were found

@@ -178,21 +178,21 @@ pub fn walk_tree(
     let mut leaves = Vec::new(alloc);
     let limits = Limits {
         parent: 0,
-        least: least_in_root(tree.levels),
+        least: least_in_root(tree.levels()),
         low: None,
         high: None,
     };
     walk_below(
         pages,
-        tree.shape,
-        tree.root,
-        tree.levels,
+        tree.shape(),
+        tree.root(),
+        tree.levels(),
         limits,
         reached,
         &mut leaves,
     )?;
-    if !have_entries(&leaves, tree.count) {
-        return Err(WalkFault::of_page(PageFault::Count, tree.root));
+    if !have_entries(&leaves, tree.count()) {
+        return Err(WalkFault::of_page(PageFault::Count, tree.root()));
     }
     Ok(leaves)
 }
