@@ -15,6 +15,7 @@ use Rattle.tree_search.specs.Calls.{IsWhole}
 use Rattle.bplus_tree.specs.Count.{fewest}
 use Rattle.bplus_tree.specs.Standing.{TreeStands}
 use Rattle.bplus_tree.proofs.CountLemmas.{have_many_entries}
+use Rattle.bplus_tree.specs.Fields.{tree_shape, tree_root, tree_levels}
 use Rattle.key_index.specs.Standing.{alt_height}
 use Rattle.key_index.specs.Stored.{prime_bytes, alt_bytes}
 use Rattle.record_heap.specs.declared.shape.Place.{Place}
@@ -69,9 +70,9 @@ whole_filled shape pages (suc h) page t whole high =
     rw e (omega (arith, fewest_many h, have_many_entries shape pages h page t whole))
 
 -- a tree has many entries for its height
-tree_filled : (tree : Tree) (pages : PageMap) (rows : List (List ℕ)) (own : List ℕ) → TreeStands tree pages rows own → 2 ≤ tree.levels + 1 → 2 * 4 ^ (tree.levels + 1 - 1) ≤ length rows
+tree_filled : (tree : Tree) (pages : PageMap) (rows : List (List ℕ)) (own : List ℕ) → TreeStands tree pages rows own → 2 ≤ tree_levels tree + 1 → 2 * 4 ^ (tree_levels tree + 1 - 1) ≤ length rows
 tree_filled tree pages rows own stands high =
-    subst (λ (entries : List (List ℕ)). 2 * 4 ^ (tree.levels + 1 - 1) ≤ length entries) stands.has (whole_filled tree.shape pages tree.levels tree.root stands.value stands.whole high)
+    subst (λ (entries : List (List ℕ)). 2 * 4 ^ (tree_levels tree + 1 - 1) ≤ length entries) stands.has (whole_filled (tree_shape tree) pages (tree_levels tree) (tree_root tree) stands.value stands.whole high)
 
 -- ---- the laws
 
@@ -89,7 +90,7 @@ filled_at opened pages file stands zero lt =
     let entries = prime_entries opened.schema stands.places file.rows in
     let many = length-map entries prime_bytes ∙ primes_many opened.schema stands.slots stands.places file.rows stands.placed.rows_at in (
       omega arith,
-      λ high. subst (λ n. 2 * 4 ^ (opened.prime.tree.levels + 1 - 1) ≤ n) many
+      λ high. subst (λ n. 2 * 4 ^ (tree_levels opened.prime.tree + 1 - 1) ≤ n) many
           (tree_filled opened.prime.tree pages (map prime_bytes entries) (own_at stands.parts.owns 1) stands.parts.prime_stands.tree high),
     )
 filled_at opened pages file stands (suc j) lt =
@@ -102,7 +103,7 @@ filled_at opened pages file stands (suc j) lt =
     let height : slice_index (heights_of opened) (suc j) ≡ alt_height index.0 = mapped_at indexes j index.0 within index.1 in
     rw height (
       omega arith,
-      λ high. subst (λ n. 2 * 4 ^ (index.0.tree.levels + 1 - 1) ≤ n) many
+      λ high. subst (λ n. 2 * 4 ^ (tree_levels index.0.tree + 1 - 1) ≤ n) many
           (tree_filled index.0.tree pages (map alt_bytes entries) (own_at stands.parts.owns (j + 2)) stand.tree high),
     )
 

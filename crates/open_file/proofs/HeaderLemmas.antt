@@ -15,6 +15,7 @@ use Rattle.bplus_tree.specs.declared.tree.Tree.{Tree}
 use Rattle.tree_search.specs.Tree.{TreeOf, entries_of, pages_of}
 use Rattle.tree_search.specs.Calls.{IsWhole}
 use Rattle.bplus_tree.specs.Standing.{TreeStands}
+use Rattle.bplus_tree.specs.Fields.{tree_shape, tree_root, tree_levels, tree_count}
 use Rattle.key_index.specs.declared.entry.PrimeEntry.{PrimeEntry}
 use Rattle.key_index.specs.declared.entry.AltEntry.{AltEntry}
 use Rattle.key_index.specs.declared.prime_index.PrimeIndex.{PrimeIndex}
@@ -67,32 +68,33 @@ record TreeAt (shape : Shape) (levels root count : ℕ) (pages : PageMap) (entri
   pub pages_are : pages_of levels value ≡ own
   pub many : count ≡ length entries
 
-tree_moved : (old new : Tree) (pages : PageMap) (entries : List (List ℕ)) (own : List ℕ) → old.shape ≡ new.shape → old.levels ≡ new.levels → old.root ≡ new.root → old.count ≡ new.count
+tree_moved : (old new : Tree) (pages : PageMap) (entries : List (List ℕ)) (own : List ℕ) → tree_shape old ≡ tree_shape new → tree_levels old ≡ tree_levels new
+    → tree_root old ≡ tree_root new → tree_count old ≡ tree_count new
     → TreeStands old pages entries own → TreeStands new pages entries own
 tree_moved old new pages entries own shape levels root count s =
-    let here : TreeAt old.shape old.levels old.root old.count pages entries own = record { value = s.value; whole = s.whole; has = s.has; pages_are = s.pages_are; many = s.count } in
-    let there : TreeAt new.shape new.levels new.root new.count pages entries own =
-    subst (λ c. TreeAt new.shape new.levels new.root c pages entries own) count
-    (subst (λ r. TreeAt new.shape new.levels r old.count pages entries own) root
-    (subst (λ l. TreeAt new.shape l old.root old.count pages entries own) levels
-    (subst (λ sh. TreeAt sh old.levels old.root old.count pages entries own) shape here))) in
+    let here : TreeAt (tree_shape old) (tree_levels old) (tree_root old) (tree_count old) pages entries own = record { value = s.value; whole = s.whole; has = s.has; pages_are = s.pages_are; many = s.count } in
+    let there : TreeAt (tree_shape new) (tree_levels new) (tree_root new) (tree_count new) pages entries own =
+    subst (λ c. TreeAt (tree_shape new) (tree_levels new) (tree_root new) c pages entries own) count
+    (subst (λ r. TreeAt (tree_shape new) (tree_levels new) r (tree_count old) pages entries own) root
+    (subst (λ l. TreeAt (tree_shape new) l (tree_root old) (tree_count old) pages entries own) levels
+    (subst (λ sh. TreeAt sh (tree_levels old) (tree_root old) (tree_count old) pages entries own) shape here))) in
     record { value = there.value; whole = there.whole; has = there.has; pages_are = there.pages_are; count = there.many }
 
-prime_moved : (old new : PrimeIndex) (pages : PageMap) (entries : List PrimeEntry) (own : List ℕ) → old.width ≡ new.width → old.tree.levels ≡ new.tree.levels → old.tree.root ≡ new.tree.root → old.tree.count ≡ new.tree.count
+prime_moved : (old new : PrimeIndex) (pages : PageMap) (entries : List PrimeEntry) (own : List ℕ) → old.width ≡ new.width → tree_levels old.tree ≡ tree_levels new.tree → tree_root old.tree ≡ tree_root new.tree → tree_count old.tree ≡ tree_count new.tree
     → PrimeStands old pages entries own → PrimeStands new pages entries own
 prime_moved old new pages entries own width levels root count s =
-    let shape = same_shape old.tree.shape new.tree.shape (old.number ∙ sym new.number) (old.keys ∙ width ∙ sym new.keys) (old.entries ∙ ap (λ w. w + 6) width ∙ sym new.entries) in
+    let shape = same_shape (tree_shape old.tree) (tree_shape new.tree) (old.number ∙ sym new.number) (old.keys ∙ width ∙ sym new.keys) (old.entries ∙ ap (λ w. w + 6) width ∙ sym new.entries) in
     record {
       tree = tree_moved old.tree new.tree pages (map prime_bytes entries) own shape levels root count s.tree;
       each = subst (λ w. Each (IsPrimeEntry w) entries) width s.each;
     }
 
 alt_moved : (old new : AltIndex) (pages : PageMap) (entries : List AltEntry) (own : List ℕ) → alt_key old ≡ alt_key new → old.width ≡ new.width → old.prime ≡ new.prime
-    → old.tree.levels ≡ new.tree.levels → old.tree.root ≡ new.tree.root → old.tree.count ≡ new.tree.count
+    → tree_levels old.tree ≡ tree_levels new.tree → tree_root old.tree ≡ tree_root new.tree → tree_count old.tree ≡ tree_count new.tree
     → AltStands old pages entries own → AltStands new pages entries own
 alt_moved old new pages entries own key width prime levels root count s =
     let long : old.width + 8 + old.prime ≡ new.width + 8 + new.prime = omega (arith, width, prime) in
-    let shape = same_shape old.tree.shape new.tree.shape key (old.keys ∙ ap (λ w. w + 8) width ∙ sym new.keys) (old.entries ∙ long ∙ sym new.entries) in
+    let shape = same_shape (tree_shape old.tree) (tree_shape new.tree) key (old.keys ∙ ap (λ w. w + 8) width ∙ sym new.keys) (old.entries ∙ long ∙ sym new.entries) in
     record {
       tree = tree_moved old.tree new.tree pages (map alt_bytes entries) own shape levels root count s.tree;
       each = subst (λ p. Each (IsAltEntry new.width p) entries) prime (subst (λ w. Each (IsAltEntry w old.prime) entries) width s.each);
@@ -139,7 +141,7 @@ read_back opened other header pages file stands shaped of made =
     let many : length opened.alternates.items ≡ length other.alternates.items = omega (arith, shaped.keys, made.shaped.keys, ap (λ (s : Schema). length s.keys) schema) in
     let p = stands.parts in
     let prime_width : opened.prime.width ≡ other.prime.width = shaped.prime_width ∙ ap (λ s. (key_at s 0).length) schema ∙ sym made.shaped.prime_width in
-    let prime_levels = lower opened.prime.tree.levels other.prime.tree.levels _ of.prime.height is.prime.height in
+    let prime_levels = lower (tree_levels opened.prime.tree) (tree_levels other.prime.tree) _ of.prime.height is.prime.height in
     let rows_many = prime_entries_many opened.schema stands.slots stands.places file.rows stands.placed.rows_at in
     let counted : header.records ≡ length file.rows = sym of.records ∙ p.prime_stands.tree.count ∙ length-map _ _ ∙ rows_many in
     let slots = same_slots opened.heap.shape other.heap.shape
@@ -161,12 +163,12 @@ read_back opened other header pages file stands shaped of made =
           let others = made.shaped.widths j index within at in
           let tree = of.alternates j old inside old_at in
           let told = is.alternates j index within at in
-          let count : old.tree.count ≡ index.tree.count = s.tree.count ∙ length-map _ _ ∙ alt_entries_many opened.schema (j + 1) file.rows ∙ sym counted ∙ sym (made.counts j index within at) in
+          let count : tree_count old.tree ≡ tree_count index.tree = s.tree.count ∙ length-map _ _ ∙ alt_entries_many opened.schema (j + 1) file.rows ∙ sym counted ∙ sym (made.counts j index within at) in
           alt_moved old index pages _ (own_at p.owns (j + 2))
           (shaped.numbers j old inside old_at ∙ sym (made.shaped.numbers j index within at))
           (widths.0 ∙ ap (λ s. (key_at s (j + 1)).length) schema ∙ sym others.0)
           (widths.1 ∙ ap (λ s. (key_at s 0).length) schema ∙ sym others.1)
-          (lower old.tree.levels index.tree.levels _ tree.height told.height)
+          (lower (tree_levels old.tree) (tree_levels index.tree) _ tree.height told.height)
           (tree.root ∙ sym told.root) count s;
       parted = p.parted;
     } in

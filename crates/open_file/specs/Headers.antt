@@ -6,6 +6,7 @@ use Rattle.file_header.specs.declared.header.Header.{Header}
 use Rattle.file_header.specs.declared.header.TreeNumbers.{TreeNumbers}
 use Rattle.pages.specs.PageMap.{PageMap}
 use Rattle.bplus_tree.specs.declared.tree.Tree.{Tree}
+use Rattle.bplus_tree.specs.Fields.{tree_root, tree_levels, tree_count}
 use Rattle.key_index.specs.declared.prime_index.PrimeIndex.{PrimeIndex}
 use Rattle.key_index.specs.Standing.{IsAltStored, alt_key}
 use Rattle.key_index.specs.declared.alt_index.AltIndex.{AltIndex}
@@ -18,8 +19,8 @@ tree_at header k = slice_index_or header.trees.items k (record { height = 0; roo
 
 -- these are the numbers of the tree
 pub record HasTree (tree : Tree) (numbers : TreeNumbers) : Type 0 where
-  pub root : tree.root ≡ numbers.root
-  pub height : tree.levels + 1 ≡ numbers.height
+  pub root : tree_root tree ≡ numbers.root
+  pub height : tree_levels tree + 1 ≡ numbers.height
 
 -- what the header says is so of the open file
 pub record IsHeaderOf (header : Header) (opened : OpenFile) : Type 0 where
@@ -28,7 +29,7 @@ pub record IsHeaderOf (header : Header) (opened : OpenFile) : Type 0 where
   pub first_heap : opened.heap.first ≡ header.first_heap
   pub free_page : opened.heap.free.page ≡ header.free_slot_page
   pub free_slot : opened.heap.free.slot ≡ header.free_slot
-  pub records : opened.prime.tree.count ≡ header.records
+  pub records : tree_count opened.prime.tree ≡ header.records
   -- the tree of each key, in the order of the keys
   pub trees : length header.trees.items ≡ length header.schema.keys
   pub prime : HasTree opened.prime.tree (tree_at header 0)
@@ -48,7 +49,7 @@ pub record IsOpenedBy (header : Header) (opened : OpenFile) : Type 0 where
   pub shaped : IsShaped opened
   pub counts : (j : ℕ) (index : AltIndex) → j < length opened.alternates.items
       → index ≡ slice_index_or opened.alternates.items j index
-      → index.tree.count ≡ header.records
+      → tree_count index.tree ≡ header.records
   pub unbroken : IsFalse opened.broken
   pub no_path : opened.path ≡ None
 
@@ -72,7 +73,7 @@ AreStored header alternates = (j : ℕ) (index : AltIndex) → j < length altern
 
 -- the numbers of the trees of these indexes
 abbrev pub numbers_of : Tree → TreeNumbers
-numbers_of tree = record { height = tree.levels + 1; root = tree.root }
+numbers_of tree = record { height = tree_levels tree + 1; root = tree_root tree }
 
 abbrev pub AreTrees : PrimeIndex → List AltIndex → List TreeNumbers → Type 0
 AreTrees prime alternates trees = trees ≡ numbers_of prime.tree ∷ map (λ (index : AltIndex).

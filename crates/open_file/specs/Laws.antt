@@ -3,6 +3,7 @@ use Rattle.std.specs.Prelude.{◌≡◌, ℕ, length}
 use Rattle.indexed_file.specs.File.{File}
 use Rattle.indexed_file.specs.Room.{IsFilled}
 use Rattle.pages.specs.PageMap.{PageMap}
+use Rattle.bplus_tree.specs.Fields.{tree_count}
 use Rattle.open_file.specs.Stands.{Stands, IsShaped, room_of}
 use Rattle.open_file.specs.ReadOff.{file_off}
 use Rattle.open_file.specs.declared.open_file.OpenFile.{OpenFile}
@@ -21,4 +22,4 @@ is_filled = (opened : OpenFile) (pages : PageMap) (file : File) (available : ℕ
 -- the prime index has an entry for each row
 abbrev pub counts_its_rows : Type 0
 counts_its_rows = (opened : OpenFile) (pages : PageMap) (file : File) → Stands opened pages file
-    → opened.prime.tree.count ≡ length file.rows
+    → tree_count opened.prime.tree ≡ length file.rows

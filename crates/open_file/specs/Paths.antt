@@ -11,6 +11,7 @@ use Rattle.key_index.specs.declared.cursor.PrimeCursor.{PrimeCursor}
 use Rattle.key_index.specs.declared.cursor.AltCursor.{AltCursor}
 use Rattle.key_index.specs.Cursors.{PrimeBelongs, AltBelongs}
 use Rattle.page_marks.specs.Parted.{own_at}
+use Rattle.bplus_tree.specs.Fields.{cursor_key}
 use Rattle.open_file.specs.declared.open_file.OpenFile.{OpenFile}
 use Rattle.open_file.specs.declared.path.Path.{Path}
 use Rattle.open_file.specs.declared.path.Path.TheVariants.{Prime, Alternate}
@@ -47,14 +48,14 @@ IsInAlternate (Some (Alternate j cursor)) place fact = (j ≡ place) × fact cur
 
 -- a cursor of the prime index behind a value, that of the path where it is there
 pub record IsBehindPrime (opened : OpenFile) (value : List ℕ) (cursor : PrimeCursor) : Type 0 where
-  pub after : cursor.cursor.key.items ≡ value
+  pub after : cursor_key cursor.cursor ≡ value
   pub belongs : WhereOnPath opened (λ pages primes entries owns.
       PrimeBelongs cursor opened.prime pages primes (own_at owns 1))
 
 -- the same of the index of alternate key k, behind a value and stamp
 pub record IsBehindAlternate (opened : OpenFile) (k : ℕ) (index : AltIndex) (value : List ℕ) (stamp : ℕ)
     (cursor : AltCursor) : Type 0 where
-  pub after : cursor.cursor.key.items ≡ value ++ big_bytes 8 stamp
+  pub after : cursor_key cursor.cursor ≡ value ++ big_bytes 8 stamp
   pub belongs : WhereOnPath opened (λ pages primes entries owns.
       AltBelongs cursor index pages (entries (k - 1)) (own_at owns (k - 1 + 2)))
 

@@ -57,7 +57,7 @@ impl OpenFile {
             free_slot_page: self.heap.free.page,
             free_slot: self.heap.free.slot,
             next_stamp: self.next_stamp,
-            records: self.prime.tree.count,
+            records: self.prime.tree.count(),
             trees: self.tree_numbers(),
         }
     }
@@ -69,12 +69,12 @@ impl OpenFile {
         let mut trees = ArrayVec::new();
         trees.push(TreeNumbers {
             height: self.prime.height(),
-            root: self.prime.tree.root,
+            root: self.prime.tree.root(),
         });
         for index in self.alternates.as_slice() {
             trees.push(TreeNumbers {
                 height: index.height(),
-                root: index.tree.root,
+                root: index.tree.root(),
             });
         }
         trees
