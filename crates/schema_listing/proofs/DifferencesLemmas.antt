@@ -1,8 +1,9 @@
 -- No line is told exactly where the schemas are the same.
-use Rattle.std.proofs.Common.{◌≡◌, ℕ, ◌+◌, ◌==◌, ◌&&◌, Bool, true, false, not, List, [], ◌∷◌, ◌++◌, codes, if◌then◌else◌, refl, sym, ap, ◌∙◌}
+use Rattle.std.proofs.Common.{◌≡◌, ℕ, ◌+◌, ◌==◌, ◌&&◌, Bool, true, false, List, [], ◌∷◌, ◌++◌, codes, if◌then◌else◌, refl, sym, ap, ◌∙◌}
 use Rattle.std.specs.Cmp.Lexicographic.{pointwise}
+use Rattle.record_layout.specs.declared.schema.KeyKind.{KeyKind}
 use Rattle.record_layout.specs.declared.schema.KeyPart.{KeyPart}
-use Rattle.record_layout.specs.Schema.{Schema, same_part, same_schema}
+use Rattle.record_layout.specs.Schema.{Schema, same_kind, same_part, same_schema}
 use Rattle.schema_listing.specs.Differences.{record_difference, number_difference, kind_difference, key_difference, key_differences, differences, is_none}
 
 none_of_both : (a b : List ℕ) → is_none (a ++ b) ≡ (is_none a && is_none b)
@@ -23,16 +24,16 @@ none_if false lines some = some
 number_none : (k : ℕ) (name : List ℕ) (file deck : ℕ) → is_none (number_difference k name file deck) ≡ (file == deck)
 number_none k name file deck = none_if (file == deck) _ refl
 
-kind_none : (k : ℕ) (file deck : Bool) → is_none (kind_difference k file deck) ≡ (if file then deck else not deck)
-kind_none k file deck = none_if (if file then deck else not deck) _ refl
+kind_none : (k : ℕ) (file deck : KeyKind) → is_none (kind_difference k file deck) ≡ same_kind file deck
+kind_none k file deck = none_if (same_kind file deck) _ refl
 
 key_none : (k : ℕ) (file deck : KeyPart) → is_none (key_difference k file deck) ≡ same_part file deck
 key_none k file deck =
     none_of_both (number_difference k (codes " offset ") file.offset deck.offset) _
     ∙ both _ _ _ _ (number_none k (codes " offset ") file.offset deck.offset)
-    (none_of_both (number_difference k (codes " length ") file.length deck.length) (kind_difference k file.duplicates deck.duplicates)
-    ∙ both _ _ _ _ (number_none k (codes " length ") file.length deck.length) (kind_none k file.duplicates deck.duplicates))
-    ∙ sym (grouped (file.offset == deck.offset) (file.length == deck.length) (if file.duplicates then deck.duplicates else not deck.duplicates))
+    (none_of_both (number_difference k (codes " length ") file.length deck.length) (kind_difference k file.kind deck.kind)
+    ∙ both _ _ _ _ (number_none k (codes " length ") file.length deck.length) (kind_none k file.kind deck.kind))
+    ∙ sym (grouped (file.offset == deck.offset) (file.length == deck.length) (same_kind file.kind deck.kind))
 
 keys_none : (k : ℕ) (file deck : List KeyPart) → is_none (key_differences k file deck) ≡ pointwise same_part file deck
 keys_none k [] [] = refl

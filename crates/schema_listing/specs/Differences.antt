@@ -1,9 +1,10 @@
 -- The lines that tell how the schema of a file differs from that of a deck. Their form is ours.
-use Rattle.std.specs.Prelude.{ℕ, ◌+◌, ◌==◌, ◌&&◌, Bool, true, false, not, List, [], ◌∷◌, ◌++◌, codes, decimal}
+use Rattle.std.specs.Prelude.{ℕ, ◌+◌, ◌==◌, ◌&&◌, Bool, true, false, List, [], ◌∷◌, ◌++◌, codes, decimal}
 use Rattle.std.specs.Prelude.{if◌then◌else◌}
+use Rattle.record_layout.specs.declared.schema.KeyKind.{KeyKind}
 use Rattle.record_layout.specs.declared.schema.KeyPart.{KeyPart}
-use Rattle.record_layout.specs.Schema.{Schema}
-use Rattle.schema_listing.specs.Lines.{record_lengths_text}
+use Rattle.record_layout.specs.Schema.{Schema, same_kind}
+use Rattle.schema_listing.specs.Lines.{record_lengths_text, kind_text}
 
 -- what the file has, what the deck has instead, and LF
 abbrev pub against : List ℕ → List ℕ → List ℕ
@@ -22,27 +23,24 @@ number_difference k name file deck =
     if file == deck then []
     else codes "key " ++ (decimal k ++ (name ++ against (decimal file) (decimal deck)))
 
-abbrev pub kind_word : Bool → List ℕ
-kind_word duplicates = if duplicates then codes "duplicates" else codes "unique"
-
--- whether records may share a value of key k, where it is not the same
-abbrev pub kind_difference : ℕ → Bool → Bool → List ℕ
+-- the kind of key k, where it is not the same
+abbrev pub kind_difference : ℕ → KeyKind → KeyKind → List ℕ
 kind_difference k file deck =
-    if (if file then deck else not deck) then []
-    else codes "key " ++ (decimal k ++ (codes " " ++ against (kind_word file) (kind_word deck)))
+    if same_kind file deck then []
+    else codes "key " ++ (decimal k ++ (codes " " ++ against (kind_text file) (kind_text deck)))
 
 -- key k of both
 abbrev pub key_difference : ℕ → KeyPart → KeyPart → List ℕ
 key_difference k file deck =
     number_difference k (codes " offset ") file.offset deck.offset
     ++ (number_difference k (codes " length ") file.length deck.length
-    ++ kind_difference k file.duplicates deck.duplicates)
+    ++ kind_difference k file.kind deck.kind)
 
 -- all of a key
 abbrev pub key_text : KeyPart → List ℕ
 key_text part =
     codes "offset " ++ (decimal part.offset ++ (codes " length "
-    ++ (decimal part.length ++ (codes " " ++ kind_word part.duplicates))))
+    ++ (decimal part.length ++ (codes " " ++ kind_text part.kind))))
 
 -- key k, which one of them alone has
 abbrev pub key_of_file : ℕ → KeyPart → List ℕ

@@ -1,5 +1,7 @@
 -- The lines that tell of a file by its header. Their form is ours.
-use Rattle.std.specs.Prelude.{ℕ, ◌+◌, ◌*◌, ◌==◌, Bool, List, [], ◌∷◌, ◌++◌, codes, decimal, if◌then◌else◌}
+use Rattle.std.specs.Prelude.{ℕ, ◌+◌, ◌*◌, ◌==◌, List, [], ◌∷◌, ◌++◌, codes, decimal, if◌then◌else◌}
+use Rattle.record_layout.specs.declared.schema.KeyKind.{KeyKind}
+use Rattle.record_layout.specs.declared.schema.KeyKind.TheVariants.{Prime, Unique, Duplicates}
 use Rattle.record_layout.specs.declared.schema.KeyPart.{KeyPart}
 use Rattle.record_layout.specs.Schema.{Schema}
 use Rattle.file_header.specs.declared.header.Header.{Header}
@@ -13,10 +15,11 @@ record_lengths_text least greatest = if least == greatest then decimal greatest 
 abbrev pub record_line : Schema → List ℕ
 record_line schema = codes "record " ++ (record_lengths_text schema.least schema.greatest ++ codes "\n")
 
--- the kind of key k
-abbrev pub kind_text : ℕ → Bool → List ℕ
-kind_text k duplicates = if k == 0 then codes "prime" else if duplicates then codes "duplicates" else
-    codes "unique"
+-- the kind of a key
+abbrev pub kind_text : KeyKind → List ℕ
+kind_text Prime = codes "prime"
+kind_text Unique = codes "unique"
+kind_text Duplicates = codes "duplicates"
 
 -- key k, and where it is in a record
 abbrev pub place_text : ℕ → KeyPart → List ℕ
@@ -28,7 +31,7 @@ abbrev pub tree_text : List ℕ → ℕ → List ℕ
 tree_text kind height = codes " " ++ (kind ++ (codes " height " ++ (decimal height ++ codes "\n")))
 
 abbrev pub schema_key_line : ℕ → KeyPart → TreeNumbers → List ℕ
-schema_key_line k part tree = place_text k part ++ tree_text (kind_text k part.duplicates) tree.height
+schema_key_line k part tree = place_text k part ++ tree_text (kind_text part.kind) tree.height
 
 -- the keys from key k on, each with its tree
 abbrev pub schema_key_lines : ℕ → List KeyPart → List TreeNumbers → List ℕ

@@ -1,12 +1,12 @@
 //! The differences of two schemas.
 ghost use Rattle.std.specs.Prelude.{◌≡◌, ◌++◌, ◌+◌, ◌≤◌, [], length, decimal, codes, OnOk, IfOk};
 ghost use Rattle.record_layout.specs.Schema.{same_schema};
-ghost use Rattle.schema_listing.specs.Differences.{record_difference, number_difference, kind_word};
+ghost use Rattle.schema_listing.specs.Differences.{record_difference, number_difference};
 ghost use Rattle.schema_listing.specs.Differences.{kind_difference, key_difference, key_text, key_of_file};
 ghost use Rattle.schema_listing.specs.Differences.{key_of_deck, key_differences, differences, is_none};
 
-use crate::lines::{add, add_lengths, add_number};
-use record_layout::{KeyPart, Schema};
+use crate::lines::{add, add_lengths, add_number, kind_word};
+use record_layout::{KeyKind, KeyPart, Schema};
 use std::alloc::{AllocError, Global};
 
 /// Adds how the lengths of records differ.
@@ -56,15 +56,13 @@ fn add_number_difference(
     add(lines, b"\n")
 }
 
-/// Whether records may share a value of a key, in a word.
-fn kind_of(duplicates: bool) -> &'static [u8]
-    ensures { result.now ≡ kind_word duplicates }
-{
-    if duplicates { b"duplicates" } else { b"unique" }
-}
-
 /// Adds how the kind of key k differs.
-fn add_kind_difference(lines: &mut Vec<u8>, k: u8, file: bool, deck: bool) -> Result<(), AllocError>
+fn add_kind_difference(
+    lines: &mut Vec<u8>,
+    k: u8,
+    file: KeyKind,
+    deck: KeyKind,
+) -> Result<(), AllocError>
     ensures { OnOk result (lines.new.items ≡ lines.old.items ++ kind_difference k file deck) }
 {
     if file == deck {
@@ -72,9 +70,9 @@ fn add_kind_difference(lines: &mut Vec<u8>, k: u8, file: bool, deck: bool) -> Re
     }
     add_key(lines, k)?;
     add(lines, b" ")?;
-    add(lines, kind_of(file))?;
+    add(lines, kind_word(file))?;
     add(lines, b", deck ")?;
-    add(lines, kind_of(deck))?;
+    add(lines, kind_word(deck))?;
     add(lines, b"\n")
 }
 
@@ -89,7 +87,7 @@ fn add_key_difference(
 {
     add_number_difference(lines, k, b" offset ", file.offset, deck.offset)?;
     add_number_difference(lines, k, b" length ", file.length, deck.length)?;
-    add_kind_difference(lines, k, file.duplicates, deck.duplicates)
+    add_kind_difference(lines, k, file.kind, deck.kind)
 }
 
 /// Adds all of a key.
@@ -101,7 +99,7 @@ fn add_key_text(lines: &mut Vec<u8>, part: KeyPart) -> Result<(), AllocError>
     add(lines, b" length ")?;
     add_number(lines, u64::from(part.length))?;
     add(lines, b" ")?;
-    add(lines, kind_of(part.duplicates))
+    add(lines, kind_word(part.kind))
 }
 
 /// Adds key k, which the file alone has.

@@ -10,7 +10,7 @@ ghost use Rattle.schema_listing.specs.Lines.{all_header_lines};
 use file_header::{Header, TreeNumbers};
 use itoa::Buffer;
 use page_bytes::PAGE_SIZE;
-use record_layout::{KeyPart, Schema};
+use record_layout::{KeyKind, KeyPart, Schema};
 use std::alloc::{AllocError, Global};
 
 /// Adds a text.
@@ -49,14 +49,14 @@ fn add_record_line(lines: &mut Vec<u8>, schema: &Schema) -> Result<(), AllocErro
     add(lines, b"\n")
 }
 
-/// The kind of key k.
-fn kind(k: u8, duplicates: bool) -> &'static [u8]
-    ensures { result.now ≡ kind_text k duplicates }
+/// The kind of a key, in a word.
+pub fn kind_word(kind: KeyKind) -> &'static [u8]
+    ensures { result.now ≡ kind_text kind }
 {
-    match (k, duplicates) {
-        (0, _) => b"prime",
-        (_, true) => b"duplicates",
-        (_, false) => b"unique",
+    match kind {
+        KeyKind::Prime => b"prime",
+        KeyKind::Unique => b"unique",
+        KeyKind::Duplicates => b"duplicates",
     }
 }
 
@@ -93,7 +93,7 @@ fn add_key_line(
     ensures { OnOk result (lines.new.items ≡ lines.old.items ++ schema_key_line k part tree) }
 {
     add_place(lines, k, part)?;
-    add_tree(lines, kind(k, part.duplicates), tree.height)
+    add_tree(lines, kind_word(part.kind), tree.height)
 }
 
 /// Adds the lines of the keys from key k on, each with its tree.
