@@ -49,7 +49,7 @@ fn add_key(lines: &mut Lines, u: usize, k: usize, key: &KeyPart) {
     lines.area_b("   ");
     lines.word(key_clause(k));
     lines.key_name("KEY", u, k);
-    if key.duplicates {
+    if key.has_duplicates() {
         lines.word("WITH DUPLICATES");
     }
 }

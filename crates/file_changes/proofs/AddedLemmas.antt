@@ -8,7 +8,7 @@ use Rattle.std.specs.declared.cmp.Ordering.TheVariants.{Less, Equal, Greater}
 use Rattle.std.proofs.lemmas.Bool.{and_from, le-leb}
 use Rattle.std.proofs.lemmas.Grind.{common_steps}
 use Rattle.record_layout.specs.declared.schema.KeyPart.{KeyPart}
-use Rattle.record_layout.specs.Schema.{Schema, IsSchema, AreKeys, prime_of, value_of}
+use Rattle.record_layout.specs.Schema.{Schema, IsSchema, AreKeys, prime_of, value_of, is_duplicates, has_duplicates, no_key}
 use Rattle.indexed_file.specs.File.{Row, File, stamp_of}
 use Rattle.indexed_file.specs.Rank.{row_cmp}
 use Rattle.indexed_file.specs.Change.{clashes, is_there, added, new_row}
@@ -91,15 +91,15 @@ or_first : (a b : Bool) → (a || b) ≡ false → a ≡ false
 or_first true b h = h
 or_first false b h = refl
 
-first_free : (keys : List KeyPart) (d : KeyPart) (bytes : List ℕ) (rows : List Row) → AreKeys keys → list_any (λ part. not part.duplicates && is_there part bytes rows) keys ≡ false → is_there (slice_index_or keys 0 d) bytes rows ≡ false
+first_free : (keys : List KeyPart) (d : KeyPart) (bytes : List ℕ) (rows : List Row) → AreKeys keys → list_any (λ part. not (has_duplicates part) && is_there part bytes rows) keys ≡ false → is_there (slice_index_or keys 0 d) bytes rows ≡ false
 first_free [] d bytes rows are none = absurd are
 first_free (prime ∷ keys) d bytes rows are none =
-    ap (λ b. not b && is_there prime bytes rows) (sym are.0) ∙ or_first (not prime.duplicates && is_there prime bytes rows) (list_any (λ part. not part.duplicates && is_there part bytes rows) keys) none
+    ap (λ b. not b && is_there prime bytes rows) (sym (ap is_duplicates are.0)) ∙ or_first (not (has_duplicates prime) && is_there prime bytes rows) (list_any (λ part. not (has_duplicates part) && is_there part bytes rows) keys) none
 
 pub free_prime : (u : OpenFile) (pages : PageMap) (file : File) (bytes : List ℕ) (stands : Stands u pages file) → IsSchema u.schema → clashes u.schema bytes file.rows ≡ false
     → find (has_prime (prime_of u.schema bytes)) (prime_entries u.schema stands.places file.rows) ≡ None
 free_prime u pages file bytes stands is clash =
-    let d : KeyPart = record { offset = 0; length = 0; duplicates = false } in
+    let d : KeyPart = no_key in
     none_found _ (sym (there_by_prime u.schema stands.slots (prime_of u.schema bytes) stands.places file.rows stands.placed.rows_at) ∙ first_free u.schema.keys d bytes file.rows is.keys clash)
 
 -- the parts with the new record stand for the file with it

@@ -4,7 +4,7 @@ use Rattle.std.specs.Prelude.{slice_index, slice_index_or, zip, if◌then◌else
 use Rattle.std.specs.List.{list_any}
 use Rattle.byteorder.specs.Endian.{big_bytes}
 use Rattle.record_layout.specs.declared.schema.KeyPart.{KeyPart}
-use Rattle.record_layout.specs.Schema.{Schema, key_at}
+use Rattle.record_layout.specs.Schema.{Schema, key_at, has_duplicates, no_key}
 use Rattle.indexed_file.specs.Change.{is_changed}
 use Rattle.indexed_file.specs.Room.{need_of_changed}
 use Rattle.key_index.specs.declared.alt_index.AltIndex.{AltIndex}
@@ -51,7 +51,7 @@ indexes_dropped indexes j index lt is = dropped indexes index j lt ∙ ap (λ (i
 pub need_step : (schema : Schema) (old new : List ℕ) (indexes : List AltIndex) (j : ℕ) (index : AltIndex) → length schema.keys ≡ length indexes + 1 → j < length indexes → index ≡ slice_index_or indexes j index
     → need_from schema old new indexes j ≡ need_at schema old new j index + need_from schema old new indexes (j + 1)
 need_step schema old new indexes j index many lt is =
-    let d : KeyPart = record { offset = 0; length = 0; duplicates = false } in
+    let d : KeyPart = no_key in
     let key : j + 1 < length schema.keys = omega (arith, lt, many) in
     ap (λ ks. need_of_changed ks old new (map alt_height (drop j indexes))) (dropped schema.keys d (j + 1) key)
     ∙ ap (λ (is : List AltIndex). need_of_changed (key_at schema (j + 1) ∷ drop (j + 1 + 1) schema.keys) old new (map alt_height is)) (indexes_dropped indexes j index lt is)
@@ -73,12 +73,12 @@ index_dropped (s ∷ stamps) (suc j) lt = let e : suc j + 1 ≡ suc (j + 1) = om
 
 bytes_dropped : (keys : List KeyPart) (d : KeyPart) (stamps : List ℕ) (j : ℕ) → j + 1 < length keys → j < length stamps →
     stamp_bytes (drop (j + 1) keys) (drop j stamps)
-    ≡ (if (slice_index_or keys (j + 1) d).duplicates then big_bytes 8 (slice_index stamps j) ++ stamp_bytes (drop (j + 1 + 1) keys) (drop (j + 1) stamps) else stamp_bytes (drop (j + 1 + 1) keys) (drop (j + 1) stamps))
+    ≡ (if has_duplicates (slice_index_or keys (j + 1) d) then big_bytes 8 (slice_index stamps j) ++ stamp_bytes (drop (j + 1 + 1) keys) (drop (j + 1) stamps) else stamp_bytes (drop (j + 1 + 1) keys) (drop (j + 1) stamps))
 bytes_dropped keys d stamps j lt within =
     ap (λ ks. stamp_bytes ks (drop j stamps)) (dropped keys d (j + 1) lt)
     ∙ ap (λ ss. stamp_bytes (slice_index_or keys (j + 1) d ∷ drop (j + 1 + 1) keys) ss) (index_dropped stamps j within)
 
-pub write_more : (keys : List KeyPart) (d : KeyPart) (stamps : List ℕ) (j : ℕ) (written now : List ℕ) → j + 1 < length keys → j < length stamps → (slice_index_or keys (j + 1) d).duplicates ≡ true → now ≡ written ++ big_bytes 8 (slice_index stamps j)
+pub write_more : (keys : List KeyPart) (d : KeyPart) (stamps : List ℕ) (j : ℕ) (written now : List ℕ) → j + 1 < length keys → j < length stamps → has_duplicates (slice_index_or keys (j + 1) d) ≡ true → now ≡ written ++ big_bytes 8 (slice_index stamps j)
     → AreWritten keys stamps j written → AreWritten keys stamps (j + 1) now
 write_more keys d stamps j written now lt within many is w =
     let rest = stamp_bytes (drop (j + 1 + 1) keys) (drop (j + 1) stamps) in
@@ -92,7 +92,7 @@ write_more keys d stamps j written now lt within many is w =
           omega (arith, l, n, w.long));
     }
 
-pub write_none : (keys : List KeyPart) (d : KeyPart) (stamps : List ℕ) (j : ℕ) (written : List ℕ) → j + 1 < length keys → j < length stamps → (slice_index_or keys (j + 1) d).duplicates ≡ false
+pub write_none : (keys : List KeyPart) (d : KeyPart) (stamps : List ℕ) (j : ℕ) (written : List ℕ) → j + 1 < length keys → j < length stamps → has_duplicates (slice_index_or keys (j + 1) d) ≡ false
     → AreWritten keys stamps j written → AreWritten keys stamps (j + 1) written
 write_none keys d stamps j written lt within one w =
     let rest = stamp_bytes (drop (j + 1 + 1) keys) (drop (j + 1) stamps) in
@@ -116,7 +116,7 @@ write_whole keys stamps j written all w =
       (let l : stamps_length (drop (j + 1) keys) ≡ 0 = ap stamps_length e in omega (arith, l, w.long)),
     )
 
-pub write_room : (keys : List KeyPart) (d : KeyPart) (stamps : List ℕ) (j : ℕ) (written : List ℕ) → length keys ≤ 9 → j + 1 < length keys → (slice_index_or keys (j + 1) d).duplicates ≡ true → AreWritten keys stamps j written → length written + 8 ≤ 64
+pub write_room : (keys : List KeyPart) (d : KeyPart) (stamps : List ℕ) (j : ℕ) (written : List ℕ) → length keys ≤ 9 → j + 1 < length keys → has_duplicates (slice_index_or keys (j + 1) d) ≡ true → AreWritten keys stamps j written → length written + 8 ≤ 64
 write_room keys d stamps j written few lt many w =
     let l : stamps_length (drop (j + 1) keys) ≡ 8 + stamps_length (drop (j + 1 + 1) keys) =
     ap stamps_length (dropped keys d (j + 1) lt) ∙ ap (λ b. if b then 8 + stamps_length (drop (j + 1 + 1) keys) else stamps_length (drop (j + 1 + 1) keys)) many in
@@ -146,12 +146,12 @@ behind (x ∷ xs) j d = let e : j + 1 ≡ suc j = omega arith in rw e refl
 pub stamp_at_after : (schema : Schema) (next : ℕ) (old new : List ℕ) (stamps : List ℕ) (j : ℕ) → j + 1 < length schema.keys → length stamps + 1 ≡ length schema.keys
     → slice_index (stamps_after next old new (drop 1 schema.keys) stamps) j ≡ (if is_changed old new (key_at schema (j + 1)) then next else slice_index stamps j)
 stamp_at_after schema next old new stamps j lt many =
-    let d : KeyPart = record { offset = 0; length = 0; duplicates = false } in
+    let d : KeyPart = no_key in
     after_at next old new (drop 1 schema.keys) stamps j d (omega (arith, lt, length-drop 1 schema.keys)) (omega (arith, lt, many))
     ∙ ap (λ part. if is_changed old new part then next else slice_index stamps j) (behind schema.keys j d)
 
 -- in a key of duplicates it is the next one where the value changes
-pub stamp_of_duplicates : (schema : Schema) (next : ℕ) (old new : List ℕ) (stamps : List ℕ) (j : ℕ) → j + 1 < length schema.keys → length stamps + 1 ≡ length schema.keys → (key_at schema (j + 1)).duplicates ≡ true
+pub stamp_of_duplicates : (schema : Schema) (next : ℕ) (old new : List ℕ) (stamps : List ℕ) (j : ℕ) → j + 1 < length schema.keys → length stamps + 1 ≡ length schema.keys → has_duplicates (key_at schema (j + 1)) ≡ true
     → stamp_after schema next old (slice_index stamps j) new j ≡ slice_index (stamps_after next old new (drop 1 schema.keys) stamps) j
 stamp_of_duplicates schema next old new stamps j lt many dup =
     sym (stamp_at_after schema next old new stamps j lt many

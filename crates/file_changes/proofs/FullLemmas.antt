@@ -4,7 +4,7 @@ use Rattle.std.specs.Prelude.{nat_lt, nat_le, bytes_eq, slice_index_or, if◌the
 use Rattle.std.proofs.lemmas.Grind.{common_steps}
 use Rattle.std.proofs.lemmas.List.Sums.{sum_by-cons}
 use Rattle.record_layout.specs.declared.schema.KeyPart.{KeyPart}
-use Rattle.record_layout.specs.Schema.{part_of, prime_of}
+use Rattle.record_layout.specs.Schema.{part_of, prime_of, no_key}
 use Rattle.indexed_file.specs.File.{Row, File}
 use Rattle.indexed_file.specs.Change.{row_of, takes_stamp}
 use Rattle.indexed_file.specs.Room.{is_full_to_replace, is_full_at, need_of_changed}
@@ -30,7 +30,7 @@ pub full_is : (u : OpenFile) (pages : PageMap) (bytes : List ℕ) (file : File) 
     → is_full_to_replace (room_of u available) u.schema bytes file ≡ is_full_for u available old.bytes bytes
 full_is u pages bytes file old available stands shaped is =
     let one = is_one u.schema file (prime_of u.schema bytes) old stands.sound is in
-    let d : KeyPart = record { offset = 0; length = 0; duplicates = false } in
+    let d : KeyPart = no_key in
     let some : 0 < length u.schema.keys = omega (arith, shaped.keys) in
     let need = need_but_prime u.schema.keys d old.bytes bytes (prime_height u.prime) (map alt_height u.alternates.items) some one.has in
     ap (is_full_at (room_of u available) u.schema bytes file) is

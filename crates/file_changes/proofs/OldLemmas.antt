@@ -4,6 +4,7 @@ use Rattle.std.specs.Prelude.{slice_index_or, if◌then◌else◌}
 use Rattle.std.proofs.Math.Seq.{drop-nil, take-length}
 use Rattle.byteorder.specs.Endian.{big_number}
 use Rattle.record_layout.specs.declared.schema.KeyPart.{KeyPart}
+use Rattle.record_layout.specs.Schema.{has_duplicates}
 use Rattle.open_file.specs.Stored.{stamps_length}
 use Rattle.open_file.specs.ReadOff.{stamps_off}
 use Rattle.open_file.proofs.LookLemmas.{dropped, all_dropped}
@@ -26,7 +27,7 @@ drop_drop m (suc n) (suc k) (x ∷ xs) e = drop_drop m n k xs (omega (arith, e))
 one_more : (stamps : List ℕ) (s : ℕ) (rest : List ℕ) → (stamps ++ s ∷ []) ++ rest ≡ stamps ++ s ∷ rest
 one_more stamps s rest = append_assoc stamps (s ∷ []) rest
 
-pub read_more : (keys : List KeyPart) (d : KeyPart) (slot : List ℕ) (k at : ℕ) (stamps now : List ℕ) (s : ℕ) → k < length keys → (slice_index_or keys k d).duplicates ≡ true → s ≡ big_number 8 (take (length slot - at) (drop at slot)) → now ≡ stamps ++ s ∷ []
+pub read_more : (keys : List KeyPart) (d : KeyPart) (slot : List ℕ) (k at : ℕ) (stamps now : List ℕ) (s : ℕ) → k < length keys → has_duplicates (slice_index_or keys k d) ≡ true → s ≡ big_number 8 (take (length slot - at) (drop at slot)) → now ≡ stamps ++ s ∷ []
     → AreRead keys slot k at stamps → AreRead keys slot (k + 1) (at + 8) now
 read_more keys d slot k at stamps now s lt many read is r =
     let number : s ≡ big_number 8 (drop at slot) = read ∙ ap (λ n. big_number 8 (take n (drop at slot))) (sym (length-drop at slot)) ∙ ap (big_number 8) (take-length (drop at slot)) in
@@ -42,7 +43,7 @@ read_more keys d slot k at stamps now s lt many read is r =
       many = (let l : length now ≡ length stamps + 1 = ap length is ∙ length-append stamps (s ∷ []) in omega (arith, l, r.many));
     }
 
-pub read_none : (keys : List KeyPart) (d : KeyPart) (slot : List ℕ) (k at : ℕ) (stamps now : List ℕ) → k < length keys → (slice_index_or keys k d).duplicates ≡ false → now ≡ stamps ++ 0 ∷ []
+pub read_none : (keys : List KeyPart) (d : KeyPart) (slot : List ℕ) (k at : ℕ) (stamps now : List ℕ) → k < length keys → has_duplicates (slice_index_or keys k d) ≡ false → now ≡ stamps ++ 0 ∷ []
     → AreRead keys slot k at stamps → AreRead keys slot (k + 1) at now
 read_none keys d slot k at stamps now lt one is r =
     let e = dropped keys d k lt in
@@ -65,7 +66,7 @@ read_whole keys slot k at stamps all r =
     sym (append_nil stamps) ∙ ap (λ ks. stamps ++ stamps_off ks (drop at slot)) (sym (all_dropped keys k all)) ∙ r.whole
 
 -- one more stamp is within them
-pub read_room : (keys : List KeyPart) (d : KeyPart) (slot : List ℕ) (k at : ℕ) (stamps : List ℕ) → k < length keys → (slice_index_or keys k d).duplicates ≡ true → AreRead keys slot k at stamps → at + 8 ≤ stamps_length (drop 1 keys)
+pub read_room : (keys : List KeyPart) (d : KeyPart) (slot : List ℕ) (k at : ℕ) (stamps : List ℕ) → k < length keys → has_duplicates (slice_index_or keys k d) ≡ true → AreRead keys slot k at stamps → at + 8 ≤ stamps_length (drop 1 keys)
 read_room keys d slot k at stamps lt many r =
     let e = dropped keys d k lt in
     let parts = drop (k + 1) keys in

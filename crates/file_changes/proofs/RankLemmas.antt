@@ -11,7 +11,7 @@ use Rattle.std.proofs.lemmas.Grind.{common_steps}
 use Rattle.std.proofs.lemmas.Bool.Decides.{nat_tests}
 use Rattle.std.proofs.lemmas.Map.Text.{is_eq-slice_cmp}
 use Rattle.record_layout.specs.declared.schema.KeyPart.{KeyPart}
-use Rattle.record_layout.specs.Schema.{Schema, IsSchema, key_at, part_of, value_of}
+use Rattle.record_layout.specs.Schema.{Schema, IsSchema, key_at, part_of, value_of, has_duplicates, no_key}
 use Rattle.indexed_file.specs.File.{Row, File, stamp_of}
 use Rattle.io_state.specs.Rank.{value_cmp}
 use Rattle.indexed_file.specs.Rank.{row_cmp}
@@ -44,8 +44,8 @@ same_rank schema k a b = bytes_eq (value_of schema k a.bytes) (value_of schema k
 
 pub apart_in : (schema : Schema) (k : ℕ) (a b : Row) → k < length schema.keys → length a.stamps + 1 ≡ length schema.keys → length b.stamps + 1 ≡ length schema.keys → are_apart schema a b ≡ true → same_rank schema k a b ≡ false
 apart_in schema k a b lt many more apart =
-    let d : KeyPart = record { offset = 0; length = 0; duplicates = false } in
-    one_differs _ (key_at schema k).duplicates _ (zipped (λ p. not (bytes_eq (part_of p.0 a.bytes) (part_of p.0 b.bytes)) || (p.0.duplicates && not (p.1.0 == p.1.1))) schema.keys (0 ∷ a.stamps) (0 ∷ b.stamps) k d apart lt (omega (arith, lt, many)) (omega (arith, lt, more)))
+    let d : KeyPart = no_key in
+    one_differs _ (has_duplicates (key_at schema k)) _ (zipped (λ p. not (bytes_eq (part_of p.0 a.bytes) (part_of p.0 b.bytes)) || (has_duplicates p.0 && not (p.1.0 == p.1.1))) schema.keys (0 ∷ a.stamps) (0 ∷ b.stamps) k d apart lt (omega (arith, lt, many)) (omega (arith, lt, more)))
 
 pub new_stamps_many : (schema : Schema) (stamp : ℕ) (bytes : List ℕ) → 1 ≤ length schema.keys → length (new_row schema stamp bytes).stamps + 1 ≡ length schema.keys
 new_stamps_many schema stamp bytes some = simp (length-map, length-drop) (omega (arith, some))
@@ -96,7 +96,7 @@ not_tied schema k a b differ =
     eq_then (value_cmp v w) (nat_cmp (stamp_of k a) (stamp_of k b)) ∙ ap (λ x. x && is_eq (nat_cmp (stamp_of k a) (stamp_of k b))) (is_eq-slice_cmp v w)
     ∙ ap (λ x. bytes_eq v w && x) (eq_numbers (stamp_of k a) (stamp_of k b)) ∙ differ
 
-at_place : (parts : List KeyPart) (stamp : ℕ) (j : ℕ) (d : KeyPart) → j < length parts → slice_index (map (λ (part : KeyPart). if part.duplicates then stamp else 0) parts) j ≡ (if (slice_index_or parts j d).duplicates then stamp else 0)
+at_place : (parts : List KeyPart) (stamp : ℕ) (j : ℕ) (d : KeyPart) → j < length parts → slice_index (map (λ (part : KeyPart). if has_duplicates part then stamp else 0) parts) j ≡ (if has_duplicates (slice_index_or parts j d) then stamp else 0)
 at_place [] stamp j d lt = absurd (omega (arith, lt))
 at_place (x ∷ xs) stamp zero d lt = refl
 at_place (x ∷ xs) stamp (suc j) d lt = at_place xs stamp j d (omega (arith, lt))
@@ -108,6 +108,6 @@ behind (x ∷ xs) j d = refl
 -- the stamp of a new row in an alternate key
 pub new_stamp : (schema : Schema) (stamp : ℕ) (bytes : List ℕ) (j : ℕ) → j + 1 < length schema.keys → stamp_of (j + 1) (new_row schema stamp bytes) ≡ stamp_in schema stamp j
 new_stamp schema stamp bytes j lt =
-    let d : KeyPart = record { offset = 0; length = 0; duplicates = false } in
+    let d : KeyPart = no_key in
     let e : j + 1 ≡ suc j = omega arith in
-    rw e (at_place (drop 1 schema.keys) stamp j d (omega (arith, lt, length-drop 1 schema.keys)) ∙ ap (λ (part : KeyPart). if part.duplicates then stamp else 0) (behind schema.keys j d))
+    rw e (at_place (drop 1 schema.keys) stamp j d (omega (arith, lt, length-drop 1 schema.keys)) ∙ ap (λ (part : KeyPart). if has_duplicates part then stamp else 0) (behind schema.keys j d))

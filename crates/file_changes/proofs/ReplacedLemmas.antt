@@ -2,7 +2,7 @@
 use Rattle.std.proofs.Common.{◌≡◌, ◌≢◌, ℕ, ◌+◌, ◌^◌, ◌≤◌, ◌<◌, Bool, true, false, not, ◌&&◌, List, length, Some, None, refl, ap, sym, subst, ◌∙◌, arith}
 use Rattle.std.specs.Prelude.{find, is_some, if◌then◌else◌}
 use Rattle.std.proofs.lemmas.Bool.{and_from, le-leb}
-use Rattle.record_layout.specs.Schema.{Schema, key_at, prime_of, value_of}
+use Rattle.record_layout.specs.Schema.{Schema, key_at, prime_of, value_of, has_duplicates}
 use Rattle.indexed_file.specs.File.{Row, File, stamp_of}
 use Rattle.indexed_file.specs.Rank.{has_value}
 use Rattle.indexed_file.specs.Change.{row_of, replaced, changed_row, takes_stamp, is_changed, clashes_with_others, others_in}
@@ -52,7 +52,7 @@ stamp_changed schema next bytes old j lt fit =
 stamp_stays : (schema : Schema) (next : ℕ) (bytes : List ℕ) (old : Row) (j : ℕ) → j + 1 < length schema.keys → is_row schema next old ≡ true → stays schema old.bytes bytes j ≡ true
     → stamp_of (j + 1) (changed_row schema next bytes old) ≡ stamp_of (j + 1) old
 stamp_stays schema next bytes old j lt fit same =
-    stamp_changed schema next bytes old j lt fit ∙ ap (λ b. if (key_at schema (j + 1)).duplicates && not b then next else stamp_of (j + 1) old) same ∙ never (key_at schema (j + 1)).duplicates next (stamp_of (j + 1) old)
+    stamp_changed schema next bytes old j lt fit ∙ ap (λ b. if has_duplicates (key_at schema (j + 1)) && not b then next else stamp_of (j + 1) old) same ∙ never (has_duplicates (key_at schema (j + 1))) next (stamp_of (j + 1) old)
   where
     never : (d : Bool) (x y : ℕ) → (if d && false then x else y) ≡ y
     never true x y = refl
@@ -62,8 +62,8 @@ stamp_stays schema next bytes old j lt fit same =
 stamp_moves : (schema : Schema) (next : ℕ) (bytes : List ℕ) (old : Row) (j : ℕ) → j + 1 < length schema.keys → is_row schema next old ≡ true → stays schema old.bytes bytes j ≡ false
     → stamp_of (j + 1) (changed_row schema next bytes old) ≡ stamp_in schema next j
 stamp_moves schema next bytes old j lt fit moves =
-    stamp_changed schema next bytes old j lt fit ∙ ap (λ b. if (key_at schema (j + 1)).duplicates && not b then next else stamp_of (j + 1) old) moves
-    ∙ either (key_at schema (j + 1)).duplicates ((if (key_at schema (j + 1)).duplicates && true then next else stamp_of (j + 1) old) ≡ stamp_in schema next j)
+    stamp_changed schema next bytes old j lt fit ∙ ap (λ b. if has_duplicates (key_at schema (j + 1)) && not b then next else stamp_of (j + 1) old) moves
+    ∙ either (has_duplicates (key_at schema (j + 1))) ((if has_duplicates (key_at schema (j + 1)) && true then next else stamp_of (j + 1) old) ≡ stamp_in schema next j)
     (λ many. rw many refl)
     (λ one. rw one (stamp_zero schema next (j + 1) old fit lt one))
 

@@ -4,7 +4,7 @@ use Rattle.std.specs.Prelude.{bytes_eq, find, if◌then◌else◌}
 use Rattle.std.specs.List.{list_any}
 use Rattle.std.proofs.lemmas.Bool.{eq-eqb}
 use Rattle.record_layout.specs.declared.schema.KeyPart.{KeyPart}
-use Rattle.record_layout.specs.Schema.{Schema, AreKeys, key_at, value_of, prime_of}
+use Rattle.record_layout.specs.Schema.{Schema, AreKeys, key_at, value_of, prime_of, has_duplicates, no_key}
 use Rattle.indexed_file.specs.File.{Row, File, stamp_of}
 use Rattle.indexed_file.specs.Rank.{has_value}
 use Rattle.indexed_file.specs.Change.{is_there, is_changed, others_in, repeats_changed}
@@ -24,7 +24,7 @@ use Rattle.file_changes.proofs.RankLemmas.{same_rank}
 
 -- the record's value of a unique key is that of another row
 abbrev pub clashes_at : Schema → List ℕ → List Row → KeyPart → Bool
-clashes_at schema bytes rows part = not part.duplicates && is_there part bytes (others_in schema (prime_of schema bytes) rows)
+clashes_at schema bytes rows part = not (has_duplicates part) && is_there part bytes (others_in schema (prime_of schema bytes) rows)
 
 -- the changed value of a key of duplicates is that of another row
 abbrev pub repeats_at : Schema → List ℕ → List ℕ → List Row → KeyPart → Bool
@@ -60,7 +60,7 @@ other_value : (v w : Bool) (s t : ℕ) → s ≡ 0 → t ≡ 0 → (v && (s == t
 other_value true w s t e f h none = absurd (let same : true ≡ false = sym (eq-eqb s t (e ∙ sym f)) ∙ h ∙ none in cc)
 other_value false w s t e f h none = refl
 
-unique_beside : (schema : Schema) (next k : ℕ) (prime bytes : List ℕ) (old : Row) (rows : List Row) → k < length schema.keys → (key_at schema k).duplicates ≡ false → are_rows schema next rows ≡ true
+unique_beside : (schema : Schema) (next k : ℕ) (prime bytes : List ℕ) (old : Row) (rows : List Row) → k < length schema.keys → has_duplicates (key_at schema k) ≡ false → are_rows schema next rows ≡ true
     → is_row schema next old ≡ true → find (has_value schema 0 prime) rows ≡ Some old → bytes_eq (value_of schema k old.bytes) (value_of schema k bytes) ≡ true
     → is_there (key_at schema k) bytes (others_in schema prime rows) ≡ false
 unique_beside schema next k prime bytes old rows lt one sound fit found stays =
@@ -73,8 +73,8 @@ unique_beside schema next k prime bytes old rows lt one sound fit found stays =
 
 -- what is told of a key is what the definitions say of it
 pub record IsTold (schema : Schema) (old bytes : List ℕ) (rows : List Row) (k : ℕ) : Type 0 where
-  pub clash : clashes_at schema bytes rows (key_at schema k) ≡ (not (key_at schema k).duplicates && new_there schema old bytes rows k)
-  pub repeat : repeats_at schema old bytes rows (key_at schema k) ≡ ((key_at schema k).duplicates && new_there schema old bytes rows k)
+  pub clash : clashes_at schema bytes rows (key_at schema k) ≡ (not (has_duplicates (key_at schema k)) && new_there schema old bytes rows k)
+  pub repeat : repeats_at schema old bytes rows (key_at schema k) ≡ (has_duplicates (key_at schema k) && new_there schema old bytes rows k)
 
 pub is_told : (schema : Schema) (next k : ℕ) (bytes : List ℕ) (old : Row) (rows : List Row) → k < length schema.keys → are_rows schema next rows ≡ true → is_row schema next old ≡ true
     → find (has_value schema 0 (prime_of schema bytes)) rows ≡ Some old → IsTold schema old.bytes bytes rows k
@@ -85,18 +85,18 @@ is_told schema next k bytes old rows lt sound fit found =
     either (bytes_eq (value_of schema k old.bytes) (value_of schema k bytes)) (IsTold schema old.bytes bytes rows k)
     (λ stays.
     record {
-      clash = either part.duplicates (clashes_at schema bytes rows part ≡ (not part.duplicates && new_there schema old.bytes bytes rows k))
+      clash = either (has_duplicates part) (clashes_at schema bytes rows part ≡ (not (has_duplicates part) && new_there schema old.bytes bytes rows k))
           (λ many. rw many refl)
           (λ one. rw (one, stays) (unique_beside schema next k prime bytes old rows lt one sound fit found stays));
-      repeat = rw stays (never part.duplicates (is_there part bytes others) (is_there part bytes rows));
+      repeat = rw stays (never (has_duplicates part) (is_there part bytes others) (is_there part bytes rows));
     })
     (λ moves.
     let same = there_beside schema k prime bytes rows
     (each_map (λ row. has_value schema 0 prime row ≡ true → row ≡ old) (λ row. has_value schema 0 prime row ≡ true → has_value schema k (value_of schema k bytes) row ≡ false)
     (λ row is has. ap (λ (r : Row). has_value schema k (value_of schema k bytes) r) (is has) ∙ moves) rows (only_one schema next prime old rows sound found)) in
     record {
-      clash = rw moves (ap (λ b. not part.duplicates && b) (sym same));
-      repeat = rw moves (both part.duplicates (is_there part bytes others) (is_there part bytes rows) (sym same));
+      clash = rw moves (ap (λ b. not (has_duplicates part) && b) (sym same));
+      repeat = rw moves (both (has_duplicates part) (is_there part bytes others) (is_there part bytes rows) (sym same));
     })
   where
     never : (d a b : Bool) → ((d && false) && a) ≡ (d && (false && b))
@@ -113,13 +113,13 @@ is_told schema next k bytes old rows lt sound fit found =
 pub seen_none : (schema : Schema) (old bytes : List ℕ) (rows : List Row) (k : ℕ) (repeated : Bool) → k < length schema.keys → IsTold schema old bytes rows k → new_there schema old bytes rows k ≡ false
     → SeenOn schema old bytes rows k repeated → SeenOn schema old bytes rows (k + 1) repeated
 seen_none schema old bytes rows k repeated lt told none on =
-    let d : KeyPart = record { offset = 0; length = 0; duplicates = false } in
+    let d : KeyPart = no_key in
     let p = clashes_at schema bytes rows in
     let q = repeats_at schema old bytes rows in
     record {
-      clash = none_more p schema.keys d k lt (told.clash ∙ and_none (not (key_at schema k).duplicates) (new_there schema old bytes rows k) none) on.clash;
+      clash = none_more p schema.keys d k lt (told.clash ∙ and_none (not (has_duplicates (key_at schema k))) (new_there schema old bytes rows k) none) on.clash;
       repeat = on.repeat ∙ ap (λ b. repeated || b) (any_dropped q schema.keys d k lt)
-          ∙ ap (λ b. repeated || (b || list_any q (drop (k + 1) schema.keys))) (told.repeat ∙ and_none (key_at schema k).duplicates (new_there schema old bytes rows k) none);
+          ∙ ap (λ b. repeated || (b || list_any q (drop (k + 1) schema.keys))) (told.repeat ∙ and_none (has_duplicates (key_at schema k)) (new_there schema old bytes rows k) none);
     }
   where
     and_none : (a b : Bool) → b ≡ false → (a && b) ≡ false
@@ -128,9 +128,9 @@ seen_none schema old bytes rows k repeated lt told none on =
 
 -- it is there, in a key of duplicates
 pub seen_repeated : (schema : Schema) (old bytes : List ℕ) (rows : List Row) (k : ℕ) (repeated : Bool) → k < length schema.keys → IsTold schema old bytes rows k → new_there schema old bytes rows k ≡ true
-    → (key_at schema k).duplicates ≡ true → SeenOn schema old bytes rows k repeated → SeenOn schema old bytes rows (k + 1) true
+    → has_duplicates (key_at schema k) ≡ true → SeenOn schema old bytes rows k repeated → SeenOn schema old bytes rows (k + 1) true
 seen_repeated schema old bytes rows k repeated lt told there many on =
-    let d : KeyPart = record { offset = 0; length = 0; duplicates = false } in
+    let d : KeyPart = no_key in
     let p = clashes_at schema bytes rows in
     let q = repeats_at schema old bytes rows in
     record {
@@ -145,9 +145,9 @@ seen_repeated schema old bytes rows k repeated lt told there many on =
 
 -- it is there, in a unique key
 pub seen_clash : (schema : Schema) (old bytes : List ℕ) (rows : List Row) (k : ℕ) (repeated : Bool) → k < length schema.keys → IsTold schema old bytes rows k → new_there schema old bytes rows k ≡ true
-    → (key_at schema k).duplicates ≡ false → SeenOn schema old bytes rows k repeated → list_any (clashes_at schema bytes rows) schema.keys ≡ true
+    → has_duplicates (key_at schema k) ≡ false → SeenOn schema old bytes rows k repeated → list_any (clashes_at schema bytes rows) schema.keys ≡ true
 seen_clash schema old bytes rows k repeated lt told there one on =
-    let d : KeyPart = record { offset = 0; length = 0; duplicates = false } in
+    let d : KeyPart = no_key in
     some_here (clashes_at schema bytes rows) schema.keys d k lt (told.clash ∙ ap (λ b. not b && new_there schema old bytes rows k) one ∙ there) on.clash
 
 -- the prime key needs no look

@@ -7,7 +7,7 @@ use Rattle.pages.specs.ShownPages.{ShownPages}
 use Rattle.file_changes.specs.InPages.{FileInPages, in_pages}
 use Rattle.file_changes.specs.Contents.{PartsHold, PartsStep}
 use Rattle.file_changes.specs.Steps.{AnswersFor, TakesPages}
-use Rattle.record_layout.specs.Schema.{Schema, key_at, value_of, prime_of}
+use Rattle.record_layout.specs.Schema.{Schema, key_at, value_of, prime_of, has_duplicates}
 use Rattle.indexed_file.specs.File.{File}
 use Rattle.indexed_file.specs.Change.{clashes, added, new_row}
 use Rattle.indexed_file.specs.Answers.{added_answer}
@@ -29,7 +29,7 @@ use Rattle.open_file.specs.declared.open_file.OpenFile.{OpenFile}
 
 -- the stamp of a new record in alternate key j
 abbrev pub stamp_in : Schema → ℕ → ℕ → ℕ
-stamp_in schema stamp j = if (key_at schema (j + 1)).duplicates then stamp else 0
+stamp_in schema stamp j = if has_duplicates (key_at schema (j + 1)) then stamp else 0
 
 -- the entry of a new record in alternate index j
 abbrev pub entry_of_record : Schema → ℕ → List ℕ → ℕ → AltEntry

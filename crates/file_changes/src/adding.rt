@@ -68,7 +68,7 @@ fn adding<P: Pages>(opened: &OpenFile, pages: &mut P, bytes: &[u8]) -> Result<Ad
     let mut repeated = false;
     for k in 0..opened.schema.key_count() {
         if opened.is_there(pages, k as u8, bytes)? {
-            if !opened.schema.part(k as u8).duplicates {
+            if !opened.schema.part(k as u8).has_duplicates() {
                 return Ok(Added::Clash);
             }
             repeated = true;
@@ -163,7 +163,7 @@ pub(crate) fn add_to_alternate<P: Pages>(
     let part = opened.schema.part(j as u8 + 1);
     let value = opened.schema.value(bytes, j as u8 + 1);
     let prime = opened.schema.value(bytes, 0);
-    let stamp = if part.duplicates {
+    let stamp = if part.has_duplicates() {
         opened.next_stamp
     } else {
         0

@@ -26,7 +26,7 @@ pub(crate) fn takes_stamp(opened: &OpenFile, old: &[u8], new: &[u8]) -> bool
     ensures { result ≡ takes_stamp opened.now.schema old.now new.now }
 {
     for k in 0..opened.schema.key_count() {
-        if opened.schema.part(k as u8).duplicates && differs(opened, k, old, new) {
+        if opened.schema.part(k as u8).has_duplicates() && differs(opened, k, old, new) {
             return true;
         }
     }
@@ -68,7 +68,7 @@ pub(crate) fn changed_stamps(
 {
     let mut changed = ArrayVec::new();
     for j in 0..opened.alternates.len() {
-        if opened.schema.part(j as u8 + 1).duplicates {
+        if opened.schema.part(j as u8 + 1).has_duplicates() {
             push_stamp(&mut changed, stamp_after(opened, j, old, stamps[j], new));
         }
     }

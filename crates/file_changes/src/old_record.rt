@@ -72,7 +72,7 @@ fn stamps_in(opened: &OpenFile, slot: &[u8]) -> ArrayVec<u64, 8>
     let mut stamps = ArrayVec::new();
     let mut at = 0;
     for k in 1..opened.schema.key_count() {
-        if opened.schema.part(k as u8).duplicates {
+        if opened.schema.part(k as u8).has_duplicates() {
             stamps.push(BigEndian::read_u64(&slot[at..]));
             at += 8;
         } else {

@@ -108,7 +108,7 @@ fn replacing<P: Pages>(
     let mut repeated = false;
     for k in 1..opened.schema.key_count() {
         if is_new_there(opened, pages, k, old, bytes)? {
-            if !opened.schema.part(k as u8).duplicates {
+            if !opened.schema.part(k as u8).has_duplicates() {
                 return Ok(Replaced::Clash);
             }
             repeated = true;

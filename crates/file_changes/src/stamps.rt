@@ -16,7 +16,7 @@ pub(crate) fn new_stamps(opened: &OpenFile) -> ArrayVec<u8, 64>
 {
     let mut stamps = ArrayVec::new();
     for k in 1..opened.schema.key_count() {
-        if opened.schema.part(k as u8).duplicates {
+        if opened.schema.part(k as u8).has_duplicates() {
             push_stamp(&mut stamps, opened.next_stamp);
         }
     }

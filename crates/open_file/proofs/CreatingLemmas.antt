@@ -3,7 +3,7 @@ use Rattle.std.proofs.Common.{◌≡◌, ◌≢◌, ℕ, zero, suc, ◌+◌, ◌
 use Rattle.std.specs.Prelude.{count_by, if◌then◌else◌, slice_index_or, IsSome, nat_lt}
 use Rattle.std.proofs.lemmas.Grind.{common_steps}
 use Rattle.record_layout.specs.declared.schema.KeyPart.{KeyPart}
-use Rattle.record_layout.specs.Schema.{Schema, IsSchema, AreKeys}
+use Rattle.record_layout.specs.Schema.{Schema, IsSchema, AreKeys, is_duplicates, has_duplicates}
 use Rattle.page_bytes.specs.Each.{Each}
 use Rattle.pages.specs.PageMap.{PageMap}
 use Rattle.pages.specs.Owners.{IsOutside, ChangesPages}
@@ -26,14 +26,14 @@ use Rattle.indexed_file.specs.File.{empty_file}
 -- ---- the slots of the heap
 
 -- eight bytes for each key with duplicates
-stamps_counted : (parts : List KeyPart) → 8 * count_by (λ (part : KeyPart). part.duplicates) parts ≡ stamps_length parts
+stamps_counted : (parts : List KeyPart) → 8 * count_by (λ (part : KeyPart). has_duplicates part) parts ≡ stamps_length parts
 stamps_counted [] = refl
 stamps_counted (part ∷ parts) = grind (arith, common_steps, stamps_counted parts)
 
 -- the prime key is none of them
-pub stamps_of_keys : (keys : List KeyPart) → AreKeys keys → 8 * count_by (λ (part : KeyPart). part.duplicates) keys ≡ stamps_length (drop 1 keys)
+pub stamps_of_keys : (keys : List KeyPart) → AreKeys keys → 8 * count_by (λ (part : KeyPart). has_duplicates part) keys ≡ stamps_length (drop 1 keys)
 stamps_of_keys [] are = absurd are
-stamps_of_keys (prime ∷ alternates) are = stamps_counted (prime ∷ alternates) ∙ ap (λ b. if b then 8 + stamps_length alternates else stamps_length alternates) are.0
+stamps_of_keys (prime ∷ alternates) are = stamps_counted (prime ∷ alternates) ∙ ap (λ b. if b then 8 + stamps_length alternates else stamps_length alternates) (ap is_duplicates are.0)
 
 -- there is a prime key
 pub some_keys : (schema : Schema) → IsSchema schema → 0 < length schema.keys

@@ -4,7 +4,7 @@ use Rattle.std.specs.Prelude.{nat_le, ◌==◌}
 use Rattle.std.proofs.lemmas.Grind.{common_steps}
 use Rattle.byteorder.specs.Endian.{big_bytes}
 use Rattle.record_layout.specs.declared.schema.KeyPart.{KeyPart}
-use Rattle.record_layout.specs.Schema.{Schema}
+use Rattle.record_layout.specs.Schema.{Schema, has_duplicates}
 use Rattle.indexed_file.specs.File.{Row}
 use Rattle.indexed_file.specs.Sound.{is_row}
 use Rattle.open_file.specs.Stored.{stamp_bytes, stamps_length}
@@ -24,7 +24,7 @@ stamp_length [] stamps h = refl
 stamp_length (part ∷ parts) [] h = absurd (omega (arith, h))
 stamp_length (part ∷ parts) (stamp ∷ stamps) h =
     let rest : length stamps ≡ length parts = omega (arith, h) in
-    either part.duplicates (length (stamp_bytes (part ∷ parts) (stamp ∷ stamps)) ≡ stamps_length (part ∷ parts))
+    either (has_duplicates part) (length (stamp_bytes (part ∷ parts) (stamp ∷ stamps)) ≡ stamps_length (part ∷ parts))
     (λ yes. rw yes (omega (arith, length-append (big_bytes 8 stamp) (stamp_bytes parts stamps), eight stamp, stamp_length parts stamps rest)))
     (λ no. rw no (stamp_length parts stamps rest))
 

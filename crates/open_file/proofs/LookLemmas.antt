@@ -7,7 +7,7 @@ use Rattle.open_file.proofs.OrderLemmas.{either}
 use Rattle.std.proofs.lemmas.List.Sums.{sum_by-cons}
 use Rattle.record_layout.specs.declared.schema.KeyPart.{KeyPart}
 use Rattle.std.specs.Prelude.{if◌then◌else◌}
-use Rattle.record_layout.specs.Schema.{Schema}
+use Rattle.record_layout.specs.Schema.{Schema, has_duplicates}
 use Rattle.indexed_file.specs.declared.answer.Added.TheVariants.{Done, Clash}
 use Rattle.indexed_file.specs.File.{Row, File}
 use Rattle.indexed_file.specs.Change.{is_there, clashes, repeats}
@@ -15,10 +15,10 @@ use Rattle.indexed_file.specs.Room.{Pages, need_of_add, is_full_to_add}
 use Rattle.indexed_file.specs.Answers.{added_answer}
 
 abbrev pub clashes_at : List ℕ → List Row → KeyPart → Bool
-clashes_at bytes rows part = not part.duplicates && is_there part bytes rows
+clashes_at bytes rows part = not (has_duplicates part) && is_there part bytes rows
 
 abbrev pub repeats_at : List ℕ → List Row → KeyPart → Bool
-repeats_at bytes rows part = part.duplicates && is_there part bytes rows
+repeats_at bytes rows part = has_duplicates part && is_there part bytes rows
 
 -- the keys before k do not clash, and tell whether a value is repeated
 pub record LooksOn (keys : List KeyPart) (bytes : List ℕ) (rows : List Row) (k : ℕ) (repeated : Bool) : Type 0 where
@@ -51,8 +51,8 @@ pub step_absent : (keys : List KeyPart) (d : KeyPart) (bytes : List ℕ) (rows :
     → LooksOn keys bytes rows k repeated → LooksOn keys bytes rows (k + 1) repeated
 step_absent keys d bytes rows k repeated within none on =
     let part = slice_index_or keys k d in
-    let no_clash : clashes_at bytes rows part ≡ false = and_no (not part.duplicates) (is_there part bytes rows) none in
-    let no_repeat : repeats_at bytes rows part ≡ false = and_no part.duplicates (is_there part bytes rows) none in
+    let no_clash : clashes_at bytes rows part ≡ false = and_no (not (has_duplicates part)) (is_there part bytes rows) none in
+    let no_repeat : repeats_at bytes rows part ≡ false = and_no (has_duplicates part) (is_there part bytes rows) none in
     record {
       clash = on.clash ∙ ap (list_any (clashes_at bytes rows)) (dropped keys d k within) ∙ ap (λ b. b || list_any (clashes_at bytes rows) (drop (k + 1) keys)) no_clash;
       repeat = on.repeat ∙ ap (λ ks. repeated || list_any (repeats_at bytes rows) ks) (dropped keys d k within) ∙ ap (λ b. repeated || (b || list_any (repeats_at bytes rows) (drop (k + 1) keys))) no_repeat;
@@ -63,7 +63,7 @@ step_absent keys d bytes rows k repeated within none on =
     and_no false b h = refl
 
 -- one key of duplicates whose value is there
-pub step_repeated : (keys : List KeyPart) (d : KeyPart) (bytes : List ℕ) (rows : List Row) (k : ℕ) (repeated : Bool) → k < length keys → is_there (slice_index_or keys k d) bytes rows ≡ true → (slice_index_or keys k d).duplicates ≡ true
+pub step_repeated : (keys : List KeyPart) (d : KeyPart) (bytes : List ℕ) (rows : List Row) (k : ℕ) (repeated : Bool) → k < length keys → is_there (slice_index_or keys k d) bytes rows ≡ true → has_duplicates (slice_index_or keys k d) ≡ true
     → LooksOn keys bytes rows k repeated → LooksOn keys bytes rows (k + 1) true
 step_repeated keys d bytes rows k repeated within there many on =
     let part = slice_index_or keys k d in
@@ -80,7 +80,7 @@ step_repeated keys d bytes rows k repeated within there many on =
     or_true false = refl
 
 -- one key that clashes
-pub clash_found : (keys : List KeyPart) (d : KeyPart) (bytes : List ℕ) (rows : List Row) (k : ℕ) (repeated : Bool) → k < length keys → is_there (slice_index_or keys k d) bytes rows ≡ true → (slice_index_or keys k d).duplicates ≡ false
+pub clash_found : (keys : List KeyPart) (d : KeyPart) (bytes : List ℕ) (rows : List Row) (k : ℕ) (repeated : Bool) → k < length keys → is_there (slice_index_or keys k d) bytes rows ≡ true → has_duplicates (slice_index_or keys k d) ≡ false
     → LooksOn keys bytes rows k repeated → list_any (clashes_at bytes rows) keys ≡ true
 clash_found keys d bytes rows k repeated within there one on =
     let part = slice_index_or keys k d in

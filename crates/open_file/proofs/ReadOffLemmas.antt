@@ -7,7 +7,7 @@ use Rattle.std.proofs.lemmas.Grind.{common_steps}
 use Rattle.byteorder.specs.Endian.{big_number, big_bytes}
 use Rattle.byteorder.specs.Numbers.{big_number-reads_back}
 use Rattle.record_layout.specs.declared.schema.KeyPart.{KeyPart}
-use Rattle.record_layout.specs.Schema.{Schema}
+use Rattle.record_layout.specs.Schema.{Schema, has_duplicates}
 use Rattle.indexed_file.specs.File.{Row, File}
 use Rattle.indexed_file.specs.Sound.{is_row, is_stamp}
 use Rattle.indexed_file.proofs.RowLemmas.{are_stamps, row_parts, each_row}
@@ -42,7 +42,7 @@ stamps_back (part ∷ parts) (s ∷ stamps) rest next long all limit =
     let shorter : length stamps ≡ length parts = omega (arith, long) in
     let more = stamps_back parts stamps rest next shorter one.1 limit in
     let behind = stamp_bytes parts stamps ++ rest in
-    either part.duplicates (stamps_off (part ∷ parts) (stamp_bytes (part ∷ parts) (s ∷ stamps) ++ rest) ≡ s ∷ stamps)
+    either (has_duplicates part) (stamps_off (part ∷ parts) (stamp_bytes (part ∷ parts) (s ∷ stamps) ++ rest) ≡ s ∷ stamps)
     (λ yes.
     let low : s < next = below s next (rw yes at one.0) in
     let number : big_number 8 (big_bytes 8 s ++ behind) ≡ s = big_number-reads_back 8 s behind (omega (arith, low, limit)) in

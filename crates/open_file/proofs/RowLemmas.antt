@@ -9,7 +9,7 @@ use Rattle.std.specs.Cmp.{IsTotalOrder}
 use Rattle.std.proofs.lemmas.Cmp.{nat_list_cmp_total, nat_cmp_total, on_total, then_total}
 use Rattle.std.proofs.lemmas.Bool.{and_parts}
 use Rattle.record_layout.specs.declared.schema.KeyPart.{KeyPart}
-use Rattle.record_layout.specs.Schema.{Schema, key_at, value_of, prime_of}
+use Rattle.record_layout.specs.Schema.{Schema, key_at, value_of, prime_of, has_duplicates, no_key}
 use Rattle.indexed_file.specs.File.{Row, File, stamp_of}
 use Rattle.io_state.specs.Rank.{value_cmp}
 use Rattle.indexed_file.specs.Rank.{row_cmp, lower_of, lowest, least, has_value}
@@ -137,7 +137,7 @@ each_row schema next (row ∷ rows) h =
     let two = both _ _ one.0 in
     (two.0, each_row schema next rows one.1)
 
-zero_at : (parts : List KeyPart) (stamps : List ℕ) (next j : ℕ) (d : KeyPart) → are_stamps next parts stamps ≡ true → j < length parts → j < length stamps → (slice_index_or parts j d).duplicates ≡ false → slice_index stamps j ≡ 0
+zero_at : (parts : List KeyPart) (stamps : List ℕ) (next j : ℕ) (d : KeyPart) → are_stamps next parts stamps ≡ true → j < length parts → j < length stamps → has_duplicates (slice_index_or parts j d) ≡ false → slice_index stamps j ≡ 0
 zero_at [] stamps next j d all lt within one = absurd (omega (arith, lt))
 zero_at (part ∷ parts) [] next j d all lt within one = absurd (omega (arith, within))
 zero_at (part ∷ parts) (s ∷ stamps) next zero d all lt within one = from_eq s 0 (rw one at (and_parts (is_stamp next part s) (are_stamps next parts stamps) all).0)
@@ -145,13 +145,13 @@ zero_at (part ∷ parts) (s ∷ stamps) next (suc j) d all lt within one =
     zero_at parts stamps next j d (and_parts (is_stamp next part s) (are_stamps next parts stamps) all).1 (omega (arith, lt)) (omega (arith, within)) one
 
 -- in a unique key each row has the stamp 0
-pub stamp_zero : (schema : Schema) (next k : ℕ) (row : Row) → is_row schema next row ≡ true → k < length schema.keys → (key_at schema k).duplicates ≡ false → stamp_of k row ≡ 0
+pub stamp_zero : (schema : Schema) (next k : ℕ) (row : Row) → is_row schema next row ≡ true → k < length schema.keys → has_duplicates (key_at schema k) ≡ false → stamp_of k row ≡ 0
 stamp_zero schema next zero row fit lt one = refl
 stamp_zero schema next (suc j) row fit lt one =
-    let d : KeyPart = record { offset = 0; length = 0; duplicates = false } in
+    let d : KeyPart = no_key in
     let parts = row_parts schema next row fit in
     let many = from_eq (length row.stamps + 1) (length schema.keys) parts.1 in
-    zero_at (drop 1 schema.keys) row.stamps next j d parts.2 (omega (arith, lt, length-drop 1 schema.keys)) (omega (arith, lt, many)) (ap (λ (part : KeyPart). part.duplicates) (behind schema.keys j d) ∙ one)
+    zero_at (drop 1 schema.keys) row.stamps next j d parts.2 (omega (arith, lt, length-drop 1 schema.keys)) (omega (arith, lt, many)) (ap has_duplicates (behind schema.keys j d) ∙ one)
   where
     behind : (keys : List KeyPart) (j : ℕ) (d : KeyPart) → slice_index_or (drop 1 keys) j d ≡ slice_index_or keys (suc j) d
     behind [] j d = refl

@@ -3,12 +3,13 @@ use Rattle.std.proofs.Common.{◌≡◌, ℕ, ◌+◌, ◌*◌, ◌≤◌, ◌<�
 use Rattle.std.specs.Prelude.{slice_index_or, if◌then◌else◌}
 use Rattle.byteorder.specs.Endian.{big_bytes}
 use Rattle.record_layout.specs.declared.schema.KeyPart.{KeyPart}
+use Rattle.record_layout.specs.Schema.{has_duplicates}
 use Rattle.open_file.specs.Stored.{stamp_bytes, stamps_length}
 use Rattle.open_file.proofs.OrderLemmas.{either}
 use Rattle.open_file.proofs.LookLemmas.{dropped, all_dropped}
 
 abbrev pub stamps_of : ℕ → List KeyPart → List ℕ
-stamps_of stamp parts = map (λ (part : KeyPart). if part.duplicates then stamp else 0) parts
+stamps_of stamp parts = map (λ (part : KeyPart). if has_duplicates part then stamp else 0) parts
 
 -- the stamps of the keys before k are written
 pub record Written (keys : List KeyPart) (stamp k : ℕ) (written : List ℕ) : Type 0 where
@@ -18,11 +19,11 @@ pub record Written (keys : List KeyPart) (stamp k : ℕ) (written : List ℕ) : 
 pub written_start : (keys : List KeyPart) (stamp : ℕ) → Written keys stamp 1 []
 written_start keys stamp = record { bytes = refl; long = omega arith }
 
-step_dup : (part : KeyPart) (parts : List KeyPart) (stamp : ℕ) (written : List ℕ) → part.duplicates ≡ true
+step_dup : (part : KeyPart) (parts : List KeyPart) (stamp : ℕ) (written : List ℕ) → has_duplicates part ≡ true
     → (written ++ big_bytes 8 stamp) ++ stamp_bytes parts (stamps_of stamp parts) ≡ written ++ stamp_bytes (part ∷ parts) (stamps_of stamp (part ∷ parts))
 step_dup part parts stamp written yes' = rw yes' (append_assoc written (big_bytes 8 stamp) (stamp_bytes parts (stamps_of stamp parts)))
 
-pub written_more : (keys : List KeyPart) (d : KeyPart) (stamp k : ℕ) (written now : List ℕ) → k < length keys → (slice_index_or keys k d).duplicates ≡ true → now ≡ written ++ big_bytes 8 stamp → Written keys stamp k written → Written keys stamp (k + 1) now
+pub written_more : (keys : List KeyPart) (d : KeyPart) (stamp k : ℕ) (written now : List ℕ) → k < length keys → has_duplicates (slice_index_or keys k d) ≡ true → now ≡ written ++ big_bytes 8 stamp → Written keys stamp k written → Written keys stamp (k + 1) now
 written_more keys d stamp k written now lt many is w =
     let part = slice_index_or keys k d in
     let e = dropped keys d k lt in
@@ -34,7 +35,7 @@ written_more keys d stamp k written now lt many is w =
           omega (arith, l, n, w.long));
     }
 
-pub written_skip : (keys : List KeyPart) (d : KeyPart) (stamp k : ℕ) (written : List ℕ) → k < length keys → (slice_index_or keys k d).duplicates ≡ false → Written keys stamp k written → Written keys stamp (k + 1) written
+pub written_skip : (keys : List KeyPart) (d : KeyPart) (stamp k : ℕ) (written : List ℕ) → k < length keys → has_duplicates (slice_index_or keys k d) ≡ false → Written keys stamp k written → Written keys stamp (k + 1) written
 written_skip keys d stamp k written lt one w =
     let part = slice_index_or keys k d in
     let e = dropped keys d k lt in
@@ -59,7 +60,7 @@ written_whole keys stamp k written all w =
 at_most : (parts : List KeyPart) → stamps_length parts ≤ 8 * length parts
 at_most [] = omega arith
 at_most (part ∷ parts) =
-    either part.duplicates (stamps_length (part ∷ parts) ≤ 8 * length (part ∷ parts))
+    either (has_duplicates part) (stamps_length (part ∷ parts) ≤ 8 * length (part ∷ parts))
     (λ y. rw y (omega (arith, at_most parts)))
     (λ n. rw n (omega (arith, at_most parts)))
 
@@ -68,7 +69,7 @@ pub few_stamps : (keys : List KeyPart) → length keys ≤ 9 → stamps_length (
 few_stamps keys few = omega (arith, few, at_most (drop 1 keys), length-drop 1 keys)
 
 -- one more key fits
-pub written_room : (keys : List KeyPart) (d : KeyPart) (stamp k : ℕ) (written : List ℕ) → length keys ≤ 9 → k < length keys → (slice_index_or keys k d).duplicates ≡ true → Written keys stamp k written → length written + 8 ≤ 64
+pub written_room : (keys : List KeyPart) (d : KeyPart) (stamp k : ℕ) (written : List ℕ) → length keys ≤ 9 → k < length keys → has_duplicates (slice_index_or keys k d) ≡ true → Written keys stamp k written → length written + 8 ≤ 64
 written_room keys d stamp k written few lt many w =
     let e = dropped keys d k lt in
     let l : stamps_length (drop k keys) ≡ 8 + stamps_length (drop (k + 1) keys) = ap stamps_length e ∙ ap (λ b. if b then 8 + stamps_length (drop (k + 1) keys) else stamps_length (drop (k + 1) keys)) many in

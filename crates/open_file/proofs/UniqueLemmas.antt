@@ -8,7 +8,7 @@ use Rattle.std.specs.declared.cmp.Ordering.TheVariants.{Less, Equal, Greater}
 use Rattle.std.proofs.lemmas.Bool.Decides.{nat_tests}
 use Rattle.std.proofs.lemmas.Grind.{common_steps}
 use Rattle.std.proofs.lemmas.Map.Text.{is_eq-slice_cmp}
-use Rattle.record_layout.specs.Schema.{Schema, key_at}
+use Rattle.record_layout.specs.Schema.{Schema, key_at, has_duplicates}
 use Rattle.indexed_file.specs.File.{Row, File, stamp_of}
 use Rattle.io_state.specs.Rank.{value_cmp}
 use Rattle.indexed_file.specs.Sound.{is_file, is_row}
@@ -27,11 +27,11 @@ entries_zero : (schema : Schema) (k : ℕ) (rows : List Row) → Each (λ row. s
 entries_zero schema k [] h = tt
 entries_zero schema k (row ∷ rows) h = (h.0, entries_zero schema k rows h.1)
 
-rows_zero : (schema : Schema) (next k : ℕ) (rows : List Row) → k < length schema.keys → (key_at schema k).duplicates ≡ false → Each (λ row. is_row schema next row ≡ true) rows → Each (λ row. stamp_of k row ≡ 0) rows
+rows_zero : (schema : Schema) (next k : ℕ) (rows : List Row) → k < length schema.keys → has_duplicates (key_at schema k) ≡ false → Each (λ row. is_row schema next row ≡ true) rows → Each (λ row. stamp_of k row ≡ 0) rows
 rows_zero schema next k [] lt one h = tt
 rows_zero schema next k (row ∷ rows) lt one h = (stamp_zero schema next k row h.0 lt one, rows_zero schema next k rows lt one h.1)
 
-pub are_zero : (schema : Schema) (k : ℕ) (file : File) → is_file schema file ≡ true → k < length schema.keys → (key_at schema k).duplicates ≡ false → Each (λ (e : AltEntry). e.stamp ≡ 0) (alt_entries schema k file.rows)
+pub are_zero : (schema : Schema) (k : ℕ) (file : File) → is_file schema file ≡ true → k < length schema.keys → has_duplicates (key_at schema k) ≡ false → Each (λ (e : AltEntry). e.stamp ≡ 0) (alt_entries schema k file.rows)
 are_zero schema k file sound lt one =
     entries_zero schema k (in_order schema k file.rows)
     (in_order_each schema k (λ row. stamp_of k row ≡ 0) file.rows (rows_zero schema file.next_stamp k file.rows lt one (each_row schema file.next_stamp file.rows (both _ _ sound).1)))

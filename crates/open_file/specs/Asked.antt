@@ -1,6 +1,6 @@
 -- What is asked of pages, and where what they told is believed.
 use Rattle.std.specs.Prelude.{ℕ, ◌+◌, ◌*◌, ◌≤◌, ◌<◌, slice_index, IsTrue, IsFalse}
-use Rattle.record_layout.specs.Schema.{key_at}
+use Rattle.record_layout.specs.Schema.{key_at, has_duplicates}
 use Rattle.indexed_file.specs.Room.{most_to_read, most_to_seek}
 use Rattle.pages.specs.PageMap.{PageMap}
 use Rattle.pages.specs.ShownPages.{ShownPages}
@@ -23,7 +23,7 @@ LacksPages shown pages need = (shown.state pages).available < need
 
 -- no more than so many were asked for, by a key that one record alone can have
 abbrev pub AsksAlone : {S : Type 0} → ShownPages S → OpenFile → ℕ → ℕ → S → S → Type 0
-AsksAlone shown opened k most before after = IsFalse (key_at opened.schema k).duplicates
+AsksAlone shown opened k most before after = IsFalse (has_duplicates (key_at opened.schema k))
     → AsksFor shown most before after
 
 -- the most that a call asks for that reads a record by key k

@@ -2,7 +2,7 @@
 use Rattle.std.specs.Prelude.{ℕ, List, [], ◌∷◌, drop, Option, None, Some, if◌then◌else◌}
 use Rattle.byteorder.specs.Endian.{big_number}
 use Rattle.record_layout.specs.declared.schema.KeyPart.{KeyPart}
-use Rattle.record_layout.specs.Schema.{Schema}
+use Rattle.record_layout.specs.Schema.{Schema, has_duplicates}
 use Rattle.indexed_file.specs.File.{Row, File}
 use Rattle.pages.specs.PageMap.{PageMap}
 use Rattle.key_index.specs.declared.entry.PrimeEntry.{PrimeEntry}
@@ -15,7 +15,7 @@ use Rattle.open_file.specs.declared.open_file.OpenFile.{OpenFile}
 -- the stamps in a slot, one for each alternate key, 0 in a unique one
 abbrev pub stamps_off : List KeyPart → List ℕ → List ℕ
 stamps_off [] bytes = []
-stamps_off (part ∷ parts) bytes = if part.duplicates then big_number 8 bytes ∷ stamps_off parts
+stamps_off (part ∷ parts) bytes = if has_duplicates part then big_number 8 bytes ∷ stamps_off parts
     (drop 8 bytes) else 0 ∷ stamps_off parts bytes
 
 -- the row in a slot, without bytes where the slot has none

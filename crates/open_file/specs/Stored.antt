@@ -2,7 +2,7 @@
 use Rattle.std.specs.Prelude.{◌≡◌, ℕ, ◌+◌, List, [], ◌∷◌, ◌++◌, drop, Some, ⊤, if◌then◌else◌}
 use Rattle.byteorder.specs.Endian.{big_bytes}
 use Rattle.record_layout.specs.declared.schema.KeyPart.{KeyPart}
-use Rattle.record_layout.specs.Schema.{Schema}
+use Rattle.record_layout.specs.Schema.{Schema, has_duplicates}
 use Rattle.indexed_file.specs.File.{Row}
 use Rattle.record_heap.specs.declared.shape.Place.{Place}
 use Rattle.record_heap.specs.Chain.{Slots}
@@ -11,13 +11,13 @@ use Rattle.record_heap.specs.Chain.{Slots}
 abbrev pub stamp_bytes : List KeyPart → List ℕ → List ℕ
 stamp_bytes [] stamps = []
 stamp_bytes (part ∷ parts) [] = []
-stamp_bytes (part ∷ parts) (stamp ∷ stamps) = if part.duplicates then big_bytes 8 stamp
+stamp_bytes (part ∷ parts) (stamp ∷ stamps) = if has_duplicates part then big_bytes 8 stamp
     ++ stamp_bytes parts stamps else stamp_bytes parts stamps
 
 -- how long they are
 abbrev pub stamps_length : List KeyPart → ℕ
 stamps_length [] = 0
-stamps_length (part ∷ parts) = if part.duplicates then 8 + stamps_length parts else stamps_length parts
+stamps_length (part ∷ parts) = if has_duplicates part then 8 + stamps_length parts else stamps_length parts
 
 -- and the record after them
 abbrev pub stored : Schema → Row → List ℕ

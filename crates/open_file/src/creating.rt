@@ -67,7 +67,11 @@ pub(crate) fn heap_shape(schema: &Schema) -> Shape
     ensures schema { IsSchema schema.now }
 {
     let least = schema.least();
-    let stamped = schema.keys().iter().filter(|part| part.duplicates).count();
+    let stamped = schema
+        .keys()
+        .iter()
+        .filter(|part| part.has_duplicates())
+        .count();
     Shape {
         stamps: 8 * stamped as u16,
         least,

@@ -81,7 +81,7 @@ impl OpenFile {
         ensures alone { AsksAlone P.shown self.now k 0 pages.old pages.new }
         ensures reads { ReadsPages P.shown (2 * alt_height index) pages.old pages.new result }
     {
-        if !self.schema.part(k as u8).duplicates {
+        if !self.schema.part(k as u8).has_duplicates() {
             return Ok(false);
         }
         if let Some(cursor) = self.cursor_of(k) {

@@ -122,7 +122,7 @@ impl OpenFile {
         ensures { TellsFirstOf P.shown self.now k value.now pages.old pages.new result }
     {
         let index = self.alternate(k);
-        if self.schema.part(k as u8).duplicates {
+        if self.schema.part(k as u8).has_duplicates() {
             return index.first_of(pages, value);
         }
         match index.find(pages, value, 0)? {

@@ -15,7 +15,7 @@ use Rattle.io_state.specs.Permission.{is_sequential, is_random, may_open}
 use Rattle.record_layout.specs.declared.item.Field.{Field}
 use Rattle.record_layout.specs.declared.schema.KeyPart.{KeyPart}
 use Rattle.record_layout.specs.Layout.{Placed, is_named, field_of, length_of, IsRecord}
-use Rattle.record_layout.specs.Schema.{AreKeys, IsSchema, key_at, key_of_field, key_led_by}
+use Rattle.record_layout.specs.Schema.{AreKeys, IsSchema, key_at, key_of_field, key_led_by, no_key}
 use Rattle.record_layout.specs.Area.{is_taken_by}
 use Rattle.record_layout.specs.declared.area.Source.{Source}
 use Rattle.record_layout.specs.declared.area.Source.TheVariants.{Fill}
@@ -266,7 +266,7 @@ module _ (names : Names) (u : ℕ) (known : FileDesc) (at : slice_get names.file
       let b = map_some (λ k. (k, a.0.length)) (key_led_by known.schema a.0) led (sym (led_key_is a.0) ∙ a.2) in
       let f = found (λ part. (part.offset == a.0.offset) && nat_le a.0.length part.length) known.schema.keys b.0 b.1 in
       let test = (both_true (f.0.offset == a.0.offset) (nat_le a.0.length f.0.length) f.2).1 in
-      let part = get_or_from_slice_get known.schema.keys b.0 f.0 (record { offset = 0; length = 0; duplicates = false }) f.1 in
+      let part = get_or_from_slice_get known.schema.keys b.0 f.0 no_key f.1 in
       subst (λ (led : ℕ × ℕ). IsLed known led.0 led.1) b.2
       (slice_get_within known.schema.keys b.0 f.0 f.1, (item_fits known.layout described text a.0 (sym (item_in_is names u known at text) ∙ a.1)).0, subst (λ (part : KeyPart). a.0.length ≤ part.length) (sym part) (at_most a.0.length f.0.length test))
 
@@ -287,7 +287,7 @@ module _ (names : Names) (u : ℕ) (known : FileDesc) (at : slice_get names.file
   prime_led described =
       let there = keys_there known.schema.keys described.keys in
       let length_is : prime_length names u ≡ (key_at known.schema 0).length = ap (λ o. option_map_or (λ file. (key_at file.schema 0).length) o 0) at in
-      (there, subst (λ n. 1 ≤ n) (sym length_is) (described.whole 0 (record { offset = 0; length = 0; duplicates = false }) there).some, omega (arith, length_is))
+      (there, subst (λ n. 1 ≤ n) (sym length_is) (described.whole 0 no_key there).some, omega (arith, length_is))
 
   start_allowed : IsSchema known.schema → IsFalse (is_random known.access) → (operand : Option (Relation × (ℕ × ℕ))) → IfThere (λ operand. IsLed known operand.1.0 operand.1.1) operand → IsAllowedOn known (start_by names u operand)
   start_allowed described way None h = let p = prime_led described in (way, p.0, p.1, p.2)

@@ -10,7 +10,7 @@ use Rattle.std.proofs.lemmas.Bool.Decides.{nat_tests}
 use Rattle.std.proofs.lemmas.Grind.{common_steps}
 use Rattle.std.proofs.lemmas.Map.Text.{is_eq-slice_cmp}
 use Rattle.record_layout.specs.declared.schema.KeyPart.{KeyPart}
-use Rattle.record_layout.specs.Schema.{Schema, key_at, part_of, value_of}
+use Rattle.record_layout.specs.Schema.{Schema, key_at, part_of, value_of, has_duplicates, no_key}
 use Rattle.indexed_file.specs.File.{Row, File, stamp_of}
 use Rattle.io_state.specs.Rank.{value_cmp}
 use Rattle.indexed_file.specs.Rank.{row_cmp}
@@ -35,8 +35,8 @@ same_rank schema k a b = bytes_eq (value_of schema k a.bytes) (value_of schema k
 
 rank_differs : (schema : Schema) (k : ℕ) (a b : Row) → k < length schema.keys → length a.stamps + 1 ≡ length schema.keys → length b.stamps + 1 ≡ length schema.keys → are_apart schema a b ≡ true → same_rank schema k a b ≡ false
 rank_differs schema k a b lt many more apart =
-    let d : KeyPart = record { offset = 0; length = 0; duplicates = false } in
-    one_differs _ (key_at schema k).duplicates _ (zipped (λ p. not (bytes_eq (part_of p.0 a.bytes) (part_of p.0 b.bytes)) || (p.0.duplicates && not (p.1.0 == p.1.1))) schema.keys (0 ∷ a.stamps) (0 ∷ b.stamps) k d apart lt (omega (arith, lt, many)) (omega (arith, lt, more)))
+    let d : KeyPart = no_key in
+    one_differs _ (has_duplicates (key_at schema k)) _ (zipped (λ p. not (bytes_eq (part_of p.0 a.bytes) (part_of p.0 b.bytes)) || (has_duplicates p.0 && not (p.1.0 == p.1.1))) schema.keys (0 ∷ a.stamps) (0 ∷ b.stamps) k d apart lt (omega (arith, lt, many)) (omega (arith, lt, more)))
 
 eq_numbers : (a s : ℕ) → is_eq (nat_cmp a s) ≡ (a == s)
 eq_numbers a s = grind (arith, common_steps, nat_tests)

@@ -9,6 +9,7 @@ use Rattle.byteorder.specs.Endian.{big_from, big_number, big_bytes}
 use Rattle.byteorder.specs.Numbers.{big_from-cons, big_from-take, length-bytes_high_first, big_from-lt, big_number-reads_back}
 use Rattle.page_bytes.specs.Each.{Each}
 use Rattle.record_layout.specs.declared.schema.KeyPart.{KeyPart}
+use Rattle.record_layout.specs.Schema.{has_duplicates}
 use Rattle.key_index.specs.Stored.{prime_bytes, alt_bytes, prime_entry_in, alt_entry_in}
 use Rattle.key_index.proofs.OrderLemmas.{by_order, bytes_small}
 use Rattle.open_file.specs.Stored.{stamp_bytes, stamps_length}
@@ -106,25 +107,25 @@ alt_again w p e long small =
 
 -- ---- stamps and a record
 
-stamps_many : (part : KeyPart) (parts : List KeyPart) (bytes : List ℕ) → part.duplicates ≡ true
+stamps_many : (part : KeyPart) (parts : List KeyPart) (bytes : List ℕ) → has_duplicates part ≡ true
     → stamp_bytes (part ∷ parts) (stamps_off (part ∷ parts) bytes) ++ drop (stamps_length (part ∷ parts)) bytes
     ≡ (big_bytes 8 (big_number 8 bytes) ++ stamp_bytes parts (stamps_off parts (drop 8 bytes))) ++ drop (8 + stamps_length parts) bytes
 stamps_many part parts bytes many = rw many refl
 
-stamps_one : (part : KeyPart) (parts : List KeyPart) (bytes : List ℕ) → part.duplicates ≡ false
+stamps_one : (part : KeyPart) (parts : List KeyPart) (bytes : List ℕ) → has_duplicates part ≡ false
     → stamp_bytes (part ∷ parts) (stamps_off (part ∷ parts) bytes) ++ drop (stamps_length (part ∷ parts)) bytes ≡ stamp_bytes parts (stamps_off parts bytes) ++ drop (stamps_length parts) bytes
 stamps_one part parts bytes one = rw one refl
 
-pub long_many : (part : KeyPart) (parts : List KeyPart) (n : ℕ) → part.duplicates ≡ true → stamps_length (part ∷ parts) ≤ n → 8 + stamps_length parts ≤ n
+pub long_many : (part : KeyPart) (parts : List KeyPart) (n : ℕ) → has_duplicates part ≡ true → stamps_length (part ∷ parts) ≤ n → 8 + stamps_length parts ≤ n
 long_many part parts n many long = rw many at long
 
-pub long_one : (part : KeyPart) (parts : List KeyPart) (n : ℕ) → part.duplicates ≡ false → stamps_length (part ∷ parts) ≤ n → stamps_length parts ≤ n
+pub long_one : (part : KeyPart) (parts : List KeyPart) (n : ℕ) → has_duplicates part ≡ false → stamps_length (part ∷ parts) ≤ n → stamps_length parts ≤ n
 long_one part parts n one long = rw one at long
 
 pub stored_again : (parts : List KeyPart) (bytes : List ℕ) → stamps_length parts ≤ length bytes → AreBytes bytes → stamp_bytes parts (stamps_off parts bytes) ++ drop (stamps_length parts) bytes ≡ bytes
 stored_again [] bytes long small = refl
 stored_again (part ∷ parts) bytes long small =
-    either part.duplicates (stamp_bytes (part ∷ parts) (stamps_off (part ∷ parts) bytes) ++ drop (stamps_length (part ∷ parts)) bytes ≡ bytes)
+    either (has_duplicates part) (stamp_bytes (part ∷ parts) (stamps_off (part ∷ parts) bytes) ++ drop (stamps_length (part ∷ parts)) bytes ≡ bytes)
     (λ many.
     let whole = long_many part parts (length bytes) many long in
     let eight : 8 ≤ length bytes = omega (arith, whole) in
@@ -141,6 +142,6 @@ stored_again (part ∷ parts) bytes long small =
 pub stamps_many_as_parts : (parts : List KeyPart) (bytes : List ℕ) → length (stamps_off parts bytes) ≡ length parts
 stamps_many_as_parts [] bytes = refl
 stamps_many_as_parts (part ∷ parts) bytes =
-    either part.duplicates (length (stamps_off (part ∷ parts) bytes) ≡ length (part ∷ parts))
+    either (has_duplicates part) (length (stamps_off (part ∷ parts) bytes) ≡ length (part ∷ parts))
     (λ many. rw many (ap suc (stamps_many_as_parts parts (drop 8 bytes))))
     (λ one. rw one (ap suc (stamps_many_as_parts parts bytes)))

@@ -7,7 +7,7 @@ use Rattle.std.proofs.lemmas.Bool.{and_parts, and_from, le-leb}
 use Rattle.std.proofs.lemmas.Slice.Eq.{bytes_eq-Decides}
 use Rattle.page_bytes.specs.Each.{Each}
 use Rattle.record_layout.specs.declared.schema.KeyPart.{KeyPart}
-use Rattle.record_layout.specs.Schema.{Schema, key_at, part_of, value_of, prime_of}
+use Rattle.record_layout.specs.Schema.{Schema, key_at, part_of, value_of, prime_of, has_duplicates, no_key}
 use Rattle.indexed_file.specs.File.{Row, stamp_of}
 use Rattle.io_state.specs.Rank.{value_cmp, rank_cmp}
 use Rattle.indexed_file.specs.Rank.{row_cmp}
@@ -22,7 +22,7 @@ use Rattle.row_checks.specs.Alternate.{RanksDiffer}
 use Rattle.row_checks.specs.Laws.{RowsMakeAFile}
 
 abbrev none : KeyPart
-none = record { offset = 0; length = 0; duplicates = false }
+none = no_key
 
 -- ---- two rows
 
@@ -42,7 +42,7 @@ stamp_at next (part ∷ parts) [] j all within many = absurd (omega (arith, many
 stamp_at next (part ∷ parts) (s ∷ stamps) zero all within many = (and_parts _ _ all).0
 stamp_at next (part ∷ parts) (s ∷ stamps) (suc j) all within many = stamp_at next parts stamps j (and_parts _ _ all).1 (omega (arith, within)) (omega (arith, many))
 
-unique_stamp : (next s : ℕ) (part : KeyPart) → part.duplicates ≡ false → is_stamp next part s ≡ true → s ≡ 0
+unique_stamp : (next s : ℕ) (part : KeyPart) → has_duplicates part ≡ false → is_stamp next part s ≡ true → s ≡ 0
 unique_stamp next s part one is = from_eq s 0 (rw one at is)
 
 key_behind : (keys : List KeyPart) (j : ℕ) → slice_index_or (drop 1 keys) j none ≡ slice_index_or keys (suc j) none
@@ -50,12 +50,12 @@ key_behind [] j = refl
 key_behind (key ∷ keys) j = refl
 
 -- the stamp of a row in a unique key
-no_stamp : (schema : Schema) (next j : ℕ) (row : Row) → is_row schema next row ≡ true → suc j < length schema.keys → (key_at schema (suc j)).duplicates ≡ false → slice_index row.stamps j ≡ 0
+no_stamp : (schema : Schema) (next j : ℕ) (row : Row) → is_row schema next row ≡ true → suc j < length schema.keys → has_duplicates (key_at schema (suc j)) ≡ false → slice_index row.stamps j ≡ 0
 no_stamp schema next j row fit within one =
     let parts = row_parts schema next row fit in
     let many = from_eq _ _ parts.1 in
     let keys = length-drop 1 schema.keys in
-    unique_stamp next (slice_index row.stamps j) (slice_index_or (drop 1 schema.keys) j none) (ap (λ (part : KeyPart). part.duplicates) (key_behind schema.keys j) ∙ one)
+    unique_stamp next (slice_index row.stamps j) (slice_index_or (drop 1 schema.keys) j none) (ap has_duplicates (key_behind schema.keys j) ∙ one)
     (stamp_at next (drop 1 schema.keys) row.stamps j parts.2 (omega (arith, keys, within)) (omega (arith, many, within)))
 
 -- values in order are not the same
@@ -83,7 +83,7 @@ module _ (schema : Schema) (next : ℕ) (a b : Row) (fit : is_row schema next a 
     (low : is_lt (value_cmp (prime_of schema a.bytes) (prime_of schema b.bytes)) ≡ true)
     (differ : (j : ℕ) → suc j < length schema.keys → IsTrue (is_lt (row_cmp schema (suc j) a b)) ⊎ IsTrue (is_lt (row_cmp schema (suc j) b a))) where
   abbrev apart_test : KeyPart × (ℕ × ℕ) → Bool
-  apart_test p = not (bytes_eq (part_of p.0 a.bytes) (part_of p.0 b.bytes)) || (p.0.duplicates && not (p.1.0 == p.1.1))
+  apart_test p = not (bytes_eq (part_of p.0 a.bytes) (part_of p.0 b.bytes)) || (has_duplicates p.0 && not (p.1.0 == p.1.1))
 
   apart_at : (k : ℕ) → k < length schema.keys → apart_test (slice_index_or schema.keys k none, (slice_index (0 ∷ a.stamps) k, slice_index (0 ∷ b.stamps) k)) ≡ true
   apart_at zero within = rw (not_same (prime_of schema a.bytes) (prime_of schema b.bytes) low) refl
@@ -97,8 +97,8 @@ module _ (schema : Schema) (next : ℕ) (a b : Row) (fit : is_row schema next a 
       let value = (bytes_eq-Decides va vb).0 same in
       let other : sa ≡ sb → ⊥ = λ stamp. one_lower schema (suc j) a b (differ j within) value stamp in
       let apart : (sa == sb) ≡ false = either (sa == sb) ((sa == sb) ≡ false) (λ e. absurd (other (from_eq sa sb e))) (λ e. e) in
-      let many : (key_at schema (suc j)).duplicates ≡ true =
-      either (key_at schema (suc j)).duplicates ((key_at schema (suc j)).duplicates ≡ true) (λ e. e)
+      let many : has_duplicates (key_at schema (suc j)) ≡ true =
+      either (has_duplicates (key_at schema (suc j))) (has_duplicates (key_at schema (suc j)) ≡ true) (λ e. e)
       (λ one. absurd (other (no_stamp schema next j a fit within one ∙ sym (no_stamp schema next j b fit' within one)))) in
       rw (same, apart, many) refl)
       (λ differs. rw differs refl)

@@ -6,6 +6,7 @@ use Rattle.std.proofs.lemmas.List.{length-take, length-take-le, take_all, get_or
 use Rattle.std.proofs.lemmas.Bool.{and_from, le-leb, lt-ltb}
 use Rattle.byteorder.specs.Endian.{big_number}
 use Rattle.record_layout.specs.declared.schema.KeyPart.{KeyPart}
+use Rattle.record_layout.specs.Schema.{has_duplicates}
 use Rattle.indexed_file.specs.Sound.{is_stamp}
 use Rattle.open_file.specs.Stored.{stamps_length}
 use Rattle.open_file.specs.ReadOff.{stamps_off}
@@ -25,26 +26,26 @@ pub record FitFront (next : ℕ) (parts : List KeyPart) (bytes : List ℕ) (i : 
 abbrev test_of : ℕ → KeyPart × ℕ → Bool
 test_of next p = is_stamp next p.0 p.1
 
-stamp_many_fits : (next s : ℕ) (part : KeyPart) → part.duplicates ≡ true → 1 ≤ s → s < next → is_stamp next part s ≡ true
+stamp_many_fits : (next s : ℕ) (part : KeyPart) → has_duplicates part ≡ true → 1 ≤ s → s < next → is_stamp next part s ≡ true
 stamp_many_fits next s part many low high = rw many (and_from (nat_le 1 s) (nat_lt s next) (le-leb 1 s low) (lt-ltb s next high))
 
-zip_many : (part : KeyPart) (parts : List KeyPart) (rest : List ℕ) → part.duplicates ≡ true
+zip_many : (part : KeyPart) (parts : List KeyPart) (rest : List ℕ) → has_duplicates part ≡ true
     → zip (part ∷ parts) (stamps_off (part ∷ parts) rest) ≡ (part, big_number 8 rest) ∷ zip parts (stamps_off parts (drop 8 rest))
 zip_many part parts rest many = rw many refl
 
-zip_one : (part : KeyPart) (parts : List KeyPart) (rest : List ℕ) → part.duplicates ≡ false → zip (part ∷ parts) (stamps_off (part ∷ parts) rest) ≡ (part, 0) ∷ zip parts (stamps_off parts rest)
+zip_one : (part : KeyPart) (parts : List KeyPart) (rest : List ℕ) → has_duplicates part ≡ false → zip (part ∷ parts) (stamps_off (part ∷ parts) rest) ≡ (part, 0) ∷ zip parts (stamps_off parts rest)
 zip_one part parts rest one = rw one refl
 
-stamp_one_fits : (next : ℕ) (part : KeyPart) → part.duplicates ≡ false → is_stamp next part 0 ≡ true
+stamp_one_fits : (next : ℕ) (part : KeyPart) → has_duplicates part ≡ false → is_stamp next part 0 ≡ true
 stamp_one_fits next part one = rw one refl
 
-fit_many : (next : ℕ) (part : KeyPart) (parts : List KeyPart) (rest : List ℕ) → part.duplicates ≡ true → 1 ≤ big_number 8 rest → big_number 8 rest < next
+fit_many : (next : ℕ) (part : KeyPart) (parts : List KeyPart) (rest : List ℕ) → has_duplicates part ≡ true → 1 ≤ big_number 8 rest → big_number 8 rest < next
     → Fit next parts (drop 8 rest) → Fit next (part ∷ parts) rest
 fit_many next part parts rest many low high h =
     subst (λ (l : List (KeyPart × ℕ)). IsTrue (list_all (test_of next) l)) (sym (zip_many part parts rest many))
     (and_from (is_stamp next part (big_number 8 rest)) (list_all (test_of next) (zip parts (stamps_off parts (drop 8 rest)))) (stamp_many_fits next (big_number 8 rest) part many low high) h)
 
-fit_one : (next : ℕ) (part : KeyPart) (parts : List KeyPart) (rest : List ℕ) → part.duplicates ≡ false → Fit next parts rest → Fit next (part ∷ parts) rest
+fit_one : (next : ℕ) (part : KeyPart) (parts : List KeyPart) (rest : List ℕ) → has_duplicates part ≡ false → Fit next parts rest → Fit next (part ∷ parts) rest
 fit_one next part parts rest one h =
     subst (λ (l : List (KeyPart × ℕ)). IsTrue (list_all (test_of next) l)) (sym (zip_one part parts rest one))
     (and_from (is_stamp next part 0) (list_all (test_of next) (zip parts (stamps_off parts rest))) (stamp_one_fits next part one) h)
@@ -53,16 +54,16 @@ module _ (next : ℕ) (parts : List KeyPart) (bytes : List ℕ) (i : ℕ) (d : K
   long_here : stamps_length (slice_index_or parts i d ∷ drop (i + 1) parts) ≤ length rest
   long_here = subst (λ (ps : List KeyPart). stamps_length ps ≤ length rest) (dropped parts d i within) f.long
 
-  pub eight_more : (slice_index_or parts i d).duplicates ≡ true → 8 ≤ length rest
+  pub eight_more : has_duplicates (slice_index_or parts i d) ≡ true → 8 ≤ length rest
   eight_more many = (let l = long_many (slice_index_or parts i d) (drop (i + 1) parts) (length rest) many long_here in omega (arith, l))
 
-  pub front_many : (slice_index_or parts i d).duplicates ≡ true → 1 ≤ big_number 8 rest → big_number 8 rest < next → FitFront next parts bytes (i + 1) (drop 8 rest)
+  pub front_many : has_duplicates (slice_index_or parts i d) ≡ true → 1 ≤ big_number 8 rest → big_number 8 rest < next → FitFront next parts bytes (i + 1) (drop 8 rest)
   front_many many low high = record {
     long = (let l = long_many (slice_index_or parts i d) (drop (i + 1) parts) (length rest) many long_here in rw length-drop (omega (arith, l)));
     front = λ h. f.front (subst (λ (ps : List KeyPart). Fit next ps rest) (sym (dropped parts d i within)) (fit_many next (slice_index_or parts i d) (drop (i + 1) parts) rest many low high h));
   }
 
-  pub front_one : (slice_index_or parts i d).duplicates ≡ false → FitFront next parts bytes (i + 1) rest
+  pub front_one : has_duplicates (slice_index_or parts i d) ≡ false → FitFront next parts bytes (i + 1) rest
   front_one one = record {
     long = long_one (slice_index_or parts i d) (drop (i + 1) parts) (length rest) one long_here;
     front = λ h. f.front (subst (λ (ps : List KeyPart). Fit next ps rest) (sym (dropped parts d i within)) (fit_one next (slice_index_or parts i d) (drop (i + 1) parts) rest one h));
@@ -81,35 +82,35 @@ pub record IsBehind (parts : List KeyPart) (bytes : List ℕ) (k i : ℕ) (rest 
 pub behind_none : (parts : List KeyPart) (bytes : List ℕ) (k : ℕ) → stamps_length parts ≤ length bytes → IsBehind parts bytes k 0 bytes
 behind_none parts bytes k long = record { long = long; is = λ j same. (let e : j ≡ k = omega (arith, same) in ap (slice_index (stamps_off parts bytes)) e) }
 
-skip_many : (part : KeyPart) (parts : List KeyPart) (rest : List ℕ) (j : ℕ) → part.duplicates ≡ true → slice_index (stamps_off (part ∷ parts) rest) (suc j) ≡ slice_index (stamps_off parts (drop 8 rest)) j
+skip_many : (part : KeyPart) (parts : List KeyPart) (rest : List ℕ) (j : ℕ) → has_duplicates part ≡ true → slice_index (stamps_off (part ∷ parts) rest) (suc j) ≡ slice_index (stamps_off parts (drop 8 rest)) j
 skip_many part parts rest j many = rw many refl
 
-skip_one : (part : KeyPart) (parts : List KeyPart) (rest : List ℕ) (j : ℕ) → part.duplicates ≡ false → slice_index (stamps_off (part ∷ parts) rest) (suc j) ≡ slice_index (stamps_off parts rest) j
+skip_one : (part : KeyPart) (parts : List KeyPart) (rest : List ℕ) (j : ℕ) → has_duplicates part ≡ false → slice_index (stamps_off (part ∷ parts) rest) (suc j) ≡ slice_index (stamps_off parts rest) j
 skip_one part parts rest j one = rw one refl
 
-first_many : (part : KeyPart) (parts : List KeyPart) (rest : List ℕ) → part.duplicates ≡ true → slice_index (stamps_off (part ∷ parts) rest) 0 ≡ big_number 8 rest
+first_many : (part : KeyPart) (parts : List KeyPart) (rest : List ℕ) → has_duplicates part ≡ true → slice_index (stamps_off (part ∷ parts) rest) 0 ≡ big_number 8 rest
 first_many part parts rest many = rw many refl
 
-first_one : (part : KeyPart) (parts : List KeyPart) (rest : List ℕ) → part.duplicates ≡ false → slice_index (stamps_off (part ∷ parts) rest) 0 ≡ 0
+first_one : (part : KeyPart) (parts : List KeyPart) (rest : List ℕ) → has_duplicates part ≡ false → slice_index (stamps_off (part ∷ parts) rest) 0 ≡ 0
 first_one part parts rest one = rw one refl
 
 module _ (parts : List KeyPart) (bytes : List ℕ) (k i : ℕ) (d : KeyPart) (rest : List ℕ) (within : i < length parts) (b : IsBehind parts bytes k i rest) where
   long_there : stamps_length (slice_index_or parts i d ∷ drop (i + 1) parts) ≤ length rest
   long_there = subst (λ (ps : List KeyPart). stamps_length ps ≤ length rest) (dropped parts d i within) b.long
 
-  pub eight_behind : (slice_index_or parts i d).duplicates ≡ true → 8 ≤ length rest
+  pub eight_behind : has_duplicates (slice_index_or parts i d) ≡ true → 8 ≤ length rest
   eight_behind many = (let l = long_many (slice_index_or parts i d) (drop (i + 1) parts) (length rest) many long_there in omega (arith, l))
 
   on_from : (j : ℕ) → i + 1 + j ≡ k → slice_index (stamps_off (slice_index_or parts i d ∷ drop (i + 1) parts) rest) (suc j) ≡ slice_index (stamps_off parts bytes) k
   on_from j same = ap (λ (ps : List KeyPart). slice_index (stamps_off ps rest) (suc j)) (sym (dropped parts d i within)) ∙ b.is (suc j) (omega (arith, same))
 
-  pub behind_many : (slice_index_or parts i d).duplicates ≡ true → IsBehind parts bytes k (i + 1) (drop 8 rest)
+  pub behind_many : has_duplicates (slice_index_or parts i d) ≡ true → IsBehind parts bytes k (i + 1) (drop 8 rest)
   behind_many many = record {
     long = (let l = long_many (slice_index_or parts i d) (drop (i + 1) parts) (length rest) many long_there in rw length-drop (omega (arith, l)));
     is = λ j same. sym (skip_many (slice_index_or parts i d) (drop (i + 1) parts) rest j many) ∙ on_from j same;
   }
 
-  pub behind_one : (slice_index_or parts i d).duplicates ≡ false → IsBehind parts bytes k (i + 1) rest
+  pub behind_one : has_duplicates (slice_index_or parts i d) ≡ false → IsBehind parts bytes k (i + 1) rest
   behind_one one = record {
     long = long_one (slice_index_or parts i d) (drop (i + 1) parts) (length rest) one long_there;
     is = λ j same. sym (skip_one (slice_index_or parts i d) (drop (i + 1) parts) rest j one) ∙ on_from j same;
@@ -118,10 +119,10 @@ module _ (parts : List KeyPart) (bytes : List ℕ) (k i : ℕ) (d : KeyPart) (re
   here_is : i ≡ k → slice_index (stamps_off (slice_index_or parts i d ∷ drop (i + 1) parts) rest) 0 ≡ slice_index (stamps_off parts bytes) k
   here_is same = ap (λ (ps : List KeyPart). slice_index (stamps_off ps rest) 0) (sym (dropped parts d i within)) ∙ b.is 0 (omega (arith, same))
 
-  pub stamp_many : i ≡ k → (slice_index_or parts i d).duplicates ≡ true → big_number 8 rest ≡ slice_index (stamps_off parts bytes) k
+  pub stamp_many : i ≡ k → has_duplicates (slice_index_or parts i d) ≡ true → big_number 8 rest ≡ slice_index (stamps_off parts bytes) k
   stamp_many same many = sym (first_many (slice_index_or parts i d) (drop (i + 1) parts) rest many) ∙ here_is same
 
-  pub stamp_one : i ≡ k → (slice_index_or parts i d).duplicates ≡ false → 0 ≡ slice_index (stamps_off parts bytes) k
+  pub stamp_one : i ≡ k → has_duplicates (slice_index_or parts i d) ≡ false → 0 ≡ slice_index (stamps_off parts bytes) k
   stamp_one same one = sym (first_one (slice_index_or parts i d) (drop (i + 1) parts) rest one) ∙ here_is same
 
 -- what is left behind the first n
@@ -136,8 +137,8 @@ within_front parts n i within = (let few = length-take n parts in omega (arith, 
 below_front : (parts : List KeyPart) (n i : ℕ) → i < length (take n parts) → i < n
 below_front parts n i within = (let few = length-take n parts in omega (arith, within, few))
 
-pub front_part : (parts : List KeyPart) (n i : ℕ) (d : KeyPart) (many : Bool) → i < length (take n parts) → (slice_index_or (take n parts) i d).duplicates ≡ many → (slice_index_or parts i d).duplicates ≡ many
-front_part parts n i d many within is = ap (λ (part : KeyPart). part.duplicates) (sym (get_or-take n parts i d (below_front parts n i within))) ∙ is
+pub front_part : (parts : List KeyPart) (n i : ℕ) (d : KeyPart) (many : Bool) → i < length (take n parts) → has_duplicates (slice_index_or (take n parts) i d) ≡ many → has_duplicates (slice_index_or parts i d) ≡ many
+front_part parts n i d many within is = ap has_duplicates (sym (get_or-take n parts i d (below_front parts n i within))) ∙ is
 
 pub all_walked : (parts : List KeyPart) (bytes : List ℕ) (k i : ℕ) (rest : List ℕ) → k < length parts → length (take k parts) ≤ i → i ≤ length (take k parts) → IsBehind parts bytes k i rest → IsBehind parts bytes k k rest
 all_walked parts bytes k i rest within low high b =

@@ -18,7 +18,7 @@ pub fn are_stamps(parts: &[KeyPart], bytes: &[u8], next: u64) -> bool
 {
     let mut rest = bytes;
     for part in parts {
-        if part.duplicates {
+        if part.has_duplicates() {
             let stamp = BigEndian::read_u64(rest);
             if stamp < 1 || next <= stamp {
                 return false;
@@ -37,11 +37,11 @@ pub fn stamp_at(parts: &[KeyPart], bytes: &[u8], i: usize) -> u64
 {
     let mut rest = bytes;
     for part in &parts[..i] {
-        if part.duplicates {
+        if part.has_duplicates() {
             rest = &rest[STAMP..];
         }
     }
-    if parts[i].duplicates {
+    if parts[i].has_duplicates() {
         BigEndian::read_u64(rest)
     } else {
         0

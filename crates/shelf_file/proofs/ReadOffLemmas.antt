@@ -1,11 +1,11 @@
 -- What the pages of an open file read as is what its header's pages read as.
-use Rattle.std.proofs.Common.{◌≡◌, ◌+◌, ◌*◌, ◌≤◌, List, [], ◌∷◌, length, drop, map, inl, inr, false, refl, sym, ◌∙◌, ap, arith}
+use Rattle.std.proofs.Common.{◌≡◌, ◌+◌, ◌*◌, ◌≤◌, List, [], ◌∷◌, length, drop, map, inl, inr, refl, sym, ◌∙◌, ap, arith}
 use Rattle.std.proofs.lemmas.Bool.{cases_Bool}
 use Rattle.std.proofs.lemmas.List.{length-drop}
 use Rattle.std.proofs.Math.Bridge.{le_prop}
 use mathlib.Core.HLevel.{is_prop→PathP}
 use Rattle.record_layout.specs.declared.schema.KeyPart.{KeyPart}
-use Rattle.record_layout.specs.Schema.{Schema, key_at}
+use Rattle.record_layout.specs.Schema.{Schema, key_at, has_duplicates, no_key}
 use Rattle.pages.specs.PageMap.{PageMap}
 use Rattle.file_header.specs.declared.header.Header.{Header}
 use Rattle.file_header.specs.Bounds.{IsHeader}
@@ -60,7 +60,7 @@ same_rows a b pages schema (entry ∷ entries) shape = λ i. row_off schema (use
 
 stamps_few : (parts : List KeyPart) → stamps_length parts ≤ 8 * length parts
 stamps_few [] = omega arith
-stamps_few (part ∷ parts) = let few = stamps_few parts in elim (cases_Bool part.duplicates) [
+stamps_few (part ∷ parts) = let few = stamps_few parts in elim (cases_Bool (has_duplicates part)) [
   | inl there ↦ rw there (omega arith)
   | inr none ↦ rw none (omega arith)
 ]
@@ -77,7 +77,7 @@ module _ (opened : OpenFile) (header : Header) (pages : PageMap) (allowed : IsHe
   width_is : opened.prime.width ≡ (prime_by header).width
   width_is =
       let here = ap (λ s. (key_at s 0).length) schema_is in
-      let key = allowed.schema.whole 0 (record { offset = 0; length = 0; duplicates = false }) some_keys in
+      let key = allowed.schema.whole 0 no_key some_keys in
       let some = key.some in
       let short = key.short in
       let w = by.shaped.prime_width in

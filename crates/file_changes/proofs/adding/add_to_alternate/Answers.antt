@@ -1,9 +1,10 @@
 use Rattle.std.proofs.Common.{◌≡◌, ℕ, ◌+◌, ◌-◌, arith, ap, sym, ◌∙◌}
 use Rattle.std.specs.Prelude.{slice_index_or, if◌then◌else◌}
+use Rattle.record_layout.specs.Schema.{has_duplicates}
 use Rattle.file_changes.specs.Adding.{stamp_in}
 use Rattle.open_file.proofs.PartsLemmas.{alternate_changed}
 use Rattle.file_changes.proofs.adding.add_to_alternate.Goals as goal
-use Rattle.file_changes.proofs.adding.add_to_alternate.Goals.{then-part, else-part}
+use Rattle.file_changes.proofs.adding.add_to_alternate.Goals.{then-has_duplicates, else-has_duplicates}
 
 again : (j : ℕ) → j + 1 - 1 ≡ j
 again j = omega arith
@@ -13,10 +14,10 @@ returns-then-added-clause-added g c honest sound slots primes entries p none =
     let opened = c.args.opened.now in
     let at : c.alternate-index.result ≡ slice_index_or opened.alternates.items c.args.j c.alternate-index.result =
     c.alternate-index.ensures ∙ ap (λ m. slice_index_or opened.alternates.items m c.alternate-index.result) (again c.args.j) in
-    let stamp : c.if-part.stamp ≡ stamp_in opened.schema opened.next_stamp c.args.j =
-    (elim c.if-part.branch [
-      | then-part w ↦ w.stamp-is ∙ ap (λ b. if b then opened.next_stamp else 0) (sym (ap (λ part. part.duplicates) (sym c.part-part.ensures.part) ∙ w.if-part.true))
-      | else-part w ↦ w.stamp-is ∙ ap (λ b. if b then opened.next_stamp else 0) (sym (ap (λ part. part.duplicates) (sym c.part-part.ensures.part) ∙ w.if-part.false))
+    let stamp : c.if-has_duplicates.stamp ≡ stamp_in opened.schema opened.next_stamp c.args.j =
+    (elim c.if-has_duplicates.branch [
+      | then-has_duplicates w ↦ w.stamp-is ∙ ap (λ b. if b then opened.next_stamp else 0) (sym (ap has_duplicates (sym c.part-part.ensures.part) ∙ (sym c.has_duplicates.ensures ∙ w.if-has_duplicates.true)))
+      | else-has_duplicates w ↦ w.stamp-is ∙ ap (λ b. if b then opened.next_stamp else 0) (sym (ap has_duplicates (sym c.part-part.ensures.part) ∙ (sym c.has_duplicates.ensures ∙ w.if-has_duplicates.false)))
     ]) in
     let added = ((rw (c.if-added.true, c.value-value.ensures.value, c.value-prime.ensures.value, stamp) at c.in_ok-added.ensures.added) honest sound (entries c.args.j) _ (p.alternates_stand c.args.j c.alternate-index.result c.requires.index at)).answer in
     let whole = alternate_changed opened.heap opened.prime opened.alternates.items (g.P.Pages.shown.state c.args.pages.now).live slots primes entries p (g.P.Pages.shown.state c.add.new.pages).live c.args.j c.add.new.self _ c.requires.index added.0.1 in

@@ -1,13 +1,14 @@
-use Rattle.std.proofs.Common.{◌≤◌, ◌<◌, length, false, sym, ap, subst, ◌∙◌, arith}
+use Rattle.std.proofs.Common.{◌≤◌, ◌<◌, length, sym, ap, subst, ◌∙◌, arith}
 use Rattle.record_layout.specs.declared.schema.KeyPart.{KeyPart}
+use Rattle.record_layout.specs.Schema.{has_duplicates, no_key}
 use Rattle.open_file.specs.Stands.{Stands, heights_of}
 use Rattle.pages.proofs.CauseLemmas.{fails_since}
 use Rattle.open_file.proofs.ExitLemmas.{fails}
 use Rattle.open_file.proofs.HeightLemmas.{heights_many}
-use Rattle.open_file.proofs.LookLemmas.{at_start, step_absent, step_repeated, clash_found, clash_told, done_told, asked_start, asked_more, asked_in_all, asked_so_far, was_true}
+use Rattle.open_file.proofs.LookLemmas.{at_start, step_absent, step_repeated, clash_found, clash_told, done_told, asked_start, asked_more, asked_in_all, asked_so_far}
 use Rattle.file_changes.proofs.SeenLemmas.{was_false}
 use Rattle.file_changes.proofs.adding.adding.Goals as goal
-use Rattle.file_changes.proofs.adding.adding.Goals.{then-branch+else-not-part, else-branch}
+use Rattle.file_changes.proofs.adding.adding.Goals.{then-branch+else-not-has_duplicates, else-branch}
 
 pub loop-k-init : goal.loop-k-init
 loop-k-init g c =
@@ -28,7 +29,7 @@ loop-k-preserved g c =
     let later = c.is_there.new.pages in
     let keys = c.args.opened.now.schema.keys in
     let lt : c.loop-k.k < length keys = omega (arith, c.loop-k-test.true, c.key_count-k-end.ensures.count) in
-    let d : KeyPart = record { offset = 0; length = 0; duplicates = false } in (
+    let d : KeyPart = no_key in (
       g.met.P.Pages.reads_on start now later c.loop-k.invariant.0 c.is_there.ensures.reads.step,
       (λ honest file stands.
           let before = g.met.P.Pages.writes_honestly now later (g.met.P.Pages.reads_writes now later c.is_there.ensures.reads.step) honest in
@@ -36,8 +37,8 @@ loop-k-preserved g c =
           let found = (c.in_ok-is_there.ensures.found honest file still).answer in
           let on = c.loop-k.invariant.1 before file stands in
           elim c.if-branch.branch [
-            | then-branch+else-not-part w ↦ rw w.repeated-is (step_repeated keys d c.args.bytes.now file.rows c.loop-k.k c.loop-k.repeated lt (sym found ∙ w.if-branch.true)
-                (ap (λ part. part.duplicates) (sym w.part.ensures.part) ∙ was_true _ w.if-not-part.false) on)
+            | then-branch+else-not-has_duplicates w ↦ rw w.repeated-is (step_repeated keys d c.args.bytes.now file.rows c.loop-k.k c.loop-k.repeated lt (sym found ∙ w.if-branch.true)
+                (ap has_duplicates (sym w.part.ensures.part) ∙ (sym w.has_duplicates.ensures ∙ w.if-not-has_duplicates.false)) on)
             | else-branch w ↦ rw w.repeated-is (step_absent keys d c.args.bytes.now file.rows c.loop-k.k c.loop-k.repeated lt (sym found ∙ w.if-branch.false) on)
           ]),
       asked_more (g.P.Pages.shown.state start).asked (g.P.Pages.shown.state now).asked (g.P.Pages.shown.state later).asked (heights_of c.args.opened.now) c.loop-k.k
@@ -61,26 +62,26 @@ returns-in_err-is_there-clause-reads g c =
       step = g.met.P.Pages.reads_on c.args.pages.now c.loop-k.pages c.is_there.new.pages c.loop-k.invariant.0 c.is_there.ensures.reads.step;
     }
 
-pub returns-then-not-part-clause-found : goal.returns-then-not-part-clause-found
-returns-then-not-part-clause-found g c honest file stands =
+pub returns-then-not-has_duplicates-clause-found : goal.returns-then-not-has_duplicates-clause-found
+returns-then-not-has_duplicates-clause-found g c honest file stands =
     let start = c.args.pages.now in
     let now = c.loop-k.pages in
     let later = c.is_there.new.pages in
     let keys = c.args.opened.now.schema.keys in
     let lt : c.loop-k.k < length keys = omega (arith, c.loop-k-test.true, c.key_count-k-end.ensures.count) in
-    let d : KeyPart = record { offset = 0; length = 0; duplicates = false } in
+    let d : KeyPart = no_key in
     let before = g.met.P.Pages.writes_honestly now later (g.met.P.Pages.reads_writes now later c.is_there.ensures.reads.step) honest in
     let still = subst (λ p. Stands c.args.opened.now p file) (sym (g.met.P.Pages.reads_live start now c.loop-k.invariant.0 before)) stands in
     let found = (c.in_ok-is_there.ensures.found honest file still).answer in
     let on = c.loop-k.invariant.1 before file stands in
     record {
       answer = clash_told c.args.opened.now.schema c.args.bytes.now file (clash_found keys d c.args.bytes.now file.rows c.loop-k.k c.loop-k.repeated lt (sym found ∙ c.if-branch.true)
-          (ap (λ part. part.duplicates) (sym c.part.ensures.part) ∙ was_false _ c.if-not-part.true) on);
+          (ap has_duplicates (sym c.part.ensures.part) ∙ (sym c.has_duplicates.ensures ∙ c.if-not-has_duplicates.true)) on);
       no_damage = tt;
     }
 
-pub returns-then-not-part-clause-reads : goal.returns-then-not-part-clause-reads
-returns-then-not-part-clause-reads g c =
+pub returns-then-not-has_duplicates-clause-reads : goal.returns-then-not-has_duplicates-clause-reads
+returns-then-not-has_duplicates-clause-reads g c =
     record {
       cause = tt;
       asked =

@@ -1,14 +1,14 @@
 use Rattle.std.proofs.lemmas.Grind.{common_steps}
 use Rattle.std.proofs.Common.{◌+◌, ◌≤◌, ◌<◌, length, sym, ap, subst, ◌∙◌, arith}
-use Rattle.record_layout.specs.Schema.{prime_of}
+use Rattle.record_layout.specs.Schema.{prime_of, has_duplicates}
 use Rattle.open_file.specs.Stands.{Stands, heights_of}
 use Rattle.open_file.proofs.ExitLemmas.{fails}
 use Rattle.open_file.proofs.HeightLemmas.{heights_many}
-use Rattle.open_file.proofs.LookLemmas.{asked_start, asked_more, asked_in_all, was_true}
+use Rattle.open_file.proofs.LookLemmas.{asked_start, asked_more, asked_in_all}
 use Rattle.file_changes.proofs.RemovedLemmas.{is_one, file_rows}
-use Rattle.file_changes.proofs.SeenLemmas.{SeenOn, is_told, seen_start, seen_none, seen_repeated, seen_clash, all_seen, clash_seen, was_false}
+use Rattle.file_changes.proofs.SeenLemmas.{SeenOn, is_told, seen_start, seen_none, seen_repeated, seen_clash, all_seen, clash_seen}
 use Rattle.file_changes.proofs.replacing.replacing.Goals as goal
-use Rattle.file_changes.proofs.replacing.replacing.Goals.{then-branch+else-not-part, else-branch}
+use Rattle.file_changes.proofs.replacing.replacing.Goals.{then-branch+else-not-has_duplicates, else-branch}
 
 pub loop-k-init : goal.loop-k-init
 loop-k-init g c =
@@ -54,8 +54,8 @@ loop-k-preserved g c =
           let one = is_one u.schema file (prime_of u.schema c.args.bytes.now) row stands.sound is in
           let told = rw same at (is_told u.schema file.next_stamp k c.args.bytes.now row file.rows lt (file_rows u.schema file stands.sound) one.fit one.first) in
           elim c.if-branch.branch [
-            | then-branch+else-not-part w ↦ rw w.repeated-is (seen_repeated u.schema c.args.old.now c.args.bytes.now file.rows k c.loop-k.repeated lt told (sym there ∙ w.if-branch.true)
-                (ap (λ part. part.duplicates) (sym w.part.ensures.part) ∙ was_true _ w.if-not-part.false) on)
+            | then-branch+else-not-has_duplicates w ↦ rw w.repeated-is (seen_repeated u.schema c.args.old.now c.args.bytes.now file.rows k c.loop-k.repeated lt told (sym there ∙ w.if-branch.true)
+                (ap has_duplicates (sym w.part.ensures.part) ∙ (sym w.has_duplicates.ensures ∙ w.if-not-has_duplicates.false)) on)
             | else-branch w ↦ rw w.repeated-is (seen_none u.schema c.args.old.now c.args.bytes.now file.rows k c.loop-k.repeated lt told (sym there ∙ w.if-branch.false) on)
           ];
       asked = asked_more (g.P.Pages.shown.state start).asked (g.P.Pages.shown.state now).asked (g.P.Pages.shown.state later).asked (heights_of u) k
@@ -68,8 +68,8 @@ returns-in_err-is_new_there-clause-found g c honest file stands row is same =
     let still = subst (λ p. Stands c.args.opened.now p file) (sym (g.met.P.Pages.reads_live c.args.pages.now c.loop-k.pages c.loop-k.invariant.reads before)) stands in
     fails c.from_residual.result _ c.from_residual.ensures.1 (c.in_err-is_new_there.ensures.found honest file still).no_damage _
 
-pub returns-then-not-part-clause-found : goal.returns-then-not-part-clause-found
-returns-then-not-part-clause-found g c honest file stands row is same =
+pub returns-then-not-has_duplicates-clause-found : goal.returns-then-not-has_duplicates-clause-found
+returns-then-not-has_duplicates-clause-found g c honest file stands row is same =
     let u = c.args.opened.now in
     let k = c.loop-k.k in
     let now = c.loop-k.pages in
@@ -81,11 +81,11 @@ returns-then-not-part-clause-found g c honest file stands row is same =
     let on = c.loop-k.invariant.seen before file stands row is same in
     let one = is_one u.schema file (prime_of u.schema c.args.bytes.now) row stands.sound is in
     let told = rw same at (is_told u.schema file.next_stamp k c.args.bytes.now row file.rows lt (file_rows u.schema file stands.sound) one.fit one.first) in
-    let unique = ap (λ part. part.duplicates) (sym c.part.ensures.part) ∙ was_false _ c.if-not-part.true in
+    let unique = ap has_duplicates (sym c.part.ensures.part) ∙ (sym c.has_duplicates.ensures ∙ c.if-not-has_duplicates.true) in
     record { answer = clash_seen u.schema c.args.bytes.now file row (seen_clash u.schema c.args.old.now c.args.bytes.now file.rows k c.loop-k.repeated lt told (sym there ∙ c.if-branch.true) unique on); no_damage = tt }
 
-pub returns-then-not-part-clause-reads : goal.returns-then-not-part-clause-reads
-returns-then-not-part-clause-reads g c =
+pub returns-then-not-has_duplicates-clause-reads : goal.returns-then-not-has_duplicates-clause-reads
+returns-then-not-has_duplicates-clause-reads g c =
     record {
       cause = tt;
       asked =

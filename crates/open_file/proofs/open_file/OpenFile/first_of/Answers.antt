@@ -1,7 +1,6 @@
 use Rattle.std.proofs.lemmas.Grind.{common_steps}
 use Rattle.std.proofs.Common.{◌≡◌, ℕ, ◌+◌, ◌-◌, ◌<◌, false, length, Some, None, ap, sym, subst, ◌∙◌, arith}
-use Rattle.record_layout.specs.declared.schema.KeyPart.{KeyPart}
-use Rattle.record_layout.specs.Schema.{key_at}
+use Rattle.record_layout.specs.Schema.{key_at, has_duplicates}
 use Rattle.key_index.specs.Calls.{IsAltFirst}
 use Rattle.open_file.specs.InOrder.{alt_entries}
 use Rattle.open_file.proofs.UniqueLemmas.{are_zero, unique_none, unique_some}
@@ -19,7 +18,7 @@ returns-in-Some g c =
           let at = index_at c.args.self.now c.args.k c.requires.key.some c.requires.key.within in
           let keys = c.requires.lent.shaped.keys in
           let lt : c.args.k - 1 + 1 < length schema.keys = omega (arith, keys, at.0) in
-          let one : (key_at schema (c.args.k - 1 + 1)).duplicates ≡ false = ap (λ (m : ℕ). (key_at schema m).duplicates) at.1 ∙ sym (ap (λ (part : KeyPart). part.duplicates) c.part.ensures.part) ∙ c.if-part.false in
+          let one : has_duplicates (key_at schema (c.args.k - 1 + 1)) ≡ false = ap (λ (m : ℕ). has_duplicates (key_at schema m)) at.1 ∙ sym (ap has_duplicates c.part.ensures.part) ∙ (sym c.has_duplicates.ensures ∙ c.if-has_duplicates.false) in
           let found = rw c.in-Some.is at (c.in_ok-entry.ensures.found honest _ _ (stands.parts.alternates_stand (c.args.k - 1) c.alternate-index.result at.0 c.alternate-index.ensures)).answer in
           let zero = are_zero schema (c.args.k - 1 + 1) file stands.sound lt one in
           record {
@@ -41,7 +40,7 @@ returns-in-None g c =
           let at = index_at c.args.self.now c.args.k c.requires.key.some c.requires.key.within in
           let keys = c.requires.lent.shaped.keys in
           let lt : c.args.k - 1 + 1 < length schema.keys = omega (arith, keys, at.0) in
-          let one : (key_at schema (c.args.k - 1 + 1)).duplicates ≡ false = ap (λ (m : ℕ). (key_at schema m).duplicates) at.1 ∙ sym (ap (λ (part : KeyPart). part.duplicates) c.part.ensures.part) ∙ c.if-part.false in
+          let one : has_duplicates (key_at schema (c.args.k - 1 + 1)) ≡ false = ap (λ (m : ℕ). has_duplicates (key_at schema m)) at.1 ∙ sym (ap has_duplicates c.part.ensures.part) ∙ (sym c.has_duplicates.ensures ∙ c.if-has_duplicates.false) in
           let found = rw c.in-None.is at (c.in_ok-entry.ensures.found honest _ _ (stands.parts.alternates_stand (c.args.k - 1) c.alternate-index.result at.0 c.alternate-index.ensures)).answer in
           let zero = are_zero schema (c.args.k - 1 + 1) file stands.sound lt one in
           record {

@@ -1,8 +1,7 @@
-use Rattle.std.proofs.Common.{◌≡◌, ℕ, ◌-◌, ◌<◌, Bool, true, false, not, length, Option, refl, ap, sym, subst, ◌∙◌, arith}
+use Rattle.std.proofs.Common.{◌≡◌, ℕ, ◌-◌, ◌<◌, false, length, Option, refl, ap, sym, subst, ◌∙◌, arith}
 use Rattle.std.specs.Prelude.{find}
 use Rattle.std.specs.Option.{option_map_or}
-use Rattle.record_layout.specs.declared.schema.KeyPart.{KeyPart}
-use Rattle.record_layout.specs.Schema.{key_at}
+use Rattle.record_layout.specs.Schema.{key_at, has_duplicates}
 use Rattle.pages.specs.Answer.{IsAnswer}
 use Rattle.key_index.specs.Entries.{entry_has_value, after_rank}
 use Rattle.open_file.specs.InOrder.{alt_entries}
@@ -11,10 +10,6 @@ use Rattle.open_file.proofs.AnswerLemmas.{index_at}
 use Rattle.open_file.proofs.PathLemmas.{IsPathOf}
 use Rattle.open_file.proofs.UniqueLemmas.{are_zero, never_followed}
 use Rattle.open_file.proofs.open_file.OpenFile.is_followed.Goals as goal
-
-is_false : (b : Bool) → not b ≡ true → b ≡ false
-is_false true h = absurd (cc)
-is_false false h = refl
 
 pub returns-then-is_after-clause-told : goal.returns-then-is_after-clause-told
 returns-then-is_after-clause-told g c honest file stands =
@@ -28,10 +23,10 @@ returns-then-is_after-clause-told g c honest file stands =
     subst (λ (m : ℕ). IsAnswer c.is_followed.result (λ told. told ≡ option_map_or (entry_has_value value) (find (after_rank value c.args.stamp) (alt_entries opened.schema m file.rows)) false)) at.1
     (c.is_followed.ensures.told honest value c.args.stamp _ _ standing belongs (c.if-value-from.true ∙ c.from.ensures) c.ranges.stamp.fits (c.is_after.ensures.0 c.if-is_after.true))
 
-pub returns-then-not-part-clause-told : goal.returns-then-not-part-clause-told
-returns-then-not-part-clause-told g c honest file stands =
+pub returns-then-not-has_duplicates-clause-told : goal.returns-then-not-has_duplicates-clause-told
+returns-then-not-has_duplicates-clause-told g c honest file stands =
     let opened = c.args.self.now in
     let keys = c.requires.lent.shaped.keys in
     let within : c.args.k < length opened.schema.keys = omega (arith, keys, c.requires.key.within) in
-    let one : (key_at opened.schema c.args.k).duplicates ≡ false = sym (ap (λ (part : KeyPart). part.duplicates) c.part.ensures.part) ∙ is_false _ c.if-not-part.true in
+    let one : has_duplicates (key_at opened.schema c.args.k) ≡ false = sym (ap has_duplicates c.part.ensures.part) ∙ (sym c.has_duplicates.ensures ∙ c.if-not-has_duplicates.true) in
     record { answer = sym (never_followed c.args.value.now c.args.stamp _ (are_zero opened.schema c.args.k file stands.sound within one)); no_damage = tt }
