@@ -8,6 +8,8 @@ use Rattle.io_state.specs.declared.statement.FileStatement.{FileStatement}
 use Rattle.io_state.specs.declared.statement.FileStatement.TheVariants.{Open, Close, ReadNext, Read, Start}
 use Rattle.io_state.specs.declared.statement.FileStatement.TheVariants.{Write, Rewrite, Delete}
 use Rattle.record_layout.specs.Layout.{Placed}
+use Rattle.record_layout.specs.declared.schema.KeyKind.{KeyKind}
+use Rattle.record_layout.specs.declared.schema.KeyKind.TheVariants.{Prime, Unique, Duplicates}
 use Rattle.record_layout.specs.declared.schema.KeyPart.{KeyPart}
 use Rattle.deck_listing.specs.Verbs.{Verb}
 
@@ -40,16 +42,17 @@ abbrev pub key_name : List Placed → KeyPart → List ℕ
 key_name layout key = name_or_filler (option_and_then (λ (item : Placed). item.name)
     (find (is_key_item key) layout))
 
-abbrev pub key_kind : ℕ → Bool → List ℕ
-key_kind k duplicates = if k == 0 then codes "prime" else
-    (if duplicates then codes "duplicates" else codes "unique")
+abbrev pub key_kind : KeyKind → List ℕ
+key_kind Prime = codes "prime"
+key_kind Unique = codes "unique"
+key_kind Duplicates = codes "duplicates"
 
 -- a key: its number, its item's name, and whether two records may have one value of it
 abbrev pub key_line : ℕ → List ℕ → KeyPart → List ℕ
 key_line k name key =
     codes "  key " ++ (decimal k ++ (codes " " ++ (name
     ++ (codes " offset " ++ (decimal key.offset ++ (codes " length "
-    ++ (decimal key.length ++ (codes " " ++ (key_kind k key.duplicates ++ codes "\n")))))))))
+    ++ (decimal key.length ++ (codes " " ++ (key_kind key.kind ++ codes "\n")))))))))
 
 -- ---- files
 

@@ -8,7 +8,7 @@ ghost use Rattle.deck_listing.specs.Lines.{verb_line, lineless_verb, paragraph_l
 
 use crate::verbs::Verb;
 use io_state::{Access, FileStatement, Name, OpenMode};
-use record_layout::{KeyPart, Placed};
+use record_layout::{KeyKind, KeyPart, Placed};
 use std::alloc::AllocError;
 
 /// The name of an item as it is listed.
@@ -41,15 +41,13 @@ pub fn add_item(text: &mut String, item: &Placed) -> Result<(), AllocError>
     )
 }
 
-fn key_kind(k: usize, duplicates: bool) -> &'static str
-    ensures { result.now ≡ key_kind k duplicates }
+fn key_kind(kind: KeyKind) -> &'static str
+    ensures { result.now ≡ key_kind kind }
 {
-    if k == 0 {
-        "prime"
-    } else if duplicates {
-        "duplicates"
-    } else {
-        "unique"
+    match kind {
+        KeyKind::Prime => "prime",
+        KeyKind::Unique => "unique",
+        KeyKind::Duplicates => "duplicates",
     }
 }
 
@@ -59,7 +57,7 @@ pub fn add_key(text: &mut String, k: usize, name: &str, key: &KeyPart) -> Result
 {
     let offset = key.offset;
     let length = key.length;
-    let kind = key_kind(k, key.duplicates);
+    let kind = key_kind(key.kind);
     writeln!(
         text,
         "  key {k} {name} offset {offset} length {length} {kind}"
