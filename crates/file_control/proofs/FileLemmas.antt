@@ -6,11 +6,13 @@ use Rattle.std.proofs.lemmas.Bool.Decides.{nat_tests}
 use Rattle.std.proofs.lemmas.Option.{same_Some}
 use Rattle.record_layout.specs.declared.fault.SchemaFault.{SchemaFault}
 use Rattle.record_layout.specs.declared.item.Field.{Field}
+use Rattle.record_layout.specs.declared.schema.KeyKind.{KeyKind}
+use Rattle.record_layout.specs.declared.schema.KeyKind.TheVariants.{Prime}
 use Rattle.record_layout.specs.declared.schema.KeyPart.{KeyPart}
 use Rattle.record_layout.specs.Layout.{Entry, Placed, IsLayout, is_name_of, field_of}
 use Rattle.record_layout.specs.SchemaFault.{KeyClause, key_of_item, key_of_clause, where_a_key, keys_behind, GivesSchema}
-use Rattle.record_layout.specs.Schema.{Schema}
-use Rattle.deck_words.proofs.TestLemmas.{both_true, both_are, then_some}
+use Rattle.record_layout.specs.Schema.{Schema, alternate_kind}
+use Rattle.deck_words.proofs.TestLemmas.{both_are, then_some}
 use Rattle.deck_entries.specs.FileControlEntry.{FileControlEntry}
 use Rattle.deck_entries.specs.declared.record_length.RecordLength.{RecordLength}
 use Rattle.deck_entries.specs.declared.record_length.RecordLength.TheVariants.{Fixed, Varying}
@@ -20,9 +22,9 @@ use Rattle.file_control.proofs.LayoutLemmas.{no_field}
 
 -- ---- keys are items
 
-key_found : (least : ℕ) (keys : List KeyPart) (duplicates : Bool) (found : Option Field) (key : KeyPart) → key_of_item least keys duplicates found ≡ Ok key → (field : Field) × (found ≡ Some field)
-key_found least keys duplicates None key e = absurd (cc)
-key_found least keys duplicates (Some field) key e = (field, refl)
+key_found : (least : ℕ) (keys : List KeyPart) (kind : KeyKind) (found : Option Field) (key : KeyPart) → key_of_item least keys kind found ≡ Ok key → (field : Field) × (found ≡ Some field)
+key_found least keys kind None key e = absurd (cc)
+key_found least keys kind (Some field) key e = (field, refl)
 
 then_key : (r : Result KeyPart SchemaFault) (follows : KeyPart → Result (List KeyPart) SchemaFault) (all : List KeyPart) → where_a_key r follows ≡ Ok all → (key : KeyPart) × (r ≡ Ok key) × (follows key ≡ Ok all)
 then_key (Err fault) follows all e = absurd (cc)
@@ -39,7 +41,7 @@ all_named : (entries : List Entry) (layout : List Placed) (least : ℕ) (clauses
 all_named entries layout least [] keys all is e = refl
 all_named entries layout least (clause ∷ clauses) keys all is e =
     let t = then_key (key_of_clause layout least keys clause) (λ key. keys_behind layout least (keys ++ key ∷ []) clauses) all e in
-    let f = key_found least keys clause.duplicates (field_of layout clause.name) t.0 t.1 in
+    let f = key_found least keys (alternate_kind clause.duplicates) (field_of layout clause.name) t.0 t.1 in
     both_are (is_name_of entries (Some clause.name)) _ (named_by entries layout clause.name f.0 is f.1) (all_named entries layout least clauses (keys ++ t.0 ∷ []) all is t.2)
 
 passed : (b : Bool) (fault : SchemaFault) (r : Result (List KeyPart) SchemaFault) (all : List KeyPart) → cond b (Err fault) r ≡ Ok all → r ≡ Ok all
@@ -50,8 +52,9 @@ passed false fault r all e = e
 pub keys_are_named : (entries : List Entry) (layout : List Placed) (least : ℕ) (entry : FileControlEntry) (schema : Schema) → IsLayout entries layout → GivesSchema layout least entry.record_key entry.alternate_keys schema → are_keys_named entries entry ≡ true
 keys_are_named entries layout least entry schema is given =
     let clauses = entry.alternate_keys in
-    let all = all_named entries layout least (record { name = entry.record_key; duplicates = false } ∷ clauses) [] given.0 is (passed (ltb 8 (length clauses)) _ _ given.0 given.1) in
-    let p = both_true (is_name_of entries (Some entry.record_key)) (list_all (λ (clause : KeyClause). is_name_of entries (Some clause.name)) clauses) all in
-    both_are (is_name_of entries (Some entry.record_key)) _ p.0 p.1
+    let prime = key_of_item least [] Prime (field_of layout entry.record_key) in
+    let t = then_key prime (λ key. keys_behind layout least (key ∷ []) clauses) given.0 (passed (ltb 8 (length clauses)) _ _ given.0 given.1) in
+    let f = key_found least [] Prime (field_of layout entry.record_key) t.0 t.1 in
+    both_are (is_name_of entries (Some entry.record_key)) _ (named_by entries layout entry.record_key f.0 is f.1) (all_named entries layout least clauses (t.0 ∷ []) given.0 is t.2)
 
 -- ---- lengths

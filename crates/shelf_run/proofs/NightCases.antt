@@ -6,6 +6,7 @@ use Rattle.io_state.specs.declared.modes.Access.TheVariants.{Sequential, Dynamic
 use Rattle.io_state.specs.declared.modes.OpenMode.TheVariants.{Input, Output, InputOutput}
 use Rattle.io_state.specs.declared.statement.FileStatement.TheVariants.{Open, Close, ReadNext, Write}
 use Rattle.io_state.specs.declared.status.Status.TheVariants.{PermanentError}
+use Rattle.record_layout.specs.declared.schema.KeyKind.TheVariants.{Prime}
 use Rattle.record_layout.specs.Layout.{Placed}
 use Rattle.record_layout.specs.declared.area.Source.TheVariants.{Text, Digits}
 use Rattle.file_control.specs.Description.{FileDesc}
@@ -37,7 +38,7 @@ file name place = record {
   optional = false;
   entry = Some (codes "CUST-REC");
   layout = layout;
-  schema = schema 10 10 (key 0 4 false ∷ []);
+  schema = schema 10 10 (key 0 4 Prime ∷ []);
   depends_on = None;
 }
 
