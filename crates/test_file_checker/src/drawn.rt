@@ -4,7 +4,7 @@ ghost use Rattle.std.specs.Prelude.{◌≤◌, ◌<◌};
 
 use crate::checks::assert_equal_for;
 use arrayvec::ArrayVec;
-use record_layout::{KeyPart, Schema};
+use record_layout::{KeyKind, KeyPart, Schema};
 use std::process::Abort;
 use std::test::Fail;
 
@@ -46,7 +46,10 @@ fn draws_part(draw: &mut Draw, offset: u16, least: u16) -> KeyPart {
     KeyPart {
         offset,
         length: draw.between(1, least.saturating_sub(offset).min(250)),
-        duplicates: draw.below(2) == 0,
+        kind: match draw.below(2) {
+            0 => KeyKind::Duplicates,
+            _ => KeyKind::Unique,
+        },
     }
 }
 
@@ -55,7 +58,7 @@ fn draws_parts(draw: &mut Draw, least: u16) -> ArrayVec<KeyPart, 4> {
     let mut parts = ArrayVec::new();
     let begin = draw.between(0, least.saturating_sub(1));
     let prime = KeyPart {
-        duplicates: false,
+        kind: KeyKind::Prime,
         ..draws_part(draw, begin, least)
     };
     let _ = parts.try_push(prime);
@@ -91,7 +94,7 @@ pub fn draws_record(draw: &mut Draw, schema: &Schema) -> Record {
         let _ = record.try_push(letter);
     }
     for part in schema.keys() {
-        if part.duplicates {
+        if part.has_duplicates() {
             let shared = draw.letter(3);
             put(&mut record, part.offset, shared);
         }

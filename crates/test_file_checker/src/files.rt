@@ -9,7 +9,7 @@ use indexed_file::Added;
 use io_state::{FileName, Key};
 use memory_shelf::MemShelf;
 use page_store::Shelf;
-use record_layout::{KeyPart, Schema};
+use record_layout::{KeyKind, KeyPart, Schema};
 use shelf_file::ShelfFile;
 use std::alloc::Global;
 use std::num::NonZeroUsize;
@@ -33,17 +33,17 @@ const KEYS: [KeyPart; 3] = [
     KeyPart {
         offset: 0,
         length: KEY,
-        duplicates: false,
+        kind: KeyKind::Prime,
     },
     KeyPart {
         offset: 60,
         length: KEY,
-        duplicates: true,
+        kind: KeyKind::Duplicates,
     },
     KeyPart {
         offset: 120,
         length: KEY,
-        duplicates: false,
+        kind: KeyKind::Unique,
     },
 ];
 

@@ -3,7 +3,7 @@
 use crate::checks::{assert_equal, assert_equal_for};
 use file_header::{Header, TreeNumbers};
 use page_bytes::PAGE_SIZE;
-use record_layout::KeyPart;
+use record_layout::{KeyKind, KeyPart};
 use std::process::Abort;
 
 // A file of three pages with one key, and one record of 10 bytes.
@@ -38,11 +38,11 @@ fn accepted(rt: &impl Abort, page: &[u8; PAGE_SIZE]) -> Header {
     Header::read(page).expect(rt, "the page is accepted")
 }
 
-const fn unique(offset: u16, length: u16) -> KeyPart {
+const fn part(offset: u16, length: u16, kind: KeyKind) -> KeyPart {
     KeyPart {
         offset,
         length,
-        duplicates: false,
+        kind,
     }
 }
 
@@ -64,7 +64,11 @@ fn a_page_tells_what_the_format_says(rt: HostRuntime) {
     assert_equal(&rt, header.free_slot, 1);
     assert_equal(&rt, header.next_stamp, 2);
     assert_equal(&rt, header.records, 1);
-    assert_equal(&rt, header.schema.keys(), [unique(0, 4)].as_slice());
+    assert_equal(
+        &rt,
+        header.schema.keys(),
+        [part(0, 4, KeyKind::Prime)].as_slice(),
+    );
     assert_equal(&rt, header.trees.as_slice(), [leaf(1)].as_slice());
 }
 
@@ -76,7 +80,7 @@ fn version_2_tells_the_least_length(rt: HostRuntime) {
     assert_equal(
         &rt,
         header.schema.keys(),
-        [unique(0, 4), unique(4, 6)].as_slice(),
+        [part(0, 4, KeyKind::Prime), part(4, 6, KeyKind::Unique)].as_slice(),
     );
     assert_equal(&rt, header.trees.as_slice(), [leaf(1), leaf(2)].as_slice());
 }

@@ -3,7 +3,7 @@
 use crate::checks::{assert_equal, assert_equal_for, assert_that};
 use crate::entries::items;
 use io_state::Name;
-use record_layout::{Field, KeyPart, Layout, Schema, SchemaFault};
+use record_layout::{Field, KeyKind, KeyPart, Layout, Schema, SchemaFault};
 use std::alloc::Global;
 use std::process::Abort;
 use std::test::Fail;
@@ -30,11 +30,11 @@ fn field(offset: u16, length: u16) -> Field {
     }
 }
 
-fn part(offset: u16, length: u16, duplicates: bool) -> KeyPart {
+fn part(offset: u16, length: u16, kind: KeyKind) -> KeyPart {
     KeyPart {
         offset,
         length,
-        duplicates,
+        kind,
     }
 }
 
@@ -47,10 +47,10 @@ fn customers(rt: &impl Abort, alloc: Global) -> Result<Schema, Fail> {
 }
 
 // Each key of a customer: its number, where it stands, and its value in 0042ANNMILLEX7.
-const KEYS: [(u8, u16, u16, bool, &[u8]); 3] = [
-    (0, 0, 4, false, b"0042"),
-    (1, 4, 8, false, b"ANNMILLE"),
-    (2, 12, 2, true, b"X7"),
+const KEYS: [(u8, u16, u16, KeyKind, &[u8]); 3] = [
+    (0, 0, 4, KeyKind::Prime, b"0042"),
+    (1, 4, 8, KeyKind::Unique, b"ANNMILLE"),
+    (2, 12, 2, KeyKind::Duplicates, b"X7"),
 ];
 
 #[test]
@@ -59,9 +59,9 @@ fn alternate_keys_are_numbered_by_where_they_stand(rt: HostRuntime) -> Result<()
     assert!(rt; schema.least() == 14);
     assert_equal(&rt, schema.greatest(), 265);
     assert_equal(&rt, schema.key_count(), 3);
-    for &(k, offset, length, duplicates, value) in &KEYS {
+    for &(k, offset, length, kind, value) in &KEYS {
         assert!(rt; usize::from(k) < schema.key_count());
-        assert_equal_for(&rt, k, schema.part(k), part(offset, length, duplicates));
+        assert_equal_for(&rt, k, schema.part(k), part(offset, length, kind));
         assert_equal_for(&rt, k, schema.value(b"0042ANNMILLEX7", k), value);
         let key = schema.extract(b"0042ANNMILLEX7", k);
         assert_equal_for(&rt, k, key.as_slice(), value);
@@ -163,23 +163,44 @@ fn a_key_is_a_part_of_a_record(rt: HostRuntime) -> Result<(), Fail> {
     assert_equal(
         &rt,
         schema.keys(),
-        [part(0, 4, false), part(4, 8, false), part(12, 2, true)].as_slice(),
+        [
+            part(0, 4, KeyKind::Prime),
+            part(4, 8, KeyKind::Unique),
+            part(12, 2, KeyKind::Duplicates),
+        ]
+        .as_slice(),
     );
-    assert_equal(&rt, part(4, 8, false).of(record), b"ANNSMITH".as_slice());
+    assert_equal(
+        &rt,
+        part(4, 8, KeyKind::Unique).of(record),
+        b"ANNSMITH".as_slice(),
+    );
     // No more than the record has.
-    assert_equal(&rt, part(12, 9, false).of(record), b"XY".as_slice());
+    assert_equal(
+        &rt,
+        part(12, 9, KeyKind::Unique).of(record),
+        b"XY".as_slice(),
+    );
     Ok(())
 }
 
 // A key of the greatest length, one byte past the least record, and alternates out of order.
 #[test]
 fn a_schema_is_made_from_the_numbers_of_one(rt: HostRuntime) -> Result<(), Fail> {
-    let keys = [part(0, 250, false), part(4, 8, false), part(12, 238, true)];
+    let keys = [
+        part(0, 250, KeyKind::Prime),
+        part(4, 8, KeyKind::Unique),
+        part(12, 238, KeyKind::Duplicates),
+    ];
     match Schema::from_parts(250, 4000, &keys) {
         Some(schema) => assert_equal(&rt, schema.keys(), keys.as_slice()),
         None => assert!(rt; false, "these make a schema"),
     }
-    let turned = [part(0, 4, false), part(12, 2, true), part(4, 8, false)];
+    let turned = [
+        part(0, 4, KeyKind::Prime),
+        part(12, 2, KeyKind::Duplicates),
+        part(4, 8, KeyKind::Unique),
+    ];
     assert_that(&rt, Schema::from_parts(249, 4000, &keys).is_none());
     assert_that(&rt, Schema::from_parts(20, 20, &turned).is_none());
     assert_that(&rt, Schema::from_parts(20, 20, &[]).is_none());

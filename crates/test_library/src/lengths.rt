@@ -7,7 +7,7 @@ use indexed_file::Library;
 use io_state::Fault;
 use list_library::ListLibrary;
 use memory_shelf::MemShelf;
-use record_layout::{KeyPart, Schema};
+use record_layout::{KeyKind, KeyPart, Schema};
 use std::alloc::Global;
 use std::process::Abort;
 use std::test::Fail;
@@ -90,15 +90,15 @@ fn runs(
 #[test]
 fn a_record_may_be_4000_bytes_with_eight_stamps(rt: HostRuntime) -> Result<(), Fail> {
     let keys = [
-        part(0, 2, false),
-        part(1, 250, true),
-        part(2, 2, true),
-        part(300, 1, true),
-        part(400, 250, true),
-        part(600, 9, true),
-        part(1000, 250, true),
-        part(2000, 3, true),
-        part(3990, 10, true),
+        part(0, 2, KeyKind::Prime),
+        part(1, 250, KeyKind::Duplicates),
+        part(2, 2, KeyKind::Duplicates),
+        part(300, 1, KeyKind::Duplicates),
+        part(400, 250, KeyKind::Duplicates),
+        part(600, 9, KeyKind::Duplicates),
+        part(1000, 250, KeyKind::Duplicates),
+        part(2000, 3, KeyKind::Duplicates),
+        part(3990, 10, KeyKind::Duplicates),
     ];
     runs(&rt, rt.alloc(), 4000, 4000, &keys, &[4000, 4000, 4000])?;
     Ok(())
@@ -106,7 +106,7 @@ fn a_record_may_be_4000_bytes_with_eight_stamps(rt: HostRuntime) -> Result<(), F
 
 #[test]
 fn a_record_may_be_one_byte_beside_others_of_4000(rt: HostRuntime) -> Result<(), Fail> {
-    let keys = [part(0, 1, false)];
+    let keys = [part(0, 1, KeyKind::Prime)];
     runs(&rt, rt.alloc(), 1, 1, &keys, &[1, 1, 1])?;
     runs(
         &rt,
@@ -122,15 +122,15 @@ fn a_record_may_be_one_byte_beside_others_of_4000(rt: HostRuntime) -> Result<(),
 #[test]
 fn nine_keys_of_250_bytes_follow_each_change(rt: HostRuntime) -> Result<(), Fail> {
     let keys = [
-        part(2000, 250, false),
-        part(0, 250, true),
-        part(250, 250, false),
-        part(500, 250, true),
-        part(750, 250, false),
-        part(1000, 250, true),
-        part(1250, 250, false),
-        part(1500, 250, true),
-        part(1750, 250, false),
+        part(2000, 250, KeyKind::Prime),
+        part(0, 250, KeyKind::Duplicates),
+        part(250, 250, KeyKind::Unique),
+        part(500, 250, KeyKind::Duplicates),
+        part(750, 250, KeyKind::Unique),
+        part(1000, 250, KeyKind::Duplicates),
+        part(1250, 250, KeyKind::Unique),
+        part(1500, 250, KeyKind::Duplicates),
+        part(1750, 250, KeyKind::Unique),
     ];
     let lengths = [
         2250, 2251, 2252, 2250, 2255, 2260, 2250, 2250, 2250, 2250, 2250, 2250,

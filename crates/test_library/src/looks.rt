@@ -7,7 +7,7 @@ use crate::checks::{assert_equal, assert_that};
 use indexed_file::Library;
 use io_state::Fault;
 use memory_shelf::MemShelf;
-use record_layout::Schema;
+use record_layout::{KeyKind, Schema};
 use std::alloc::Global;
 use std::test::Fail;
 use unit_calls::{
@@ -16,7 +16,11 @@ use unit_calls::{
 
 /// Records of 9 bytes, with a prime key and an alternate one.
 fn numbers() -> Result<Schema, Fault> {
-    schema(9, 9, &[part(0, 4, false), part(4, 5, true)])
+    schema(
+        9,
+        9,
+        &[part(0, 4, KeyKind::Prime), part(4, 5, KeyKind::Duplicates)],
+    )
 }
 
 /// Whether a file of these bytes is unsound.

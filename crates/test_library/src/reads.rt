@@ -6,7 +6,7 @@ use crate::checks::{assert_equal, assert_equal_for};
 use indexed_file::{Added, Library};
 use io_state::Fault;
 use memory_shelf::MemShelf;
-use record_layout::Schema;
+use record_layout::{KeyKind, Schema};
 use std::process::Abort;
 use std::test::Fail;
 use unit_calls::{
@@ -21,9 +21,9 @@ const PAIRED: u64 = 400;
 /// Records of 360 bytes: a number, a value that is of one alone, and one that several may have, each a key of 120 bytes.
 fn numbers() -> Result<Schema, Fault> {
     let keys = [
-        part(0, 120, false),
-        part(120, 120, false),
-        part(240, 120, true),
+        part(0, 120, KeyKind::Prime),
+        part(120, 120, KeyKind::Unique),
+        part(240, 120, KeyKind::Duplicates),
     ];
     schema(360, 360, &keys)
 }

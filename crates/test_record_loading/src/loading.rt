@@ -5,7 +5,7 @@ use memory_shelf::MemShelf;
 use page_store::Shelf;
 use progress::{Progress, Silent};
 use record_forms::Form;
-use record_layout::Schema;
+use record_layout::{KeyKind, Schema};
 use record_listing::{Asked, ListEnd, list_records};
 use record_loading::Load;
 use shelf_library::ShelfLibrary;
@@ -23,7 +23,11 @@ fn name() -> FileName {
 
 /// Records of 6 to 8 bytes: a key of four bytes, and a second one of two, which is unique.
 fn codes() -> Result<Schema, Fault> {
-    schema(6, 8, &[part(0, 4, false), part(4, 2, false)])
+    schema(
+        6,
+        8,
+        &[part(0, 4, KeyKind::Prime), part(4, 2, KeyKind::Unique)],
+    )
 }
 
 /// The lines that are told of the end of a load, or that the name has a file.

@@ -3,7 +3,7 @@
 ghost use Rattle.std.specs.Prelude.{◌≤◌, ◌<◌};
 
 use crate::records::{Record, record_of};
-use record_layout::{KeyPart, Schema};
+use record_layout::{KeyKind, KeyPart, Schema};
 
 /// Numbers, one after another, that look as if they were drawn.
 #[derive(Drop)]
@@ -41,22 +41,22 @@ pub const NARROW: [KeyPart; 4] = [
     KeyPart {
         offset: 2,
         length: 3,
-        duplicates: false,
+        kind: KeyKind::Prime,
     },
     KeyPart {
         offset: 5,
         length: 4,
-        duplicates: false,
+        kind: KeyKind::Unique,
     },
     KeyPart {
         offset: 6,
         length: 2,
-        duplicates: true,
+        kind: KeyKind::Duplicates,
     },
     KeyPart {
         offset: 9,
         length: 3,
-        duplicates: true,
+        kind: KeyKind::Duplicates,
     },
 ];
 
@@ -65,21 +65,21 @@ pub const WIDE: [KeyPart; 4] = [
     KeyPart {
         offset: 0,
         length: 250,
-        duplicates: false,
+        kind: KeyKind::Prime,
     },
     KeyPart {
         offset: 250,
         length: 250,
-        duplicates: false,
+        kind: KeyKind::Unique,
     },
     KeyPart {
         offset: 500,
         length: 250,
-        duplicates: true,
+        kind: KeyKind::Duplicates,
     },
     KeyPart {
         offset: 750,
         length: 250,
-        duplicates: true,
+        kind: KeyKind::Duplicates,
     },
 ];

@@ -4,14 +4,14 @@ ghost use Rattle.std.specs.Prelude.{◌≡◌, IfOk, length};
 ghost use Rattle.record_layout.specs.Schema.{schema_of_fields};
 
 use io_state::Fault;
-use record_layout::{KeyPart, Schema};
+use record_layout::{KeyKind, KeyPart, Schema};
 
 /// A part of a record.
-pub fn part(offset: u16, length: u16, duplicates: bool) -> KeyPart {
+pub fn part(offset: u16, length: u16, kind: KeyKind) -> KeyPart {
     KeyPart {
         offset,
         length,
-        duplicates,
+        kind,
     }
 }
 
@@ -27,5 +27,12 @@ pub fn two_long_keys() -> Result<Schema, Fault>
     ensures long { IfOk result (λ schema. schema.greatest ≡ 240) }
     ensures two { IfOk result (λ schema. length schema.keys ≡ 2) }
 {
-    schema(240, 240, &[part(0, 120, false), part(120, 120, true)])
+    schema(
+        240,
+        240,
+        &[
+            part(0, 120, KeyKind::Prime),
+            part(120, 120, KeyKind::Duplicates),
+        ],
+    )
 }

@@ -3,7 +3,7 @@
 ghost use Rattle.std.specs.Prelude.{◌≤◌};
 
 use io_state::Key;
-use record_layout::{KeyPart, Schema};
+use record_layout::{KeyKind, KeyPart, Schema};
 
 /// The number, by which the file is in order.
 pub const NUMBER: u8 = 0;
@@ -23,15 +23,19 @@ pub struct Records {
 
 /// Their schema.
 pub fn schema() -> Option<Schema> {
-    let part = |offset, length, duplicates| KeyPart {
+    let part = |offset, length, kind| KeyPart {
         offset,
         length,
-        duplicates,
+        kind,
     };
     Schema::from_parts(
         100,
         100,
-        &[part(0, 8, false), part(8, 8, false), part(16, 4, true)],
+        &[
+            part(0, 8, KeyKind::Prime),
+            part(8, 8, KeyKind::Unique),
+            part(16, 4, KeyKind::Duplicates),
+        ],
     )
 }
 
