@@ -19,7 +19,7 @@ use Rattle.record_layout.specs.declared.schema.KeyKind.TheVariants.{Prime, Uniqu
 use Rattle.record_layout.specs.declared.schema.KeyPart.{KeyPart}
 use Rattle.record_layout.specs.Schema.{is_duplicates, has_duplicates}
 use Rattle.request_frames.specs.Request.{Described, Performed, Asked, Describing, Performing, Releasing}
-use Rattle.request_frames.specs.Reading.{short_number_in, flag_in, access_in, mode_in, relation_in, statement_in, has_length, performed_by, performed_in, kind_in, key_in, key_and, keys_in, described_from, is_short, described_in, request_in}
+use Rattle.request_frames.specs.Reading.{short_number_in, flag_in, access_in, mode_in, relation_in, statement_in, has_length, performed_by, performed_in, kind_by_flag, key_in, key_and, keys_in, described_from, is_short, described_in, request_in}
 use Rattle.request_frames.specs.Writing.{flag_byte, access_byte, mode_byte, relation_byte, statement_bytes, performed_body, key_row, described_body, request_body, FitsStatement, FitsPerformed, FitsKey, AreFlagged, FitsDescribed, FitsRequest}
 
 number_back : (x : ℕ) → x < 2 ^ 16 → big_number 2 (big_bytes 2 x) ≡ x
@@ -99,24 +99,24 @@ not_true false never = refl
 not_zero : (n : ℕ) → 1 ≤ n → (n == 0) ≡ false
 not_zero n h = not_true (n == 0) (λ e. let zero_is : n ≡ 0 = (Decides-eqb n 0).0 e in omega (arith, h, zero_is))
 
-key_back : (k : ℕ) (key : KeyPart) (rest : List ℕ) → FitsKey key → kind_in k (has_duplicates key) ≡ key.kind → key_in k (key_row key ++ rest) ≡ Some key
+key_back : (k : ℕ) (key : KeyPart) (rest : List ℕ) → FitsKey key → kind_by_flag k (has_duplicates key) ≡ key.kind → key_in k (key_row key ++ rest) ≡ Some key
 key_back k key rest fits kind =
-    ap (option_map (λ duplicates. record { offset = short_number_in (key_row key ++ rest) 0; length = short_number_in (key_row key ++ rest) 2; kind = kind_in k duplicates }))
+    ap (option_map (λ duplicates. record { offset = short_number_in (key_row key ++ rest) 0; length = short_number_in (key_row key ++ rest) 2; kind = kind_by_flag k duplicates }))
     (flag_back (has_duplicates key))
     ∙ λ i. Some (record { offset = number_back key.offset fits.offset i; length = number_back key.length fits.length i; kind = kind i })
 
-first_kind : (kind : KeyKind) → kind ≢ Unique → kind_in 0 (is_duplicates kind) ≡ kind
+first_kind : (kind : KeyKind) → kind ≢ Unique → kind_by_flag 0 (is_duplicates kind) ≡ kind
 first_kind Prime other = refl
 first_kind Unique other = absurd (other refl)
 first_kind Duplicates other = refl
 
-later_kind : (k : ℕ) (kind : KeyKind) → kind ≢ Prime → kind_in (k + 1) (is_duplicates kind) ≡ kind
+later_kind : (k : ℕ) (kind : KeyKind) → kind ≢ Prime → kind_by_flag (k + 1) (is_duplicates kind) ≡ kind
 later_kind k Prime other = absurd (other refl)
 later_kind k Unique other = if_false (k + 1 == 0) Prime Unique (not_zero (k + 1) (omega arith))
 later_kind k Duplicates other = refl
 
 -- one key, and those behind it
-key_on : (k : ℕ) (key : KeyPart) (keys : List KeyPart) (name : List ℕ) → FitsKey key → kind_in k (has_duplicates key) ≡ key.kind
+key_on : (k : ℕ) (key : KeyPart) (keys : List KeyPart) (name : List ℕ) → FitsKey key → kind_by_flag k (has_duplicates key) ≡ key.kind
     → keys_in (k + 1) (length keys) (flat_map key_row keys ++ name) ≡ Some keys → keys_in k (length (key ∷ keys)) (flat_map key_row (key ∷ keys) ++ name) ≡ Some (key ∷ keys)
 key_on k key keys name fits kind later =
     ap (λ (found : Option KeyPart). key_and found (keys_in (k + 1) (length keys) (flat_map key_row keys ++ name))) (key_back k key (flat_map key_row keys ++ name) fits kind)

@@ -91,8 +91,8 @@ performed_in body =
 -- ---- a description
 
 -- the kind of key k: the first key is the prime key, and a flag says whether duplicates are allowed
-abbrev pub kind_in : ℕ → Bool → KeyKind
-kind_in k duplicates = if duplicates then Duplicates else if k == 0 then Prime else Unique
+abbrev pub kind_by_flag : ℕ → Bool → KeyKind
+kind_by_flag k duplicates = if duplicates then Duplicates else if k == 0 then Prime else Unique
 
 -- key k, which a row of five bytes tells
 abbrev pub key_in : ℕ → List ℕ → Option KeyPart
@@ -100,7 +100,7 @@ key_in k row =
     option_map (λ duplicates. record {
       offset = short_number_in row 0;
       length = short_number_in row 2;
-      kind = kind_in k duplicates;
+      kind = kind_by_flag k duplicates;
     }) (flag_in (slice_index row 4))
 
 -- these keys, and then those

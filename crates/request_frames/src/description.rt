@@ -13,7 +13,7 @@
 //! | 9 + 5 k to the end | the file's name in its folder |
 ghost use Rattle.std.specs.Prelude.{◌≡◌, ◌≤◌, ◌*◌, length, option_map};
 ghost use Rattle.request_frames.specs.Request.{described_of};
-ghost use Rattle.request_frames.specs.Reading.{access_in, kind_in, key_in, keys_in, described_in};
+ghost use Rattle.request_frames.specs.Reading.{access_in, kind_by_flag, key_in, keys_in, described_in};
 
 use crate::statement::flag_of;
 use arrayvec::ArrayVec;
@@ -65,8 +65,8 @@ fn access_of(byte: u8) -> Option<Access>
 }
 
 /// The kind of key k, by its flag. A prime key with duplicates makes no schema later on.
-fn kind_of(k: usize, duplicates: bool) -> KeyKind
-    ensures { result ≡ kind_in k duplicates }
+fn kind_by_flag(k: usize, duplicates: bool) -> KeyKind
+    ensures { result ≡ kind_by_flag k duplicates }
 {
     match (k, duplicates) {
         (_, true) => KeyKind::Duplicates,
@@ -83,7 +83,7 @@ fn key_of(k: usize, rows: &[u8]) -> Option<KeyPart>
     Some(KeyPart {
         offset: BigEndian::read_u16(&rows[0..2]),
         length: BigEndian::read_u16(&rows[2..4]),
-        kind: kind_of(k, flag_of(rows[4])?),
+        kind: kind_by_flag(k, flag_of(rows[4])?),
     })
 }
 
