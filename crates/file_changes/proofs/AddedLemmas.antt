@@ -20,6 +20,8 @@ use Rattle.record_heap.specs.declared.shape.Place.{Place}
 use Rattle.record_heap.specs.Chain.{put_slot}
 use Rattle.record_heap.proofs.ChainLemmas.{put_here, put_there}
 use Rattle.key_index.specs.Entries.{with_alt, with_prime, has_rank, has_prime}
+use Rattle.open_file.specs.Fields.{alternates_of, heap_of, next_stamp_of, path_of, prime_index_of}
+use Rattle.open_file.specs.Fields.{file_schema, with_alternates_of, with_heap_of, with_mark, with_prime_of}
 use Rattle.open_file.specs.InOrder.{in_order, alt_entry, alt_entries, prime_entries}
 use Rattle.open_file.specs.Stored.{stored}
 use Rattle.open_file.specs.Parts.{Parts}
@@ -96,38 +98,38 @@ first_free [] d bytes rows are none = absurd are
 first_free (prime ∷ keys) d bytes rows are none =
     ap (λ b. not b && is_there prime bytes rows) (sym (ap is_duplicates are.0)) ∙ or_first (not (has_duplicates prime) && is_there prime bytes rows) (list_any (λ part. not (has_duplicates part) && is_there part bytes rows) keys) none
 
-pub free_prime : (u : OpenFile) (pages : PageMap) (file : File) (bytes : List ℕ) (stands : Stands u pages file) → IsSchema u.schema → clashes u.schema bytes file.rows ≡ false
-    → find (has_prime (prime_of u.schema bytes)) (prime_entries u.schema stands.places file.rows) ≡ None
+pub free_prime : (u : OpenFile) (pages : PageMap) (file : File) (bytes : List ℕ) (stands : Stands u pages file) → IsSchema (file_schema u) → clashes (file_schema u) bytes file.rows ≡ false
+    → find (has_prime (prime_of (file_schema u) bytes)) (prime_entries (file_schema u) stands.places file.rows) ≡ None
 free_prime u pages file bytes stands is clash =
     let d : KeyPart = no_key in
-    none_found _ (sym (there_by_prime u.schema stands.slots (prime_of u.schema bytes) stands.places file.rows stands.placed.rows_at) ∙ first_free u.schema.keys d bytes file.rows is.keys clash)
+    none_found _ (sym (there_by_prime (file_schema u) stands.slots (prime_of (file_schema u) bytes) stands.places file.rows stands.placed.rows_at) ∙ first_free (file_schema u).keys d bytes file.rows is.keys clash)
 
 -- the parts with the new record stand for the file with it
-pub added_stands : (u v : OpenFile) (before after : PageMap) (file : File) (bytes : List ℕ) (place : Place) (stands : Stands u before file) → IsShaped u → u.schema.least ≤ length bytes → length bytes ≤ u.schema.greatest
-    → clashes u.schema bytes file.rows ≡ false → v.schema ≡ u.schema → v.next_stamp ≡ u.next_stamp + 1 → u.next_stamp < 2 ^ 63 → v.path ≡ None → length v.alternates.items ≡ length u.alternates.items
+pub added_stands : (u v : OpenFile) (before after : PageMap) (file : File) (bytes : List ℕ) (place : Place) (stands : Stands u before file) → IsShaped u → (file_schema u).least ≤ length bytes → length bytes ≤ (file_schema u).greatest
+    → clashes (file_schema u) bytes file.rows ≡ false → file_schema v ≡ file_schema u → next_stamp_of v ≡ next_stamp_of u + 1 → next_stamp_of u < 2 ^ 63 → path_of v ≡ None → length (alternates_of v) ≡ length (alternates_of u)
     → stands.slots place ≡ None
-    → Parts v.heap v.prime v.alternates.items after (put_slot stands.slots place (Some (stored u.schema (new_row u.schema u.next_stamp bytes))))
-    (with_prime (record { value = record { items = prime_of u.schema bytes }; place = place }) (prime_entries u.schema stands.places file.rows))
-    (added_below u.schema u.next_stamp bytes (length u.alternates.items) (λ j. alt_entries u.schema (j + 1) file.rows))
-    → Stands v after (added u.schema bytes file)
+    → Parts (heap_of v) (prime_index_of v) (alternates_of v) after (put_slot stands.slots place (Some (stored (file_schema u) (new_row (file_schema u) (next_stamp_of u) bytes))))
+    (with_prime (record { value = record { items = prime_of (file_schema u) bytes }; place = place }) (prime_entries (file_schema u) stands.places file.rows))
+    (added_below (file_schema u) (next_stamp_of u) bytes (length (alternates_of u)) (λ j. alt_entries (file_schema u) (j + 1) file.rows))
+    → Stands v after (added (file_schema u) bytes file)
 added_stands u v before after file bytes place stands shaped least greatest clash schema stamp few path many free parts =
-    let new = new_row u.schema file.next_stamp bytes in
-    let slot = Some (stored u.schema (new_row u.schema u.next_stamp bytes)) in
-    let fit : is_length u.schema (length bytes) ≡ true = and_from _ _ (le-leb _ _ least) (le-leb _ _ greatest) in
-    let sound = added_is_file u.schema bytes file shaped.is_schema stands.sound fit clash in
-    let here = put_here stands.slots place slot ∙ ap (λ s. Some (stored u.schema (new_row u.schema s bytes))) stands.stamp in
-    let placed = placed_with u.schema stands.slots (put_slot stands.slots place slot) new place stands.places file.rows free here (λ p other. put_there stands.slots place p slot other) stands.placed in
-    let parts_said = said_so v.heap v.prime v.alternates.items after (put_slot stands.slots place slot) _ _ parts
-    (prime_entries u.schema (places_with u.schema new place stands.places file.rows) (added u.schema bytes file).rows)
-    (λ j. alt_entries u.schema (j + 1) (added u.schema bytes file).rows)
-    (prime_entries_with u.schema stands.slots new place stands.places file.rows stands.placed.rows_at)
-    (λ j lt. said u.schema file bytes (length u.alternates.items) j shaped.is_schema stands.sound clash shaped.keys (omega (arith, lt, many))
-    ∙ ap (λ s. added_below u.schema s bytes (length u.alternates.items) (λ j. alt_entries u.schema (j + 1) file.rows) j) (sym stands.stamp)) in
+    let new = new_row (file_schema u) file.next_stamp bytes in
+    let slot = Some (stored (file_schema u) (new_row (file_schema u) (next_stamp_of u) bytes)) in
+    let fit : is_length (file_schema u) (length bytes) ≡ true = and_from _ _ (le-leb _ _ least) (le-leb _ _ greatest) in
+    let sound = added_is_file (file_schema u) bytes file shaped.is_schema stands.sound fit clash in
+    let here = put_here stands.slots place slot ∙ ap (λ s. Some (stored (file_schema u) (new_row (file_schema u) s bytes))) stands.stamp in
+    let placed = placed_with (file_schema u) stands.slots (put_slot stands.slots place slot) new place stands.places file.rows free here (λ p other. put_there stands.slots place p slot other) stands.placed in
+    let parts_said = said_so (heap_of v) (prime_index_of v) (alternates_of v) after (put_slot stands.slots place slot) _ _ parts
+    (prime_entries (file_schema u) (places_with (file_schema u) new place stands.places file.rows) (added (file_schema u) bytes file).rows)
+    (λ j. alt_entries (file_schema u) (j + 1) (added (file_schema u) bytes file).rows)
+    (prime_entries_with (file_schema u) stands.slots new place stands.places file.rows stands.placed.rows_at)
+    (λ j lt. said (file_schema u) file bytes (length (alternates_of u)) j shaped.is_schema stands.sound clash shaped.keys (omega (arith, lt, many))
+    ∙ ap (λ s. added_below (file_schema u) s bytes (length (alternates_of u)) (λ j. alt_entries (file_schema u) (j + 1) file.rows) j) (sym stands.stamp)) in
     record {
       sound = rw schema sound;
       stamp = stamp ∙ ap (λ n. n + 1) stands.stamp;
       few = omega (arith, stamp, few);
-      places = places_with u.schema new place stands.places file.rows;
+      places = places_with (file_schema u) new place stands.places file.rows;
       slots = put_slot stands.slots place slot;
       placed = rw schema placed;
       parts = rw schema parts_said;
@@ -135,31 +137,31 @@ added_stands u v before after file bytes place stands shaped least greatest clas
     }
 
 -- a file stands for the same rows whether it is broken or not
-pub broken_or_not : (u : OpenFile) (b : Bool) (pages : PageMap) (file : File) → Stands u pages file → Stands (record u { broken = b }) pages file
+pub broken_or_not : (u : OpenFile) (b : Bool) (pages : PageMap) (file : File) → Stands u pages file → Stands (with_mark b u) pages file
 broken_or_not u b pages file s =
     record { sound = s.sound; stamp = s.stamp; few = s.few; places = s.places; slots = s.slots; placed = s.placed; parts = s.parts; on_path = s.on_path }
 
 -- ---- what the steps leave as it was
 
 pub record Keeps (u v : OpenFile) : Type 0 where
-  pub schema : v.schema ≡ u.schema
-  pub stamp : v.next_stamp ≡ u.next_stamp
-  pub path : v.path ≡ u.path
+  pub schema : file_schema v ≡ file_schema u
+  pub stamp : next_stamp_of v ≡ next_stamp_of u
+  pub path : path_of v ≡ path_of u
 
 pub keeps_on : (u v w : OpenFile) → Keeps u v → Keeps v w → Keeps u w
 keeps_on u v w one two = record { schema = two.schema ∙ one.schema; stamp = two.stamp ∙ one.stamp; path = two.path ∙ one.path }
 
-pub but_heap : (u v : OpenFile) → v ≡ record u { heap = v.heap } → Keeps u v × (v.prime ≡ u.prime) × (v.alternates.items ≡ u.alternates.items)
+pub but_heap : (u v : OpenFile) → v ≡ with_heap_of v u → Keeps u v × (prime_index_of v ≡ prime_index_of u) × (alternates_of v ≡ alternates_of u)
 but_heap u v rest = (
-  record { schema = ap (λ (o : OpenFile). o.schema) rest; stamp = ap (λ (o : OpenFile). o.next_stamp) rest; path = ap (λ (o : OpenFile). o.path) rest },
-  ap (λ (o : OpenFile). o.prime) rest,
-  ap (λ (o : OpenFile). o.alternates.items) rest,
+  record { schema = ap file_schema rest; stamp = ap next_stamp_of rest; path = ap path_of rest },
+  ap prime_index_of rest,
+  ap alternates_of rest,
 )
 
-pub but_prime : (u v : OpenFile) → v ≡ record u { prime = v.prime } → Keeps u v × (v.alternates.items ≡ u.alternates.items)
+pub but_prime : (u v : OpenFile) → v ≡ with_prime_of v u → Keeps u v × (alternates_of v ≡ alternates_of u)
 but_prime u v rest =
-    (record { schema = ap (λ (o : OpenFile). o.schema) rest; stamp = ap (λ (o : OpenFile). o.next_stamp) rest; path = ap (λ (o : OpenFile). o.path) rest }, ap (λ (o : OpenFile). o.alternates.items) rest)
+    (record { schema = ap file_schema rest; stamp = ap next_stamp_of rest; path = ap path_of rest }, ap alternates_of rest)
 
-pub but_alternates : (u v : OpenFile) → v ≡ record u { alternates = v.alternates } → Keeps u v
+pub but_alternates : (u v : OpenFile) → v ≡ with_alternates_of v u → Keeps u v
 but_alternates u v rest =
-    record { schema = ap (λ (o : OpenFile). o.schema) rest; stamp = ap (λ (o : OpenFile). o.next_stamp) rest; path = ap (λ (o : OpenFile). o.path) rest }
+    record { schema = ap file_schema rest; stamp = ap next_stamp_of rest; path = ap path_of rest }

@@ -10,6 +10,7 @@ use Rattle.indexed_file.specs.declared.answer.Replaced.{Replaced}
 use Rattle.record_layout.specs.Schema.{prime_of}
 use Rattle.pages.specs.Cause.{IsCaused}
 use Rattle.pages.specs.ShownPages.{ShownPages}
+use Rattle.open_file.specs.Fields.{alternates_of, has_broken, file_schema, with_mark}
 use Rattle.open_file.specs.Stands.{Stands, IsShaped, heights_of, room_of}
 use Rattle.indexed_file.specs.Room.{most_to_change}
 use Rattle.file_changes.specs.Adding.{index_levels}
@@ -32,7 +33,7 @@ no_fault : {X : Type 0} (x : X) → ◌≡◌ {A = Result X Fault} (Ok x) (Err F
 no_fault x is = cc
 
 -- what is kept, of the parts that were left
-pub kept : {S : Type 0} (shown : ShownPages S) (before after : FileInPages S) → after.file.schema ≡ before.file.schema → shown.IsReady after.pages → IsShaped after.file → shown.Begins before.pages after.pages
+pub kept : {S : Type 0} (shown : ShownPages S) (before after : FileInPages S) → file_schema after.file ≡ file_schema before.file → shown.IsReady after.pages → IsShaped after.file → shown.Begins before.pages after.pages
     → (shown.state after.pages).asked ≤ (shown.state before.pages).asked + most_to_change (room_of before.file (shown.state before.pages).available) → KeepsFile (shown_in shown) before after
 kept shown before after schema ready shaped begins asked = record { schema = schema; ready = record { pages = ready; shaped = shaped }; begins = begins; asked = asked }
 
@@ -106,6 +107,10 @@ module _ {S X : Type 0} (shown : ShownPages S) (change : FileChange X) (before a
 
 -- ---- the file is marked as broken, or is not
 
+-- it was not broken, and the change has not marked it
+pub mark_is : (was now answered : Bool) → was ≡ false → now ≡ was → (now || not answered) ≡ not answered
+mark_is was now answered whole kept = rw (kept ∙ whole) refl
+
 is_unmarked : {X : Type 0} (fault : Fault) → ◌≡◌ {A = Result X Fault} (Err fault) (Err Full) → not (is_answered {X = X} (Err fault)) ≡ false
 is_unmarked Device same = absurd (cc)
 is_unmarked Memory same = absurd (cc)
@@ -120,15 +125,15 @@ is_marked X Full other = absurd (other refl)
 is_marked X Damage other = refl
 is_marked X Broken other = refl
 
-module _ {S : Type 0} (shown : ShownPages S) (before : FileInPages S) (file : OpenFile) (pages : S) (flag : Bool) (whole : before.file.broken ≡ false) where
+module _ {S : Type 0} (shown : ShownPages S) (before : FileInPages S) (file : OpenFile) (pages : S) (flag : Bool) (whole : has_broken before.file ≡ false) where
   abbrev marked : FileInPages S
-  marked = in_pages (record file { broken = flag }) pages
+  marked = in_pages (with_mark flag file) pages
 
   keeps_marked : KeepsFile (shown_in shown) before (in_pages file pages) → KeepsFile (shown_in shown) before marked
   keeps_marked keeps = record { schema = keeps.schema; ready = record { pages = keeps.ready.pages; shaped = keeps.ready.shaped }; begins = keeps.begins; asked = keeps.asked }
 
-  same_marked : file ≡ before.file → flag ≡ false → record file { broken = flag } ≡ before.file
-  same_marked same works = λ i. record (same i) { broken = (works ∙ sym whole) i }
+  same_marked : file ≡ before.file → flag ≡ false → with_mark flag file ≡ before.file
+  same_marked same works = λ i. with_mark ((works ∙ sym whole) i) (same i)
 
   pub changes_marked : {X : Type 0} (change : FileChange X) (r : Result X Fault) → flag ≡ not (is_answered r) → Changes (shown_in shown) change before (in_pages file pages) r → Changes (shown_in shown) change before marked r
   changes_marked change (Ok x) is changes = record {
@@ -170,7 +175,7 @@ pub broken_changes : {S X : Type 0} (shown : ShownPages S) (change : FileChange 
     → Changes (shown_in shown) change held held (Err Broken)
 broken_changes shown change held keeps = stopped shown change held held (Err Broken) Broken refl (λ same. cc) (λ honest sound file stands same. cc) keeps
 
-pub broken_breaks : {S X : Type 0} (shown : ShownPages S) (held : FileInPages S) → held.file.broken ≡ true → (takes_pages : Bool) → shown.Reads held.pages held.pages
+pub broken_breaks : {S X : Type 0} (shown : ShownPages S) (held : FileInPages S) → has_broken held.file ≡ true → (takes_pages : Bool) → shown.Reads held.pages held.pages
     → MayBreak {X = X} (shown_in shown) takes_pages held held (Err Broken)
 broken_breaks shown held broken takes reads = record {
   broken = λ is. (refl, (refl, reads));
@@ -181,9 +186,9 @@ broken_breaks shown held broken takes reads = record {
 
 -- ---- a record whose row was found
 
-pub found_kept : {S : Type 0} (shown : ShownPages S) (before after : FileInPages S) → after.file.schema ≡ before.file.schema → after.file.broken ≡ before.file.broken → IsShaped after.file
+pub found_kept : {S : Type 0} (shown : ShownPages S) (before after : FileInPages S) → file_schema after.file ≡ file_schema before.file → has_broken after.file ≡ has_broken before.file → IsShaped after.file
     → shown.Begins before.pages after.pages
-    → (shown.state after.pages).asked ≤ (shown.state before.pages).asked + 2 * sum_by (λ height. height) (heights_of before.file) + 1 + 16 * index_levels before.file.alternates.items
+    → (shown.state after.pages).asked ≤ (shown.state before.pages).asked + 2 * sum_by (λ height. height) (heights_of before.file) + 1 + 16 * index_levels (alternates_of before.file)
     → KeepsFound shown before after
 found_kept shown before after schema broken shaped begins asked = record { schema = schema; broken = broken; shaped = shaped; begins = begins; asked = asked }
 
@@ -191,7 +196,7 @@ module _ {S : Type 0} (shown : ShownPages S) (old : OldRecord) (was bytes : List
   -- a fault other than Full
   pub found_stopped : (r : Result Replaced Fault) (fault : Fault) → IsErrAnd r (λ e. e ≡ fault) → fault ≢ Full
       → (IsTrue (shown.state after.pages).is_honest → IsTrue (shown.state before.pages).is_sound → (file : File) (stands : Stands before.file (shown.state before.pages).live file)
-      → IsFoundIn stands (prime_of before.file.schema bytes) old was → fault ≢ Damage)
+      → IsFoundIn stands (prime_of (file_schema before.file) bytes) old was → fault ≢ Damage)
       → KeepsFound shown before after → ReplacesFound shown old was bytes before after r
   found_stopped r fault is other undamaged keeps =
       let p = err_from_is_err_and r is in

@@ -12,6 +12,7 @@ use Rattle.pages.specs.PageMap.{PageMap}
 use Rattle.key_index.specs.declared.alt_index.AltIndex.{AltIndex}
 use Rattle.key_index.specs.Standing.{prime_height, alt_height}
 use Rattle.file_changes.specs.Adding.{index_levels}
+use Rattle.open_file.specs.Fields.{alternates_of, next_stamp_of, prime_index_of, file_schema}
 use Rattle.open_file.specs.Stands.{Stands, IsShaped, room_of}
 use Rattle.file_changes.specs.Replacing.{need_in_indexes, is_full_for}
 use Rattle.open_file.specs.declared.open_file.OpenFile.{OpenFile}
@@ -26,16 +27,16 @@ need_but_prime (part ∷ parts) d old new height heights some same =
     let none : 0 + need_of_changed parts old new heights ≡ need_of_changed parts old new heights = omega arith in
     ap (λ b. (if b then 0 else height + 1) + need_of_changed parts old new heights) same ∙ none
 
-pub full_is : (u : OpenFile) (pages : PageMap) (bytes : List ℕ) (file : File) (old : Row) (available : ℕ) → Stands u pages file → IsShaped u → row_of u.schema (prime_of u.schema bytes) file ≡ Some old
-    → is_full_to_replace (room_of u available) u.schema bytes file ≡ is_full_for u available old.bytes bytes
+pub full_is : (u : OpenFile) (pages : PageMap) (bytes : List ℕ) (file : File) (old : Row) (available : ℕ) → Stands u pages file → IsShaped u → row_of (file_schema u) (prime_of (file_schema u) bytes) file ≡ Some old
+    → is_full_to_replace (room_of u available) (file_schema u) bytes file ≡ is_full_for u available old.bytes bytes
 full_is u pages bytes file old available stands shaped is =
-    let one = is_one u.schema file (prime_of u.schema bytes) old stands.sound is in
+    let one = is_one (file_schema u) file (prime_of (file_schema u) bytes) old stands.sound is in
     let d : KeyPart = no_key in
-    let some : 0 < length u.schema.keys = omega (arith, shaped.keys) in
-    let need = need_but_prime u.schema.keys d old.bytes bytes (prime_height u.prime) (map alt_height u.alternates.items) some one.has in
-    ap (is_full_at (room_of u available) u.schema bytes file) is
-    ∙ ap (λ n. nat_lt available n || (takes_stamp u.schema old.bytes bytes && nat_le (2 ^ 63) file.next_stamp)) need
-    ∙ ap (λ s. nat_lt available (need_in_indexes u.schema old.bytes bytes u.alternates.items) || (takes_stamp u.schema old.bytes bytes && nat_le (2 ^ 63) s)) (sym stands.stamp)
+    let some : 0 < length (file_schema u).keys = omega (arith, shaped.keys) in
+    let need = need_but_prime (file_schema u).keys d old.bytes bytes (prime_height (prime_index_of u)) (map alt_height (alternates_of u)) some one.has in
+    ap (is_full_at (room_of u available) (file_schema u) bytes file) is
+    ∙ ap (λ n. nat_lt available n || (takes_stamp (file_schema u) old.bytes bytes && nat_le (2 ^ 63) file.next_stamp)) need
+    ∙ ap (λ s. nat_lt available (need_in_indexes (file_schema u) old.bytes bytes (alternates_of u)) || (takes_stamp (file_schema u) old.bytes bytes && nat_le (2 ^ 63) s)) (sym stands.stamp)
 
 enough : (available need : ℕ) (other : Bool) → (nat_lt available need || other) ≡ false → need ≤ available
 enough available need other none = either (nat_lt available need) (need ≤ available) (λ yes. absurd (differ (sym (ap (λ b. b || other) yes) ∙ none))) (λ no. grind (arith, common_steps))
@@ -52,11 +53,11 @@ limited false true stamp none yes' = below stamp none
 limited false false stamp none yes' = absurd (cc)
 
 -- where the test fails, there is room, and a stamp where one is taken
-pub room_is : (u : OpenFile) (available : ℕ) (old new : List ℕ) → is_full_for u available old new ≡ false → need_in_indexes u.schema old new u.alternates.items ≤ available
-room_is u available old new none = enough available (need_in_indexes u.schema old new u.alternates.items) (takes_stamp u.schema old new && nat_le (2 ^ 63) u.next_stamp) none
+pub room_is : (u : OpenFile) (available : ℕ) (old new : List ℕ) → is_full_for u available old new ≡ false → need_in_indexes (file_schema u) old new (alternates_of u) ≤ available
+room_is u available old new none = enough available (need_in_indexes (file_schema u) old new (alternates_of u)) (takes_stamp (file_schema u) old new && nat_le (2 ^ 63) (next_stamp_of u)) none
 
-pub stamp_is : (u : OpenFile) (available : ℕ) (old new : List ℕ) → is_full_for u available old new ≡ false → takes_stamp u.schema old new ≡ true → u.next_stamp < 2 ^ 63
-stamp_is u available old new none taken = limited (nat_lt available (need_in_indexes u.schema old new u.alternates.items)) (takes_stamp u.schema old new) u.next_stamp none taken
+pub stamp_is : (u : OpenFile) (available : ℕ) (old new : List ℕ) → is_full_for u available old new ≡ false → takes_stamp (file_schema u) old new ≡ true → next_stamp_of u < 2 ^ 63
+stamp_is u available old new none taken = limited (nat_lt available (need_in_indexes (file_schema u) old new (alternates_of u))) (takes_stamp (file_schema u) old new) (next_stamp_of u) none taken
 
 -- no more pages are needed than the trees have levels, with one more of each
 need_few : (parts : List KeyPart) (old new : List ℕ) (indexes : List AltIndex) → need_of_changed parts old new (map alt_height indexes) ≤ index_levels indexes
@@ -69,5 +70,5 @@ need_few (part ∷ parts) old new (index ∷ indexes) =
     (λ yes. rw yes (omega (arith, rest, levels)))
     (λ no. rw no (omega (arith, rest, levels)))
 
-pub need_within : (u : OpenFile) (old new : List ℕ) → need_in_indexes u.schema old new u.alternates.items ≤ index_levels u.alternates.items
-need_within u old new = need_few (drop 1 u.schema.keys) old new u.alternates.items
+pub need_within : (u : OpenFile) (old new : List ℕ) → need_in_indexes (file_schema u) old new (alternates_of u) ≤ index_levels (alternates_of u)
+need_within u old new = need_few (drop 1 (file_schema u).keys) old new (alternates_of u)

@@ -14,6 +14,8 @@ use Rattle.key_index.specs.declared.entry.PrimeEntry.{PrimeEntry}
 use Rattle.key_index.specs.Entries.{without_prime}
 use Rattle.record_heap.specs.declared.shape.Place.{Place}
 use Rattle.record_heap.specs.Chain.{put_slot}
+use Rattle.open_file.specs.Fields.{alternates_of, heap_of, next_stamp_of, path_of, prime_index_of}
+use Rattle.open_file.specs.Fields.{file_schema, with_parts_of, without_path}
 use Rattle.open_file.specs.InOrder.{alt_entries, prime_entries}
 use Rattle.open_file.specs.Parts.{Parts}
 use Rattle.open_file.specs.Stands.{Stands, IsShaped}
@@ -56,45 +58,45 @@ some_place (Some e) place leads = refl
 
 -- the parts of a file have each of its rows
 pub has_row : (u : OpenFile) (pages : PageMap) (file : File) (prime : List ℕ) (place : Place) (row : Row) (stands : Stands u pages file)
-    → IsOldAt u.schema stands.slots (prime_entries u.schema stands.places file.rows) file prime place row
-    → HasRowAndEntries u.schema row place (length u.alternates.items) stands.slots (prime_entries u.schema stands.places file.rows) (λ j. alt_entries u.schema (j + 1) file.rows)
+    → IsOldAt (file_schema u) stands.slots (prime_entries (file_schema u) stands.places file.rows) file prime place row
+    → HasRowAndEntries (file_schema u) row place (length (alternates_of u)) stands.slots (prime_entries (file_schema u) stands.places file.rows) (λ j. alt_entries (file_schema u) (j + 1) file.rows)
 has_row u pages file prime place row stands at =
-    let one = is_one u.schema file prime row stands.sound at.is_row in
+    let one = is_one (file_schema u) file prime row stands.sound at.is_row in
     record {
       in_heap = ap is_some at.here;
       in_prime = rw one.same (some_place _ place at.leads);
-      in_alternates = λ j lt. entry_there u.schema (j + 1) prime row file.rows one.first;
+      in_alternates = λ j lt. entry_there (file_schema u) (j + 1) prime row file.rows one.first;
     }
 
 pub lt_is : (j n : ℕ) → j < n → nat_lt j n ≡ true
 lt_is j n lt = grind (arith, common_steps)
 
 -- as many as before
-pub same_many : (u v : OpenFile) → IsShaped u → IsShaped v → v.schema ≡ u.schema → length v.alternates.items ≡ length u.alternates.items
+pub same_many : (u v : OpenFile) → IsShaped u → IsShaped v → file_schema v ≡ file_schema u → length (alternates_of v) ≡ length (alternates_of u)
 same_many u v one two same = let l = ap (λ (s : Schema). length s.keys) same in omega (arith, l, one.keys, two.keys)
 
 -- the parts without the row stand for the file without it
 pub removed_stands : (u v : OpenFile) (before after : PageMap) (file : File) (prime : List ℕ) (place : Place) (row : Row) (stands : Stands u before file) → IsShaped u
-    → IsOldAt u.schema stands.slots (prime_entries u.schema stands.places file.rows) file prime place row
-    → v.schema ≡ u.schema → v.next_stamp ≡ u.next_stamp → v.path ≡ None → length v.alternates.items ≡ length u.alternates.items
-    → Parts v.heap v.prime v.alternates.items after (put_slot stands.slots place None) (without_prime (prime_of u.schema row.bytes) (prime_entries u.schema stands.places file.rows))
-    (without_below u.schema row (length u.alternates.items) (λ j. alt_entries u.schema (j + 1) file.rows))
-    → Stands v after (removed u.schema prime file)
+    → IsOldAt (file_schema u) stands.slots (prime_entries (file_schema u) stands.places file.rows) file prime place row
+    → file_schema v ≡ file_schema u → next_stamp_of v ≡ next_stamp_of u → path_of v ≡ None → length (alternates_of v) ≡ length (alternates_of u)
+    → Parts (heap_of v) (prime_index_of v) (alternates_of v) after (put_slot stands.slots place None) (without_prime (prime_of (file_schema u) row.bytes) (prime_entries (file_schema u) stands.places file.rows))
+    (without_below (file_schema u) row (length (alternates_of u)) (λ j. alt_entries (file_schema u) (j + 1) file.rows))
+    → Stands v after (removed (file_schema u) prime file)
 removed_stands u v before after file prime place row stands shaped at schema stamp path many parts =
-    let one = is_one u.schema file prime row stands.sound at.is_row in
-    let rows = file_rows u.schema file stands.sound in
-    let left = places_left u.schema prime stands.places file.rows in
-    let placed = placed_left u.schema stands.slots file.next_stamp prime row place stands.places file.rows one.fit one.has at.here at.leads rows stands.placed in
-    let first : prime_entries u.schema left (others u.schema prime file) ≡ without_prime (prime_of u.schema row.bytes) (prime_entries u.schema stands.places file.rows) =
-    sym (prime_entries_left u.schema stands.slots prime stands.places file.rows stands.placed.rows_at) ∙ ap (λ p. without_prime p (prime_entries u.schema stands.places file.rows)) (sym one.same) in
-    let said = said_so v.heap v.prime v.alternates.items after (put_slot stands.slots place None) _ _ parts (prime_entries u.schema left (others u.schema prime file))
-    (λ j. alt_entries u.schema (j + 1) (others u.schema prime file)) first
+    let one = is_one (file_schema u) file prime row stands.sound at.is_row in
+    let rows = file_rows (file_schema u) file stands.sound in
+    let left = places_left (file_schema u) prime stands.places file.rows in
+    let placed = placed_left (file_schema u) stands.slots file.next_stamp prime row place stands.places file.rows one.fit one.has at.here at.leads rows stands.placed in
+    let first : prime_entries (file_schema u) left (others (file_schema u) prime file) ≡ without_prime (prime_of (file_schema u) row.bytes) (prime_entries (file_schema u) stands.places file.rows) =
+    sym (prime_entries_left (file_schema u) stands.slots prime stands.places file.rows stands.placed.rows_at) ∙ ap (λ p. without_prime p (prime_entries (file_schema u) stands.places file.rows)) (sym one.same) in
+    let said = said_so (heap_of v) (prime_index_of v) (alternates_of v) after (put_slot stands.slots place None) _ _ parts (prime_entries (file_schema u) left (others (file_schema u) prime file))
+    (λ j. alt_entries (file_schema u) (j + 1) (others (file_schema u) prime file)) first
     (λ j lt.
-    let within : j < length u.alternates.items = omega (arith, lt, many) in
-    let key : j + 1 < length u.schema.keys = omega (arith, within, shaped.keys) in
-    sym (rw (lt_is j (length u.alternates.items) within) (entries_left u.schema file.next_stamp (j + 1) prime row file.rows key rows one.first))) in
+    let within : j < length (alternates_of u) = omega (arith, lt, many) in
+    let key : j + 1 < length (file_schema u).keys = omega (arith, within, shaped.keys) in
+    sym (rw (lt_is j (length (alternates_of u)) within) (entries_left (file_schema u) file.next_stamp (j + 1) prime row file.rows key rows one.first))) in
     record {
-      sound = rw schema (removed_is_file u.schema prime file stands.sound);
+      sound = rw schema (removed_is_file (file_schema u) prime file stands.sound);
       stamp = stamp ∙ stands.stamp;
       few = rw stamp stands.few;
       places = left;
@@ -106,15 +108,15 @@ removed_stands u v before after file prime place row stands shaped at schema sta
 
 -- the record was there, and is removed
 pub has_removed : (u v : OpenFile) (before after : PageMap) (is_sound : Type 0) (file : File) (prime : List ℕ) (place : Place) (row : Row) (stands : Stands u before file) → IsShaped u → IsShaped v
-    → IsOldAt u.schema stands.slots (prime_entries u.schema stands.places file.rows) file prime place row
-    → v ≡ record u { heap = v.heap; prime = v.prime; alternates = v.alternates; path = None }
-    → Parts v.heap v.prime v.alternates.items after (put_slot stands.slots place None) (without_prime (prime_of u.schema row.bytes) (prime_entries u.schema stands.places file.rows))
-    (without_below u.schema row (length u.alternates.items) (λ j. alt_entries u.schema (j + 1) file.rows)) × is_sound
-    → HasChanged (Stands v after) is_sound (removal u.schema prime) file true
+    → IsOldAt (file_schema u) stands.slots (prime_entries (file_schema u) stands.places file.rows) file prime place row
+    → v ≡ with_parts_of v (without_path u)
+    → Parts (heap_of v) (prime_index_of v) (alternates_of v) after (put_slot stands.slots place None) (without_prime (prime_of (file_schema u) row.bytes) (prime_entries (file_schema u) stands.places file.rows))
+    (without_below (file_schema u) row (length (alternates_of u)) (λ j. alt_entries (file_schema u) (j + 1) file.rows)) × is_sound
+    → HasChanged (Stands v after) is_sound (removal (file_schema u) prime) file true
 has_removed u v before after is_sound file prime place row stands one two at rest parts =
-    let schema = ap (λ (o : OpenFile). o.schema) rest in
-    let stamp = ap (λ (o : OpenFile). o.next_stamp) rest in
-    let path = ap (λ (o : OpenFile). o.path) rest in
+    let schema = ap file_schema rest in
+    let stamp = ap next_stamp_of rest in
+    let path = ap path_of rest in
     record {
       answers = sym (ap is_some at.is_row);
       stands = rw at.is_row (removed_stands u v before after file prime place row stands one at schema stamp path (same_many u v one two schema) parts.0);
@@ -122,8 +124,8 @@ has_removed u v before after is_sound file prime place row stands one two at res
     }
 
 -- there was none
-pub none_removed : (u : OpenFile) (before after : PageMap) (is_sound : Type 0) (file : File) (prime : List ℕ) → Stands u before file → after ≡ before → row_of u.schema prime file ≡ None → is_sound
-    → HasChanged (Stands u after) is_sound (removal u.schema prime) file false
+pub none_removed : (u : OpenFile) (before after : PageMap) (is_sound : Type 0) (file : File) (prime : List ℕ) → Stands u before file → after ≡ before → row_of (file_schema u) prime file ≡ None → is_sound
+    → HasChanged (Stands u after) is_sound (removal (file_schema u) prime) file false
 none_removed u before after is_sound file prime stands same none sound = record {
   answers = sym (ap is_some none);
   stands = rw none (subst (λ p. Stands u p file) (sym same) stands);

@@ -1,6 +1,6 @@
 -- An open file in whose parts a record took the place of another stands for the file with it.
 use Rattle.std.proofs.Common.{◌≡◌, ◌≢◌, ℕ, ◌+◌, ◌^◌, ◌≤◌, ◌<◌, Bool, true, false, not, ◌&&◌, List, length, Some, None, refl, ap, sym, subst, ◌∙◌, arith}
-use Rattle.std.specs.Prelude.{find, is_some, if◌then◌else◌}
+use Rattle.std.specs.Prelude.{find, is_some, if◌then◌else◌, Option}
 use Rattle.std.proofs.lemmas.Bool.{and_from, le-leb}
 use Rattle.record_layout.specs.Schema.{Schema, key_at, prime_of, value_of, has_duplicates}
 use Rattle.indexed_file.specs.File.{Row, File, stamp_of}
@@ -13,10 +13,15 @@ use Rattle.indexed_file.specs.declared.answer.Replaced.TheVariants.{Done, Clash,
 use Rattle.indexed_file.proofs.SoundLemmas.{replaced_is_file}
 use Rattle.indexed_file.proofs.RowLemmas.{row_parts}
 use Rattle.pages.specs.PageMap.{PageMap}
+use Rattle.key_index.specs.declared.alt_index.AltIndex.{AltIndex}
 use Rattle.key_index.specs.declared.entry.AltEntry.{AltEntry}
+use Rattle.key_index.specs.declared.entry.PrimeEntry.{PrimeEntry}
+use Rattle.key_index.specs.declared.prime_index.PrimeIndex.{PrimeIndex}
 use Rattle.key_index.specs.Entries.{has_rank, with_alt}
 use Rattle.record_heap.specs.declared.shape.Place.{Place}
 use Rattle.record_heap.specs.Chain.{put_slot}
+use Rattle.open_file.specs.Fields.{alternates_of, heap_of, next_stamp_of, path_of, prime_index_of}
+use Rattle.open_file.specs.Fields.{file_schema, with_alternates_of, with_next_stamp, without_path}
 use Rattle.open_file.specs.InOrder.{alt_entry, alt_entries, prime_entries}
 use Rattle.open_file.specs.Stored.{stored}
 use Rattle.file_changes.specs.Adding.{entry_of_record, stamp_in}
@@ -26,7 +31,9 @@ use Rattle.file_changes.specs.Old.{IsOldAt}
 use Rattle.indexed_file.specs.FileChange.{replacement}
 use Rattle.file_changes.specs.Changes.{HasChanged}
 use Rattle.file_changes.specs.Replacing.{stays, changed_in, changed_below, AreFreed, CanPutOver, next_after}
+use Rattle.open_file.specs.Paths.{IsOnPath}
 use Rattle.open_file.specs.declared.open_file.OpenFile.{OpenFile}
+use Rattle.open_file.specs.declared.path.Path.{Path}
 use Rattle.open_file.proofs.OrderLemmas.{either}
 use Rattle.open_file.proofs.FirstLemmas.{same_bytes}
 use Rattle.open_file.proofs.PartsLemmas.{said_so, from_eq}
@@ -89,16 +96,16 @@ pub record IsChange (schema : Schema) (bytes : List ℕ) (file : File) (old : Ro
   pub sound : is_file schema (replaced schema bytes old file) ≡ true
   pub found : find (has_value schema 0 (prime_of schema bytes)) (replaced schema bytes old file).rows ≡ Some (changed_row schema file.next_stamp bytes old)
 
-pub is_change : (u : OpenFile) (bytes : List ℕ) (file : File) (old : Row) → IsShaped u → is_file u.schema file ≡ true → u.schema.least ≤ length bytes → length bytes ≤ u.schema.greatest
-    → row_of u.schema (prime_of u.schema bytes) file ≡ Some old → clashes_with_others u.schema bytes file ≡ false → IsChange u.schema bytes file old
+pub is_change : (u : OpenFile) (bytes : List ℕ) (file : File) (old : Row) → IsShaped u → is_file (file_schema u) file ≡ true → (file_schema u).least ≤ length bytes → length bytes ≤ (file_schema u).greatest
+    → row_of (file_schema u) (prime_of (file_schema u) bytes) file ≡ Some old → clashes_with_others (file_schema u) bytes file ≡ false → IsChange (file_schema u) bytes file old
 is_change u bytes file old shaped sound least greatest is clash =
-    let fit : is_length u.schema (length bytes) ≡ true = and_from _ _ (le-leb _ _ least) (le-leb _ _ greatest) in
-    let one = is_one u.schema file (prime_of u.schema bytes) old sound is in
+    let fit : is_length (file_schema u) (length bytes) ≡ true = and_from _ _ (le-leb _ _ least) (le-leb _ _ greatest) in
+    let one = is_one (file_schema u) file (prime_of (file_schema u) bytes) old sound is in
     record {
       one = one;
-      rows = file_rows u.schema file sound;
-      sound = replaced_is_file u.schema bytes old file shaped.is_schema sound fit is clash;
-      found = found_renewed u.schema file.next_stamp bytes old file.rows one.first;
+      rows = file_rows (file_schema u) file sound;
+      sound = replaced_is_file (file_schema u) bytes old file shaped.is_schema sound fit is clash;
+      found = found_renewed (file_schema u) file.next_stamp bytes old file.rows one.first;
     }
 
 -- no other row has the new value and stamp
@@ -133,66 +140,71 @@ change_said schema bytes file old j lt change =
 
 -- the parts of a file can take the record in the place of its row
 pub can_put_over : (u : OpenFile) (pages : PageMap) (bytes : List ℕ) (file : File) (place : Place) (old : Row) (stands : Stands u pages file) → IsShaped u
-    → IsOldAt u.schema stands.slots (prime_entries u.schema stands.places file.rows) file (prime_of u.schema bytes) place old → IsChange u.schema bytes file old
-    → CanPutOver u.schema u.next_stamp old bytes place (length u.alternates.items) stands.slots (λ j. alt_entries u.schema (j + 1) file.rows)
+    → IsOldAt (file_schema u) stands.slots (prime_entries (file_schema u) stands.places file.rows) file (prime_of (file_schema u) bytes) place old → IsChange (file_schema u) bytes file old
+    → CanPutOver (file_schema u) (next_stamp_of u) old bytes place (length (alternates_of u)) stands.slots (λ j. alt_entries (file_schema u) (j + 1) file.rows)
 can_put_over u pages bytes file place old stands shaped at change = record {
   in_heap = ap is_some at.here;
-  there = λ j lt. entry_there u.schema (j + 1) (prime_of u.schema bytes) old file.rows change.one.first;
-  freed = subst (λ s. AreFreed u.schema s old bytes (length u.alternates.items) (λ j. alt_entries u.schema (j + 1) file.rows)) (sym stands.stamp)
-      (change_freed u.schema bytes file old (length u.alternates.items) shaped.keys change);
+  there = λ j lt. entry_there (file_schema u) (j + 1) (prime_of (file_schema u) bytes) old file.rows change.one.first;
+  freed = subst (λ s. AreFreed (file_schema u) s old bytes (length (alternates_of u)) (λ j. alt_entries (file_schema u) (j + 1) file.rows)) (sym stands.stamp)
+      (change_freed (file_schema u) bytes file old (length (alternates_of u)) shaped.keys change);
 }
 
 next_few : (takes : Bool) (now : ℕ) → now ≤ 2 ^ 63 → (takes ≡ true → now < 2 ^ 63) → (if takes then now + 1 else now) ≤ 2 ^ 63
 next_few true now few limit = omega (arith, limit refl)
 next_few false now few limit = few
 
+-- where no path is kept, there is none to be on
+none_on_path : (prime : PrimeIndex) (alternates : List AltIndex) (pages : PageMap) (primes : List PrimeEntry) (entries : ℕ → List AltEntry)
+    (owns : List (List ℕ)) (path : Option Path) → path ≡ None → IsOnPath path prime alternates pages primes entries owns
+none_on_path prime alternates pages primes entries owns path none = rw none tt
+
 -- the parts with the record stand for the file with it
 pub replaced_stands : (u v : OpenFile) (before after : PageMap) (bytes : List ℕ) (file : File) (place : Place) (old : Row) (stands : Stands u before file) → IsShaped u
-    → IsOldAt u.schema stands.slots (prime_entries u.schema stands.places file.rows) file (prime_of u.schema bytes) place old → IsChange u.schema bytes file old
-    → (takes_stamp u.schema old.bytes bytes ≡ true → u.next_stamp < 2 ^ 63)
-    → v.schema ≡ u.schema → v.next_stamp ≡ next_after u.schema u.next_stamp old.bytes bytes → v.path ≡ None → length v.alternates.items ≡ length u.alternates.items
-    → Parts v.heap v.prime v.alternates.items after (put_slot stands.slots place (Some (stored u.schema (changed_row u.schema u.next_stamp bytes old)))) (prime_entries u.schema stands.places file.rows)
-    (changed_below u.schema u.next_stamp old bytes (length u.alternates.items) (λ j. alt_entries u.schema (j + 1) file.rows))
-    → Stands v after (replaced u.schema bytes old file)
+    → IsOldAt (file_schema u) stands.slots (prime_entries (file_schema u) stands.places file.rows) file (prime_of (file_schema u) bytes) place old → IsChange (file_schema u) bytes file old
+    → (takes_stamp (file_schema u) old.bytes bytes ≡ true → next_stamp_of u < 2 ^ 63)
+    → file_schema v ≡ file_schema u → next_stamp_of v ≡ next_after (file_schema u) (next_stamp_of u) old.bytes bytes → path_of v ≡ None → length (alternates_of v) ≡ length (alternates_of u)
+    → Parts (heap_of v) (prime_index_of v) (alternates_of v) after (put_slot stands.slots place (Some (stored (file_schema u) (changed_row (file_schema u) (next_stamp_of u) bytes old)))) (prime_entries (file_schema u) stands.places file.rows)
+    (changed_below (file_schema u) (next_stamp_of u) old bytes (length (alternates_of u)) (λ j. alt_entries (file_schema u) (j + 1) file.rows))
+    → Stands v after (replaced (file_schema u) bytes old file)
 replaced_stands u v before after bytes file place old stands shaped at change limit schema stamp path many parts =
     let next = file.next_stamp in
-    let rows = (replaced u.schema bytes old file).rows in
-    let slots = put_slot stands.slots place (Some (stored u.schema (changed_row u.schema next bytes old))) in
-    let had = subst (λ s. Parts v.heap v.prime v.alternates.items after (put_slot stands.slots place (Some (stored u.schema (changed_row u.schema s bytes old)))) (prime_entries u.schema stands.places file.rows)
-    (changed_below u.schema s old bytes (length u.alternates.items) (λ j. alt_entries u.schema (j + 1) file.rows))) stands.stamp parts in
-    let placed = placed_renewed u.schema stands.slots next bytes old place stands.places file.rows change.one.fit change.one.has at.here change.rows change.one.first at.leads stands.placed in
-    let said = said_so v.heap v.prime v.alternates.items after slots _ _ had (prime_entries u.schema stands.places rows) (λ j. alt_entries u.schema (j + 1) rows)
-    (prime_entries_renewed u.schema stands.slots next bytes stands.places file.rows stands.placed.rows_at)
+    let rows = (replaced (file_schema u) bytes old file).rows in
+    let slots = put_slot stands.slots place (Some (stored (file_schema u) (changed_row (file_schema u) next bytes old))) in
+    let had = subst (λ s. Parts (heap_of v) (prime_index_of v) (alternates_of v) after (put_slot stands.slots place (Some (stored (file_schema u) (changed_row (file_schema u) s bytes old)))) (prime_entries (file_schema u) stands.places file.rows)
+    (changed_below (file_schema u) s old bytes (length (alternates_of u)) (λ j. alt_entries (file_schema u) (j + 1) file.rows))) stands.stamp parts in
+    let placed = placed_renewed (file_schema u) stands.slots next bytes old place stands.places file.rows change.one.fit change.one.has at.here change.rows change.one.first at.leads stands.placed in
+    let said = said_so (heap_of v) (prime_index_of v) (alternates_of v) after slots _ _ had (prime_entries (file_schema u) stands.places rows) (λ j. alt_entries (file_schema u) (j + 1) rows)
+    (prime_entries_renewed (file_schema u) stands.slots next bytes stands.places file.rows stands.placed.rows_at)
     (λ j lt.
-    let within : j < length u.alternates.items = omega (arith, lt, many) in
-    let key : j + 1 < length u.schema.keys = omega (arith, within, shaped.keys) in
-    rw (lt_is j (length u.alternates.items) within) (change_said u.schema bytes file old j key change)) in
+    let within : j < length (alternates_of u) = omega (arith, lt, many) in
+    let key : j + 1 < length (file_schema u).keys = omega (arith, within, shaped.keys) in
+    rw (lt_is j (length (alternates_of u)) within) (change_said (file_schema u) bytes file old j key change)) in
     record {
       sound = rw schema change.sound;
-      stamp = stamp ∙ ap (λ s. next_after u.schema s old.bytes bytes) stands.stamp;
-      few = rw stamp (next_few (takes_stamp u.schema old.bytes bytes) u.next_stamp stands.few limit);
+      stamp = stamp ∙ ap (λ s. next_after (file_schema u) s old.bytes bytes) stands.stamp;
+      few = rw stamp (next_few (takes_stamp (file_schema u) old.bytes bytes) (next_stamp_of u) stands.few limit);
       places = stands.places;
       slots = slots;
       placed = rw schema placed;
       parts = rw schema said;
-      on_path = rw path tt;
+      on_path = none_on_path _ _ _ _ _ _ (path_of v) path;
     }
 
 -- the record took the place of its row
 pub has_replaced : (u v : OpenFile) (before after : PageMap) (is_sound : Type 0) (bytes : List ℕ) (file : File) (place : Place) (old : Row) (answer : Replaced) (stands : Stands u before file) → IsShaped u → IsShaped v
-    → IsOldAt u.schema stands.slots (prime_entries u.schema stands.places file.rows) file (prime_of u.schema bytes) place old → IsChange u.schema bytes file old
-    → clashes_with_others u.schema bytes file ≡ false → (takes_stamp u.schema old.bytes bytes ≡ true → u.next_stamp < 2 ^ 63)
-    → v ≡ record u { alternates = v.alternates; path = None; next_stamp = next_after u.schema u.next_stamp old.bytes bytes }
-    → answer ≡ replaced_answer_at u.schema bytes file (Some old)
-    → Parts v.heap v.prime v.alternates.items after (put_slot stands.slots place (Some (stored u.schema (changed_row u.schema u.next_stamp bytes old)))) (prime_entries u.schema stands.places file.rows)
-    (changed_below u.schema u.next_stamp old bytes (length u.alternates.items) (λ j. alt_entries u.schema (j + 1) file.rows)) × is_sound
-    → HasChanged (Stands v after) is_sound (replacement u.schema bytes) file answer
+    → IsOldAt (file_schema u) stands.slots (prime_entries (file_schema u) stands.places file.rows) file (prime_of (file_schema u) bytes) place old → IsChange (file_schema u) bytes file old
+    → clashes_with_others (file_schema u) bytes file ≡ false → (takes_stamp (file_schema u) old.bytes bytes ≡ true → next_stamp_of u < 2 ^ 63)
+    → v ≡ with_alternates_of v (with_next_stamp (next_after (file_schema u) (next_stamp_of u) old.bytes bytes) (without_path u))
+    → answer ≡ replaced_answer_at (file_schema u) bytes file (Some old)
+    → Parts (heap_of v) (prime_index_of v) (alternates_of v) after (put_slot stands.slots place (Some (stored (file_schema u) (changed_row (file_schema u) (next_stamp_of u) bytes old)))) (prime_entries (file_schema u) stands.places file.rows)
+    (changed_below (file_schema u) (next_stamp_of u) old bytes (length (alternates_of u)) (λ j. alt_entries (file_schema u) (j + 1) file.rows)) × is_sound
+    → HasChanged (Stands v after) is_sound (replacement (file_schema u) bytes) file answer
 has_replaced u v before after is_sound bytes file place old answer stands one two at change clash limit rest told parts =
-    let schema = ap (λ (o : OpenFile). o.schema) rest in
-    let stamp = ap (λ (o : OpenFile). o.next_stamp) rest in
-    let path = ap (λ (o : OpenFile). o.path) rest in
+    let schema = ap file_schema rest in
+    let stamp = ap next_stamp_of rest in
+    let path = ap path_of rest in
     record {
-      answers = told ∙ ap (replaced_answer_at u.schema bytes file) (sym at.is_row);
+      answers = told ∙ ap (replaced_answer_at (file_schema u) bytes file) (sym at.is_row);
       stands = rw (at.is_row, clash) (replaced_stands u v before after bytes file place old stands one at change limit schema stamp path (same_many u v one two schema) parts.0);
       sound = parts.1;
     }
@@ -206,19 +218,19 @@ clashed schema bytes file old told =
     differ e = cc
 
 -- a clash changes nothing
-pub has_clashed : (u : OpenFile) (before after : PageMap) (is_sound : Type 0) (bytes : List ℕ) (file : File) (old : Row) → Stands u before file → after ≡ before → row_of u.schema (prime_of u.schema bytes) file ≡ Some old
-    → Clash ≡ replaced_answer_at u.schema bytes file (Some old) → is_sound → HasChanged (Stands u after) is_sound (replacement u.schema bytes) file Clash
+pub has_clashed : (u : OpenFile) (before after : PageMap) (is_sound : Type 0) (bytes : List ℕ) (file : File) (old : Row) → Stands u before file → after ≡ before → row_of (file_schema u) (prime_of (file_schema u) bytes) file ≡ Some old
+    → Clash ≡ replaced_answer_at (file_schema u) bytes file (Some old) → is_sound → HasChanged (Stands u after) is_sound (replacement (file_schema u) bytes) file Clash
 has_clashed u before after is_sound bytes file old stands same is told sound = record {
-  answers = told ∙ ap (replaced_answer_at u.schema bytes file) (sym is);
-  stands = rw (is, clashed u.schema bytes file old told) (subst (λ p. Stands u p file) (sym same) stands);
+  answers = told ∙ ap (replaced_answer_at (file_schema u) bytes file) (sym is);
+  stands = rw (is, clashed (file_schema u) bytes file old told) (subst (λ p. Stands u p file) (sym same) stands);
   sound = sound;
 }
 
 -- there is no such row
-pub has_none : (u : OpenFile) (before after : PageMap) (is_sound : Type 0) (bytes : List ℕ) (file : File) → Stands u before file → after ≡ before → row_of u.schema (prime_of u.schema bytes) file ≡ None
-    → is_sound → HasChanged (Stands u after) is_sound (replacement u.schema bytes) file Gone
+pub has_none : (u : OpenFile) (before after : PageMap) (is_sound : Type 0) (bytes : List ℕ) (file : File) → Stands u before file → after ≡ before → row_of (file_schema u) (prime_of (file_schema u) bytes) file ≡ None
+    → is_sound → HasChanged (Stands u after) is_sound (replacement (file_schema u) bytes) file Gone
 has_none u before after is_sound bytes file stands same none sound = record {
-  answers = sym (ap (replaced_answer_at u.schema bytes file) none);
+  answers = sym (ap (replaced_answer_at (file_schema u) bytes file) none);
   stands = rw none (subst (λ p. Stands u p file) (sym same) stands);
   sound = sound;
 }

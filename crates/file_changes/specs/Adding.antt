@@ -22,6 +22,7 @@ use Rattle.key_index.specs.Standing.{alt_height, prime_height}
 use Rattle.record_heap.specs.declared.heap.Heap.{Heap}
 use Rattle.record_heap.specs.declared.shape.Place.{Place}
 use Rattle.record_heap.specs.Chain.{Slots, put_slot}
+use Rattle.open_file.specs.Fields.{alternates_of, heap_of, next_stamp_of, prime_index_of, file_schema}
 use Rattle.open_file.specs.Parts.{Parts, but_at}
 use Rattle.open_file.specs.Stored.{stored}
 use Rattle.open_file.specs.Stands.{Stands}
@@ -69,42 +70,44 @@ PutsRow shown bytes old new before after result =
     IsTrue (shown.state after).is_honest → IsTrue (shown.state before).is_sound
     → (slots : Slots) (primes : List PrimeEntry) (entries : ℕ → List AltEntry)
     → PartsHold shown (in_pages old before) (record { slots = slots; primes = primes; entries = entries })
-    → IsAnswer result (λ place. RowPut new.heap new.prime new.alternates.items
+    → IsAnswer result (λ place. RowPut (heap_of new) (prime_index_of new) (alternates_of new)
     (shown.state after).live slots primes entries place bytes
     × IsTrue (shown.state after).is_sound)
 
 -- the slot of a new record: its stamps, and its bytes
 abbrev pub new_slot : OpenFile → List ℕ → List ℕ
-new_slot file bytes = stored file.schema (new_row file.schema file.next_stamp bytes)
+new_slot file bytes = stored (file_schema file) (new_row (file_schema file) (next_stamp_of file) bytes)
 
 -- the prime index gets the entry of a record at this place, whose value it did not have
 abbrev pub prime_added : List ℕ → Place → OpenFile → PartsStep
 prime_added bytes place file = record {
-  Asks = λ held. find (has_prime (prime_of file.schema bytes)) held.primes ≡ None;
+  Asks = λ held. find (has_prime (prime_of (file_schema file) bytes)) held.primes ≡ None;
   leaves = λ held. record held {
     primes = with_prime
-        (record { value = record { items = prime_of file.schema bytes }; place = place }) held.primes;
+        (record { value = record { items = prime_of (file_schema file) bytes }; place = place }) held.primes;
   };
 }
 
 -- alternate index j gets the entry of a record, whose value and stamp it did not have
 abbrev pub entry_added : List ℕ → ℕ → OpenFile → PartsStep
 entry_added bytes j file = record {
-  Asks = λ held. find (has_rank (value_of file.schema (j + 1) bytes)
-      (stamp_in file.schema file.next_stamp j)) (held.entries j) ≡ None;
+  Asks = λ held. find (has_rank (value_of (file_schema file) (j + 1) bytes)
+      (stamp_in (file_schema file) (next_stamp_of file) j)) (held.entries j) ≡ None;
   leaves = λ held. record held {
     entries = but_at j
-        (with_alt (entry_of_record file.schema file.next_stamp bytes j) (held.entries j)) held.entries;
+        (with_alt (entry_of_record (file_schema file) (next_stamp_of file) bytes j) (held.entries j))
+        held.entries;
   };
 }
 
 -- so does each of them
 abbrev pub entries_added : List ℕ → OpenFile → PartsStep
 entries_added bytes file = record {
-  Asks = λ held. AreFree file.schema file.next_stamp bytes (length file.alternates.items) held.entries;
+  Asks = λ held. AreFree (file_schema file) (next_stamp_of file) bytes (length (alternates_of file))
+      held.entries;
   leaves = λ held. record held {
-    entries = added_below file.schema file.next_stamp bytes
-        (length file.alternates.items) held.entries;
+    entries = added_below (file_schema file) (next_stamp_of file) bytes
+        (length (alternates_of file)) held.entries;
   };
 }
 
@@ -114,18 +117,19 @@ abbrev pub LeavesAdded : {S : Type 0} → ShownPages S → (before after : FileI
 LeavesAdded shown before after bytes result =
     IsTrue (shown.state after.pages).is_honest → IsTrue (shown.state before.pages).is_sound → (file : File)
     → Stands before.file (shown.state before.pages).live file
-    → clashes before.file.schema bytes file.rows ≡ false
+    → clashes (file_schema before.file) bytes file.rows ≡ false
     → IsAnswer result (λ u. Stands after.file (shown.state after.pages).live
-    (added before.file.schema bytes file) × IsTrue (shown.state after.pages).is_sound)
+    (added (file_schema before.file) bytes file) × IsTrue (shown.state after.pages).is_sound)
 
 -- the answer is the one of the definitions, if there is room
 abbrev pub AnswersAdding : {S : Type 0} → ShownPages S → OpenFile → List ℕ → (before after : S)
     → Result Added Fault → Type 0
 AnswersAdding shown file bytes before after result =
-    AnswersFor shown file before after (λ was stands x. x ≡ added_answer file.schema bytes was) result
+    AnswersFor shown file before after (λ was stands x. x ≡ added_answer (file_schema file) bytes was) result
 
 -- the prime index may take a page more than its tree has levels
 abbrev pub TakesPagesOfPrime : {S : Type 0} → ShownPages S → OpenFile → (before after : S)
     → Result Unit Fault → Type 0
 TakesPagesOfPrime shown file before after result =
-    TakesPages shown (prime_height file.prime + 1) (8 * (prime_height file.prime + 1)) before after result
+    TakesPages shown (prime_height (prime_index_of file) + 1)
+    (8 * (prime_height (prime_index_of file) + 1)) before after result

@@ -6,6 +6,7 @@ use Rattle.pages.specs.ShownPages.{ShownPages}
 use Rattle.key_index.specs.declared.entry.AltEntry.{AltEntry}
 use Rattle.key_index.specs.declared.entry.PrimeEntry.{PrimeEntry}
 use Rattle.record_heap.specs.Chain.{Slots}
+use Rattle.open_file.specs.Fields.{alternates_of, heap_of, prime_index_of}
 use Rattle.open_file.specs.Parts.{Parts}
 use Rattle.open_file.specs.declared.open_file.OpenFile.{OpenFile}
 use Rattle.file_changes.specs.InPages.{FileInPages, in_pages}
@@ -18,7 +19,7 @@ pub record Contents : Type 0 where
 
 -- the parts hold this
 abbrev pub PartsHold : {S : Type 0} → ShownPages S → FileInPages S → Contents → Type 0
-PartsHold shown held what = Parts held.file.heap held.file.prime held.file.alternates.items
+PartsHold shown held what = Parts (heap_of held.file) (prime_index_of held.file) (alternates_of held.file)
     (shown.state held.pages).live what.slots what.primes what.entries
 
 -- a step of a change: what it asks of what they hold, and what they hold after it

@@ -5,6 +5,7 @@ use Rattle.indexed_file.specs.FileChange.{addition, replacement, removal}
 use Rattle.indexed_file.specs.declared.answer.Added.{Added}
 use Rattle.indexed_file.specs.declared.answer.Replaced.{Replaced}
 use Rattle.pages.specs.ShownPages.{ShownPages}
+use Rattle.open_file.specs.Fields.{has_broken, file_schema}
 use Rattle.open_file.specs.Stands.{Stands, IsShaped, room_of}
 use Rattle.open_file.specs.declared.open_file.OpenFile.{OpenFile}
 use Rattle.file_changes.specs.Changes.{ShownFile, Changes, MayBreak}
@@ -26,8 +27,8 @@ shown_in shown = record {
   is_honest = λ held. (shown.state held.pages).is_honest;
   IsSound = λ held. IsTrue (shown.state held.pages).is_sound;
   StandsFor = λ held. Stands held.file (shown.state held.pages).live;
-  is_broken = λ held. held.file.broken;
-  schema = λ held. held.file.schema;
+  is_broken = λ held. has_broken held.file;
+  schema = λ held. file_schema held.file;
   room = λ held. room_of held.file (shown.state held.pages).available;
   asked = λ held. (shown.state held.pages).asked;
   IsReady = IsReadyIn shown;
@@ -43,19 +44,19 @@ shown_in shown = record {
 abbrev pub MakesAddition : {S : Type 0} → ShownPages S → List ℕ → (old new : OpenFile) → (before after : S)
     → Result Added Fault → Type 0
 MakesAddition shown bytes old new before after result = Changes (shown_in shown)
-    (addition old.schema bytes) (in_pages old before) (in_pages new after) result
+    (addition (file_schema old) bytes) (in_pages old before) (in_pages new after) result
 
 -- a record is put in the place of that of its prime value
 abbrev pub MakesReplacement : {S : Type 0} → ShownPages S → List ℕ → (old new : OpenFile) → (before after : S)
     → Result Replaced Fault → Type 0
 MakesReplacement shown bytes old new before after result = Changes (shown_in shown)
-    (replacement old.schema bytes) (in_pages old before) (in_pages new after) result
+    (replacement (file_schema old) bytes) (in_pages old before) (in_pages new after) result
 
 -- the record of a prime value is taken out
 abbrev pub MakesRemoval : {S : Type 0} → ShownPages S → List ℕ → (old new : OpenFile) → (before after : S)
     → Result Bool Fault → Type 0
 MakesRemoval shown prime old new before after result = Changes (shown_in shown)
-    (removal old.schema prime) (in_pages old before) (in_pages new after) result
+    (removal (file_schema old) prime) (in_pages old before) (in_pages new after) result
 
 -- a record is added, or the file may break
 pub record AddsRecord {S : Type 0} (shown : ShownPages S) (bytes : List ℕ) (old new : OpenFile)

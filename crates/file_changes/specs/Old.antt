@@ -11,6 +11,7 @@ use Rattle.record_heap.specs.declared.shape.Place.{Place}
 use Rattle.record_heap.specs.Chain.{Slots}
 use Rattle.pages.specs.PageMap.{PageMap}
 use Rattle.pages.specs.ShownPages.{ShownPages}
+use Rattle.open_file.specs.Fields.{alternates_of, heap_of, next_stamp_of, file_schema}
 use Rattle.open_file.specs.InOrder.{prime_entries}
 use Rattle.open_file.specs.Stands.{Stands, IsShaped}
 use Rattle.open_file.specs.Stored.{stored, stamps_length}
@@ -46,21 +47,21 @@ HasFound schema slots primes file prime slot (Some old) = IsOld schema slots pri
 abbrev pub HasFoundIn : {opened : OpenFile} {pages : PageMap} {file : File} → Stands opened pages file
     → List ℕ → List ℕ → Option OldRecord → Type 0
 HasFoundIn {opened} {pages} {file} stands prime slot =
-    HasFound opened.schema stands.slots (prime_entries opened.schema stands.places file.rows) file prime
-    slot
+    HasFound (file_schema opened) stands.slots (prime_entries (file_schema opened) stands.places file.rows)
+    file prime slot
 
 -- and the row of these bytes is the one that was found
 abbrev pub IsFoundIn : {opened : OpenFile} {pages : PageMap} {file : File} → Stands opened pages file
     → List ℕ → OldRecord → List ℕ → Type 0
 IsFoundIn {opened} {pages} {file} stands prime old bytes =
-    IsOldAt opened.schema stands.slots (prime_entries opened.schema stands.places file.rows) file prime
-    old.place (row_with bytes old.stamps.items)
+    IsOldAt (file_schema opened) stands.slots (prime_entries (file_schema opened) stands.places file.rows)
+    file prime old.place (row_with bytes old.stamps.items)
 
 -- it is as long as a record, and has a stamp for each alternate key
 pub record HasRecordLength (file : OpenFile) (old : OldRecord) : Type 0 where
-  pub least : file.heap.shape.stamps + file.heap.shape.least ≤ old.end
-  pub greatest : old.end ≤ file.heap.shape.stamps + file.heap.shape.greatest
-  pub many : length old.stamps.items ≡ length file.alternates.items
+  pub least : (heap_of file).shape.stamps + (heap_of file).shape.least ≤ old.end
+  pub greatest : old.end ≤ (heap_of file).shape.stamps + (heap_of file).shape.greatest
+  pub many : length old.stamps.items ≡ length (alternates_of file)
 
 -- the answer is the record of a prime value in the slot, where there is one
 abbrev pub AnswersFinding : {S : Type 0} → ShownPages S → OpenFile → (prime slot : List ℕ)
@@ -71,10 +72,10 @@ AnswersFinding shown opened prime slot before after result =
 -- the stamps of a record stand in the front of a slot
 pub record HasStampsIn (file : OpenFile) (slot : List ℕ) : Type 0 where
   pub shaped : IsShaped file
-  pub room : file.heap.shape.stamps ≤ length slot
+  pub room : (heap_of file).shape.stamps ≤ length slot
 
 -- the stamps of a new record, in front of it in its slot
 pub record AreNewStamps (file : OpenFile) (stamps : List ℕ) : Type 0 where
   pub stored : (bytes : List ℕ) → stamps ++ bytes
-      ≡ stored file.schema (new_row file.schema file.next_stamp bytes)
-  pub length : length stamps ≡ file.heap.shape.stamps
+      ≡ stored (file_schema file) (new_row (file_schema file) (next_stamp_of file) bytes)
+  pub length : length stamps ≡ (heap_of file).shape.stamps

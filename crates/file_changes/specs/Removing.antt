@@ -14,6 +14,7 @@ use Rattle.key_index.specs.declared.entry.PrimeEntry.{PrimeEntry}
 use Rattle.key_index.specs.Entries.{has_prime, has_rank, without_prime, without_rank}
 use Rattle.record_heap.specs.declared.shape.Place.{Place}
 use Rattle.record_heap.specs.Chain.{Slots, put_slot}
+use Rattle.open_file.specs.Fields.{alternates_of, prime_index_of, file_schema, with_parts_of, without_path}
 use Rattle.open_file.specs.Parts.{but_at}
 use Rattle.open_file.specs.declared.open_file.OpenFile.{OpenFile}
 use Rattle.file_changes.specs.Contents.{Contents, PartsStep, TakesStep}
@@ -49,8 +50,8 @@ without_row schema row place count held = record {
 -- the prime index loses the entry of a record
 abbrev pub prime_lost : List ℕ → OpenFile → PartsStep
 prime_lost bytes file = record {
-  Asks = λ held. IsSome (find (has_prime (prime_of file.schema bytes)) held.primes);
-  leaves = λ held. record held { primes = without_prime (prime_of file.schema bytes) held.primes };
+  Asks = λ held. IsSome (find (has_prime (prime_of (file_schema file) bytes)) held.primes);
+  leaves = λ held. record held { primes = without_prime (prime_of (file_schema file) bytes) held.primes };
 }
 
 -- the slot at this place is given back
@@ -63,54 +64,51 @@ slot_freed place file = record {
 -- alternate index j loses the entry of a record, of this stamp
 abbrev pub entry_lost : List ℕ → ℕ → ℕ → OpenFile → PartsStep
 entry_lost bytes stamp j file = record {
-  Asks = λ held. IsSome (find (has_rank (value_of file.schema (j + 1) bytes) stamp) (held.entries j));
+  Asks = λ held. IsSome (find (has_rank (value_of (file_schema file) (j + 1) bytes) stamp) (held.entries j));
   leaves = λ held. record held {
     entries = but_at j
-        (without_rank (value_of file.schema (j + 1) bytes) stamp (held.entries j)) held.entries;
+        (without_rank (value_of (file_schema file) (j + 1) bytes) stamp (held.entries j)) held.entries;
   };
 }
 
 -- each of them loses the entry of a record, of these stamps
 abbrev pub entries_lost : (bytes stamps : List ℕ) → OpenFile → PartsStep
 entries_lost bytes stamps file = record {
-  Asks = λ held. AreThere file.schema (row_with bytes stamps) (length file.alternates.items) held.entries;
+  Asks = λ held. AreThere (file_schema file) (row_with bytes stamps) (length (alternates_of file))
+      held.entries;
   leaves = λ held. record held {
-    entries = without_below file.schema (row_with bytes stamps)
-        (length file.alternates.items) held.entries;
+    entries = without_below (file_schema file) (row_with bytes stamps)
+        (length (alternates_of file)) held.entries;
   };
 }
 
 -- the parts lose the record that was found, of these bytes
 abbrev pub row_lost : OldRecord → List ℕ → OpenFile → PartsStep
 row_lost old bytes file = record {
-  Asks = λ held. HasRowAndEntries file.schema (row_with bytes old.stamps.items) old.place
-      (length file.alternates.items) held.slots held.primes held.entries;
-  leaves = without_row file.schema (row_with bytes old.stamps.items) old.place (length file.alternates.items);
+  Asks = λ held. HasRowAndEntries (file_schema file) (row_with bytes old.stamps.items) old.place
+      (length (alternates_of file)) held.slots held.primes held.entries;
+  leaves = without_row (file_schema file) (row_with bytes old.stamps.items) old.place
+      (length (alternates_of file));
 }
 
 -- a record of these bytes can be taken out, and has these stamps, one for each alternate key
 pub record CanTakeOut {S : Type 0} (shown : ShownPages S) (file : OpenFile) (pages : S)
     (bytes old_stamps : List ℕ) : Type 0 where
   pub can : CanChangeWith shown file pages bytes
-  pub stamps : length old_stamps ≡ length file.alternates.items
+  pub stamps : length old_stamps ≡ length (alternates_of file)
 
 -- only the parts change, and the path is forgotten
 abbrev pub ChangesParts : (old new : OpenFile) → Type 0
-ChangesParts old new = new ≡ record old {
-  heap = new.heap;
-  prime = new.prime;
-  alternates = new.alternates;
-  path = None;
-}
+ChangesParts old new = new ≡ with_parts_of new (without_path old)
 
 -- the alternate indexes but j are as they were
 abbrev pub KeepsOtherIndexes : ℕ → (old new : OpenFile) → Type 0
 KeepsOtherIndexes j old new = (i : ℕ) (index : AltIndex) → i ≢ j
-    → slice_index_or new.alternates.items i index ≡ slice_index_or old.alternates.items i index
+    → slice_index_or (alternates_of new) i index ≡ slice_index_or (alternates_of old) i index
 
 -- the most pages that taking a record out asks for
 abbrev pub most_to_take_out : OpenFile → ℕ
-most_to_take_out file = 8 * ((prime_height file.prime + 1) + index_levels file.alternates.items) + 1
+most_to_take_out file = 8 * ((prime_height (prime_index_of file) + 1) + index_levels (alternates_of file)) + 1
 
 -- the alternate indexes lose the entries of a record
 abbrev pub LosesEntries : {S : Type 0} → ShownPages S → (bytes stamps : List ℕ) → (old new : OpenFile)

@@ -20,6 +20,8 @@ use Rattle.key_index.specs.Standing.{alt_height}
 use Rattle.file_changes.specs.Adding.{stamp_in, entry_of_record, index_levels}
 use Rattle.record_heap.specs.declared.shape.Place.{Place}
 use Rattle.record_heap.specs.Chain.{Slots, put_slot}
+use Rattle.open_file.specs.Fields.{alternates_of, has_broken, heap_of, next_stamp_of, file_schema}
+use Rattle.open_file.specs.Fields.{with_alternates_of, with_next_stamp, without_path}
 use Rattle.open_file.specs.Stored.{stored}
 use Rattle.open_file.specs.Parts.{but_at}
 use Rattle.open_file.specs.Stands.{Stands, IsShaped, heights_of, room_of}
@@ -112,39 +114,40 @@ slot_put old was bytes file = record {
   Asks = λ held. IsSome (held.slots old.place);
   leaves = λ held. record held {
     slots = put_slot held.slots old.place
-        (Some (slot_after file.schema file.next_stamp (row_with was old.stamps.items) bytes));
+        (Some (slot_after (file_schema file) (next_stamp_of file) (row_with was old.stamps.items) bytes));
   };
 }
 
 -- alternate index j gets the new record's entry in the place of the old one's, of this stamp
 abbrev pub entry_put : (was : List ℕ) → ℕ → (bytes : List ℕ) → ℕ → OpenFile → PartsStep
 entry_put was stamp bytes j file = record {
-  Asks = λ held. CanChangeEntry file.schema file.next_stamp was stamp bytes j (held.entries j);
+  Asks = λ held. CanChangeEntry (file_schema file) (next_stamp_of file) was stamp bytes j (held.entries j);
   leaves = λ held. record held {
     entries = but_at j
-        (changed_entries file.schema file.next_stamp was stamp bytes j (held.entries j)) held.entries;
+        (changed_entries (file_schema file) (next_stamp_of file) was stamp bytes j (held.entries j))
+        held.entries;
   };
 }
 
 -- so does each whose value changes
 abbrev pub entries_put : (was stamps bytes : List ℕ) → OpenFile → PartsStep
 entries_put was stamps bytes file = record {
-  Asks = λ held. AreThere file.schema (row_with was stamps) (length file.alternates.items) held.entries
-      × AreFreed file.schema file.next_stamp (row_with was stamps) bytes
-      (length file.alternates.items) held.entries;
+  Asks = λ held. AreThere (file_schema file) (row_with was stamps) (length (alternates_of file)) held.entries
+      × AreFreed (file_schema file) (next_stamp_of file) (row_with was stamps) bytes
+      (length (alternates_of file)) held.entries;
   leaves = λ held. record held {
-    entries = changed_below file.schema file.next_stamp
-        (row_with was stamps) bytes (length file.alternates.items) held.entries;
+    entries = changed_below (file_schema file) (next_stamp_of file)
+        (row_with was stamps) bytes (length (alternates_of file)) held.entries;
   };
 }
 
 -- the parts get the new record in the place of the one that was found
 abbrev pub row_put : OldRecord → (was bytes : List ℕ) → OpenFile → PartsStep
 row_put old was bytes file = record {
-  Asks = λ held. CanPutOver file.schema file.next_stamp (row_with was old.stamps.items) bytes old.place
-      (length file.alternates.items) held.slots held.entries;
-  leaves = with_row file.schema file.next_stamp (row_with was old.stamps.items) bytes old.place
-      (length file.alternates.items);
+  Asks = λ held. CanPutOver (file_schema file) (next_stamp_of file) (row_with was old.stamps.items) bytes
+      old.place (length (alternates_of file)) held.slots held.entries;
+  leaves = with_row (file_schema file) (next_stamp_of file) (row_with was old.stamps.items) bytes old.place
+      (length (alternates_of file));
 }
 
 -- the new record is put into the slot of the old one
@@ -169,12 +172,12 @@ PutsOver shown old was bytes file now before after result =
 
 -- the pages that may be taken for the values that change
 abbrev pub need_to_put : OpenFile → List ℕ → List ℕ → ℕ
-need_to_put file old new = need_in_indexes file.schema old new file.alternates.items
+need_to_put file old new = need_in_indexes (file_schema file) old new (alternates_of file)
 
 -- there are fewer pages, or no stamp for a record that takes one
 abbrev pub is_full_for : OpenFile → ℕ → List ℕ → List ℕ → Bool
 is_full_for file available old new = nat_lt available (need_to_put file old new)
-    || (takes_stamp file.schema old new && nat_le (2 ^ 63) file.next_stamp)
+    || (takes_stamp (file_schema file) old new && nat_le (2 ^ 63) (next_stamp_of file))
 
 -- the most pages that putting the new record in asks for
 abbrev pub most_to_put : OpenFile → List ℕ → List ℕ → ℕ
@@ -189,37 +192,34 @@ new_there schema old bytes rows k = not (bytes_eq (value_of schema k old) (value
 abbrev pub AnswersNewThere : {S : Type 0} → ShownPages S → OpenFile → (was bytes : List ℕ) → ℕ
     → (before after : S) → Result Bool Fault → Type 0
 AnswersNewThere shown opened was bytes k before after result = AnswersFor shown opened before after
-    (λ file stands x. x ≡ new_there opened.schema was bytes file.rows k) result
+    (λ file stands x. x ≡ new_there (file_schema opened) was bytes file.rows k) result
 
 -- where the row of the new record's prime value has these bytes, the answer is the one of the definitions
 abbrev pub AnswersReplacing : {S : Type 0} → ShownPages S → OpenFile → (was bytes : List ℕ)
     → (before after : S) → Result Replaced Fault → Type 0
 AnswersReplacing shown opened was bytes before after result =
     IsTrue (shown.state after).is_honest → (file : File) → Stands opened (shown.state before).live file
-    → (row : Row) → row_of opened.schema (prime_of opened.schema bytes) file ≡ Some row
+    → (row : Row) → row_of (file_schema opened) (prime_of (file_schema opened) bytes) file ≡ Some row
     → row.bytes ≡ was
-    → IsAnswer result (λ answer. answer ≡ replaced_answer_at opened.schema bytes file (Some row))
+    → IsAnswer result (λ answer. answer ≡ replaced_answer_at (file_schema opened) bytes file (Some row))
 
 -- the path is forgotten, and a stamp was taken where the new record takes one
 pub record LeavesPutOver (old new : OpenFile) (was bytes : List ℕ) (result : Result Unit Fault) : Type 0 where
-  pub rest : OnOk result (new ≡ record old {
-    alternates = new.alternates;
-    path = None;
-    next_stamp = next_after old.schema old.next_stamp was bytes;
-  })
-  pub schema : new.schema ≡ old.schema
-  pub broken : new.broken ≡ old.broken
+  pub rest : OnOk result (new ≡ with_alternates_of new (with_next_stamp
+      (next_after (file_schema old) (next_stamp_of old) was bytes) (without_path old)))
+  pub schema : file_schema new ≡ file_schema old
+  pub broken : has_broken new ≡ has_broken old
   pub shaped : IsShaped new
 
 -- what is kept after the row was found, and how many pages are asked for
 pub record KeepsFound {S : Type 0} (shown : ShownPages S) (before after : FileInPages S) : Type 0 where
-  pub schema : after.file.schema ≡ before.file.schema
-  pub broken : after.file.broken ≡ before.file.broken
+  pub schema : file_schema after.file ≡ file_schema before.file
+  pub broken : has_broken after.file ≡ has_broken before.file
   pub shaped : IsShaped after.file
   pub begins : shown.Begins before.pages after.pages
   pub asked : (shown.state after.pages).asked
       ≤ (shown.state before.pages).asked + 2 * sum_by (λ height. height)
-      (heights_of before.file) + 1 + 16 * index_levels before.file.alternates.items
+      (heights_of before.file) + 1 + 16 * index_levels (alternates_of before.file)
 
 -- what `Changes` says of a replacement, where its row was found before: it had these bytes
 pub record ReplacesFound {S : Type 0} (shown : ShownPages S) (old : OldRecord) (was bytes : List ℕ)
@@ -227,24 +227,24 @@ pub record ReplacesFound {S : Type 0} (shown : ShownPages S) (old : OldRecord) (
   pub done : IsTrue (shown.state after.pages).is_honest → IsTrue (shown.state before.pages).is_sound
       → (file : File)
       → (stands : Stands before.file (shown.state before.pages).live file)
-      → IsFoundIn stands (prime_of before.file.schema bytes) old was
+      → IsFoundIn stands (prime_of (file_schema before.file) bytes) old was
       → IsAnswer result (HasChanged (Stands after.file (shown.state after.pages).live)
-      (IsTrue (shown.state after.pages).is_sound) (replacement before.file.schema bytes) file)
+      (IsTrue (shown.state after.pages).is_sound) (replacement (file_schema before.file) bytes) file)
   pub unmade : IfOk result (λ x. is_replaced x ≡ false → (shown_in shown).Reads before after)
   pub begun : IfOk result (λ x. is_replaced x ≡ true → shown.CanChange after.pages)
   pub room : IsTrue (shown.state after.pages).is_honest → (file : File)
       → Stands before.file (shown.state before.pages).live file
-      → row_of before.file.schema (prime_of before.file.schema bytes) file ≡ Some
+      → row_of (file_schema before.file) (prime_of (file_schema before.file) bytes) file ≡ Some
       (row_with was old.stamps.items)
       → OnOk result (IsTrue (has_room_for (room_of before.file (shown.state before.pages).available)
-      (replacement before.file.schema bytes) file))
+      (replacement (file_schema before.file) bytes) file))
   pub full : result ≡ Err Full → (shown_in shown).Reads before after
   pub lacks : result ≡ Err Full → IsTrue (shown.state after.pages).is_honest → (file : File)
       → Stands before.file (shown.state before.pages).live file
-      → row_of before.file.schema (prime_of before.file.schema bytes) file ≡ Some
+      → row_of (file_schema before.file) (prime_of (file_schema before.file) bytes) file ≡ Some
       (row_with was old.stamps.items)
       → LacksRoomFor (room_of before.file (shown.state before.pages).available)
-      (replacement before.file.schema bytes) file
+      (replacement (file_schema before.file) bytes) file
   pub keeps : KeepsFound shown before after
 
 -- the same of a file and its pages
@@ -259,15 +259,16 @@ ReplacesRow shown old was bytes file now before after result =
 pub record CanLookForKey {S : Type 0} (shown : ShownPages S) (file : OpenFile) (pages : S) (k : ℕ)
     (was bytes : List ℕ) : Type 0 where
   pub can : CanLookFor shown file pages bytes
-  pub key : k < length file.schema.keys
-  pub old : file.schema.least ≤ length was
+  pub key : k < length (file_schema file).keys
+  pub old : (file_schema file).least ≤ length was
 
 -- the old record is a row, and there is room for the new one in its place
 pub record CanPutInPlace {S : Type 0} (shown : ShownPages S) (file : OpenFile) (pages : S) (found : OldRecord)
     (was bytes : List ℕ) : Type 0 where
   pub can : CanStore shown file pages bytes
   pub old : IsRowOf file (row_with was found.stamps.items)
-  pub room : HasRoomFor shown file pages (need_to_put file was bytes) (takes_stamp file.schema was bytes)
+  pub room : HasRoomFor shown file pages (need_to_put file was bytes)
+      (takes_stamp (file_schema file) was bytes)
 
 -- the same of the alternate indexes alone
 pub record CanChangeIndexes {S : Type 0} (shown : ShownPages S) (file : OpenFile) (pages : S)
@@ -280,20 +281,21 @@ pub record CanChangeIndexes {S : Type 0} (shown : ShownPages S) (file : OpenFile
 pub record CanPutEntry {S : Type 0} (shown : ShownPages S) (file : OpenFile) (pages : S) (j : ℕ)
     (was bytes : List ℕ) : Type 0 where
   pub can : CanChangeWith shown file pages bytes
-  pub old : file.schema.least ≤ length was
-  pub index : j < length file.alternates.items
+  pub old : (file_schema file).least ≤ length was
+  pub index : j < length (alternates_of file)
 
 -- both records have a value of key k
 pub record HaveKey (file : OpenFile) (k : ℕ) (was bytes : List ℕ) : Type 0 where
-  pub key : k < length file.schema.keys
+  pub key : k < length (file_schema file).keys
   pub records : HaveEachKey file was bytes
 
 -- both records have a value of each key, and the old one these stamps
 pub record HaveStamps (file : OpenFile) (was old_stamps bytes : List ℕ) : Type 0 where
   pub records : HaveEachKey file was bytes
-  pub stamps : length old_stamps ≡ length file.alternates.items
+  pub stamps : length old_stamps ≡ length (alternates_of file)
 
 -- the stamps of a record that takes the place of another, in front of it in its slot
 pub record AreStampsAfter (file : OpenFile) (was stamps bytes result : List ℕ) : Type 0 where
-  pub stored : result ++ bytes ≡ slot_after file.schema file.next_stamp (row_with was stamps) bytes
-  pub length : length result ≡ file.heap.shape.stamps
+  pub stored : result ++ bytes
+      ≡ slot_after (file_schema file) (next_stamp_of file) (row_with was stamps) bytes
+  pub length : length result ≡ (heap_of file).shape.stamps

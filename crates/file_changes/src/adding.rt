@@ -1,9 +1,10 @@
 //! Adding a record.
 
-ghost use Rattle.std.specs.Prelude.{true, false, ◌≡◌, ◌*◌, ◌≤◌, ◌<◌, length, not, sum_by, slice_set};
+ghost use Rattle.std.specs.Prelude.{true, false, ◌*◌, ◌≤◌, sum_by};
 ghost use Rattle.indexed_file.specs.Room.{need_of_add};
 ghost use Rattle.pages.specs.PageCalls.{ReadsPages, WritesPages};
 ghost use Rattle.open_file.specs.Stands.{heights_of};
+ghost use Rattle.open_file.specs.Fields.{alternates_of};
 ghost use Rattle.file_changes.specs.Contents.{TakesStep};
 ghost use Rattle.file_changes.specs.InPages.{in_pages, MakesAddition, AddsRecord};
 ghost use Rattle.file_changes.specs.Adding.{index_levels, PutsRow, LeavesAdded, AnswersAdding};
@@ -13,10 +14,8 @@ ghost use Rattle.file_changes.specs.Steps.{CanTakeRecord, CanLookFor, CanChangeW
 ghost use Rattle.file_changes.specs.Steps.{CanStore, HasRoomFor, KeepsMark, KeepsMade, ChangesHeap};
 ghost use Rattle.file_changes.specs.Steps.{ChangesPrime, ChangesAlternates, ChangesAlternate, TakesPages};
 
-use crate::ending::breaks;
 use crate::room::is_full;
 use crate::stamps::new_stamps;
-use arrayvec::ArrayVec;
 use indexed_file::Added;
 use io_state::Fault;
 use key_index::{AltEntry, AltIndex, PrimeEntry};
@@ -33,11 +32,11 @@ pub fn add<P: Pages>(opened: &mut OpenFile, pages: &mut P, bytes: &[u8]) -> Resu
     requires { CanTakeRecord P.shown (in_pages opened.old pages.old) bytes.now }
     ensures { AddsRecord P.shown bytes.now opened.old opened.new pages.old pages.new result }
 {
-    if opened.broken {
+    if opened.is_broken() {
         return Err(Fault::Broken);
     }
     let added = try_add(opened, pages, bytes);
-    opened.broken = breaks(&added);
+    opened.end_change(&added);
     added
 }
 
@@ -66,9 +65,9 @@ fn adding<P: Pages>(opened: &OpenFile, pages: &mut P, bytes: &[u8]) -> Result<Ad
         pages.new result }
 {
     let mut repeated = false;
-    for k in 0..opened.schema.key_count() {
+    for k in 0..opened.key_count() {
         if opened.is_there(pages, k as u8, bytes)? {
-            if !opened.schema.part(k as u8).has_duplicates() {
+            if !opened.part(k as u8).has_duplicates() {
                 return Ok(Added::Clash);
             }
             repeated = true;
@@ -87,11 +86,11 @@ fn put_in<P: Pages>(opened: &mut OpenFile, pages: &mut P, bytes: &[u8]) -> Resul
     ensures writes { WritesPages P.shown (8 * need_of_add (heights_of opened.old)) ⊥ pages.old pages.new
         result }
 {
-    opened.path = None;
+    opened.forget_path();
     let place = store(opened, pages, bytes)?;
     add_to_prime(opened, pages, place, bytes)?;
     add_to_alternates(opened, pages, bytes)?;
-    opened.next_stamp += 1;
+    opened.take_stamp();
     Ok(())
 }
 
@@ -104,7 +103,7 @@ fn store<P: Pages>(opened: &mut OpenFile, pages: &mut P, bytes: &[u8]) -> Result
     ensures pages { TakesPages P.shown 1 4 pages.old pages.new result }
 {
     let stamps = new_stamps(opened);
-    opened.heap.add(pages, stamps.as_slice(), bytes)
+    opened.put_record(pages, stamps.as_slice(), bytes)
 }
 
 /// Adds a new record to the prime index.
@@ -120,8 +119,8 @@ fn add_to_prime<P: Pages>(
     ensures file { ChangesPrime opened.old opened.new }
     ensures pages { TakesPagesOfPrime P.shown opened.old pages.old pages.new result }
 {
-    let value = opened.schema.value(bytes, 0);
-    match opened.prime.add(pages, value, place)? {
+    let value = opened.value(bytes, 0);
+    match opened.insert_prime(pages, value, place)? {
         true => Ok(()),
         false => Err(Fault::Damage),
     }
@@ -134,14 +133,14 @@ fn add_to_alternates<P: Pages>(
     bytes: &[u8],
 ) -> Result<(), Fault>
     requires can { CanChangeWith P.shown opened.old pages.old bytes.now }
-    requires room { index_levels opened.old.alternates.items ≤ (P.shown.state pages.old).available }
+    requires room { index_levels (alternates_of opened.old) ≤ (P.shown.state pages.old).available }
     ensures added { TakesStep P.shown (entries_added bytes.now) opened.old opened.new
         pages.old pages.new result }
     ensures file { ChangesAlternates opened.old opened.new }
-    ensures writes { WritesPages P.shown (8 * index_levels opened.old.alternates.items) ⊥ pages.old pages.new
+    ensures writes { WritesPages P.shown (8 * index_levels (alternates_of opened.old)) ⊥ pages.old pages.new
         result }
 {
-    for j in 0..opened.alternates.len() {
+    for j in 0..opened.alternate_count() {
         add_to_alternate(opened, pages, j, bytes)?;
     }
     Ok(())
@@ -160,24 +159,16 @@ pub(crate) fn add_to_alternate<P: Pages>(
     ensures alternate { ChangesAlternate P.shown j true 8 opened.old opened.new
         pages.old pages.new result }
 {
-    let part = opened.schema.part(j as u8 + 1);
-    let value = opened.schema.value(bytes, j as u8 + 1);
-    let prime = opened.schema.value(bytes, 0);
+    let part = opened.part(j as u8 + 1);
+    let value = opened.value(bytes, j as u8 + 1);
+    let prime = opened.value(bytes, 0);
     let stamp = if part.has_duplicates() {
-        opened.next_stamp
+        opened.next_stamp()
     } else {
         0
     };
     let mut index = opened.alternate(j + 1);
     let added = index.add(pages, value, stamp, prime)?;
-    put_at(&mut opened.alternates, j, index);
+    opened.put_alternate(j, index);
     if added { Ok(()) } else { Err(Fault::Damage) }
-}
-
-/// Puts an index in the place of another.
-pub(crate) fn put_at(indexes: &mut ArrayVec<AltIndex, 8>, j: usize, index: AltIndex)
-    requires { j < length indexes.old.items }
-    ensures { indexes.new.items ≡ slice_set indexes.old.items j index }
-{
-    indexes[j] = index;
 }

@@ -3,6 +3,7 @@
 ghost use Rattle.std.specs.Prelude.{◌≡◌, ◌<◌, not, bytes_eq, length};
 ghost use Rattle.record_layout.specs.Schema.{value_of};
 ghost use Rattle.indexed_file.specs.Change.{takes_stamp};
+ghost use Rattle.open_file.specs.Fields.{alternates_of, next_stamp_of, file_schema};
 ghost use Rattle.file_changes.specs.Replacing.{HaveKey, HaveStamps, AreStampsAfter, need_to_put, is_full_for};
 ghost use Rattle.file_changes.specs.Replacing.{stamp_after};
 ghost use Rattle.file_changes.specs.Steps.{HaveEachKey};
@@ -14,19 +15,19 @@ use open_file::OpenFile;
 /// Whether two records differ in the value of a key.
 pub(crate) fn differs(opened: &OpenFile, k: usize, old: &[u8], new: &[u8]) -> bool
     requires { HaveKey opened.now k old.now new.now }
-    ensures { result ≡ not (bytes_eq (value_of opened.now.schema k old.now)
-        (value_of opened.now.schema k new.now)) }
+    ensures { result ≡ not (bytes_eq (value_of (file_schema opened.now) k old.now)
+        (value_of (file_schema opened.now) k new.now)) }
 {
-    opened.schema.value(old, k as u8) != opened.schema.value(new, k as u8)
+    opened.value(old, k as u8) != opened.value(new, k as u8)
 }
 
 /// Whether they differ in the value of a key of duplicates, so that a stamp is taken.
 pub(crate) fn takes_stamp(opened: &OpenFile, old: &[u8], new: &[u8]) -> bool
     requires { HaveEachKey opened.now old.now new.now }
-    ensures { result ≡ takes_stamp opened.now.schema old.now new.now }
+    ensures { result ≡ takes_stamp (file_schema opened.now) old.now new.now }
 {
-    for k in 0..opened.schema.key_count() {
-        if opened.schema.part(k as u8).has_duplicates() && differs(opened, k, old, new) {
+    for k in 0..opened.key_count() {
+        if opened.part(k as u8).has_duplicates() && differs(opened, k, old, new) {
             return true;
         }
     }
@@ -39,7 +40,7 @@ fn need_to_change(opened: &OpenFile, old: &[u8], new: &[u8]) -> u64
     ensures { result ≡ need_to_put opened.now old.now new.now }
 {
     let mut need = 0;
-    for j in 0..opened.alternates.len() {
+    for j in 0..opened.alternate_count() {
         if differs(opened, j + 1, old, new) {
             need += u64::from(opened.alternate(j + 1).height()) + 1;
         }
@@ -53,7 +54,7 @@ pub(crate) fn is_full_to_change(opened: &OpenFile, left: u64, old: &[u8], new: &
     ensures { result ≡ is_full_for opened.now left old.now new.now }
 {
     left < need_to_change(opened, old, new)
-        || (opened.next_stamp >= 1 << 63 && takes_stamp(opened, old, new))
+        || (opened.next_stamp() >= 1 << 63 && takes_stamp(opened, old, new))
 }
 
 /// The stamps of a record that takes the place of another.
@@ -67,8 +68,8 @@ pub(crate) fn changed_stamps(
     ensures { AreStampsAfter opened.now old.now stamps.now new.now result.items }
 {
     let mut changed = ArrayVec::new();
-    for j in 0..opened.alternates.len() {
-        if opened.schema.part(j as u8 + 1).has_duplicates() {
+    for j in 0..opened.alternate_count() {
+        if opened.part(j as u8 + 1).has_duplicates() {
             push_stamp(&mut changed, stamp_after(opened, j, old, stamps[j], new));
         }
     }
@@ -78,11 +79,12 @@ pub(crate) fn changed_stamps(
 /// The stamp in a key of duplicates after a change: the next one, where the value changes.
 fn stamp_after(opened: &OpenFile, j: usize, old: &[u8], stamp: u64, new: &[u8]) -> u64
     requires records { HaveEachKey opened.now old.now new.now }
-    requires index { j < length opened.now.alternates.items }
-    ensures { result ≡ stamp_after opened.now.schema opened.now.next_stamp old.now stamp new.now j }
+    requires index { j < length (alternates_of opened.now) }
+    ensures { result ≡ stamp_after (file_schema opened.now) (next_stamp_of opened.now) old.now stamp
+        new.now j }
 {
     if differs(opened, j + 1, old, new) {
-        opened.next_stamp
+        opened.next_stamp()
     } else {
         stamp
     }

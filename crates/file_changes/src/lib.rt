@@ -11,7 +11,6 @@
 
 mod adding;
 mod changed;
-mod ending;
 mod old_record;
 mod removing;
 mod replacing;

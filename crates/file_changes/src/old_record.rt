@@ -6,6 +6,7 @@ ghost use Rattle.key_index.specs.Standing.{prime_height};
 ghost use Rattle.open_file.specs.Stored.{stamps_length};
 ghost use Rattle.open_file.specs.ReadOff.{stamps_off};
 ghost use Rattle.open_file.specs.Stands.{IsShaped};
+ghost use Rattle.open_file.specs.Fields.{alternates_of, heap_of, prime_index_of, file_schema};
 ghost use Rattle.file_changes.specs.InPages.{in_pages, IsReadyIn};
 ghost use Rattle.file_changes.specs.Old.{AnswersFinding, HasRecordLength, HasStampsIn};
 
@@ -35,12 +36,13 @@ pub(crate) fn find_old<P: Pages>(
     requires { IsReadyIn P.shown (in_pages opened.now pages.old) }
     ensures found { AnswersFinding P.shown opened.now prime.now slot.new pages.old pages.new result }
     ensures within { IfOk result (λ found. IfSome found (HasRecordLength opened.now)) }
-    ensures reads { ReadsPages P.shown (prime_height opened.now.prime + 1) pages.old pages.new result }
+    ensures reads { ReadsPages P.shown (prime_height (prime_index_of opened.now) + 1) pages.old pages.new
+        result }
 {
-    let Some(entry) = opened.prime.find(pages, prime)? else {
+    let Some(entry) = opened.find_prime(pages, prime)? else {
         return Ok(None);
     };
-    let end = opened.heap.get(pages, entry.place, slot)?;
+    let end = opened.read_stored(pages, entry.place, slot)?;
     let stamps = stamps_in(opened, slot);
     Ok(Some(OldRecord {
         place: entry.place,
@@ -53,26 +55,27 @@ pub(crate) fn find_old<P: Pages>(
 pub(crate) fn record_in<'a>(opened: &OpenFile, old: &OldRecord, slot: &'a [u8]) -> &'a [u8]
     requires shaped { IsShaped opened.now }
     requires within { HasRecordLength opened.now old.now }
-    requires room { opened.now.heap.shape.stamps + opened.now.heap.shape.greatest ≤ length slot.now }
+    requires room { (heap_of opened.now).shape.stamps + (heap_of opened.now).shape.greatest
+        ≤ length slot.now }
     ensures bytes { result.now ≡ slice_range slot.now
-        (stamps_length (drop 1 opened.now.schema.keys)) old.now.end }
-    ensures least { opened.now.schema.least ≤ length result.now }
-    ensures greatest { length result.now ≤ opened.now.schema.greatest }
+        (stamps_length (drop 1 (file_schema opened.now).keys)) old.now.end }
+    ensures least { (file_schema opened.now).least ≤ length result.now }
+    ensures greatest { length result.now ≤ (file_schema opened.now).greatest }
 {
-    let start = usize::from(opened.heap.shape.stamps);
+    let start = usize::from(opened.stamps_length());
     &slot[start..old.end]
 }
 
 /// The stamps in the front of a slot, one for each alternate key, 0 for a unique one.
 fn stamps_in(opened: &OpenFile, slot: &[u8]) -> ArrayVec<u64, 8>
     requires { HasStampsIn opened.now slot.now }
-    ensures stamps { result.items ≡ stamps_off (drop 1 opened.now.schema.keys) slot.now }
-    ensures many { length result.items ≡ length opened.now.alternates.items }
+    ensures stamps { result.items ≡ stamps_off (drop 1 (file_schema opened.now).keys) slot.now }
+    ensures many { length result.items ≡ length (alternates_of opened.now) }
 {
     let mut stamps = ArrayVec::new();
     let mut at = 0;
-    for k in 1..opened.schema.key_count() {
-        if opened.schema.part(k as u8).has_duplicates() {
+    for k in 1..opened.key_count() {
+        if opened.part(k as u8).has_duplicates() {
             stamps.push(BigEndian::read_u64(&slot[at..]));
             at += 8;
         } else {

@@ -1,11 +1,12 @@
 //! Removing a record.
 
-ghost use Rattle.std.specs.Prelude.{◌+◌, ◌*◌, true, false, IfErr, OnOk};
+ghost use Rattle.std.specs.Prelude.{◌≡◌, ◌+◌, ◌*◌, true, false, IfErr, OnOk};
 ghost use Rattle.pages.specs.Cause.{IsCaused};
 ghost use Rattle.pages.specs.PageCalls.{WritesPages};
 ghost use Rattle.key_index.specs.Standing.{prime_height};
 ghost use Rattle.open_file.specs.Stands.{IsShaped};
 ghost use Rattle.open_file.specs.Lent.{LendsToChange};
+ghost use Rattle.open_file.specs.Fields.{alternates_of, has_broken, prime_index_of};
 ghost use Rattle.file_changes.specs.Adding.{index_levels};
 ghost use Rattle.file_changes.specs.Contents.{TakesStep};
 ghost use Rattle.file_changes.specs.InPages.{in_pages, IsReadyIn, MakesRemoval, RemovesRecord};
@@ -14,8 +15,6 @@ ghost use Rattle.file_changes.specs.Removing.{prime_lost, slot_freed, entry_lost
 ghost use Rattle.file_changes.specs.Steps.{CanChangeWith, CanChangeIndex, ChangesHeap, ChangesPrime};
 ghost use Rattle.file_changes.specs.Steps.{ChangesAlternates, ChangesAlternate, IsNoHigher};
 
-use crate::adding::put_at;
-use crate::ending::breaks;
 use crate::old_record::{OldRecord, find_old, record_in};
 use io_state::{Fault, Key};
 use key_index::{AltEntry, AltIndex, PrimeEntry};
@@ -30,11 +29,11 @@ pub fn remove<P: Pages>(opened: &mut OpenFile, pages: &mut P, key: &Key) -> Resu
     requires { IsReadyIn P.shown (in_pages opened.old pages.old) }
     ensures { RemovesRecord P.shown key.now.items opened.old opened.new pages.old pages.new result }
 {
-    if opened.broken {
+    if opened.is_broken() {
         return Err(Fault::Broken);
     }
     let removed = try_remove(opened, pages, key.as_slice());
-    opened.broken = breaks(&removed);
+    opened.end_change(&removed);
     removed
 }
 
@@ -43,6 +42,7 @@ fn try_remove<P: Pages>(opened: &mut OpenFile, pages: &mut P, prime: &[u8]) -> R
     requires { IsReadyIn P.shown (in_pages opened.old pages.old) }
     ensures removes { MakesRemoval P.shown prime.now opened.old opened.new pages.old pages.new result }
     ensures cause { IfErr result (IsCaused (P.shown.HasFailed pages.old pages.new) ⊥) }
+    ensures broken { has_broken opened.new ≡ has_broken opened.old }
 {
     let mut slot = [0; 4064];
     let Some(old) = find_old(opened, pages, prime, &mut slot)? else {
@@ -68,7 +68,7 @@ fn take_out<P: Pages>(
     ensures shaped { IsShaped opened.new }
     ensures writes { WritesPages P.shown (most_to_take_out opened.old) ⊥ pages.old pages.new result }
 {
-    opened.path = None;
+    opened.forget_path();
     remove_from_prime(opened, pages, bytes)?;
     remove_from_alternates(opened, pages, bytes, old.stamps.as_slice())?;
     free_slot(opened, pages, old.place)
@@ -82,7 +82,7 @@ fn free_slot<P: Pages>(opened: &mut OpenFile, pages: &mut P, place: Place) -> Re
     ensures file { ChangesHeap opened.old opened.new }
     ensures writes { WritesPages P.shown 1 ⊥ pages.old pages.new result }
 {
-    opened.heap.free(pages, place)
+    opened.free_record(pages, place)
 }
 
 /// Takes a record out of the prime index.
@@ -95,11 +95,11 @@ fn remove_from_prime<P: Pages>(
     ensures removed { TakesStep P.shown (prime_lost bytes.now) opened.old opened.new
         pages.old pages.new result }
     ensures file { ChangesPrime opened.old opened.new }
-    ensures writes { WritesPages P.shown (8 * (prime_height opened.old.prime + 1)) ⊥ pages.old pages.new
-        result }
+    ensures writes { WritesPages P.shown (8 * (prime_height (prime_index_of opened.old) + 1)) ⊥ pages.old
+        pages.new result }
 {
-    let value = opened.schema.value(bytes, 0);
-    match opened.prime.remove(pages, value)? {
+    let value = opened.value(bytes, 0);
+    match opened.remove_prime(pages, value)? {
         true => Ok(()),
         false => Err(Fault::Damage),
     }
@@ -116,10 +116,10 @@ fn remove_from_alternates<P: Pages>(
     ensures removed { LosesEntries P.shown bytes.now stamps.now opened.old opened.new
         pages.old pages.new result }
     ensures file { ChangesAlternates opened.old opened.new }
-    ensures writes { WritesPages P.shown (8 * index_levels opened.old.alternates.items) ⊥ pages.old pages.new
+    ensures writes { WritesPages P.shown (8 * index_levels (alternates_of opened.old)) ⊥ pages.old pages.new
         result }
 {
-    for j in 0..opened.alternates.len() {
+    for j in 0..opened.alternate_count() {
         remove_from_alternate(opened, pages, j, bytes, stamps[j])?;
     }
     Ok(())
@@ -141,9 +141,9 @@ pub(crate) fn remove_from_alternate<P: Pages>(
     ensures others { KeepsOtherIndexes j opened.old opened.new }
     ensures height { OnOk result (IsNoHigher j opened.old opened.new) }
 {
-    let value = opened.schema.value(bytes, j as u8 + 1);
+    let value = opened.value(bytes, j as u8 + 1);
     let mut index = opened.alternate(j + 1);
     let removed = index.remove(pages, value, stamp)?;
-    put_at(&mut opened.alternates, j, index);
+    opened.put_alternate(j, index);
     if removed { Ok(()) } else { Err(Fault::Damage) }
 }

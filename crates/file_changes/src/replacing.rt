@@ -4,6 +4,7 @@ ghost use Rattle.std.specs.Prelude.{⊤, true, ◌≡◌, ◌≢◌, ◌*◌, �
 ghost use Rattle.pages.specs.Cause.{IsCaused};
 ghost use Rattle.pages.specs.PageCalls.{ReadsPages, WritesPages};
 ghost use Rattle.open_file.specs.Stands.{heights_of};
+ghost use Rattle.open_file.specs.Fields.{file_schema};
 ghost use Rattle.file_changes.specs.Old.{row_with};
 ghost use Rattle.file_changes.specs.Contents.{TakesStep};
 ghost use Rattle.file_changes.specs.InPages.{in_pages, MakesReplacement, ReplacesRecord};
@@ -16,7 +17,6 @@ ghost use Rattle.file_changes.specs.Steps.{ChangesAlternates, ChangesAlternate};
 
 use crate::adding::add_to_alternate;
 use crate::changed::{changed_stamps, differs, is_full_to_change, takes_stamp};
-use crate::ending::breaks;
 use crate::old_record::{OldRecord, find_old, record_in};
 use crate::removing::remove_from_alternate;
 use indexed_file::Replaced;
@@ -37,11 +37,11 @@ pub fn replace<P: Pages>(
     requires { CanTakeRecord P.shown (in_pages opened.old pages.old) bytes.now }
     ensures { ReplacesRecord P.shown bytes.now opened.old opened.new pages.old pages.new result }
 {
-    if opened.broken {
+    if opened.is_broken() {
         return Err(Fault::Broken);
     }
     let replaced = try_replace(opened, pages, bytes);
-    opened.broken = breaks(&replaced);
+    opened.end_change(&replaced);
     replaced
 }
 
@@ -56,7 +56,7 @@ fn try_replace<P: Pages>(
     ensures keeps { KeepsMark P.shown opened.old opened.new pages.old pages.new result }
 {
     let mut slot = [0; 4064];
-    let prime = opened.schema.value(bytes, 0);
+    let prime = opened.value(bytes, 0);
     let Some(old) = find_old(opened, pages, prime, &mut slot)? else {
         return Ok(Replaced::Gone);
     };
@@ -99,16 +99,16 @@ fn replacing<P: Pages>(
     bytes: &[u8],
 ) -> Result<Replaced, Fault>
     requires can { CanLookFor P.shown opened.now pages.old bytes.now }
-    requires old { opened.now.schema.least ≤ length old.now }
+    requires old { (file_schema opened.now).least ≤ length old.now }
     ensures found { AnswersReplacing P.shown opened.now old.now bytes.now pages.old pages.new result }
     ensures some { IfOk result (λ answer. answer ≢ Replaced.Gone) }
     ensures reads { ReadsPages P.shown (2 * sum_by (λ height. height) (heights_of opened.now)) pages.old
         pages.new result }
 {
     let mut repeated = false;
-    for k in 1..opened.schema.key_count() {
+    for k in 1..opened.key_count() {
         if is_new_there(opened, pages, k, old, bytes)? {
-            if !opened.schema.part(k as u8).has_duplicates() {
+            if !opened.part(k as u8).has_duplicates() {
                 return Ok(Replaced::Clash);
             }
             repeated = true;
@@ -151,11 +151,11 @@ fn put_over<P: Pages>(
     ensures writes { WritesPages P.shown (most_to_put opened.old before.now bytes.now) ⊥ pages.old pages.new
         result }
 {
-    opened.path = None;
+    opened.forget_path();
     set_slot(opened, pages, old, before, bytes)?;
     change_alternates(opened, pages, before, old.stamps.as_slice(), bytes)?;
     if takes_stamp(opened, before, bytes) {
-        opened.next_stamp += 1;
+        opened.take_stamp();
     }
     Ok(())
 }
@@ -175,7 +175,7 @@ fn set_slot<P: Pages>(
     ensures writes { WritesPages P.shown 1 ⊥ pages.old pages.new result }
 {
     let stamps = changed_stamps(opened, before, old.stamps.as_slice(), bytes);
-    opened.heap.set(pages, old.place, stamps.as_slice(), bytes)
+    opened.set_record(pages, old.place, stamps.as_slice(), bytes)
 }
 
 /// Changes the record's entries in the alternate indexes, where its values change.
@@ -193,7 +193,7 @@ fn change_alternates<P: Pages>(
     ensures writes { WritesPages P.shown (16 * need_to_put opened.old old.now bytes.now) ⊥ pages.old
         pages.new result }
 {
-    for j in 0..opened.alternates.len() {
+    for j in 0..opened.alternate_count() {
         if differs(opened, j + 1, old, bytes) {
             change_alternate(opened, pages, j, old, stamps[j], bytes)?;
         }

@@ -3,6 +3,7 @@
 ghost use Rattle.std.specs.Prelude.{◌≡◌, ◌^◌, ◌||◌, nat_lt, nat_le};
 ghost use Rattle.indexed_file.specs.Room.{need_of_add};
 ghost use Rattle.open_file.specs.Stands.{heights_of};
+ghost use Rattle.open_file.specs.Fields.{next_stamp_of};
 
 use open_file::OpenFile;
 
@@ -10,8 +11,8 @@ use open_file::OpenFile;
 fn need_to_add(opened: &OpenFile) -> u64
     ensures { result ≡ need_of_add (heights_of opened.now) }
 {
-    let mut need = 1 + (u64::from(opened.prime.height()) + 1);
-    for index in opened.alternates.as_slice() {
+    let mut need = 1 + (u64::from(opened.prime_height()) + 1);
+    for index in opened.alternates() {
         need += u64::from(index.height()) + 1;
     }
     need
@@ -20,7 +21,7 @@ fn need_to_add(opened: &OpenFile) -> u64
 /// Whether a record cannot be added for want of pages or stamps.
 pub(crate) fn is_full(opened: &OpenFile, left: u64) -> bool
     ensures { result ≡ (nat_lt left (need_of_add (heights_of opened.now))
-        || nat_le (2 ^ 63) opened.now.next_stamp) }
+        || nat_le (2 ^ 63) (next_stamp_of opened.now)) }
 {
-    left < need_to_add(opened) || opened.next_stamp >= 1 << 63
+    left < need_to_add(opened) || opened.next_stamp() >= 1 << 63
 }

@@ -15,9 +15,9 @@ pub(crate) fn new_stamps(opened: &OpenFile) -> ArrayVec<u8, 64>
     ensures { AreNewStamps opened.now result.items }
 {
     let mut stamps = ArrayVec::new();
-    for k in 1..opened.schema.key_count() {
-        if opened.schema.part(k as u8).has_duplicates() {
-            push_stamp(&mut stamps, opened.next_stamp);
+    for k in 1..opened.key_count() {
+        if opened.part(k as u8).has_duplicates() {
+            push_stamp(&mut stamps, opened.next_stamp());
         }
     }
     stamps

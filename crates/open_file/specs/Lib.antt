@@ -1,3 +1,4 @@
+pub mod Fields
 pub mod InOrder
 pub mod Stored
 pub mod Parts

@@ -18,6 +18,7 @@ use Rattle.file_header.specs.Bounds.{FitsItsBytes, IsHeader}
 use Rattle.file_header.specs.FirstPage.{header_bytes, closed_page}
 use Rattle.file_header.specs.Reading.{header_in}
 use Rattle.file_header.proofs.ReadLemmas.{first_read}
+use Rattle.open_file.specs.Fields.{has_broken, file_schema, without_path}
 use Rattle.open_file.specs.Stands.{Stands}
 use Rattle.open_file.specs.Headers.{IsHeaderOf, Counts, IsOpenedBy}
 use Rattle.open_file.specs.declared.open_file.OpenFile.{OpenFile}
@@ -32,7 +33,7 @@ use Rattle.shelf_file.proofs.ClosingLemmas.{closed_header}
 
 -- the open file, as its header tells of it
 abbrev unpathed : OpenFile → OpenFile
-unpathed opened = record opened { path = None }
+unpathed opened = without_path opened
 
 unpathed_stands : (opened : OpenFile) (live : ℕ → Option (List ℕ)) (file : File) → Stands opened live file → Stands (unpathed opened) live file
 unpathed_stands opened live file stands = record {
@@ -46,7 +47,7 @@ unpathed_stands opened live file stands = record {
   on_path = tt;
 }
 
-module _ (held : ShelfFile) (shelf : ShelfState) (file : File) (header : Header) (page : List ℕ) (ready : IsReady held shelf) (unbroken : IsFalse held.file.broken) (stood : StandsFor held shelf file)
+module _ (held : ShelfFile) (shelf : ShelfState) (file : File) (header : Header) (page : List ℕ) (ready : IsReady held shelf) (unbroken : IsFalse (has_broken held.file)) (stood : StandsFor held shelf file)
     (of : IsHeaderOf header held.file) (counts : Counts header (pages_counted (counts_of held.pages)) (first_free_page (counts_of held.pages)) (pages_free (counts_of held.pages))) (room : FitsItsBytes header) (written : page ≡ header_bytes header) where
   allowed : IsHeader header
   allowed = closed_header held.file (cached_pages_of (cache_of held.pages) shelf) (pages_counted (counts_of held.pages)) (first_free_page (counts_of held.pages)) (pages_free (counts_of held.pages)) file header stood.stands stood.sound ready.shaped of counts room
@@ -68,8 +69,8 @@ module _ (held : ShelfFile) (shelf : ShelfState) (file : File) (header : Header)
     counts = λ j index within at.
         let stands = stood.stands in
         let p = stands.parts in
-        let rows = prime_entries_many held.file.schema stands.slots stands.places file.rows stands.placed.rows_at in
-        (p.alternates_stand j index within at).tree.count ∙ length-map _ _ ∙ alt_entries_many held.file.schema (j + 1) file.rows
+        let rows = prime_entries_many (file_schema held.file) stands.slots stands.places file.rows stands.placed.rows_at in
+        (p.alternates_stand j index within at).tree.count ∙ length-map _ _ ∙ alt_entries_many (file_schema held.file) (j + 1) file.rows
         ∙ sym (sym of.records ∙ p.prime_stands.tree.count ∙ length-map _ _ ∙ rows);
     unbroken = unbroken;
     no_path = refl;
@@ -103,7 +104,7 @@ module _ (held : ShelfFile) (shelf : ShelfState) (file : File) (header : Header)
         let long = closed.long in
         rw (le-ltb (length bytes) 4096 (omega arith)) (ap (look_by bytes) found ∙ rw (le-ltb (length bytes) (4096 * header.pages) (omega arith)) refl)
 
-    pub are_closed : AreClosed held.file.schema file bytes
+    pub are_closed : AreClosed (file_schema held.file) file bytes
     are_closed = record {
       header = header;
       accepted = accepted;
@@ -116,18 +117,18 @@ module _ (held : ShelfFile) (shelf : ShelfState) (file : File) (header : Header)
       };
     }
 
-  ends : (c : Option (List ℕ)) → IsRefused c ⊎ ((bytes : List ℕ) × (c ≡ Some bytes) × IsClosedWith page (cache_of held.pages) shelf bytes) → ClosedFileOrRefused held.file.schema file c
+  ends : (c : Option (List ℕ)) → IsRefused c ⊎ ((bytes : List ℕ) × (c ≡ Some bytes) × IsClosedWith page (cache_of held.pages) shelf bytes) → ClosedFileOrRefused (file_schema held.file) file c
   ends c (inl refused) = inl refused
   ends c (inr is) = inr (is.0, is.1, are_closed is.0 is.2)
 
   pub closes : {E : Type 0} (old new : DeviceFile) (result : Result (Unit {0}) E) → ClosesPages page (cache_of held.pages) shelf old new → OnOk result (ClosedWith page (cache_of held.pages) shelf new)
-      → Closes held.file.schema file old new result
+      → Closes (file_schema held.file) file old new result
   closes old new (Ok x) images closed = record {
-    images = throughout_weaker _ (ClosedFileOrRefused held.file.schema file) old new ends images;
+    images = throughout_weaker _ (ClosedFileOrRefused (file_schema held.file) file) old new ends images;
     settled = closed.settled;
     closed = are_closed (content new) closed.bytes;
   }
-  closes old new (Err e) images closed = record { images = throughout_weaker _ (ClosedFileOrRefused held.file.schema file) old new ends images; settled = tt; closed = tt }
+  closes old new (Err e) images closed = record { images = throughout_weaker _ (ClosedFileOrRefused (file_schema held.file) file) old new ends images; settled = tt; closed = tt }
 
 pub on_ok_at : {E P Q : Type 0} (result : Result (Unit {0}) E) → (P → Q) → OnOk result P → OnOk result Q
 on_ok_at (Ok x) f p = f p

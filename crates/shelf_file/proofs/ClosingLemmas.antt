@@ -16,6 +16,7 @@ use Rattle.record_heap.proofs.StandLemmas.{chain_live}
 use Rattle.page_alloc.specs.Chain.{chain, used}
 use Rattle.page_alloc.proofs.ChainLemmas.{can_give, front_page_at}
 use Rattle.page_marks.specs.Parted.{own_at}
+use Rattle.open_file.specs.Fields.{alternates_of, heap_of, prime_index_of}
 use Rattle.open_file.specs.Stands.{Stands, IsShaped}
 use Rattle.open_file.specs.Headers.{tree_at, HasTree, IsHeaderOf, Counts}
 use Rattle.open_file.specs.declared.open_file.OpenFile.{OpenFile}
@@ -64,13 +65,13 @@ module _ (opened : OpenFile) (bytes : Bytes) (count first free : ℕ) (file : Fi
   live : (n : ℕ) → IsSome (used bytes count (chain bytes count first free) n) → (0 < n) × (n < count) × (free + 2 ≤ count)
   live n there = can_give bytes count n first free there
 
-  prime_page : (0 < opened.prime.tree.root) × (opened.prime.tree.root < count) × (free + 2 ≤ count)
-  prime_page = live opened.prime.tree.root (prime_root opened.heap opened.prime opened.alternates.items _ stands.slots _ _ stands.parts).live
+  prime_page : (0 < (prime_index_of opened).tree.root) × ((prime_index_of opened).tree.root < count) × (free + 2 ≤ count)
+  prime_page = live (prime_index_of opened).tree.root (prime_root (heap_of opened) (prime_index_of opened) (alternates_of opened) _ stands.slots _ _ stands.parts).live
 
   some : 0 < count
   some = let p = prime_page in omega (arith, p.1)
 
-  keys_are : length header.schema.keys ≡ length opened.alternates.items + 1
+  keys_are : length header.schema.keys ≡ length (alternates_of opened) + 1
   keys_are = sym (ap (λ (s : Schema). length s.keys) of.schema_is) ∙ shaped.keys
 
   tree_within : (tree : Tree) (numbers : TreeNumbers) → HasTree tree numbers → 0 < tree.root → tree.root < count → AreTreeNumbers header.pages numbers
@@ -84,21 +85,21 @@ module _ (opened : OpenFile) (bytes : Bytes) (count first free : ℕ) (file : Fi
   trees_within : (k : ℕ) (d : TreeNumbers) → k < length header.trees.items → AreTreeNumbers header.pages (slice_index_or header.trees.items k d)
   trees_within zero d low =
       subst (AreTreeNumbers header.pages) (same_default header.trees.items 0 (record { height = 0; root = 0 }) d low)
-      (tree_within opened.prime.tree (tree_at header 0) of.prime prime_page.0 prime_page.1)
+      (tree_within (prime_index_of opened).tree (tree_at header 0) of.prime prime_page.0 prime_page.1)
   trees_within (suc j) d low =
-      let within : j < length opened.alternates.items = let t = of.trees in let k = keys_are in omega arith in
-      let index = found_at opened.alternates.items j within in
-      let root = live index.0.tree.root (alternate_root opened.heap opened.prime opened.alternates.items _ stands.slots _ _ stands.parts j index.0 within index.1).live in
+      let within : j < length (alternates_of opened) = let t = of.trees in let k = keys_are in omega arith in
+      let index = found_at (alternates_of opened) j within in
+      let root = live index.0.tree.root (alternate_root (heap_of opened) (prime_index_of opened) (alternates_of opened) _ stands.slots _ _ stands.parts j index.0 within index.1).live in
       let next : j + 1 ≡ suc j = omega arith in
       subst (AreTreeNumbers header.pages) (same_default header.trees.items (suc j) (record { height = 0; root = 0 }) d low)
       (subst (λ k. AreTreeNumbers header.pages (tree_at header k)) next (tree_within index.0.tree (tree_at header (j + 1)) (of.alternates j index.0 within index.1) root.0 root.1))
 
-  free_slot_below : opened.heap.free.page < count
+  free_slot_below : (heap_of opened).free.page < count
   free_slot_below =
       let keeps = stands.parts.heap_stands.keeps in
       let own = own_at stands.parts.owns 0 in
-      let there = chain_live _ opened.heap.first own stands.parts.heap_stands.chain in
-      first_of_slots _ opened.heap.free keeps.free _ own _ count keeps.chain keeps.free_are
+      let there = chain_live _ (heap_of opened).first own stands.parts.heap_stands.chain in
+      first_of_slots _ (heap_of opened).free keeps.free _ own _ count keeps.chain keeps.free_are
       (each_map (λ n. IsSome (used bytes count (chain bytes count first free) n)) (λ n. n < count) (λ n here. (live n here).1) own there) some
 
   within : AreLinksWithin header
@@ -107,14 +108,14 @@ module _ (opened : OpenFile) (bytes : Bytes) (count first free : ℕ) (file : Fi
       let first_is = counts.first_is in
       let free_is = counts.free_are in
       let p = prime_page in
-      let all = trees_counted opened.heap opened.prime opened.alternates.items _ stands.slots _ _ stands.parts count (λ n there. let l = live n there in (l.0, l.1)) in
+      let all = trees_counted (heap_of opened) (prime_index_of opened) (alternates_of opened) _ stands.slots _ _ stands.parts count (λ n there. let l = live n there in (l.0, l.1)) in
       record {
         counted = let k = keys_are in omega arith;
         trees = trees_within;
         first_free = let l = first_free_below bytes count first free some sound in omega arith;
         free = omega (arith, p.2);
         first_heap =
-            let l = first_of_chain count opened.heap.first _ (own_at stands.parts.owns 0) stands.parts.heap_stands.chain some (λ n there. (live n there).1) in
+            let l = first_of_chain count (heap_of opened).first _ (own_at stands.parts.owns 0) stands.parts.heap_stands.chain some (λ n there. (live n there).1) in
             let e = of.first_heap in omega arith;
         free_slot = let l = free_slot_below in let e = of.free_page in omega arith;
         stamped = let one = leb-true 1 file.next_stamp (and_parts _ _ stands.sound).0 in let e = stands.stamp in let h = of.next_stamp in omega arith;

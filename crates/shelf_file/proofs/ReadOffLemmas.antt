@@ -18,6 +18,7 @@ use Rattle.bplus_tree.specs.ReadOff.{entries_in}
 use Rattle.record_heap.specs.declared.shape.Shape.{Shape}
 use Rattle.record_heap.specs.declared.heap.Heap.{Heap}
 use Rattle.record_heap.specs.Calls.{used_at}
+use Rattle.open_file.specs.Fields.{heap_of, prime_index_of, file_schema}
 use Rattle.open_file.specs.Stored.{stamps_length}
 use Rattle.open_file.specs.ReadOff.{row_off, rows_off, file_off}
 use Rattle.open_file.specs.Headers.{IsOpenedBy}
@@ -68,13 +69,13 @@ stamps_few (part ∷ parts) = let few = stamps_few parts in elim (cases_Bool (ha
 -- ---- the whole
 
 module _ (opened : OpenFile) (header : Header) (pages : PageMap) (allowed : IsHeader header) (by : IsOpenedBy header opened) where
-  schema_is : opened.schema ≡ header.schema
+  schema_is : file_schema opened ≡ header.schema
   schema_is = by.header_is.schema_is
 
   some_keys : 1 ≤ length header.schema.keys
   some_keys = let e = ap (λ (s : Schema). length s.keys) schema_is in let k = by.shaped.keys in omega arith
 
-  width_is : opened.prime.width ≡ (prime_by header).width
+  width_is : (prime_index_of opened).width ≡ (prime_by header).width
   width_is =
       let here = ap (λ s. (key_at s 0).length) schema_is in
       let key = allowed.schema.whole 0 no_key some_keys in
@@ -83,7 +84,7 @@ module _ (opened : OpenFile) (header : Header) (pages : PageMap) (allowed : IsHe
       let w = by.shaped.prime_width in
       omega arith
 
-  levels_is : opened.prime.tree.levels ≡ (prime_by header).tree.levels
+  levels_is : (prime_index_of opened).tree.levels ≡ (prime_by header).tree.levels
   levels_is =
       let tree = allowed.within.trees 0 (record { height = 0; root = 0 }) (let t = allowed.trees in let s = some_keys in omega arith) in
       let some = tree.some in
@@ -91,7 +92,7 @@ module _ (opened : OpenFile) (header : Header) (pages : PageMap) (allowed : IsHe
       let h = by.header_is.prime.height in
       omega arith
 
-  slots_is : opened.heap.shape ≡ (heap_by header).shape
+  slots_is : (heap_of opened).shape ≡ (heap_by header).shape
   slots_is =
       let few = stamps_few (drop 1 header.schema.keys) in
       let long = length-drop 1 header.schema.keys in
@@ -101,13 +102,13 @@ module _ (opened : OpenFile) (header : Header) (pages : PageMap) (allowed : IsHe
       let s = by.shaped.stamps ∙ ap (λ (s : Schema). stamps_length (drop 1 s.keys)) schema_is in
       let l = by.shaped.least ∙ ap (λ (s : Schema). s.least) schema_is in
       let g = by.shaped.greatest ∙ ap (λ (s : Schema). s.greatest) schema_is in
-      same_slots opened.heap.shape (heap_by header).shape (omega arith) (omega arith) (omega arith)
+      same_slots (heap_of opened).shape (heap_by header).shape (omega arith) (omega arith) (omega arith)
 
   pub reads_by_header : file_off opened pages ≡ file_by header pages
   reads_by_header =
-      let entries = same_prime opened.prime (prime_by header) pages width_is by.header_is.prime.root levels_is in
-      let rows = same_rows opened.heap (heap_by header) pages header.schema (prime_off (prime_by header) pages) slots_is in
+      let entries = same_prime (prime_index_of opened) (prime_by header) pages width_is by.header_is.prime.root levels_is in
+      let rows = same_rows (heap_of opened) (heap_by header) pages header.schema (prime_off (prime_by header) pages) slots_is in
       λ i. record {
-        rows = (ap (λ s. rows_off s opened.heap pages (prime_off opened.prime pages)) schema_is ∙ ap (rows_off header.schema opened.heap pages) entries ∙ rows) i;
+        rows = (ap (λ s. rows_off s (heap_of opened) pages (prime_off (prime_index_of opened) pages)) schema_is ∙ ap (rows_off header.schema (heap_of opened) pages) entries ∙ rows) i;
         next_stamp = by.header_is.next_stamp i;
       }

@@ -4,6 +4,7 @@ use Rattle.indexed_file.specs.File.{File}
 use Rattle.page_store.specs.ShelfState.{ShelfState}
 use Rattle.page_alloc.specs.declared.paged_file.PagedFile.{PagedFile}
 use Rattle.page_alloc.specs.Steps.{ReadsFilePages}
+use Rattle.open_file.specs.Fields.{with_path_of}
 use Rattle.open_file.specs.declared.open_file.OpenFile.{OpenFile}
 use Rattle.open_file.specs.Stands.{Stands, IsShaped}
 use Rattle.shelf_file.specs.declared.shelf_file.ShelfFile.{ShelfFile}
@@ -21,7 +22,7 @@ at_ends P end now end_too now_too tie same tie_too same_too p =
     at_end (λ x. P x end_too) end now tie same (at_end (P now) end_too now_too tie_too same_too p)
 
 -- a call that leaves the file's parts, but for its path
-pub reads_but_path : (old new : ShelfFile) (before after : ShelfState) (failed fails : ℕ) → new.file ≡ record old.file { path = new.file.path }
+pub reads_but_path : (old new : ShelfFile) (before after : ShelfState) (failed fails : ℕ) → new.file ≡ with_path_of new.file old.file
     → (IsTrue after.is_honest → (rows : File) → Stands old.file (live_of old before) rows → Stands new.file (live_of old before) rows)
     → ReadsFilePages old.pages new.pages before after failed fails → OnlyReadsFile old new before after failed fails
 reads_but_path old new before after failed fails parts stays reads = record {
@@ -44,5 +45,5 @@ pub reads_same : (old new : ShelfFile) (before after : ShelfState) (failed fails
     → ReadsFilePages old.pages new.pages before after failed fails → OnlyReadsFile old new before after failed fails
 reads_same old new before after failed fails same reads =
     reads_but_path old new before after failed fails
-    (subst (λ (file : OpenFile). file ≡ record old.file { path = file.path }) (sym same) refl)
+    (subst (λ (file : OpenFile). file ≡ with_path_of file old.file) (sym same) refl)
     (λ honest rows s. subst (λ file. Stands file (live_of old before) rows) (sym same) s) reads

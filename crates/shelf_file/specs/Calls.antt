@@ -19,6 +19,7 @@ use Rattle.page_store.specs.ShelfState.{ShelfState}
 use Rattle.page_alloc.specs.Joining.{FaultsRose}
 use Rattle.page_alloc.specs.Steps.{ReadsFilePages, MayOpenGate, pages_state_of}
 use Rattle.page_alloc.specs.PagedFile.{is_begun, times_asked}
+use Rattle.open_file.specs.Fields.{has_broken, file_schema, with_path_of}
 use Rattle.open_file.specs.Stands.{Stands}
 use Rattle.open_file.specs.Faults.{IsCausedIn}
 use Rattle.open_file.specs.Reading.{FindsFirst, Seeks}
@@ -29,23 +30,23 @@ use Rattle.shelf_file.specs.declared.shelf_file.ShelfFile.{ShelfFile}
 -- a call may be made that reads a record by key k into an area of these bytes
 pub record IsReadyToRead (held : ShelfFile) (shelf : ShelfState) (k : ℕ) (bytes : List ℕ) : Type 0 where
   pub ready : IsReady held shelf
-  pub key : k < length held.file.schema.keys
-  pub area : length bytes ≡ held.file.schema.greatest
+  pub key : k < length (file_schema held.file).keys
+  pub area : length bytes ≡ (file_schema held.file).greatest
 
 -- a call may be made that looks for a value of key k
 pub record IsReadyToSeek (held : ShelfFile) (shelf : ShelfState) (k : ℕ) : Type 0 where
   pub ready : IsReady held shelf
-  pub key : k < length held.file.schema.keys
+  pub key : k < length (file_schema held.file).keys
 
 -- a call may be made that puts this record into the file
 pub record IsReadyToWrite (held : ShelfFile) (shelf : ShelfState) (bytes : List ℕ) : Type 0 where
   pub ready : IsReady held shelf
-  pub least : held.file.schema.least ≤ length bytes
-  pub greatest : length bytes ≤ held.file.schema.greatest
+  pub least : (file_schema held.file).least ≤ length bytes
+  pub greatest : length bytes ≤ (file_schema held.file).greatest
 
 -- a call that only reads: but for its path the file is as it was, and so are its pages
 pub record OnlyReadsFile (old new : ShelfFile) (before after : ShelfState) (failed fails : ℕ) : Type 0 where
-  pub file : new.file ≡ record old.file { path = new.file.path }
+  pub file : new.file ≡ with_path_of new.file old.file
   pub pages : ReadsFilePages old.pages new.pages before after failed fails
   pub ready : IsReady old before → IsReady new after
   pub stands : IsTrue after.is_honest → (file : File) → StandsFor old before file → StandsFor new after file
@@ -65,8 +66,8 @@ shown_on_shelf = record {
   is_honest = λ at. at.shelf.is_honest;
   IsSound = λ at. IsTrue (pages_state_of at.held.pages at.shelf).is_sound;
   StandsFor = λ at. Stands at.held.file (live_of at.held at.shelf);
-  is_broken = λ at. at.held.file.broken;
-  schema = λ at. at.held.file.schema;
+  is_broken = λ at. has_broken at.held.file;
+  schema = λ at. file_schema at.held.file;
   room = λ at. room_in at.held;
   asked = λ at. times_asked at.held.pages;
   IsReady = λ at. IsReady at.held at.shelf;
@@ -81,16 +82,17 @@ shown_on_shelf = record {
 -- a call that only reads: why it gave up, how many pages it asked for at most, and what it left
 pub record ReadsOnShelf {X : Type 0} (most : ℕ) (before after : FileOnShelf)
     (result : Result X Fault) : Type 0 where
-  pub broken : IsTrue before.held.file.broken → result ≡ Err Broken
-  pub cause : IfErr result (IsCausedIn before.held.file.broken (FaultsRose before.faults after.faults) ⊥)
+  pub broken : IsTrue (has_broken before.held.file) → result ≡ Err Broken
+  pub cause : IfErr result
+      (IsCausedIn (has_broken before.held.file) (FaultsRose before.faults after.faults) ⊥)
   pub asked : times_asked after.held.pages ≤ times_asked before.held.pages + most
   pub step : OnlyReadsFile before.held after.held before.shelf after.shelf before.faults after.faults
 
 -- a call that makes this change of the file, or may break it
 pub record ChangesOnShelf {X : Type 0} (change : Schema → FileChange X) (before after : FileOnShelf)
     (result : Result X Fault) : Type 0 where
-  pub changes : Changes shown_on_shelf (change before.held.file.schema) before after result
-  pub breaks : MayBreak shown_on_shelf (change before.held.file.schema).takes_pages before after result
+  pub changes : Changes shown_on_shelf (change (file_schema before.held.file)) before after result
+  pub breaks : MayBreak shown_on_shelf (change (file_schema before.held.file)).takes_pages before after result
 
 -- the greatest prime value of the rows, if there is any
 abbrev pub IsHighestPrime : Schema → List Row → Option (ArrayVec ℕ) → Type 0
@@ -113,13 +115,13 @@ module _ {H : Type 0} (state : H → ShelfState) where
   abbrev pub FindsByValueHeld : ℕ → (value : List ℕ) → ShelfFile → H → H → (area now : List ℕ)
       → Result (Option Found) Fault → Type 0
   FindsByValueHeld k value held old new area now result = FindsFirst (state new).is_honest held.file
-      (live_of held (state old)) k (has_value held.file.schema k value) area now result
+      (live_of held (state old)) k (has_value (file_schema held.file) k value) area now result
 
   -- that a position admits
   abbrev pub FindsNextHeld : ℕ → Position → ShelfFile → H → H → (area now : List ℕ)
       → Result (Option Found) Fault → Type 0
   FindsNextHeld k position held old new area now result = FindsFirst (state new).is_honest held.file
-      (live_of held (state old)) k (admits held.file.schema k position) area now result
+      (live_of held (state old)) k (admits (file_schema held.file) k position) area now result
 
   -- a call that looks for the first value of key k that begins so related to an operand
   abbrev pub SeeksHeld : ℕ → Relation → (operand : List ℕ) → ShelfFile → H → H
@@ -130,7 +132,7 @@ module _ {H : Type 0} (state : H → ShelfState) where
   -- a call that looks for the greatest prime value
   abbrev pub SeeksHighestHeld : ShelfFile → H → H → Result (Option (ArrayVec ℕ)) Fault → Type 0
   SeeksHighestHeld held old new result = WhereStands held old new (λ file.
-      IsAnswer result (IsHighestPrime held.file.schema file.rows))
+      IsAnswer result (IsHighestPrime (file_schema held.file) file.rows))
 
   -- so, of shelves that count their faults so
   module _ (count : H → ℕ) {X : Type 0} where

@@ -11,6 +11,7 @@ use Rattle.page_store.specs.ShelfState.{unit_file}
 use Rattle.page_alloc.specs.Joining.{FaultsRose, pages_counted, pages_free}
 use Rattle.page_alloc.specs.PagedFile.{IsKeptOrRefused, counts_of, is_begun, unit_of_pages}
 use Rattle.file_header.specs.declared.header.Header.{Header}
+use Rattle.open_file.specs.Fields.{has_broken, file_schema}
 use Rattle.open_file.specs.Faults.{IsCausedIn}
 use Rattle.shelf_file.specs.declared.look.Look.{Look}
 use Rattle.shelf_file.specs.declared.shelf_file.ShelfFile.{ShelfFile}
@@ -59,16 +60,16 @@ pub record OpensByHeader (unit limit frames : ℕ) (header : Header)
 -- a file was closed, with nothing written where it was broken or was not changed
 pub record ClosesOnShelf (held : ShelfFile) (old new : CountedShelf)
     (result : Result (Unit {0}) Fault) : Type 0 where
-  pub broken : IsTrue held.file.broken → result ≡ Err Broken
-  pub nothing : IsTrue held.file.broken → new.shelf.file ≡ old.shelf.file
+  pub broken : IsTrue (has_broken held.file) → result ≡ Err Broken
+  pub nothing : IsTrue (has_broken held.file) → new.shelf.file ≡ old.shelf.file
   pub unchanged : is_begun held.pages ≡ false → new.shelf.file ≡ old.shelf.file
-  pub closes : IsTrue new.shelf.is_honest → IsFalse held.file.broken → is_begun held.pages ≡ true
+  pub closes : IsTrue new.shelf.is_honest → IsFalse (has_broken held.file) → is_begun held.pages ≡ true
       → (file : File) → StandsFor held old.shelf file
-      → Closes held.file.schema file (unit_file old.shelf (unit_of_pages held.pages))
+      → Closes (file_schema held.file) file (unit_file old.shelf (unit_of_pages held.pages))
       (unit_file new.shelf (unit_of_pages held.pages)) result
   pub others : KeepsOthers (unit_of_pages held.pages) old.shelf new.shelf
   pub count : old.faults ≤ new.faults
-  pub cause : IfErr result (IsCausedIn held.file.broken (FaultsRose old.faults new.faults) ⊥)
+  pub cause : IfErr result (IsCausedIn (has_broken held.file) (FaultsRose old.faults new.faults) ⊥)
   pub damage : IfErr result (λ e. e ≢ Damage)
 
 -- the same, of shelves that show this state and count their faults so

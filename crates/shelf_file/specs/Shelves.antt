@@ -17,6 +17,7 @@ use Rattle.shelf_file.specs.Named.{look_of, live_in, StandsIn}
 use Rattle.shelf_file.specs.ReadOff.{file_by}
 use Rattle.shelf_file.specs.Standing.{IsReady, StandsFor, file_read_off, room_in}
 use Rattle.page_alloc.specs.PagedFile.{is_begun, times_asked, unit_of_pages}
+use Rattle.open_file.specs.Fields.{has_broken, file_schema}
 
 -- a header that was accepted is one that a file may have
 abbrev pub HasHeader : Look → Type 0
@@ -31,8 +32,8 @@ HasAccepted shelf unit header = look_of (unit_file shelf unit).seen ≡ Accepted
 -- the file of a unit that is open, and not changed yet
 pub record IsOpened (held : ShelfFile) (unit : ℕ) (header : Header) : Type 0 where
   pub unit_is : unit_of_pages held.pages ≡ unit
-  pub schema_is : held.file.schema ≡ header.schema
-  pub unbroken : IsFalse held.file.broken
+  pub schema_is : file_schema held.file ≡ header.schema
+  pub unbroken : IsFalse (has_broken held.file)
   pub unchanged : is_begun held.pages ≡ false
   pub asked : times_asked held.pages ≡ 0
   pub ready : (shelf : ShelfState) → HasUnit shelf unit
@@ -46,8 +47,8 @@ pub record IsOpened (held : ShelfFile) (unit : ℕ) (header : Header) : Type 0 w
 -- the file of a unit that was made, behind an open gate
 pub record IsMade (held : ShelfFile) (unit limit : ℕ) (schema : Schema) (shelf : ShelfState) : Type 0 where
   pub unit_is : unit_of_pages held.pages ≡ unit
-  pub schema_is : held.file.schema ≡ schema
-  pub unbroken : IsFalse held.file.broken
+  pub schema_is : file_schema held.file ≡ schema
+  pub unbroken : IsFalse (has_broken held.file)
   pub changed : is_begun held.pages ≡ true
   pub room : room_in held ≡ room_of_new (Some limit) schema
   pub ready : IsReady held shelf

@@ -7,6 +7,7 @@ use Rattle.pages.specs.PageMap.{PageMap}
 use Rattle.page_store.specs.ShelfState.{ShelfState}
 use Rattle.page_alloc.specs.PagedFile.{IsOpenOver, counts_of, most_held, asked_anew}
 use Rattle.page_alloc.specs.declared.paged_file.PagedFile.{PagedFile}
+use Rattle.open_file.specs.Fields.{has_broken, file_schema}
 use Rattle.open_file.specs.declared.open_file.OpenFile.{OpenFile}
 use Rattle.page_alloc.specs.Joining.{available_of, page_limit}
 use Rattle.page_alloc.specs.Steps.{pages_state_of}
@@ -23,10 +24,10 @@ pages_behind held = held.pages
 
 -- its schema, and whether an earlier change failed
 abbrev pub schema_behind : ShelfFile → Schema
-schema_behind held = held.file.schema
+schema_behind held = file_schema held.file
 
 abbrev pub is_broken_file : ShelfFile → Bool
-is_broken_file held = held.file.broken
+is_broken_file held = has_broken held.file
 
 -- the same file, with no page asked for yet
 abbrev pub recounted : ShelfFile → ShelfFile

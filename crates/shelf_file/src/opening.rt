@@ -89,7 +89,7 @@ impl ShelfFile {
         requires ready { IsReady self.old (S.state shelf.old) }
         ensures { ClosesHeld S.state S.fault_count self.old shelf.old shelf.new result }
     {
-        if self.file.broken {
+        if self.file.is_broken() {
             return Err(Fault::Broken);
         }
         let mut page = [0; PAGE_SIZE];

@@ -10,6 +10,7 @@ use Rattle.page_store.specs.ShelfState.{unit_file}
 use Rattle.page_cache.specs.Quietly.{GoesQuietly}
 use Rattle.page_store.proofs.ShelfLemmas.{same_place}
 use Rattle.open_file.specs.declared.open_file.OpenFile.{OpenFile}
+use Rattle.open_file.specs.Fields.{has_broken, file_schema}
 use Rattle.open_file.specs.ReadOff.{file_off}
 use Rattle.file_header.specs.declared.header.Header.{Header}
 use Rattle.shelf_file.specs.declared.look.Look.TheVariants.{Accepted}
@@ -83,10 +84,10 @@ module _ (u : ℕ) (file after : ShelfFile) (old new : LibraryState) (call : Rea
   ]
 
   pub same_schema : schema_behind after ≡ schema_behind file
-  same_schema = ap (λ (parts : OpenFile). parts.schema) call.reads.file
+  same_schema = ap file_schema call.reads.file
 
   pub same_broken : is_broken_file after ≡ is_broken_file file
-  same_broken = ap (λ (parts : OpenFile). parts.broken) call.reads.file
+  same_broken = ap has_broken call.reads.file
 
   same_rows : IsTrue new.shelf.is_honest → file_read_off after new.shelf ≡ file_read_off file old.shelf
   same_rows honest =

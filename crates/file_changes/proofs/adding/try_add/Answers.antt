@@ -2,6 +2,7 @@ use Rattle.std.proofs.Common.{◌^◌, ◌||◌, ap, refl, sym, subst, ◌∙◌
 use Rattle.std.specs.Prelude.{nat_lt, nat_le}
 use Rattle.indexed_file.specs.Room.{need_of_add}
 use Rattle.indexed_file.specs.Change.{clashes}
+use Rattle.open_file.specs.Fields.{alternates_of, next_stamp_of, prime_index_of, file_schema}
 use Rattle.open_file.specs.Stands.{Stands, heights_of}
 use Rattle.pages.proofs.CauseLemmas.{fails_since}
 use Rattle.open_file.proofs.LookLemmas.{done_is, clash_is, has_room}
@@ -16,7 +17,7 @@ returns-in_err-repeated-clause-adds g c =
     let begins = g.met.P.Pages.writes_begins start looked (g.met.P.Pages.reads_writes start looked c.adding.ensures.reads.step) in
     stopped _ _ _ _ c.from_residual.result _ c.from_residual.ensures.1 c.in_err-repeated.ensures.reads.cause.full
     (λ honest sound file stands. (c.in_err-repeated.ensures.found honest file stands).no_damage)
-    (kept _ _ _ refl (g.met.P.Pages.begins_ready start looked begins c.requires.ready.pages) c.requires.ready.shaped begins (omega (arith, c.adding.ensures.reads.asked, heights_few c.args.opened.now.prime c.args.opened.now.alternates.items, levels_of_all c.args.opened.now.prime c.args.opened.now.alternates.items)))
+    (kept _ _ _ refl (g.met.P.Pages.begins_ready start looked begins c.requires.ready.pages) c.requires.ready.shaped begins (omega (arith, c.adding.ensures.reads.asked, heights_few (prime_index_of c.args.opened.now) (alternates_of c.args.opened.now), levels_of_all (prime_index_of c.args.opened.now) (alternates_of c.args.opened.now))))
 
 pub returns-in_default-clause-adds : goal.returns-in_default-clause-adds
 returns-in_default-clause-adds g c =
@@ -28,14 +29,14 @@ returns-in_default-clause-adds g c =
     not_made _ _ _ _ _ refl (refl, step)
     (λ honest sound file stands.
     let told = (rw c.in_default.is at c.in_ok-repeated.ensures.found honest file stands).answer in
-    let clash = clash_is u.schema c.args.bytes.now file told in
+    let clash = clash_is (file_schema u) c.args.bytes.now file told in
     let still = subst (λ p. Stands u p file) (sym (g.met.P.Pages.reads_live start looked step honest)) stands in
     record { answers = told; stands = rw clash still; sound = g.met.P.Pages.reads_sound start looked step honest ∙ sound })
     (λ honest file stands.
     let told = (rw c.in_default.is at c.in_ok-repeated.ensures.found honest file stands).answer in
-    let clash = clash_is u.schema c.args.bytes.now file told in
+    let clash = clash_is (file_schema u) c.args.bytes.now file told in
     rw clash refl)
-    (kept _ _ _ refl (g.met.P.Pages.begins_ready start looked begins c.requires.ready.pages) c.requires.ready.shaped begins (omega (arith, c.adding.ensures.reads.asked, heights_few u.prime u.alternates.items, levels_of_all u.prime u.alternates.items)))
+    (kept _ _ _ refl (g.met.P.Pages.begins_ready start looked begins c.requires.ready.pages) c.requires.ready.shaped begins (omega (arith, c.adding.ensures.reads.asked, heights_few (prime_index_of u) (alternates_of u), levels_of_all (prime_index_of u) (alternates_of u))))
 
 pub returns-then-is_full-clause-adds : goal.returns-then-is_full-clause-adds
 returns-then-is_full-clause-adds g c =
@@ -45,14 +46,14 @@ returns-then-is_full-clause-adds g c =
     let step = c.adding.ensures.reads.step in
     let begins = g.met.P.Pages.writes_begins start looked (g.met.P.Pages.reads_writes start looked step) in
     let left = c.pages_left.ensures ∙ g.met.P.Pages.reads_available start looked step in
-    let full = ap (λ n. nat_lt n (need_of_add (heights_of u)) || nat_le (2 ^ 63) u.next_stamp) (sym left) ∙ sym c.is_full.ensures ∙ c.if-is_full.true in
+    let full = ap (λ n. nat_lt n (need_of_add (heights_of u)) || nat_le (2 ^ 63) (next_stamp_of u)) (sym left) ∙ sym c.is_full.ensures ∙ c.if-is_full.true in
     lacking _ _ _ _ (refl, step)
     (λ honest file stands.
     let told = (rw c.in-Done.is at c.in_ok-repeated.ensures.found honest file stands).answer in (
-      done_is u.schema c.args.bytes.now file c.in-Done.repeated told,
+      done_is (file_schema u) c.args.bytes.now file c.in-Done.repeated told,
       ap (λ n. nat_lt (g.P.Pages.shown.state start).available (need_of_add (heights_of u)) || nat_le (2 ^ 63) n) (sym stands.stamp) ∙ full,
     ))
-    (kept _ _ _ refl (g.met.P.Pages.begins_ready start looked begins c.requires.ready.pages) c.requires.ready.shaped begins (omega (arith, c.adding.ensures.reads.asked, heights_few u.prime u.alternates.items, levels_of_all u.prime u.alternates.items)))
+    (kept _ _ _ refl (g.met.P.Pages.begins_ready start looked begins c.requires.ready.pages) c.requires.ready.shaped begins (omega (arith, c.adding.ensures.reads.asked, heights_few (prime_index_of u) (alternates_of u), levels_of_all (prime_index_of u) (alternates_of u))))
 
 pub returns-in_err-begin-clause-adds : goal.returns-in_err-begin-clause-adds
 returns-in_err-begin-clause-adds g c =
@@ -63,7 +64,7 @@ returns-in_err-begin-clause-adds g c =
     let begins = g.met.P.Pages.begins_on start looked begun (g.met.P.Pages.writes_begins start looked (g.met.P.Pages.reads_writes start looked c.adding.ensures.reads.step)) c.begin.ensures.begins in
     stopped _ _ _ _ c.from_residual-in_err-begin.result _ c.from_residual-in_err-begin.ensures.1 c.in_err-begin.ensures.cause.full
     (λ honest sound file stands. c.in_err-begin.ensures.damage)
-    (kept _ _ _ refl (g.met.P.Pages.begins_ready start begun begins c.requires.ready.pages) c.requires.ready.shaped begins (omega (arith, c.adding.ensures.reads.asked, c.begin.ensures.asked, heights_few u.prime u.alternates.items, levels_of_all u.prime u.alternates.items)))
+    (kept _ _ _ refl (g.met.P.Pages.begins_ready start begun begins c.requires.ready.pages) c.requires.ready.shaped begins (omega (arith, c.adding.ensures.reads.asked, c.begin.ensures.asked, heights_few (prime_index_of u) (alternates_of u), levels_of_all (prime_index_of u) (alternates_of u))))
 
 pub returns-in_err-put_in-clause-adds : goal.returns-in_err-put_in-clause-adds
 returns-in_err-put_in-clause-adds g c =
@@ -84,9 +85,9 @@ returns-in_err-put_in-clause-adds g c =
     let still = subst (λ p. Stands u p file) (sym live) stands in
     let kept = c.begin.ensures.rests.sound h2 ∙ g.met.P.Pages.reads_sound start looked step h1 ∙ sound in
     let told = (rw c.in-Done.is at c.in_ok-repeated.ensures.found h1 file stands).answer in
-    let free = done_is u.schema c.args.bytes.now file c.in-Done.repeated told in
+    let free = done_is (file_schema u) c.args.bytes.now file c.in-Done.repeated told in
     (c.in_err-put_in.ensures.done honest kept file still free).no_damage)
-    (kept _ _ _ c.put_in.ensures.keeps.schema (g.met.P.Pages.begins_ready start last begins c.requires.ready.pages) c.put_in.ensures.keeps.shaped begins (omega (arith, c.adding.ensures.reads.asked, c.begin.ensures.asked, c.put_in.ensures.writes.asked, need_in u.prime u.alternates.items, heights_few u.prime u.alternates.items, levels_of_all u.prime u.alternates.items)))
+    (kept _ _ _ c.put_in.ensures.keeps.schema (g.met.P.Pages.begins_ready start last begins c.requires.ready.pages) c.put_in.ensures.keeps.shaped begins (omega (arith, c.adding.ensures.reads.asked, c.begin.ensures.asked, c.put_in.ensures.writes.asked, need_in (prime_index_of u) (alternates_of u), heights_few (prime_index_of u) (alternates_of u), levels_of_all (prime_index_of u) (alternates_of u))))
 
 pub returns-in_err-put_in-clause-keeps : goal.returns-in_err-put_in-clause-keeps
 returns-in_err-put_in-clause-keeps g c =
@@ -117,11 +118,11 @@ returns-clause-adds g c =
     let still = subst (λ p. Stands u p file) (sym live) stands in
     let kept = c.begin.ensures.rests.sound h2 ∙ g.met.P.Pages.reads_sound start looked step h1 ∙ sound in
     let told = (rw c.in-Done.is at c.in_ok-repeated.ensures.found h1 file stands).answer in
-    let free = done_is u.schema c.args.bytes.now file c.in-Done.repeated told in
+    let free = done_is (file_schema u) c.args.bytes.now file c.in-Done.repeated told in
     let done = (c.in_ok-put_in.ensures.done honest kept file still free).answer in
     record { answers = told; stands = rw free done.0; sound = done.1 })
     (λ honest file stands.
     let left = c.pages_left.ensures ∙ g.met.P.Pages.reads_available start looked step in
-    let room = ap (λ n. nat_lt n (need_of_add (heights_of u)) || nat_le (2 ^ 63) u.next_stamp) (sym left) ∙ sym c.is_full.ensures ∙ c.if-is_full.false in
-    has_room (heights_of u) (g.P.Pages.shown.state start).available u.next_stamp (clashes u.schema c.args.bytes.now file.rows) file stands.stamp room)
-    (kept _ _ _ c.put_in.ensures.keeps.schema (g.met.P.Pages.begins_ready start last begins c.requires.ready.pages) c.put_in.ensures.keeps.shaped begins (omega (arith, c.adding.ensures.reads.asked, c.begin.ensures.asked, c.put_in.ensures.writes.asked, need_in u.prime u.alternates.items, heights_few u.prime u.alternates.items, levels_of_all u.prime u.alternates.items)))
+    let room = ap (λ n. nat_lt n (need_of_add (heights_of u)) || nat_le (2 ^ 63) (next_stamp_of u)) (sym left) ∙ sym c.is_full.ensures ∙ c.if-is_full.false in
+    has_room (heights_of u) (g.P.Pages.shown.state start).available (next_stamp_of u) (clashes (file_schema u) c.args.bytes.now file.rows) file stands.stamp room)
+    (kept _ _ _ c.put_in.ensures.keeps.schema (g.met.P.Pages.begins_ready start last begins c.requires.ready.pages) c.put_in.ensures.keeps.shaped begins (omega (arith, c.adding.ensures.reads.asked, c.begin.ensures.asked, c.put_in.ensures.writes.asked, need_in (prime_index_of u) (alternates_of u), heights_few (prime_index_of u) (alternates_of u), levels_of_all (prime_index_of u) (alternates_of u))))

@@ -1,6 +1,7 @@
 use Rattle.std.proofs.Common.{◌≡◌, ℕ, ◌+◌, ◌-◌, ◌<◌, Bool, true, false, not, length, refl, ap, ◌∙◌, arith}
 use Rattle.std.specs.Prelude.{slice_index_or, if◌then◌else◌}
 use Rattle.key_index.specs.Standing.{alt_height}
+use Rattle.open_file.specs.Fields.{alternates_of, file_schema}
 use Rattle.file_changes.specs.Replacing.{stays}
 use Rattle.open_file.proofs.PartsLemmas.{found_at}
 use Rattle.file_changes.proofs.ChangedLemmas.{need_step}
@@ -24,16 +25,16 @@ loop-j-preserved c =
     let j = c.loop-j.j in
     let old = c.args.old.now in
     let new = c.args.new.now in
-    let lt : j < length u.alternates.items = omega (arith, c.loop-j-test.true, c.len-j-end.ensures.value) in
+    let lt : j < length (alternates_of u) = omega (arith, c.loop-j-test.true, c.alternate_count-j-end.ensures.value) in
     elim c.if-differs.branch [
       | then-differs w ↦
-          let is : w.alternate.result ≡ slice_index_or u.alternates.items j w.alternate.result = w.alternate.ensures ∙ ap (λ m. slice_index_or u.alternates.items m w.alternate.result) (again j) in
-          let step = need_step u.schema old new u.alternates.items j w.alternate.result c.requires.shaped.keys lt is in
-          let here = moves (stays u.schema old new j) c.differs.result (alt_height w.alternate.result + 1) c.differs.ensures w.if-differs.true in
+          let is : w.alternate.result ≡ slice_index_or (alternates_of u) j w.alternate.result = w.alternate.ensures ∙ ap (λ m. slice_index_or (alternates_of u) m w.alternate.result) (again j) in
+          let step = need_step (file_schema u) old new (alternates_of u) j w.alternate.result c.requires.shaped.keys lt is in
+          let here = moves (stays (file_schema u) old new j) c.differs.result (alt_height w.alternate.result + 1) c.differs.ensures w.if-differs.true in
           record { so_far = omega (arith, w.need-is, w.from.ensures, w.height.ensures, step, here, c.loop-j.invariant.so_far); small = omega (arith, w.need-is, w.from.ensures, w.height.ensures, w.alternate.result.tree.low, c.loop-j.invariant.small) }
       | else-differs w ↦
-          let index = found_at u.alternates.items j lt in
-          let step = need_step u.schema old new u.alternates.items j index.0 c.requires.shaped.keys lt index.1 in
-          let here = rests (stays u.schema old new j) c.differs.result (alt_height index.0 + 1) c.differs.ensures w.if-differs.false in
+          let index = found_at (alternates_of u) j lt in
+          let step = need_step (file_schema u) old new (alternates_of u) j index.0 c.requires.shaped.keys lt index.1 in
+          let here = rests (stays (file_schema u) old new j) c.differs.result (alt_height index.0 + 1) c.differs.ensures w.if-differs.false in
           record { so_far = omega (arith, w.need-is, step, here, c.loop-j.invariant.so_far); small = omega (arith, w.need-is, c.loop-j.invariant.small) }
     ]

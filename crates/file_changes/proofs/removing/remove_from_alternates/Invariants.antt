@@ -2,6 +2,7 @@ use Rattle.std.proofs.Common.{◌≡◌, ℕ, ◌+◌, ◌*◌, ◌≤◌, List,
 use Rattle.key_index.specs.declared.entry.PrimeEntry.{PrimeEntry}
 use Rattle.key_index.specs.declared.entry.AltEntry.{AltEntry}
 use Rattle.record_heap.specs.Chain.{Slots}
+use Rattle.open_file.specs.Fields.{alternates_of, heap_of, prime_index_of, file_schema, with_alternates_of}
 use Rattle.open_file.specs.Parts.{Parts}
 use Rattle.open_file.specs.Stands.{IsShaped}
 use Rattle.file_changes.specs.Adding.{index_levels}
@@ -14,12 +15,12 @@ invariant-loop-j g l = record {
   goes : g.P.Pages.shown.Writes l.fn.pages l.pages;
   removed : IsTrue (g.P.Pages.shown.state l.pages).is_honest → IsTrue (g.P.Pages.shown.state l.fn.pages).is_sound
       → (slots : Slots) (primes : List PrimeEntry) (entries : ℕ → List AltEntry)
-      → Parts l.fn.opened.heap l.fn.opened.prime l.fn.opened.alternates.items (g.P.Pages.shown.state l.fn.pages).live slots primes entries
-      → AreThere l.fn.opened.schema (row_with l.bytes l.stamps) (length l.fn.opened.alternates.items) entries
-      → Parts l.opened.heap l.opened.prime l.opened.alternates.items (g.P.Pages.shown.state l.pages).live slots primes (without_below l.fn.opened.schema (row_with l.bytes l.stamps) l.j entries)
+      → Parts (heap_of l.fn.opened) (prime_index_of l.fn.opened) (alternates_of l.fn.opened) (g.P.Pages.shown.state l.fn.pages).live slots primes entries
+      → AreThere (file_schema l.fn.opened) (row_with l.bytes l.stamps) (length (alternates_of l.fn.opened)) entries
+      → Parts (heap_of l.opened) (prime_index_of l.opened) (alternates_of l.opened) (g.P.Pages.shown.state l.pages).live slots primes (without_below (file_schema l.fn.opened) (row_with l.bytes l.stamps) l.j entries)
       × IsTrue (g.P.Pages.shown.state l.pages).is_sound;
-  rest : l.opened ≡ record l.fn.opened { alternates = l.opened.alternates };
+  rest : l.opened ≡ with_alternates_of l.opened l.fn.opened;
   shaped : IsShaped l.opened;
-  many : length l.opened.alternates.items ≡ length l.fn.opened.alternates.items;
-  asked : (g.P.Pages.shown.state l.pages).asked + 8 * index_levels (drop l.j l.opened.alternates.items) ≤ (g.P.Pages.shown.state l.fn.pages).asked + 8 * index_levels l.fn.opened.alternates.items;
+  many : length (alternates_of l.opened) ≡ length (alternates_of l.fn.opened);
+  asked : (g.P.Pages.shown.state l.pages).asked + 8 * index_levels (drop l.j (alternates_of l.opened)) ≤ (g.P.Pages.shown.state l.fn.pages).asked + 8 * index_levels (alternates_of l.fn.opened);
 }

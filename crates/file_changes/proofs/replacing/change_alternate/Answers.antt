@@ -2,6 +2,8 @@ use Rattle.std.proofs.Common.{◌+◌, ◌<◌, length, refl, ap, sym, ◌∙◌
 use Rattle.record_layout.specs.Schema.{value_of}
 use Rattle.key_index.specs.Entries.{with_alt, without_rank}
 use Rattle.file_changes.specs.Adding.{entry_of_record}
+use Rattle.open_file.specs.Fields.{alternates_of, heap_of, next_stamp_of, prime_index_of, file_schema}
+use Rattle.open_file.specs.Fields.{with_alternates_of}
 use Rattle.open_file.specs.Parts.{but_at}
 use Rattle.open_file.specs.declared.open_file.OpenFile.{OpenFile}
 use Rattle.open_file.proofs.ExitLemmas.{fails, if_ok}
@@ -22,15 +24,15 @@ returns-clause-put g c honest sound slots primes entries p can =
     let last = c.add_to_alternate.new.pages in
     let new = c.add_to_alternate.new.opened in
     let before = g.met.P.Pages.writes_honestly now last c.add_to_alternate.ensures.alternate.goes honest in
-    let left = without_rank (value_of u.schema (j + 1) c.args.old.now) c.args.stamp (entries j) in
-    let entry = entry_of_record u.schema u.next_stamp c.args.bytes.now j in
+    let left = without_rank (value_of (file_schema u) (j + 1) c.args.old.now) c.args.stamp (entries j) in
+    let entry = entry_of_record (file_schema u) (next_stamp_of u) c.args.bytes.now j in
     let out = (c.in_ok-remove_from_alternate.ensures.removed before sound slots primes entries p can.there).answer in
-    let schema = ap (λ (o : OpenFile). o.schema) c.remove_from_alternate.ensures.alternate.rest in
-    let next = ap (λ (o : OpenFile). o.next_stamp) c.remove_from_alternate.ensures.alternate.rest in
+    let schema = ap file_schema c.remove_from_alternate.ensures.alternate.rest in
+    let next = ap next_stamp_of c.remove_from_alternate.ensures.alternate.rest in
     let added = (rw (schema, next) at c.add_to_alternate.ensures.added) honest out.1 slots primes (but_at j left entries) out.0 (rw (but_here j left entries) can.freed) in
     record {
       answer = if_ok c.add_to_alternate.result _ _ (λ x done. (
-        said_so new.heap new.prime new.alternates.items (g.P.Pages.shown.state last).live slots primes _ done.0 primes (but_at j (with_alt entry left) entries) refl
+        said_so (heap_of new) (prime_index_of new) (alternates_of new) (g.P.Pages.shown.state last).live slots primes _ done.0 primes (but_at j (with_alt entry left) entries) refl
             (λ i lt. but_twice j left (with_alt entry left) entries i ∙ ap (λ es. but_at j (with_alt entry es) (but_at j left entries) i) (sym (but_here j left entries))),
         done.1,
       )) added.answer;
@@ -60,10 +62,10 @@ returns-clause-alternate g c =
     let new = c.add_to_alternate.new.opened in
     let out = c.remove_from_alternate.ensures.alternate in
     let put = c.add_to_alternate.ensures.alternate in
-    let lt : c.args.j < length mid.alternates.items = omega (arith, c.requires.index, out.many) in
-    let later = found_at mid.alternates.items c.args.j lt in
+    let lt : c.args.j < length (alternates_of mid) = omega (arith, c.requires.index, out.many) in
+    let later = found_at (alternates_of mid) c.args.j lt in
     record {
-      rest = put.rest ∙ ap (λ (o : OpenFile). record o { alternates = new.alternates }) out.rest;
+      rest = put.rest ∙ ap (with_alternates_of new) out.rest;
       shaped = put.shaped;
       later = put.later ∙ out.later;
       many = put.many ∙ out.many;

@@ -3,6 +3,7 @@ use Rattle.indexed_file.specs.Change.{clashes_with_others}
 use Rattle.indexed_file.specs.Room.{is_full_to_replace}
 use Rattle.file_changes.specs.Old.{row_with}
 use Rattle.file_changes.specs.Replacing.{is_full_for}
+use Rattle.open_file.specs.Fields.{file_schema}
 use Rattle.open_file.specs.Stands.{room_of}
 use Rattle.pages.proofs.CauseLemmas.{fails_since}
 use Rattle.file_changes.proofs.EndingLemmas.{found_kept, found_stopped}
@@ -64,7 +65,7 @@ returns-in_default-clause-replaces g c =
       begun = λ made. absurd (cc);
       room = λ honest file stands has.
           let told = (rw is at c.in_ok-repeated.ensures.found honest file stands row has refl).answer in
-          rw (clashed u.schema c.args.bytes.now file row told) refl;
+          rw (clashed (file_schema u) c.args.bytes.now file row told) refl;
       full = λ same. absurd (cc);
       lacks = λ same. absurd (cc);
       keeps = found_kept _ _ _ refl refl c.requires.can.ready.shaped (g.met.P.Pages.writes_begins start now (g.met.P.Pages.reads_writes start now step)) (omega (arith, c.replacing.ensures.reads.asked));
@@ -87,7 +88,7 @@ returns-then-is_full_to_change-clause-replaces g c =
           let told = (rw c.in-Done.is at c.in_ok-repeated.ensures.found honest file stands row is refl).answer in
           let left : c.pages_left.result ≡ (g.P.Pages.shown.state start).available = c.pages_left.ensures ∙ g.met.P.Pages.reads_available start now step in
           let full = sym c.is_full_to_change.ensures ∙ c.if-is_full_to_change.true in (
-            not_clashed u.schema c.args.bytes.now file row c.in-Done.repeated told,
+            not_clashed (file_schema u) c.args.bytes.now file row c.in-Done.repeated told,
             full_is u (g.P.Pages.shown.state start).live c.args.bytes.now file row (g.P.Pages.shown.state start).available stands c.requires.can.ready.shaped is
                 ∙ ap (λ n. is_full_for u n c.args.before.now c.args.bytes.now) (sym left) ∙ full,
           );
@@ -118,7 +119,7 @@ returns-in_err-put_over-clause-replaces g c =
     let live = c.begin.ensures.rests.live h2 ∙ g.met.P.Pages.reads_live start looked c.replacing.ensures.reads.step h1 in
     let kept = c.begin.ensures.rests.sound h2 ∙ g.met.P.Pages.reads_sound start looked c.replacing.ensures.reads.step h1 ∙ sound in
     let told = (rw c.in-Done.is at c.in_ok-repeated.ensures.found h1 file stands row at.is_row refl).answer in
-    let clash = not_clashed u.schema c.args.bytes.now file row c.in-Done.repeated told in
+    let clash = not_clashed (file_schema u) c.args.bytes.now file row c.in-Done.repeated told in
     let change = is_change u c.args.bytes.now file row c.requires.can.ready.shaped stands.sound c.requires.can.least c.requires.can.greatest at.is_row clash in
     let can = can_put_over u (g.P.Pages.shown.state start).live c.args.bytes.now file c.args.old.now.place row stands c.requires.can.ready.shaped at change in
     let parts = parts_later stands live in
@@ -146,7 +147,7 @@ returns-clause-replaces g c =
           let live = c.begin.ensures.rests.live h2 ∙ g.met.P.Pages.reads_live start looked step h1 in
           let kept = c.begin.ensures.rests.sound h2 ∙ g.met.P.Pages.reads_sound start looked step h1 ∙ sound in
           let told = (rw c.in-Done.is at c.in_ok-repeated.ensures.found h1 file stands row at.is_row refl).answer in
-          let clash = not_clashed u.schema c.args.bytes.now file row c.in-Done.repeated told in
+          let clash = not_clashed (file_schema u) c.args.bytes.now file row c.in-Done.repeated told in
           let change = is_change u c.args.bytes.now file row c.requires.can.ready.shaped stands.sound c.requires.can.least c.requires.can.greatest at.is_row clash in
           let can = can_put_over u (g.P.Pages.shown.state start).live c.args.bytes.now file c.args.old.now.place row stands c.requires.can.ready.shaped at change in
           let parts = parts_later stands live in
@@ -163,7 +164,7 @@ returns-clause-replaces g c =
           let left : c.pages_left.result ≡ (g.P.Pages.shown.state start).available = c.pages_left.ensures ∙ g.met.P.Pages.reads_available start looked step in
           let none = full_is u (g.P.Pages.shown.state start).live c.args.bytes.now file row (g.P.Pages.shown.state start).available stands c.requires.can.ready.shaped is
           ∙ ap (λ n. is_full_for u n c.args.before.now c.args.bytes.now) (sym left) ∙ passes in
-          or_not (clashes_with_others u.schema c.args.bytes.now file) (is_full_to_replace (room_of u (g.P.Pages.shown.state start).available) u.schema c.args.bytes.now file) none;
+          or_not (clashes_with_others (file_schema u) c.args.bytes.now file) (is_full_to_replace (room_of u (g.P.Pages.shown.state start).available) (file_schema u) c.args.bytes.now file) none;
       full = λ same. absurd (cc);
       lacks = λ same. absurd (cc);
       keeps = found_kept _ _ _ c.put_over.ensures.file.schema c.put_over.ensures.file.broken c.put_over.ensures.file.shaped (g.met.P.Pages.begins_on start begun last (g.met.P.Pages.begins_on start looked begun (g.met.P.Pages.writes_begins start looked (g.met.P.Pages.reads_writes start looked step)) c.begin.ensures.begins) (g.met.P.Pages.writes_begins begun last c.put_over.ensures.writes.step)) (omega (arith, c.replacing.ensures.reads.asked, c.begin.ensures.asked, c.put_over.ensures.writes.asked, need_within u c.args.before.now c.args.bytes.now));

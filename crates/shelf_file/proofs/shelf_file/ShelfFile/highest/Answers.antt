@@ -5,12 +5,13 @@ use Rattle.shelf_file.specs.Standing.{room_in}
 use Rattle.shelf_file.specs.Calls.{IsHighestPrime, WhereStands, ReadsHeld}
 use Rattle.shelf_file.proofs.StepLemmas.{only_reads, at_end}
 use Rattle.shelf_file.proofs.shelf_file.ShelfFile.highest.Goals as goal
+use Rattle.open_file.specs.Fields.{file_schema}
 
 pub returns-clause-found : goal.returns-clause-found
 returns-clause-found g c =
     let old = c.args.self.now in
     at_end (λ s. WhereStands g.S.Shelf.state old c.args.shelf.now s (λ file.
-    IsAnswer c.highest.result (IsHighestPrime old.file.schema file.rows)))
+    IsAnswer c.highest.result (IsHighestPrime (file_schema old.file) file.rows)))
     _ _ c.shelf-1.given.1 c.highest.ensures.reads.step.1 c.highest.ensures.found
 
 pub returns-clause-reads : goal.returns-clause-reads

@@ -5,11 +5,12 @@ use Rattle.shelf_file.specs.Standing.{room_in}
 use Rattle.shelf_file.specs.Calls.{FindsHeld, ReadsHeld}
 use Rattle.shelf_file.proofs.StepLemmas.{reads_but_path, at_end}
 use Rattle.shelf_file.proofs.shelf_file.ShelfFile.next.Goals as goal
+use Rattle.open_file.specs.Fields.{file_schema}
 
 pub returns-clause-finds : goal.returns-clause-finds
 returns-clause-finds g c =
     let old = c.args.self.now in
-    let test = admits old.file.schema c.args.k c.args.position.now in
+    let test = admits (file_schema old.file) c.args.k c.args.position.now in
     at_end (λ s. FindsHeld g.S.Shelf.state c.args.k test old c.args.shelf.now s c.args.area.now c.next.new.area c.next.result)
     _ _ c.shelf-1.given.1 c.next.ensures.reads.step.1 c.next.ensures.finds
 
