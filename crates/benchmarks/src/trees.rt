@@ -1,6 +1,7 @@
 //! Calls on a tree whose pages are all in memory, and how long they take: of a new file in an empty folder, or of a few pages in memory.
 
 ghost use Rattle.std.specs.Prelude.{◌≡◌};
+ghost use Rattle.bplus_tree.specs.Fields.{tree_shape};
 
 mod calls;
 mod entries;
@@ -110,11 +111,11 @@ fn time_remove<P: Pages>(
     pages: &mut P,
     entries: &[Bytes],
 ) -> anyhow::Result<Timed>
-    requires shape { tree.old.shape.entry ≡ 24 }
+    requires shape { (tree_shape tree.old).entry ≡ 24 }
     requires ready { P.shown.IsReady pages.old }
     requires open { P.shown.CanChange pages.old }
     ensures goes { P.shown.Writes pages.old pages.new }
-    ensures shape { tree.new.shape ≡ tree.old.shape }
+    ensures shape { tree_shape tree.new ≡ tree_shape tree.old }
 {
     let start = Instant::now(rt)?;
     let sum = remove_all(tree, pages, entries)?;
@@ -128,11 +129,11 @@ fn time_insert<P: Pages>(
     pages: &mut P,
     entries: &[Bytes],
 ) -> anyhow::Result<Timed>
-    requires shape { tree.old.shape.entry ≡ 24 }
+    requires shape { (tree_shape tree.old).entry ≡ 24 }
     requires ready { P.shown.IsReady pages.old }
     requires open { P.shown.CanChange pages.old }
     ensures goes { P.shown.Writes pages.old pages.new }
-    ensures shape { tree.new.shape ≡ tree.old.shape }
+    ensures shape { tree_shape tree.new ≡ tree_shape tree.old }
 {
     let start = Instant::now(rt)?;
     let sum = insert_all(tree, pages, entries)?;
@@ -162,11 +163,11 @@ fn time_changes<P: Pages>(
     pages: &mut P,
     some: &[Bytes],
 ) -> anyhow::Result<(Timed, Timed)>
-    requires shape { tree.old.shape.entry ≡ 24 }
+    requires shape { (tree_shape tree.old).entry ≡ 24 }
     requires ready { P.shown.IsReady pages.old }
     requires open { P.shown.CanChange pages.old }
     ensures goes { P.shown.Writes pages.old pages.new }
-    ensures shape { tree.new.shape ≡ tree.old.shape }
+    ensures shape { tree_shape tree.new ≡ tree_shape tree.old }
 {
     let remove = time_remove(rt, tree, pages, some)?;
     let insert = time_insert(rt, tree, pages, some)?;
@@ -182,11 +183,11 @@ fn round<P: Pages>(
     some: &[Bytes],
     before: Figures,
 ) -> anyhow::Result<Figures>
-    requires shape { tree.old.shape.entry ≡ 24 }
+    requires shape { (tree_shape tree.old).entry ≡ 24 }
     requires ready { P.shown.IsReady pages.old }
     requires open { P.shown.CanChange pages.old }
     ensures goes { P.shown.Writes pages.old pages.new }
-    ensures shape { tree.new.shape ≡ tree.old.shape }
+    ensures shape { tree_shape tree.new ≡ tree_shape tree.old }
 {
     let (find, step) = time_reading(rt, tree, pages, entries)?;
     let (remove, insert) = time_changes(rt, tree, pages, some)?;
@@ -201,11 +202,11 @@ fn rounds<P: Pages>(
     entries: &[Bytes],
     count: usize,
 ) -> anyhow::Result<Figures>
-    requires shape { tree.old.shape.entry ≡ 24 }
+    requires shape { (tree_shape tree.old).entry ≡ 24 }
     requires ready { P.shown.IsReady pages.old }
     requires open { P.shown.CanChange pages.old }
     ensures goes { P.shown.Writes pages.old pages.new }
-    ensures shape { tree.new.shape ≡ tree.old.shape }
+    ensures shape { tree_shape tree.new ≡ tree_shape tree.old }
 {
     let tenth = (entries.len() / 10).max(1);
     let mut figures = Figures::none();
@@ -238,7 +239,7 @@ fn work<S: Shelf>(
     let entries = mixed(rt.alloc(), count, CALLING)?;
     let fill = time_insert(rt, &mut tree, &mut pages, &filling)?;
     let done = rounds(rt, &mut tree, &mut pages, &entries, turns)?;
-    done.print(rt, tree.count, fill, timed)
+    done.print(rt, tree.count(), fill, timed)
 }
 
 /// Works in the folder that a word names, or in memory where there is none.

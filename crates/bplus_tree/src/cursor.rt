@@ -14,9 +14,9 @@ use tree_search::{Spot, begins_with, copy_entry, entry_begins_with, next_below};
 /// the tree has not changed, also where that entry stands.
 #[derive(Drop)]
 pub struct Cursor {
-    pub key: TreeKey,
-    pub changes: u64,
-    pub spot: Spot,
+    key: TreeKey,
+    changes: u64,
+    spot: Spot,
 }
 
 impl Tree {

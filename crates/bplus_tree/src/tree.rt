@@ -26,11 +26,11 @@ const GREATEST_LEVELS: u8 = 19;
 /// After a fault of a call that changes the tree nothing is known of it.
 #[derive(Clone, Copy)]
 pub struct Tree {
-    pub shape: Shape,
-    pub root: u32,
-    pub levels: u8,
-    pub count: u64,
-    pub changes: u64,
+    pub(crate) shape: Shape,
+    pub(crate) root: u32,
+    pub(crate) levels: u8,
+    count: u64,
+    pub(crate) changes: u64,
     ghost low: { levels < 20 },
 }
 

@@ -7,6 +7,7 @@ use Rattle.pages.specs.PageMap.{PageMap}
 use Rattle.tree_node.specs.Order.{Ascends}
 use Rattle.bplus_tree.specs.declared.tree.Tree.{Tree}
 use Rattle.bplus_tree.specs.Standing.{TreeStands}
+use Rattle.bplus_tree.specs.Fields.{tree_shape, tree_levels, tree_count}
 use Rattle.tree_search.proofs.DescentLemmas.{tree_ascends}
 use Rattle.page_marks.specs.Marks.{Marks}
 use Rattle.page_marks.specs.Parted.{own_at, all_of}
@@ -20,13 +21,13 @@ use Rattle.open_file.specs.declared.open_file.OpenFile.{OpenFile}
 use Rattle.file_checker.specs.Parts.{AlternateFound, AlternatesFound}
 
 -- the entries of a tree that stands rise
-pub entries_rise : (tree : Tree) (pages : PageMap) (entries : List (List ℕ)) (own : List ℕ) → TreeStands tree pages entries own → Ascends tree.shape.width entries
+pub entries_rise : (tree : Tree) (pages : PageMap) (entries : List (List ℕ)) (own : List ℕ) → TreeStands tree pages entries own → Ascends (tree_shape tree).width entries
 entries_rise tree pages entries own stands =
-    subst (Ascends tree.shape.width) stands.has (tree_ascends tree.shape.width tree.levels None None stands.value stands.whole.stands.ordered)
+    subst (Ascends (tree_shape tree).width) stands.has (tree_ascends (tree_shape tree).width (tree_levels tree) None None stands.value stands.whole.stands.ordered)
 
 -- a tree has as many entries as places were found
-pub spots_many : (tree : Tree) (list : List (List ℕ)) (before after : ℕ → Bool) (spots : List Spot) → TreeWalked tree list before after spots → length spots ≡ tree.count
-spots_many tree list before after spots walked = sym (walked.stands.count ∙ length-map spots (entry_at_spot tree.shape list))
+pub spots_many : (tree : Tree) (list : List (List ℕ)) (before after : ℕ → Bool) (spots : List Spot) → TreeWalked tree list before after spots → length spots ≡ tree_count tree
+spots_many tree list before after spots walked = sym (walked.stands.count ∙ length-map spots (entry_at_spot (tree_shape tree) list))
 
 own_left : (owns : List (List ℕ)) (own : List ℕ) (j : ℕ) → j < length owns → own_at owns j ≡ own_at (owns ++ own ∷ []) j
 own_left owns own j within = sym (get_or_append_left owns (own ∷ []) [] j within)

@@ -4,6 +4,7 @@ use Rattle.std.proofs.lemmas.List.{length-map}
 use Rattle.pages.specs.PageMap.{PageMap}
 use Rattle.bplus_tree.specs.declared.tree.Tree.{Tree}
 use Rattle.bplus_tree.specs.Standing.{TreeStands}
+use Rattle.bplus_tree.specs.Fields.{tree_shape}
 use Rattle.page_marks.specs.Marks.{Marks}
 use Rattle.page_marks.specs.PageList.{pages_in}
 use Rattle.page_marks.specs.Parted.{own_at, all_of}
@@ -87,11 +88,11 @@ module _ (header : Header) (list : List (List ℕ)) (opened : OpenFile) (own : L
         owns = parts;
         owners = let many = found.alternates.as_many in omega arith;
         heap = found.heap;
-        prime = (entries_at opened.prime.tree.shape list primes, found.prime.stands);
+        prime = (entries_at (tree_shape opened.prime.tree) list primes, found.prime.stands);
         alternates = λ j index less is.
             let at = found.alternates.each j index less is in
             let place : suc (suc j) ≡ j + 2 = omega arith in
-            (entries_at index.tree.shape list at.spots, subst (λ (i : ℕ). TreeStands index.tree (pages_in list) (entries_at index.tree.shape list at.spots) (own_at parts i)) place at.tree);
+            (entries_at (tree_shape index.tree) list at.spots, subst (λ (i : ℕ). TreeStands index.tree (pages_in list) (entries_at (tree_shape index.tree) list at.spots) (own_at parts i)) place at.tree);
         outside = out;
       }
 
@@ -112,7 +113,7 @@ module _ (header : Header) (list : List (List ℕ)) (opened : OpenFile) (own : L
     prime_there : PrimeStands opened.prime live (prime_entries opened.schema (places_in opened list primes) (rows_in opened list primes)) (own_at owns 1)
     prime_there = record {
       tree = subst (λ (entries : List (List ℕ)). TreeStands opened.prime.tree live entries (own_at owns 1)) (sym found.rows.entries_are)
-          (tree_there opened.prime.tree 1 (entries_at opened.prime.tree.shape list primes) found.prime.stands);
+          (tree_there opened.prime.tree 1 (entries_at (tree_shape opened.prime.tree) list primes) found.prime.stands);
       each = found.rows.each;
     }
 
@@ -124,8 +125,8 @@ module _ (header : Header) (list : List (List ℕ)) (opened : OpenFile) (own : L
         subst (λ (k : ℕ). AltStands index live (alt_entries opened.schema k (rows_in opened list primes)) (own_at owns (j + 2))) (key_is j index within is)
         (record {
           tree = subst (λ (entries : List (List ℕ)). TreeStands index.tree live entries (own_at owns (j + 2))) (sym at.rows.entries_are)
-              (subst (λ (i : ℕ). TreeStands index.tree live (entries_at index.tree.shape list at.spots) (own_at owns i)) place
-              (tree_there index.tree (suc (suc j)) (entries_at index.tree.shape list at.spots) at.tree));
+              (subst (λ (i : ℕ). TreeStands index.tree live (entries_at (tree_shape index.tree) list at.spots) (own_at owns i)) place
+              (tree_there index.tree (suc (suc j)) (entries_at (tree_shape index.tree) list at.spots) at.tree));
           each = at.rows.each;
         })
 

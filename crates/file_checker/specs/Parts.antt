@@ -10,6 +10,7 @@ use Rattle.page_walks.specs.Spots.{entries_at}
 use Rattle.page_walks.specs.FreeWalk.{page_in}
 use Rattle.page_walks.specs.WholeFile.{pages_used_in}
 use Rattle.bplus_tree.specs.Standing.{TreeStands}
+use Rattle.bplus_tree.specs.Fields.{tree_shape, tree_count}
 use Rattle.key_index.specs.declared.alt_index.AltIndex.{AltIndex}
 use Rattle.file_header.specs.declared.header.Header.{Header}
 use Rattle.file_header.specs.Bounds.{IsHeader}
@@ -22,7 +23,7 @@ use Rattle.row_checks.specs.Alternate.{AlternateStands}
 pub record AlternateFound (opened : OpenFile) (list : List (List ℕ)) (primes : List Spot)
     (index : AltIndex) (own : List ℕ) : Type 0 where
   pub spots : List Spot
-  pub tree : TreeStands index.tree (pages_in list) (entries_at index.tree.shape list spots) own
+  pub tree : TreeStands index.tree (pages_in list) (entries_at (tree_shape index.tree) list spots) own
   pub rows : AlternateStands opened list primes index spots
 
 -- so do the first alternate indexes, so many, and their pages were reached now
@@ -37,7 +38,7 @@ pub record AlternatesFound (opened : OpenFile) (list : List (List ℕ)) (primes 
 -- each alternate index has so many entries
 abbrev pub AlternatesCount : OpenFile → ℕ → Type 0
 AlternatesCount opened n = (j : ℕ) (index : AltIndex) → j < length opened.alternates.items
-    → index ≡ slice_index_or opened.alternates.items j index → index.tree.count ≡ n
+    → index ≡ slice_index_or opened.alternates.items j index → tree_count index.tree ≡ n
 
 -- all of them stand so, and their pages were marked now
 abbrev pub AllFound : OpenFile → List (List ℕ) → List Spot → List Bool → List Bool → Type 0

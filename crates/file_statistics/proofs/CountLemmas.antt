@@ -6,6 +6,7 @@ use Rattle.page_bytes.specs.Each.{Each}
 use Rattle.tree_search.specs.Tree.{TreeOf}
 use Rattle.bplus_tree.specs.declared.tree.Tree.{Tree}
 use Rattle.bplus_tree.specs.Standing.{TreeStands}
+use Rattle.bplus_tree.specs.Fields.{tree_shape, tree_root, tree_levels, tree_count}
 use Rattle.page_counts.specs.declared.level.TreeCounts.{TreeCounts}
 use Rattle.page_counts.specs.Rows.{IsLeafIn, entries_in_row}
 use Rattle.page_counts.specs.Levels.{IsTreeIn, AreShown, AreCounts, LevelsHaveAllPages}
@@ -15,7 +16,7 @@ use Rattle.file_statistics.specs.declared.statistics.KeyStatistics.{KeyStatistic
 use Rattle.file_statistics.specs.Statistics.{AreKeyCounts, HasTreeStanding}
 
 pub tree_in : (tree : Tree) (list : List (List ℕ)) (pages : PageMap) (entries : List (List ℕ)) (own : List ℕ) (stands : TreeStands tree pages entries own) → AreShown pages list
-    → HasTreeStanding tree list → IsTreeIn tree.shape list tree.levels tree.root stands.value
+    → HasTreeStanding tree list → IsTreeIn (tree_shape tree) list (tree_levels tree) (tree_root tree) stands.value
 tree_in tree list pages entries own stands shown known = record {
   pages = pages;
   shown = shown;
@@ -26,25 +27,25 @@ tree_in tree list pages entries own stands shown known = record {
 
 -- the pages of the levels are those of the tree
 pub level_pages : (tree : Tree) (pages : PageMap) (entries : List (List ℕ)) (own : List ℕ) (stands : TreeStands tree pages entries own) → LevelsHaveAllPages
-    → all_pages (levels_of tree.shape tree.levels (stands.value ∷ [])) ≡ length own
-level_pages tree pages entries own stands law = law tree.shape tree.levels stands.value ∙ ap length stands.pages_are
+    → all_pages (levels_of (tree_shape tree) (tree_levels tree) (stands.value ∷ [])) ≡ length own
+level_pages tree pages entries own stands law = law (tree_shape tree) (tree_levels tree) stands.value ∙ ap length stands.pages_are
 
 -- these are the counts of the tree, whatever its value is
 abbrev CountsAll : Tree → List (List ℕ) → TreeCounts → Type 0
 CountsAll tree list counts =
-    (value : TreeOf tree.levels) → IsTreeIn tree.shape list tree.levels tree.root value
-    → AreCounts tree.shape list tree.levels value counts
+    (value : TreeOf (tree_levels tree)) → IsTreeIn (tree_shape tree) list (tree_levels tree) (tree_root tree) value
+    → AreCounts (tree_shape tree) list (tree_levels tree) value counts
 
 module _ (tree : Tree) (list : List (List ℕ)) (known : HasTreeStanding tree list)
     (counts : TreeCounts) (told : CountsAll tree list counts) where
   -- the counts of the tree as it stands
   are : (pages : PageMap) (entries : List (List ℕ)) (own : List ℕ)
       (stands : TreeStands tree pages entries own) → AreShown pages list
-      → AreCounts tree.shape list tree.levels stands.value counts
+      → AreCounts (tree_shape tree) list (tree_levels tree) stands.value counts
   are pages entries own stands shown =
       told stands.value (tree_in tree list pages entries own stands shown known)
 
-  known_are : AreCounts tree.shape list tree.levels known.stands.value counts
+  known_are : AreCounts (tree_shape tree) list (tree_levels tree) known.stands.value counts
   known_are = are known.pages known.entries known.own known.stands known.shown
 
   pub few_pages : LevelsHaveAllPages → all_pages counts.levels.items < 2 ^ 64
@@ -54,29 +55,29 @@ module _ (tree : Tree) (list : List (List ℕ)) (known : HasTreeStanding tree li
       let few = known.few in
       omega (arith, same, few)
 
-  pub leaves_are : Each (IsLeafIn tree.shape list) counts.leaves.items
+  pub leaves_are : Each (IsLeafIn (tree_shape tree) list) counts.leaves.items
   leaves_are = known_are.leaves
 
   -- the entries of the leaves can be counted
-  pub few_entries : length (entries_in_row tree.shape list counts.leaves.items) < 2 ^ 64
+  pub few_entries : length (entries_in_row (tree_shape tree) list counts.leaves.items) < 2 ^ 64
   few_entries =
       let same = ap length (known_are.entries ∙ known.stands.has) in
       let few = known.counted in
       omega (arith, same, few)
 
   -- and their values stand together
-  pub values_together : (width : ℕ) → width ≤ tree.shape.width → TreesKeepTogether
-      → AreTogether (values_of width (entries_in_row tree.shape list counts.leaves.items))
+  pub values_together : (width : ℕ) → width ≤ (tree_shape tree).width → TreesKeepTogether
+      → AreTogether (values_of width (entries_in_row (tree_shape tree) list counts.leaves.items))
   values_together width narrow law =
       let ordered = known.stands.whole.stands.ordered in
       subst (λ (es : List (List ℕ)). AreTogether (values_of width es)) (sym known_are.entries)
-      (law tree.shape.width width tree.levels None None known.stands.value narrow ordered)
+      (law (tree_shape tree).width width (tree_levels tree) None None known.stands.value narrow ordered)
 
   pub key_counts : (width : ℕ) (pages : PageMap) (entries : List (List ℕ)) (own : List ℕ)
       (stands : TreeStands tree pages entries own) → AreShown pages list → LevelsHaveAllPages
       → (key : KeyStatistics) → key.levels.items ≡ counts.levels.items
-      → key.pages ≡ all_pages counts.levels.items → key.entries ≡ tree.count
-      → IsGreatestCount (values_of width (entries_in_row tree.shape list counts.leaves.items)) key.longest
+      → key.pages ≡ all_pages counts.levels.items → key.entries ≡ tree_count tree
+      → IsGreatestCount (values_of width (entries_in_row (tree_shape tree) list counts.leaves.items)) key.longest
       → AreKeyCounts tree width pages entries own stands key
   key_counts width pages entries own stands shown law key levels many count longest =
       let here = are pages entries own stands shown in

@@ -9,6 +9,7 @@ use Rattle.page_marks.specs.Parted.{own_at}
 use Rattle.file_header.specs.declared.header.Header.{Header}
 use Rattle.bplus_tree.specs.declared.tree.Tree.{Tree}
 use Rattle.bplus_tree.specs.Standing.{TreeStands}
+use Rattle.bplus_tree.specs.Fields.{tree_shape, tree_levels, tree_count}
 use Rattle.key_index.specs.declared.alt_index.AltIndex.{AltIndex}
 use Rattle.record_heap.specs.Slot.{room}
 use Rattle.key_index.specs.Stored.{prime_bytes, alt_bytes}
@@ -36,7 +37,7 @@ pub record PagesHoldFile (page : ℕ → List ℕ) (header : Header) (opened : O
 -- these have one value at most, where a value has so many bytes
 pub record AreKeyCounts (tree : Tree) (width : ℕ) (pages : PageMap) (entries : List (List ℕ))
     (own : List ℕ) (stands : TreeStands tree pages entries own) (key : KeyStatistics) : Type 0 where
-  pub levels : key.levels.items ≡ levels_of tree.shape tree.levels (stands.value ∷ [])
+  pub levels : key.levels.items ≡ levels_of (tree_shape tree) (tree_levels tree) (stands.value ∷ [])
   pub pages_are : key.pages ≡ length own
   pub entries_are : key.entries ≡ length entries
   pub longest_is : IsGreatestCount (values_of width entries) key.longest
@@ -85,9 +86,9 @@ pub record HasFileStanding (opened : OpenFile) (list : List (List ℕ)) : Type 0
   pub stands : Stands opened pages file
   pub shown : AreShown pages list
   pub few : (i : ℕ) → length (own_at stands.parts.owns i) < 2 ^ 64
-  pub prime_counted : opened.prime.tree.count < 2 ^ 64
+  pub prime_counted : tree_count opened.prime.tree < 2 ^ 64
   pub counted : (j : ℕ) (index : AltIndex) → j < length opened.alternates.items
-      → index ≡ slice_index_or opened.alternates.items j index → index.tree.count < 2 ^ 64
+      → index ≡ slice_index_or opened.alternates.items j index → tree_count index.tree < 2 ^ 64
 
 -- so many keys are told of, and what is told is what is counted of the file, wherever it stands in
 -- the pages of the list

@@ -1,6 +1,7 @@
 //! What is counted of the pages of a file.
 
 ghost use Rattle.std.specs.Prelude.{◌≡◌, ◌<◌, ◌≤◌, ◌^◌, ◌++◌, ◌∷◌, [], IfOk, OnOk, length};
+ghost use Rattle.bplus_tree.specs.Fields.{tree_shape};
 ghost use Rattle.page_counts.specs.Levels.{all_pages};
 ghost use Rattle.file_header.specs.Bounds.{IsHeader};
 ghost use Rattle.file_statistics.specs.Statistics.{HasTreeStanding, HasFileStanding, CountsKey, KeysCounted};
@@ -34,22 +35,23 @@ fn count_key(
     width: u16,
 ) -> Result<KeyStatistics, AllocError>
     requires stands { HasTreeStanding tree.now pages.now }
-    requires narrow { width ≤ tree.now.shape.width }
+    requires narrow { width ≤ (tree_shape tree.now).width }
     ensures { CountsKey tree.now width pages.now result }
 {
     level_laws();
     run_laws();
+    let shape = tree.shape();
     let TreeCounts { levels, leaves } = count_tree(
         alloc,
         pages,
-        tree.shape,
-        tree.levels,
-        tree.root,
+        shape,
+        tree.levels(),
+        tree.root(),
     )?;
     Ok(KeyStatistics {
         pages: pages_of(&levels),
-        entries: tree.count,
-        longest: longest_run(pages, tree.shape, width, &leaves),
+        entries: tree.count(),
+        longest: longest_run(pages, shape, width, &leaves),
         levels,
     })
 }

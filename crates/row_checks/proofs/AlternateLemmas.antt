@@ -33,6 +33,7 @@ use Rattle.open_file.specs.ReadOff.{row_off}
 use Rattle.open_file.specs.declared.open_file.OpenFile.{OpenFile}
 use Rattle.open_file.proofs.OrderLemmas.{either}
 use Rattle.open_file.proofs.PartsLemmas.{from_eq}
+use Rattle.bplus_tree.specs.Fields.{tree_shape}
 use Rattle.row_checks.specs.Rows.{place_at, row_at, rows_in}
 use Rattle.row_checks.specs.Leading.{HasRow}
 use Rattle.row_checks.specs.Alternate.{RanksDiffer, AlternateStands}
@@ -167,12 +168,12 @@ ranks_differ schema k [] all = tt
 ranks_differ schema k (row ∷ rows) all = (untied_rows schema k row rows all.0, ranks_differ schema k rows all.1)
 
 module _ (opened : OpenFile) (list : List (List ℕ)) (primes : List Spot) (index : AltIndex) where
-  entries_kept : (spots : List Spot) → Each (HasRow opened list primes index) spots → Each (EntryKept index.width index.prime) (entries_at index.tree.shape list spots)
+  entries_kept : (spots : List Spot) → Each (HasRow opened list primes index) spots → Each (EntryKept index.width index.prime) (entries_at (tree_shape index.tree) list spots)
   entries_kept [] all = tt
-  entries_kept (spot ∷ spots) all = (entry_kept index.width index.prime (entry_at_spot index.tree.shape list spot) (all.0.long ∙ index.entries) all.0.bytes, entries_kept spots all.1)
+  entries_kept (spot ∷ spots) all = (entry_kept index.width index.prime (entry_at_spot (tree_shape index.tree) list spot) (all.0.long ∙ index.entries) all.0.bytes, entries_kept spots all.1)
 
   each_of_row : (spots : List Spot) → Each (HasRow opened list primes index) spots
-      → Each (λ e. IsOneOf (map (entry_of opened.schema (alt_key index)) (rows_in opened list primes)) e) (map (alt_entry_in index.width) (entries_at index.tree.shape list spots))
+      → Each (λ e. IsOneOf (map (entry_of opened.schema (alt_key index)) (rows_in opened list primes)) e) (map (alt_entry_in index.width) (entries_at (tree_shape index.tree) list spots))
   each_of_row [] all = tt
   each_of_row (spot ∷ spots) all =
       let h = all.0 in
@@ -180,19 +181,19 @@ module _ (opened : OpenFile) (list : List (List ℕ)) (primes : List Spot) (inde
       let entries = one_mapped (entry_of opened.schema (alt_key index)) (rows_in opened list primes) (row_at opened list h.leader) rows in
       (subst (λ (e : AltEntry). IsOneOf (map (entry_of opened.schema (alt_key index)) (rows_in opened list primes)) e) (sym h.is) entries, each_of_row spots all.1)
 
-  pub alternate_stands : (spots : List Spot) → Each (HasRow opened list primes index) spots → length spots ≡ length primes → Ascends index.tree.shape.width (entries_at index.tree.shape list spots)
+  pub alternate_stands : (spots : List Spot) → Each (HasRow opened list primes index) spots → length spots ≡ length primes → Ascends (tree_shape index.tree).width (entries_at (tree_shape index.tree) list spots)
       → AlternateStands opened list primes index spots
   alternate_stands spots all many rises =
       let w = index.width in
       let schema = opened.schema in
       let k = alt_key index in
       let rows = rows_in opened list primes in
-      let bytes = entries_at index.tree.shape list spots in
+      let bytes = entries_at (tree_shape index.tree) list spots in
       let kept = entries_kept spots all in
       let es = map (alt_entry_in w) bytes in
       let rise = entries_rise w index.prime bytes kept (subst (λ (n : ℕ). Ascends n bytes) index.keys rises) in
       let as_many : length es ≡ length (map (entry_of schema k) rows) =
-      length-map bytes (alt_entry_in w) ∙ length-map spots (entry_at_spot index.tree.shape list) ∙ many ∙ sym (length-map primes (row_at opened list)) ∙ sym (length-map rows (entry_of schema k)) in
+      length-map bytes (alt_entry_in w) ∙ length-map spots (entry_at_spot (tree_shape index.tree) list) ∙ many ∙ sym (length-map primes (row_at opened list)) ∙ sym (length-map rows (entry_of schema k)) in
       let sorted = (are_sorted lower onward itself decide es (map (entry_of schema k) rows) rise (each_of_row spots all)).are as_many in
       let is : alt_entries schema k rows ≡ es = sym (entries_sorted schema k rows) ∙ sorted in
       record {

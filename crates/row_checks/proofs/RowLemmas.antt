@@ -23,6 +23,7 @@ use Rattle.open_file.specs.Stored.{AreAt, stored, stamps_length}
 use Rattle.open_file.specs.ReadOff.{row_off}
 use Rattle.open_file.specs.Stands.{is_same}
 use Rattle.open_file.specs.declared.open_file.OpenFile.{OpenFile}
+use Rattle.bplus_tree.specs.Fields.{tree_shape}
 use Rattle.row_checks.specs.Rows.{prime_at, place_at, row_at, places_in, rows_in, PrimesRise, RowsStand}
 use Rattle.row_checks.specs.Leading.{LeadsToRow}
 use Rattle.row_checks.proofs.StampLemmas.{Fit}
@@ -90,7 +91,7 @@ module _ (opened : OpenFile) (list : List (List ℕ)) (own : List ℕ) where
   rows_at (spot ∷ spots) all = (all.0.here, rows_at spots all.1)
 
   entries_are : (spots : List Spot) → Each (RowKept opened list own) spots
-      → map prime_bytes (prime_entries opened.schema (places_in opened list spots) (rows_in opened list spots)) ≡ entries_at opened.prime.tree.shape list spots
+      → map prime_bytes (prime_entries opened.schema (places_in opened list spots) (rows_in opened list spots)) ≡ entries_at (tree_shape opened.prime.tree) list spots
   entries_are [] all = refl
   entries_are (spot ∷ spots) all = let first = all.0.entry in let rest = entries_are spots all.1 in λ i. first i ∷ rest i
 
@@ -100,7 +101,7 @@ module _ (opened : OpenFile) (list : List (List ℕ)) (own : List ℕ) where
 
   -- tree keys are prime values
   above : (spot : Spot) (spots : List Spot) → RowKept opened list own spot → Each (RowKept opened list own) spots
-      → Each (λ y. less (take opened.prime.width (prime_at opened list spot)) (take opened.prime.width y) ≡ true) (entries_at opened.prime.tree.shape list spots)
+      → Each (λ y. less (take opened.prime.width (prime_at opened list spot)) (take opened.prime.width y) ≡ true) (entries_at (tree_shape opened.prime.tree) list spots)
       → Each (λ other. IsTrue (is_lt (value_cmp (prime_of opened.schema (row_at opened list spot).bytes) (prime_of opened.schema other.bytes)))) (rows_in opened list spots)
   unfolding less
   above spot [] here all rises = tt
@@ -110,11 +111,11 @@ module _ (opened : OpenFile) (list : List (List ℕ)) (own : List ℕ) where
     above spot spots here all.1 rises.1,
   )
 
-  rise : (spots : List Spot) → Each (RowKept opened list own) spots → Ascends opened.prime.width (entries_at opened.prime.tree.shape list spots) → PrimesRise opened.schema (rows_in opened list spots)
+  rise : (spots : List Spot) → Each (RowKept opened list own) spots → Ascends opened.prime.width (entries_at (tree_shape opened.prime.tree) list spots) → PrimesRise opened.schema (rows_in opened list spots)
   rise [] all rises = tt
   rise (spot ∷ spots) all rises = (above spot spots all.0 all.1 rises.0, rise spots all.1 rises.1)
 
-  pub rows_stand : (spots : List Spot) → Each (RowKept opened list own) spots → Ascends opened.prime.width (entries_at opened.prime.tree.shape list spots)
+  pub rows_stand : (spots : List Spot) → Each (RowKept opened list own) spots → Ascends opened.prime.width (entries_at (tree_shape opened.prime.tree) list spots)
       → ((p : Place) → IsSome (slots_of opened.heap.shape (pages_in list) own p) → IsSome (find (is_same p) (places_in opened list spots))) → RowsStand opened list own spots
   rows_stand spots all rises no_more = record {
     rows_are = rows_are spots all;

@@ -13,6 +13,7 @@ use Rattle.key_index.specs.Stored.{alt_bytes, IsAltEntry}
 use Rattle.open_file.specs.InOrder.{alt_entries}
 use Rattle.open_file.specs.Stands.{IsShaped}
 use Rattle.open_file.specs.declared.open_file.OpenFile.{OpenFile}
+use Rattle.bplus_tree.specs.Fields.{tree_shape}
 use Rattle.row_checks.specs.Rows.{rows_in}
 
 -- the parts of the file are made for its schema, and the index is one for an alternate key of it
@@ -26,7 +27,7 @@ pub record IsIndexFor (opened : OpenFile) (index : AltIndex) : Type 0 where
 -- these bytes are as many as an entry of the index has
 pub record IsEntryFor (opened : OpenFile) (alternate : AltIndex) (entry : List ℕ) : Type 0 where
   pub index : IsIndexFor opened alternate
-  pub long : length entry ≡ alternate.tree.shape.entry
+  pub long : length entry ≡ (tree_shape alternate.tree).entry
 
 -- no two rows have one rank by key k
 abbrev pub RanksDiffer : Schema → ℕ → List Row → Type 0
@@ -39,7 +40,7 @@ RanksDiffer schema k (row ∷ rows) = Each (λ other. IsTrue (is_lt (row_cmp sch
 pub record AlternateStands (opened : OpenFile) (list : List (List ℕ)) (primes : List Spot)
     (index : AltIndex) (spots : List Spot) : Type 0 where
   pub entries_are : map alt_bytes (alt_entries opened.schema (alt_key index) (rows_in opened list primes))
-      ≡ entries_at index.tree.shape list spots
+      ≡ entries_at (tree_shape index.tree) list spots
   pub each : Each (IsAltEntry index.width index.prime)
       (alt_entries opened.schema (alt_key index) (rows_in opened list primes))
   pub differ : RanksDiffer opened.schema (alt_key index) (rows_in opened list primes)

@@ -25,6 +25,7 @@ use Rattle.open_file.specs.Stored.{stamps_length}
 use Rattle.open_file.specs.ReadOff.{stamps_off, row_off}
 use Rattle.open_file.specs.Stands.{IsShaped, is_same}
 use Rattle.open_file.specs.declared.open_file.OpenFile.{OpenFile}
+use Rattle.bplus_tree.specs.Fields.{tree_shape}
 use Rattle.row_checks.specs.Rows.{prime_at, place_at, places_in, row_at}
 
 -- this is so of each entry of the leaf
@@ -95,8 +96,8 @@ IsEntryOf opened list index bytes leader = alt_entry_in index.width bytes
 -- the entry is the one that the index has of a row that the prime index leads to
 pub record HasRow (opened : OpenFile) (list : List (List ℕ)) (primes : List Spot) (index : AltIndex)
     (spot : Spot) : Type 0 where
-  pub long : length (entry_at_spot index.tree.shape list spot) ≡ index.tree.shape.entry
-  pub bytes : Each (λ b. b < 256) (entry_at_spot index.tree.shape list spot)
+  pub long : length (entry_at_spot (tree_shape index.tree) list spot) ≡ (tree_shape index.tree).entry
+  pub bytes : Each (λ b. b < 256) (entry_at_spot (tree_shape index.tree) list spot)
   pub leader : Spot
   pub one : IsOneOf primes leader
-  pub is : IsEntryOf opened list index (entry_at_spot index.tree.shape list spot) leader
+  pub is : IsEntryOf opened list index (entry_at_spot (tree_shape index.tree) list spot) leader

@@ -19,10 +19,11 @@ use Rattle.open_file.specs.InOrder.{prime_entries}
 use Rattle.open_file.specs.ReadOff.{row_off}
 use Rattle.open_file.specs.Stands.{IsPlaced, IsShaped}
 use Rattle.open_file.specs.declared.open_file.OpenFile.{OpenFile}
+use Rattle.bplus_tree.specs.Fields.{tree_shape}
 
 -- the bytes of an entry of the prime index
 abbrev pub prime_at : OpenFile → List (List ℕ) → Spot → List ℕ
-prime_at opened list spot = entry_at_spot opened.prime.tree.shape list spot
+prime_at opened list spot = entry_at_spot (tree_shape opened.prime.tree) list spot
 
 -- the place that it leads to
 abbrev pub place_at : OpenFile → List (List ℕ) → Spot → Place
@@ -41,7 +42,8 @@ rows_in opened list spots = map (row_at opened list) spots
 
 -- the entries of the prime index at these places rise by their values
 abbrev pub EntriesRise : OpenFile → List (List ℕ) → List Spot → Type 0
-EntriesRise opened list spots = Ascends opened.prime.width (entries_at opened.prime.tree.shape list spots)
+EntriesRise opened list spots = Ascends opened.prime.width
+    (entries_at (tree_shape opened.prime.tree) list spots)
 
 -- the parts of the file are made for its schema, the entries of its prime index rise, and no page is
 -- marked
@@ -66,7 +68,7 @@ pub record RowsStand (opened : OpenFile) (list : List (List ℕ)) (own : List �
   pub placed : IsPlaced opened.schema (slots_of opened.heap.shape (pages_in list) own)
       (places_in opened list spots) (rows_in opened list spots)
   pub entries_are : map prime_bytes (prime_entries opened.schema (places_in opened list spots)
-      (rows_in opened list spots)) ≡ entries_at opened.prime.tree.shape list spots
+      (rows_in opened list spots)) ≡ entries_at (tree_shape opened.prime.tree) list spots
   pub each : Each (IsPrimeEntry opened.prime.width)
       (prime_entries opened.schema (places_in opened list spots) (rows_in opened list spots))
   pub rise : PrimesRise opened.schema (rows_in opened list spots)

@@ -2,6 +2,7 @@
 
 ghost use Rattle.std.specs.Prelude.{◌≡◌, OnOk, IsTrue, All, length};
 ghost use Rattle.tree_node.specs.Order.{Ascends};
+ghost use Rattle.bplus_tree.specs.Fields.{tree_shape};
 ghost use Rattle.page_walks.specs.Spots.{entries_at, spots_in};
 ghost use Rattle.row_checks.specs.Alternate.{IsIndexFor, IsEntryFor, AlternateStands};
 ghost use Rattle.row_checks.specs.Leading.{HasRow, IsEntryOf, OfEachEntry};
@@ -30,14 +31,14 @@ fn is_of_row(
     requires { IsEntryFor file.now index entry_bytes.now }
     ensures { IsTrue result → IsEntryOf file.now pages.now index entry_bytes.now leader }
 {
-    let Some(prime) = entry(pages, file.prime.tree.shape, leader) else {
+    let Some(prime) = entry(pages, file.prime.tree.shape(), leader) else {
         return false;
     };
     let Some(stored) = stored_at(pages, file, place_in(prime, file.prime.width as usize)) else {
         return false;
     };
     let width = index.width as usize;
-    let k = index.tree.shape.key;
+    let k = index.tree.shape().key;
     &entry_bytes[..width] == value(file, stored, k)
         && BigEndian::read_u64(&entry_bytes[width..]) == stamp(file, stored, k)
         && &entry_bytes[width + STAMP..] == value(file, stored, 0)
@@ -54,7 +55,7 @@ fn has_row(
     requires { IsIndexFor file.now index }
     ensures { IsTrue result → HasRow file.now pages.now (spots_in primes.now) index spot }
 {
-    let Some(entry) = entry(pages, index.tree.shape, spot) else {
+    let Some(entry) = entry(pages, index.tree.shape(), spot) else {
         return false;
     };
     match entry_near(pages, file, primes, &entry[index.width as usize + STAMP..]) {
@@ -118,8 +119,8 @@ pub fn check_alternate(
 ) -> Result<(), RowFault>
     requires index { IsIndexFor file.now index }
     requires many { length (spots_in leaves.now) ≡ length (spots_in primes.now) }
-    requires rises { Ascends index.tree.shape.width
-        (entries_at index.tree.shape pages.now (spots_in leaves.now)) }
+    requires rises { Ascends (tree_shape index.tree).width
+        (entries_at (tree_shape index.tree) pages.now (spots_in leaves.now)) }
     ensures { OnOk result (AlternateStands file.now pages.now (spots_in primes.now) index
         (spots_in leaves.now)) }
 {

@@ -33,7 +33,7 @@ fn has_entry(pages: &[[u8; PAGE_SIZE]], file: &OpenFile, primes: &[Leaf], place:
 fn leads_to(pages: &[[u8; PAGE_SIZE]], file: &OpenFile, spot: Spot, place: Place) -> bool
     ensures { IsTrue result → place ≡ place_at file.now pages.now spot }
 {
-    match entry(pages, file.prime.tree.shape, spot) {
+    match entry(pages, file.prime.tree.shape(), spot) {
         Some(entry) => place_in(entry, file.prime.width as usize) == place,
         None => false,
     }

@@ -9,6 +9,7 @@ use Rattle.file_header.specs.declared.header.Header.{Header}
 use Rattle.file_header.specs.declared.header.TreeNumbers.{TreeNumbers}
 use Rattle.file_header.specs.Bounds.{AreTreeNumbers, AreLinksWithin, FitsItsBytes, IsHeader}
 use Rattle.bplus_tree.specs.declared.tree.Tree.{Tree}
+use Rattle.bplus_tree.specs.Fields.{tree_root}
 use Rattle.record_heap.specs.declared.shape.Place.{Place}
 use Rattle.record_heap.specs.Chain.{IsPlaceOf, IsOneOf, IsFreeChain}
 use Rattle.record_heap.specs.Standing.{IsPageChain}
@@ -65,8 +66,8 @@ module _ (opened : OpenFile) (bytes : Bytes) (count first free : ℕ) (file : Fi
   live : (n : ℕ) → IsSome (used bytes count (chain bytes count first free) n) → (0 < n) × (n < count) × (free + 2 ≤ count)
   live n there = can_give bytes count n first free there
 
-  prime_page : (0 < (prime_index_of opened).tree.root) × ((prime_index_of opened).tree.root < count) × (free + 2 ≤ count)
-  prime_page = live (prime_index_of opened).tree.root (prime_root (heap_of opened) (prime_index_of opened) (alternates_of opened) _ stands.slots _ _ stands.parts).live
+  prime_page : (0 < tree_root (prime_index_of opened).tree) × (tree_root (prime_index_of opened).tree < count) × (free + 2 ≤ count)
+  prime_page = live (tree_root (prime_index_of opened).tree) (prime_root (heap_of opened) (prime_index_of opened) (alternates_of opened) _ stands.slots _ _ stands.parts).live
 
   some : 0 < count
   some = let p = prime_page in omega (arith, p.1)
@@ -74,7 +75,7 @@ module _ (opened : OpenFile) (bytes : Bytes) (count first free : ℕ) (file : Fi
   keys_are : length header.schema.keys ≡ length (alternates_of opened) + 1
   keys_are = sym (ap (λ (s : Schema). length s.keys) of.schema_is) ∙ shaped.keys
 
-  tree_within : (tree : Tree) (numbers : TreeNumbers) → HasTree tree numbers → 0 < tree.root → tree.root < count → AreTreeNumbers header.pages numbers
+  tree_within : (tree : Tree) (numbers : TreeNumbers) → HasTree tree numbers → 0 < tree_root tree → tree_root tree < count → AreTreeNumbers header.pages numbers
   tree_within tree numbers has behind below =
       let root = has.root in
       let height = has.height in
@@ -89,7 +90,7 @@ module _ (opened : OpenFile) (bytes : Bytes) (count first free : ℕ) (file : Fi
   trees_within (suc j) d low =
       let within : j < length (alternates_of opened) = let t = of.trees in let k = keys_are in omega arith in
       let index = found_at (alternates_of opened) j within in
-      let root = live index.0.tree.root (alternate_root (heap_of opened) (prime_index_of opened) (alternates_of opened) _ stands.slots _ _ stands.parts j index.0 within index.1).live in
+      let root = live (tree_root index.0.tree) (alternate_root (heap_of opened) (prime_index_of opened) (alternates_of opened) _ stands.slots _ _ stands.parts j index.0 within index.1).live in
       let next : j + 1 ≡ suc j = omega arith in
       subst (AreTreeNumbers header.pages) (same_default header.trees.items (suc j) (record { height = 0; root = 0 }) d low)
       (subst (λ k. AreTreeNumbers header.pages (tree_at header k)) next (tree_within index.0.tree (tree_at header (j + 1)) (of.alternates j index.0 within index.1) root.0 root.1))

@@ -15,6 +15,7 @@ use Rattle.key_index.specs.declared.entry.PrimeEntry.{PrimeEntry}
 use Rattle.key_index.specs.Stored.{prime_entry_in}
 use Rattle.key_index.specs.Standing.{prime_off}
 use Rattle.bplus_tree.specs.ReadOff.{entries_in}
+use Rattle.bplus_tree.specs.Fields.{tree_shape, tree_root, tree_levels}
 use Rattle.record_heap.specs.declared.shape.Shape.{Shape}
 use Rattle.record_heap.specs.declared.heap.Heap.{Heap}
 use Rattle.record_heap.specs.Calls.{used_at}
@@ -48,9 +49,9 @@ same_slots a b s l g = λ i. record {
 }
 
 -- an index of the same numbers reads as the same entries
-same_prime : (a b : PrimeIndex) (pages : PageMap) → a.width ≡ b.width → a.tree.root ≡ b.tree.root → a.tree.levels ≡ b.tree.levels → prime_off a pages ≡ prime_off b pages
+same_prime : (a b : PrimeIndex) (pages : PageMap) → a.width ≡ b.width → tree_root a.tree ≡ tree_root b.tree → tree_levels a.tree ≡ tree_levels b.tree → prime_off a pages ≡ prime_off b pages
 same_prime a b pages width root levels =
-    let shape = same_shape a.tree.shape b.tree.shape (a.number ∙ sym b.number) (a.keys ∙ width ∙ sym b.keys) (a.entries ∙ ap (λ w. w + 6) width ∙ sym b.entries) in
+    let shape = same_shape (tree_shape a.tree) (tree_shape b.tree) (a.number ∙ sym b.number) (a.keys ∙ width ∙ sym b.keys) (a.entries ∙ ap (λ w. w + 6) width ∙ sym b.entries) in
     λ i. map (prime_entry_in (width i)) (entries_in (shape i) pages (levels i) (root i))
 
 same_rows : (a b : Heap) (pages : PageMap) (schema : Schema) (entries : List PrimeEntry) → a.shape ≡ b.shape → rows_off schema a pages entries ≡ rows_off schema b pages entries
@@ -84,7 +85,7 @@ module _ (opened : OpenFile) (header : Header) (pages : PageMap) (allowed : IsHe
       let w = by.shaped.prime_width in
       omega arith
 
-  levels_is : (prime_index_of opened).tree.levels ≡ (prime_by header).tree.levels
+  levels_is : tree_levels (prime_index_of opened).tree ≡ tree_levels (prime_by header).tree
   levels_is =
       let tree = allowed.within.trees 0 (record { height = 0; root = 0 }) (let t = allowed.trees in let s = some_keys in omega arith) in
       let some = tree.some in

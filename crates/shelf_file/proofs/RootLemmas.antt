@@ -10,6 +10,7 @@ use Rattle.pages.specs.Owners.{IsOutside}
 use Rattle.bplus_tree.specs.declared.tree.Tree.{Tree}
 use Rattle.tree_search.specs.Tree.{TreeOf, page_of, pages_of}
 use Rattle.bplus_tree.specs.Standing.{TreeStands}
+use Rattle.bplus_tree.specs.Fields.{tree_root, tree_levels}
 use Rattle.key_index.specs.declared.entry.PrimeEntry.{PrimeEntry}
 use Rattle.key_index.specs.declared.entry.AltEntry.{AltEntry}
 use Rattle.key_index.specs.declared.prime_index.PrimeIndex.{PrimeIndex}
@@ -95,30 +96,30 @@ first_page : (h : ℕ) (t : TreeOf h) → (rest : List ℕ) × (pages_of h t ≡
 first_page zero t = ([], refl)
 first_page (suc h) t = (_, refl)
 
-root_of : (tree : Tree) (pages : PageMap) (entries : List (List ℕ)) (own : List ℕ) → TreeStands tree pages entries own → Each (λ n. IsSome (pages n)) own → IsRootOf pages own tree.root
+root_of : (tree : Tree) (pages : PageMap) (entries : List (List ℕ)) (own : List ℕ) → TreeStands tree pages entries own → Each (λ n. IsSome (pages n)) own → IsRootOf pages own (tree_root tree)
 root_of tree pages entries own stands live =
-    let first = first_page tree.levels stands.value in
-    let is : own ≡ tree.root ∷ first.0 = sym stands.pages_are ∙ first.1 ∙ ap (λ n. n ∷ first.0) stands.whole.stands.root in
+    let first = first_page (tree_levels tree) stands.value in
+    let is : own ≡ tree_root tree ∷ first.0 = sym stands.pages_are ∙ first.1 ∙ ap (λ n. n ∷ first.0) stands.whole.stands.root in
     record { rest = first.0; is = is; live = (subst (Each (λ n. IsSome (pages n))) is live).0 }
 
 module _ (heap : Heap) (prime : PrimeIndex) (alternates : List AltIndex) (pages : PageMap) (slots : Slots) (primes : List PrimeEntry) (entries : ℕ → List AltEntry)
     (p : Parts heap prime alternates pages slots primes entries) where
-  pub prime_root : IsRootOf pages (own_at p.owns 1) prime.tree.root
+  pub prime_root : IsRootOf pages (own_at p.owns 1) (tree_root prime.tree)
   prime_root = root_of prime.tree pages _ (own_at p.owns 1) p.prime_stands.tree (prime_live prime pages primes (own_at p.owns 1) p.prime_stands).live
 
-  pub alternate_root : (j : ℕ) (index : AltIndex) → j < length alternates → index ≡ slice_index_or alternates j index → IsRootOf pages (own_at p.owns (j + 2)) index.tree.root
+  pub alternate_root : (j : ℕ) (index : AltIndex) → j < length alternates → index ≡ slice_index_or alternates j index → IsRootOf pages (own_at p.owns (j + 2)) (tree_root index.tree)
   alternate_root j index within at =
       let stands = p.alternates_stand j index within at in
       root_of index.tree pages _ (own_at p.owns (j + 2)) stands.tree (alt_live index pages (entries j) (own_at p.owns (j + 2)) stands).live
 
   -- the root of each tree
   root_at : (i : ℕ) → i < length alternates + 1 → (root : ℕ) × IsRootOf pages (own_at p.owns (i + 1)) root
-  root_at zero low = (prime.tree.root, prime_root)
+  root_at zero low = (tree_root prime.tree, prime_root)
   root_at (suc j) low =
       let within : j < length alternates = omega arith in
       let index = found_at alternates j within in
       let next : j + 2 ≡ suc j + 1 = omega arith in
-      (index.0.tree.root, subst (λ n. IsRootOf pages (own_at p.owns n) index.0.tree.root) next (alternate_root j index.0 within index.1))
+      (tree_root index.0.tree, subst (λ n. IsRootOf pages (own_at p.owns n) (tree_root index.0.tree)) next (alternate_root j index.0 within index.1))
 
   -- the first page of each part
   first_at : ℕ → ℕ
@@ -144,4 +145,4 @@ module _ (heap : Heap) (prime : PrimeIndex) (alternates : List AltIndex) (pages 
   pub trees_counted : (count : ℕ) → ((n : ℕ) → IsSome (pages n) → (0 < n) × (n < count)) → 1 + (length alternates + 1) ≤ count
   trees_counted count live =
       fewer first_at (length alternates + 1) count (λ i low. live (first_at i) (first_is i low).live)
-      (let r = live prime.tree.root prime_root.live in omega (arith, r.1)) firsts_apart
+      (let r = live (tree_root prime.tree) prime_root.live in omega (arith, r.1)) firsts_apart

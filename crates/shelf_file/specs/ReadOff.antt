@@ -4,6 +4,7 @@ use Rattle.record_layout.specs.Schema.{Schema, key_at}
 use Rattle.indexed_file.specs.File.{File}
 use Rattle.pages.specs.PageMap.{PageMap}
 use Rattle.file_header.specs.declared.header.Header.{Header}
+use Rattle.bplus_tree.specs.Fields.{tree_with}
 use Rattle.key_index.specs.declared.prime_index.PrimeIndex.{PrimeIndex}
 use Rattle.key_index.specs.Standing.{prime_off}
 use Rattle.record_heap.specs.declared.heap.Heap.{Heap}
@@ -24,22 +25,15 @@ greatest_by schema = min schema.greatest 4000
 abbrev pub prime_by : Header → PrimeIndex
 prime_by header = record {
   width = key_length (key_at header.schema 0).length;
-  tree = record {
-    shape = record {
-      key = 0;
-      width = key_length (key_at header.schema 0).length;
-      entry = key_length (key_at header.schema 0).length + 6;
-      some = at_least _;
-      narrow = at_most _;
-      longer = entry_longer _;
-      short = entry_short _;
-    };
-    root = (tree_at header 0).root;
-    levels = min ((tree_at header 0).height - 1) 19;
-    count = header.records;
-    changes = 0;
-    low = tree_low _;
-  };
+  tree = tree_with (record {
+    key = 0;
+    width = key_length (key_at header.schema 0).length;
+    entry = key_length (key_at header.schema 0).length + 6;
+    some = at_least _;
+    narrow = at_most _;
+    longer = entry_longer _;
+    short = entry_short _;
+  }) (tree_at header 0).root (min ((tree_at header 0).height - 1) 19) header.records (tree_low _);
   narrow = is_key_length _;
   keys = refl;
   entries = refl;

@@ -94,7 +94,7 @@ fn a_leaf_is_written_byte_for_byte(rt: HostRuntime) -> Result<(), Fail> {
     let place = Place { page: 2, slot: 0 };
     let added = add_place(&rt, &mut index, &mut pages, b"0001", place);
     assert_equal(&rt, added, Ok(true));
-    assert_equal(&rt, index.tree.root, 1);
+    assert_equal(&rt, index.tree.root(), 1);
     assert!(rt; pages.pages.len() == 2);
     let page = &pages.pages[1];
     assert_equal(
@@ -113,7 +113,7 @@ const SECOND: Place = Place { page: 2, slot: 1 };
 // An index of two values.
 fn two_values(rt: &impl Abort, pages: &mut MemoryPages) -> Result<PrimeIndex, Fault> {
     let empty = PrimeIndex::empty(pages, 4)?;
-    let mut index = PrimeIndex::stored(4, empty.tree.root, empty.height(), empty.count());
+    let mut index = PrimeIndex::stored(4, empty.tree.root(), empty.height(), empty.count());
     assert_equal(
         rt,
         add_place(rt, &mut index, pages, b"0002", FIRST),
@@ -169,7 +169,7 @@ fn a_prime_value_stands_once(rt: HostRuntime) -> Result<(), Fail> {
 // An index of three names.
 fn three_names(rt: &impl Abort, pages: &mut MemoryPages) -> Result<AltIndex, Fault> {
     let empty = AltIndex::empty(pages, 1, 5, 2)?;
-    let mut index = AltIndex::stored(1, 5, 2, empty.tree.root, empty.height(), empty.count());
+    let mut index = AltIndex::stored(1, 5, 2, empty.tree.root(), empty.height(), empty.count());
     for (name, stamp, prime) in &[
         (b"SVEN ", 1, b"01"),
         (b"ADAMS", 2, b"02"),

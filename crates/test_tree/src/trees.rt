@@ -52,23 +52,23 @@ fn number_of(entry: &Entry, shape: Shape) -> u64 {
 
 // Whether the number was not there yet.
 fn put(tree: &mut Tree, pages: &mut MemoryPages, number: u64) -> Result<bool, Fault> {
-    let entry = entry_of(tree.shape, number);
-    let size = tree.shape.entry as usize;
+    let entry = entry_of(tree.shape(), number);
+    let size = tree.shape().entry as usize;
     Ok(tree.insert(pages, &entry[..size])?.is_none())
 }
 
 // Whether the number was there.
 fn take(tree: &mut Tree, pages: &mut MemoryPages, number: u64) -> Result<bool, Fault> {
-    let entry = entry_of(tree.shape, number);
-    let width = tree.shape.width as usize;
+    let entry = entry_of(tree.shape(), number);
+    let width = tree.shape().width as usize;
     Ok(tree.remove(pages, &entry[..width])?.is_some())
 }
 
 fn find(tree: &Tree, pages: &mut MemoryPages, number: u64) -> Result<Option<u64>, Fault> {
-    let entry = entry_of(tree.shape, number);
-    let width = tree.shape.width as usize;
+    let entry = entry_of(tree.shape(), number);
+    let width = tree.shape().width as usize;
     let found = tree.find(pages, &entry[..width])?;
-    Ok(found.map(|entry| number_of(&entry, tree.shape)))
+    Ok(found.map(|entry| number_of(&entry, tree.shape())))
 }
 
 // Whether the number is there, whose entry has these bytes behind its key then.
@@ -78,8 +78,8 @@ fn is_there(
     pages: &mut MemoryPages,
     number: u64,
 ) -> Result<bool, Fault> {
-    let entry = entry_of(tree.shape, number);
-    let (width, size) = (tree.shape.width as usize, tree.shape.entry as usize);
+    let entry = entry_of(tree.shape(), number);
+    let (width, size) = (tree.shape().width as usize, tree.shape().entry as usize);
     let mut tail = [0; 508];
     let told = tree.find_tail(pages, &entry[..width], &mut tail[..size - width])?;
     if told {
@@ -90,22 +90,22 @@ fn is_there(
 }
 
 fn at_or_after(tree: &Tree, pages: &mut MemoryPages, number: u64) -> Result<Option<u64>, Fault> {
-    let entry = entry_of(tree.shape, number);
-    let width = tree.shape.width as usize;
+    let entry = entry_of(tree.shape(), number);
+    let width = tree.shape().width as usize;
     let found = tree.at_or_after(pages, &entry[..width])?;
-    Ok(found.map(|entry| number_of(&entry, tree.shape)))
+    Ok(found.map(|entry| number_of(&entry, tree.shape())))
 }
 
 // The number behind this one, or the first one.
 fn after(tree: &Tree, pages: &mut MemoryPages, number: Option<u64>) -> Result<Option<u64>, Fault> {
-    let entry = entry_of(tree.shape, number.unwrap_or(0));
+    let entry = entry_of(tree.shape(), number.unwrap_or(0));
     let width = if number.is_none() {
         0
     } else {
-        tree.shape.width as usize
+        tree.shape().width as usize
     };
     let found = tree.after(pages, &entry[..width])?;
-    Ok(found.map(|entry| number_of(&entry, tree.shape)))
+    Ok(found.map(|entry| number_of(&entry, tree.shape())))
 }
 
 fn next(cursor: &mut Cursor, tree: &Tree, pages: &mut MemoryPages) -> Result<Option<u64>, Fault> {
@@ -113,7 +113,7 @@ fn next(cursor: &mut Cursor, tree: &Tree, pages: &mut MemoryPages) -> Result<Opt
     if !cursor.next(tree, pages, &mut entry)? {
         return Ok(None);
     }
-    Ok(Some(number_of(&entry, tree.shape)))
+    Ok(Some(number_of(&entry, tree.shape())))
 }
 
 // Whether the next number is this one. The cursor stays.
@@ -123,8 +123,8 @@ fn is_next(
     pages: &mut MemoryPages,
     number: u64,
 ) -> Result<bool, Fault> {
-    let entry = entry_of(tree.shape, number);
-    let width = tree.shape.width as usize;
+    let entry = entry_of(tree.shape(), number);
+    let width = tree.shape().width as usize;
     cursor.next_begins_with(tree, pages, &entry[..width])
 }
 
@@ -135,18 +135,18 @@ fn first_within(
     from: u64,
     to: u64,
 ) -> Result<Option<(u64, bool)>, Fault> {
-    let least = entry_of(tree.shape, from);
-    let greatest = entry_of(tree.shape, to);
-    let width = tree.shape.width as usize;
+    let least = entry_of(tree.shape(), from);
+    let greatest = entry_of(tree.shape(), to);
+    let width = tree.shape().width as usize;
     match tree.first_within(pages, &least[..width], &greatest[..width])? {
         None => Ok(None),
-        Some(first) => Ok(Some((number_of(&first.entry, tree.shape), first.followed))),
+        Some(first) => Ok(Some((number_of(&first.entry, tree.shape()), first.followed))),
     }
 }
 
 fn last(tree: &Tree, pages: &mut MemoryPages) -> Result<Option<u64>, Fault> {
     let found = tree.last(pages)?;
-    Ok(found.map(|entry| number_of(&entry, tree.shape)))
+    Ok(found.map(|entry| number_of(&entry, tree.shape())))
 }
 
 // Adds the children of an inner node that has so many separators at least.
@@ -198,10 +198,10 @@ fn count_filled(
     tree: &Tree,
     pages: &mut MemoryPages,
 ) -> Result<usize, Fail> {
-    let shape = tree.shape;
+    let shape = tree.shape();
     let mut row = Vec::new(alloc);
-    row.push(tree.root)?;
-    for level in 0..tree.levels {
+    row.push(tree.root())?;
+    for level in 0..tree.levels() {
         let least = if level == 0 {
             1
         } else {
@@ -213,7 +213,7 @@ fn count_filled(
         }
         row = below;
     }
-    let least = if tree.levels == 0 {
+    let least = if tree.levels() == 0 {
         0
     } else {
         shape.leaf_room() / 2
@@ -268,7 +268,7 @@ fn fill_and_empty(
         let taken = take(&mut tree, &mut pages, in_order(leaving, i));
         assert_equal_for(rt, i, taken, Ok(true));
     }
-    assert_equal(rt, (tree.height(), tree.count, pages.taken()), (1, 0, 1));
+    assert_equal(rt, (tree.height(), tree.count(), pages.taken()), (1, 0, 1));
     Ok(())
 }
 
@@ -433,6 +433,6 @@ fn a_series_of_changes_goes_as_in_a_list_in_order(rt: HostRuntime) -> Result<(),
             assert!(rt; count_filled(&rt, rt.alloc(), &tree, &mut pages)? == list.len());
         }
     }
-    assert!(rt; tree.count == list.len() as u64);
+    assert!(rt; tree.count() == list.len() as u64);
     Ok(())
 }

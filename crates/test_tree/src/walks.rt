@@ -60,13 +60,7 @@ fn two_leaves(rt: &impl Abort, alloc: Global) -> Result<Vec<[u8; 4096]>, Fail> {
 
 fn tree(rt: &impl Abort, root: u32, levels: u8, count: u64) -> Tree {
     assert!(rt; levels < 20);
-    Tree {
-        shape: LONGEST,
-        root,
-        levels,
-        count,
-        changes: 0,
-    }
+    Tree::stored(LONGEST, root, levels, count)
 }
 
 #[test]

@@ -1,6 +1,7 @@
 //! Calls on a tree, one for each entry of a list.
 
 ghost use Rattle.std.specs.Prelude.{◌≡◌, length};
+ghost use Rattle.bplus_tree.specs.Fields.{tree_shape};
 
 use super::entries::Bytes;
 use bplus_tree::Tree;
@@ -10,11 +11,11 @@ use tree_node::Entry;
 
 /// Puts each entry in. How many were not there.
 pub fn insert_all<P: Pages>(tree: &mut Tree, pages: &mut P, entries: &[Bytes]) -> Result<u64, Fault>
-    requires shape { tree.old.shape.entry ≡ 24 }
+    requires shape { (tree_shape tree.old).entry ≡ 24 }
     requires ready { P.shown.IsReady pages.old }
     requires open { P.shown.CanChange pages.old }
     ensures goes { P.shown.Writes pages.old pages.new }
-    ensures shape { tree.new.shape ≡ tree.old.shape }
+    ensures shape { tree_shape tree.new ≡ tree_shape tree.old }
 {
     let mut sum = 0u64;
     for entry in entries {
@@ -30,7 +31,7 @@ pub fn remove_all<P: Pages>(tree: &mut Tree, pages: &mut P, entries: &[Bytes]) -
     requires ready { P.shown.IsReady pages.old }
     requires open { P.shown.CanChange pages.old }
     ensures goes { P.shown.Writes pages.old pages.new }
-    ensures shape { tree.new.shape ≡ tree.old.shape }
+    ensures shape { tree_shape tree.new ≡ tree_shape tree.old }
 {
     let mut sum = 0u64;
     for entry in entries {
@@ -61,7 +62,7 @@ pub fn step_over<P: Pages>(tree: &Tree, pages: &mut P) -> Result<u64, Fault>
     let mut sum = 0u64;
     let mut cursor = tree.cursor(&[]);
     let mut entry = Entry::new();
-    for _ in 0..tree.count {
+    for _ in 0..tree.count() {
         if cursor.next(tree, pages, &mut entry)? {
             sum = added(sum, Some(&entry));
         }

@@ -1,5 +1,6 @@
 use Rattle.std.proofs.Common.{◌≡◌}
+use Rattle.bplus_tree.specs.Fields.{tree_shape}
 use Rattle.benchmarks.proofs.trees.rounds.Given as goal
 
 abbrev pub invariant-loop-turn : goal.invariant-loop-turn
-invariant-loop-turn g l = g.P.Pages.shown.Writes l.initial.pages l.pages × (l.tree.shape ≡ l.initial.tree.shape)
+invariant-loop-turn g l = g.P.Pages.shown.Writes l.initial.pages l.pages × (tree_shape l.tree ≡ tree_shape l.initial.tree)

@@ -6,14 +6,15 @@ use Rattle.page_walks.specs.declared.leaf.Leaf.{Leaf}
 use Rattle.page_walks.specs.Spots.{entries_at, spots_in}
 use Rattle.key_index.specs.declared.alt_index.AltIndex.{AltIndex}
 use Rattle.row_checks.specs.Alternate.{AlternateStands}
+use Rattle.bplus_tree.specs.Fields.{tree_shape}
 use Rattle.file_checker.proofs.AlternateLemmas.{entries_rise, alternates_more}
 use Rattle.file_checker.proofs.parts.check_alternates.Goals as goal
 
 pub check_alternate-requires-clause-rises : goal.check_alternate-requires-clause-rises
 check_alternate-requires-clause-rises c =
     let index = c.index-item.result in
-    subst (λ (leaves : List Leaf). Ascends index.tree.shape.width (entries_at index.tree.shape c.args.pages.now (spots_in leaves))) (sym c.deref.ensures.value)
-    (entries_rise index.tree (pages_in c.args.pages.now) (entries_at index.tree.shape c.args.pages.now (spots_in c.in_ok-leaves.leaves.items)) _ c.in_ok-leaves.ensures.stands)
+    subst (λ (leaves : List Leaf). Ascends (tree_shape index.tree).width (entries_at (tree_shape index.tree) c.args.pages.now (spots_in leaves))) (sym c.deref.ensures.value)
+    (entries_rise index.tree (pages_in c.args.pages.now) (entries_at (tree_shape index.tree) c.args.pages.now (spots_in c.in_ok-leaves.leaves.items)) _ c.in_ok-leaves.ensures.stands)
 
 pub loop-index-preserved : goal.loop-index-preserved
 loop-index-preserved c =

@@ -6,6 +6,7 @@ use Rattle.page_walks.specs.declared.leaf.Leaf.{Leaf}
 use Rattle.page_walks.specs.Spots.{entries_at, spots_in}
 use Rattle.row_checks.proofs.LawLemmas.{make_a_file}
 use Rattle.row_checks.specs.Rows.{RowsStand}
+use Rattle.bplus_tree.specs.Fields.{tree_shape}
 use Rattle.file_checker.specs.Parts.{AlternatesFound}
 use Rattle.file_checker.proofs.AlternateLemmas.{entries_rise, spots_many}
 use Rattle.file_checker.proofs.StandLemmas.{Found, pages_stand, leaves_out}
@@ -14,10 +15,10 @@ use Rattle.file_checker.proofs.parts.check_parts.Goals as goal
 pub check_rows-requires-clause-rises : goal.check_rows-requires-clause-rises
 check_rows-requires-clause-rises c =
     let index = c.from_header-file.result.prime in
-    let rises : Ascends index.tree.shape.width (entries_at index.tree.shape c.args.pages.now (spots_in c.in_ok-primes.primes.items)) =
-    entries_rise index.tree (pages_in c.args.pages.now) (entries_at index.tree.shape c.args.pages.now (spots_in c.in_ok-primes.primes.items)) _ c.in_ok-primes.ensures.stands in
-    subst (λ (leaves : List Leaf). Ascends index.width (entries_at index.tree.shape c.args.pages.now (spots_in leaves))) (sym c.deref-2.ensures.value)
-    (subst (λ (width : ℕ). Ascends width (entries_at index.tree.shape c.args.pages.now (spots_in c.in_ok-primes.primes.items))) index.keys rises)
+    let rises : Ascends (tree_shape index.tree).width (entries_at (tree_shape index.tree) c.args.pages.now (spots_in c.in_ok-primes.primes.items)) =
+    entries_rise index.tree (pages_in c.args.pages.now) (entries_at (tree_shape index.tree) c.args.pages.now (spots_in c.in_ok-primes.primes.items)) _ c.in_ok-primes.ensures.stands in
+    subst (λ (leaves : List Leaf). Ascends index.width (entries_at (tree_shape index.tree) c.args.pages.now (spots_in leaves))) (sym c.deref-2.ensures.value)
+    (subst (λ (width : ℕ). Ascends width (entries_at (tree_shape index.tree) c.args.pages.now (spots_in c.in_ok-primes.primes.items))) index.keys rises)
 
 pub check_alternates-requires-clause-many : goal.check_alternates-requires-clause-many
 check_alternates-requires-clause-many c j index within is =

@@ -6,6 +6,7 @@ use Rattle.page_marks.specs.PageList.{pages_in}
 use Rattle.record_heap.specs.Standing.{slot_off}
 use Rattle.key_index.specs.Stored.{prime_entry_in}
 use Rattle.open_file.proofs.PartsLemmas.{from_eq}
+use Rattle.bplus_tree.specs.Fields.{tree_shape}
 use Rattle.row_checks.specs.Rows.{place_at}
 use Rattle.row_checks.proofs.StampLemmas.{rest_from}
 use Rattle.row_checks.proofs.AlternateLemmas.{entry_is}
@@ -26,7 +27,7 @@ returns-then-read_u64-stamp c = λ yes. elim c.if-eq.branch [
       let number = ap (big_number 8) (sym (rest_from width e)) ∙ sym w.read_u64.ensures in
       let stamp = from_eq w.read_u64.result w.stamp.result (sym w.value-is ∙ c.if-read_u64-stamp.true) in
       let prime = (bytes_eq-Decides _ c.value-then-read_u64-stamp.result.now).0 (sym c.eq-then-read_u64-stamp.ensures ∙ yes) in
-      entry_is file list c.args.leader c.in-Some-stored_at.stored.now e width c.args.index.tree.shape.key there (value ∙ c.value.ensures) (number ∙ stamp ∙ w.stamp.ensures)
+      entry_is file list c.args.leader c.in-Some-stored_at.stored.now e width (tree_shape c.args.index.tree).key there (value ∙ c.value.ensures) (number ∙ stamp ∙ w.stamp.ensures)
       (sym (rest_from (width + 8) e) ∙ prime ∙ c.value-then-read_u64-stamp.ensures)
   | else-eq w ↦ (let off = w.value-is in let on = c.if-read_u64-stamp.true in absurd (cc (off, on)))
 ]
