@@ -9,6 +9,7 @@ use Rattle.key_index.specs.declared.entry.PrimeEntry.{PrimeEntry}
 use Rattle.key_index.specs.Entries.{has_prime}
 use Rattle.record_heap.specs.declared.shape.Place.{Place}
 use Rattle.record_heap.specs.Chain.{Slots}
+use Rattle.record_heap.specs.Standing.{slot_shape}
 use Rattle.pages.specs.PageMap.{PageMap}
 use Rattle.pages.specs.ShownPages.{ShownPages}
 use Rattle.open_file.specs.Fields.{alternates_of, heap_of, next_stamp_of, file_schema}
@@ -59,8 +60,8 @@ IsFoundIn {opened} {pages} {file} stands prime old bytes =
 
 -- it is as long as a record, and has a stamp for each alternate key
 pub record HasRecordLength (file : OpenFile) (old : OldRecord) : Type 0 where
-  pub least : (heap_of file).shape.stamps + (heap_of file).shape.least ≤ old.end
-  pub greatest : old.end ≤ (heap_of file).shape.stamps + (heap_of file).shape.greatest
+  pub least : (slot_shape (heap_of file)).stamps + (slot_shape (heap_of file)).least ≤ old.end
+  pub greatest : old.end ≤ (slot_shape (heap_of file)).stamps + (slot_shape (heap_of file)).greatest
   pub many : length old.stamps.items ≡ length (alternates_of file)
 
 -- the answer is the record of a prime value in the slot, where there is one
@@ -72,10 +73,10 @@ AnswersFinding shown opened prime slot before after result =
 -- the stamps of a record stand in the front of a slot
 pub record HasStampsIn (file : OpenFile) (slot : List ℕ) : Type 0 where
   pub shaped : IsShaped file
-  pub room : (heap_of file).shape.stamps ≤ length slot
+  pub room : (slot_shape (heap_of file)).stamps ≤ length slot
 
 -- the stamps of a new record, in front of it in its slot
 pub record AreNewStamps (file : OpenFile) (stamps : List ℕ) : Type 0 where
   pub stored : (bytes : List ℕ) → stamps ++ bytes
       ≡ stored (file_schema file) (new_row (file_schema file) (next_stamp_of file) bytes)
-  pub length : length stamps ≡ (heap_of file).shape.stamps
+  pub length : length stamps ≡ (slot_shape (heap_of file)).stamps

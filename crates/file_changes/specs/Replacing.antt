@@ -20,6 +20,7 @@ use Rattle.key_index.specs.Standing.{alt_height}
 use Rattle.file_changes.specs.Adding.{stamp_in, entry_of_record, index_levels}
 use Rattle.record_heap.specs.declared.shape.Place.{Place}
 use Rattle.record_heap.specs.Chain.{Slots, put_slot}
+use Rattle.record_heap.specs.Standing.{slot_shape}
 use Rattle.open_file.specs.Fields.{alternates_of, has_broken, heap_of, next_stamp_of, file_schema}
 use Rattle.open_file.specs.Fields.{with_alternates_of, with_next_stamp, without_path}
 use Rattle.open_file.specs.Stored.{stored}
@@ -298,4 +299,4 @@ pub record HaveStamps (file : OpenFile) (was old_stamps bytes : List ℕ) : Type
 pub record AreStampsAfter (file : OpenFile) (was stamps bytes result : List ℕ) : Type 0 where
   pub stored : result ++ bytes
       ≡ slot_after (file_schema file) (next_stamp_of file) (row_with was stamps) bytes
-  pub length : length result ≡ (heap_of file).shape.stamps
+  pub length : length result ≡ (slot_shape (heap_of file)).stamps

@@ -9,6 +9,7 @@ use Rattle.pages.specs.PageCalls.{WritesPages}
 use Rattle.pages.specs.ShownPages.{ShownPages}
 use Rattle.key_index.specs.declared.alt_index.AltIndex.{AltIndex}
 use Rattle.key_index.specs.Standing.{alt_height}
+use Rattle.record_heap.specs.Standing.{slot_shape}
 use Rattle.open_file.specs.Fields.{alternates_of, has_broken, heap_of, next_stamp_of, prime_index_of}
 use Rattle.open_file.specs.Fields.{file_schema, with_alternates_of, with_heap_of, with_prime_of}
 use Rattle.open_file.specs.Stands.{Stands, IsShaped}
@@ -99,7 +100,7 @@ pub record KeepsMark {S X : Type 0} (shown : ShownPages S) (old new : OpenFile) 
 -- only the heap changes, and its records have the lengths that they had
 pub record ChangesHeap (old new : OpenFile) : Type 0 where
   pub rest : new ≡ with_heap_of new old
-  pub shape : (heap_of new).shape ≡ (heap_of old).shape
+  pub shape : slot_shape (heap_of new) ≡ slot_shape (heap_of old)
 
 -- only the prime index changes, and its values have the length that they had
 pub record ChangesPrime (old new : OpenFile) : Type 0 where

@@ -2,6 +2,7 @@
 
 ghost use Rattle.std.specs.Prelude.{◌≡◌, ◌+◌, ◌≤◌, length, drop, slice_range, IfOk, IfSome};
 ghost use Rattle.pages.specs.PageCalls.{ReadsPages};
+ghost use Rattle.record_heap.specs.Standing.{slot_shape};
 ghost use Rattle.key_index.specs.Standing.{prime_height};
 ghost use Rattle.open_file.specs.Stored.{stamps_length};
 ghost use Rattle.open_file.specs.ReadOff.{stamps_off};
@@ -55,7 +56,7 @@ pub(crate) fn find_old<P: Pages>(
 pub(crate) fn record_in<'a>(opened: &OpenFile, old: &OldRecord, slot: &'a [u8]) -> &'a [u8]
     requires shaped { IsShaped opened.now }
     requires within { HasRecordLength opened.now old.now }
-    requires room { (heap_of opened.now).shape.stamps + (heap_of opened.now).shape.greatest
+    requires room { (slot_shape (heap_of opened.now)).stamps + (slot_shape (heap_of opened.now)).greatest
         ≤ length slot.now }
     ensures bytes { result.now ≡ slice_range slot.now
         (stamps_length (drop 1 (file_schema opened.now).keys)) old.now.end }

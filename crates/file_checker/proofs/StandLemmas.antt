@@ -15,7 +15,7 @@ use Rattle.page_walks.specs.TreeWalk.{TreeWalked}
 use Rattle.page_walks.specs.FreeWalk.{FreeWalked}
 use Rattle.page_walks.specs.WholeFile.{pages_used_in, FileParted}
 use Rattle.page_walks.proofs.FileLemmas.{trees_stay, walks_part_the_file}
-use Rattle.record_heap.specs.Standing.{HeapStands}
+use Rattle.record_heap.specs.Standing.{HeapStands, slot_shape}
 use Rattle.record_heap.specs.Walk.{slots_of}
 use Rattle.record_heap.proofs.StandLemmas.{heap_kept}
 use Rattle.key_index.specs.declared.alt_index.AltIndex.{AltIndex}
@@ -41,7 +41,7 @@ pub record Found (header : Header) (list : List (List ℕ)) (opened : OpenFile) 
   pub clear : (n : ℕ) → none n ≡ false
   pub first : Marks none zeroth (0 ∷ [])
   pub free : FreeWalked list header.first_free header.free zeroth start
-  pub heap : HeapStands opened.heap (pages_in list) (slots_of opened.heap.shape (pages_in list) own) own
+  pub heap : HeapStands opened.heap (pages_in list) (slots_of (slot_shape opened.heap) (pages_in list) own) own
   pub heap_marks : Marks start heaped own
   pub prime : TreeWalked opened.prime.tree list heaped primed primes
   pub rows : RowsStand opened list own primes
@@ -130,12 +130,12 @@ module _ (header : Header) (list : List (List ℕ)) (opened : OpenFile) (own : L
           each = at.rows.each;
         })
 
-    parts : Parts opened.heap opened.prime opened.alternates.items live (slots_of opened.heap.shape (pages_in list) own)
+    parts : Parts opened.heap opened.prime opened.alternates.items live (slots_of (slot_shape opened.heap) (pages_in list) own)
         (prime_entries opened.schema (places_in opened list primes) (rows_in opened list primes)) (λ j. alt_entries opened.schema (j + 1) (rows_in opened list primes))
     parts = record {
       owns = owns;
       owners = let many = found.alternates.as_many in omega arith;
-      heap_stands = heap_kept opened.heap (pages_in list) live (slots_of opened.heap.shape (pages_in list) own) own (file_parted.as_read 0) found.heap;
+      heap_stands = heap_kept opened.heap (pages_in list) live (slots_of (slot_shape opened.heap) (pages_in list) own) own (file_parted.as_read 0) found.heap;
       prime_stands = prime_there;
       alternates_stand = alternate_there;
       parted = record { apart = file_parted.parted.apart; covers = file_parted.parted.covers };
@@ -149,7 +149,7 @@ module _ (header : Header) (list : List (List ℕ)) (opened : OpenFile) (own : L
         stamp = refl;
         few = rw by_header.header_is.next_stamp allowed.within.limit;
         places = places_in opened list primes;
-        slots = slots_of opened.heap.shape (pages_in list) own;
+        slots = slots_of (slot_shape opened.heap) (pages_in list) own;
         placed = found.rows.placed;
         parts = parts;
         on_path = subst (λ (p : Option Path). IsOnPath p opened.prime opened.alternates.items live (prime_entries opened.schema (places_in opened list primes) (rows_in opened list primes))

@@ -5,7 +5,7 @@ use Rattle.page_alloc.specs.Chain.{chain}
 use Rattle.page_marks.specs.Marks.{marked_in}
 use Rattle.page_marks.specs.PageList.{pages_in}
 use Rattle.page_marks.specs.Parted.{own_at, all_of}
-use Rattle.record_heap.specs.Standing.{HeapStands}
+use Rattle.record_heap.specs.Standing.{HeapStands, slot_shape}
 use Rattle.record_heap.specs.Walk.{slots_of}
 use Rattle.bplus_tree.specs.declared.tree.Tree.{Tree}
 use Rattle.bplus_tree.specs.Standing.{TreeStands}
@@ -31,7 +31,7 @@ pub record LeavesOut (header : Header) (list : List (List ℕ)) (n : ℕ) : Type
   pub owns : List (List ℕ)
   pub owners : length owns ≡ length opened.alternates.items + 2
   pub heap : HeapStands opened.heap (pages_in list)
-      (slots_of opened.heap.shape (pages_in list) (own_at owns 0)) (own_at owns 0)
+      (slots_of (slot_shape opened.heap) (pages_in list) (own_at owns 0)) (own_at owns 0)
   pub prime : IsTreeInList opened.prime.tree list (own_at owns 1)
   pub alternates : (j : ℕ) (index : AltIndex) → j < length opened.alternates.items
       → index ≡ slice_index_or opened.alternates.items j index

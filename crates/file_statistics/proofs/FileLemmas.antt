@@ -13,6 +13,7 @@ use Rattle.page_alloc.specs.Chain.{is_page, is_among, chain}
 use Rattle.page_alloc.proofs.ChainLemmas.{chain_step, still_none, in_use}
 use Rattle.page_walks.proofs.FreeLemmas.{not_among}
 use Rattle.record_heap.proofs.StandLemmas.{chain_live}
+use Rattle.record_heap.specs.Standing.{first_heap_page}
 use Rattle.bplus_tree.specs.declared.tree.Tree.{Tree}
 use Rattle.bplus_tree.specs.Standing.{TreeStands}
 use Rattle.key_index.proofs.LawLemmas.{prime_live, alt_live}
@@ -83,7 +84,7 @@ module _ (page : ℕ → List ℕ) (header : Header) (opened : OpenFile) (file :
       by_place (inr past) = let n = stands.parts.owners in let none = past_end owns (suc (suc j)) (omega (arith, n, past)) in subst AreApart (sym none) tt
 
   live_at : (i : ℕ) → Each (λ n. IsSome (live_by page header n)) (own_at owns i)
-  live_at zero = chain_live (live_by page header) opened.heap.first (own_at owns 0) stands.parts.heap_stands.chain
+  live_at zero = chain_live (live_by page header) (first_heap_page opened.heap) (own_at owns 0) stands.parts.heap_stands.chain
   live_at (suc zero) = (prime_live _ _ _ _ stands.parts.prime_stands).live
   live_at (suc (suc j)) = by_place (low_or_not j (length opened.alternates.items))
     where

@@ -2,6 +2,7 @@
 use Rattle.std.proofs.Common.{◌≡◌, ℕ, zero, suc, ◌+◌, ◌-◌, ◌*◌, ◌<◌, List, length, slice_index_or, ap, sym, ◌∙◌, arith, subst}
 use Rattle.page_marks.specs.Parted.{own_at, all_of}
 use Rattle.record_heap.specs.Slot.{room}
+use Rattle.record_heap.specs.Standing.{slot_shape}
 use Rattle.file_header.specs.declared.header.Header.{Header}
 use Rattle.file_header.specs.Bounds.{IsHeader}
 use Rattle.indexed_file.specs.File.{File}
@@ -100,7 +101,7 @@ module _ (header : Header) (list : List (List ℕ)) (opened : OpenFile) (is_head
 
     pub statistics_are : (page : ℕ → List ℕ) (before : OpenFile) (file : File) → PagesHoldFile page header before file → AreShown (live_by page header) list
         → (told : FileStatistics) → told.pages ≡ header.pages → told.free ≡ header.free → told.records ≡ header.records → told.keys.items ≡ keys → told.trees ≡ all_key_pages keys
-        → told.heap ≡ header.pages - 1 - told.trees - header.free → told.slots ≡ told.heap * room opened.heap.shape → HasStatistics page header file told
+        → told.heap ≡ header.pages - 1 - told.trees - header.free → told.slots ≡ told.heap * room (slot_shape opened.heap) → HasStatistics page header file told
     statistics_are page before file standing shown told pages free records items trees heap slots =
         let now = again page before file standing in
         let whole = pages_whole page file now shown in

@@ -12,6 +12,7 @@ use Rattle.bplus_tree.specs.Standing.{TreeStands}
 use Rattle.bplus_tree.specs.Fields.{tree_shape, tree_levels, tree_count}
 use Rattle.key_index.specs.declared.alt_index.AltIndex.{AltIndex}
 use Rattle.record_heap.specs.Slot.{room}
+use Rattle.record_heap.specs.Standing.{slot_shape}
 use Rattle.key_index.specs.Stored.{prime_bytes, alt_bytes}
 use Rattle.open_file.specs.InOrder.{alt_entries, prime_entries}
 use Rattle.open_file.specs.declared.open_file.OpenFile.{OpenFile}
@@ -112,7 +113,7 @@ pub record AreStatistics (header : Header) (opened : OpenFile) (pages : PageMap)
   pub heap_are : counts.heap ≡ length (own_at stands.parts.owns 0)
   pub trees_are : counts.trees ≡ all_key_pages counts.keys.items
   pub whole : counts.pages ≡ 1 + counts.heap + counts.trees + counts.free
-  pub slots_are : counts.slots ≡ counts.heap * room opened.heap.shape
+  pub slots_are : counts.slots ≡ counts.heap * room (slot_shape opened.heap)
   pub records_are : counts.records ≡ length file.rows
   pub many : length counts.keys.items ≡ length opened.schema.keys
   pub keys : AreKeyStatistics opened pages file stands (length opened.alternates.items) counts.keys.items

@@ -113,7 +113,7 @@ pub fn count_file(
     let keys = count_keys(alloc, pages, &file)?;
     let trees = tree_pages(&keys);
     let heap = u64::from(header.pages) - 1 - trees - u64::from(header.free);
-    let room = file.heap.shape.room() as u64;
+    let room = file.heap.shape().room() as u64;
     Ok(FileStatistics {
         pages: u64::from(header.pages),
         heap,

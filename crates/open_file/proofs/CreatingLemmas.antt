@@ -13,7 +13,7 @@ use Rattle.key_index.specs.Standing.{AltStands, AltChanged, PrimeChanged, prime_
 use Rattle.key_index.proofs.LawLemmas.{prime_live, prime_kept, alt_live, alt_kept}
 use Rattle.record_heap.specs.declared.heap.Heap.{Heap}
 use Rattle.record_heap.specs.Chain.{no_slots}
-use Rattle.record_heap.specs.Standing.{HeapStands}
+use Rattle.record_heap.specs.Standing.{HeapStands, first_heap_page}
 use Rattle.record_heap.proofs.StandLemmas.{heap_kept, chain_live}
 use Rattle.open_file.specs.Stored.{stamps_length}
 use Rattle.open_file.specs.Parts.{Parts}
@@ -147,7 +147,7 @@ module _ (heap : Heap) (prime : PrimeIndex) (alternates : List AltIndex) (before
       rw (past_all p.owns (j + 2) [] (omega (arith, past, p.owners))) tt)
 
   all_used : (j : ℕ) → Each (λ n. IsSome (before n)) (own_at p.owns j)
-  all_used zero = chain_live before heap.first (own_at p.owns 0) p.heap_stands.chain
+  all_used zero = chain_live before (first_heap_page heap) (own_at p.owns 0) p.heap_stands.chain
   all_used (suc zero) = (prime_live prime before [] (own_at p.owns 1) p.prime_stands).live
   all_used (suc (suc j)) = let e : j + 2 ≡ suc (suc j) = omega arith in subst (λ m. Each (λ n. IsSome (before n)) (own_at p.owns m)) e (alternate_used j)
 

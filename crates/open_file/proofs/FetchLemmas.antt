@@ -9,7 +9,7 @@ use Rattle.indexed_file.specs.Sound.{is_row}
 use Rattle.pages.specs.PageMap.{PageMap}
 use Rattle.key_index.specs.declared.entry.PrimeEntry.{PrimeEntry}
 use Rattle.record_heap.specs.declared.shape.Place.{Place}
-use Rattle.record_heap.specs.Standing.{HeapStands}
+use Rattle.record_heap.specs.Standing.{HeapStands, slot_shape}
 use Rattle.key_index.specs.Entries.{has_prime}
 use Rattle.open_file.specs.declared.open_file.OpenFile.{OpenFile}
 use Rattle.open_file.specs.InOrder.{prime_entries}
@@ -25,9 +25,9 @@ use Rattle.open_file.proofs.LengthLemmas.{is_made}
 pub record PlaceOf (u : OpenFile) (pages : PageMap) (file : File) (value : List ℕ) (place : Place) : Type 0 where
   pub row : Row
   pub is_row : row_of u.schema value file ≡ Some row
-  pub at : IsRowAt u.schema u.heap u.heap.shape.stamps pages place row
+  pub at : IsRowAt u.schema u.heap (slot_shape u.heap).stamps pages place row
 
-place_of_row : (u : OpenFile) (pages after : PageMap) → u.heap.shape.stamps ≡ stamps_length (drop 1 u.schema.keys) → after ≡ pages → (file : File) (stands : Stands u pages file) (value : List ℕ) (entry : PrimeEntry)
+place_of_row : (u : OpenFile) (pages after : PageMap) → (slot_shape u.heap).stamps ≡ stamps_length (drop 1 u.schema.keys) → after ≡ pages → (file : File) (stands : Stands u pages file) (value : List ℕ) (entry : PrimeEntry)
     → find (has_prime value) (prime_entries u.schema stands.places file.rows) ≡ Some entry → PlaceOf u after file value entry.place
 place_of_row u pages after stamps same file stands value entry found =
     let leads = entry_leads u.schema stands.slots value stands.places file.rows entry stands.placed.rows_at found in
@@ -47,7 +47,7 @@ place_of_row u pages after stamps same file stands value entry found =
     }
 
 -- the row at the place that the prime index tells
-pub row_at_place : (u : OpenFile) (pages after : PageMap) → u.heap.shape.stamps ≡ stamps_length (drop 1 u.schema.keys) → after ≡ pages → (file : File) (stands : Stands u pages file) (value : List ℕ) (place : Place)
+pub row_at_place : (u : OpenFile) (pages after : PageMap) → (slot_shape u.heap).stamps ≡ stamps_length (drop 1 u.schema.keys) → after ≡ pages → (file : File) (stands : Stands u pages file) (value : List ℕ) (place : Place)
     → option_map (λ e. e.place) (find (has_prime value) (prime_entries u.schema stands.places file.rows)) ≡ Some place → PlaceOf u after file value place
 row_at_place u pages after stamps same file stands value place told = from_entry (find (has_prime value) (prime_entries u.schema stands.places file.rows)) refl told
   where

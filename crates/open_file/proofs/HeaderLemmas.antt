@@ -27,7 +27,7 @@ use Rattle.record_heap.specs.declared.heap.Heap.{Heap}
 use Rattle.record_heap.specs.declared.shape.Place.{Place}
 use Rattle.record_heap.specs.declared.shape.Shape.{Shape as SlotShape}
 use Rattle.record_heap.specs.Chain.{Slots}
-use Rattle.record_heap.specs.Standing.{HeapStands}
+use Rattle.record_heap.specs.Standing.{HeapStands, slot_shape, first_heap_page, first_free_slot, heap_with}
 use Rattle.open_file.specs.InOrder.{put_row, in_order, alt_entries, prime_entries}
 use Rattle.open_file.specs.Stored.{AreAt, stamps_length}
 use Rattle.open_file.specs.Parts.{Parts}
@@ -100,10 +100,10 @@ alt_moved old new pages entries own key width prime levels root count s =
       each = subst (λ p. Each (IsAltEntry new.width p) entries) prime (subst (λ w. Each (IsAltEntry w old.prime) entries) width s.each);
     }
 
-heap_moved : (old new : Heap) (pages : PageMap) (slots : Slots) (own : List ℕ) → old.shape ≡ new.shape → old.first ≡ new.first → old.free.page ≡ new.free.page → old.free.slot ≡ new.free.slot
+heap_moved : (old new : Heap) (pages : PageMap) (slots : Slots) (own : List ℕ) → slot_shape old ≡ slot_shape new → first_heap_page old ≡ first_heap_page new → (first_free_slot old).page ≡ (first_free_slot new).page → (first_free_slot old).slot ≡ (first_free_slot new).slot
     → HeapStands old pages slots own → HeapStands new pages slots own
 heap_moved old new pages slots own shape first page slot s =
-    let same : old ≡ new = λ i. record { shape = shape i; first = first i; free = record { page = page i; slot = slot i } } in
+    let same : old ≡ new = λ i. heap_with (shape i) (first i) (record { page = page i; slot = slot i }) in
     subst (λ heap. HeapStands heap pages slots own) same s
 
 -- ---- an entry for each record
@@ -144,7 +144,7 @@ read_back opened other header pages file stands shaped of made =
     let prime_levels = lower (tree_levels opened.prime.tree) (tree_levels other.prime.tree) _ of.prime.height is.prime.height in
     let rows_many = prime_entries_many opened.schema stands.slots stands.places file.rows stands.placed.rows_at in
     let counted : header.records ≡ length file.rows = sym of.records ∙ p.prime_stands.tree.count ∙ length-map _ _ ∙ rows_many in
-    let slots = same_slots opened.heap.shape other.heap.shape
+    let slots = same_slots (slot_shape opened.heap) (slot_shape other.heap)
     (shaped.stamps ∙ ap (λ (s : Schema). stamps_length (drop 1 s.keys)) schema ∙ sym made.shaped.stamps)
     (shaped.least ∙ ap (λ (s : Schema). s.least) schema ∙ sym made.shaped.least)
     (shaped.greatest ∙ ap (λ (s : Schema). s.greatest) schema ∙ sym made.shaped.greatest) in

@@ -23,7 +23,7 @@ use Rattle.pages.specs.PageMap.{PageMap}
 use Rattle.key_index.specs.declared.entry.PrimeEntry.{PrimeEntry}
 use Rattle.key_index.specs.declared.entry.AltEntry.{AltEntry}
 use Rattle.record_heap.specs.declared.shape.Place.{Place}
-use Rattle.record_heap.specs.Standing.{HeapStands}
+use Rattle.record_heap.specs.Standing.{HeapStands, slot_shape}
 use Rattle.open_file.specs.declared.open_file.OpenFile.{OpenFile}
 use Rattle.open_file.specs.InOrder.{in_order, alt_entry, alt_entries, prime_entries}
 use Rattle.open_file.specs.Stored.{stamps_length}
@@ -138,17 +138,17 @@ pub record NextAt (opened after : OpenFile) (now : PageMap) (position : Position
   pub row : Row
   pub is_next : least opened.schema 0 (admits opened.schema 0 position) file ≡ Some row
   pub value : entry.value.items ≡ prime_of opened.schema row.bytes
-  pub at : IsRowAt after.schema after.heap after.heap.shape.stamps now entry.place row
+  pub at : IsRowAt after.schema after.heap (slot_shape after.heap).stamps now entry.place row
 
 pub prime_admitted : (opened after : OpenFile) (pages now : PageMap) (file : File) (stands : Stands opened pages file) (position : Position) (entry : PrimeEntry)
-    → after ≡ record opened { path = after.path } → opened.heap.shape.stamps ≡ stamps_length (drop 1 opened.schema.keys) → now ≡ pages
+    → after ≡ record opened { path = after.path } → (slot_shape opened.heap).stamps ≡ stamps_length (drop 1 opened.schema.keys) → now ≡ pages
     → find (admits_prime position) (prime_entries opened.schema stands.places file.rows) ≡ Some entry → NextAt opened after now position file entry
 prime_admitted opened after pages now file stands position entry rest stamps same found =
     let schema = opened.schema in
     let leads = prime_some schema stands.slots (admits_prime position) (admits schema 0 position) (same_prime schema position) stands.places file.rows entry stands.placed.rows_at found in
     let each = each_row schema file.next_stamp file.rows (and_parts _ _ stands.sound).1 in
     let made = is_made schema file.next_stamp leads.row (find_each (λ row. is_row schema file.next_stamp row ≡ true) (admits schema 0 position) file.rows leads.row each leads.is_first) in
-    let at : IsRowAt schema opened.heap opened.heap.shape.stamps now entry.place leads.row = record {
+    let at : IsRowAt schema opened.heap (slot_shape opened.heap).stamps now entry.place leads.row = record {
       slots = stands.slots;
       own = own_at stands.parts.owns 0;
       stands = subst (λ (p : PageMap). HeapStands opened.heap p stands.slots (own_at stands.parts.owns 0)) (sym same) stands.parts.heap_stands;
@@ -160,7 +160,7 @@ prime_admitted opened after pages now file stands position entry rest stamps sam
       row = leads.row;
       is_next = least_is_first schema 0 (admits schema 0 position) file.rows ∙ in_prime_order schema file (admits schema 0 position) stands.sound ∙ leads.is_first;
       value = leads.value;
-      at = subst (λ (o : OpenFile). IsRowAt o.schema o.heap o.heap.shape.stamps now entry.place leads.row) (sym rest) at;
+      at = subst (λ (o : OpenFile). IsRowAt o.schema o.heap (slot_shape o.heap).stamps now entry.place leads.row) (sym rest) at;
     }
 
 -- what is told of it

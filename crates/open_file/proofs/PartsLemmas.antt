@@ -15,6 +15,7 @@ use Rattle.key_index.proofs.LawLemmas.{alt_live, alt_kept, prime_live, prime_kep
 use Rattle.record_heap.specs.Chain.{Slots}
 use Rattle.record_heap.specs.Found.{HeapHas}
 use Rattle.record_heap.proofs.StandLemmas.{heap_kept, chain_live}
+use Rattle.record_heap.specs.Standing.{first_heap_page}
 use Rattle.open_file.specs.Parts.{Parts, but_at}
 use Rattle.page_marks.specs.Parted.{own_at, Parted}
 use Rattle.open_file.proofs.OrderLemmas.{either}
@@ -149,7 +150,7 @@ module _ (heap : Heap) (prime : PrimeIndex) (alternates : List AltIndex) (before
       from_not_lt a b h = grind (arith, common_steps)
 
   used : AreUsed before p.owns
-  used zero = chain_live before heap.first (own_at p.owns 0) p.heap_stands.chain
+  used zero = chain_live before (first_heap_page heap) (own_at p.owns 0) p.heap_stands.chain
   used (suc zero) = (prime_live prime before primes (own_at p.owns 1) p.prime_stands).live
   used (suc (suc j)) = let e : j + 2 ≡ suc (suc j) = omega arith in subst (λ m. Each (λ n. IsSome (before n)) (own_at p.owns m)) e (used_alternate j)
 

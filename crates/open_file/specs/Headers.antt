@@ -10,6 +10,7 @@ use Rattle.bplus_tree.specs.Fields.{tree_root, tree_levels, tree_count}
 use Rattle.key_index.specs.declared.prime_index.PrimeIndex.{PrimeIndex}
 use Rattle.key_index.specs.Standing.{IsAltStored, alt_key}
 use Rattle.key_index.specs.declared.alt_index.AltIndex.{AltIndex}
+use Rattle.record_heap.specs.Standing.{first_heap_page, first_free_slot}
 use Rattle.open_file.specs.Stands.{Stands, IsShaped}
 use Rattle.open_file.specs.declared.open_file.OpenFile.{OpenFile}
 
@@ -26,9 +27,9 @@ pub record HasTree (tree : Tree) (numbers : TreeNumbers) : Type 0 where
 pub record IsHeaderOf (header : Header) (opened : OpenFile) : Type 0 where
   pub schema_is : opened.schema ≡ header.schema
   pub next_stamp : opened.next_stamp ≡ header.next_stamp
-  pub first_heap : opened.heap.first ≡ header.first_heap
-  pub free_page : opened.heap.free.page ≡ header.free_slot_page
-  pub free_slot : opened.heap.free.slot ≡ header.free_slot
+  pub first_heap : first_heap_page opened.heap ≡ header.first_heap
+  pub free_page : (first_free_slot opened.heap).page ≡ header.free_slot_page
+  pub free_slot : (first_free_slot opened.heap).slot ≡ header.free_slot
   pub records : tree_count opened.prime.tree ≡ header.records
   -- the tree of each key, in the order of the keys
   pub trees : length header.trees.items ≡ length header.schema.keys

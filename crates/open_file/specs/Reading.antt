@@ -19,7 +19,7 @@ use Rattle.key_index.specs.declared.entry.AltEntry.{AltEntry}
 use Rattle.record_heap.specs.declared.shape.Place.{Place}
 use Rattle.record_heap.specs.declared.heap.Heap.{Heap}
 use Rattle.record_heap.specs.Chain.{Slots}
-use Rattle.record_heap.specs.Standing.{HeapStands}
+use Rattle.record_heap.specs.Standing.{HeapStands, slot_shape}
 use Rattle.open_file.specs.Stored.{stored, stamp_bytes}
 use Rattle.open_file.specs.InOrder.{alt_entry}
 use Rattle.open_file.specs.Stands.{Stands}
@@ -93,7 +93,7 @@ pub record IsEntryOfRow (schema : Schema) (k : ℕ) (file : File) (entry : AltEn
 abbrev pub ReadsAtPlace : {S : Type 0} → ShownPages S → OpenFile → Place → (before after : S)
     → (old new : List ℕ) → Result ℕ Fault → Type 0
 ReadsAtPlace shown opened place before after old new result = OfHonestPages shown before after (λ live.
-    (row : Row) → IsRowAt opened.schema opened.heap opened.heap.shape.stamps live place row
+    (row : Row) → IsRowAt opened.schema opened.heap (slot_shape opened.heap).stamps live place row
     → ReadsRow result (length row.bytes) old new (Some row))
 
 -- the row of a prime value is read, where there is one

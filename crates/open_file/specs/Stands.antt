@@ -12,6 +12,7 @@ use Rattle.key_index.specs.Standing.{prime_height, alt_height, alt_key}
 use Rattle.record_heap.specs.declared.heap.Heap.{Heap}
 use Rattle.record_heap.specs.declared.shape.Place.{Place}
 use Rattle.record_heap.specs.Chain.{Slots}
+use Rattle.record_heap.specs.Standing.{slot_shape}
 use Rattle.open_file.specs.InOrder.{alt_entries, prime_entries}
 use Rattle.open_file.specs.Stored.{AreAt, stamps_length}
 use Rattle.open_file.specs.Parts.{Parts}
@@ -30,9 +31,9 @@ pub record HasParts (schema : Schema) (heap : Heap) (prime : PrimeIndex)
   pub numbers : (j : ℕ) (index : AltIndex) → j < length alternates
       → index ≡ slice_index_or alternates j index → alt_key index ≡ j + 1
   -- a slot has room for the stamps and the longest record
-  pub stamps : heap.shape.stamps ≡ stamps_length (drop 1 schema.keys)
-  pub least : heap.shape.least ≡ schema.least
-  pub greatest : heap.shape.greatest ≡ schema.greatest
+  pub stamps : (slot_shape heap).stamps ≡ stamps_length (drop 1 schema.keys)
+  pub least : (slot_shape heap).least ≡ schema.least
+  pub greatest : (slot_shape heap).greatest ≡ schema.greatest
 
 abbrev pub IsShaped : OpenFile → Type 0
 IsShaped opened = HasParts opened.schema opened.heap opened.prime opened.alternates.items

@@ -6,6 +6,7 @@ ghost use Rattle.indexed_file.specs.Calls.{is_answered};
 ghost use Rattle.record_heap.specs.Calls.{MayChange, MayFill, ReadsStamped};
 ghost use Rattle.record_heap.specs.Found.{Got};
 ghost use Rattle.record_heap.specs.Order.{AddsToHeap, SetsSlot};
+ghost use Rattle.record_heap.specs.Standing.{slot_shape};
 ghost use Rattle.key_index.specs.Stored.{entry_at};
 ghost use Rattle.key_index.specs.Entries.{has_prime};
 ghost use Rattle.key_index.specs.Calls.{FindsInPrime};
@@ -61,9 +62,9 @@ impl OpenFile {
 
     /// How many bytes the stamps are in front of a record in its slot.
     pub fn stamps_length(&self) -> u16
-        ensures { result ≡ (heap_of self.now).shape.stamps }
+        ensures { result ≡ (slot_shape (heap_of self.now)).stamps }
     {
-        self.heap.shape.stamps
+        self.heap.shape().stamps
     }
 
     /// Reads the stamps and the record at a place to the front of `to`, and answers how many bytes
@@ -77,8 +78,9 @@ impl OpenFile {
         to: &mut [u8],
     ) -> Result<usize, Fault>
         requires ready { P.shown.IsReady pages.old }
-        requires room { (heap_of self.now).shape.stamps + (heap_of self.now).shape.greatest ≤ length to.old }
-        ensures { ReadsStamped P.shown pages.old pages.new (heap_of self.now).shape to.old to.new result
+        requires room {
+            (slot_shape (heap_of self.now)).stamps + (slot_shape (heap_of self.now)).greatest ≤ length to.old }
+        ensures { ReadsStamped P.shown pages.old pages.new (slot_shape (heap_of self.now)) to.old to.new result
             (Got (heap_of self.now) place) }
     {
         self.heap.get(pages, place, to)
@@ -93,7 +95,7 @@ impl OpenFile {
         stamps: &[u8],
         bytes: &[u8],
     ) -> Result<Place, Fault>
-        requires { MayFill P.shown pages.old (heap_of self.old).shape stamps.now bytes.now }
+        requires { MayFill P.shown pages.old (slot_shape (heap_of self.old)) stamps.now bytes.now }
         ensures heap { AddsToHeap P.shown pages.old pages.new (heap_of self.old) (heap_of self.new)
             (stamps.now ++ bytes.now) result }
         ensures rest { self.new ≡ with_heap_of self.new self.old }
@@ -111,7 +113,7 @@ impl OpenFile {
         stamps: &[u8],
         bytes: &[u8],
     ) -> Result<(), Fault>
-        requires { MayFill P.shown pages.old (heap_of self.now).shape stamps.now bytes.now }
+        requires { MayFill P.shown pages.old (slot_shape (heap_of self.now)) stamps.now bytes.now }
         ensures { SetsSlot P.shown pages.old pages.new (heap_of self.now) (heap_of self.now) place
             (Some (stamps.now ++ bytes.now)) [] result }
     {

@@ -24,11 +24,7 @@ impl OpenFile {
             page: header.free_slot_page,
             slot: header.free_slot,
         };
-        let heap = Heap {
-            shape: heap_shape(&schema),
-            first: header.first_heap,
-            free,
-        };
+        let heap = Heap::stored(heap_shape(&schema), header.first_heap, free);
         let width = schema.part(0).length;
         OpenFile {
             next_stamp: header.next_stamp,
@@ -48,14 +44,15 @@ impl OpenFile {
         ensures told { IsHeaderOf result self.now }
         ensures counts { Counts result pages first_free free }
     {
+        let free_slot = self.heap.first_free();
         Header {
             schema: self.schema.copy(),
             pages,
             first_free,
             free,
-            first_heap: self.heap.first,
-            free_slot_page: self.heap.free.page,
-            free_slot: self.heap.free.slot,
+            first_heap: self.heap.first_page(),
+            free_slot_page: free_slot.page,
+            free_slot: free_slot.slot,
             next_stamp: self.next_stamp,
             records: self.prime.tree.count(),
             trees: self.tree_numbers(),

@@ -11,9 +11,9 @@ use pages::{Pages, store};
 /// heap pages, and `free` the first free slot; page 0 is none.
 #[derive(Clone, Copy, Debug, PartialEq, Eq)]
 pub struct Heap {
-    pub shape: Shape,
-    pub first: u32,
-    pub free: Place,
+    pub(crate) shape: Shape,
+    pub(crate) first: u32,
+    pub(crate) free: Place,
 }
 
 impl Heap {
@@ -21,13 +21,13 @@ impl Heap {
     ghost use Rattle.pages.specs.PageMap.{PageMap};
     ghost use Rattle.record_heap.specs.Chain.{no_slots};
     ghost use Rattle.record_heap.specs.Calls.{MayChange, MayFill, ReadsStamped, ReadsUnstamped};
-    ghost use Rattle.record_heap.specs.Standing.{HeapStands};
+    ghost use Rattle.record_heap.specs.Standing.{HeapStands, slot_shape, first_heap_page, first_free_slot, heap_with};
     ghost use Rattle.record_heap.specs.Order.{AddsToHeap, SetsSlot, MakesFreeSlot};
     ghost use Rattle.record_heap.specs.Found.{Got, GotRecord, MayGrow};
 
     /// A heap without records and without pages.
     pub fn new(shape: Shape) -> Heap
-        ensures shape { result.shape ≡ shape }
+        ensures shape { slot_shape result ≡ shape }
         ensures empty { (pages : PageMap) → HeapStands result pages no_slots [] }
     {
         Heap {
@@ -37,14 +37,42 @@ impl Heap {
         }
     }
 
+    /// The heap whose chain of heap pages begins at `first`, and of whose free slots `free` is the first.
+    pub fn stored(shape: Shape, first: u32, free: Place) -> Heap
+        ensures { result ≡ heap_with shape first free }
+    {
+        Heap { shape, first, free }
+    }
+
+    /// The shape of its slots.
+    pub fn shape(&self) -> Shape
+        ensures { result ≡ slot_shape self.now }
+    {
+        self.shape
+    }
+
+    /// The first page of the chain of heap pages, 0 where there is none.
+    pub fn first_page(&self) -> u32
+        ensures { result ≡ first_heap_page self.now }
+    {
+        self.first
+    }
+
+    /// The first free slot, in page 0 where there is none.
+    pub fn first_free(&self) -> Place
+        ensures { result ≡ first_free_slot self.now }
+    {
+        self.free
+    }
+
     /// Reads the stamps and the record at a place in use to the front of `to`, and answers how many
     /// bytes they are. The rest of `to` stays; at a fault it all does.
     ///
     /// Device, Memory; Damage where the place has no record.
     pub fn get<P: Pages>(&self, pages: &mut P, place: Place, to: &mut [u8]) -> Result<usize, Fault>
         requires ready { P.shown.IsReady pages.old }
-        requires room { self.now.shape.stamps + self.now.shape.greatest ≤ length to.old }
-        ensures { ReadsStamped P.shown pages.old pages.new self.now.shape to.old to.new result
+        requires room { (slot_shape self.now).stamps + (slot_shape self.now).greatest ≤ length to.old }
+        ensures { ReadsStamped P.shown pages.old pages.new (slot_shape self.now) to.old to.new result
             (Got self.now place) }
     {
         read_used(pages, self.shape, place, to)
@@ -61,8 +89,8 @@ impl Heap {
         to: &mut [u8],
     ) -> Result<usize, Fault>
         requires ready { P.shown.IsReady pages.old }
-        requires room { self.now.shape.greatest ≤ length to.old }
-        ensures { ReadsUnstamped P.shown pages.old pages.new self.now.shape to.old to.new result
+        requires room { (slot_shape self.now).greatest ≤ length to.old }
+        ensures { ReadsUnstamped P.shown pages.old pages.new (slot_shape self.now) to.old to.new result
             (GotRecord self.now place) }
     {
         let length = read_record(pages, self.shape, place, to);
@@ -80,7 +108,7 @@ impl Heap {
         stamps: &[u8],
         record: &[u8],
     ) -> Result<Place, Fault>
-        requires { MayFill P.shown pages.old self.old.shape stamps.now «record».now }
+        requires { MayFill P.shown pages.old (slot_shape self.old) stamps.now «record».now }
         ensures { AddsToHeap P.shown pages.old pages.new self.old self.new
             (stamps.now ++ «record».now) result }
     {
@@ -100,7 +128,7 @@ impl Heap {
         stamps: &[u8],
         record: &[u8],
     ) -> Result<(), Fault>
-        requires { MayFill P.shown pages.old self.now.shape stamps.now «record».now }
+        requires { MayFill P.shown pages.old (slot_shape self.now) stamps.now «record».now }
         ensures { SetsSlot P.shown pages.old pages.new self.now self.now place
             (Some (stamps.now ++ «record».now)) [] result }
     {

@@ -17,6 +17,7 @@ use Rattle.page_walks.specs.Spots.{entries_at}
 use Rattle.record_heap.specs.declared.shape.Place.{Place}
 use Rattle.record_heap.specs.Slot.{room}
 use Rattle.record_heap.specs.Walk.{slots_of, is_in_list}
+use Rattle.record_heap.specs.Standing.{slot_shape}
 use Rattle.key_index.specs.Stored.{prime_bytes, IsPrimeEntry}
 use Rattle.open_file.specs.InOrder.{prime_entries}
 use Rattle.open_file.specs.Stored.{AreAt, stored, stamps_length}
@@ -46,7 +47,7 @@ row_fits schema next bytes some least greatest fit =
 -- what is known of a row and its entry
 pub record RowKept (opened : OpenFile) (list : List (List ℕ)) (own : List ℕ) (spot : Spot) : Type 0 where
   pub row : is_row opened.schema opened.next_stamp (row_at opened list spot) ≡ true
-  pub here : slots_of opened.heap.shape (pages_in list) own (place_at opened list spot) ≡ Some (stored opened.schema (row_at opened list spot))
+  pub here : slots_of (slot_shape opened.heap) (pages_in list) own (place_at opened list spot) ≡ Some (stored opened.schema (row_at opened list spot))
   pub value : take opened.prime.width (prime_at opened list spot) ≡ prime_of opened.schema (row_at opened list spot).bytes
   pub entry : prime_bytes (record { value = record { items = prime_of opened.schema (row_at opened list spot).bytes }; place = place_at opened list spot }) ≡ prime_at opened list spot
   pub fits : IsPrimeEntry opened.prime.width (record { value = record { items = prime_of opened.schema (row_at opened list spot).bytes }; place = place_at opened list spot })
@@ -63,7 +64,7 @@ module _ (opened : OpenFile) (list : List (List ℕ)) (own : List ℕ) (marks : 
       let value : take w e ≡ prime_of schema (row_at opened list spot).bytes = l.value ∙ ap (λ (row : Row). prime_of schema row.bytes) (sym is) in
       let again : stored schema (row_off schema (Some l.stored)) ≡ l.stored =
       stored_again (drop 1 schema.keys) l.stored (let least = l.fits.least in omega (arith, least)) l.fits.bytes in
-      let held : (is_in_list own place.page && nat_lt place.slot (room opened.heap.shape)) ≡ true = and_from _ _ (own_marked place.page l.own) (lt-ltb place.slot (room opened.heap.shape) l.within) in
+      let held : (is_in_list own place.page && nat_lt place.slot (room (slot_shape opened.heap))) ≡ true = and_from _ _ (own_marked place.page l.own) (lt-ltb place.slot (room (slot_shape opened.heap)) l.within) in
       record {
         row = subst (λ (row : Row). is_row schema opened.next_stamp row ≡ true) (sym is) l.row;
         here = rw held (l.there ∙ ap Some (sym again ∙ ap (stored schema) (sym is)));
@@ -86,7 +87,7 @@ module _ (opened : OpenFile) (list : List (List ℕ)) (own : List ℕ) where
   rows_are [] all = tt
   rows_are (spot ∷ spots) all = (all.0.row, rows_are spots all.1)
 
-  rows_at : (spots : List Spot) → Each (RowKept opened list own) spots → AreAt opened.schema (slots_of opened.heap.shape (pages_in list) own) (places_in opened list spots) (rows_in opened list spots)
+  rows_at : (spots : List Spot) → Each (RowKept opened list own) spots → AreAt opened.schema (slots_of (slot_shape opened.heap) (pages_in list) own) (places_in opened list spots) (rows_in opened list spots)
   rows_at [] all = tt
   rows_at (spot ∷ spots) all = (all.0.here, rows_at spots all.1)
 
@@ -116,7 +117,7 @@ module _ (opened : OpenFile) (list : List (List ℕ)) (own : List ℕ) where
   rise (spot ∷ spots) all rises = (above spot spots all.0 all.1 rises.0, rise spots all.1 rises.1)
 
   pub rows_stand : (spots : List Spot) → Each (RowKept opened list own) spots → Ascends opened.prime.width (entries_at (tree_shape opened.prime.tree) list spots)
-      → ((p : Place) → IsSome (slots_of opened.heap.shape (pages_in list) own p) → IsSome (find (is_same p) (places_in opened list spots))) → RowsStand opened list own spots
+      → ((p : Place) → IsSome (slots_of (slot_shape opened.heap) (pages_in list) own p) → IsSome (find (is_same p) (places_in opened list spots))) → RowsStand opened list own spots
   rows_stand spots all rises no_more = record {
     rows_are = rows_are spots all;
     placed = record { rows_at = rows_at spots all; no_more = no_more };

@@ -15,7 +15,7 @@ use Rattle.page_walks.specs.Spots.{entry_at_spot, spots_below}
 use Rattle.record_heap.specs.declared.shape.Place.{Place}
 use Rattle.record_heap.specs.Slot.{room}
 use Rattle.record_heap.specs.Chain.{IsOneOf}
-use Rattle.record_heap.specs.Standing.{slot_off}
+use Rattle.record_heap.specs.Standing.{slot_off, slot_shape}
 use Rattle.record_heap.specs.Walk.{slots_of}
 use Rattle.key_index.specs.declared.alt_index.AltIndex.{AltIndex}
 use Rattle.key_index.specs.Standing.{alt_key}
@@ -67,7 +67,7 @@ pub record LeadsToRow (opened : OpenFile) (list : List (List ℕ)) (marks : List
   pub there : slot_off opened.heap (pages_in list) (place_at opened list spot) ≡ Some stored
   pub fits : IsStoredRecord opened stored
   pub own : marked_in marks (place_at opened list spot).page ≡ true
-  pub within : (place_at opened list spot).slot < room opened.heap.shape
+  pub within : (place_at opened list spot).slot < room (slot_shape opened.heap)
   pub row : IsTrue (is_row opened.schema opened.next_stamp (stored_row opened stored))
   pub value : take opened.prime.width (prime_at opened list spot) ≡ prime_of opened.schema
       (stored_row opened stored).bytes
@@ -79,13 +79,13 @@ HasEntry opened list primes place = IsSome (slot_off opened.heap (pages_in list)
 
 -- each slot of page n that is in use has its entry
 abbrev pub PageHasEntries : OpenFile → List (List ℕ) → List Spot → ℕ → Type 0
-PageHasEntries opened list primes n = (p : Place) → p.page ≡ n → p.slot < room opened.heap.shape
+PageHasEntries opened list primes n = (p : Place) → p.page ≡ n → p.slot < room (slot_shape opened.heap)
     → HasEntry opened list primes p
 
 -- each slot of these pages that is in use has its entry
 abbrev pub PagesHaveEntries : OpenFile → List (List ℕ) → List Spot → List ℕ → Type 0
 PagesHaveEntries opened list primes own = (p : Place)
-    → IsSome (slots_of opened.heap.shape (pages_in list) own p)
+    → IsSome (slots_of (slot_shape opened.heap) (pages_in list) own p)
     → IsSome (find (is_same p) (places_in opened list primes))
 
 -- these bytes are the entry that the index has of the row that the leader leads to

@@ -12,7 +12,7 @@ use Rattle.page_marks.specs.PageList.{pages_in}
 use Rattle.page_walks.specs.declared.spot.Spot.{Spot}
 use Rattle.page_walks.specs.Spots.{entry_at_spot, entries_at}
 use Rattle.record_heap.specs.declared.shape.Place.{Place}
-use Rattle.record_heap.specs.Standing.{slot_off}
+use Rattle.record_heap.specs.Standing.{slot_off, slot_shape}
 use Rattle.record_heap.specs.Walk.{slots_of}
 use Rattle.key_index.specs.Stored.{prime_entry_in, prime_bytes, IsPrimeEntry}
 use Rattle.open_file.specs.InOrder.{prime_entries}
@@ -65,7 +65,7 @@ PrimesRise schema (row ∷ rows) = Each (λ other. IsTrue
 pub record RowsStand (opened : OpenFile) (list : List (List ℕ)) (own : List ℕ)
     (spots : List Spot) : Type 0 where
   pub rows_are : Each (λ row. IsTrue (is_row opened.schema opened.next_stamp row)) (rows_in opened list spots)
-  pub placed : IsPlaced opened.schema (slots_of opened.heap.shape (pages_in list) own)
+  pub placed : IsPlaced opened.schema (slots_of (slot_shape opened.heap) (pages_in list) own)
       (places_in opened list spots) (rows_in opened list spots)
   pub entries_are : map prime_bytes (prime_entries opened.schema (places_in opened list spots)
       (rows_in opened list spots)) ≡ entries_at (tree_shape opened.prime.tree) list spots

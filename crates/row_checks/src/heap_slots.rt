@@ -49,7 +49,7 @@ fn check_page(
     requires { IsShaped file.now }
     ensures { OnOk result (PageHasEntries file.now pages.now (spots_in primes.now) n) }
 {
-    for i in 0..file.heap.shape.room() {
+    for i in 0..file.heap.shape().room() {
         let place = Place {
             page: n,
             slot: i as u16,

@@ -5,7 +5,7 @@ ghost use Rattle.std.specs.Option.{option_copied};
 ghost use Rattle.page_bytes.specs.Each.{Each};
 ghost use Rattle.record_heap.specs.Slot.{room, size, length_in_slot, used_in};
 ghost use Rattle.record_heap.specs.Slots.{slot_at};
-ghost use Rattle.record_heap.specs.Standing.{slot_off};
+ghost use Rattle.record_heap.specs.Standing.{slot_shape, slot_off};
 ghost use Rattle.page_marks.specs.PageList.{pages_in};
 ghost use Rattle.open_file.specs.Stands.{IsShaped};
 ghost use Rattle.row_checks.specs.Leading.{IsStoredRecord};
@@ -72,10 +72,10 @@ pub fn stored_at<'a>(
 ) -> Option<&'a [u8]>
     requires { IsShaped file.now }
     ensures value { option_copied result ≡ slot_off file.now.heap (pages_in pages.now) place }
-    ensures within { IfSome result (λ stored. place.slot < room file.now.heap.shape) }
+    ensures within { IfSome result (λ stored. place.slot < room (slot_shape file.now.heap)) }
     ensures fits { IfSome result (λ stored. IsStoredRecord file.now stored.now) }
 {
-    let shape = file.heap.shape;
+    let shape = file.heap.shape();
     let i = place.slot as usize;
     if place.page as usize >= pages.len() || i >= shape.room() {
         return None;

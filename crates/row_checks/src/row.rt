@@ -16,7 +16,7 @@ fn record_of<'a>(file: &OpenFile, stored: &'a [u8]) -> &'a [u8]
     ensures value { result.now ≡ drop (stamps_length (drop 1 file.now.schema.keys)) stored.now }
     ensures least { file.now.schema.least ≤ length result.now }
 {
-    &stored[file.heap.shape.stamps as usize..]
+    &stored[file.heap.shape().stamps as usize..]
 }
 
 /// Stamps and record are those of a row of the file.

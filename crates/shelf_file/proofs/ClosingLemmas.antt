@@ -12,7 +12,7 @@ use Rattle.bplus_tree.specs.declared.tree.Tree.{Tree}
 use Rattle.bplus_tree.specs.Fields.{tree_root}
 use Rattle.record_heap.specs.declared.shape.Place.{Place}
 use Rattle.record_heap.specs.Chain.{IsPlaceOf, IsOneOf, IsFreeChain}
-use Rattle.record_heap.specs.Standing.{IsPageChain}
+use Rattle.record_heap.specs.Standing.{IsPageChain, first_heap_page, first_free_slot}
 use Rattle.record_heap.proofs.StandLemmas.{chain_live}
 use Rattle.page_alloc.specs.Chain.{chain, used}
 use Rattle.page_alloc.proofs.ChainLemmas.{can_give, front_page_at}
@@ -95,12 +95,12 @@ module _ (opened : OpenFile) (bytes : Bytes) (count first free : ℕ) (file : Fi
       subst (AreTreeNumbers header.pages) (same_default header.trees.items (suc j) (record { height = 0; root = 0 }) d low)
       (subst (λ k. AreTreeNumbers header.pages (tree_at header k)) next (tree_within index.0.tree (tree_at header (j + 1)) (of.alternates j index.0 within index.1) root.0 root.1))
 
-  free_slot_below : (heap_of opened).free.page < count
+  free_slot_below : (first_free_slot (heap_of opened)).page < count
   free_slot_below =
       let keeps = stands.parts.heap_stands.keeps in
       let own = own_at stands.parts.owns 0 in
-      let there = chain_live _ (heap_of opened).first own stands.parts.heap_stands.chain in
-      first_of_slots _ (heap_of opened).free keeps.free _ own _ count keeps.chain keeps.free_are
+      let there = chain_live _ (first_heap_page (heap_of opened)) own stands.parts.heap_stands.chain in
+      first_of_slots _ (first_free_slot (heap_of opened)) keeps.free _ own _ count keeps.chain keeps.free_are
       (each_map (λ n. IsSome (used bytes count (chain bytes count first free) n)) (λ n. n < count) (λ n here. (live n here).1) own there) some
 
   within : AreLinksWithin header
@@ -116,7 +116,7 @@ module _ (opened : OpenFile) (bytes : Bytes) (count first free : ℕ) (file : Fi
         first_free = let l = first_free_below bytes count first free some sound in omega arith;
         free = omega (arith, p.2);
         first_heap =
-            let l = first_of_chain count (heap_of opened).first _ (own_at stands.parts.owns 0) stands.parts.heap_stands.chain some (λ n there. (live n there).1) in
+            let l = first_of_chain count (first_heap_page (heap_of opened)) _ (own_at stands.parts.owns 0) stands.parts.heap_stands.chain some (λ n there. (live n there).1) in
             let e = of.first_heap in omega arith;
         free_slot = let l = free_slot_below in let e = of.free_page in omega arith;
         stamped = let one = leb-true 1 file.next_stamp (and_parts _ _ stands.sound).0 in let e = stands.stamp in let h = of.next_stamp in omega arith;

@@ -19,6 +19,7 @@ use Rattle.bplus_tree.specs.Fields.{tree_shape, tree_root, tree_levels}
 use Rattle.record_heap.specs.declared.shape.Shape.{Shape}
 use Rattle.record_heap.specs.declared.heap.Heap.{Heap}
 use Rattle.record_heap.specs.Calls.{used_at}
+use Rattle.record_heap.specs.Standing.{slot_shape}
 use Rattle.open_file.specs.Fields.{heap_of, prime_index_of, file_schema}
 use Rattle.open_file.specs.Stored.{stamps_length}
 use Rattle.open_file.specs.ReadOff.{row_off, rows_off, file_off}
@@ -54,7 +55,7 @@ same_prime a b pages width root levels =
     let shape = same_shape (tree_shape a.tree) (tree_shape b.tree) (a.number ∙ sym b.number) (a.keys ∙ width ∙ sym b.keys) (a.entries ∙ ap (λ w. w + 6) width ∙ sym b.entries) in
     λ i. map (prime_entry_in (width i)) (entries_in (shape i) pages (levels i) (root i))
 
-same_rows : (a b : Heap) (pages : PageMap) (schema : Schema) (entries : List PrimeEntry) → a.shape ≡ b.shape → rows_off schema a pages entries ≡ rows_off schema b pages entries
+same_rows : (a b : Heap) (pages : PageMap) (schema : Schema) (entries : List PrimeEntry) → slot_shape a ≡ slot_shape b → rows_off schema a pages entries ≡ rows_off schema b pages entries
 same_rows a b pages schema [] shape = refl
 same_rows a b pages schema (entry ∷ entries) shape = λ i. row_off schema (used_at (shape i) pages entry.place) ∷ same_rows a b pages schema entries shape i
 
@@ -93,7 +94,7 @@ module _ (opened : OpenFile) (header : Header) (pages : PageMap) (allowed : IsHe
       let h = by.header_is.prime.height in
       omega arith
 
-  slots_is : (heap_of opened).shape ≡ (heap_by header).shape
+  slots_is : slot_shape (heap_of opened) ≡ slot_shape (heap_by header)
   slots_is =
       let few = stamps_few (drop 1 header.schema.keys) in
       let long = length-drop 1 header.schema.keys in
@@ -103,7 +104,7 @@ module _ (opened : OpenFile) (header : Header) (pages : PageMap) (allowed : IsHe
       let s = by.shaped.stamps ∙ ap (λ (s : Schema). stamps_length (drop 1 s.keys)) schema_is in
       let l = by.shaped.least ∙ ap (λ (s : Schema). s.least) schema_is in
       let g = by.shaped.greatest ∙ ap (λ (s : Schema). s.greatest) schema_is in
-      same_slots (heap_of opened).shape (heap_by header).shape (omega arith) (omega arith) (omega arith)
+      same_slots (slot_shape (heap_of opened)) (slot_shape (heap_by header)) (omega arith) (omega arith) (omega arith)
 
   pub reads_by_header : file_off opened pages ≡ file_by header pages
   reads_by_header =

@@ -8,6 +8,7 @@ use Rattle.bplus_tree.specs.Fields.{tree_with}
 use Rattle.key_index.specs.declared.prime_index.PrimeIndex.{PrimeIndex}
 use Rattle.key_index.specs.Standing.{prime_off}
 use Rattle.record_heap.specs.declared.heap.Heap.{Heap}
+use Rattle.record_heap.specs.Standing.{heap_with}
 use Rattle.open_file.specs.Stored.{stamps_length}
 use Rattle.open_file.specs.ReadOff.{rows_off}
 use Rattle.open_file.specs.Headers.{tree_at}
@@ -41,17 +42,13 @@ prime_by header = record {
 }
 
 abbrev pub heap_by : Header → Heap
-heap_by header = record {
-  shape = record {
-    stamps = min (stamps_length (drop 1 header.schema.keys)) 64;
-    least = min header.schema.least (greatest_by header.schema);
-    greatest = greatest_by header.schema;
-    order = in_order _ _;
-    fits = has_room _ _;
-  };
-  first = header.first_heap;
-  free = record { page = header.free_slot_page; slot = header.free_slot };
-}
+heap_by header = heap_with (record {
+  stamps = min (stamps_length (drop 1 header.schema.keys)) 64;
+  least = min header.schema.least (greatest_by header.schema);
+  greatest = greatest_by header.schema;
+  order = in_order _ _;
+  fits = has_room _ _;
+}) header.first_heap (record { page = header.free_slot_page; slot = header.free_slot })
 
 -- the rows that the prime index leads to, and the next stamp
 abbrev pub file_by : Header → PageMap → File

@@ -33,7 +33,7 @@ fn add(
     pages: &mut MemoryPages,
     bytes: &[u8],
 ) -> Result<Place, Fault> {
-    let shape = heap.shape;
+    let shape = heap.shape();
     assert!(rt; shape.stamps as usize <= bytes.len());
     let (stamps, record) = bytes.split_at(shape.stamps as usize);
     assert!(rt; shape.least as usize <= record.len() && record.len() <= shape.greatest as usize);
@@ -48,7 +48,7 @@ fn set(
     place: Place,
     bytes: &[u8],
 ) -> Result<(), Fault> {
-    let shape = heap.shape;
+    let shape = heap.shape();
     assert!(rt; shape.stamps as usize <= bytes.len());
     let (stamps, record) = bytes.split_at(shape.stamps as usize);
     assert!(rt; shape.least as usize <= record.len() && record.len() <= shape.greatest as usize);
@@ -62,7 +62,7 @@ fn get(
     pages: &mut MemoryPages,
     place: Place,
 ) -> Result<(usize, [u8; 16]), Fault> {
-    let shape = heap.shape;
+    let shape = heap.shape();
     let mut area = [b'.'; 16];
     assert!(rt; shape.stamps as usize + shape.greatest as usize <= area.len());
     let n = heap.get(pages, place, &mut area)?;
@@ -347,11 +347,8 @@ fn a_heap_that_begins_wrongly_is_told_at_the_first_page(rt: HostRuntime) -> Resu
     let mut pages = new_pages(rt.alloc(), 0, 1)?;
     let mut heap = Heap::new(FIXED);
     add(&rt, &mut heap, &mut pages, &numbered(0))?;
-    let away = Heap { first: 2, ..heap };
-    let in_use = Heap {
-        free: Place { page: 1, slot: 0 },
-        ..heap
-    };
+    let away = Heap::stored(heap.shape(), 2, heap.first_free());
+    let in_use = Heap::stored(FIXED, heap.first_page(), Place { page: 1, slot: 0 });
     for heap in [away, in_use] {
         let found = walk_heap(rt.alloc(), &pages.pages, &heap, &mut [false; 2]);
         let fault = WalkFault::of_page(PageFault::Chain, 0);

@@ -1,5 +1,6 @@
 use Rattle.std.proofs.Common.{refl, arith}
 use Rattle.page_walks.specs.Spots.{spots_in}
+use Rattle.record_heap.specs.Standing.{slot_shape}
 use Rattle.row_checks.specs.Leading.{HasEntry}
 use Rattle.row_checks.proofs.SlotLemmas.{slots_more}
 use Rattle.row_checks.proofs.heap_slots.check_page.Goals as goal
@@ -9,7 +10,7 @@ loop-i-init c = λ p is below. absurd (omega (arith, below))
 
 pub loop-i-preserved : goal.loop-i-preserved
 loop-i-preserved c =
-    slots_more c.args.file.now.heap.shape (HasEntry c.args.file.now c.args.pages.now (spots_in c.args.primes.now)) c.args.n c.loop-i.i c.loop-i.invariant (c.if-not-has_entry.ensures refl)
+    slots_more (slot_shape c.args.file.now.heap) (HasEntry c.args.file.now c.args.pages.now (spots_in c.args.primes.now)) c.args.n c.loop-i.i c.loop-i.invariant (c.if-not-has_entry.ensures refl)
 
 pub returns : goal.returns
 returns c = λ p is within. c.loop-i.invariant p is (let end = c.loop-i-test.false in let many = c.room-i-end.ensures.value in omega (arith, end, many, within))

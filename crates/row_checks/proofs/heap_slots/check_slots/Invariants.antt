@@ -2,9 +2,10 @@ use Rattle.std.proofs.Common.{◌≡◌, ◌<◌, true, take}
 use Rattle.record_heap.specs.declared.shape.Place.{Place}
 use Rattle.record_heap.specs.Slot.{room}
 use Rattle.record_heap.specs.Walk.{is_in_list}
+use Rattle.record_heap.specs.Standing.{slot_shape}
 use Rattle.page_walks.specs.Spots.{spots_in}
 use Rattle.row_checks.specs.Leading.{HasEntry}
 use Rattle.row_checks.proofs.heap_slots.check_slots.Given as goal
 
 abbrev pub invariant-loop-n : goal.invariant-loop-n
-invariant-loop-n l = (p : Place) → is_in_list (take l.n-index l.own) p.page ≡ true → p.slot < room l.file.heap.shape → HasEntry l.file l.pages (spots_in l.primes) p
+invariant-loop-n l = (p : Place) → is_in_list (take l.n-index l.own) p.page ≡ true → p.slot < room (slot_shape l.file.heap) → HasEntry l.file l.pages (spots_in l.primes) p

@@ -1,4 +1,5 @@
 use Rattle.std.proofs.Common.{refl}
+use Rattle.record_heap.specs.Standing.{slot_shape}
 use Rattle.open_file.specs.Stored.{stored}
 use Rattle.open_file.proofs.ExitLemmas.{fails_reading}
 use Rattle.open_file.proofs.ReadLemmas.{behind_stamps}
@@ -11,5 +12,5 @@ returns-in_err-length-clause-found g c honest row at =
 pub returns-clause-found : goal.returns-clause-found
 returns-clause-found g c honest row at =
     let got = (c.in_ok-length.ensures.got honest at.slots at.own (stored c.args.self.now.schema row) at.stands at.here).answer in
-    rw (got.long, got.front, behind_stamps c.args.self.now.schema row c.args.self.now.heap.shape.stamps at.width)
+    rw (got.long, got.front, behind_stamps c.args.self.now.schema row (slot_shape c.args.self.now.heap).stamps at.width)
     (record { answered = record { answer = refl; no_damage = tt }; area = refl })
