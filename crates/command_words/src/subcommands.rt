@@ -2,7 +2,8 @@
 ghost use Rattle.std.specs.Prelude.{◌≡◌, IfOk};
 ghost use Rattle.clap.specs.Words.{App, Rule, Shape, app_of, with_rule, with_subcommand};
 ghost use Rattle.clap.specs.Simple.{new_shape};
-ghost use Rattle.command_words.specs.Commands.{HasRule, IsLocal, IsApp, HasShape, with_files, with_limits, with_quiet};
+ghost use Rattle.command_words.specs.Commands.{HasRule, IsLocal, IsApp, HasShape};
+ghost use Rattle.command_words.specs.Commands.{with_files, with_limits, with_quiet};
 ghost use Rattle.command_words.specs.Commands.{with_deck, with_values, with_bounds, with_form};
 ghost use Rattle.command_words.specs.Commands.{with_file_words};
 ghost use Rattle.command_words.specs.Commands.{with_text};

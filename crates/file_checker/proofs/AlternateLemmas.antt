@@ -17,6 +17,7 @@ use Rattle.page_walks.specs.declared.spot.Spot.{Spot}
 use Rattle.page_walks.specs.Spots.{entry_at_spot}
 use Rattle.page_walks.specs.TreeWalk.{TreeWalked}
 use Rattle.key_index.specs.declared.alt_index.AltIndex.{AltIndex}
+use Rattle.open_file.specs.Fields.{alternates_of}
 use Rattle.open_file.specs.declared.open_file.OpenFile.{OpenFile}
 use Rattle.file_checker.specs.Parts.{AlternateFound, AlternatesFound}
 
@@ -41,7 +42,7 @@ one_item xs i j x y within same one two = one ∙ get_or_default xs i x y within
 
 -- one more was walked
 pub alternates_more : (opened : OpenFile) (list : List (List ℕ)) (primes : List Spot) (index : AltIndex) (n : ℕ) (own : List ℕ) (a b c : ℕ → Bool)
-    → n < length opened.alternates.items → index ≡ slice_index_or opened.alternates.items n index → AlternatesFound opened list primes n a b
+    → n < length (alternates_of opened) → index ≡ slice_index_or (alternates_of opened) n index → AlternatesFound opened list primes n a b
     → AlternateFound opened list primes index own → Marks b c own → AlternatesFound opened list primes (n + 1) a c
 alternates_more opened list primes index n own a b c within is front found marks = record {
   owns = front.owns ++ own ∷ [];
@@ -51,11 +52,11 @@ alternates_more opened list primes index n own a b c within is front found marks
   each = λ j other less at. by_place j other less at (low_or_not j n);
 }
   where
-    by_place : (j : ℕ) (other : AltIndex) → j < n + 1 → other ≡ slice_index_or opened.alternates.items j other → (j < n) ⊎ (n ≤ j)
+    by_place : (j : ℕ) (other : AltIndex) → j < n + 1 → other ≡ slice_index_or (alternates_of opened) j other → (j < n) ⊎ (n ≤ j)
         → AlternateFound opened list primes other (own_at (front.owns ++ own ∷ []) j)
     by_place j other less at (inl before) =
         subst (AlternateFound opened list primes other) (own_left front.owns own j (let many = front.as_many in omega arith)) (front.each j other before at)
     by_place j other less at (inr last) =
         let here : n ≡ j = omega arith in
         subst (AlternateFound opened list primes other) (own_last front.owns own j (front.as_many ∙ here))
-        (subst (λ (x : AltIndex). AlternateFound opened list primes x own) (one_item opened.alternates.items n j index other within here is at) found)
+        (subst (λ (x : AltIndex). AlternateFound opened list primes x own) (one_item (alternates_of opened) n j index other within here is at) found)

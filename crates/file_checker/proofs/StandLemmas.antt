@@ -22,6 +22,7 @@ use Rattle.key_index.specs.declared.alt_index.AltIndex.{AltIndex}
 use Rattle.key_index.specs.Standing.{PrimeStands, AltStands, alt_key}
 use Rattle.file_header.specs.declared.header.Header.{Header}
 use Rattle.file_header.specs.Bounds.{IsHeader}
+use Rattle.open_file.specs.Fields.{alternates_of, heap_of, next_stamp_of, prime_index_of, file_schema}
 use Rattle.open_file.specs.declared.open_file.OpenFile.{OpenFile}
 use Rattle.open_file.specs.declared.path.Path.{Path}
 use Rattle.open_file.specs.Headers.{IsOpenedBy}
@@ -41,11 +42,11 @@ pub record Found (header : Header) (list : List (List ℕ)) (opened : OpenFile) 
   pub clear : (n : ℕ) → none n ≡ false
   pub first : Marks none zeroth (0 ∷ [])
   pub free : FreeWalked list header.first_free header.free zeroth start
-  pub heap : HeapStands opened.heap (pages_in list) (slots_of (slot_shape opened.heap) (pages_in list) own) own
+  pub heap : HeapStands (heap_of opened) (pages_in list) (slots_of (slot_shape (heap_of opened)) (pages_in list) own) own
   pub heap_marks : Marks start heaped own
-  pub prime : TreeWalked opened.prime.tree list heaped primed primes
+  pub prime : TreeWalked (prime_index_of opened).tree list heaped primed primes
   pub rows : RowsStand opened list own primes
-  pub alternates : AlternatesFound opened list primes (length opened.alternates.items) primed final
+  pub alternates : AlternatesFound opened list primes (length (alternates_of opened)) primed final
 
 -- a place of a list has an item
 item_there : {X : Type 0} (xs : List X) (j : ℕ) → j < length xs → (x : X) × (x ≡ slice_index_or xs j x)
@@ -56,13 +57,13 @@ item_there (x ∷ xs) (suc j) within = item_there xs j (omega arith)
 module _ (header : Header) (list : List (List ℕ)) (opened : OpenFile) (own : List ℕ) (primes : List Spot) (none zeroth start heaped primed final : ℕ → Bool)
     (allowed : IsHeader header) (by_header : IsOpenedBy header opened) (found : Found header list opened own primes none zeroth start heaped primed final) where
   -- the alternate keys have the numbers of their indexes
-  key_is : (j : ℕ) (index : AltIndex) → j < length opened.alternates.items → index ≡ slice_index_or opened.alternates.items j index → alt_key index ≡ j + 1
+  key_is : (j : ℕ) (index : AltIndex) → j < length (alternates_of opened) → index ≡ slice_index_or (alternates_of opened) j index → alt_key index ≡ j + 1
   key_is j index within is = by_header.shaped.numbers j index within is
 
-  ranks_differ : (j : ℕ) → j < length opened.alternates.items → RanksDiffer opened.schema (j + 1) (rows_in opened list primes)
+  ranks_differ : (j : ℕ) → j < length (alternates_of opened) → RanksDiffer (file_schema opened) (j + 1) (rows_in opened list primes)
   ranks_differ j within =
-      let at = item_there opened.alternates.items j within in
-      subst (λ (k : ℕ). RanksDiffer opened.schema k (rows_in opened list primes)) (key_is j at.0 within at.1) (found.alternates.each j at.0 within at.1).rows.differ
+      let at = item_there (alternates_of opened) j within in
+      subst (λ (k : ℕ). RanksDiffer (file_schema opened) k (rows_in opened list primes)) (key_is j at.0 within at.1) (found.alternates.each j at.0 within at.1).rows.differ
 
   all_marks : Marks start final (all_of (own ∷ found.prime.own ∷ found.alternates.owns))
   all_marks = marks_on start heaped final own (found.prime.own ++ all_of found.alternates.owns) found.heap_marks
@@ -88,7 +89,7 @@ module _ (header : Header) (list : List (List ℕ)) (opened : OpenFile) (own : L
         owns = parts;
         owners = let many = found.alternates.as_many in omega arith;
         heap = found.heap;
-        prime = (entries_at (tree_shape opened.prime.tree) list primes, found.prime.stands);
+        prime = (entries_at (tree_shape (prime_index_of opened).tree) list primes, found.prime.stands);
         alternates = λ j index less is.
             let at = found.alternates.each j index less is in
             let place : suc (suc j) ≡ j + 2 = omega arith in
@@ -110,19 +111,19 @@ module _ (header : Header) (list : List (List ℕ)) (opened : OpenFile) (own : L
     tree_there : (tree : Tree) (i : ℕ) (entries : List (List ℕ)) → TreeStands tree (pages_in list) entries (own_at owns i) → TreeStands tree live entries (own_at owns i)
     tree_there tree i entries stands = trees_stay tree (pages_in list) live entries (own_at owns i) (file_parted.as_read i) stands
 
-    prime_there : PrimeStands opened.prime live (prime_entries opened.schema (places_in opened list primes) (rows_in opened list primes)) (own_at owns 1)
+    prime_there : PrimeStands (prime_index_of opened) live (prime_entries (file_schema opened) (places_in opened list primes) (rows_in opened list primes)) (own_at owns 1)
     prime_there = record {
-      tree = subst (λ (entries : List (List ℕ)). TreeStands opened.prime.tree live entries (own_at owns 1)) (sym found.rows.entries_are)
-          (tree_there opened.prime.tree 1 (entries_at (tree_shape opened.prime.tree) list primes) found.prime.stands);
+      tree = subst (λ (entries : List (List ℕ)). TreeStands (prime_index_of opened).tree live entries (own_at owns 1)) (sym found.rows.entries_are)
+          (tree_there (prime_index_of opened).tree 1 (entries_at (tree_shape (prime_index_of opened).tree) list primes) found.prime.stands);
       each = found.rows.each;
     }
 
-    alternate_there : (j : ℕ) (index : AltIndex) → j < length opened.alternates.items → index ≡ slice_index_or opened.alternates.items j index
-        → AltStands index live (alt_entries opened.schema (j + 1) (rows_in opened list primes)) (own_at owns (j + 2))
+    alternate_there : (j : ℕ) (index : AltIndex) → j < length (alternates_of opened) → index ≡ slice_index_or (alternates_of opened) j index
+        → AltStands index live (alt_entries (file_schema opened) (j + 1) (rows_in opened list primes)) (own_at owns (j + 2))
     alternate_there j index within is =
         let at = found.alternates.each j index within is in
         let place : suc (suc j) ≡ j + 2 = omega arith in
-        subst (λ (k : ℕ). AltStands index live (alt_entries opened.schema k (rows_in opened list primes)) (own_at owns (j + 2))) (key_is j index within is)
+        subst (λ (k : ℕ). AltStands index live (alt_entries (file_schema opened) k (rows_in opened list primes)) (own_at owns (j + 2))) (key_is j index within is)
         (record {
           tree = subst (λ (entries : List (List ℕ)). TreeStands index.tree live entries (own_at owns (j + 2))) (sym at.rows.entries_are)
               (subst (λ (i : ℕ). TreeStands index.tree live (entries_at (tree_shape index.tree) list at.spots) (own_at owns i)) place
@@ -130,38 +131,38 @@ module _ (header : Header) (list : List (List ℕ)) (opened : OpenFile) (own : L
           each = at.rows.each;
         })
 
-    parts : Parts opened.heap opened.prime opened.alternates.items live (slots_of (slot_shape opened.heap) (pages_in list) own)
-        (prime_entries opened.schema (places_in opened list primes) (rows_in opened list primes)) (λ j. alt_entries opened.schema (j + 1) (rows_in opened list primes))
+    parts : Parts (heap_of opened) (prime_index_of opened) (alternates_of opened) live (slots_of (slot_shape (heap_of opened)) (pages_in list) own)
+        (prime_entries (file_schema opened) (places_in opened list primes) (rows_in opened list primes)) (λ j. alt_entries (file_schema opened) (j + 1) (rows_in opened list primes))
     parts = record {
       owns = owns;
       owners = let many = found.alternates.as_many in omega arith;
-      heap_stands = heap_kept opened.heap (pages_in list) live (slots_of (slot_shape opened.heap) (pages_in list) own) own (file_parted.as_read 0) found.heap;
+      heap_stands = heap_kept (heap_of opened) (pages_in list) live (slots_of (slot_shape (heap_of opened)) (pages_in list) own) own (file_parted.as_read 0) found.heap;
       prime_stands = prime_there;
       alternates_stand = alternate_there;
       parted = record { apart = file_parted.parted.apart; covers = file_parted.parted.covers };
     }
 
     module _ (make : RowsMakeAFile) where
-      stands : Stands opened live (record { rows = rows_in opened list primes; next_stamp = opened.next_stamp })
+      stands : Stands opened live (record { rows = rows_in opened list primes; next_stamp = (next_stamp_of opened) })
       unfolding parts
       stands = record {
         sound = make opened list own primes by_header.shaped (rw by_header.header_is.next_stamp allowed.within.stamped) found.rows ranks_differ;
         stamp = refl;
         few = rw by_header.header_is.next_stamp allowed.within.limit;
         places = places_in opened list primes;
-        slots = slots_of (slot_shape opened.heap) (pages_in list) own;
+        slots = slots_of (slot_shape (heap_of opened)) (pages_in list) own;
         placed = found.rows.placed;
         parts = parts;
-        on_path = subst (λ (p : Option Path). IsOnPath p opened.prime opened.alternates.items live (prime_entries opened.schema (places_in opened list primes) (rows_in opened list primes))
-            (λ j. alt_entries opened.schema (j + 1) (rows_in opened list primes)) owns) (sym by_header.no_path) tt;
+        on_path = subst (λ (p : Option Path). IsOnPath p (prime_index_of opened) (alternates_of opened) live (prime_entries (file_schema opened) (places_in opened list primes) (rows_in opened list primes))
+            (λ j. alt_entries (file_schema opened) (j + 1) (rows_in opened list primes)) owns) (sym by_header.no_path) tt;
       }
 
       pub pages_stand : PagesStand header list
       pages_stand = record {
         opened = opened;
         by_header = by_header;
-        file = record { rows = rows_in opened list primes; next_stamp = opened.next_stamp };
+        file = record { rows = rows_in opened list primes; next_stamp = (next_stamp_of opened) };
         stands = stands;
         sound = rw found.free.is refl;
-        records_are = length-map primes (row_at opened list) ∙ spots_many opened.prime.tree list heaped primed primes found.prime ∙ by_header.header_is.records;
+        records_are = length-map primes (row_at opened list) ∙ spots_many (prime_index_of opened).tree list heaped primed primes found.prime ∙ by_header.header_is.records;
       }

@@ -11,6 +11,7 @@ use Rattle.bplus_tree.specs.declared.tree.Tree.{Tree}
 use Rattle.bplus_tree.specs.Standing.{TreeStands}
 use Rattle.key_index.specs.declared.alt_index.AltIndex.{AltIndex}
 use Rattle.file_header.specs.declared.header.Header.{Header}
+use Rattle.open_file.specs.Fields.{alternates_of, heap_of, prime_index_of}
 use Rattle.open_file.specs.declared.open_file.OpenFile.{OpenFile}
 use Rattle.open_file.specs.Headers.{IsOpenedBy}
 
@@ -29,12 +30,12 @@ pub record LeavesOut (header : Header) (list : List (List ℕ)) (n : ℕ) : Type
   pub opened : OpenFile
   pub by_header : IsOpenedBy header opened
   pub owns : List (List ℕ)
-  pub owners : length owns ≡ length opened.alternates.items + 2
-  pub heap : HeapStands opened.heap (pages_in list)
-      (slots_of (slot_shape opened.heap) (pages_in list) (own_at owns 0)) (own_at owns 0)
-  pub prime : IsTreeInList opened.prime.tree list (own_at owns 1)
-  pub alternates : (j : ℕ) (index : AltIndex) → j < length opened.alternates.items
-      → index ≡ slice_index_or opened.alternates.items j index
+  pub owners : length owns ≡ length (alternates_of opened) + 2
+  pub heap : HeapStands (heap_of opened) (pages_in list)
+      (slots_of (slot_shape (heap_of opened)) (pages_in list) (own_at owns 0)) (own_at owns 0)
+  pub prime : IsTreeInList (prime_index_of opened).tree list (own_at owns 1)
+  pub alternates : (j : ℕ) (index : AltIndex) → j < length (alternates_of opened)
+      → index ≡ slice_index_or (alternates_of opened) j index
       → IsTreeInList index.tree list (own_at owns (j + 2))
   pub outside : IsOutside (all_of owns) n
 

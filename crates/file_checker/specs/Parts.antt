@@ -14,6 +14,7 @@ use Rattle.bplus_tree.specs.Fields.{tree_shape, tree_count}
 use Rattle.key_index.specs.declared.alt_index.AltIndex.{AltIndex}
 use Rattle.file_header.specs.declared.header.Header.{Header}
 use Rattle.file_header.specs.Bounds.{IsHeader}
+use Rattle.open_file.specs.Fields.{alternates_of}
 use Rattle.open_file.specs.declared.open_file.OpenFile.{OpenFile}
 use Rattle.open_file.specs.Headers.{IsOpenedBy}
 use Rattle.open_file.specs.Stands.{Stands}
@@ -32,18 +33,18 @@ pub record AlternatesFound (opened : OpenFile) (list : List (List ℕ)) (primes 
   pub owns : List (List ℕ)
   pub as_many : length owns ≡ count
   pub marks : Marks before after (all_of owns)
-  pub each : (j : ℕ) (index : AltIndex) → j < count → index ≡ slice_index_or opened.alternates.items j index
+  pub each : (j : ℕ) (index : AltIndex) → j < count → index ≡ slice_index_or (alternates_of opened) j index
       → AlternateFound opened list primes index (own_at owns j)
 
 -- each alternate index has so many entries
 abbrev pub AlternatesCount : OpenFile → ℕ → Type 0
-AlternatesCount opened n = (j : ℕ) (index : AltIndex) → j < length opened.alternates.items
-    → index ≡ slice_index_or opened.alternates.items j index → tree_count index.tree ≡ n
+AlternatesCount opened n = (j : ℕ) (index : AltIndex) → j < length (alternates_of opened)
+    → index ≡ slice_index_or (alternates_of opened) j index → tree_count index.tree ≡ n
 
 -- all of them stand so, and their pages were marked now
 abbrev pub AllFound : OpenFile → List (List ℕ) → List Spot → List Bool → List Bool → Type 0
 AllFound opened list primes before after = AlternatesFound opened list primes
-    (length opened.alternates.items) (marked_in before) (marked_in after)
+    (length (alternates_of opened)) (marked_in before) (marked_in after)
 
 -- the pages of a file, all that its header counts, stand for as many records as the header tells
 pub record PagesStand (header : Header) (list : List (List ℕ)) : Type 0 where

@@ -35,7 +35,7 @@ fn check_alternates(
         (AllFound file.now pages.now (spots_in primes.now) reached.old reached.new) }
     ensures stop { IfErr result StopsWalk }
 {
-    for &index in file.alternates.as_slice() {
+    for &index in file.alternates() {
         let leaves = walk_tree(alloc, pages, &index.tree, reached)?;
         check_alternate(pages, file, primes, index, &leaves)?;
     }
@@ -72,8 +72,8 @@ fn check_parts(
     let file = OpenFile::from_header(header);
     mark(reached, 0)?;
     walk_free(pages, header.first_free, header.free, reached)?;
-    let own = walk_heap(alloc, pages, &file.heap, reached)?;
-    let primes = walk_tree(alloc, pages, &file.prime.tree, reached)?;
+    let own = walk_heap(alloc, pages, file.heap(), reached)?;
+    let primes = walk_tree(alloc, pages, &file.prime().tree, reached)?;
     check_rows(alloc, pages, &file, &own, &primes)?;
     check_alternates(alloc, pages, &file, &primes, reached)?;
     if is_page_lost(reached) {

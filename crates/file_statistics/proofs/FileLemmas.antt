@@ -19,6 +19,7 @@ use Rattle.bplus_tree.specs.Standing.{TreeStands}
 use Rattle.key_index.proofs.LawLemmas.{prime_live, alt_live}
 use Rattle.file_header.specs.declared.header.Header.{Header}
 use Rattle.indexed_file.specs.File.{File}
+use Rattle.open_file.specs.Fields.{alternates_of, heap_of}
 use Rattle.open_file.specs.declared.open_file.OpenFile.{OpenFile}
 use Rattle.open_file.specs.Stands.{Stands}
 use Rattle.open_file.proofs.PartsLemmas.{found_at}
@@ -74,23 +75,23 @@ module _ (page : ℕ → List ℕ) (header : Header) (opened : OpenFile) (file :
   apart_at : (i : ℕ) → AreApart (own_at owns i)
   apart_at zero = stands.parts.heap_stands.apart
   apart_at (suc zero) = tree_apart _ _ _ _ stands.parts.prime_stands.tree
-  apart_at (suc (suc j)) = by_place (low_or_not j (length opened.alternates.items))
+  apart_at (suc (suc j)) = by_place (low_or_not j (length (alternates_of opened)))
     where
-      by_place : (j < length opened.alternates.items) ⊎ (length opened.alternates.items ≤ j) → AreApart (own_at owns (suc (suc j)))
+      by_place : (j < length (alternates_of opened)) ⊎ (length (alternates_of opened) ≤ j) → AreApart (own_at owns (suc (suc j)))
       by_place (inl inside) =
-          let index = found_at opened.alternates.items j inside in
+          let index = found_at (alternates_of opened) j inside in
           let same : j + 2 ≡ suc (suc j) = omega arith in
           subst (λ (i : ℕ). AreApart (own_at owns i)) same (tree_apart _ _ _ _ (stands.parts.alternates_stand j index.0 inside index.1).tree)
       by_place (inr past) = let n = stands.parts.owners in let none = past_end owns (suc (suc j)) (omega (arith, n, past)) in subst AreApart (sym none) tt
 
   live_at : (i : ℕ) → Each (λ n. IsSome (live_by page header n)) (own_at owns i)
-  live_at zero = chain_live (live_by page header) (first_heap_page opened.heap) (own_at owns 0) stands.parts.heap_stands.chain
+  live_at zero = chain_live (live_by page header) (first_heap_page (heap_of opened)) (own_at owns 0) stands.parts.heap_stands.chain
   live_at (suc zero) = (prime_live _ _ _ _ stands.parts.prime_stands).live
-  live_at (suc (suc j)) = by_place (low_or_not j (length opened.alternates.items))
+  live_at (suc (suc j)) = by_place (low_or_not j (length (alternates_of opened)))
     where
-      by_place : (j < length opened.alternates.items) ⊎ (length opened.alternates.items ≤ j) → Each (λ n. IsSome (live_by page header n)) (own_at owns (suc (suc j)))
+      by_place : (j < length (alternates_of opened)) ⊎ (length (alternates_of opened) ≤ j) → Each (λ n. IsSome (live_by page header n)) (own_at owns (suc (suc j)))
       by_place (inl inside) =
-          let index = found_at opened.alternates.items j inside in
+          let index = found_at (alternates_of opened) j inside in
           let same : j + 2 ≡ suc (suc j) = omega arith in
           subst (λ (i : ℕ). Each (λ n. IsSome (live_by page header n)) (own_at owns i)) same (alt_live _ _ _ _ (stands.parts.alternates_stand j index.0 inside index.1)).live
       by_place (inr past) =

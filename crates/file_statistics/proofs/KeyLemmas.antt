@@ -6,6 +6,7 @@ use Rattle.page_marks.proofs.PartLemmas.{low_or_not}
 use Rattle.bplus_tree.specs.declared.tree.Tree.{Tree}
 use Rattle.bplus_tree.specs.Standing.{TreeStands}
 use Rattle.key_index.specs.declared.alt_index.AltIndex.{AltIndex}
+use Rattle.open_file.specs.Fields.{alternates_of, prime_index_of}
 use Rattle.open_file.specs.declared.open_file.OpenFile.{OpenFile}
 use Rattle.open_file.specs.Stands.{Stands}
 use Rattle.indexed_file.specs.File.{File}
@@ -41,7 +42,7 @@ CountsTree tree width list key =
     → AreKeyCounts tree width map entries own stands key
 
 pub keys_first : (opened : OpenFile) (list : List (List ℕ)) (key : KeyStatistics) (none keys : List KeyStatistics) → none ≡ [] → keys ≡ none ++ key ∷ []
-    → CountsTree opened.prime.tree opened.prime.width list key → KeysCounted opened list 0 keys
+    → CountsTree (prime_index_of opened).tree (prime_index_of opened).width list key → KeysCounted opened list 0 keys
 keys_first opened list key none keys empty is counts =
     let one : keys ≡ key ∷ [] = is ∙ ap (λ (l : List KeyStatistics). l ++ key ∷ []) empty in
     subst (KeysCounted opened list 0) (sym one)
@@ -50,14 +51,14 @@ keys_first opened list key none keys empty is counts =
       are = λ map file stands shown. record {
         prime = λ other at.
             (let tree = stands.parts.prime_stands.tree in
-            subst (AreKeyCounts opened.prime.tree opened.prime.width map _ _ tree) (sym at)
+            subst (AreKeyCounts (prime_index_of opened).tree (prime_index_of opened).width map _ _ tree) (sym at)
             (counts map _ _ tree shown));
         alternates = λ j index within at other low. absurd (omega (arith, low));
       };
     })
 
 pub keys_more : (opened : OpenFile) (list : List (List ℕ)) (n m : ℕ) (keys new : List KeyStatistics) (key : KeyStatistics) (index : AltIndex) → m ≡ suc n
-    → KeysCounted opened list n keys → new ≡ keys ++ key ∷ [] → n < length opened.alternates.items → index ≡ slice_index_or opened.alternates.items n index
+    → KeysCounted opened list n keys → new ≡ keys ++ key ∷ [] → n < length (alternates_of opened) → index ≡ slice_index_or (alternates_of opened) n index
     → CountsTree index.tree index.width list key → KeysCounted opened list m new
 keys_more opened list n m keys new key index e before is inside at counts =
     let old = before.many in
@@ -70,15 +71,15 @@ keys_more opened list n m keys new key index e before is inside at counts =
       };
     })
   where
-    by_place : (map : PageMap) (file : File) (stands : Stands opened map file) (shown : AreShown map list) (j : ℕ) (index' : AltIndex) (within : j < length opened.alternates.items)
-        (at' : index' ≡ slice_index_or opened.alternates.items j index') (other : KeyStatistics) → other ≡ slice_index_or (keys ++ key ∷ []) (j + 1) other → (j < n) ⊎ (n ≤ j) → j < m
+    by_place : (map : PageMap) (file : File) (stands : Stands opened map file) (shown : AreShown map list) (j : ℕ) (index' : AltIndex) (within : j < length (alternates_of opened))
+        (at' : index' ≡ slice_index_or (alternates_of opened) j index') (other : KeyStatistics) → other ≡ slice_index_or (keys ++ key ∷ []) (j + 1) other → (j < n) ⊎ (n ≤ j) → j < m
         → AreKeyCounts index'.tree index'.width map _ _ (stands.parts.alternates_stand j index' within at').tree other
     by_place map file stands shown j index' within at' other has (inl front) low =
         let old = before.many in
         (before.are map file stands shown).alternates j index' within at' other front (has ∙ front_at keys key (j + 1) other (omega (arith, old, front)))
     by_place map file stands shown j index' within at' other has (inr past) low =
         let old = before.many in
-        let same : index ≡ index' = same_at opened.alternates.items n j index index' (omega (arith, past, low, e)) inside at at' in
+        let same : index ≡ index' = same_at (alternates_of opened) n j index index' (omega (arith, past, low, e)) inside at at' in
         let told : key ≡ other = sym (end_at keys key (j + 1) other (omega (arith, past, low, e, old))) ∙ sym has in
         subst (AreKeyCounts index'.tree index'.width map _ _ (stands.parts.alternates_stand j index' within at').tree) told
         ((subst (λ (i : AltIndex). CountsTree i.tree i.width list key) same counts) map _ _ (stands.parts.alternates_stand j index' within at').tree shown)

@@ -6,6 +6,7 @@ use Rattle.record_heap.specs.Standing.{slot_shape}
 use Rattle.file_header.specs.declared.header.Header.{Header}
 use Rattle.file_header.specs.Bounds.{IsHeader}
 use Rattle.indexed_file.specs.File.{File}
+use Rattle.open_file.specs.Fields.{alternates_of, heap_of, prime_index_of, file_schema}
 use Rattle.open_file.specs.declared.open_file.OpenFile.{OpenFile}
 use Rattle.open_file.specs.Headers.{IsOpenedBy}
 use Rattle.open_file.proofs.HeaderLemmas.{read_back}
@@ -49,14 +50,14 @@ module _ (header : Header) (list : List (List ℕ)) (opened : OpenFile) (is_head
         counted = λ j index within at. (let a = by.counts j index within at in let b = is_header.room.records in omega (arith, a, b));
       }
 
-  module _ (keys : List KeyStatistics) (counts : KeysCounted opened list (length opened.alternates.items) keys) where
+  module _ (keys : List KeyStatistics) (counts : KeysCounted opened list (length (alternates_of opened)) keys) where
     key_pages : (page : ℕ → List ℕ) (file : File) → (standing : PagesHoldFile page header opened file) → AreShown (live_by page header) list
         → (i : ℕ) (key : KeyStatistics) → i < length keys → key ≡ slice_index_or keys i key → key.pages ≡ length (own_at standing.stands.parts.owns (suc i))
     key_pages page file standing shown zero key inside at = ((counts.are (live_by page header) file standing.stands shown).prime key at).pages_are
     key_pages page file standing shown (suc j) key inside at =
         let many = counts.many in
-        let within : j < length opened.alternates.items = omega (arith, many, inside) in
-        let index = found_at opened.alternates.items j within in
+        let within : j < length (alternates_of opened) = omega (arith, many, inside) in
+        let index = found_at (alternates_of opened) j within in
         let up : suc j ≡ j + 1 = omega arith in
         let down : j + 2 ≡ suc (suc j) = omega arith in
         let told = (counts.are (live_by page header) file standing.stands shown).alternates j index.0 within index.1 key within
@@ -67,24 +68,24 @@ module _ (header : Header) (list : List (List ℕ)) (opened : OpenFile) (is_head
     key_longest : (page : ℕ → List ℕ) (file : File) → (standing : PagesHoldFile page header opened file)
         → AreShown (live_by page header) list → (k : ℕ) (key : KeyStatistics) → k < length keys
         → key ≡ slice_index_or keys k key
-        → IsGreatestCount (values_in opened.schema k file.rows) key.longest
+        → IsGreatestCount (values_in (file_schema opened) k file.rows) key.longest
     key_longest page file standing shown zero key inside at =
         let stands = standing.stands in
         let told = (counts.are (live_by page header) file stands shown).prime key at in
-        prime_greatest opened.schema stands.slots opened.prime.width stands.places file.rows
+        prime_greatest (file_schema opened) stands.slots (prime_index_of opened).width stands.places file.rows
         key.longest stands.placed.rows_at stands.parts.prime_stands.each told.longest_is
     key_longest page file standing shown (suc j) key inside at =
         let many = counts.many in
-        let within : j < length opened.alternates.items = omega (arith, many, inside) in
-        let index = found_at opened.alternates.items j within in
+        let within : j < length (alternates_of opened) = omega (arith, many, inside) in
+        let index = found_at (alternates_of opened) j within in
         let up : suc j ≡ j + 1 = omega arith in
         let are = counts.are (live_by page header) file standing.stands shown in
         let told = are.alternates j index.0 within index.1 key within
         (subst (λ (n : ℕ). key ≡ slice_index_or keys n key) up at) in
         let each = (standing.stands.parts.alternates_stand j index.0 within index.1).each in
-        subst (λ (n : ℕ). IsGreatestCount (values_in opened.schema n file.rows) key.longest)
+        subst (λ (n : ℕ). IsGreatestCount (values_in (file_schema opened) n file.rows) key.longest)
         (sym up)
-        (alt_greatest opened.schema (j + 1) index.0.width index.0.prime file.rows key.longest each
+        (alt_greatest (file_schema opened) (j + 1) index.0.width index.0.prime file.rows key.longest each
         told.longest_is)
 
     pub pages_whole : (page : ℕ → List ℕ) (file : File) → (standing : PagesHoldFile page header opened file) → AreShown (live_by page header) list
@@ -101,7 +102,7 @@ module _ (header : Header) (list : List (List ℕ)) (opened : OpenFile) (is_head
 
     pub statistics_are : (page : ℕ → List ℕ) (before : OpenFile) (file : File) → PagesHoldFile page header before file → AreShown (live_by page header) list
         → (told : FileStatistics) → told.pages ≡ header.pages → told.free ≡ header.free → told.records ≡ header.records → told.keys.items ≡ keys → told.trees ≡ all_key_pages keys
-        → told.heap ≡ header.pages - 1 - told.trees - header.free → told.slots ≡ told.heap * room (slot_shape opened.heap) → HasStatistics page header file told
+        → told.heap ≡ header.pages - 1 - told.trees - header.free → told.slots ≡ told.heap * room (slot_shape (heap_of opened)) → HasStatistics page header file told
     statistics_are page before file standing shown told pages free records items trees heap slots =
         let now = again page before file standing in
         let whole = pages_whole page file now shown in

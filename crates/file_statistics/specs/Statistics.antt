@@ -14,6 +14,7 @@ use Rattle.key_index.specs.declared.alt_index.AltIndex.{AltIndex}
 use Rattle.record_heap.specs.Slot.{room}
 use Rattle.record_heap.specs.Standing.{slot_shape}
 use Rattle.key_index.specs.Stored.{prime_bytes, alt_bytes}
+use Rattle.open_file.specs.Fields.{alternates_of, heap_of, prime_index_of, file_schema}
 use Rattle.open_file.specs.InOrder.{alt_entries, prime_entries}
 use Rattle.open_file.specs.declared.open_file.OpenFile.{OpenFile}
 use Rattle.open_file.specs.Headers.{IsOpenedBy}
@@ -70,14 +71,14 @@ pub record AreKeyStatistics (opened : OpenFile) (pages : PageMap) (file : File)
     (stands : Stands opened pages file)
     (count : ℕ) (keys : List KeyStatistics) : Type 0 where
   pub prime : (key : KeyStatistics) → key ≡ slice_index_or keys 0 key
-      → AreKeyCounts opened.prime.tree opened.prime.width pages
-      (map prime_bytes (prime_entries opened.schema stands.places file.rows))
+      → AreKeyCounts (prime_index_of opened).tree (prime_index_of opened).width pages
+      (map prime_bytes (prime_entries (file_schema opened) stands.places file.rows))
       (own_at stands.parts.owns 1) stands.parts.prime_stands.tree key
-  pub alternates : (j : ℕ) (index : AltIndex) (within : j < length opened.alternates.items)
-      (is : index ≡ slice_index_or opened.alternates.items j index) (key : KeyStatistics)
+  pub alternates : (j : ℕ) (index : AltIndex) (within : j < length (alternates_of opened))
+      (is : index ≡ slice_index_or (alternates_of opened) j index) (key : KeyStatistics)
       → j < count → key ≡ slice_index_or keys (j + 1) key
       → AreKeyCounts index.tree index.width pages
-      (map alt_bytes (alt_entries opened.schema (j + 1) file.rows)) (own_at stands.parts.owns (j + 2))
+      (map alt_bytes (alt_entries (file_schema opened) (j + 1) file.rows)) (own_at stands.parts.owns (j + 2))
       (stands.parts.alternates_stand j index within is).tree key
 
 -- a file that stands in pages in use which are those of the list, fewer than can be counted
@@ -87,9 +88,9 @@ pub record HasFileStanding (opened : OpenFile) (list : List (List ℕ)) : Type 0
   pub stands : Stands opened pages file
   pub shown : AreShown pages list
   pub few : (i : ℕ) → length (own_at stands.parts.owns i) < 2 ^ 64
-  pub prime_counted : tree_count opened.prime.tree < 2 ^ 64
-  pub counted : (j : ℕ) (index : AltIndex) → j < length opened.alternates.items
-      → index ≡ slice_index_or opened.alternates.items j index → tree_count index.tree < 2 ^ 64
+  pub prime_counted : tree_count (prime_index_of opened).tree < 2 ^ 64
+  pub counted : (j : ℕ) (index : AltIndex) → j < length (alternates_of opened)
+      → index ≡ slice_index_or (alternates_of opened) j index → tree_count index.tree < 2 ^ 64
 
 -- so many keys are told of, and what is told is what is counted of the file, wherever it stands in
 -- the pages of the list
@@ -113,13 +114,13 @@ pub record AreStatistics (header : Header) (opened : OpenFile) (pages : PageMap)
   pub heap_are : counts.heap ≡ length (own_at stands.parts.owns 0)
   pub trees_are : counts.trees ≡ all_key_pages counts.keys.items
   pub whole : counts.pages ≡ 1 + counts.heap + counts.trees + counts.free
-  pub slots_are : counts.slots ≡ counts.heap * room (slot_shape opened.heap)
+  pub slots_are : counts.slots ≡ counts.heap * room (slot_shape (heap_of opened))
   pub records_are : counts.records ≡ length file.rows
-  pub many : length counts.keys.items ≡ length opened.schema.keys
-  pub keys : AreKeyStatistics opened pages file stands (length opened.alternates.items) counts.keys.items
+  pub many : length counts.keys.items ≡ length (file_schema opened).keys
+  pub keys : AreKeyStatistics opened pages file stands (length (alternates_of opened)) counts.keys.items
   pub longest : (k : ℕ) (key : KeyStatistics) → k < length counts.keys.items
       → key ≡ slice_index_or counts.keys.items k key
-      → IsGreatestCount (values_in opened.schema k file.rows) key.longest
+      → IsGreatestCount (values_in (file_schema opened) k file.rows) key.longest
 
 -- the pages by the header stand for the file, and these are its counts
 pub record HasStatistics (page : ℕ → List ℕ) (header : Header) (file : File)

@@ -5,6 +5,7 @@ ghost use Rattle.bplus_tree.specs.Fields.{tree_shape};
 ghost use Rattle.page_counts.specs.Levels.{all_pages};
 ghost use Rattle.file_header.specs.Bounds.{IsHeader};
 ghost use Rattle.file_statistics.specs.Statistics.{HasTreeStanding, HasFileStanding, CountsKey, KeysCounted};
+ghost use Rattle.open_file.specs.Fields.{alternates_of};
 ghost use Rattle.file_statistics.specs.Statistics.{HasFile, CountsFile, all_key_pages};
 
 use crate::statistics::{FileStatistics, KeyStatistics};
@@ -71,14 +72,14 @@ fn count_keys(
 ) -> Result<Vec<KeyStatistics>, AllocError>
     requires { HasFileStanding file.now pages.now }
     ensures { IfOk result (λ keys. KeysCounted file.now pages.now
-        (length file.now.alternates.items) keys.items) }
+        (length (alternates_of file.now)) keys.items) }
 {
     let mut keys = Vec::new(alloc);
     push_key(
         &mut keys,
-        count_key(alloc, pages, &file.prime.tree, file.prime.width)?,
+        count_key(alloc, pages, &file.prime().tree, file.prime().width)?,
     )?;
-    for &index in file.alternates.as_slice() {
+    for &index in file.alternates() {
         push_key(
             &mut keys,
             count_key(alloc, pages, &index.tree, index.width)?,
@@ -113,7 +114,7 @@ pub fn count_file(
     let keys = count_keys(alloc, pages, &file)?;
     let trees = tree_pages(&keys);
     let heap = u64::from(header.pages) - 1 - trees - u64::from(header.free);
-    let room = file.heap.shape().room() as u64;
+    let room = file.heap().shape().room() as u64;
     Ok(FileStatistics {
         pages: u64::from(header.pages),
         heap,

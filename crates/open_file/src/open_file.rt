@@ -9,12 +9,12 @@ use record_layout::{KeyPart, Schema};
 /// An indexed file that is open.
 #[derive(Drop)]
 pub struct OpenFile {
-    pub schema: Schema,
-    pub next_stamp: u64,
-    pub prime: PrimeIndex,
-    /// The index of each alternate key, in their order.
-    pub alternates: ArrayVec<AltIndex, 8>,
-    pub heap: Heap,
+    pub(crate) schema: Schema,
+    pub(crate) next_stamp: u64,
+    pub(crate) prime: PrimeIndex,
+    // The index of each alternate key, in their order.
+    pub(crate) alternates: ArrayVec<AltIndex, 8>,
+    pub(crate) heap: Heap,
     // Where the last READ NEXT left off.
     pub(crate) path: Option<Path>,
     // An earlier change failed: every call answers Broken.
@@ -55,6 +55,13 @@ impl OpenFile {
         ensures schema { IsSchema (file_schema self.now) }
     {
         self.schema.key_count()
+    }
+
+    /// The keys of its schema, the prime key first.
+    pub fn keys(&self) -> &[KeyPart]
+        ensures { result.now ≡ (file_schema self.now).keys }
+    {
+        self.schema.keys()
     }
 
     /// The part of a record that a key is.

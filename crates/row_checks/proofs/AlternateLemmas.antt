@@ -28,6 +28,7 @@ use Rattle.key_index.specs.Standing.{alt_key}
 use Rattle.key_index.specs.Stored.{alt_bytes, alt_entry_in, IsAltEntry}
 use Rattle.key_index.proofs.KeyLemmas.{alt_key as key_bytes}
 use Rattle.key_index.proofs.OrderLemmas.{ranks}
+use Rattle.open_file.specs.Fields.{heap_of, file_schema}
 use Rattle.open_file.specs.InOrder.{put_row, in_order, alt_entry as entry_of, alt_entries}
 use Rattle.open_file.specs.ReadOff.{row_off}
 use Rattle.open_file.specs.declared.open_file.OpenFile.{OpenFile}
@@ -173,19 +174,19 @@ module _ (opened : OpenFile) (list : List (List ℕ)) (primes : List Spot) (inde
   entries_kept (spot ∷ spots) all = (entry_kept index.width index.prime (entry_at_spot (tree_shape index.tree) list spot) (all.0.long ∙ index.entries) all.0.bytes, entries_kept spots all.1)
 
   each_of_row : (spots : List Spot) → Each (HasRow opened list primes index) spots
-      → Each (λ e. IsOneOf (map (entry_of opened.schema (alt_key index)) (rows_in opened list primes)) e) (map (alt_entry_in index.width) (entries_at (tree_shape index.tree) list spots))
+      → Each (λ e. IsOneOf (map (entry_of (file_schema opened) (alt_key index)) (rows_in opened list primes)) e) (map (alt_entry_in index.width) (entries_at (tree_shape index.tree) list spots))
   each_of_row [] all = tt
   each_of_row (spot ∷ spots) all =
       let h = all.0 in
       let rows = one_mapped (row_at opened list) primes h.leader h.one in
-      let entries = one_mapped (entry_of opened.schema (alt_key index)) (rows_in opened list primes) (row_at opened list h.leader) rows in
-      (subst (λ (e : AltEntry). IsOneOf (map (entry_of opened.schema (alt_key index)) (rows_in opened list primes)) e) (sym h.is) entries, each_of_row spots all.1)
+      let entries = one_mapped (entry_of (file_schema opened) (alt_key index)) (rows_in opened list primes) (row_at opened list h.leader) rows in
+      (subst (λ (e : AltEntry). IsOneOf (map (entry_of (file_schema opened) (alt_key index)) (rows_in opened list primes)) e) (sym h.is) entries, each_of_row spots all.1)
 
   pub alternate_stands : (spots : List Spot) → Each (HasRow opened list primes index) spots → length spots ≡ length primes → Ascends (tree_shape index.tree).width (entries_at (tree_shape index.tree) list spots)
       → AlternateStands opened list primes index spots
   alternate_stands spots all many rises =
       let w = index.width in
-      let schema = opened.schema in
+      let schema = file_schema opened in
       let k = alt_key index in
       let rows = rows_in opened list primes in
       let bytes = entries_at (tree_shape index.tree) list spots in
@@ -203,10 +204,10 @@ module _ (opened : OpenFile) (list : List (List ℕ)) (primes : List Spot) (inde
       }
 
 -- the entry of a row, by its parts
-pub entry_is : (opened : OpenFile) (list : List (List ℕ)) (leader : Spot) (stored e : List ℕ) (w k : ℕ) → slot_off opened.heap (pages_in list) (place_at opened list leader) ≡ Some stored
-    → take w e ≡ value_of opened.schema k (row_off opened.schema (Some stored)).bytes → big_number 8 (drop w e) ≡ stamp_of k (row_off opened.schema (Some stored))
-    → drop (w + 8) e ≡ prime_of opened.schema (row_off opened.schema (Some stored)).bytes → alt_entry_in w e ≡ entry_of opened.schema k (row_at opened list leader)
+pub entry_is : (opened : OpenFile) (list : List (List ℕ)) (leader : Spot) (stored e : List ℕ) (w k : ℕ) → slot_off (heap_of opened) (pages_in list) (place_at opened list leader) ≡ Some stored
+    → take w e ≡ value_of (file_schema opened) k (row_off (file_schema opened) (Some stored)).bytes → big_number 8 (drop w e) ≡ stamp_of k (row_off (file_schema opened) (Some stored))
+    → drop (w + 8) e ≡ prime_of (file_schema opened) (row_off (file_schema opened) (Some stored)).bytes → alt_entry_in w e ≡ entry_of (file_schema opened) k (row_at opened list leader)
 entry_is opened list leader stored e w k there value stamp prime =
-    let same : alt_entry_in w e ≡ entry_of opened.schema k (row_off opened.schema (Some stored)) =
+    let same : alt_entry_in w e ≡ entry_of (file_schema opened) k (row_off (file_schema opened) (Some stored)) =
     λ i. record { value = record { items = value i }; stamp = stamp i; prime = record { items = prime i } } in
-    same ∙ ap (entry_of opened.schema k) (ap (row_off opened.schema) (sym there))
+    same ∙ ap (entry_of (file_schema opened) k) (ap (row_off (file_schema opened)) (sym there))

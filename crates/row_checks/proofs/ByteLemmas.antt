@@ -110,11 +110,11 @@ alt_again w p e long small =
 stamps_many : (part : KeyPart) (parts : List KeyPart) (bytes : List ℕ) → has_duplicates part ≡ true
     → stamp_bytes (part ∷ parts) (stamps_off (part ∷ parts) bytes) ++ drop (stamps_length (part ∷ parts)) bytes
     ≡ (big_bytes 8 (big_number 8 bytes) ++ stamp_bytes parts (stamps_off parts (drop 8 bytes))) ++ drop (8 + stamps_length parts) bytes
-stamps_many part parts bytes many = rw many refl
+stamps_many part parts bytes many = rw many (rw many refl)
 
 stamps_one : (part : KeyPart) (parts : List KeyPart) (bytes : List ℕ) → has_duplicates part ≡ false
     → stamp_bytes (part ∷ parts) (stamps_off (part ∷ parts) bytes) ++ drop (stamps_length (part ∷ parts)) bytes ≡ stamp_bytes parts (stamps_off parts bytes) ++ drop (stamps_length parts) bytes
-stamps_one part parts bytes one = rw one refl
+stamps_one part parts bytes one = rw one (rw one refl)
 
 pub long_many : (part : KeyPart) (parts : List KeyPart) (n : ℕ) → has_duplicates part ≡ true → stamps_length (part ∷ parts) ≤ n → 8 + stamps_length parts ≤ n
 long_many part parts n many long = rw many at long

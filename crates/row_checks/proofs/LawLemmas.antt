@@ -14,6 +14,7 @@ use Rattle.indexed_file.specs.Rank.{row_cmp}
 use Rattle.indexed_file.specs.Sound.{is_stamp, is_row, are_apart, are_rows}
 use Rattle.indexed_file.proofs.OrderLemmas.{below_differs}
 use Rattle.indexed_file.proofs.RowLemmas.{are_stamps, is_before, row_parts, rows_from}
+use Rattle.open_file.specs.Fields.{next_stamp_of, file_schema}
 use Rattle.open_file.proofs.OrderLemmas.{either, not_back}
 use Rattle.open_file.proofs.PartsLemmas.{from_eq}
 use Rattle.open_file.proofs.RowLemmas.{row_total}
@@ -127,7 +128,7 @@ module _ (schema : Schema) (next : ℕ) where
 
 pub make_a_file : RowsMakeAFile
 make_a_file opened list own primes shaped some stand differ =
-    and_from (nat_le 1 opened.next_stamp) (are_rows opened.schema opened.next_stamp (rows_in opened list primes)) (le-leb 1 opened.next_stamp some)
-    (rows_sound opened.schema opened.next_stamp (rows_in opened list primes) stand.rows_are stand.rise
+    and_from (nat_le 1 (next_stamp_of opened)) (are_rows (file_schema opened) (next_stamp_of opened) (rows_in opened list primes)) (le-leb 1 (next_stamp_of opened) some)
+    (rows_sound (file_schema opened) (next_stamp_of opened) (rows_in opened list primes) stand.rows_are stand.rise
     (λ j within. (let many = shaped.keys in let up : j + 1 ≡ suc j = omega arith in
-    subst (λ (k : ℕ). RanksDiffer opened.schema k (rows_in opened list primes)) up (differ j (omega (arith, within, many))))))
+    subst (λ (k : ℕ). RanksDiffer (file_schema opened) k (rows_in opened list primes)) up (differ j (omega (arith, within, many))))))

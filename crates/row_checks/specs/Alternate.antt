@@ -10,6 +10,7 @@ use Rattle.page_walks.specs.Spots.{entries_at}
 use Rattle.key_index.specs.declared.alt_index.AltIndex.{AltIndex}
 use Rattle.key_index.specs.Standing.{alt_key}
 use Rattle.key_index.specs.Stored.{alt_bytes, IsAltEntry}
+use Rattle.open_file.specs.Fields.{file_schema}
 use Rattle.open_file.specs.InOrder.{alt_entries}
 use Rattle.open_file.specs.Stands.{IsShaped}
 use Rattle.open_file.specs.declared.open_file.OpenFile.{OpenFile}
@@ -20,9 +21,9 @@ use Rattle.row_checks.specs.Rows.{rows_in}
 pub record IsIndexFor (opened : OpenFile) (index : AltIndex) : Type 0 where
   pub shaped : IsShaped opened
   pub some : 1 ≤ alt_key index
-  pub within : alt_key index < length opened.schema.keys
-  pub width : index.width ≡ (key_at opened.schema (alt_key index)).length
-  pub prime : index.prime ≡ (key_at opened.schema 0).length
+  pub within : alt_key index < length (file_schema opened).keys
+  pub width : index.width ≡ (key_at (file_schema opened) (alt_key index)).length
+  pub prime : index.prime ≡ (key_at (file_schema opened) 0).length
 
 -- these bytes are as many as an entry of the index has
 pub record IsEntryFor (opened : OpenFile) (alternate : AltIndex) (entry : List ℕ) : Type 0 where
@@ -39,8 +40,8 @@ RanksDiffer schema k (row ∷ rows) = Each (λ other. IsTrue (is_lt (row_cmp sch
 -- ranks, no two of which are one
 pub record AlternateStands (opened : OpenFile) (list : List (List ℕ)) (primes : List Spot)
     (index : AltIndex) (spots : List Spot) : Type 0 where
-  pub entries_are : map alt_bytes (alt_entries opened.schema (alt_key index) (rows_in opened list primes))
+  pub entries_are : map alt_bytes (alt_entries (file_schema opened) (alt_key index) (rows_in opened list primes))
       ≡ entries_at (tree_shape index.tree) list spots
   pub each : Each (IsAltEntry index.width index.prime)
-      (alt_entries opened.schema (alt_key index) (rows_in opened list primes))
-  pub differ : RanksDiffer opened.schema (alt_key index) (rows_in opened list primes)
+      (alt_entries (file_schema opened) (alt_key index) (rows_in opened list primes))
+  pub differ : RanksDiffer (file_schema opened) (alt_key index) (rows_in opened list primes)

@@ -15,6 +15,7 @@ use Rattle.record_heap.specs.declared.shape.Place.{Place}
 use Rattle.record_heap.specs.Standing.{slot_off, slot_shape}
 use Rattle.record_heap.specs.Walk.{slots_of}
 use Rattle.key_index.specs.Stored.{prime_entry_in, prime_bytes, IsPrimeEntry}
+use Rattle.open_file.specs.Fields.{heap_of, next_stamp_of, prime_index_of, file_schema}
 use Rattle.open_file.specs.InOrder.{prime_entries}
 use Rattle.open_file.specs.ReadOff.{row_off}
 use Rattle.open_file.specs.Stands.{IsPlaced, IsShaped}
@@ -23,15 +24,15 @@ use Rattle.bplus_tree.specs.Fields.{tree_shape}
 
 -- the bytes of an entry of the prime index
 abbrev pub prime_at : OpenFile → List (List ℕ) → Spot → List ℕ
-prime_at opened list spot = entry_at_spot (tree_shape opened.prime.tree) list spot
+prime_at opened list spot = entry_at_spot (tree_shape (prime_index_of opened).tree) list spot
 
 -- the place that it leads to
 abbrev pub place_at : OpenFile → List (List ℕ) → Spot → Place
-place_at opened list spot = (prime_entry_in opened.prime.width (prime_at opened list spot)).place
+place_at opened list spot = (prime_entry_in (prime_index_of opened).width (prime_at opened list spot)).place
 
 -- the row that is there
 abbrev pub row_at : OpenFile → List (List ℕ) → Spot → Row
-row_at opened list spot = row_off opened.schema (slot_off opened.heap (pages_in list)
+row_at opened list spot = row_off (file_schema opened) (slot_off (heap_of opened) (pages_in list)
     (place_at opened list spot))
 
 abbrev pub places_in : OpenFile → List (List ℕ) → List Spot → List Place
@@ -42,8 +43,8 @@ rows_in opened list spots = map (row_at opened list) spots
 
 -- the entries of the prime index at these places rise by their values
 abbrev pub EntriesRise : OpenFile → List (List ℕ) → List Spot → Type 0
-EntriesRise opened list spots = Ascends opened.prime.width
-    (entries_at (tree_shape opened.prime.tree) list spots)
+EntriesRise opened list spots = Ascends (prime_index_of opened).width
+    (entries_at (tree_shape (prime_index_of opened).tree) list spots)
 
 -- the parts of the file are made for its schema, the entries of its prime index rise, and no page is
 -- marked
@@ -64,11 +65,11 @@ PrimesRise schema (row ∷ rows) = Each (λ other. IsTrue
 -- values, and they are the entries of these rows; no other slot of the heap's own pages is in use.
 pub record RowsStand (opened : OpenFile) (list : List (List ℕ)) (own : List ℕ)
     (spots : List Spot) : Type 0 where
-  pub rows_are : Each (λ row. IsTrue (is_row opened.schema opened.next_stamp row)) (rows_in opened list spots)
-  pub placed : IsPlaced opened.schema (slots_of (slot_shape opened.heap) (pages_in list) own)
+  pub rows_are : Each (λ row. IsTrue (is_row (file_schema opened) (next_stamp_of opened) row)) (rows_in opened list spots)
+  pub placed : IsPlaced (file_schema opened) (slots_of (slot_shape (heap_of opened)) (pages_in list) own)
       (places_in opened list spots) (rows_in opened list spots)
-  pub entries_are : map prime_bytes (prime_entries opened.schema (places_in opened list spots)
-      (rows_in opened list spots)) ≡ entries_at (tree_shape opened.prime.tree) list spots
-  pub each : Each (IsPrimeEntry opened.prime.width)
-      (prime_entries opened.schema (places_in opened list spots) (rows_in opened list spots))
-  pub rise : PrimesRise opened.schema (rows_in opened list spots)
+  pub entries_are : map prime_bytes (prime_entries (file_schema opened) (places_in opened list spots)
+      (rows_in opened list spots)) ≡ entries_at (tree_shape (prime_index_of opened).tree) list spots
+  pub each : Each (IsPrimeEntry (prime_index_of opened).width)
+      (prime_entries (file_schema opened) (places_in opened list spots) (rows_in opened list spots))
+  pub rise : PrimesRise (file_schema opened) (rows_in opened list spots)

@@ -31,10 +31,10 @@ fn is_of_row(
     requires { IsEntryFor file.now index entry_bytes.now }
     ensures { IsTrue result → IsEntryOf file.now pages.now index entry_bytes.now leader }
 {
-    let Some(prime) = entry(pages, file.prime.tree.shape(), leader) else {
+    let Some(prime) = entry(pages, file.prime().tree.shape(), leader) else {
         return false;
     };
-    let Some(stored) = stored_at(pages, file, place_in(prime, file.prime.width as usize)) else {
+    let Some(stored) = stored_at(pages, file, place_in(prime, file.prime().width as usize)) else {
         return false;
     };
     let width = index.width as usize;

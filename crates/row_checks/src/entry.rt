@@ -46,8 +46,8 @@ fn ends_before(pages: &[[u8; PAGE_SIZE]], file: &OpenFile, leaf: Leaf, value: &[
         page: leaf.page,
         place: leaf.count.saturating_sub(1),
     };
-    match entry(pages, file.prime.tree.shape(), last) {
-        Some(entry) => entry[..file.prime.width as usize].cmp(value).is_lt(),
+    match entry(pages, file.prime().tree.shape(), last) {
+        Some(entry) => entry[..file.prime().width as usize].cmp(value).is_lt(),
         None => false,
     }
 }
@@ -84,5 +84,5 @@ pub fn entry_near(
     if i == primes.len() {
         return None;
     }
-    entry_in(pages, file.prime.tree.shape(), primes[i], value)
+    entry_in(pages, file.prime().tree.shape(), primes[i], value)
 }

@@ -33,8 +33,8 @@ fn has_entry(pages: &[[u8; PAGE_SIZE]], file: &OpenFile, primes: &[Leaf], place:
 fn leads_to(pages: &[[u8; PAGE_SIZE]], file: &OpenFile, spot: Spot, place: Place) -> bool
     ensures { IsTrue result → place ≡ place_at file.now pages.now spot }
 {
-    match entry(pages, file.prime.tree.shape(), spot) {
-        Some(entry) => place_in(entry, file.prime.width as usize) == place,
+    match entry(pages, file.prime().tree.shape(), spot) {
+        Some(entry) => place_in(entry, file.prime().width as usize) == place,
         None => false,
     }
 }
@@ -49,7 +49,7 @@ fn check_page(
     requires { IsShaped file.now }
     ensures { OnOk result (PageHasEntries file.now pages.now (spots_in primes.now) n) }
 {
-    for i in 0..file.heap.shape().room() {
+    for i in 0..file.heap().shape().room() {
         let place = Place {
             page: n,
             slot: i as u16,

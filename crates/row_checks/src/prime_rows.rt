@@ -50,8 +50,8 @@ fn leads_to_row(pages: &[[u8; PAGE_SIZE]], file: &OpenFile, marks: &[bool], spot
     requires { IsShaped file.now }
     ensures { IsTrue result → LeadsToRow file.now pages.now marks.now spot }
 {
-    let width = file.prime.width as usize;
-    let Some(entry) = entry(pages, file.prime.tree.shape(), spot) else {
+    let width = file.prime().width as usize;
+    let Some(entry) = entry(pages, file.prime().tree.shape(), spot) else {
         return false;
     };
     let place = place_in(entry, width);

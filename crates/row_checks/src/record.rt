@@ -8,6 +8,7 @@ ghost use Rattle.record_heap.specs.Slots.{slot_at};
 ghost use Rattle.record_heap.specs.Standing.{slot_shape, slot_off};
 ghost use Rattle.page_marks.specs.PageList.{pages_in};
 ghost use Rattle.open_file.specs.Stands.{IsShaped};
+ghost use Rattle.open_file.specs.Fields.{heap_of};
 ghost use Rattle.row_checks.specs.Leading.{IsStoredRecord};
 
 use crate::entry::bytes_fit;
@@ -71,11 +72,11 @@ pub fn stored_at<'a>(
     place: Place,
 ) -> Option<&'a [u8]>
     requires { IsShaped file.now }
-    ensures value { option_copied result ≡ slot_off file.now.heap (pages_in pages.now) place }
-    ensures within { IfSome result (λ stored. place.slot < room (slot_shape file.now.heap)) }
+    ensures value { option_copied result ≡ slot_off (heap_of file.now) (pages_in pages.now) place }
+    ensures within { IfSome result (λ stored. place.slot < room (slot_shape (heap_of file.now))) }
     ensures fits { IfSome result (λ stored. IsStoredRecord file.now stored.now) }
 {
-    let shape = file.heap.shape();
+    let shape = file.heap().shape();
     let i = place.slot as usize;
     if place.page as usize >= pages.len() || i >= shape.room() {
         return None;

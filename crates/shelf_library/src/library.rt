@@ -87,9 +87,9 @@ fn tree_height(file: &OpenFile, k: usize) -> u8
     ensures { result ≡ slice_index (heights_of file.now) k }
 {
     if k == 0 {
-        return file.prime.height();
+        return file.prime_height();
     }
-    match file.alternates.get(k - 1) {
+    match file.alternates().get(k - 1) {
         Some(index) => index.height(),
         None => 0,
     }

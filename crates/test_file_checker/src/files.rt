@@ -67,7 +67,7 @@ fn adds<S: Shelf>(rt: &impl Abort, held: &mut ShelfFile, shelf: &mut S, n: u32) 
     requires { IsReady held.old (S.state shelf.old) }
     ensures { IsReady held.new (S.state shelf.new) }
 {
-    let schema = &held.parts().schema;
+    let schema = held.parts().schema();
     assert!(rt; schema.least() == LENGTH);
     assert!(rt; schema.greatest() == LENGTH);
     let added = held.add(shelf, &record(n))?;

@@ -9,6 +9,7 @@ use Rattle.row_checks.specs.Alternate.{AlternateStands}
 use Rattle.bplus_tree.specs.Fields.{tree_shape}
 use Rattle.file_checker.proofs.AlternateLemmas.{entries_rise, alternates_more}
 use Rattle.file_checker.proofs.parts.check_alternates.Goals as goal
+use Rattle.open_file.specs.Fields.{alternates_of}
 
 pub check_alternate-requires-clause-rises : goal.check_alternate-requires-clause-rises
 check_alternate-requires-clause-rises c =
@@ -19,9 +20,9 @@ check_alternate-requires-clause-rises c =
 pub loop-index-preserved : goal.loop-index-preserved
 loop-index-preserved c =
     let index = c.index-item.result in
-    let same = c.as_slice-index-items.ensures.value in
-    let within : c.loop-index.index-index < length c.args.file.now.alternates.items = (let test = c.loop-index-test.true in let long = ap length same in omega arith) in
-    let is : index ≡ slice_index_or c.args.file.now.alternates.items c.loop-index.index-index index = c.index-item.is ∙ ap (λ (l : List AltIndex). slice_index_or l c.loop-index.index-index index) same in
+    let same = c.alternates-index-items.ensures.value in
+    let within : c.loop-index.index-index < length (alternates_of c.args.file.now) = (let test = c.loop-index-test.true in let long = ap length same in omega arith) in
+    let is : index ≡ slice_index_or (alternates_of c.args.file.now) c.loop-index.index-index index = c.index-item.is ∙ ap (λ (l : List AltIndex). slice_index_or l c.loop-index.index-index index) same in
     let walked = c.in_ok-leaves.ensures in
     alternates_more c.args.file.now c.args.pages.now (spots_in c.args.primes.now) index c.loop-index.index-index walked.own (marked_in c.args.reached.now) (marked_in c.loop-index.reached) (marked_in c.walk_tree.new.reached)
     within is c.loop-index.invariant

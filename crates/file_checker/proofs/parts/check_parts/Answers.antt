@@ -11,21 +11,22 @@ use Rattle.file_checker.specs.Parts.{AlternatesFound}
 use Rattle.file_checker.proofs.AlternateLemmas.{entries_rise, spots_many}
 use Rattle.file_checker.proofs.StandLemmas.{Found, pages_stand, leaves_out}
 use Rattle.file_checker.proofs.parts.check_parts.Goals as goal
+use Rattle.open_file.specs.Fields.{alternates_of, prime_index_of}
 
 pub check_rows-requires-clause-rises : goal.check_rows-requires-clause-rises
 check_rows-requires-clause-rises c =
-    let index = c.from_header-file.result.prime in
+    let index = prime_index_of c.from_header-file.result in
     let rises : Ascends (tree_shape index.tree).width (entries_at (tree_shape index.tree) c.args.pages.now (spots_in c.in_ok-primes.primes.items)) =
-    entries_rise index.tree (pages_in c.args.pages.now) (entries_at (tree_shape index.tree) c.args.pages.now (spots_in c.in_ok-primes.primes.items)) _ c.in_ok-primes.ensures.stands in
+    entries_rise index.tree (pages_in c.args.pages.now) (entries_at (tree_shape index.tree) c.args.pages.now (spots_in c.in_ok-primes.primes.items)) _ (rw c.prime.ensures at c.in_ok-primes.ensures).stands in
     subst (λ (leaves : List Leaf). Ascends index.width (entries_at (tree_shape index.tree) c.args.pages.now (spots_in leaves))) (sym c.deref-2.ensures.value)
     (subst (λ (width : ℕ). Ascends width (entries_at (tree_shape index.tree) c.args.pages.now (spots_in c.in_ok-primes.primes.items))) index.keys rises)
 
 pub check_alternates-requires-clause-many : goal.check_alternates-requires-clause-many
 check_alternates-requires-clause-many c j index within is =
     let opened = c.from_header-file.ensures in
-    let tree = c.from_header-file.result.prime.tree in
+    let tree = (prime_index_of c.from_header-file.result).tree in
     opened.counts j index within is ∙ sym opened.header_is.records
-    ∙ sym (ap (λ (primes : List Leaf). length (spots_in primes)) c.deref-3.ensures.value ∙ spots_many tree c.args.pages.now (marked_in c.walk_heap.new.reached) (marked_in c.walk_tree.new.reached) (spots_in c.in_ok-primes.primes.items) c.in_ok-primes.ensures)
+    ∙ sym (ap (λ (primes : List Leaf). length (spots_in primes)) c.deref-3.ensures.value ∙ spots_many tree c.args.pages.now (marked_in c.walk_heap.new.reached) (marked_in c.walk_tree.new.reached) (spots_in c.in_ok-primes.primes.items) (rw c.prime.ensures at c.in_ok-primes.ensures))
 
 pub returns : goal.returns
 returns c =
@@ -34,8 +35,8 @@ returns c =
     let rows : RowsStand file list c.in_ok-own.own.items (spots_in c.in_ok-primes.primes.items) =
     subst (λ (own : List ℕ). RowsStand file list own (spots_in c.in_ok-primes.primes.items)) c.deref.ensures.value
     (subst (λ (primes : List Leaf). RowsStand file list c.deref.result.now (spots_in primes)) c.deref-2.ensures.value c.in_ok-check_rows.ensures) in
-    let alternates : AlternatesFound file list (spots_in c.in_ok-primes.primes.items) (length file.alternates.items) (marked_in c.walk_tree.new.reached) (marked_in c.check_alternates.new.reached) =
-    subst (λ (primes : List Leaf). AlternatesFound file list (spots_in primes) (length file.alternates.items) (marked_in c.walk_tree.new.reached) (marked_in c.check_alternates.new.reached)) c.deref-3.ensures.value
+    let alternates : AlternatesFound file list (spots_in c.in_ok-primes.primes.items) (length (alternates_of file)) (marked_in c.walk_tree.new.reached) (marked_in c.check_alternates.new.reached) =
+    subst (λ (primes : List Leaf). AlternatesFound file list (spots_in primes) (length (alternates_of file)) (marked_in c.walk_tree.new.reached) (marked_in c.check_alternates.new.reached)) c.deref-3.ensures.value
     c.in_ok-check_alternates.ensures.found in
     let found : Found c.args.header.now list file c.in_ok-own.own.items (spots_in c.in_ok-primes.primes.items) (marked_in c.args.reached.now) (marked_in c.mark.new.reached) (marked_in c.walk_free.new.reached)
     (marked_in c.walk_heap.new.reached) (marked_in c.walk_tree.new.reached) (marked_in c.check_alternates.new.reached) =
@@ -43,9 +44,9 @@ returns c =
       clear = c.requires.clear;
       first = c.in_ok-mark.ensures.marked;
       free = c.in_ok-walk_free.ensures;
-      heap = c.in_ok-own.ensures.stands;
+      heap = rw c.heap.ensures at c.in_ok-own.ensures.stands;
       heap_marks = c.in_ok-own.ensures.marks;
-      prime = c.in_ok-primes.ensures;
+      prime = rw c.prime.ensures at c.in_ok-primes.ensures;
       rows = rows;
       alternates = alternates;
     } in
@@ -65,8 +66,8 @@ returns-then-is_page_lost c =
     let rows : RowsStand file list c.in_ok-own.own.items (spots_in c.in_ok-primes.primes.items) =
     subst (λ (own : List ℕ). RowsStand file list own (spots_in c.in_ok-primes.primes.items)) c.deref.ensures.value
     (subst (λ (primes : List Leaf). RowsStand file list c.deref.result.now (spots_in primes)) c.deref-2.ensures.value c.in_ok-check_rows.ensures) in
-    let alternates : AlternatesFound file list (spots_in c.in_ok-primes.primes.items) (length file.alternates.items) (marked_in c.walk_tree.new.reached) (marked_in c.check_alternates.new.reached) =
-    subst (λ (primes : List Leaf). AlternatesFound file list (spots_in primes) (length file.alternates.items) (marked_in c.walk_tree.new.reached) (marked_in c.check_alternates.new.reached)) c.deref-3.ensures.value
+    let alternates : AlternatesFound file list (spots_in c.in_ok-primes.primes.items) (length (alternates_of file)) (marked_in c.walk_tree.new.reached) (marked_in c.check_alternates.new.reached) =
+    subst (λ (primes : List Leaf). AlternatesFound file list (spots_in primes) (length (alternates_of file)) (marked_in c.walk_tree.new.reached) (marked_in c.check_alternates.new.reached)) c.deref-3.ensures.value
     c.in_ok-check_alternates.ensures.found in
     let found : Found c.args.header.now list file c.in_ok-own.own.items (spots_in c.in_ok-primes.primes.items) (marked_in c.args.reached.now) (marked_in c.mark.new.reached) (marked_in c.walk_free.new.reached)
     (marked_in c.walk_heap.new.reached) (marked_in c.walk_tree.new.reached) (marked_in c.check_alternates.new.reached) =
@@ -74,9 +75,9 @@ returns-then-is_page_lost c =
       clear = c.requires.clear;
       first = c.in_ok-mark.ensures.marked;
       free = c.in_ok-walk_free.ensures;
-      heap = c.in_ok-own.ensures.stands;
+      heap = rw c.heap.ensures at c.in_ok-own.ensures.stands;
       heap_marks = c.in_ok-own.ensures.marks;
-      prime = c.in_ok-primes.ensures;
+      prime = rw c.prime.ensures at c.in_ok-primes.ensures;
       rows = rows;
       alternates = alternates;
     } in

@@ -44,5 +44,5 @@ returns c = record {
         records = c.args.header.now.records;
         keys = c.in_ok-keys.keys;
       })
-      c.from-3.ensures c.from-4.ensures refl refl trees (rw (pages, free) refl) (rw c.room-room.ensures.value refl));
+      c.from-3.ensures c.from-4.ensures refl refl trees (rw (pages, free) refl) (rw (c.room-room.ensures.value, c.shape.ensures, c.heap.ensures) refl));
 }

@@ -3,15 +3,16 @@ use Rattle.key_index.specs.declared.alt_index.AltIndex.{AltIndex}
 use Rattle.file_statistics.specs.Statistics.{KeysCounted}
 use Rattle.file_statistics.proofs.KeyLemmas.{keys_first, keys_more}
 use Rattle.file_statistics.proofs.counting.count_keys.Goals as goal
+use Rattle.open_file.specs.Fields.{alternates_of}
 
 pub loop-index-init : goal.loop-index-init
 loop-index-init c =
     keys_first c.args.file.now c.args.pages.now c.in_ok-count_key.field-0 c.new-keys.result.items c.push_key.new.keys.items c.new-keys.ensures.items c.in_ok-push_key.ensures
-    c.in_ok-count_key.ensures
+    (rw (c.prime.ensures, c.prime-2.ensures) at c.in_ok-count_key.ensures)
 
 pub loop-index-preserved : goal.loop-index-preserved
 loop-index-preserved c =
-    let items = c.as_slice-index-items.ensures.value in
+    let items = c.alternates-index-items.ensures.value in
     let inside = c.loop-index-test.true in
     keys_more c.args.file.now c.args.pages.now c.loop-index.index-index (c.loop-index.index-index + 1) c.loop-index.keys.items c.push_key-in-loop-index.new.keys.items
     c.in_ok-count_key-2.field-0 c.index-item.result (omega arith) c.loop-index.invariant c.in_ok-push_key-2.ensures
@@ -20,6 +21,6 @@ loop-index-preserved c =
 
 pub returns : goal.returns
 returns c =
-    let long = ap length c.as_slice-index-items.ensures.value in
-    let last : c.loop-index.index-index ≡ length c.args.file.now.alternates.items = omega (arith, long, c.loop-index-test.false, c.loop-index.auto.index-index-end) in
+    let long = ap length c.alternates-index-items.ensures.value in
+    let last : c.loop-index.index-index ≡ length (alternates_of c.args.file.now) = omega (arith, long, c.loop-index-test.false, c.loop-index.auto.index-index-end) in
     subst (λ (n : ℕ). KeysCounted c.args.file.now c.args.pages.now n c.loop-index.keys.items) last c.loop-index.invariant

@@ -10,6 +10,7 @@ use Rattle.page_walks.specs.Spots.{spots_in}
 use Rattle.row_checks.specs.Leading.{HasEntry}
 use Rattle.row_checks.proofs.SlotLemmas.{pages_more, own_slot}
 use Rattle.row_checks.proofs.heap_slots.check_slots.Goals as goal
+use Rattle.open_file.specs.Fields.{heap_of}
 
 pub loop-n-init : goal.loop-n-init
 loop-n-init c = λ p one within. (let bad : false ≡ true = one in absurd (cc))
@@ -18,7 +19,7 @@ pub loop-n-preserved : goal.loop-n-preserved
 loop-n-preserved c =
     let own = c.args.own.now in
     let k = c.loop-n.n-index in
-    let shape = slot_shape c.args.file.now.heap in
+    let shape = slot_shape (heap_of c.args.file.now) in
     let Has = HasEntry c.args.file.now c.args.pages.now (spots_in c.args.primes.now) in
     let up : k + 1 ≡ suc k = omega arith in
     subst (λ (m : ℕ). (p : Place) → is_in_list (take m own) p.page ≡ true → p.slot < room shape → Has p) (sym up)
@@ -27,5 +28,5 @@ loop-n-preserved c =
 
 pub returns : goal.returns
 returns c = λ p some.
-    let own = own_slot (slot_shape c.args.file.now.heap) (pages_in c.args.pages.now) c.args.own.now p some in
+    let own = own_slot (slot_shape (heap_of c.args.file.now)) (pages_in c.args.pages.now) c.args.own.now p some in
     c.loop-n.invariant p (subst (λ (ms : List ℕ). is_in_list ms p.page ≡ true) (sym (take_all c.loop-n.n-index c.args.own.now c.loop-n-test.false)) own.0) own.1 own.2

@@ -6,6 +6,7 @@ use Rattle.record_heap.specs.Standing.{slot_shape}
 use Rattle.page_walks.specs.Spots.{spots_in}
 use Rattle.row_checks.specs.Leading.{HasEntry}
 use Rattle.row_checks.proofs.heap_slots.check_slots.Given as goal
+use Rattle.open_file.specs.Fields.{heap_of}
 
 abbrev pub invariant-loop-n : goal.invariant-loop-n
-invariant-loop-n l = (p : Place) → is_in_list (take l.n-index l.own) p.page ≡ true → p.slot < room (slot_shape l.file.heap) → HasEntry l.file l.pages (spots_in l.primes) p
+invariant-loop-n l = (p : Place) → is_in_list (take l.n-index l.own) p.page ≡ true → p.slot < room (slot_shape (heap_of l.file)) → HasEntry l.file l.pages (spots_in l.primes) p

@@ -1,4 +1,4 @@
-use Rattle.std.proofs.Common.{◌+◌, ◌<◌, ◌≤◌, subst, sym, List, ℕ, Bor}
+use Rattle.std.proofs.Common.{◌+◌, ◌<◌, ◌≤◌, subst, sym, ◌∙◌, List, ℕ, Bor}
 use Rattle.row_checks.proofs.StampLemmas.{FitFront, eight_more, front_many, front_one, front_all, rest_from}
 use Rattle.row_checks.proofs.stamps.are_stamps.Goals.{then-has_duplicates+else-stamp-lt1+else-next-stamp, else-has_duplicates}
 use Rattle.row_checks.proofs.stamps.are_stamps.Goals as goal

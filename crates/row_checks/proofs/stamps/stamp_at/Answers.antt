@@ -29,14 +29,14 @@ loop-part-preserved c =
 pub read_u64-requires : goal.read_u64-requires
 read_u64-requires c =
     let all = all_walked c.args.parts.now c.args.bytes.now c.args.i c.loop-part.part-index c.loop-part.rest.now c.requires.part c.loop-part-test.false c.loop-part.auto.part-index-end c.loop-part.invariant in
-    eight_behind c.args.parts.now c.args.bytes.now c.args.i c.args.i _ c.loop-part.rest.now c.requires.part all (sym c.has_duplicates.ensures ∙ c.if-has_duplicates.true)
+    eight_behind c.args.parts.now c.args.bytes.now c.args.i c.args.i _ c.loop-part.rest.now c.requires.part all (sym c.has_duplicates-2.ensures ∙ c.if-has_duplicates-2.true)
 
-pub returns-then-has_duplicates : goal.returns-then-has_duplicates
-returns-then-has_duplicates c =
+pub returns-then-has_duplicates-2 : goal.returns-then-has_duplicates-2
+returns-then-has_duplicates-2 c =
     let all = all_walked c.args.parts.now c.args.bytes.now c.args.i c.loop-part.part-index c.loop-part.rest.now c.requires.part c.loop-part-test.false c.loop-part.auto.part-index-end c.loop-part.invariant in
-    c.read_u64.ensures ∙ stamp_many c.args.parts.now c.args.bytes.now c.args.i c.args.i _ c.loop-part.rest.now c.requires.part all refl (sym c.has_duplicates.ensures ∙ c.if-has_duplicates.true)
+    c.read_u64.ensures ∙ stamp_many c.args.parts.now c.args.bytes.now c.args.i c.args.i _ c.loop-part.rest.now c.requires.part all refl (sym c.has_duplicates-2.ensures ∙ c.if-has_duplicates-2.true)
 
-pub returns-else-has_duplicates : goal.returns-else-has_duplicates
-returns-else-has_duplicates c =
+pub returns-else-has_duplicates-2 : goal.returns-else-has_duplicates-2
+returns-else-has_duplicates-2 c =
     let all = all_walked c.args.parts.now c.args.bytes.now c.args.i c.loop-part.part-index c.loop-part.rest.now c.requires.part c.loop-part-test.false c.loop-part.auto.part-index-end c.loop-part.invariant in
-    stamp_one c.args.parts.now c.args.bytes.now c.args.i c.args.i _ c.loop-part.rest.now c.requires.part all refl (sym c.has_duplicates.ensures ∙ c.if-has_duplicates.false)
+    stamp_one c.args.parts.now c.args.bytes.now c.args.i c.args.i _ c.loop-part.rest.now c.requires.part all refl (sym c.has_duplicates-2.ensures ∙ c.if-has_duplicates-2.false)
