@@ -1,4 +1,6 @@
 //! Files that two runs have open at once, that may only be read, or that a system has no locks for.
+ghost use Rattle.std.specs.Prelude.{IfOk, OnOk};
+ghost use Rattle.page_store.specs.ShelfState.{HasUnit};
 
 use crate::checks::{assert_equal, assert_equal_for, assert_that};
 use crate::files::{Found, begin, change, find, make};
@@ -16,7 +18,87 @@ use std::rt::Files;
 use std::test::Fail;
 use system_files::LockFile;
 
-// A run over the files of a folder.
+/// What a run does with a file of three pages.
+#[derive(Clone, Copy, Debug)]
+enum Act {
+    /// It lets its files go, and attaches this one.
+    Attach,
+    Find,
+    Make(u8),
+    Change(u8),
+    /// It opens the gate, and stops.
+    Begin,
+}
+
+/// What it is answered: what it finds, or that it is done.
+type Answer = Result<Option<Found>, Fault>;
+
+const DONE: Answer = Ok(None);
+
+const REFUSED: Answer = Err(Fault::Device);
+
+/// As it was made at first.
+const MADE_FIRST: Answer = Ok(Some(Found::Closed(1, 3)));
+
+const WRITTEN_WITH_2: Answer = Ok(Some(Found::Closed(2, 3)));
+
+const WRITTEN_WITH_3: Answer = Ok(Some(Found::Closed(3, 3)));
+
+// What a run that does so is answered.
+fn answer_to<S: Shelf>(run: &mut S, act: Act) -> Answer
+    requires unit { HasUnit (S.state run.old) 0 }
+    ensures unit { HasUnit (S.state run.new) 0 }
+{
+    match act {
+        Act::Attach => run.attach(&[name()])?,
+        Act::Find => return Ok(Some(find(run)?)),
+        Act::Make(byte) => make(run, 3, byte)?,
+        Act::Change(byte) => change(run, 3, byte)?,
+        Act::Begin => begin(run, 0)?,
+    }
+    DONE
+}
+
+// Each step of a run, beside what it is answered.
+fn perform<S: Shelf>(rt: &impl Abort, run: &mut S, steps: &[(Act, Answer)])
+    requires unit { HasUnit (S.state run.old) 0 }
+    ensures unit { HasUnit (S.state run.new) 0 }
+{
+    for step in steps {
+        let (act, answer) = *step;
+        assert_equal_for(rt, act, answer_to(run, act), answer);
+    }
+}
+
+#[derive(Clone, Copy, Debug)]
+enum Run {
+    First,
+    Second,
+}
+
+// Each step of two runs at once, beside what it is answered.
+fn perform_both<S: Shelf>(
+    rt: &impl Abort,
+    first: &mut S,
+    second: &mut S,
+    steps: &[(Run, Act, Answer)],
+)
+    requires first { HasUnit (S.state first.old) 0 }
+    requires second { HasUnit (S.state second.old) 0 }
+    ensures first { HasUnit (S.state first.new) 0 }
+    ensures second { HasUnit (S.state second.new) 0 }
+{
+    for step in steps {
+        let (run, act, answer) = *step;
+        let found = match run {
+            Run::First => answer_to(first, act),
+            Run::Second => answer_to(second, act),
+        };
+        assert_equal_for(rt, (run, act), found, answer);
+    }
+}
+
+// A run over the files of a folder, which has the file attached.
 fn run_over<R: Files + Drop>(
     rt: R,
     alloc: Global,
@@ -24,8 +106,11 @@ fn run_over<R: Files + Drop>(
 ) -> Result<FolderShelf<R, EmptyDisk>, Fail>
 where
     R::File: FileExt + LockFile,
+    ensures unit { IfOk result (λ run. HasUnit (⟦<FolderShelf<R, EmptyDisk> as Shelf>⟧.state run) 0) }
 {
-    Ok(FolderShelf::new(rt, alloc, folder.to_string(alloc)?))
+    let mut run = FolderShelf::new(rt, alloc, folder.to_string(alloc)?);
+    run.attach(&[name()])?;
+    Ok(run)
 }
 
 // Makes a folder of this name, with a file of three pages in it.
@@ -33,9 +118,7 @@ fn make_file(rt: HostRuntime, folder: &str) -> Result<(), Fail> {
     let _ = fs::remove_dir_all(&rt, folder);
     fs::create_dir(&rt, folder)?;
     let mut run = run_over(rt, rt.alloc(), folder)?;
-    run.attach(&[name()])?;
-    make(&mut run, 3, 1)?;
-    Ok(())
+    Ok(make(&mut run, 3, 1)?)
 }
 
 // A file was read, and these are its bytes.
@@ -46,6 +129,12 @@ fn has_bytes(rt: &impl Abort, found: io::Result<Vec<u8>>, bytes: &[u8]) {
     }
 }
 
+// Makes such a folder without its file.
+fn make_folder(rt: HostRuntime, folder: &str, file: &str) -> Result<(), Fail> {
+    make_file(rt, folder)?;
+    Ok(fs::remove_file(&rt, file)?)
+}
+
 fn second_name() -> FileName {
     let mut name = FileName::new();
     name.push_str("LINK");
@@ -54,15 +143,15 @@ fn second_name() -> FileName {
 
 #[test]
 fn a_file_that_is_made_is_read_by_no_other_run(rt: HostRuntime) -> Result<(), Fail> {
-    make_file(rt, "made_and_read")?;
-    fs::remove_file(&rt, "made_and_read/CUST")?;
+    make_folder(rt, "made_and_read", "made_and_read/CUST")?;
     let mut first = run_over(rt, rt.alloc(), "made_and_read")?;
     let mut second = run_over(rt, rt.alloc(), "made_and_read")?;
-    first.attach(&[name()])?;
-    second.attach(&[name()])?;
     let store = Store::make(&mut first, 0)?;
-    assert_equal(&rt, find(&mut second), Err(Fault::Device));
-    assert_equal(&rt, make(&mut second, 3, 2), Err(Fault::Device));
+    perform(
+        &rt,
+        &mut second,
+        &[(Act::Find, REFUSED), (Act::Make(2), REFUSED)],
+    );
     store.finish(&mut first)?;
     assert_equal(&rt, find(&mut second), Err(Fault::Device));
     first.attach(&[])?;
@@ -71,49 +160,53 @@ fn a_file_that_is_made_is_read_by_no_other_run(rt: HostRuntime) -> Result<(), Fa
     Ok(())
 }
 
+const READ_BY_BOTH: [(Run, Act, Answer); 4] = [
+    // Those who read go side by side.
+    (Run::First, Act::Find, MADE_FIRST),
+    (Run::Second, Act::Find, MADE_FIRST),
+    (Run::Second, Act::Change(2), REFUSED),
+    (Run::Second, Act::Make(2), REFUSED),
+];
+
+// The one that was refused reads on, and changes the file once the other is done.
+const CHANGED_BY_THE_SECOND: [(Run, Act, Answer); 4] = [
+    (Run::Second, Act::Find, MADE_FIRST),
+    (Run::First, Act::Attach, DONE),
+    (Run::Second, Act::Change(2), DONE),
+    (Run::First, Act::Find, REFUSED),
+];
+
 #[test]
 fn a_file_that_another_run_has_read_is_not_changed(rt: HostRuntime) -> Result<(), Fail> {
     make_file(rt, "read_and_changed")?;
     let before = fs::read(&rt, "read_and_changed/CUST")?;
     let mut first = run_over(rt, rt.alloc(), "read_and_changed")?;
     let mut second = run_over(rt, rt.alloc(), "read_and_changed")?;
-    first.attach(&[name()])?;
-    second.attach(&[name()])?;
-    // Those who read go side by side.
-    assert_equal(&rt, find(&mut first), Ok(Found::Closed(1, 3)));
-    assert_equal(&rt, find(&mut second), Ok(Found::Closed(1, 3)));
-    assert_equal(&rt, change(&mut second, 3, 2), Err(Fault::Device));
-    assert_equal(&rt, make(&mut second, 3, 2), Err(Fault::Device));
-    has_bytes(
-        &rt,
-        fs::read(&rt, "read_and_changed/CUST"),
-        before.as_slice(),
-    );
-    // The one that was refused reads on, and changes the file once the other is done.
-    assert_equal(&rt, find(&mut second), Ok(Found::Closed(1, 3)));
-    first.attach(&[name()])?;
-    assert_equal(&rt, change(&mut second, 3, 2), Ok(()));
-    assert_equal(&rt, find(&mut first), Err(Fault::Device));
+    perform_both(&rt, &mut first, &mut second, &READ_BY_BOTH);
+    let after = fs::read(&rt, "read_and_changed/CUST");
+    has_bytes(&rt, after, before.as_slice());
+    perform_both(&rt, &mut first, &mut second, &CHANGED_BY_THE_SECOND);
     second.attach(&[])?;
     assert_equal(&rt, find(&mut first), Ok(Found::Closed(2, 3)));
     Ok(())
 }
+
+const TWO_CHANGES: [(Run, Act, Answer); 6] = [
+    (Run::First, Act::Find, MADE_FIRST),
+    (Run::Second, Act::Find, MADE_FIRST),
+    (Run::First, Act::Begin, REFUSED),
+    (Run::Second, Act::Change(2), DONE),
+    (Run::First, Act::Find, REFUSED),
+    (Run::First, Act::Begin, REFUSED),
+];
 
 #[test]
 fn of_two_changes_at_once_one_is_made_and_one_refused(rt: HostRuntime) -> Result<(), Fail> {
     make_file(rt, "two_changes")?;
     let mut first = run_over(rt, rt.alloc(), "two_changes")?;
     let mut second = run_over(rt, rt.alloc(), "two_changes")?;
-    first.attach(&[name()])?;
-    second.attach(&[name()])?;
-    assert_equal(&rt, find(&mut first), Ok(Found::Closed(1, 3)));
-    assert_equal(&rt, find(&mut second), Ok(Found::Closed(1, 3)));
-    assert_equal(&rt, begin(&mut first, 0), Err(Fault::Device));
-    assert_equal(&rt, change(&mut second, 3, 2), Ok(()));
-    assert_equal(&rt, find(&mut first), Err(Fault::Device));
-    assert_equal(&rt, begin(&mut first, 0), Err(Fault::Device));
-    assert_equal(&rt, first.faults(), 3);
-    assert_equal(&rt, second.faults(), 0);
+    perform_both(&rt, &mut first, &mut second, &TWO_CHANGES);
+    assert_equal(&rt, (first.faults(), second.faults()), (3, 0));
     assert_equal(&rt, find(&mut second), Ok(Found::Closed(2, 3)));
     Ok(())
 }
@@ -135,33 +228,32 @@ fn two_names_of_one_file_are_two_that_have_it_open(rt: HostRuntime) -> Result<()
     Ok(())
 }
 
+// Why a file is not opened for writing, and what is found then.
+const ONLY_READ: [(ErrorKind, Answer); 4] = [
+    (ErrorKind::PermissionDenied, MADE_FIRST),
+    (ErrorKind::ReadOnlyFilesystem, MADE_FIRST),
+    (ErrorKind::NotFound, REFUSED),
+    (ErrorKind::Other, REFUSED),
+];
+
 #[test]
 fn a_file_that_may_only_be_read_is_read_whole_and_not_changed(rt: HostRuntime) -> Result<(), Fail> {
     make_file(rt, "only_read")?;
     let before = fs::read(&rt, "only_read/CUST")?;
     let refusals = Refusals::none();
-    for &(reason, is_read) in &[
-        (ErrorKind::PermissionDenied, true),
-        (ErrorKind::ReadOnlyFilesystem, true),
-        (ErrorKind::NotFound, false),
-        (ErrorKind::Other, false),
-    ] {
+    for &(reason, found) in &ONLY_READ {
         refusals.writing.set(Some(reason));
-        let refusing = Refusing {
-            rt,
-            refusals: &refusals,
-        };
-        let mut run = run_over(refusing, rt.alloc(), "only_read")?;
-        run.attach(&[name()])?;
-        let found = if is_read {
-            Ok(Found::Closed(1, 3))
-        } else {
-            Err(Fault::Device)
-        };
-        assert_equal_for(&rt, reason, find(&mut run), found);
-        assert_equal_for(&rt, reason, change(&mut run, 3, 2), Err(Fault::Device));
-        assert_equal_for(&rt, reason, make(&mut run, 3, 2), Err(Fault::Device));
-        assert_equal_for(&rt, reason, find(&mut run), found);
+        let mut run = run_over(refusals.over(rt), rt.alloc(), "only_read")?;
+        perform(
+            &rt,
+            &mut run,
+            &[
+                (Act::Find, found),
+                (Act::Change(2), REFUSED),
+                (Act::Make(2), REFUSED),
+                (Act::Find, found),
+            ],
+        );
         has_bytes(&rt, fs::read(&rt, "only_read/CUST"), before.as_slice());
     }
     Ok(())
@@ -170,7 +262,6 @@ fn a_file_that_may_only_be_read_is_read_whole_and_not_changed(rt: HostRuntime) -
 // What another run finds, and lets go.
 fn found_by_another(rt: HostRuntime) -> Result<Found, Fail> {
     let mut other = run_over(rt, rt.alloc(), "between_two_locks")?;
-    other.attach(&[name()])?;
     Ok(find(&mut other)?)
 }
 
@@ -180,103 +271,107 @@ fn set(bytes: &mut [u8], at: usize, byte: u8) {
     }
 }
 
+// The bytes of a file whose change is begun, where this happens meanwhile.
+fn changed(mut bytes: Vec<u8>, meanwhile: Change) -> Result<Vec<u8>, Fail> {
+    match meanwhile {
+        Change::Nothing => set(&mut bytes, 0, b'D'),
+        Change::Page => set(&mut bytes, 9, 0),
+        Change::Length => bytes.push(0)?,
+        Change::Times => {}
+    }
+    Ok(bytes)
+}
+
+// What happens between two locks, what who changes the file then is answered, and what others find.
+const MEANWHILE: [(Change, Answer, Found); 4] = [
+    (Change::Nothing, DONE, Found::Closed(1, 3)),
+    (Change::Page, REFUSED, Found::Mixed),
+    (Change::Length, REFUSED, Found::Closed(1, 3)),
+    (Change::Times, REFUSED, Found::Closed(1, 3)),
+];
+
 // Another run has the file, and lets it go, while the shared lock is made exclusive.
+fn changes_between_two_locks(
+    test: &impl Abort,
+    rt: HostRuntime,
+    meanwhile: Change,
+    answer: Answer,
+    found: Found,
+) -> Result<(), Fail> {
+    make_file(rt, "between_two_locks")?;
+    let refusals = Refusals::none();
+    let mut run = run_over(refusals.over(rt), rt.alloc(), "between_two_locks")?;
+    assert_equal_for(test, meanwhile, answer_to(&mut run, Act::Find), MADE_FIRST);
+    let expected = changed(fs::read(&rt, "between_two_locks/CUST")?, meanwhile)?;
+    refusals.change.set(meanwhile);
+    assert_equal_for(test, meanwhile, answer_to(&mut run, Act::Begin), answer);
+    let left = fs::read(&rt, "between_two_locks/CUST");
+    has_bytes(test, left, expected.as_slice());
+    // What reads the file anew may change it.
+    if answer == REFUSED {
+        assert_equal_for(test, meanwhile, found_by_another(rt)?, found);
+        perform(
+            test,
+            &mut run,
+            &[(Act::Find, Ok(Some(found))), (Act::Begin, DONE)],
+        );
+    }
+    Ok(())
+}
+
 #[test]
 fn a_file_that_was_changed_between_two_locks_is_not_changed_again(
     rt: HostRuntime,
 ) -> Result<(), Fail> {
-    for &meanwhile in &[Change::Nothing, Change::Page, Change::Length, Change::Times] {
-        make_file(rt, "between_two_locks")?;
-        let refusals = Refusals::none();
-        let refusing = Refusing {
-            rt,
-            refusals: &refusals,
-        };
-        let mut run = run_over(refusing, rt.alloc(), "between_two_locks")?;
-        run.attach(&[name()])?;
-        assert_equal_for(&rt, meanwhile, find(&mut run), Ok(Found::Closed(1, 3)));
-        let mut expected = fs::read(&rt, "between_two_locks/CUST")?;
-        refusals.change.set(meanwhile);
-        let begun = begin(&mut run, 0);
-        match meanwhile {
-            Change::Nothing => set(&mut expected, 0, b'D'),
-            Change::Page => set(&mut expected, 9, 0),
-            Change::Length => expected.push(0)?,
-            Change::Times => {}
-        }
-        let is_refused = meanwhile != Change::Nothing;
-        assert_equal_for(&rt, meanwhile, begun.is_err(), is_refused);
-        has_bytes(
-            &rt,
-            fs::read(&rt, "between_two_locks/CUST"),
-            expected.as_slice(),
-        );
-        // What reads the file anew may change it.
-        let found = if meanwhile == Change::Page {
-            Found::Mixed
-        } else {
-            Found::Closed(1, 3)
-        };
-        if is_refused {
-            assert_equal_for(&rt, meanwhile, found_by_another(rt)?, found);
-            assert_equal_for(&rt, meanwhile, find(&mut run), Ok(found));
-            assert_equal(&rt, begin(&mut run, 0), Ok(()));
-        }
+    for &(meanwhile, answer, found) in &MEANWHILE {
+        changes_between_two_locks(&rt, rt, meanwhile, answer, found)?;
     }
     Ok(())
 }
 
 #[test]
 fn a_file_that_another_run_had_first_is_not_made(rt: HostRuntime) -> Result<(), Fail> {
-    make_file(rt, "had_first")?;
-    fs::remove_file(&rt, "had_first/CUST")?;
+    make_folder(rt, "had_first", "had_first/CUST")?;
     let refusals = Refusals::none();
-    let refusing = Refusing {
-        rt,
-        refusals: &refusals,
-    };
-    let mut run = run_over(refusing, rt.alloc(), "had_first")?;
-    run.attach(&[name()])?;
+    let mut run = run_over(refusals.over(rt), rt.alloc(), "had_first")?;
     refusals.change.set(Change::Length);
     assert_equal(&rt, make(&mut run, 3, 2), Err(Fault::Device));
     has_bytes(&rt, fs::read(&rt, "had_first/CUST"), b"\0");
     Ok(())
 }
 
+const WITHOUT_LOCKS: [(Run, Act, Answer); 3] = [
+    (Run::First, Act::Find, MADE_FIRST),
+    (Run::Second, Act::Make(2), DONE),
+    (Run::First, Act::Find, WRITTEN_WITH_2),
+];
+
 #[test]
 fn a_system_without_locks_is_as_if_each_was_had(rt: HostRuntime) -> Result<(), Fail> {
     make_file(rt, "no_locks")?;
     let refusals = Refusals::none();
     refusals.locks.set(true);
-    let refusing = Refusing {
-        rt,
-        refusals: &refusals,
-    };
-    let mut first = run_over(refusing, rt.alloc(), "no_locks")?;
-    let mut second = run_over(refusing, rt.alloc(), "no_locks")?;
-    first.attach(&[name()])?;
-    second.attach(&[name()])?;
-    assert_equal(&rt, find(&mut first), Ok(Found::Closed(1, 3)));
-    assert_equal(&rt, make(&mut second, 3, 2), Ok(()));
-    assert_equal(&rt, find(&mut first), Ok(Found::Closed(2, 3)));
+    let mut first = run_over(refusals.over(rt), rt.alloc(), "no_locks")?;
+    let mut second = run_over(refusals.over(rt), rt.alloc(), "no_locks")?;
+    perform_both(&rt, &mut first, &mut second, &WITHOUT_LOCKS);
     fs::remove_file(&rt, "no_locks/CUST")?;
-    first.attach(&[name()])?;
-    assert_equal(&rt, make(&mut first, 3, 3), Ok(()));
-    assert_equal(&rt, find(&mut first), Ok(Found::Closed(3, 3)));
+    perform(
+        &rt,
+        &mut first,
+        &[
+            (Act::Attach, DONE),
+            (Act::Make(3), DONE),
+            (Act::Find, WRITTEN_WITH_3),
+        ],
+    );
     Ok(())
 }
 
 #[test]
 fn a_sync_of_the_folder_that_failed_stays_failed(rt: HostRuntime) -> Result<(), Fail> {
-    make_file(rt, "folder_sync")?;
-    fs::remove_file(&rt, "folder_sync/CUST")?;
+    make_folder(rt, "folder_sync", "folder_sync/CUST")?;
     let refusals = Refusals::none();
-    let refusing = Refusing {
-        rt,
-        refusals: &refusals,
-    };
-    let mut run = run_over(refusing, rt.alloc(), "folder_sync")?;
-    run.attach(&[name()])?;
+    let mut run = run_over(refusals.over(rt), rt.alloc(), "folder_sync")?;
     refusals.folder_sync.set(true);
     assert_equal(&rt, make(&mut run, 3, 2), Err(Fault::Device));
     assert_that(&rt, !refusals.folder_sync.get());
@@ -285,9 +380,11 @@ fn a_sync_of_the_folder_that_failed_stays_failed(rt: HostRuntime) -> Result<(), 
     run.attach(&[second_name()])?;
     assert_equal(&rt, make(&mut run, 3, 2), Err(Fault::Device));
     // A later run cannot see it any more.
-    let mut later = run_over(refusing, rt.alloc(), "folder_sync")?;
-    later.attach(&[name()])?;
-    assert_equal(&rt, make(&mut later, 3, 2), Ok(()));
-    assert_equal(&rt, find(&mut later), Ok(Found::Closed(2, 3)));
+    let mut later = run_over(refusals.over(rt), rt.alloc(), "folder_sync")?;
+    perform(
+        &rt,
+        &mut later,
+        &[(Act::Make(2), DONE), (Act::Find, WRITTEN_WITH_2)],
+    );
     Ok(())
 }

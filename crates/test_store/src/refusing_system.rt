@@ -44,6 +44,11 @@ impl Refusals {
             change: Cell::new(Change::Nothing),
         }
     }
+
+    /// The file system of this runtime with these refusals.
+    pub fn over<R>(&self, rt: R) -> Refusing<'_, R> {
+        Refusing { rt, refusals: self }
+    }
 }
 
 /// The file system of a runtime, with refusals.
