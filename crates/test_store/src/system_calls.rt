@@ -163,24 +163,26 @@ fn a_file_with_another_length_or_first_page_is_not_held(rt: HostRuntime) -> Resu
     Ok(())
 }
 
+// What is answered where ten bytes are read and written, and a file is synced, measured and shared.
+fn answers_of(file: &Interrupted) -> (bool, usize, bool, Option<u64>, bool) {
+    let mut bytes = [0; 10];
+    let read = system_files::read(file, 0, &mut bytes);
+    file.left.set(file.times);
+    let written = system_files::write(file, 0, &bytes);
+    file.left.set(file.times);
+    let synced = system_files::sync(file);
+    file.left.set(file.times);
+    let length = system_files::measure(file);
+    file.left.set(file.times);
+    (read, written, synced, length, system_files::share(file))
+}
+
 #[test]
 fn a_thousand_interrupted_calls_in_a_row_are_a_fault(rt: HostRuntime) {
-    let (few, many) = (Interrupted::new(999, false), Interrupted::new(1000, false));
-    let mut bytes = [0; 10];
-    assert_that(&rt, system_files::read(&few, 0, &mut bytes));
-    assert_equal(&rt, system_files::write(&few, 0, &bytes), 10);
-    assert_that(&rt, system_files::sync(&few));
-    assert_equal(&rt, system_files::measure(&few), Some(7));
-    assert_that(&rt, system_files::share(&few));
-    assert_that(&rt, !system_files::read(&many, 0, &mut bytes));
-    many.left.set(1000);
-    assert_equal(&rt, system_files::write(&many, 0, &bytes), 0);
-    many.left.set(1000);
-    assert_that(&rt, !system_files::sync(&many));
-    many.left.set(1000);
-    assert_equal(&rt, system_files::measure(&many), None);
-    many.left.set(1000);
-    assert_that(&rt, !system_files::share(&many));
+    let few = answers_of(&Interrupted::new(999, false));
+    assert_equal(&rt, few, (true, 10, true, Some(7), true));
+    let many = answers_of(&Interrupted::new(1000, false));
+    assert_equal(&rt, many, (false, 0, false, None, false));
     assert_that(&rt, KeptFile::made(Interrupted::new(1000, false)).is_none());
 }
 
