@@ -27,7 +27,7 @@ use Rattle.open_file.specs.declared.open_file.OpenFile.{OpenFile}
 use Rattle.open_file.specs.declared.path.Path.{Path}
 use Rattle.open_file.specs.Headers.{IsOpenedBy}
 use Rattle.open_file.specs.InOrder.{alt_entries, prime_entries}
-use Rattle.open_file.specs.Parts.{Parts}
+use Rattle.open_file.specs.Parts.{Parts, prime_pages, alternate_pages}
 use Rattle.open_file.specs.Paths.{IsOnPath}
 use Rattle.open_file.specs.Stands.{Stands}
 use Rattle.row_checks.specs.Alternate.{RanksDiffer}
@@ -111,21 +111,21 @@ module _ (header : Header) (list : List (List ℕ)) (opened : OpenFile) (own : L
     tree_there : (tree : Tree) (i : ℕ) (entries : List (List ℕ)) → TreeStands tree (pages_in list) entries (own_at owns i) → TreeStands tree live entries (own_at owns i)
     tree_there tree i entries stands = trees_stay tree (pages_in list) live entries (own_at owns i) (file_parted.as_read i) stands
 
-    prime_there : PrimeStands (prime_index_of opened) live (prime_entries (file_schema opened) (places_in opened list primes) (rows_in opened list primes)) (own_at owns 1)
+    prime_there : PrimeStands (prime_index_of opened) live (prime_entries (file_schema opened) (places_in opened list primes) (rows_in opened list primes)) (prime_pages owns)
     prime_there = record {
-      tree = subst (λ (entries : List (List ℕ)). TreeStands (prime_index_of opened).tree live entries (own_at owns 1)) (sym found.rows.entries_are)
+      tree = subst (λ (entries : List (List ℕ)). TreeStands (prime_index_of opened).tree live entries (prime_pages owns)) (sym found.rows.entries_are)
           (tree_there (prime_index_of opened).tree 1 (entries_at (tree_shape (prime_index_of opened).tree) list primes) found.prime.stands);
       each = found.rows.each;
     }
 
     alternate_there : (j : ℕ) (index : AltIndex) → j < length (alternates_of opened) → index ≡ slice_index_or (alternates_of opened) j index
-        → AltStands index live (alt_entries (file_schema opened) (j + 1) (rows_in opened list primes)) (own_at owns (j + 2))
+        → AltStands index live (alt_entries (file_schema opened) (j + 1) (rows_in opened list primes)) (alternate_pages owns j)
     alternate_there j index within is =
         let at = found.alternates.each j index within is in
         let place : suc (suc j) ≡ j + 2 = omega arith in
-        subst (λ (k : ℕ). AltStands index live (alt_entries (file_schema opened) k (rows_in opened list primes)) (own_at owns (j + 2))) (key_is j index within is)
+        subst (λ (k : ℕ). AltStands index live (alt_entries (file_schema opened) k (rows_in opened list primes)) (alternate_pages owns j)) (key_is j index within is)
         (record {
-          tree = subst (λ (entries : List (List ℕ)). TreeStands index.tree live entries (own_at owns (j + 2))) (sym at.rows.entries_are)
+          tree = subst (λ (entries : List (List ℕ)). TreeStands index.tree live entries (alternate_pages owns j)) (sym at.rows.entries_are)
               (subst (λ (i : ℕ). TreeStands index.tree live (entries_at (tree_shape index.tree) list at.spots) (own_at owns i)) place
               (tree_there index.tree (suc (suc j)) (entries_at (tree_shape index.tree) list at.spots) at.tree));
           each = at.rows.each;

@@ -4,7 +4,8 @@ use Rattle.pages.specs.Owners.{IsOutside}
 use Rattle.page_alloc.specs.Chain.{chain}
 use Rattle.page_marks.specs.Marks.{marked_in}
 use Rattle.page_marks.specs.PageList.{pages_in}
-use Rattle.page_marks.specs.Parted.{own_at, all_of}
+use Rattle.page_marks.specs.Parted.{all_of}
+use Rattle.open_file.specs.Parts.{heap_pages, prime_pages, alternate_pages}
 use Rattle.record_heap.specs.Standing.{HeapStands, slot_shape}
 use Rattle.record_heap.specs.Walk.{slots_of}
 use Rattle.bplus_tree.specs.declared.tree.Tree.{Tree}
@@ -32,11 +33,11 @@ pub record LeavesOut (header : Header) (list : List (List ℕ)) (n : ℕ) : Type
   pub owns : List (List ℕ)
   pub owners : length owns ≡ length (alternates_of opened) + 2
   pub heap : HeapStands (heap_of opened) (pages_in list)
-      (slots_of (slot_shape (heap_of opened)) (pages_in list) (own_at owns 0)) (own_at owns 0)
-  pub prime : IsTreeInList (prime_index_of opened).tree list (own_at owns 1)
+      (slots_of (slot_shape (heap_of opened)) (pages_in list) (heap_pages owns)) (heap_pages owns)
+  pub prime : IsTreeInList (prime_index_of opened).tree list (prime_pages owns)
   pub alternates : (j : ℕ) (index : AltIndex) → j < length (alternates_of opened)
       → index ≡ slice_index_or (alternates_of opened) j index
-      → IsTreeInList index.tree list (own_at owns (j + 2))
+      → IsTreeInList index.tree list (alternate_pages owns j)
   pub outside : IsOutside (all_of owns) n
 
 abbrev pub HasLostPage : Header → List (List ℕ) → Type 0

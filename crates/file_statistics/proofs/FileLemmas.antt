@@ -6,6 +6,7 @@ use Rattle.page_bytes.specs.Each.{Each}
 use Rattle.pages.specs.PageMap.{PageMap}
 use Rattle.pages.specs.Owners.{IsOutside, AreApart}
 use Rattle.page_marks.specs.Parted.{own_at, all_of}
+use Rattle.open_file.specs.Parts.{heap_pages}
 use Rattle.page_marks.proofs.EachLemmas.{each_weaker, each_join, each_left, each_right, apart_join, outside_symm}
 use Rattle.page_marks.proofs.PartLemmas.{low_or_not}
 use Rattle.page_alloc.specs.FreePage.{next_of}
@@ -85,7 +86,7 @@ module _ (page : ℕ → List ℕ) (header : Header) (opened : OpenFile) (file :
       by_place (inr past) = let n = stands.parts.owners in let none = past_end owns (suc (suc j)) (omega (arith, n, past)) in subst AreApart (sym none) tt
 
   live_at : (i : ℕ) → Each (λ n. IsSome (live_by page header n)) (own_at owns i)
-  live_at zero = chain_live (live_by page header) (first_heap_page (heap_of opened)) (own_at owns 0) stands.parts.heap_stands.chain
+  live_at zero = chain_live (live_by page header) (first_heap_page (heap_of opened)) (heap_pages owns) stands.parts.heap_stands.chain
   live_at (suc zero) = (prime_live _ _ _ _ stands.parts.prime_stands).live
   live_at (suc (suc j)) = by_place (low_or_not j (length (alternates_of opened)))
     where
@@ -152,7 +153,7 @@ keys_rest (key ∷ keys) (own ∷ owns) many each =
 
 pub keys_count : (keys : List KeyStatistics) (owns : List (List ℕ)) → length owns ≡ length keys + 1
     → ((i : ℕ) (key : KeyStatistics) → i < length keys → key ≡ slice_index_or keys i key → key.pages ≡ length (own_at owns (suc i)))
-    → all_key_pages keys + length (own_at owns 0) ≡ length (all_of owns)
+    → all_key_pages keys + length (heap_pages owns) ≡ length (all_of owns)
 keys_count keys [] many each = absurd (omega arith)
 keys_count keys (own ∷ owns) many each =
     let rest = keys_rest keys owns (omega arith) (λ i key inside is. each i key inside is) in

@@ -1,6 +1,7 @@
 -- What is counted of a file by its header.
 use Rattle.std.proofs.Common.{◌≡◌, ℕ, zero, suc, ◌+◌, ◌-◌, ◌*◌, ◌<◌, List, length, slice_index_or, ap, sym, ◌∙◌, arith, subst}
 use Rattle.page_marks.specs.Parted.{own_at, all_of}
+use Rattle.open_file.specs.Parts.{heap_pages}
 use Rattle.record_heap.specs.Slot.{room}
 use Rattle.record_heap.specs.Standing.{slot_shape}
 use Rattle.file_header.specs.declared.header.Header.{Header}
@@ -89,7 +90,7 @@ module _ (header : Header) (list : List (List ℕ)) (opened : OpenFile) (is_head
         told.longest_is)
 
     pub pages_whole : (page : ℕ → List ℕ) (file : File) → (standing : PagesHoldFile page header opened file) → AreShown (live_by page header) list
-        → all_key_pages keys + length (own_at standing.stands.parts.owns 0) + header.free + 1 ≡ header.pages
+        → all_key_pages keys + length (heap_pages standing.stands.parts.owns) + header.free + 1 ≡ header.pages
     pages_whole page file standing shown =
         let n = standing.stands.parts.owners in
         let many = counts.many in

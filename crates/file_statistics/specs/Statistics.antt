@@ -6,6 +6,7 @@ use Rattle.indexed_file.specs.File.{Row, File}
 use Rattle.pages.specs.PageMap.{PageMap}
 use Rattle.page_alloc.specs.Chain.{chain, used}
 use Rattle.page_marks.specs.Parted.{own_at}
+use Rattle.open_file.specs.Parts.{heap_pages, prime_pages, alternate_pages}
 use Rattle.file_header.specs.declared.header.Header.{Header}
 use Rattle.bplus_tree.specs.declared.tree.Tree.{Tree}
 use Rattle.bplus_tree.specs.Standing.{TreeStands}
@@ -73,12 +74,12 @@ pub record AreKeyStatistics (opened : OpenFile) (pages : PageMap) (file : File)
   pub prime : (key : KeyStatistics) → key ≡ slice_index_or keys 0 key
       → AreKeyCounts (prime_index_of opened).tree (prime_index_of opened).width pages
       (map prime_bytes (prime_entries (file_schema opened) stands.places file.rows))
-      (own_at stands.parts.owns 1) stands.parts.prime_stands.tree key
+      (prime_pages stands.parts.owns) stands.parts.prime_stands.tree key
   pub alternates : (j : ℕ) (index : AltIndex) (within : j < length (alternates_of opened))
       (is : index ≡ slice_index_or (alternates_of opened) j index) (key : KeyStatistics)
       → j < count → key ≡ slice_index_or keys (j + 1) key
       → AreKeyCounts index.tree index.width pages
-      (map alt_bytes (alt_entries (file_schema opened) (j + 1) file.rows)) (own_at stands.parts.owns (j + 2))
+      (map alt_bytes (alt_entries (file_schema opened) (j + 1) file.rows)) (alternate_pages stands.parts.owns j)
       (stands.parts.alternates_stand j index within is).tree key
 
 -- a file that stands in pages in use which are those of the list, fewer than can be counted
@@ -111,7 +112,7 @@ pub record AreStatistics (header : Header) (opened : OpenFile) (pages : PageMap)
     (stands : Stands opened pages file) (counts : FileStatistics) : Type 0 where
   pub pages_are : counts.pages ≡ header.pages
   pub free_are : counts.free ≡ header.free
-  pub heap_are : counts.heap ≡ length (own_at stands.parts.owns 0)
+  pub heap_are : counts.heap ≡ length (heap_pages stands.parts.owns)
   pub trees_are : counts.trees ≡ all_key_pages counts.keys.items
   pub whole : counts.pages ≡ 1 + counts.heap + counts.trees + counts.free
   pub slots_are : counts.slots ≡ counts.heap * room (slot_shape (heap_of opened))

@@ -16,7 +16,7 @@ use Rattle.record_heap.specs.Chain.{no_slots}
 use Rattle.record_heap.specs.Standing.{HeapStands, first_heap_page}
 use Rattle.record_heap.proofs.StandLemmas.{heap_kept, chain_live}
 use Rattle.open_file.specs.Stored.{stamps_length}
-use Rattle.open_file.specs.Parts.{Parts}
+use Rattle.open_file.specs.Parts.{Parts, heap_pages, prime_pages, alternate_pages}
 use Rattle.page_marks.specs.Parted.{own_at, Parted}
 use Rattle.open_file.specs.Stands.{Stands, heights_in}
 use Rattle.open_file.specs.Creating.{IsIndexOf, AreIndexesOf}
@@ -137,18 +137,18 @@ one_at (x ∷ xs) zero within = (x, refl)
 one_at (x ∷ xs) (suc j) within = one_at xs j (omega (arith, within))
 
 module _ (heap : Heap) (prime : PrimeIndex) (alternates : List AltIndex) (before : PageMap) (p : Parts heap prime alternates before no_slots [] (λ j. [])) where
-  alternate_used : (j : ℕ) → Each (λ n. IsSome (before n)) (own_at p.owns (j + 2))
+  alternate_used : (j : ℕ) → Each (λ n. IsSome (before n)) (alternate_pages p.owns j)
   alternate_used j =
-      either_way (nat_lt j (length alternates)) (Each (λ n. IsSome (before n)) (own_at p.owns (j + 2)))
+      either_way (nat_lt j (length alternates)) (Each (λ n. IsSome (before n)) (alternate_pages p.owns j))
       (λ yes. let within : j < length alternates = less j (length alternates) yes in
       let at = one_at alternates j within in
-      (alt_live at.0 before [] (own_at p.owns (j + 2)) (p.alternates_stand j at.0 within at.1)).live)
+      (alt_live at.0 before [] (alternate_pages p.owns j) (p.alternates_stand j at.0 within at.1)).live)
       (λ no. let past : length alternates ≤ j = not_less j (length alternates) no in
       rw (past_all p.owns (j + 2) [] (omega (arith, past, p.owners))) tt)
 
   all_used : (j : ℕ) → Each (λ n. IsSome (before n)) (own_at p.owns j)
-  all_used zero = chain_live before (first_heap_page heap) (own_at p.owns 0) p.heap_stands.chain
-  all_used (suc zero) = (prime_live prime before [] (own_at p.owns 1) p.prime_stands).live
+  all_used zero = chain_live before (first_heap_page heap) (heap_pages p.owns) p.heap_stands.chain
+  all_used (suc zero) = (prime_live prime before [] (prime_pages p.owns) p.prime_stands).live
   all_used (suc (suc j)) = let e : j + 2 ≡ suc (suc j) = omega arith in subst (λ m. Each (λ n. IsSome (before n)) (own_at p.owns m)) e (alternate_used j)
 
   -- an index more
@@ -161,10 +161,10 @@ module _ (heap : Heap) (prime : PrimeIndex) (alternates : List AltIndex) (before
       record {
         owns = all;
         owners = length-append p.owns (now ∷ []) ∙ omega (arith, many, length-append alternates (index ∷ []));
-        heap_stands = rw (before_last p.owns now [] 0 (omega (arith, many))) (heap_kept heap before after no_slots (own_at p.owns 0) (still 0) p.heap_stands);
-        prime_stands = rw (before_last p.owns now [] 1 (omega (arith, many))) (prime_kept prime before after [] (own_at p.owns 1) p.prime_stands (still 1));
+        heap_stands = rw (before_last p.owns now [] 0 (omega (arith, many))) (heap_kept heap before after no_slots (heap_pages p.owns) (still 0) p.heap_stands);
+        prime_stands = rw (before_last p.owns now [] 1 (omega (arith, many))) (prime_kept prime before after [] (prime_pages p.owns) p.prime_stands (still 1));
         alternates_stand = λ j other within is.
-            either_way (j == length alternates) (AltStands other after [] (own_at all (j + 2)))
+            either_way (j == length alternates) (AltStands other after [] (alternate_pages all j))
             (λ yes. let e = same_number j (length alternates) yes in
             let it : other ≡ index = is ∙ ap (λ m. slice_index_or (alternates ++ index ∷ []) m other) e ∙ last_here alternates index other in
             let place : j + 2 ≡ length p.owns = omega (arith, e, many) in
@@ -173,7 +173,7 @@ module _ (heap : Heap) (prime : PrimeIndex) (alternates : List AltIndex) (before
             let before_it : j < length alternates = omega (arith, within, early, length-append alternates (index ∷ [])) in
             let elsewhere : j + 2 ≢ length p.owns = omega (arith, early, many) in
             rw (before_last p.owns now [] (j + 2) elsewhere)
-            (alt_kept other before after [] (own_at p.owns (j + 2)) (p.alternates_stand j other before_it (is ∙ before_last alternates index other j early)) (still (j + 2))));
+            (alt_kept other before after [] (alternate_pages p.owns j) (p.alternates_stand j other before_it (is ∙ before_last alternates index other j early)) (still (j + 2))));
         parted = parted_more before after p.owns now all_used changed.changes p.parted;
       }
 

@@ -13,7 +13,7 @@ use Rattle.record_heap.specs.Chain.{Slots}
 use Rattle.open_file.specs.declared.open_file.OpenFile.{OpenFile}
 use Rattle.open_file.specs.InOrder.{in_order, alt_entry, alt_entries, prime_entries}
 use Rattle.open_file.specs.Stored.{AreAt, stored}
-use Rattle.page_marks.specs.Parted.{own_at}
+use Rattle.open_file.specs.Parts.{alternate_pages}
 use Rattle.open_file.specs.Stands.{Stands}
 use Rattle.open_file.proofs.OrderLemmas.{either}
 use Rattle.open_file.proofs.RepeatLemmas.{find_mapped}
@@ -81,9 +81,9 @@ alt_none schema k test rows none =
 -- the index of an alternate key stands
 pub alt_at : (opened : OpenFile) (pages : PageMap) (file : File) (stands : Stands opened pages file) (k : ℕ) (index : AltIndex) → 1 ≤ k
     → k ≤ length opened.alternates.items → index ≡ slice_index_or opened.alternates.items (k - 1) index
-    → AltStands index pages (alt_entries opened.schema k file.rows) (own_at stands.parts.owns (k - 1 + 2))
+    → AltStands index pages (alt_entries opened.schema k file.rows) (alternate_pages stands.parts.owns (k - 1))
 alt_at opened pages file stands k index some within is =
     let lt : k - 1 < length opened.alternates.items = omega arith in
     let e : k - 1 + 1 ≡ k = omega arith in
-    subst (λ (m : ℕ). AltStands index pages (alt_entries opened.schema m file.rows) (own_at stands.parts.owns (k - 1 + 2))) e
+    subst (λ (m : ℕ). AltStands index pages (alt_entries opened.schema m file.rows) (alternate_pages stands.parts.owns (k - 1))) e
     (stands.parts.alternates_stand (k - 1) index lt is)

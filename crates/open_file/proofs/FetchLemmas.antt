@@ -14,7 +14,7 @@ use Rattle.key_index.specs.Entries.{has_prime}
 use Rattle.open_file.specs.declared.open_file.OpenFile.{OpenFile}
 use Rattle.open_file.specs.InOrder.{prime_entries}
 use Rattle.open_file.specs.Stands.{Stands}
-use Rattle.page_marks.specs.Parted.{own_at}
+use Rattle.open_file.specs.Parts.{heap_pages}
 use Rattle.open_file.specs.Stored.{stamps_length}
 use Rattle.open_file.specs.Reading.{IsRowAt, ReadsRow}
 use Rattle.open_file.proofs.FirstLemmas.{from_some}
@@ -38,8 +38,8 @@ place_of_row u pages after stamps same file stands value entry found =
       is_row = row_is_first u.schema file value stands.sound ∙ leads.is_first;
       at = record {
         slots = stands.slots;
-        own = own_at stands.parts.owns 0;
-        stands = subst (λ p. HeapStands u.heap p stands.slots (own_at stands.parts.owns 0)) (sym same) stands.parts.heap_stands;
+        own = heap_pages stands.parts.owns;
+        stands = subst (λ p. HeapStands u.heap p stands.slots (heap_pages stands.parts.owns)) (sym same) stands.parts.heap_stands;
         here = leads.here;
         width = made.width ∙ sym stamps;
         short = made.short;

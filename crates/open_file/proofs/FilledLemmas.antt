@@ -21,7 +21,7 @@ use Rattle.key_index.specs.Stored.{prime_bytes, alt_bytes}
 use Rattle.record_heap.specs.declared.shape.Place.{Place}
 use Rattle.record_heap.specs.Chain.{Slots}
 use Rattle.open_file.specs.InOrder.{put_row, in_order, alt_entries, prime_entries}
-use Rattle.page_marks.specs.Parted.{own_at}
+use Rattle.open_file.specs.Parts.{prime_pages, alternate_pages}
 use Rattle.open_file.specs.Stored.{AreAt}
 use Rattle.open_file.specs.Stands.{Stands, heights_of}
 use Rattle.open_file.specs.Laws.{is_filled, counts_its_rows}
@@ -91,7 +91,7 @@ filled_at opened pages file stands zero lt =
     let many = length-map entries prime_bytes ∙ primes_many opened.schema stands.slots stands.places file.rows stands.placed.rows_at in (
       omega arith,
       λ high. subst (λ n. 2 * 4 ^ (tree_levels opened.prime.tree + 1 - 1) ≤ n) many
-          (tree_filled opened.prime.tree pages (map prime_bytes entries) (own_at stands.parts.owns 1) stands.parts.prime_stands.tree high),
+          (tree_filled opened.prime.tree pages (map prime_bytes entries) (prime_pages stands.parts.owns) stands.parts.prime_stands.tree high),
     )
 filled_at opened pages file stands (suc j) lt =
     let indexes = opened.alternates.items in
@@ -104,7 +104,7 @@ filled_at opened pages file stands (suc j) lt =
     rw height (
       omega arith,
       λ high. subst (λ n. 2 * 4 ^ (tree_levels index.0.tree + 1 - 1) ≤ n) many
-          (tree_filled index.0.tree pages (map alt_bytes entries) (own_at stands.parts.owns (j + 2)) stand.tree high),
+          (tree_filled index.0.tree pages (map alt_bytes entries) (alternate_pages stands.parts.owns j) stand.tree high),
     )
 
 pub filled : is_filled

@@ -30,8 +30,7 @@ use Rattle.record_heap.specs.Chain.{Slots}
 use Rattle.record_heap.specs.Standing.{HeapStands, slot_shape, first_heap_page, first_free_slot, heap_with}
 use Rattle.open_file.specs.InOrder.{put_row, in_order, alt_entries, prime_entries}
 use Rattle.open_file.specs.Stored.{AreAt, stamps_length}
-use Rattle.open_file.specs.Parts.{Parts}
-use Rattle.page_marks.specs.Parted.{own_at}
+use Rattle.open_file.specs.Parts.{Parts, heap_pages, prime_pages, alternate_pages}
 use Rattle.open_file.specs.Stands.{IsPlaced}
 use Rattle.open_file.specs.Headers.{is_read_back}
 use Rattle.open_file.proofs.OrderLemmas.{either}
@@ -151,8 +150,8 @@ read_back opened other header pages file stands shaped of made =
     let parts : Parts other.heap other.prime other.alternates.items pages stands.slots (prime_entries opened.schema stands.places file.rows) (λ j. alt_entries opened.schema (j + 1) file.rows) = record {
       owns = p.owns;
       owners = p.owners ∙ ap (λ n. n + 2) many;
-      heap_stands = heap_moved opened.heap other.heap pages stands.slots (own_at p.owns 0) slots (of.first_heap ∙ sym is.first_heap) (of.free_page ∙ sym is.free_page) (of.free_slot ∙ sym is.free_slot) p.heap_stands;
-      prime_stands = prime_moved opened.prime other.prime pages _ (own_at p.owns 1) prime_width prime_levels (of.prime.root ∙ sym is.prime.root) (of.records ∙ sym is.records) p.prime_stands;
+      heap_stands = heap_moved opened.heap other.heap pages stands.slots (heap_pages p.owns) slots (of.first_heap ∙ sym is.first_heap) (of.free_page ∙ sym is.free_page) (of.free_slot ∙ sym is.free_slot) p.heap_stands;
+      prime_stands = prime_moved opened.prime other.prime pages _ (prime_pages p.owns) prime_width prime_levels (of.prime.root ∙ sym is.prime.root) (of.records ∙ sym is.records) p.prime_stands;
       alternates_stand = λ j index within at.
           let inside : j < length opened.alternates.items = omega (arith, within, many) in
           let found = found_at opened.alternates.items j inside in
@@ -164,7 +163,7 @@ read_back opened other header pages file stands shaped of made =
           let tree = of.alternates j old inside old_at in
           let told = is.alternates j index within at in
           let count : tree_count old.tree ≡ tree_count index.tree = s.tree.count ∙ length-map _ _ ∙ alt_entries_many opened.schema (j + 1) file.rows ∙ sym counted ∙ sym (made.counts j index within at) in
-          alt_moved old index pages _ (own_at p.owns (j + 2))
+          alt_moved old index pages _ (alternate_pages p.owns j)
           (shaped.numbers j old inside old_at ∙ sym (made.shaped.numbers j index within at))
           (widths.0 ∙ ap (λ s. (key_at s (j + 1)).length) schema ∙ sym others.0)
           (widths.1 ∙ ap (λ s. (key_at s 0).length) schema ∙ sym others.1)

@@ -27,7 +27,7 @@ use Rattle.record_heap.specs.Standing.{HeapStands, slot_shape}
 use Rattle.open_file.specs.declared.open_file.OpenFile.{OpenFile}
 use Rattle.open_file.specs.InOrder.{in_order, alt_entry, alt_entries, prime_entries}
 use Rattle.open_file.specs.Stored.{stamps_length}
-use Rattle.page_marks.specs.Parted.{own_at}
+use Rattle.open_file.specs.Parts.{heap_pages}
 use Rattle.open_file.specs.Stands.{Stands}
 use Rattle.open_file.specs.Reading.{ReadsRow, IsRowAt, IsEntryOfRow}
 use Rattle.open_file.specs.Steps.{admits_prime, admits_alt}
@@ -150,8 +150,8 @@ prime_admitted opened after pages now file stands position entry rest stamps sam
     let made = is_made schema file.next_stamp leads.row (find_each (λ row. is_row schema file.next_stamp row ≡ true) (admits schema 0 position) file.rows leads.row each leads.is_first) in
     let at : IsRowAt schema opened.heap (slot_shape opened.heap).stamps now entry.place leads.row = record {
       slots = stands.slots;
-      own = own_at stands.parts.owns 0;
-      stands = subst (λ (p : PageMap). HeapStands opened.heap p stands.slots (own_at stands.parts.owns 0)) (sym same) stands.parts.heap_stands;
+      own = heap_pages stands.parts.owns;
+      stands = subst (λ (p : PageMap). HeapStands opened.heap p stands.slots (heap_pages stands.parts.owns)) (sym same) stands.parts.heap_stands;
       here = leads.here;
       width = made.width ∙ sym stamps;
       short = made.short;

@@ -16,7 +16,7 @@ use Rattle.record_heap.specs.Chain.{Slots}
 use Rattle.record_heap.specs.Found.{HeapHas}
 use Rattle.record_heap.proofs.StandLemmas.{heap_kept, chain_live}
 use Rattle.record_heap.specs.Standing.{first_heap_page}
-use Rattle.open_file.specs.Parts.{Parts, but_at}
+use Rattle.open_file.specs.Parts.{Parts, but_at, heap_pages, prime_pages, alternate_pages}
 use Rattle.page_marks.specs.Parted.{own_at, Parted}
 use Rattle.open_file.proofs.OrderLemmas.{either}
 
@@ -133,14 +133,14 @@ found_at (x ∷ xs) zero within = (x, refl)
 found_at (x ∷ xs) (suc j) within = found_at xs j (omega (arith, within))
 
 module _ (heap : Heap) (prime : PrimeIndex) (alternates : List AltIndex) (before : PageMap) (slots : Slots) (primes : List PrimeEntry) (entries : ℕ → List AltEntry) (p : Parts heap prime alternates before slots primes entries) where
-  used_alternate : (j : ℕ) → Each (λ n. IsSome (before n)) (own_at p.owns (j + 2))
+  used_alternate : (j : ℕ) → Each (λ n. IsSome (before n)) (alternate_pages p.owns j)
   used_alternate j =
-      either (nat_lt j (length alternates)) (Each (λ n. IsSome (before n)) (own_at p.owns (j + 2)))
+      either (nat_lt j (length alternates)) (Each (λ n. IsSome (before n)) (alternate_pages p.owns j))
       (λ yes. let within : j < length alternates = from_lt j (length alternates) yes in
       let index = found_at alternates j within in
-      (alt_live index.0 before (entries j) (own_at p.owns (j + 2)) (p.alternates_stand j index.0 within index.1)).live)
+      (alt_live index.0 before (entries j) (alternate_pages p.owns j) (p.alternates_stand j index.0 within index.1)).live)
       (λ no. let past : length alternates ≤ j = from_not_lt j (length alternates) no in
-      let none : own_at p.owns (j + 2) ≡ [] = beyond p.owns (j + 2) [] (omega (arith, past, p.owners)) in
+      let none : alternate_pages p.owns j ≡ [] = beyond p.owns (j + 2) [] (omega (arith, past, p.owners)) in
       rw none tt)
     where
       from_lt : (a b : ℕ) → nat_lt a b ≡ true → a < b
@@ -150,11 +150,11 @@ module _ (heap : Heap) (prime : PrimeIndex) (alternates : List AltIndex) (before
       from_not_lt a b h = grind (arith, common_steps)
 
   used : AreUsed before p.owns
-  used zero = chain_live before (first_heap_page heap) (own_at p.owns 0) p.heap_stands.chain
-  used (suc zero) = (prime_live prime before primes (own_at p.owns 1) p.prime_stands).live
+  used zero = chain_live before (first_heap_page heap) (heap_pages p.owns) p.heap_stands.chain
+  used (suc zero) = (prime_live prime before primes (prime_pages p.owns) p.prime_stands).live
   used (suc (suc j)) = let e : j + 2 ≡ suc (suc j) = omega arith in subst (λ m. Each (λ n. IsSome (before n)) (own_at p.owns m)) e (used_alternate j)
 
-  pub heap_changed : (after : PageMap) (new : Heap) (now : Slots) → HeapHas before after new (own_at p.owns 0) now → Parts new prime alternates after now primes entries
+  pub heap_changed : (after : PageMap) (new : Heap) (now : Slots) → HeapHas before after new (heap_pages p.owns) now → Parts new prime alternates after now primes entries
   heap_changed after new now set =
       let within : 0 < length p.owns = omega (arith, p.owners) in
       let rest = unchanged before after p.owns 0 set.own_now set.changes p.parted used in
@@ -162,25 +162,25 @@ module _ (heap : Heap) (prime : PrimeIndex) (alternates : List AltIndex) (before
         owns = slice_set p.owns 0 set.own_now;
         owners = set_length p.owns 0 set.own_now ∙ p.owners;
         heap_stands = rw (set_same p.owns 0 set.own_now [] within) set.stands;
-        prime_stands = rw (set_other p.owns 0 1 set.own_now [] (omega arith)) (prime_kept prime before after primes (own_at p.owns 1) p.prime_stands (rest 1 (omega arith)));
-        alternates_stand = λ j index lt is. rw (set_other p.owns 0 (j + 2) set.own_now [] (omega arith)) (alt_kept index before after (entries j) (own_at p.owns (j + 2)) (p.alternates_stand j index lt is) (rest (j + 2) (omega arith)));
+        prime_stands = rw (set_other p.owns 0 1 set.own_now [] (omega arith)) (prime_kept prime before after primes (prime_pages p.owns) p.prime_stands (rest 1 (omega arith)));
+        alternates_stand = λ j index lt is. rw (set_other p.owns 0 (j + 2) set.own_now [] (omega arith)) (alt_kept index before after (entries j) (alternate_pages p.owns j) (p.alternates_stand j index lt is) (rest (j + 2) (omega arith)));
         parted = parted_after before after p.owns 0 set.own_now within set.changes p.parted used;
       }
 
-  pub prime_changed : (after : PageMap) (new : PrimeIndex) (others : List PrimeEntry) → PrimeChanged before after new (own_at p.owns 1) others → Parts heap new alternates after slots others entries
+  pub prime_changed : (after : PageMap) (new : PrimeIndex) (others : List PrimeEntry) → PrimeChanged before after new (prime_pages p.owns) others → Parts heap new alternates after slots others entries
   prime_changed after new others set =
       let within : 1 < length p.owns = omega (arith, p.owners) in
       let rest = unchanged before after p.owns 1 set.own_now set.changes p.parted used in
       record {
         owns = slice_set p.owns 1 set.own_now;
         owners = set_length p.owns 1 set.own_now ∙ p.owners;
-        heap_stands = rw (set_other p.owns 1 0 set.own_now [] (omega arith)) (heap_kept heap before after slots (own_at p.owns 0) (rest 0 (omega arith)) p.heap_stands);
+        heap_stands = rw (set_other p.owns 1 0 set.own_now [] (omega arith)) (heap_kept heap before after slots (heap_pages p.owns) (rest 0 (omega arith)) p.heap_stands);
         prime_stands = rw (set_same p.owns 1 set.own_now [] within) set.stands;
-        alternates_stand = λ j index lt is. rw (set_other p.owns 1 (j + 2) set.own_now [] (omega arith)) (alt_kept index before after (entries j) (own_at p.owns (j + 2)) (p.alternates_stand j index lt is) (rest (j + 2) (omega arith)));
+        alternates_stand = λ j index lt is. rw (set_other p.owns 1 (j + 2) set.own_now [] (omega arith)) (alt_kept index before after (entries j) (alternate_pages p.owns j) (p.alternates_stand j index lt is) (rest (j + 2) (omega arith)));
         parted = parted_after before after p.owns 1 set.own_now within set.changes p.parted used;
       }
 
-  pub alternate_changed : (after : PageMap) (i : ℕ) (new : AltIndex) (others : List AltEntry) → i < length alternates → AltChanged before after new (own_at p.owns (i + 2)) others
+  pub alternate_changed : (after : PageMap) (i : ℕ) (new : AltIndex) (others : List AltEntry) → i < length alternates → AltChanged before after new (alternate_pages p.owns i) others
       → Parts heap prime (slice_set alternates i new) after slots primes (but_at i others entries)
   alternate_changed after i new others inside set =
       let within : i + 2 < length p.owns = omega (arith, p.owners, inside) in
@@ -189,8 +189,8 @@ module _ (heap : Heap) (prime : PrimeIndex) (alternates : List AltIndex) (before
       record {
         owns = slice_set p.owns (i + 2) set.own_now;
         owners = set_length p.owns (i + 2) set.own_now ∙ p.owners ∙ ap (λ n. n + 2) (sym many);
-        heap_stands = rw (set_other p.owns (i + 2) 0 set.own_now [] (omega arith)) (heap_kept heap before after slots (own_at p.owns 0) (rest 0 (omega arith)) p.heap_stands);
-        prime_stands = rw (set_other p.owns (i + 2) 1 set.own_now [] (omega arith)) (prime_kept prime before after primes (own_at p.owns 1) p.prime_stands (rest 1 (omega arith)));
+        heap_stands = rw (set_other p.owns (i + 2) 0 set.own_now [] (omega arith)) (heap_kept heap before after slots (heap_pages p.owns) (rest 0 (omega arith)) p.heap_stands);
+        prime_stands = rw (set_other p.owns (i + 2) 1 set.own_now [] (omega arith)) (prime_kept prime before after primes (prime_pages p.owns) p.prime_stands (rest 1 (omega arith)));
         alternates_stand = λ j index lt is.
             either (j == i) (AltStands index after (but_at i others entries j) (own_at (slice_set p.owns (i + 2) set.own_now) (j + 2)))
             (λ yes. let e = from_eq j i yes in
@@ -199,7 +199,7 @@ module _ (heap : Heap) (prime : PrimeIndex) (alternates : List AltIndex) (before
             (λ no. let other = from_ne j i no in
             let apart : j + 2 ≢ i + 2 = λ e. other (omega (arith, e)) in
             rw (no, set_other p.owns (i + 2) (j + 2) set.own_now [] apart)
-            (alt_kept index before after (entries j) (own_at p.owns (j + 2)) (p.alternates_stand j index (omega (arith, lt, many)) (is ∙ set_other alternates i j new index other)) (rest (j + 2) apart)));
+            (alt_kept index before after (entries j) (alternate_pages p.owns j) (p.alternates_stand j index (omega (arith, lt, many)) (is ∙ set_other alternates i j new index other)) (rest (j + 2) apart)));
         parted = parted_after before after p.owns (i + 2) set.own_now within set.changes p.parted used;
       }
 

@@ -16,7 +16,7 @@ use Rattle.open_file.specs.declared.path.Path.{Path}
 use Rattle.open_file.specs.declared.path.Path.TheVariants.{Prime, Alternate}
 use Rattle.open_file.specs.InOrder.{alt_entries, prime_entries}
 use Rattle.open_file.specs.Paths.{IsOnPath, IsInPrime, IsInAlternate}
-use Rattle.page_marks.specs.Parted.{own_at}
+use Rattle.open_file.specs.Parts.{alternate_pages}
 use Rattle.open_file.specs.Stands.{Stands}
 use Rattle.open_file.proofs.PartsLemmas.{same_default}
 
@@ -65,10 +65,10 @@ only_one indexes j index other within is again = is ∙ same_default indexes j i
 -- a cursor of the index of an alternate key is on its path
 pub on_alternate : (opened : OpenFile) (pages : PageMap) (file : File) (stands : Stands opened pages file) (j : ℕ) (index : AltIndex) (cursor : AltCursor)
     → index ≡ slice_index_or opened.alternates.items j index
-    → AltBelongs cursor index pages (alt_entries opened.schema (j + 1) file.rows) (own_at stands.parts.owns (j + 2))
+    → AltBelongs cursor index pages (alt_entries opened.schema (j + 1) file.rows) (alternate_pages stands.parts.owns j)
     → IsPathOf (Some (Alternate j cursor)) opened pages file stands
 on_alternate opened pages file stands j index cursor is belongs other within again =
-    subst (λ (i : AltIndex). AltBelongs cursor i pages (alt_entries opened.schema (j + 1) file.rows) (own_at stands.parts.owns (j + 2)))
+    subst (λ (i : AltIndex). AltBelongs cursor i pages (alt_entries opened.schema (j + 1) file.rows) (alternate_pages stands.parts.owns j))
     (only_one opened.alternates.items j index other within is again) belongs
 
 -- what is so of an answer where one thing follows from another

@@ -20,7 +20,7 @@ use Rattle.key_index.proofs.LawLemmas.{prime_reads_off}
 use Rattle.record_heap.proofs.StandLemmas.{slot_read}
 use Rattle.open_file.specs.InOrder.{prime_entries}
 use Rattle.open_file.specs.Stored.{stamp_bytes, stamps_length, stored, AreAt}
-use Rattle.page_marks.specs.Parted.{own_at}
+use Rattle.open_file.specs.Parts.{heap_pages, prime_pages}
 use Rattle.open_file.specs.Stands.{Stands}
 use Rattle.open_file.specs.ReadOff.{stamps_off, row_off, rows_off, file_off}
 use Rattle.open_file.specs.declared.open_file.OpenFile.{OpenFile}
@@ -76,8 +76,8 @@ pub reads_as : (u : OpenFile) (pages : PageMap) (file : File) → Stands u pages
 reads_as u pages file s =
     let last : file.next_stamp ≤ 2 ^ 63 = subst (λ n. n ≤ 2 ^ 63) s.stamp s.few in
     let sound = (and_parts _ _ s.sound).1 in
-    let entries = prime_reads_off u.prime pages (prime_entries u.schema s.places file.rows) (own_at s.parts.owns 1) s.parts.prime_stands in
+    let entries = prime_reads_off u.prime pages (prime_entries u.schema s.places file.rows) (prime_pages s.parts.owns) s.parts.prime_stands in
     let rows = ap (rows_off u.schema u.heap pages) entries
-    ∙ rows_back u.schema u.heap pages s.slots (own_at s.parts.owns 0) file.next_stamp s.places file.rows s.parts.heap_stands s.placed.rows_at (each_row u.schema file.next_stamp file.rows sound) last in
+    ∙ rows_back u.schema u.heap pages s.slots (heap_pages s.parts.owns) file.next_stamp s.places file.rows s.parts.heap_stands s.placed.rows_at (each_row u.schema file.next_stamp file.rows sound) last in
     let stamp = s.stamp in
     λ i. record { rows = rows i; next_stamp = stamp i }

@@ -11,17 +11,28 @@ use Rattle.record_heap.specs.Chain.{Slots}
 use Rattle.record_heap.specs.Standing.{HeapStands}
 use Rattle.page_marks.specs.Parted.{own_at, Parted}
 
--- the heap has these records, and the indexes these entries. Part 0 is the heap, part 1 the prime
--- index, part j + 2 alternate index j
+-- The pages of each part, where a list has them all: first those of the heap, then those of the prime
+-- index, then those of each alternate index.
+abbrev pub heap_pages : List (List ℕ) → List ℕ
+heap_pages owns = own_at owns 0
+
+abbrev pub prime_pages : List (List ℕ) → List ℕ
+prime_pages owns = own_at owns 1
+
+-- those of alternate index j
+abbrev pub alternate_pages : List (List ℕ) → ℕ → List ℕ
+alternate_pages owns j = own_at owns (j + 2)
+
+-- the heap has these records, and the indexes these entries
 pub record Parts (heap : Heap) (prime : PrimeIndex) (alternates : List AltIndex) (pages : PageMap)
     (slots : Slots) (primes : List PrimeEntry) (entries : ℕ → List AltEntry) : Type 0 where
   pub owns : List (List ℕ)
   pub owners : length owns ≡ length alternates + 2
-  pub heap_stands : HeapStands heap pages slots (own_at owns 0)
-  pub prime_stands : PrimeStands prime pages primes (own_at owns 1)
+  pub heap_stands : HeapStands heap pages slots (heap_pages owns)
+  pub prime_stands : PrimeStands prime pages primes (prime_pages owns)
   pub alternates_stand : (j : ℕ) (index : AltIndex) → j < length alternates
       → index ≡ slice_index_or alternates j index
-      → AltStands index pages (entries j) (own_at owns (j + 2))
+      → AltStands index pages (entries j) (alternate_pages owns j)
   pub parted : Parted pages owns
 
 -- these entries, but others at j

@@ -10,7 +10,7 @@ use Rattle.key_index.specs.declared.alt_index.AltIndex.{AltIndex}
 use Rattle.key_index.specs.declared.cursor.PrimeCursor.{PrimeCursor}
 use Rattle.key_index.specs.declared.cursor.AltCursor.{AltCursor}
 use Rattle.key_index.specs.Cursors.{PrimeBelongs, AltBelongs}
-use Rattle.page_marks.specs.Parted.{own_at}
+use Rattle.open_file.specs.Parts.{prime_pages, alternate_pages}
 use Rattle.bplus_tree.specs.Fields.{cursor_key}
 use Rattle.open_file.specs.declared.open_file.OpenFile.{OpenFile}
 use Rattle.open_file.specs.declared.path.Path.{Path}
@@ -21,10 +21,10 @@ abbrev pub IsOnPath : Option Path → PrimeIndex → List AltIndex → PageMap �
     → (ℕ → List AltEntry) → List (List ℕ) → Type 0
 IsOnPath None prime alternates pages primes entries owns = ⊤
 IsOnPath (Some (Prime cursor)) prime alternates pages primes entries owns =
-    PrimeBelongs cursor prime pages primes (own_at owns 1)
+    PrimeBelongs cursor prime pages primes (prime_pages owns)
 IsOnPath (Some (Alternate j cursor)) prime alternates pages primes entries owns =
     (index : AltIndex) → j < length alternates → index ≡ slice_index_or alternates j index
-    → AltBelongs cursor index pages (entries j) (own_at owns (j + 2))
+    → AltBelongs cursor index pages (entries j) (alternate_pages owns j)
 
 -- what is so of any entries and pages that the kept cursor is on
 abbrev pub WhereOnPath : OpenFile → (PageMap → List PrimeEntry → (ℕ → List AltEntry) → List (List ℕ)
@@ -50,14 +50,14 @@ IsInAlternate (Some (Alternate j cursor)) place fact = (j ≡ place) × fact cur
 pub record IsBehindPrime (opened : OpenFile) (value : List ℕ) (cursor : PrimeCursor) : Type 0 where
   pub after : cursor_key cursor.cursor ≡ value
   pub belongs : WhereOnPath opened (λ pages primes entries owns.
-      PrimeBelongs cursor opened.prime pages primes (own_at owns 1))
+      PrimeBelongs cursor opened.prime pages primes (prime_pages owns))
 
 -- the same of the index of alternate key k, behind a value and stamp
 pub record IsBehindAlternate (opened : OpenFile) (k : ℕ) (index : AltIndex) (value : List ℕ) (stamp : ℕ)
     (cursor : AltCursor) : Type 0 where
   pub after : cursor_key cursor.cursor ≡ value ++ big_bytes 8 stamp
   pub belongs : WhereOnPath opened (λ pages primes entries owns.
-      AltBelongs cursor index pages (entries (k - 1)) (own_at owns (k - 1 + 2)))
+      AltBelongs cursor index pages (entries (k - 1)) (alternate_pages owns (k - 1)))
 
 -- the path is in the prime index, behind a value
 pub record LeadsInPrime (old new : OpenFile) (value : List ℕ) : Type 0 where

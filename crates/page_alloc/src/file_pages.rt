@@ -18,8 +18,7 @@ impl<'a, S: Shelf> Pages for FilePages<'a, S> {
     ghost use Rattle.std.proofs.Common.{◌∙◌};
     ghost use Rattle.page_alloc.specs.Joining.{FaultsRose as Failed};
     ghost use Rattle.page_alloc.specs.PagedFile.{IsOpenOver, is_begun};
-    ghost use Rattle.page_alloc.specs.Steps.{pages_state_of, ReadsFilePages, KeepsGate as GoesOn};
-    ghost use Rattle.page_alloc.specs.Steps.{MayOpenGate as MovesOn};
+    ghost use Rattle.page_alloc.specs.Steps.{pages_state_of, ReadsFilePages, KeepsGate, MayOpenGate};
     ghost use Rattle.page_alloc.specs.StepLaws.{goes_nothing, goes_on, goes_moves, reads_nothing, reads_on};
     ghost use Rattle.page_alloc.specs.StepLaws.{moves_on, failed_before, failed_after};
 
@@ -31,10 +30,10 @@ impl<'a, S: Shelf> Pages for FilePages<'a, S> {
           × ReadsFilePages a.file.now b.file.now (S.Shelf.state a.shelf.now) (S.Shelf.state b.shelf.now)
           (S.Shelf.fault_count a.shelf.now) (S.Shelf.fault_count b.shelf.now);
       Writes = λ a b. (b.file.ghost_name ≡ a.file.ghost_name) × (b.shelf.ghost_name ≡ a.shelf.ghost_name)
-          × GoesOn a.file.now b.file.now (S.Shelf.state a.shelf.now) (S.Shelf.state b.shelf.now)
+          × KeepsGate a.file.now b.file.now (S.Shelf.state a.shelf.now) (S.Shelf.state b.shelf.now)
           (S.Shelf.fault_count a.shelf.now) (S.Shelf.fault_count b.shelf.now);
       Begins = λ a b. (b.file.ghost_name ≡ a.file.ghost_name) × (b.shelf.ghost_name ≡ a.shelf.ghost_name)
-          × MovesOn a.file.now b.file.now (S.Shelf.state a.shelf.now) (S.Shelf.state b.shelf.now)
+          × MayOpenGate a.file.now b.file.now (S.Shelf.state a.shelf.now) (S.Shelf.state b.shelf.now)
           (S.Shelf.fault_count a.shelf.now) (S.Shelf.fault_count b.shelf.now);
       HasFailed = λ a b. Failed (S.Shelf.fault_count a.shelf.now) (S.Shelf.fault_count b.shelf.now);
     } };

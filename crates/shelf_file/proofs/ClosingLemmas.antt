@@ -16,7 +16,7 @@ use Rattle.record_heap.specs.Standing.{IsPageChain, first_heap_page, first_free_
 use Rattle.record_heap.proofs.StandLemmas.{chain_live}
 use Rattle.page_alloc.specs.Chain.{chain, used}
 use Rattle.page_alloc.proofs.ChainLemmas.{can_give, front_page_at}
-use Rattle.page_marks.specs.Parted.{own_at}
+use Rattle.open_file.specs.Parts.{heap_pages}
 use Rattle.open_file.specs.Fields.{alternates_of, heap_of, prime_index_of}
 use Rattle.open_file.specs.Stands.{Stands, IsShaped}
 use Rattle.open_file.specs.Headers.{tree_at, HasTree, IsHeaderOf, Counts}
@@ -98,7 +98,7 @@ module _ (opened : OpenFile) (bytes : Bytes) (count first free : ℕ) (file : Fi
   free_slot_below : (first_free_slot (heap_of opened)).page < count
   free_slot_below =
       let keeps = stands.parts.heap_stands.keeps in
-      let own = own_at stands.parts.owns 0 in
+      let own = heap_pages stands.parts.owns in
       let there = chain_live _ (first_heap_page (heap_of opened)) own stands.parts.heap_stands.chain in
       first_of_slots _ (first_free_slot (heap_of opened)) keeps.free _ own _ count keeps.chain keeps.free_are
       (each_map (λ n. IsSome (used bytes count (chain bytes count first free) n)) (λ n. n < count) (λ n here. (live n here).1) own there) some
@@ -116,7 +116,7 @@ module _ (opened : OpenFile) (bytes : Bytes) (count first free : ℕ) (file : Fi
         first_free = let l = first_free_below bytes count first free some sound in omega arith;
         free = omega (arith, p.2);
         first_heap =
-            let l = first_of_chain count (first_heap_page (heap_of opened)) _ (own_at stands.parts.owns 0) stands.parts.heap_stands.chain some (λ n there. (live n there).1) in
+            let l = first_of_chain count (first_heap_page (heap_of opened)) _ (heap_pages stands.parts.owns) stands.parts.heap_stands.chain some (λ n there. (live n there).1) in
             let e = of.first_heap in omega arith;
         free_slot = let l = free_slot_below in let e = of.free_page in omega arith;
         stamped = let one = leb-true 1 file.next_stamp (and_parts _ _ stands.sound).0 in let e = stands.stamp in let h = of.next_stamp in omega arith;

@@ -18,7 +18,7 @@ use Rattle.key_index.specs.declared.alt_index.AltIndex.{AltIndex}
 use Rattle.key_index.proofs.LawLemmas.{prime_live, alt_live}
 use Rattle.record_heap.specs.declared.heap.Heap.{Heap}
 use Rattle.record_heap.specs.Chain.{Slots}
-use Rattle.open_file.specs.Parts.{Parts}
+use Rattle.open_file.specs.Parts.{Parts, prime_pages, alternate_pages}
 use Rattle.page_marks.specs.Parted.{own_at}
 use Rattle.open_file.proofs.PartsLemmas.{found_at}
 use Rattle.page_alloc.specs.Chain.{is_among}
@@ -104,13 +104,13 @@ root_of tree pages entries own stands live =
 
 module _ (heap : Heap) (prime : PrimeIndex) (alternates : List AltIndex) (pages : PageMap) (slots : Slots) (primes : List PrimeEntry) (entries : ℕ → List AltEntry)
     (p : Parts heap prime alternates pages slots primes entries) where
-  pub prime_root : IsRootOf pages (own_at p.owns 1) (tree_root prime.tree)
-  prime_root = root_of prime.tree pages _ (own_at p.owns 1) p.prime_stands.tree (prime_live prime pages primes (own_at p.owns 1) p.prime_stands).live
+  pub prime_root : IsRootOf pages (prime_pages p.owns) (tree_root prime.tree)
+  prime_root = root_of prime.tree pages _ (prime_pages p.owns) p.prime_stands.tree (prime_live prime pages primes (prime_pages p.owns) p.prime_stands).live
 
-  pub alternate_root : (j : ℕ) (index : AltIndex) → j < length alternates → index ≡ slice_index_or alternates j index → IsRootOf pages (own_at p.owns (j + 2)) (tree_root index.tree)
+  pub alternate_root : (j : ℕ) (index : AltIndex) → j < length alternates → index ≡ slice_index_or alternates j index → IsRootOf pages (alternate_pages p.owns j) (tree_root index.tree)
   alternate_root j index within at =
       let stands = p.alternates_stand j index within at in
-      root_of index.tree pages _ (own_at p.owns (j + 2)) stands.tree (alt_live index pages (entries j) (own_at p.owns (j + 2)) stands).live
+      root_of index.tree pages _ (alternate_pages p.owns j) stands.tree (alt_live index pages (entries j) (alternate_pages p.owns j) stands).live
 
   -- the root of each tree
   root_at : (i : ℕ) → i < length alternates + 1 → (root : ℕ) × IsRootOf pages (own_at p.owns (i + 1)) root

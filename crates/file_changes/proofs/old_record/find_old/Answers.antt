@@ -1,6 +1,6 @@
 use Rattle.std.proofs.Common.{refl, sym, subst, arith}
 use Rattle.record_heap.specs.Standing.{HeapStands}
-use Rattle.page_marks.specs.Parted.{own_at}
+use Rattle.open_file.specs.Parts.{heap_pages}
 use Rattle.open_file.specs.Fields.{heap_of, file_schema}
 use Rattle.open_file.specs.Stored.{stored}
 use Rattle.open_file.proofs.ExitLemmas.{fails}
@@ -34,7 +34,7 @@ returns-in_err-end-clause-found g c honest file stands =
     let before = g.met.P.Pages.writes_honestly c.find_prime.new.pages c.read_stored.new.pages (g.met.P.Pages.reads_writes c.find_prime.new.pages c.read_stored.new.pages c.read_stored.ensures.reads.step) honest in
     let found = (rw c.in-Some.is at c.in_ok-entry.ensures.found before _ _ stands.parts.prime_stands).answer in
     let leads = leads_to u start file stands c.args.prime.now c.in-Some.entry (sym found) in
-    let heap = subst (λ p. HeapStands (heap_of u) p stands.slots (own_at stands.parts.owns 0)) (sym (g.met.P.Pages.reads_live c.args.pages.now c.find_prime.new.pages c.find_prime.ensures.reads.step before)) stands.parts.heap_stands in
+    let heap = subst (λ p. HeapStands (heap_of u) p stands.slots (heap_pages stands.parts.owns)) (sym (g.met.P.Pages.reads_live c.args.pages.now c.find_prime.new.pages c.find_prime.ensures.reads.step before)) stands.parts.heap_stands in
     fails c.from_residual-in_err-end.result _ c.from_residual-in_err-end.ensures.1 (c.in_err-end.ensures.got honest stands.slots _ (stored (file_schema u) leads.row) heap leads.here).no_damage _
 
 pub returns-clause-found : goal.returns-clause-found
@@ -44,7 +44,7 @@ returns-clause-found g c honest file stands =
     let before = g.met.P.Pages.writes_honestly c.find_prime.new.pages c.read_stored.new.pages (g.met.P.Pages.reads_writes c.find_prime.new.pages c.read_stored.new.pages c.read_stored.ensures.reads.step) honest in
     let found = (rw c.in-Some.is at c.in_ok-entry.ensures.found before _ _ stands.parts.prime_stands).answer in
     let leads = leads_to u start file stands c.args.prime.now c.in-Some.entry (sym found) in
-    let heap = subst (λ p. HeapStands (heap_of u) p stands.slots (own_at stands.parts.owns 0)) (sym (g.met.P.Pages.reads_live c.args.pages.now c.find_prime.new.pages c.find_prime.ensures.reads.step before)) stands.parts.heap_stands in
+    let heap = subst (λ p. HeapStands (heap_of u) p stands.slots (heap_pages stands.parts.owns)) (sym (g.met.P.Pages.reads_live c.args.pages.now c.find_prime.new.pages c.find_prime.ensures.reads.step before)) stands.parts.heap_stands in
     let got = (c.in_ok-end.ensures.got honest stands.slots _ (stored (file_schema u) leads.row) heap leads.here).answer in
     record {
       answer = old_is u start file stands c.args.prime.now c.in-Some.entry (sym found) c.read_stored.new.to c.args.slot.now
