@@ -58,10 +58,14 @@ IsFoundIn {opened} {pages} {file} stands prime old bytes =
     IsOldAt (file_schema opened) stands.slots (prime_entries (file_schema opened) stands.places file.rows)
     file prime old.place (row_with bytes old.stamps.items)
 
+-- how many bytes stamps and a record are at most
+abbrev pub most_stored : OpenFile → ℕ
+most_stored file = (slot_shape (heap_of file)).stamps + (slot_shape (heap_of file)).greatest
+
 -- it is as long as a record, and has a stamp for each alternate key
 pub record HasRecordLength (file : OpenFile) (old : OldRecord) : Type 0 where
   pub least : (slot_shape (heap_of file)).stamps + (slot_shape (heap_of file)).least ≤ old.end
-  pub greatest : old.end ≤ (slot_shape (heap_of file)).stamps + (slot_shape (heap_of file)).greatest
+  pub greatest : old.end ≤ most_stored file
   pub many : length old.stamps.items ≡ length (alternates_of file)
 
 -- the answer is the record of a prime value in the slot, where there is one

@@ -285,6 +285,11 @@ pub record CanPutEntry {S : Type 0} (shown : ShownPages S) (file : OpenFile) (pa
   pub old : (file_schema file).least ≤ length was
   pub index : j < length (alternates_of file)
 
+-- two records differ in the value of key k
+abbrev pub differs_in : OpenFile → ℕ → (old new : List ℕ) → Bool
+differs_in file k old new =
+    not (bytes_eq (value_of (file_schema file) k old) (value_of (file_schema file) k new))
+
 -- both records have a value of key k
 pub record HaveKey (file : OpenFile) (k : ℕ) (was bytes : List ℕ) : Type 0 where
   pub key : k < length (file_schema file).keys

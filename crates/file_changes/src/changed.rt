@@ -1,11 +1,10 @@
 //! What a record that is to take the place of another changes, and what that needs.
 
-ghost use Rattle.std.specs.Prelude.{◌≡◌, ◌<◌, not, bytes_eq, length};
-ghost use Rattle.record_layout.specs.Schema.{value_of};
+ghost use Rattle.std.specs.Prelude.{◌≡◌, ◌<◌, length};
 ghost use Rattle.indexed_file.specs.Change.{takes_stamp};
 ghost use Rattle.open_file.specs.Fields.{alternates_of, next_stamp_of, file_schema};
 ghost use Rattle.file_changes.specs.Replacing.{HaveKey, HaveStamps, AreStampsAfter, need_to_put, is_full_for};
-ghost use Rattle.file_changes.specs.Replacing.{stamp_after};
+ghost use Rattle.file_changes.specs.Replacing.{stamp_after, differs_in};
 ghost use Rattle.file_changes.specs.Steps.{HaveEachKey};
 
 use crate::stamps::push_stamp;
@@ -15,8 +14,7 @@ use open_file::OpenFile;
 /// Whether two records differ in the value of a key.
 pub(crate) fn differs(opened: &OpenFile, k: usize, old: &[u8], new: &[u8]) -> bool
     requires { HaveKey opened.now k old.now new.now }
-    ensures { result ≡ not (bytes_eq (value_of (file_schema opened.now) k old.now)
-        (value_of (file_schema opened.now) k new.now)) }
+    ensures { result ≡ differs_in opened.now k old.now new.now }
 {
     opened.value(old, k as u8) != opened.value(new, k as u8)
 }

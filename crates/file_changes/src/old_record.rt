@@ -2,14 +2,13 @@
 
 ghost use Rattle.std.specs.Prelude.{◌≡◌, ◌+◌, ◌≤◌, length, drop, slice_range, IfOk, IfSome};
 ghost use Rattle.pages.specs.PageCalls.{ReadsPages};
-ghost use Rattle.record_heap.specs.Standing.{slot_shape};
 ghost use Rattle.key_index.specs.Standing.{prime_height};
 ghost use Rattle.open_file.specs.Stored.{stamps_length};
 ghost use Rattle.open_file.specs.ReadOff.{stamps_off};
 ghost use Rattle.open_file.specs.Stands.{IsShaped};
-ghost use Rattle.open_file.specs.Fields.{alternates_of, heap_of, prime_index_of, file_schema};
+ghost use Rattle.open_file.specs.Fields.{alternates_of, prime_index_of, file_schema};
 ghost use Rattle.file_changes.specs.InPages.{in_pages, IsReadyIn};
-ghost use Rattle.file_changes.specs.Old.{AnswersFinding, HasRecordLength, HasStampsIn};
+ghost use Rattle.file_changes.specs.Old.{AnswersFinding, HasRecordLength, HasStampsIn, most_stored};
 
 use arrayvec::ArrayVec;
 use byteorder::{BigEndian, ByteOrder};
@@ -56,8 +55,7 @@ pub(crate) fn find_old<P: Pages>(
 pub(crate) fn record_in<'a>(opened: &OpenFile, old: &OldRecord, slot: &'a [u8]) -> &'a [u8]
     requires shaped { IsShaped opened.now }
     requires within { HasRecordLength opened.now old.now }
-    requires room { (slot_shape (heap_of opened.now)).stamps + (slot_shape (heap_of opened.now)).greatest
-        ≤ length slot.now }
+    requires room { most_stored opened.now ≤ length slot.now }
     ensures bytes { result.now ≡ slice_range slot.now
         (stamps_length (drop 1 (file_schema opened.now).keys)) old.now.end }
     ensures least { (file_schema opened.now).least ≤ length result.now }

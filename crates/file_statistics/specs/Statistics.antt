@@ -79,7 +79,8 @@ pub record AreKeyStatistics (opened : OpenFile) (pages : PageMap) (file : File)
       (is : index ≡ slice_index_or (alternates_of opened) j index) (key : KeyStatistics)
       → j < count → key ≡ slice_index_or keys (j + 1) key
       → AreKeyCounts index.tree index.width pages
-      (map alt_bytes (alt_entries (file_schema opened) (j + 1) file.rows)) (alternate_pages stands.parts.owns j)
+      (map alt_bytes (alt_entries (file_schema opened) (j + 1) file.rows))
+      (alternate_pages stands.parts.owns j)
       (stands.parts.alternates_stand j index within is).tree key
 
 -- a file that stands in pages in use which are those of the list, fewer than can be counted

@@ -1,7 +1,7 @@
 //! Scans of all rows.
 ghost use Rattle.std.specs.Prelude.{◌≡◌, ◌<◌, true, false, Some, Option, length, IfSome};
 ghost use Rattle.indexed_file.specs.Rank.{lower_of};
-ghost use Rattle.list_library.specs.Scans.{row_of_place, IsGreater, IsNotGreater, IsLowestPlace};
+ghost use Rattle.list_library.specs.Scans.{row_of_place, IsNotLower, IsGreater, IsNotGreater, IsLowestPlace};
 ghost use Rattle.list_library.specs.Scans.{IsHighestPlace};
 
 use crate::list_row::ListRow;
@@ -12,8 +12,7 @@ use record_layout::Schema;
 fn is_lower(schema: &Schema, k: u8, row: &ListRow, rows: &[ListRow], best: Option<usize>) -> bool
     requires { IfSome best (λ i. i < length rows.now) }
     ensures yes { result ≡ true → lower_of schema.now k row.now (row_of_place rows.now best) ≡ row.now }
-    ensures no { result ≡ false → Some (lower_of schema.now k row.now (row_of_place rows.now best))
-        ≡ row_of_place rows.now best }
+    ensures no { result ≡ false → IsNotLower schema.now k row.now rows.now best }
 {
     match best {
         None => true,

@@ -3,7 +3,7 @@ use Rattle.std.proofs.Common.{◌≡◌, ◌≢◌, inl, inr, ℕ, ◌+◌, ◌<
 use Rattle.std.proofs.lemmas.Bool.{and_from, lt-ltb, both_ways}
 use Rattle.io_state.specs.declared.fault.Fault.{Fault}
 use Rattle.io_state.specs.declared.fault.Fault.TheVariants.{Device, Memory, Full, Damage, Broken}
-use Rattle.page_store.specs.ShelfState.{ShelfState, FaultHasCause}
+use Rattle.page_store.specs.ShelfState.{ShelfState, FaultHasCause, unit_file}
 use Rattle.page_cache.specs.declared.cache.Cache.{Cache}
 use Rattle.page_cache.specs.Cached.{store_of, pages_asked, bytes_held, is_counted_page, cached_pages_of, IsOver}
 use Rattle.page_cache.specs.Calls.{KeepsStore, OnlyLooks, KeepsPages}
@@ -20,7 +20,6 @@ use Rattle.page_alloc.specs.Joining.{free_pages, pages_state, IsJoined, PartsGo,
 use Rattle.page_alloc.specs.Taking.{Taken, GivenBack, CallFails}
 use Rattle.pages.specs.Cause.{IsCaused}
 use Rattle.page_store.proofs.OpenLemmas.{open_kept}
-use Rattle.page_store.specs.ShelfState.{unit_file}
 use Rattle.page_store.specs.Gate.{AllOpen}
 use Rattle.page_alloc.specs.declared.paged_file.PagedFile.{PagedFile}
 use Rattle.page_alloc.specs.PagedFile.{unit_of_pages, times_asked, IsOpenOver}

@@ -35,7 +35,8 @@ parts_then c d e x y z i j k cd de = record {
   cap = de.cap ∙ cd.cap;
   pages = let p = cd.pages in let q = de.pages in omega arith;
   asked = let p = cd.asked in let q = de.asked in omega arith;
-  quietly = goes_then (store_of c).unit x y z cd.quietly (subst (λ unit. GoesQuietly unit y z) cd.unit de.quietly);
+  quietly = goes_then (store_of c).unit x y z cd.quietly
+      (subst (λ unit. GoesQuietly unit y z) cd.unit de.quietly);
   faults = let p = cd.faults in let q = de.faults in omega arith;
 }
 

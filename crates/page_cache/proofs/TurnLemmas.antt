@@ -4,11 +4,10 @@ use Rattle.std.specs.List.{IsDistinct, AllByRecursion}
 use Rattle.std.specs.Map.{keys_of, lookup, lookup_entry, remove_entry, set_value}
 use Rattle.std.specs.Option.{option_map_or}
 use Rattle.std.proofs.lemmas.Bool.{eq-eqb, eqb-false, ne_eqb, cases_eq, both_ways}
-use Rattle.lru.specs.LruCache.{promoted}
+use Rattle.lru.specs.LruCache.{promoted, lru_cache}
 use Rattle.lru.proofs.CallerLemmas.{Contains-lookup_entry}
 use Rattle.page_cache.specs.declared.frame.Frame.{Frame}
 use Rattle.std.proofs.lemmas.List.{length-take}
-use Rattle.lru.specs.LruCache.{lru_cache}
 use Rattle.page_store.specs.DeviceFile.{content}
 use Rattle.page_store.specs.Pages.{page_of_bytes, HoldsPages}
 use Rattle.page_store.specs.ShelfState.{ShelfState, HasUnit, unit_file}

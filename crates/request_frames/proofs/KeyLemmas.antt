@@ -1,5 +1,5 @@
 -- The keys of rows, one after another.
-use Rattle.std.proofs.Common.{◌≡◌, ℕ, suc, ◌+◌, ◌-◌, ◌<◌, List, [], ◌∷◌, ◌++◌, Option, None, Some, option_map, drop, refl, sym, ap, ◌∙◌, append_assoc, append-nil, arith}
+use Rattle.std.proofs.Common.{◌≡◌, ℕ, suc, ◌+◌, ◌-◌, ◌<◌, List, [], ◌∷◌, ◌++◌, Option, None, Some, option_map, drop, refl, sym, ap, ◌∙◌, append_assoc, arith}
 use Rattle.record_layout.specs.declared.schema.KeyPart.{KeyPart}
 use Rattle.request_frames.specs.Reading.{key_in, key_and, keys_in}
 

@@ -1,5 +1,5 @@
 -- What is written of a request is read as it was.
-use Rattle.std.proofs.Common.{◌≡◌, ◌≢◌, ◌⊎◌, inl, inr, ℕ, suc, ◌+◌, ◌*◌, ◌^◌, ◌<◌, ◌≤◌, ◌==◌, Bool, true, false, not, ◌&&◌, ◌||◌, nat_lt, if◌then◌else◌, List, [], ◌∷◌, ◌++◌, length, drop, flat_map, All, Option, None, Some, option_map, IsTrue, refl, sym, ap, ◌∙◌, append_assoc, arith}
+use Rattle.std.proofs.Common.{◌≡◌, ◌≢◌, ◌⊎◌, inl, inr, ℕ, suc, ◌+◌, ◌*◌, ◌^◌, ◌<◌, ◌≤◌, ◌==◌, Bool, true, false, not, ◌&&◌, ◌||◌, nat_lt, if◌then◌else◌, List, [], ◌∷◌, ◌++◌, length, drop, flat_map, All, Option, None, Some, option_map, IsTrue, refl, sym, ap, ◌∙◌, arith}
 use Rattle.std.proofs.lemmas.List.{append-nil, drop-drop}
 use Rattle.std.proofs.lemmas.Bool.{le-ltb}
 use Rattle.std.proofs.lemmas.Bool.Decides.{Decides-eqb}
@@ -19,8 +19,8 @@ use Rattle.record_layout.specs.declared.schema.KeyKind.TheVariants.{Prime, Uniqu
 use Rattle.record_layout.specs.declared.schema.KeyPart.{KeyPart}
 use Rattle.record_layout.specs.Schema.{is_duplicates, has_duplicates}
 use Rattle.request_frames.specs.Request.{Described, Performed, Asked, Describing, Performing, Releasing}
-use Rattle.request_frames.specs.Reading.{short_number_in, flag_in, access_in, mode_in, relation_in, statement_in, has_length, performed_by, performed_in, kind_by_flag, key_in, key_and, keys_in, described_from, is_short, described_in, request_in}
-use Rattle.request_frames.specs.Writing.{flag_byte, access_byte, mode_byte, relation_byte, statement_bytes, performed_body, key_row, described_body, request_body, FitsStatement, FitsPerformed, FitsKey, AreFlagged, FitsDescribed, FitsRequest}
+use Rattle.request_frames.specs.Reading.{short_number_in, flag_in, access_in, statement_in, has_length, performed_by, performed_in, kind_by_flag, key_in, key_and, keys_in, described_from, is_short, described_in, request_in}
+use Rattle.request_frames.specs.Writing.{flag_byte, access_byte, mode_byte, relation_byte, performed_body, key_row, described_body, request_body, FitsStatement, FitsKey, AreFlagged, FitsDescribed, FitsRequest}
 
 number_back : (x : ℕ) → x < 2 ^ 16 → big_number 2 (big_bytes 2 x) ≡ x
 number_back x h = ap (big_number 2) (sym (append-nil (big_bytes 2 x))) ∙ big_number-reads_back 2 x [] (omega (arith, h))

@@ -1,5 +1,6 @@
 -- The body of a request's frame. All of this is ours.
-use Rattle.std.specs.Prelude.{◌≡◌, ◌≢◌, ℕ, ◌^◌, ◌<◌, ◌≤◌, Bool, true, false, List, [], ◌∷◌, ◌++◌, length, flat_map}
+use Rattle.std.specs.Prelude.{◌≡◌, ◌≢◌, ℕ, ◌^◌, ◌<◌, ◌≤◌, Bool, true, false, List, [], ◌∷◌, ◌++◌}
+use Rattle.std.specs.Prelude.{length, flat_map}
 use Rattle.std.specs.Prelude.{All, IsTrue, Some, ◌⊎◌}
 use Rattle.byteorder.specs.Endian.{big_bytes}
 use Rattle.io_state.specs.declared.modes.Access.{Access}

@@ -2,6 +2,7 @@
 use Rattle.std.specs.Prelude.{◌≡◌, ◌⊎◌, ℕ, ◌≤◌, ◌<◌, List, [], ◌∷◌, length, map, IsTrue, ⊤}
 use Rattle.std.specs.Ordering.{is_lt}
 use Rattle.page_bytes.specs.Each.{Each}
+use Rattle.tree_node.specs.Order.{Ascends}
 use Rattle.record_layout.specs.Schema.{Schema, key_at}
 use Rattle.indexed_file.specs.File.{Row}
 use Rattle.indexed_file.specs.Rank.{row_cmp}
@@ -30,6 +31,11 @@ pub record IsEntryFor (opened : OpenFile) (alternate : AltIndex) (entry : List �
   pub index : IsIndexFor opened alternate
   pub long : length entry ≡ (tree_shape alternate.tree).entry
 
+-- the entries at these places come in the order of the index
+abbrev pub EntriesAscend : AltIndex → List (List ℕ) → List Spot → Type 0
+EntriesAscend index list spots =
+    Ascends (tree_shape index.tree).width (entries_at (tree_shape index.tree) list spots)
+
 -- no two rows have one rank by key k
 abbrev pub RanksDiffer : Schema → ℕ → List Row → Type 0
 RanksDiffer schema k [] = ⊤
@@ -40,7 +46,8 @@ RanksDiffer schema k (row ∷ rows) = Each (λ other. IsTrue (is_lt (row_cmp sch
 -- ranks, no two of which are one
 pub record AlternateStands (opened : OpenFile) (list : List (List ℕ)) (primes : List Spot)
     (index : AltIndex) (spots : List Spot) : Type 0 where
-  pub entries_are : map alt_bytes (alt_entries (file_schema opened) (alt_key index) (rows_in opened list primes))
+  pub entries_are : map alt_bytes
+      (alt_entries (file_schema opened) (alt_key index) (rows_in opened list primes))
       ≡ entries_at (tree_shape index.tree) list spots
   pub each : Each (IsAltEntry index.width index.prime)
       (alt_entries (file_schema opened) (alt_key index) (rows_in opened list primes))

@@ -37,7 +37,8 @@ OfEachEntry fact leaf = Each fact (spots_below leaf.page leaf.count)
 pub record IsStoredRecord (opened : OpenFile) (stored : List ℕ) : Type 0 where
   pub shaped : IsShaped opened
   pub least : stamps_length (drop 1 (file_schema opened).keys) + (file_schema opened).least ≤ length stored
-  pub greatest : length stored ≤ stamps_length (drop 1 (file_schema opened).keys) + (file_schema opened).greatest
+  pub greatest : length stored
+      ≤ stamps_length (drop 1 (file_schema opened).keys) + (file_schema opened).greatest
   pub bytes : Each (λ b. b < 256) stored
 
 -- so, and the file has a key k
@@ -59,6 +60,11 @@ are_stamps_off parts next bytes = list_all (λ p. is_stamp next p.0 p.1) (zip pa
 abbrev pub stored_row : OpenFile → List ℕ → Row
 stored_row opened stored = row_off (file_schema opened) (Some stored)
 
+-- the row that they are is one of the file
+abbrev pub IsStoredRow : OpenFile → List ℕ → Type 0
+IsStoredRow opened stored =
+    IsTrue (is_row (file_schema opened) (next_stamp_of opened) (stored_row opened stored))
+
 -- the entry leads to a row that has its value, in one of the marked pages
 pub record LeadsToRow (opened : OpenFile) (list : List (List ℕ)) (marks : List Bool)
     (spot : Spot) : Type 0 where
@@ -69,7 +75,7 @@ pub record LeadsToRow (opened : OpenFile) (list : List (List ℕ)) (marks : List
   pub fits : IsStoredRecord opened stored
   pub own : marked_in marks (place_at opened list spot).page ≡ true
   pub within : (place_at opened list spot).slot < room (slot_shape (heap_of opened))
-  pub row : IsTrue (is_row (file_schema opened) (next_stamp_of opened) (stored_row opened stored))
+  pub row : IsStoredRow opened stored
   pub value : take (prime_index_of opened).width (prime_at opened list spot) ≡ prime_of (file_schema opened)
       (stored_row opened stored).bytes
 

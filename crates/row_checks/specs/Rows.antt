@@ -65,7 +65,8 @@ PrimesRise schema (row ∷ rows) = Each (λ other. IsTrue
 -- values, and they are the entries of these rows; no other slot of the heap's own pages is in use.
 pub record RowsStand (opened : OpenFile) (list : List (List ℕ)) (own : List ℕ)
     (spots : List Spot) : Type 0 where
-  pub rows_are : Each (λ row. IsTrue (is_row (file_schema opened) (next_stamp_of opened) row)) (rows_in opened list spots)
+  pub rows_are : Each (λ row. IsTrue (is_row (file_schema opened) (next_stamp_of opened) row))
+      (rows_in opened list spots)
   pub placed : IsPlaced (file_schema opened) (slots_of (slot_shape (heap_of opened)) (pages_in list) own)
       (places_in opened list spots) (rows_in opened list spots)
   pub entries_are : map prime_bytes (prime_entries (file_schema opened) (places_in opened list spots)

@@ -1,10 +1,8 @@
 //! The entries of an alternate key, and the rows.
 
 ghost use Rattle.std.specs.Prelude.{◌≡◌, OnOk, IsTrue, All, length};
-ghost use Rattle.tree_node.specs.Order.{Ascends};
-ghost use Rattle.bplus_tree.specs.Fields.{tree_shape};
-ghost use Rattle.page_walks.specs.Spots.{entries_at, spots_in};
-ghost use Rattle.row_checks.specs.Alternate.{IsIndexFor, IsEntryFor, AlternateStands};
+ghost use Rattle.page_walks.specs.Spots.{spots_in};
+ghost use Rattle.row_checks.specs.Alternate.{IsIndexFor, IsEntryFor, EntriesAscend, AlternateStands};
 ghost use Rattle.row_checks.specs.Leading.{HasRow, IsEntryOf, OfEachEntry};
 
 use crate::entry::{entry, entry_near, place_in};
@@ -119,8 +117,7 @@ pub fn check_alternate(
 ) -> Result<(), RowFault>
     requires index { IsIndexFor file.now index }
     requires many { length (spots_in leaves.now) ≡ length (spots_in primes.now) }
-    requires rises { Ascends (tree_shape index.tree).width
-        (entries_at (tree_shape index.tree) pages.now (spots_in leaves.now)) }
+    requires rises { EntriesAscend index pages.now (spots_in leaves.now) }
     ensures { OnOk result (AlternateStands file.now pages.now (spots_in primes.now) index
         (spots_in leaves.now)) }
 {

@@ -3,10 +3,10 @@
 ghost use Rattle.std.specs.Prelude.{◌≡◌, ◌≤◌, drop, length, IsTrue};
 ghost use Rattle.record_layout.specs.Schema.{value_of};
 ghost use Rattle.indexed_file.specs.File.{stamp_of};
-ghost use Rattle.indexed_file.specs.Sound.{is_row};
 ghost use Rattle.open_file.specs.Stored.{stamps_length};
-ghost use Rattle.open_file.specs.Fields.{next_stamp_of, file_schema};
-ghost use Rattle.row_checks.specs.Leading.{IsStoredRecord, HasKeyOf, HasAlternateOf, stored_row};
+ghost use Rattle.open_file.specs.Fields.{file_schema};
+ghost use Rattle.row_checks.specs.Leading.{IsStoredRecord, IsStoredRow, HasKeyOf, HasAlternateOf};
+ghost use Rattle.row_checks.specs.Leading.{stored_row};
 
 use crate::stamps::{are_stamps, stamp_at};
 use open_file::OpenFile;
@@ -23,8 +23,7 @@ fn record_of<'a>(file: &OpenFile, stored: &'a [u8]) -> &'a [u8]
 /// Stamps and record are those of a row of the file.
 pub fn is_row(file: &OpenFile, stored: &[u8]) -> bool
     requires { IsStoredRecord file.now stored.now }
-    ensures { IsTrue result
-        → IsTrue (is_row (file_schema file.now) (next_stamp_of file.now) (stored_row file.now stored.now)) }
+    ensures { IsTrue result → IsStoredRow file.now stored.now }
 {
     are_stamps(&file.keys()[1..], stored, file.next_stamp())
 }

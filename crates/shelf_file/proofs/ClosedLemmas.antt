@@ -1,5 +1,5 @@
 -- What a file stands for once it is closed.
-use Rattle.std.proofs.Common.{◌≡◌, ℕ, ◌+◌, ◌*◌, ltb, IsFalse, IsSome, List, ◌∷◌, length, drop, Option, Some, None, Result, OnOk, Ok, Err, inl, inr, ◌⊎◌, refl, sym, ◌∙◌, ap, subst, arith}
+use Rattle.std.proofs.Common.{◌≡◌, ℕ, ◌+◌, ◌*◌, ltb, IsFalse, IsSome, List, ◌∷◌, length, drop, Option, Some, Result, OnOk, Ok, Err, inl, inr, ◌⊎◌, refl, sym, ◌∙◌, ap, subst, arith}
 use Rattle.std.proofs.lemmas.Bool.{and_parts, and_from, ltb-true, lt-ltb, le-ltb}
 use Rattle.std.proofs.lemmas.List.{length-map}
 use Rattle.indexed_file.specs.File.{File}

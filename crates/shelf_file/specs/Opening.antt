@@ -8,16 +8,23 @@ use Rattle.page_store.specs.Gate.{WasOrRefused}
 use Rattle.page_store.specs.Moments.{Throughout}
 use Rattle.page_store.specs.ShelfState.{ShelfState, FileGoes, KeepsOthers, OnlyAnswers, FaultHasCause}
 use Rattle.page_store.specs.ShelfState.{unit_file}
-use Rattle.page_alloc.specs.Joining.{FaultsRose, pages_counted, pages_free}
+use Rattle.page_alloc.specs.Joining.{FaultsRose, pages_counted, first_free_page, pages_free}
+use Rattle.page_alloc.specs.declared.paged_file.PagedFile.{PagedFile}
 use Rattle.page_alloc.specs.PagedFile.{IsKeptOrRefused, counts_of, is_begun, unit_of_pages}
 use Rattle.file_header.specs.declared.header.Header.{Header}
 use Rattle.open_file.specs.Fields.{has_broken, file_schema}
 use Rattle.open_file.specs.Faults.{IsCausedIn}
+use Rattle.open_file.specs.Headers.{Counts}
 use Rattle.shelf_file.specs.declared.look.Look.{Look}
 use Rattle.shelf_file.specs.declared.shelf_file.ShelfFile.{ShelfFile}
 use Rattle.shelf_file.specs.Named.{look_of}
 use Rattle.shelf_file.specs.Standing.{StandsFor, HasLimits}
 use Rattle.shelf_file.specs.Shelves.{HasHeader, IsOpened, IsMade, Closes}
+
+-- the header counts the pages in use and those that are free
+abbrev pub CountsPages : Header → PagedFile → Type 0
+CountsPages header pages = let pager = counts_of pages in
+    Counts header (pages_counted pager) (first_free_page pager) (pages_free pager)
 
 -- a shelf whose device has failed so often
 pub record CountedShelf : Type 0 where

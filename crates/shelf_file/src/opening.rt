@@ -3,13 +3,11 @@
 ghost use Rattle.std.specs.Prelude.{◌≤◌};
 ghost use Rattle.std.specs.NonZero.{non_zero_usize_get};
 ghost use Rattle.page_store.specs.ShelfState.{HasUnit};
-ghost use Rattle.page_alloc.specs.Joining.{pages_counted, first_free_page, pages_free};
-ghost use Rattle.page_alloc.specs.PagedFile.{counts_of};
 ghost use Rattle.file_header.specs.Bounds.{FitsItsBytes, IsHeader};
-ghost use Rattle.open_file.specs.Headers.{IsHeaderOf, Counts};
+ghost use Rattle.open_file.specs.Headers.{IsHeaderOf};
 ghost use Rattle.open_file.specs.Stands.{IsShaped};
 ghost use Rattle.shelf_file.specs.Standing.{IsReady};
-ghost use Rattle.shelf_file.specs.Opening.{MakesHeld, OpensByHeader, ClosesHeld};
+ghost use Rattle.shelf_file.specs.Opening.{CountsPages, MakesHeld, OpensByHeader, ClosesHeld};
 
 use crate::shelf_file::ShelfFile;
 use file_header::Header;
@@ -101,8 +99,7 @@ impl ShelfFile {
     fn header(&self) -> Header
         requires { IsShaped self.now.file }
         ensures told { IsHeaderOf result self.now.file }
-        ensures counts { let pager = counts_of self.now.pages in
-            Counts result (pages_counted pager) (first_free_page pager) (pages_free pager) }
+        ensures counts { CountsPages result self.now.pages }
         ensures room { FitsItsBytes result }
     {
         let pager = self.pages.pager();

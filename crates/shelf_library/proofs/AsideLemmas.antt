@@ -23,8 +23,7 @@ use Rattle.open_file.specs.Stands.{Stands}
 use Rattle.file_header.specs.declared.header.Header.{Header}
 use Rattle.shelf_file.specs.declared.shelf_file.ShelfFile.{ShelfFile}
 use Rattle.shelf_file.specs.Named.{look_of, named_of}
-use Rattle.shelf_file.specs.Standing.{IsReady, StandsFor, live_of, file_read_off}
-use Rattle.shelf_file.specs.Standing.{is_broken_file, pages_behind, parts_of, schema_behind}
+use Rattle.shelf_file.specs.Standing.{IsReady, StandsFor, live_of, file_read_off, is_broken_file, pages_behind, parts_of, schema_behind}
 use Rattle.shelf_file.specs.Shelves.{AreClosed}
 use Rattle.shelf_library.specs.declared.held.Held.{Held}
 use Rattle.shelf_library.specs.declared.held.Held.TheVariants.{Nothing, Looked, Opened}

@@ -14,8 +14,7 @@ use Rattle.page_store.specs.ShelfState.{unit_file}
 use Rattle.indexed_file.specs.FileChange.{FileChange}
 use Rattle.shelf_file.specs.declared.shelf_file.ShelfFile.{ShelfFile}
 use Rattle.shelf_file.specs.Named.{named_of}
-use Rattle.shelf_file.specs.Standing.{StandsFor, live_of, file_read_off, room_in}
-use Rattle.shelf_file.specs.Standing.{is_broken_file, pages_behind, parts_of, schema_behind}
+use Rattle.shelf_file.specs.Standing.{StandsFor, live_of, file_read_off, room_in, is_broken_file, pages_behind, parts_of, schema_behind}
 use Rattle.shelf_library.specs.State.{LibraryState, held_at}
 use Rattle.shelf_library.specs.Truth.{IsTrulyOpen, IsShownTruly}
 use Rattle.shelf_library.specs.Units.{world_of, room_of_held}

@@ -1,11 +1,10 @@
 -- A unit whose count of pages begins again.
-use Rattle.std.proofs.Common.{◌≡◌, ℕ, ◌<◌, List, length, IsFalse, refl, ap, sym, subst, ◌∙◌}
+use Rattle.std.proofs.Common.{◌≡◌, ℕ, ◌<◌, List, length, IsFalse, refl, ap, sym, subst, ◌∙◌, ◌==◌}
 use Rattle.std.specs.Prelude.{slice_index_or, Option, Some}
 use Rattle.std.proofs.lemmas.List.{get_or_default}
 use Rattle.indexed_file.specs.UnitCalls.{RestartsCount}
 use Rattle.page_store.specs.DeviceFile.{DeviceFile}
 use Rattle.page_store.specs.ShelfState.{ShelfState, KeepsOthers, unit_file}
-use Rattle.file_header.specs.declared.header.Header.{Header}
 use Rattle.shelf_file.specs.declared.shelf_file.ShelfFile.{ShelfFile}
 use Rattle.shelf_file.specs.Named.{named_of}
 use Rattle.shelf_file.specs.Standing.{is_broken_file, recounted}
@@ -17,7 +16,6 @@ use Rattle.shelf_library.specs.Truth.{IsTrulyOpen}
 use Rattle.shelf_library.specs.OneUnit.{AreUnits, ChangesAt, FitsItsFile, IsTrulyHeld}
 use Rattle.shelf_library.specs.Library.{shown_by}
 use Rattle.shelf_library.proofs.AsideLemmas.{held_here, held_aside, world_same, truth_after, held_truly, images_aside}
-use Rattle.std.proofs.Common.{◌==◌}
 use Rattle.std.proofs.lemmas.Bool.{eqb-true, eqb-false}
 use Rattle.indexed_file.proofs.TestLemmas.{either}
 

@@ -4,8 +4,7 @@ use Rattle.indexed_file.proofs.TestLemmas.{either}
 use Rattle.indexed_file.specs.File.{File}
 use Rattle.indexed_file.specs.World.{Holding, Opened as HasOpened, Broken, holding_at, name_at}
 use Rattle.shelf_file.specs.declared.shelf_file.ShelfFile.{ShelfFile}
-use Rattle.shelf_file.specs.Standing.{StandsFor, live_of, file_read_off}
-use Rattle.shelf_file.specs.Standing.{is_broken_file, parts_of, schema_behind}
+use Rattle.shelf_file.specs.Standing.{StandsFor, live_of, file_read_off, is_broken_file, parts_of, schema_behind}
 use Rattle.shelf_library.specs.State.{LibraryState, held_at}
 use Rattle.shelf_library.specs.Units.{world_of, holding_of}
 use Rattle.shelf_library.specs.Truth.{IsTrulyOpen, IsShownTruly}

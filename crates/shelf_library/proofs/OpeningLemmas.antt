@@ -8,28 +8,23 @@ use Rattle.indexed_file.specs.Calls.{MayFail}
 use Rattle.indexed_file.specs.Room.{PageCounts}
 use Rattle.shelf_file.specs.declared.look.Look.TheVariants.{Accepted}
 use Rattle.indexed_file.specs.World.{Holding, Named, Opened as HasOpened, opened_from}
-use Rattle.page_store.specs.ShelfState.{ShelfState, HasUnit, KeepsOthers, unit_file}
+use Rattle.page_store.specs.ShelfState.{ShelfState, HasUnit, KeepsOthers, unit_file, unit_name}
 use Rattle.file_header.specs.declared.header.Header.{Header}
 use Rattle.shelf_file.specs.declared.shelf_file.ShelfFile.{ShelfFile}
 use Rattle.shelf_file.specs.Named.{look_of, named_of}
 use Rattle.shelf_file.specs.Shelves.{IsOpened, HasAccepted}
 use Rattle.shelf_library.specs.declared.held.Held.{Held}
 use Rattle.shelf_library.specs.declared.held.Held.TheVariants.{Looked}
-use Rattle.shelf_library.specs.State.{held_at}
+use Rattle.shelf_library.specs.State.{held_at, LibraryState, IsLooked}
 use Rattle.shelf_library.specs.Told.{held_open, answer_open}
-use Rattle.shelf_library.specs.Truth.{IsTrulyOpen}
-use Rattle.shelf_library.specs.Units.{holding_of}
-use Rattle.shelf_library.specs.OneUnit.{ChangesAt, FitsItsFile, IsTrulyHeld}
+use Rattle.shelf_library.specs.Truth.{IsTrulyOpen, IsShownTruly}
+use Rattle.shelf_library.specs.Units.{holding_of, world_of, counts_by, counts_of_held}
+use Rattle.shelf_library.specs.OneUnit.{ChangesAt, FitsItsFile, IsTrulyHeld, AreUnits}
 use Rattle.indexed_file.specs.Images.{untouched}
 use Rattle.indexed_file.specs.UnitCalls.{OpensUnit}
 use Rattle.indexed_file.specs.World.{holding_at, named_at, name_at, schema_at, schema_in, is_open}
 use Rattle.page_store.specs.DeviceFile.{DeviceFile}
-use Rattle.page_store.specs.ShelfState.{unit_name}
-use Rattle.shelf_library.specs.State.{LibraryState, IsLooked}
-use Rattle.shelf_library.specs.Units.{world_of, counts_by, counts_of_held}
-use Rattle.shelf_library.specs.Truth.{IsShownTruly}
 use Rattle.shelf_library.specs.Library.{shown_by}
-use Rattle.shelf_library.specs.OneUnit.{AreUnits}
 use Rattle.shelf_library.specs.Opening.{OpensAt}
 use Rattle.shelf_library.proofs.WorldLemmas.{set_twice}
 use Rattle.shelf_library.proofs.AsideLemmas.{are_after, held_here, holding_before, holding_after, named_before, named_after, images_aside}

@@ -17,8 +17,7 @@ use Rattle.shelf_file.specs.declared.look.Look.TheVariants.{Accepted}
 use Rattle.shelf_file.specs.declared.shelf_file.ShelfFile.{ShelfFile}
 use Rattle.shelf_file.specs.Named.{look_of, named_of}
 use Rattle.shelf_file.specs.Shelves.{AreClosed}
-use Rattle.shelf_file.specs.Standing.{live_of, file_read_off}
-use Rattle.shelf_file.specs.Standing.{is_broken_file, pages_behind, parts_of, schema_behind}
+use Rattle.shelf_file.specs.Standing.{live_of, file_read_off, is_broken_file, pages_behind, parts_of, schema_behind}
 use Rattle.shelf_library.specs.State.{LibraryState, IsReadyAt}
 use Rattle.shelf_library.specs.Units.{holding_of}
 use Rattle.shelf_library.specs.Truth.{IsTrulyClosed, IsTrulyOpen}

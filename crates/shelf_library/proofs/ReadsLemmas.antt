@@ -9,15 +9,13 @@ use Rattle.indexed_file.specs.Calls.{Keeps, OnlyReads as ReadsWorld, MayFail, Sa
 use Rattle.indexed_file.specs.UnitCalls.{ReadsUnit}
 use Rattle.page_store.specs.DeviceFile.{DeviceFile}
 use Rattle.page_store.specs.ShelfState.{unit_name, unit_file}
-use Rattle.page_alloc.specs.Joining.{FaultsRose}
+use Rattle.page_alloc.specs.Joining.{FaultsRose, available_of}
 use Rattle.open_file.specs.Faults.{IsCausedIn}
 use Rattle.open_file.specs.Stands.{room_of}
 use Rattle.open_file.specs.declared.open_file.OpenFile.{OpenFile}
-use Rattle.page_alloc.specs.Joining.{available_of}
 use Rattle.page_alloc.specs.PagedFile.{counts_of, times_asked}
 use Rattle.shelf_file.specs.declared.shelf_file.ShelfFile.{ShelfFile}
-use Rattle.shelf_file.specs.Standing.{file_read_off, room_in}
-use Rattle.shelf_file.specs.Standing.{is_broken_file, pages_behind, parts_of, schema_behind}
+use Rattle.shelf_file.specs.Standing.{file_read_off, room_in, is_broken_file, pages_behind, parts_of, schema_behind}
 use Rattle.shelf_library.specs.State.{LibraryState, held_at}
 use Rattle.shelf_library.specs.Units.{world_of, holding_of, room_of_held, counts_of_pager, counts_of_held, pages_asked_of}
 use Rattle.shelf_library.specs.Truth.{IsShownTruly}

@@ -17,8 +17,7 @@ use Rattle.page_store.proofs.MomentLemmas.{throughout_weaker}
 use Rattle.page_store.specs.ShelfState.{unit_name, unit_file}
 use Rattle.shelf_file.specs.declared.shelf_file.ShelfFile.{ShelfFile}
 use Rattle.shelf_file.specs.Named.{named_of}
-use Rattle.shelf_file.specs.Standing.{StandsFor, live_of}
-use Rattle.shelf_file.specs.Standing.{is_broken_file, pages_behind, parts_of, schema_behind}
+use Rattle.shelf_file.specs.Standing.{StandsFor, live_of, is_broken_file, pages_behind, parts_of, schema_behind}
 use Rattle.shelf_file.specs.Shelves.{ClosedFileOrRefused, Closes}
 use Rattle.shelf_library.specs.declared.held.Held.TheVariants.{Nothing}
 use Rattle.shelf_library.specs.MomentLaws.{EachRead, each_read}

@@ -1,6 +1,6 @@
 -- What a load over the files of a shelf leaves. All of this is ours.
-use Rattle.std.specs.Prelude.{◌≡◌, ℕ, List, Option, None, is_some, bytes_eq, false, replicate, IsTrue, IfOk}
-use Rattle.std.specs.Prelude.{OnErr, Result, Ok, Err}
+use Rattle.std.specs.Prelude.{◌≡◌, ℕ, Bool, List, Option, None, is_some, bytes_eq, false, replicate}
+use Rattle.std.specs.Prelude.{IsTrue, IfOk, OnErr, Result, Ok, Err}
 use Rattle.io_state.specs.declared.fault.Fault.{Fault}
 use Rattle.io_state.specs.declared.fault.Fault.TheVariants.{Device, Memory as NoMemory, Full, Damage, Broken}
 use Rattle.io_state.specs.declared.modes.Access.TheVariants.{Dynamic}
@@ -19,6 +19,11 @@ use Rattle.shelf_loading.specs.declared.end.ShelfEnd.{ShelfEnd}
 use Rattle.shelf_loading.specs.declared.end.ShelfEnd.TheVariants.{IsThere, Loaded}
 use Rattle.shelf_loading.specs.declared.end.ShelfFault.{ShelfFault}
 use Rattle.shelf_loading.specs.declared.end.ShelfFault.TheVariants.{Input, Memory}
+
+-- of an honest shelf it is told whether it showed a file of this name
+abbrev pub TellsIfThere : (before after : ShelfState) → List ℕ → Bool → Type 0
+TellsIfThere before after name there =
+    IsTrue after.is_honest → there ≡ is_some (before.file name).seen
 
 -- what became of a load over a library
 abbrev pub load_end_of : Result LoadEnd LoadFault → Result ShelfEnd ShelfFault

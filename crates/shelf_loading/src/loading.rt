@@ -1,8 +1,8 @@
 //! The loading.
-ghost use Rattle.std.specs.Prelude.{◌≡◌, ◌≤◌, [], is_some, IsTrue, IfOk, OnOk};
+ghost use Rattle.std.specs.Prelude.{◌≡◌, ◌≤◌, [], IsTrue, IfOk, OnOk};
 ghost use Rattle.record_reading.specs.Whole.{IsWholeForm};
 ghost use Rattle.record_loading.specs.Loading.{listing};
-ghost use Rattle.shelf_loading.specs.Loaded.{EndsLoad, EndsAnyhow, LoadsInto};
+ghost use Rattle.shelf_loading.specs.Loaded.{EndsLoad, EndsAnyhow, LoadsInto, TellsIfThere};
 
 use crate::end::{ShelfEnd, ShelfFault, end_of, fault_by};
 use io_state::{Fault, FileName};
@@ -17,8 +17,7 @@ use std::num::NonZeroUsize;
 
 /// Whether a name has a file. No name is attached afterwards.
 fn is_there<S: Shelf>(shelf: &mut S, name: FileName) -> Result<bool, Fault>
-    ensures answer { IfOk result (λ there. IsTrue (S.state shelf.new).is_honest
-        → there ≡ is_some ((S.state shelf.old).file name.bytes).seen) }
+    ensures answer { IfOk result (TellsIfThere (S.state shelf.old) (S.state shelf.new) name.bytes) }
     ensures names { OnOk result ((S.state shelf.new).names ≡ []) }
     ensures file { (S.state shelf.new).file ≡ (S.state shelf.old).file }
     ensures honest { IsTrue (S.state shelf.new).is_honest → IsTrue (S.state shelf.old).is_honest }

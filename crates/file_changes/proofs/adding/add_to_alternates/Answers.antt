@@ -1,8 +1,6 @@
 use Rattle.std.proofs.Common.{◌≡◌, ◌+◌, ◌<◌, length, drop, arith, refl, ap, ◌∙◌}
 use Rattle.file_changes.specs.Adding.{index_levels, added_below}
-use Rattle.open_file.specs.Fields.{alternates_of, heap_of, next_stamp_of, prime_index_of, file_schema}
-use Rattle.open_file.specs.Fields.{with_alternates_of}
-use Rattle.open_file.specs.declared.open_file.OpenFile.{OpenFile}
+use Rattle.open_file.specs.Fields.{alternates_of, heap_of, next_stamp_of, prime_index_of, file_schema, with_alternates_of}
 use Rattle.pages.proofs.CauseLemmas.{fails_since}
 use Rattle.open_file.proofs.ExitLemmas.{fails}
 use Rattle.open_file.proofs.PartsLemmas.{said_so, found_at}

@@ -7,7 +7,6 @@ use Rattle.pages.proofs.CauseLemmas.{fails_since}
 use Rattle.open_file.proofs.ExitLemmas.{fails}
 use Rattle.open_file.proofs.HeightLemmas.{heights_many}
 use Rattle.open_file.proofs.LookLemmas.{at_start, step_absent, step_repeated, clash_found, clash_told, done_told, asked_start, asked_more, asked_in_all, asked_so_far}
-use Rattle.file_changes.proofs.SeenLemmas.{was_false}
 use Rattle.file_changes.proofs.adding.adding.Goals as goal
 use Rattle.file_changes.proofs.adding.adding.Goals.{then-branch+else-not-has_duplicates, else-branch}
 

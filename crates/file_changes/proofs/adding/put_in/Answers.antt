@@ -1,4 +1,4 @@
-use Rattle.std.proofs.Common.{◌≡◌, ◌+◌, length, refl, ap, sym, subst, ◌∙◌, arith, None}
+use Rattle.std.proofs.Common.{◌≡◌, ◌+◌, length, refl, ap, sym, subst, ◌∙◌, arith}
 use Rattle.record_layout.specs.Schema.{Schema}
 use Rattle.open_file.specs.Fields.{alternates_of, prime_index_of, file_schema, without_path}
 use Rattle.open_file.specs.declared.open_file.OpenFile.{OpenFile}

@@ -4,7 +4,6 @@ use Rattle.file_changes.specs.Adding.{index_levels}
 use Rattle.file_changes.specs.Old.{row_with}
 use Rattle.file_changes.specs.Removing.{without_below}
 use Rattle.open_file.specs.Fields.{alternates_of, heap_of, prime_index_of, file_schema, with_alternates_of}
-use Rattle.open_file.specs.declared.open_file.OpenFile.{OpenFile}
 use Rattle.open_file.proofs.ExitLemmas.{fails}
 use Rattle.open_file.proofs.PartsLemmas.{said_so, found_at}
 use Rattle.file_changes.proofs.LevelLemmas.{levels_dropped}

@@ -2,7 +2,6 @@ use Rattle.pages.proofs.CauseLemmas.{caused_since}
 use Rattle.std.proofs.lemmas.Grind.{common_steps}
 use Rattle.std.proofs.Common.{ap, arith}
 use Rattle.open_file.specs.Fields.{alternates_of, file_schema}
-use Rattle.open_file.specs.declared.open_file.OpenFile.{OpenFile}
 use Rattle.open_file.proofs.ExitLemmas.{fails}
 use Rattle.file_changes.proofs.removing.take_out.Goals as goal
 

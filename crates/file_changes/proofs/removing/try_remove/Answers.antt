@@ -1,7 +1,6 @@
 use Rattle.std.proofs.Common.{refl, ap, ◌∙◌, arith, IsTrue}
 use Rattle.open_file.specs.Fields.{alternates_of, prime_index_of, file_schema}
 use Rattle.open_file.specs.InOrder.{prime_entries}
-use Rattle.open_file.specs.declared.open_file.OpenFile.{OpenFile}
 use Rattle.pages.proofs.CauseLemmas.{fails_since}
 use Rattle.open_file.proofs.StampedLemmas.{few_stamps}
 use Rattle.file_changes.proofs.EndingLemmas.{kept, stopped, not_made, made}

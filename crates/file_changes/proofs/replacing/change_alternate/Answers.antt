@@ -2,10 +2,8 @@ use Rattle.std.proofs.Common.{◌+◌, ◌<◌, length, refl, ap, sym, ◌∙◌
 use Rattle.record_layout.specs.Schema.{value_of}
 use Rattle.key_index.specs.Entries.{with_alt, without_rank}
 use Rattle.file_changes.specs.Adding.{entry_of_record}
-use Rattle.open_file.specs.Fields.{alternates_of, heap_of, next_stamp_of, prime_index_of, file_schema}
-use Rattle.open_file.specs.Fields.{with_alternates_of}
+use Rattle.open_file.specs.Fields.{alternates_of, heap_of, next_stamp_of, prime_index_of, file_schema, with_alternates_of}
 use Rattle.open_file.specs.Parts.{but_at}
-use Rattle.open_file.specs.declared.open_file.OpenFile.{OpenFile}
 use Rattle.open_file.proofs.ExitLemmas.{fails, if_ok}
 use Rattle.open_file.proofs.PartsLemmas.{said_so, found_at}
 use Rattle.pages.proofs.CauseLemmas.{caused_since, fails_since}

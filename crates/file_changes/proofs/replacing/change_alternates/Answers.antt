@@ -5,9 +5,7 @@ use Rattle.key_index.specs.declared.alt_index.AltIndex.{AltIndex}
 use Rattle.key_index.specs.Standing.{alt_height}
 use Rattle.file_changes.specs.Old.{row_with}
 use Rattle.file_changes.specs.Replacing.{changed_below, stays}
-use Rattle.open_file.specs.Fields.{alternates_of, heap_of, next_stamp_of, prime_index_of, file_schema}
-use Rattle.open_file.specs.Fields.{with_alternates_of}
-use Rattle.open_file.specs.declared.open_file.OpenFile.{OpenFile}
+use Rattle.open_file.specs.Fields.{alternates_of, heap_of, next_stamp_of, prime_index_of, file_schema, with_alternates_of}
 use Rattle.pages.proofs.CauseLemmas.{fails_since}
 use Rattle.open_file.proofs.ExitLemmas.{fails}
 use Rattle.open_file.proofs.PartsLemmas.{said_so, found_at}

@@ -1,4 +1,4 @@
-use Rattle.std.proofs.Common.{rules, ◌≡◌, ◌≤◌, ◌*◌, ◌+◌, ◌-◌, length, ap, sym, ◌∙◌, arith}
+use Rattle.std.proofs.Common.{rules, ◌-◌, sym, ◌∙◌}
 use Rattle.request_frames.proofs.KeyLemmas.{more_keys}
 use Rattle.request_frames.proofs.description.keys_of.Goals as goal
 

@@ -1,7 +1,6 @@
 use Rattle.std.proofs.Common.{◌∙◌, refl, sym, ap, nat_eq, option_map, slice_get}
 use Rattle.std.specs.Map.{lookup}
-use Rattle.page_cache.proofs.FrameLemmas.{lookup-promoted}
-use Rattle.page_cache.proofs.FrameLemmas.{promoted_first}
+use Rattle.page_cache.proofs.FrameLemmas.{lookup-promoted, promoted_first}
 use Rattle.page_cache.proofs.cache.Cache.promote.Goals as goal
 
 pub returns : goal.returns
