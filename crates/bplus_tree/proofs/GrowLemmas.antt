@@ -17,13 +17,10 @@ use Rattle.node_balance.specs.Put.{PutInLeaf, PutInInner}
 use Rattle.bplus_tree.specs.Split.{IsSplitOrWhole, WritesParts}
 use Rattle.bplus_tree.specs.Grow.{HasAddedToLeaf, HasAddedToInner}
 
-if_ok : {X : Type 0} (r : Result X Fault) (P Q : X → Type 0) → ((x : X) → P x → Q x) → IfOk r P → IfOk r Q
-if_ok (Ok x) P Q f h = f x h
-if_ok (Err e) P Q f h = tt
-
 -- an answer says as much of what follows from it
-pub answer_map : {X : Type 0} (r : Result X Fault) (P Q : X → Type 0) → ((x : X) → P x → Q x) → IsAnswer r P → IsAnswer r Q
-answer_map r P Q f a = record { answer = if_ok r P Q f a.answer; no_damage = a.no_damage }
+pub answer_map : {X : Type 0} {r : Result X Fault} {P Q : X → Type 0} → IsAnswer r P → ((x : X) → P x → Q x) → IsAnswer r Q
+answer_map {r = Ok x} a f = record { answer = f x a.answer; no_damage = tt }
+answer_map {r = Err e} a f = record { answer = tt; no_damage = a.no_damage }
 
 module _ (shape : Shape) (before after : PageMap) (page : ℕ) (lower upper : List ℕ) where
   leaf_parts : (entries : List (List ℕ)) (key : Option (ArrayVec ℕ)) (up : Option Separator) → PutInLeaf shape lower upper entries key → IsSplitOrWhole before after page lower upper key up

@@ -1,5 +1,6 @@
 -- A new root above two trees.
-use Rattle.std.proofs.Common.{◌≡◌, ◌≢◌, ℕ, zero, suc, ◌≤◌, List, [], ◌∷◌, ◌++◌, Some, None, Ok, IsSome, refl, ap, sym, subst, ◌∙◌, arith, flat_map}
+use Rattle.std.proofs.Common.{◌≡◌, ◌≢◌, ℕ, zero, suc, ◌+◌, ◌≤◌, add-one, List, [], ◌∷◌, ◌++◌, Some, None, Ok, IsSome, refl, ap, sym, subst}
+use Rattle.std.proofs.Common.{◌∙◌, arith, flat_map}
 use Rattle.std.proofs.lemmas.List.{append-nil}
 use Rattle.page_bytes.specs.Each.{Each}
 use Rattle.tree_node.specs.declared.shape.Shape.{Shape}
@@ -10,6 +11,7 @@ use Rattle.node_balance.specs.declared.separator.Separator.{Separator}
 use Rattle.tree_search.specs.Tree.{TreeOf, page_of, entries_of, pages_of, size_of, IsRooted}
 use Rattle.tree_search.specs.Stored.{Holds, IsInnerAt}
 use Rattle.tree_search.specs.Calls.{IsWhole}
+use Rattle.bplus_tree.specs.Subtree.{head, from_root}
 use Rattle.bplus_tree.specs.Remove.{Becomes}
 use Rattle.bplus_tree.specs.Grow.{HasRoot, AddsRoot}
 use Rattle.bplus_tree.specs.Insert.{BecomesTwo}
@@ -22,9 +24,10 @@ rooted_still zero t new rooted large = tt
 rooted_still (suc h) t new rooted large = omega arith
 
 -- the root was not split
-pub grown_same : (shape : Shape) (before mid : PageMap) (h root : ℕ) (t : TreeOf h) (entries : List (List ℕ)) → IsRooted h t
-    → Becomes shape before mid h root None None (pages_of h t) (size_of h t) entries → HasGrownRoot shape before mid (pages_of h t) entries (record { root = root; levels = h })
-grown_same shape before mid h root t entries rooted b =
+grown_same : {shape : Shape} {before mid : PageMap} {h root : ℕ} {entries : List (List ℕ)} (t : TreeOf h) → IsRooted h t
+    → Becomes (from_root (head shape h root) t) before mid (size_of h t) entries
+    → HasGrownRoot shape before mid (pages_of h t) entries (record { root = root; levels = h })
+grown_same {h} t rooted b =
     record {
       tree = b.tree;
       whole = record { stands = b.stands; apart = b.changes.apart; filled = b.filled; rooted = rooted_still h t b.tree rooted b.large };
@@ -32,15 +35,16 @@ grown_same shape before mid h root t entries rooted b =
       changes = b.changes;
     }
 
-module _ (shape : Shape) (before mid after : PageMap) (h root : ℕ) (own : List ℕ) (entries : List (List ℕ)) (separator : Separator) (new : ℕ)
-    (two : BecomesTwo shape before mid h root None None own entries separator) (put : HasRoot shape mid after root separator new) where
+module _ {shape : Shape} {before mid after : PageMap} {h root : ℕ} {entries : List (List ℕ)} {separator : Separator} {new : ℕ}
+    (t : TreeOf h) (two : BecomesTwo (from_root (head shape h root) t) before mid entries separator)
+    (put : HasRoot shape mid after root separator new) where
   fresh : (n : ℕ) → IsSome (mid n) → n ≢ new
   fresh n here e = let no : IsSome (mid new) = subst (λ m. IsSome (mid m)) e here in let free = put.free in cc (no, free)
 
-  kept : (t : TreeOf h) → Holds shape mid h t → Each (λ n. after n ≡ mid n) (pages_of h t)
-  kept t holds =
-      Each-weaker (λ n. IsSome (mid n)) (λ n. after n ≡ mid n)
-      (λ n here. put.others n (fresh n here)) (pages_of h t) (pages_live shape mid h t holds)
+  still : (x : TreeOf h) → Holds shape mid h x → Holds shape after h x
+  still x holds = holds_still shape mid after h x holds
+      (Each-weaker (λ n. IsSome (mid n)) (λ n. after n ≡ mid n) (λ n here. put.others n (fresh n here)) (pages_of h x)
+      (pages_live shape mid h x holds))
 
   abbrev below : List ℕ
   below = flat_map (pages_of h) (two.left ∷ two.right ∷ [])
@@ -48,12 +52,14 @@ module _ (shape : Shape) (before mid after : PageMap) (h root : ℕ) (own : List
   below_is : below ≡ pages_of h two.left ++ pages_of h two.right
   below_is = ap (λ (l : List ℕ). pages_of h two.left ++ l) (append-nil (pages_of h two.right))
 
-  changed : ChangesPages before mid own below
-  changed = subst (ChangesPages before mid own) (sym below_is) two.changes
+  changed : ChangesPages before mid (pages_of h t) below
+  changed = subst (ChangesPages before mid (pages_of h t)) (sym below_is) two.changes
 
   live : Each (λ n. IsSome (mid n)) below
   live = subst (Each (λ n. IsSome (mid n))) (sym below_is)
-      (Each-append (λ n. IsSome (mid n)) (pages_of h two.left) (pages_of h two.right) (pages_live shape mid h two.left two.left_stands.holds) (pages_live shape mid h two.right two.right_stands.holds))
+      (Each-append (λ n. IsSome (mid n)) (pages_of h two.left) (pages_of h two.right)
+      (pages_live shape mid h two.left two.left_stands.holds)
+      (pages_live shape mid h two.right two.right_stands.holds))
 
   above_all : IsOutside below new
   above_all = Each-weaker (λ n. IsSome (mid n)) (λ n. new ≢ n) (λ n here e. fresh n here (sym e)) below live
@@ -68,13 +74,7 @@ module _ (shape : Shape) (before mid after : PageMap) (h root : ℕ) (own : List
   whole : IsWhole shape after (suc h) new None None tree
   whole = record {
     stands = record {
-      holds = (
-        node,
-        (
-          holds_still shape mid after h two.left two.left_stands.holds (kept two.left two.left_stands.holds),
-          (holds_still shape mid after h two.right two.right_stands.holds (kept two.right two.right_stands.holds), tt),
-        ),
-      );
+      holds = (node, (still two.left two.left_stands.holds, (still two.right two.right_stands.holds, tt)));
       root = refl;
       ordered = ((tt, tt), (two.under, two.over, two.left_stands.ordered, two.right_stands.ordered));
     };
@@ -83,7 +83,7 @@ module _ (shape : Shape) (before mid after : PageMap) (h root : ℕ) (own : List
     rooted = omega arith;
   }
 
-  frame : ChangesPages before after own (new ∷ below)
+  frame : ChangesPages before after (pages_of h t) (new ∷ below)
   frame = record {
     others = λ n here out.
         let c = changed.others n here out in
@@ -94,17 +94,19 @@ module _ (shape : Shape) (before mid after : PageMap) (h root : ℕ) (own : List
   }
 
   -- two trees come under a new root
-  pub grown_above : (levels : ℕ) → levels ≡ suc h → HasGrownRoot shape before after own entries (record { root = new; levels = levels })
-  grown_above levels one = subst (λ (n : ℕ). HasGrownRoot shape before after own entries (record { root = new; levels = n })) (sym one)
-      (record { tree = tree; whole = whole; has = ap (λ (l : List (List ℕ)). entries_of h two.left ++ l) (append-nil (entries_of h two.right)) ∙ two.has; changes = frame })
+  grown_above : HasGrownRoot shape before after (pages_of h t) entries (record { root = new; levels = suc h })
+  grown_above =
+      let has = ap (λ (l : List (List ℕ)). entries_of h two.left ++ l) (append-nil (entries_of h two.right)) ∙ two.has in
+      record { tree = tree; whole = whole; has = has; changes = frame }
 
-module _ (shape : Shape) (h root : ℕ) where
-  pub grows_none : (mid after : PageMap) (is_sound : Type 0) → after ≡ mid → is_sound → GrowsRoot shape h root None (Ok (record { root = root; levels = h })) mid after is_sound
-  grows_none mid after is_sound same sound before t entries rooted grown =
-      record { answer = (subst (λ (m : PageMap). HasGrownRoot shape before m (pages_of h t) entries (record { root = root; levels = h })) (sym same) (grown_same shape before mid h root t entries rooted grown), sound); no_damage = tt }
+module _ {shape : Shape} {h root : ℕ} where
+  pub grows_none : {mid : PageMap} {is_sound : Type 0} → is_sound
+      → GrowsRoot (head shape h root) None (Ok (record { root = root; levels = h })) mid mid is_sound
+  grows_none sound before t entries rooted grown = record { answer = (grown_same t rooted grown, sound); no_damage = tt }
 
-  pub grows_above : (mid after : PageMap) (is_sound : Type 0) (separator : Separator) (new levels : ℕ) → levels ≡ suc h → AddsRoot shape root separator (Ok new) mid after is_sound
-      → GrowsRoot shape h root (Some separator) (Ok (record { root = new; levels = levels })) mid after is_sound
-  grows_above mid after is_sound separator new levels one adds before t entries rooted grown =
+  pub grows_above : {mid after : PageMap} {is_sound : Type 0} {separator : Separator} {new : ℕ}
+      → AddsRoot shape root separator (Ok new) mid after is_sound
+      → GrowsRoot (head shape h root) (Some separator) (Ok (record { root = new; levels = h + 1 })) mid after is_sound
+  grows_above adds before t entries rooted grown =
       let a = adds.answer in
-      record { answer = (grown_above shape before mid after h root (pages_of h t) entries separator new grown a.0 levels one, a.1); no_damage = tt }
+      record { answer = (rw (add-one h) (grown_above t grown a.0), a.1); no_damage = tt }

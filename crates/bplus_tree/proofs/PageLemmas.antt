@@ -124,6 +124,15 @@ change_within before after front old new back apart live live' change =
 not_same : (p : ℕ) (ns : List ℕ) → IsOutside ns p → Each (λ n. n ≢ p) ns
 not_same p ns h = Each-weaker (λ n. p ≢ n) (λ n. n ≢ p) (λ n k e. k (sym e)) ns h
 
+-- one page, and no other, has changed
+pub change_page : {before after : PageMap} {p q : ℕ} → p ≡ q → ((n : ℕ) → n ≢ q → after n ≡ before n)
+    → ChangesPages before after (p ∷ []) (q ∷ [])
+change_page {q} root frame = record {
+  others = λ n here off. let ne : n ≢ q = λ e. off.0 (e ∙ sym root) in (frame n ne, (ne, tt));
+  no_stray = λ n here off. (rw (← frame n off.0) here, ((λ e. off.0 (e ∙ root)), tt));
+  apart = (tt, tt);
+}
+
 -- the bytes of the first page changed once more
 pub change_inside : (before after late : PageMap) (p : ℕ) (old new : List ℕ) → ChangesPages before after (p ∷ old) (p ∷ new) → ((n : ℕ) → n ≢ p → late n ≡ after n)
     → ChangesPages before late (p ∷ old) (p ∷ new)

@@ -1,6 +1,6 @@
 -- A removal below a child, seen from its parent; and in a leaf.
 use Rattle.std.proofs.Common.{◌≡◌, ◌≢◌, ℕ, zero, suc, ◌+◌, ◌-◌, ◌<◌, ◌≤◌, ◌↔◌, Bool, true, false, not, List, [], ◌∷◌, ◌++◌, length, take, drop, get_or, map, Option, Some, None, Ok, Err, Result, cond, IsSome, IsTrue, refl, ap, sym, subst, ◌∙◌, arith, flat_map, bytes_eq, add-one}
-use Rattle.std.specs.Prelude.{IsErrAnd, IfOk, filter, option_map}
+use Rattle.std.specs.Prelude.{IsErrAnd, filter, option_map}
 use Rattle.std.specs.List.{remove}
 use Rattle.std.proofs.Math.Seq.{drop-cons}
 use Rattle.std.proofs.lemmas.List.{map-append, take-append-drop}
@@ -23,24 +23,23 @@ use Rattle.tree_search.specs.declared.descent.Look.{Look}
 use Rattle.bplus_tree.specs.declared.remove.Shrunk.{Shrunk}
 use Rattle.bplus_tree.specs.declared.remove.Shrunk.TheVariants.{Absent, Taken}
 use Rattle.node_balance.specs.Fill.{least_entries}
-use Rattle.tree_search.specs.Tree.{TreeOf, page_of, entries_of, pages_of, size_of, IsRooted, Bound, IsRow, IsOrdered}
-use Rattle.tree_search.specs.Stored.{Holds, IsLeafAt}
+use Rattle.tree_search.specs.Tree.{TreeOf, page_of, entries_of, pages_of, size_of, IsRooted, IsRow, IsOrdered}
+use Rattle.tree_search.specs.Stored.{Holds, IsLeafAt, IsInnerAt}
 use Rattle.pages.specs.Owners.{AreApart, ChangesPages}
 use Rattle.bplus_tree.specs.Edits.{without_key}
 use Rattle.pages.specs.Answer.{IsAnswer}
 use Rattle.tree_search.specs.Calls.{entry_of, IsTree, IsWhole}
-use Rattle.tree_search.specs.Descent.{IsDescentStep, Steps, IsLook}
-use Rattle.bplus_tree.specs.Remove.{Becomes, BecomesShort, HasRemovedBelow, Removes, HasTaken, HasTakenIf, TakesBelow, IsTakenIf, HasTakenInPlace, HasTakenInPlaceIf, TakesInPlace, AreFullBut, IsHalfFullWithRoot, LacksOne, Rebalances, TakesOut, OutOfLeaf}
+use Rattle.tree_search.specs.Descent.{Steps, IsLook}
+use Rattle.bplus_tree.specs.Subtree.{head, Subtree, StandsIn, StandsWhole}
+use Rattle.bplus_tree.specs.Remove.{Becomes, HasRemovedBelow, Removes, HasTaken, HasTakenIf, TakesBelow, IsTakenIf, HasTakenInPlace}
+use Rattle.bplus_tree.specs.Remove.{HasTakenInPlaceIf}
+use Rattle.bplus_tree.specs.Remove.{TakesInPlace, AreFullBut, IsHalfFullWithRoot, LacksOne, Rebalances, OutOfLeaf}
 use Rattle.tree_search.proofs.FindLemmas.{differs, differs_back, found_past, missed_at, apart_behind}
 use Rattle.tree_search.proofs.RowLemmas.{RowAt, Inside, Each-append}
-use Rattle.bplus_tree.proofs.PageLemmas.{written_same, apart_left, apart_right, change_within, pages_live, rows_still}
+use Rattle.bplus_tree.proofs.GrowLemmas.{answer_map}
+use Rattle.bplus_tree.proofs.PageLemmas.{change_page, written_same, apart_left, apart_right, change_within, pages_live, rows_still}
 use Rattle.tree_search.proofs.RowLemmas.{each_left, each_right}
 use Rattle.tree_search.proofs.DescentLemmas.{below, entry_below, step_of, tree_ascends}
-
--- an answer says as much of what follows from it
-answers : {X : Type 0} (r : Result X Fault) (P Q : X → Type 0) → ((x : X) → P x → Q x) → IsAnswer r P → IsAnswer r Q
-answers (Ok x) P Q f a = record { answer = f x a.answer; no_damage = tt }
-answers (Err e) P Q f a = record { answer = tt; no_damage = a.no_damage }
 
 -- one of two cases
 le_or : (a b : ℕ) (Q : Type 0) → (a ≤ b → Q) → (b < a → Q) → Q
@@ -123,52 +122,51 @@ module _ (width : ℕ) (key : List ℕ) where
 
 -- ---- a leaf
 
--- the entry of a key was taken out of a leaf
-record Without (shape : Shape) (before after : PageMap) (page : ℕ) (low high : Bound) (key : List ℕ) (t : TreeOf zero) (i : ℕ) : Type 0 where
-  pub becomes : Becomes shape before after zero page low high (pages_of zero t) (size_of zero t - 1) (without_key shape.width key (entries_of zero t))
-  pub size : size_of zero becomes.tree ≡ length (remove t.1 i)
+abbrev pub Leaf : Shape → (page : ℕ) → Type 0
+Leaf shape page = Subtree (head shape zero page)
 
-leaf_without : (shape : Shape) (before after : PageMap) (page : ℕ) (low high : Bound) (key : List ℕ) (t : TreeOf zero) (i : ℕ) (e : List ℕ) → IsTree shape before zero page low high t → IsRank shape.width key t.1 i
-    → entry_of shape.width key t.1 ≡ Some e → IsLeafAt shape after page (remove t.1 i) → ((n : ℕ) → n ≢ page → after n ≡ before n) → Without shape before after page low high key t i
-leaf_without shape before after page low high key t i e tree rank was leaf frame =
-    let here = there shape.width key t.1 i e rank tree.ordered.0 was in
-    let p = λ (e : List ℕ). not (bytes_eq (take shape.width e) key) in
-    let fewer = length-remove t.1 i here.within in
-    let long : length (without_key shape.width key t.1) + 1 ≡ length t.1 = ap (λ (l : List (List ℕ)). length l + 1) (sym here.without) ∙ fewer in
-    let root = tree.root in
+-- the entry of a key was taken out of a leaf
+record Without {shape : Shape} {page : ℕ} (leaf : Leaf shape page) (before after : PageMap) (key : List ℕ) (i : ℕ) : Type 0 where
+  pub becomes : Becomes leaf before after (length leaf.tree.1 - 1) (without_key shape.width key leaf.tree.1)
+  pub size : length becomes.tree.1 ≡ length (remove leaf.tree.1 i)
+
+leaf_without : {shape : Shape} {page : ℕ} {before after : PageMap} (leaf : Leaf shape page) (key : List ℕ) (i : ℕ) (e : List ℕ)
+    → StandsIn before leaf → IsRank shape.width key leaf.tree.1 i → entry_of shape.width key leaf.tree.1 ≡ Some e
+    → IsLeafAt shape after page (remove leaf.tree.1 i) → ((n : ℕ) → n ≢ page → after n ≡ before n) → Without leaf before after key i
+leaf_without {shape} {page} {before} {after} leaf key i e stands rank was left frame =
+    let here = there shape.width key leaf.tree.1 i e rank stands.ordered.0 was in
+    let keeps = λ (e : List ℕ). not (bytes_eq (take shape.width e) key) in
+    let fewer = length-remove leaf.tree.1 i here.within in
+    let size : length (without_key shape.width key leaf.tree.1) ≡ length (remove leaf.tree.1 i) = ap length (sym here.without) in
     record {
       becomes = record {
-        tree = (page, without_key shape.width key t.1);
+        tree = (page, without_key shape.width key leaf.tree.1);
         stands = record {
-          holds = subst (IsLeafAt shape after page) here.without leaf;
+          holds = subst (IsLeafAt shape after page) here.without left;
           root = refl;
-          ordered = (ascends_filter shape.width p t.1 tree.ordered.0, each_filter (Inside shape.width low high) p t.1 tree.ordered.1);
+          ordered = (
+            ascends_filter shape.width keeps leaf.tree.1 stands.ordered.0,
+            each_filter (Inside shape.width leaf.low leaf.high) keeps leaf.tree.1 stands.ordered.1,
+          );
         };
         filled = tt;
         large = omega arith;
         has = refl;
-        changes = record {
-          others = λ n here_ off. let ne : n ≢ page = λ e. off.0 (e ∙ sym root) in (frame n ne, (ne, tt));
-          no_stray = λ n here_ off. (rw (← frame n off.0) here_, ((λ e. off.0 (e ∙ root)), tt));
-          apart = (tt, tt);
-        };
+        changes = change_page stands.root frame;
       };
-      size = ap length (sym here.without);
+      size = size;
     }
 
-pub leaf_removes : (shape : Shape) (before mid after : PageMap) (is_sound : Type 0) (page : ℕ) (low high : Bound) (key : List ℕ) (t : TreeOf zero) (look : Look) (entry : ArrayVec ℕ) (result : Result Bool Fault)
-    → mid ≡ before → IsTree shape before zero page low high t → IsLook shape.width key t.1 look → look.found ≡ Some entry → OutOfLeaf shape page look.place result mid after is_sound
-    → IsAnswer result (λ short. HasRemovedBelow shape before after zero page low high key t (Taken entry short) × is_sound)
-leaf_removes shape before mid after is_sound page low high key t look entry result same tree is found out =
-    let was : entry_of shape.width key t.1 ≡ Some entry.items = sym is.found ∙ ap (option_map (λ (e : ArrayVec ℕ). e.items)) found in
-    let here = there shape.width key t.1 look.place entry.items is.rank tree.ordered.0 was in
-    let at : IsLeafAt shape mid page t.1 = subst (λ (m : PageMap). IsLeafAt shape m page t.1) (sym same) (subst (λ (n : ℕ). IsLeafAt shape before n t.1) tree.root tree.holds) in
-    answers result (λ short. TakesOut shape mid after page (remove t.1 look.place) short × is_sound) (λ short. HasRemovedBelow shape before after zero page low high key t (Taken entry short) × is_sound)
-    (λ short taken.
-    let took = taken.0 in
-    let left = leaf_without shape before after page low high key t look.place entry.items tree is.rank was took.leaf (λ n ne. took.others n ne ∙ ap (λ (m : PageMap). m n) same) in
-    ((was, record { becomes = left.becomes; short_is = subst (λ (n : ℕ). IsTrue short ↔ (n < least_entries shape 0)) (sym left.size) took.short_is }), taken.1))
-    (out t.1 at here.within)
+pub leaf_removes : {shape : Shape} {page : ℕ} {before after : PageMap} {is_sound : Type 0} {result : Result Bool Fault}
+    (leaf : Leaf shape page) (key : List ℕ) (look : Look) (entry : ArrayVec ℕ) → StandsIn before leaf
+    → IsLook shape.width key leaf.tree.1 look → look.found ≡ Some entry → OutOfLeaf shape page look.place result before after is_sound
+    → IsAnswer result (λ short. HasRemovedBelow leaf before after key (Taken entry short) × is_sound)
+leaf_removes {shape} leaf key look entry stands is found out =
+    let was = sym is.found ∙ ap (option_map (λ (f : ArrayVec ℕ). f.items)) found in
+    let here = there shape.width key leaf.tree.1 look.place entry.items is.rank stands.ordered.0 was in
+    answer_map (out leaf.tree.1 (rw stands.root at stands.holds) here.within) (λ short taken.
+    let left = leaf_without leaf key look.place entry.items stands is.rank was taken.0.leaf taken.0.others in
+    ((was, record { becomes = left.becomes; short_is = rw left.size taken.0.short_is }), taken.1))
 
 -- ---- a leaf that has enough still
 
@@ -179,24 +177,25 @@ take_page shape before after page key old new entry true there writes leaf same 
 take_page shape before after page key old new entry false there writes leaf same taken =
     written_same before after page old there (record { page = writes.page ∙ ap Some (same refl); others = writes.others })
 
-leaf_taken : (shape : Shape) (before after : PageMap) (page : ℕ) (low high : Bound) (key : List ℕ) (t : TreeOf zero) (entry : List ℕ) → IsTree shape before zero page low high t
-    → HasTakenInPlace shape before after page key t.1 entry → HasTaken shape before after zero page low high key t entry
-leaf_taken shape before after page low high key t entry tree put =
+leaf_taken : {shape : Shape} {page : ℕ} {before after : PageMap} (leaf : Leaf shape page) (key entry : List ℕ) → StandsIn before leaf
+    → HasTakenInPlace shape before after page key leaf.tree.1 entry → HasTaken leaf before after key entry
+leaf_taken {shape} leaf key entry stands put =
     let taken = put.taken in
-    let left = leaf_without shape before after page low high key t taken.place entry tree taken.rank taken.was (subst (IsLeafAt shape after page) taken.left put.leaf) put.others in
-    let enough : least_entries shape zero ≤ size_of zero left.becomes.tree = subst (λ (n : ℕ). least_entries shape zero ≤ n) (ap length taken.left ∙ sym left.size) taken.enough in
+    let left = leaf_without leaf key taken.place entry stands taken.rank taken.was (rw taken.left at put.leaf) put.others in
+    let enough : least_entries shape zero ≤ length left.becomes.tree.1 = rw (left.size, ← taken.left) taken.enough in
     record { was = taken.was; becomes = left.becomes; enough = λ full. enough; rooted = λ r. tt }
 
-pub take_leaf : (shape : Shape) (before after : PageMap) (is_sound : Type 0) (h page : ℕ) (key : List ℕ) (entry : ArrayVec ℕ) (out : Result Bool Fault) → h ≡ 0 → TakesInPlace shape page key entry out before after is_sound
-    → TakesBelow shape h page key entry out before after is_sound
-take_leaf shape before after is_sound zero page key entry out none takes t low high whole =
-    answers out (λ done. HasTakenInPlaceIf shape before after page key t.1 entry done × is_sound) (λ done. HasTakenIf shape before after zero page low high key t entry.items done × is_sound)
-    (λ done put. (placed done put.0, put.1)) (takes t.1 (subst (λ (n : ℕ). IsLeafAt shape before n t.1) whole.stands.root whole.stands.holds) whole.stands.ordered.0)
+pub take_leaf : {shape : Shape} {page : ℕ} {before : PageMap} {is_sound : Type 0} {out : Result Bool Fault} (after : PageMap) (key : List ℕ)
+    (entry : ArrayVec ℕ) → TakesInPlace shape page key entry out before after is_sound
+    → TakesBelow (head shape zero page) key entry out before after is_sound
+take_leaf {shape} {page} {before} after key entry takes leaf whole =
+    let stands = whole.stands in
+    answer_map (takes leaf.tree.1 (rw stands.root at stands.holds) stands.ordered.0) (λ done put. (placed stands done put.0, put.1))
   where
-    placed : (done : Bool) → HasTakenInPlaceIf shape before after page key t.1 entry done → HasTakenIf shape before after zero page low high key t entry.items done
-    placed true put = leaf_taken shape before after page low high key t entry.items whole.stands put
-    placed false put = put
-take_leaf shape before after is_sound (suc h) page key entry out none takes t low high whole = absurd (omega arith)
+    placed : StandsIn before leaf → (done : Bool) → HasTakenInPlaceIf shape before after page key leaf.tree.1 entry done
+        → HasTakenIf leaf before after key entry.items done
+    placed stands true put = leaf_taken leaf key entry.items stands put
+    placed stands false put = put
 
 -- ---- a node
 
@@ -211,94 +210,153 @@ changes_trans a b c old mid new first second = record {
   apart = second.apart;
 }
 
--- a member of a row has a tree in its place that heads the same page
-pub record Replaced (shape : Shape) (before after : PageMap) (k : ℕ) (low high : Bound) (page : ℕ) (own : List ℕ) (ss : List (List ℕ)) (xs : List (TreeOf k)) : Type 0 where
-  pub stands : IsTree shape after (suc k) page low high (page, ss, xs)
-  pub changes : ChangesPages before after own (page ∷ flat_map (pages_of k) xs)
-
-pub replaced : (shape : Shape) (before after : PageMap) (k : ℕ) (low high : Bound) (page : ℕ) (t : TreeOf (suc k)) (front : List (TreeOf k)) (here new : TreeOf k) (back : List (TreeOf k))
-    → IsTree shape before (suc k) page low high t → AreApart (pages_of (suc k) t) → t.2 ≡ front ++ here ∷ back → Holds shape after k new → page_of k new ≡ page_of k here
-    → ChangesPages before after (pages_of k here) (pages_of k new) → IsRow (IsOrdered shape.width k) low t.1 (front ++ new ∷ back) high
-    → Replaced shape before after k low high page (pages_of (suc k) t) t.1 (front ++ new ∷ back)
-replaced shape before after k low high page t front here new back tree apart is holds root change row =
-    let ahead = page ∷ flat_map (pages_of k) front in
-    let behind = flat_map (pages_of k) back in
-    let own : pages_of (suc k) t ≡ ahead ++ (pages_of k here ++ behind) =
-    ap (λ (n : ℕ). n ∷ flat_map (pages_of k) t.2) tree.root ∙ ap (λ (l : List (TreeOf k)). page ∷ flat_map (pages_of k) l) is ∙ ap (λ (l : List ℕ). page ∷ l) (flat_map-append (pages_of k) front (here ∷ back)) in
-    let own' : page ∷ flat_map (pages_of k) (front ++ new ∷ back) ≡ ahead ++ (pages_of k new ++ behind) = ap (λ (l : List ℕ). page ∷ l) (flat_map-append (pages_of k) front (new ∷ back)) in
-    let live = subst (Each (λ n. IsSome (before n))) own (pages_live shape before (suc k) t tree.holds) in
-    let live_back = each_right (λ n. IsSome (before n)) (pages_of k here) behind (each_right (λ n. IsSome (before n)) ahead (pages_of k here ++ behind) live) in
-    let within = change_within before after ahead (pages_of k here) (pages_of k new) behind (subst AreApart own apart)
-    (each_left (λ n. IsSome (before n)) ahead (pages_of k here ++ behind) live) live_back change in
-    let same_pages : map (page_of k) (front ++ new ∷ back) ≡ map (page_of k) t.2 =
-    map-append (page_of k) front (new ∷ back) ∙ ap (λ (n : ℕ). map (page_of k) front ++ n ∷ map (page_of k) back) root ∙ sym (map-append (page_of k) front (here ∷ back)) ∙ ap (map (page_of k)) (sym is) in
-    let kids = subst (Each (Holds shape before k)) is tree.holds.1 in
-    let node = tree.holds.0 in
-    record {
-      stands = record {
-        holds = (
-          record { bytes = node.bytes; there = within.same_front.0 ∙ ap before (sym tree.root) ∙ node.there; inner = node.inner; rises = node.rises; leads = node.leads ∙ sym same_pages },
-          Each-append (Holds shape after k) front (new ∷ back)
-              (rows_still shape before after k front (each_left (Holds shape before k) front (here ∷ back) kids) within.same_front.1)
-              (holds, rows_still shape before after k back (each_right (Holds shape before k) front (here ∷ back) kids).1 within.same_back),
-        );
-        root = refl;
-        ordered = (tree.ordered.0, row);
-      };
-      changes = subst (λ (l : List ℕ). ChangesPages before after l (page ∷ flat_map (pages_of k) (front ++ new ∷ back))) (sym own)
-          (subst (λ (l : List ℕ). ChangesPages before after (ahead ++ (pages_of k here ++ behind)) l) (sym own') within.changes);
-    }
-
--- the child below which a key belongs, as a tree of its own
-pub record Child (shape : Shape) (before : PageMap) (k page : ℕ) (low high : Bound) (key : List ℕ) (t : TreeOf (suc k)) (step : StepDown) : Type 0 where
-  pub row : RowAt shape.width (TreeOf k) (IsOrdered shape.width k) (entries_of k) low t.1 t.2 high key step.place
-  pub whole : IsWhole shape before k step.child row.from row.to row.here
-  pub size : least_entries shape k ≤ size_of k row.here
-  pub in_front : Each (IsHalfFullWithRoot shape k) row.front
-  pub behind : Each (IsHalfFullWithRoot shape k) row.back
+-- a node with so many levels below its children
+abbrev pub Inner : Shape → (k page : ℕ) → Type 0
+Inner shape k page = Subtree (head shape (suc k) page)
 
 pub full_rooted : (shape : Shape) (k : ℕ) (t : TreeOf k) → least_entries shape k ≤ size_of k t → IsRooted k t
 full_rooted shape zero t h = tt
 full_rooted shape (suc k) t h = let room = inner_room_some shape in omega arith
 
-pub child_of_whole : (shape : Shape) (before : PageMap) (k page : ℕ) (low high : Bound) (key : List ℕ) (t : TreeOf (suc k)) (step : StepDown)
-    → IsWhole shape before (suc k) page low high t → IsDescentStep shape.width key t.1 (map (page_of k) t.2) step → Child shape before k page low high key t step
-child_of_whole shape before k page low high key t step whole is =
-    let b = below shape before k page low high key t step whole.stands is in
-    let fill = subst (Each (IsHalfFullWithRoot shape k)) b.row.is whole.filled in
-    let rest = each_right (IsHalfFullWithRoot shape k) b.row.front (b.row.here ∷ b.row.back) fill in
-    let own = ap (flat_map (pages_of k)) b.row.is ∙ flat_map-append (pages_of k) b.row.front (b.row.here ∷ b.row.back) in
-    let apart = subst AreApart own whole.apart.1 in
-    record {
-      row = b.row;
-      whole = record {
-        stands = b.child;
-        apart = apart_left (pages_of k b.row.here) (flat_map (pages_of k) b.row.back) (apart_right (flat_map (pages_of k) b.row.front) (pages_of k b.row.here ++ flat_map (pages_of k) b.row.back) apart);
-        filled = rest.0.1;
-        rooted = full_rooted shape k b.row.here rest.0.0;
-      };
-      size = rest.0.0;
-      in_front = each_left (IsHalfFullWithRoot shape k) b.row.front (b.row.here ∷ b.row.back) fill;
-      behind = rest.1;
+module _ {shape : Shape} {k page : ℕ} where
+  -- what a change below one child leaves of the node and of the other children
+  pub record Around (node : Inner shape k page) (before after : PageMap) (front back : List (TreeOf k)) (new : List ℕ) : Type 0 where
+    pub changes : ChangesPages before after (pages_of (suc k) node.tree)
+        (page ∷ (flat_map (pages_of k) front ++ (new ++ flat_map (pages_of k) back)))
+    pub parent : IsInnerAt shape after page node.tree.1 (map (page_of k) node.tree.2)
+    pub in_front : Each (Holds shape after k) front
+    pub behind : Each (Holds shape after k) back
+
+  pub around : {before after : PageMap} (node : Inner shape k page) (front : List (TreeOf k)) (here : TreeOf k) (back : List (TreeOf k))
+      (new : List ℕ) → StandsIn before node → AreApart (pages_of (suc k) node.tree) → node.tree.2 ≡ front ++ here ∷ back
+      → ChangesPages before after (pages_of k here) new → Around node before after front back new
+  around {before} {after} node front here back new stands apart is change =
+      let ahead = page ∷ flat_map (pages_of k) front in
+      let behind = flat_map (pages_of k) back in
+      let own : pages_of (suc k) node.tree ≡ ahead ++ (pages_of k here ++ behind) =
+      ap (λ (n : ℕ). n ∷ flat_map (pages_of k) node.tree.2) stands.root
+      ∙ ap (λ (l : List ℕ). page ∷ l) (ap (flat_map (pages_of k)) is ∙ flat_map-append (pages_of k) front (here ∷ back)) in
+      let live = subst (Each (λ n. IsSome (before n))) own (pages_live shape before (suc k) node.tree stands.holds) in
+      let live_ahead = each_left (λ n. IsSome (before n)) ahead (pages_of k here ++ behind) live in
+      let live_behind = each_right (λ n. IsSome (before n)) (pages_of k here) behind
+      (each_right (λ n. IsSome (before n)) ahead (pages_of k here ++ behind) live) in
+      let within = change_within before after ahead (pages_of k here) new behind (subst AreApart own apart) live_ahead live_behind change in
+      let kids = subst (Each (Holds shape before k)) is stands.holds.1 in
+      let at = stands.holds.0 in
+      record {
+        changes = subst (λ (l : List ℕ). ChangesPages before after l (ahead ++ (new ++ behind))) (sym own) within.changes;
+        parent = record {
+          bytes = at.bytes;
+          there = within.same_front.0 ∙ ap before (sym stands.root) ∙ at.there;
+          inner = at.inner;
+          rises = at.rises;
+          leads = at.leads;
+        };
+        in_front = rows_still shape before after k front (each_left (Holds shape before k) front (here ∷ back) kids) within.same_front.1;
+        behind = rows_still shape before after k back (each_right (Holds shape before k) front (here ∷ back) kids).1 within.same_back;
+      }
+
+  -- a member of a row has a tree in its place that heads the same page
+  pub record Replaced (node : Inner shape k page) (before after : PageMap) (xs : List (TreeOf k)) : Type 0 where
+    pub stands : IsTree shape after (suc k) page node.low node.high (page, node.tree.1, xs)
+    pub changes : ChangesPages before after (pages_of (suc k) node.tree) (page ∷ flat_map (pages_of k) xs)
+
+  replaced : {before after : PageMap} (node : Inner shape k page) (front : List (TreeOf k)) (here new : TreeOf k) (back : List (TreeOf k))
+      → StandsIn before node → AreApart (pages_of (suc k) node.tree) → node.tree.2 ≡ front ++ here ∷ back → Holds shape after k new
+      → page_of k new ≡ page_of k here → ChangesPages before after (pages_of k here) (pages_of k new)
+      → IsRow (IsOrdered shape.width k) node.low node.tree.1 (front ++ new ∷ back) node.high
+      → Replaced node before after (front ++ new ∷ back)
+  replaced {before} {after} node front here new back stands apart is holds root change row =
+      let a = around node front here back (pages_of k new) stands apart is change in
+      let same_pages : map (page_of k) node.tree.2 ≡ map (page_of k) (front ++ new ∷ back) =
+      ap (map (page_of k)) is ∙ map-append (page_of k) front (here ∷ back)
+      ∙ ap (λ (n : ℕ). map (page_of k) front ++ n ∷ map (page_of k) back) (sym root) ∙ sym (map-append (page_of k) front (new ∷ back)) in
+      record {
+        stands = record {
+          holds = (
+            subst (IsInnerAt shape after page node.tree.1) same_pages a.parent,
+            Each-append (Holds shape after k) front (new ∷ back) a.in_front (holds, a.behind),
+          );
+          root = refl;
+          ordered = (stands.ordered.0, row);
+        };
+        changes = rw (flat_map-append (pages_of k) front (new ∷ back)) a.changes;
+      }
+
+  -- the child below which a key belongs, as a tree of its own
+  pub record Child (before : PageMap) (node : Inner shape k page) (key : List ℕ) (step : StepDown) : Type 0 where
+    pub row : RowAt shape.width (TreeOf k) (IsOrdered shape.width k)
+        (entries_of k) node.low node.tree.1 node.tree.2 node.high key step.place
+    pub whole : IsWhole shape before k step.child row.from row.to row.here
+    pub size : least_entries shape k ≤ size_of k row.here
+    pub in_front : Each (IsHalfFullWithRoot shape k) row.front
+    pub behind : Each (IsHalfFullWithRoot shape k) row.back
+    pub count : step.count ≡ length node.tree.1
+    pub entry : entry_of shape.width key (flat_map (entries_of k) node.tree.2) ≡ entry_of shape.width key (entries_of k row.here)
+
+  abbrev pub below_it : {before : PageMap} {node : Inner shape k page} {key : List ℕ} {step : StepDown} → Child before node key step
+      → Subtree (head shape k step.child)
+  below_it child = record { low = child.row.from; high = child.row.to; tree = child.row.here }
+
+  pub child_at : {before : PageMap} {key : List ℕ} {step : StepDown} (node : Inner shape k page) → StandsWhole before node
+      → Steps shape before page key (Ok step) → Child before node key step
+  child_at {before} {key} {step} node whole steps =
+      let is = (step_of shape before k page node.low node.high key node.tree (Ok step) whole.stands steps).answer in
+      let b = below shape before k page node.low node.high key node.tree step whole.stands is in
+      let fill = subst (Each (IsHalfFullWithRoot shape k)) b.row.is whole.filled in
+      let rest = each_right (IsHalfFullWithRoot shape k) b.row.front (b.row.here ∷ b.row.back) fill in
+      let own = ap (flat_map (pages_of k)) b.row.is ∙ flat_map-append (pages_of k) b.row.front (b.row.here ∷ b.row.back) in
+      let behind = apart_right (flat_map (pages_of k) b.row.front) (pages_of k b.row.here ++ flat_map (pages_of k) b.row.back)
+      (subst AreApart own whole.apart.1) in
+      record {
+        row = b.row;
+        whole = record {
+          stands = b.child;
+          apart = apart_left (pages_of k b.row.here) (flat_map (pages_of k) b.row.back) behind;
+          filled = rest.0.1;
+          rooted = full_rooted shape k b.row.here rest.0.0;
+        };
+        size = rest.0.0;
+        in_front = each_left (IsHalfFullWithRoot shape k) b.row.front (b.row.here ∷ b.row.back) fill;
+        behind = rest.1;
+        count = is.count;
+        entry = entry_below shape.width k key node.low node.high node.tree.1 node.tree.2 step.place b.row;
+      }
+
+  -- a descent that fails
+  pub descent_fails : {X : Type 0} {before : PageMap} {key : List ℕ} {fault : Fault} {out : Result X Fault} {P : X → Type 0}
+      (node : Inner shape k page) → StandsWhole before node → Steps shape before page key (Err fault) → IsErrAnd out (λ e. e ≡ fault)
+      → IsAnswer out P
+  descent_fails {before} {key} {fault} {out} {P} node whole steps was =
+      fails out fault P was (step_of shape before k page node.low node.high key node.tree (Err fault) whole.stands steps).no_damage
+
+  -- the node with another tree in the place of that child
+  module _ {before after : PageMap} {key : List ℕ} {step : StepDown} {least : ℕ} {es : List (List ℕ)} (node : Inner shape k page)
+      (whole : StandsWhole before node) (child : Child before node key step) (new : Becomes (below_it child) before after least es) where
+    pub with_child : Replaced node before after (child.row.front ++ new.tree ∷ child.row.back)
+    with_child = replaced node child.row.front child.row.here new.tree child.row.back whole.stands whole.apart child.row.is new.stands.holds
+        (new.stands.root ∙ sym child.whole.stands.root) new.changes (child.row.put new.tree new.stands.ordered)
+
+    abbrev pub node_becomes : (floor : ℕ) (entries : List (List ℕ)) → least_entries shape k ≤ size_of k new.tree
+        → floor ≤ length node.tree.1 → flat_map (entries_of k) (child.row.front ++ new.tree ∷ child.row.back) ≡ entries
+        → Becomes node before after floor entries
+    node_becomes floor entries full large has = record {
+      tree = (page, node.tree.1, child.row.front ++ new.tree ∷ child.row.back);
+      stands = with_child.stands;
+      filled = Each-append (IsHalfFullWithRoot shape k) child.row.front (new.tree ∷ child.row.back) child.in_front
+          ((full, new.filled), child.behind);
+      large = large;
+      has = has;
+      changes = with_child.changes;
     }
 
--- the node with the child as it is now
-pub record WithChild (shape : Shape) (before after : PageMap) (k page : ℕ) (low high : Bound) (key : List ℕ) (t : TreeOf (suc k)) (xs : List (TreeOf k)) : Type 0 where
-  pub put : Replaced shape before after k low high page (pages_of (suc k) t) t.1 xs
-  pub has : flat_map (entries_of k) xs ≡ without_key shape.width key (flat_map (entries_of k) t.2)
-
-pub with_child : (shape : Shape) (before after : PageMap) (k page : ℕ) (low high : Bound) (key : List ℕ) (t : TreeOf (suc k)) (step : StepDown)
-    → IsWhole shape before (suc k) page low high t → (child : Child shape before k page low high key t step)
-    → (new : Becomes shape before after k step.child child.row.from child.row.to (pages_of k child.row.here) (size_of k child.row.here - 1) (without_key shape.width key (entries_of k child.row.here)))
-    → WithChild shape before after k page low high key t (child.row.front ++ new.tree ∷ child.row.back)
-with_child shape before after k page low high key t step whole child new =
-    let row = child.row in
-    record {
-      put = replaced shape before after k low high page t row.front row.here new.tree row.back whole.stands whole.apart row.is new.stands.holds (new.stands.root ∙ sym child.whole.stands.root)
-          new.changes (row.put new.tree new.stands.ordered);
-      has = without_within shape.width key (entries_of k) row.front row.here new.tree row.back row.below row.above new.has
-          ∙ ap (λ (l : List (TreeOf k)). without_key shape.width key (flat_map (entries_of k) l)) (sym row.is);
-    }
+  has_without : {before : PageMap} {key : List ℕ} {step : StepDown} {node : Inner shape k page} (child : Child before node key step)
+      (new : TreeOf k) → entries_of k new ≡ without_key shape.width key (entries_of k child.row.here)
+      → flat_map (entries_of k) (child.row.front ++ new ∷ child.row.back) ≡ without_key shape.width key
+      (flat_map (entries_of k) node.tree.2)
+  has_without {key} child new has =
+      without_within shape.width key (entries_of k) child.row.front child.row.here new child.row.back child.row.below child.row.above has
+      ∙ ap (λ (l : List (TreeOf k)). without_key shape.width key (flat_map (entries_of k) l)) (sym child.row.is)
 
 but_here : {X : Type 0} (F L : X → Type 0) (front : List X) (x : X) (back : List X) (place : ℕ) → length front ≡ place → Each F front → L x → Each F back → AreFullBut F L place (front ++ x ∷ back)
 but_here F L [] x back zero is a l b = (l, b)
@@ -306,167 +364,110 @@ but_here F L [] x back (suc place) is a l b = absurd (omega arith)
 but_here F L (y ∷ front) x back zero is a l b = absurd (omega arith)
 but_here F L (y ∷ front) x back (suc place) is a l b = (a.0, but_here F L front x back place (omega arith) a.1 l b)
 
-module _ (shape : Shape) (h k page : ℕ) (key : List ℕ) (one : h ≡ suc k) where
-  at_one : (before after : PageMap) (is_sound : Type 0) (out : Result Shrunk Fault) → Removes shape (suc k) page key out before after is_sound → Removes shape h page key out before after is_sound
-  at_one before after is_sound out r = subst (λ (n : ℕ). Removes shape n page key out before after is_sound) (sym one) r
+pub takes_at : {shape : Shape} {n m page : ℕ} {before : PageMap} {is_sound : Type 0} {out : Result Bool Fault} (after : PageMap)
+    (key : List ℕ) (entry : ArrayVec ℕ) → n ≡ m → TakesBelow (head shape m page) key entry out before after is_sound
+    → TakesBelow (head shape n page) key entry out before after is_sound
+takes_at {shape} {page} {before} {is_sound} {out} after key entry same =
+    subst (λ (levels : ℕ). TakesBelow (head shape levels page) key entry out before after is_sound) (sym same)
 
-  pub down_fails : (before after : PageMap) (is_sound : Type 0) (fault : Fault) (out : Result Shrunk Fault) → Steps shape before page key (Err fault) → IsErrAnd out (λ e. e ≡ fault)
-      → Removes shape h page key out before after is_sound
-  down_fails before after is_sound fault out steps was = at_one before after is_sound out (λ t low high whole.
-      let a = step_of shape before k page low high key t (Err fault) whole.stands steps in
-      fails out fault (λ shrunk. HasRemovedBelow shape before after (suc k) page low high key t shrunk × is_sound) was a.no_damage)
+pub removes_at : {shape : Shape} {n m page : ℕ} {before : PageMap} {is_sound : Type 0} {out : Result Shrunk Fault} (after : PageMap)
+    (key : List ℕ) → n ≡ m → Removes (head shape m page) key out before after is_sound
+    → Removes (head shape n page) key out before after is_sound
+removes_at {shape} {page} {before} {is_sound} {out} after key same =
+    subst (λ (levels : ℕ). Removes (head shape levels page) key out before after is_sound) (sym same)
 
-  pub take_fails : (before after : PageMap) (is_sound : Type 0) (entry : ArrayVec ℕ) (fault : Fault) (out : Result Bool Fault) → Steps shape before page key (Err fault) → IsErrAnd out (λ e. e ≡ fault)
-      → TakesBelow shape h page key entry out before after is_sound
-  take_fails before after is_sound entry fault out steps was = subst (λ (n : ℕ). TakesBelow shape n page key entry out before after is_sound) (sym one) (λ t low high whole.
-      let a = step_of shape before k page low high key t (Err fault) whole.stands steps in
-      fails out fault (λ done. HasTakenIf shape before after (suc k) page low high key t entry.items done × is_sound) was a.no_damage)
+module _ {shape : Shape} {k page : ℕ} {before : PageMap} {key : List ℕ} {step : StepDown} {is_sound : Type 0}
+    (steps : Steps shape before page key (Ok step)) (after : PageMap) where
+  pub take_inner : {out : Result Bool Fault} (entry : ArrayVec ℕ) → TakesBelow (head shape k step.child) key entry out before after is_sound
+      → TakesBelow (head shape (suc k) page) key entry out before after is_sound
+  take_inner entry takes node whole =
+      answer_map (takes (below_it (child_at node whole steps)) (child_at node whole steps).whole)
+      (λ done put. (taken (child_at node whole steps) done put.0, put.1))
+    where
+      taken : (child : Child before node key step) (done : Bool) → HasTakenIf (below_it child) before after key entry.items done
+          → HasTakenIf node before after key entry.items done
+      taken child true put = record {
+        was = child.entry ∙ put.was;
+        becomes = node_becomes node whole child put.becomes (length node.tree.1 - 1) _ (put.enough child.size) (omega arith)
+            (has_without child put.becomes.tree put.becomes.has);
+        enough = λ f. f;
+        rooted = λ r. r;
+      }
+      taken child false put = put
 
-  module _ (before mid : PageMap) (same : mid ≡ before) (step : StepDown) (steps : Steps shape before page key (Ok step)) where
-    child_at : (low high : Bound) (t : TreeOf (suc k)) → IsWhole shape before (suc k) page low high t → Child shape before k page low high key t step
-    child_at low high t whole = child_of_whole shape before k page low high key t step whole (step_of shape before k page low high key t (Ok step) whole.stands steps).answer
+  pub child_absent : Removes (head shape k step.child) key (Ok Absent) before after is_sound
+      → Removes (head shape (suc k) page) key (Ok Absent) before after is_sound
+  child_absent removes node whole =
+      let child = child_at node whole steps in
+      let a = (removes (below_it child) child.whole).answer in
+      record { answer = ((child.entry ∙ a.0.0, a.0.1), a.1); no_damage = tt }
 
-    below_answer : (after : PageMap) (is_sound : Type 0) (out : Result Shrunk Fault) (low high : Bound) (t : TreeOf (suc k)) (whole : IsWhole shape before (suc k) page low high t) → Removes shape k step.child key out mid after is_sound
-        → (let child = child_at low high t whole in IsAnswer out (λ shrunk. HasRemovedBelow shape before after k step.child child.row.from child.row.to key child.row.here shrunk × is_sound))
-    below_answer after is_sound out low high t whole removes =
-        let child = child_at low high t whole in
-        (subst (λ (m : PageMap). Removes shape k step.child key out m after is_sound) same removes) child.row.here child.row.from child.row.to child.whole
+  -- the child has enough still
+  pub child_taken : (entry : ArrayVec ℕ) (short few : Bool) → short ≡ false → IsTrue few ↔ (step.count < least_entries shape 1)
+      → Removes (head shape k step.child) key (Ok (Taken entry short)) before after is_sound
+      → Removes (head shape (suc k) page) key (Ok (Taken entry few)) before after is_sound
+  child_taken entry short few enough few_is removes node whole =
+      let child = child_at node whole steps in
+      let a = (removes (below_it child) child.whole).answer in
+      let new = a.0.1.becomes in
+      let full = not_short (size_of k new.tree) (least_entries shape k) short enough a.0.1.short_is in
+      record {
+        no_damage = tt;
+        answer = (
+          (
+            child.entry ∙ a.0.0,
+            record {
+              becomes = node_becomes node whole child new (length node.tree.1 - 1) _ full (omega arith)
+                  (has_without child new.tree new.has);
+              short_is = rw child.count at few_is;
+            },
+          ),
+          a.1,
+        );
+      }
+    where
+      not_short : (size room : ℕ) (short : Bool) → short ≡ false → IsTrue short ↔ (size < room) → room ≤ size
+      not_short size room short enough is = le_or room size (room ≤ size) (λ h. h) (λ h. let yes = is.1 h in absurd (cc (yes, enough)))
 
-    pub take_inner : (after : PageMap) (is_sound : Type 0) (entry : ArrayVec ℕ) (out : Result Bool Fault) → TakesBelow shape k step.child key entry out mid after is_sound → TakesBelow shape h page key entry out before after is_sound
-    take_inner after is_sound entry out takes = subst (λ (n : ℕ). TakesBelow shape n page key entry out before after is_sound) (sym one) take_at_one
-      where
-        take_at_one : TakesBelow shape (suc k) page key entry out before after is_sound
-        take_at_one t low high whole =
-            let child = child_at low high t whole in
-            let a = (subst (λ (m : PageMap). TakesBelow shape k step.child key entry out m after is_sound) same takes) child.row.here child.row.from child.row.to child.whole in
-            answers out (λ done. HasTakenIf shape before after k step.child child.row.from child.row.to key child.row.here entry.items done × is_sound)
-            (λ done. HasTakenIf shape before after (suc k) page low high key t entry.items done × is_sound) (λ done put. (taken child done put.0, put.1)) a
-          where
-            taken : (child : Child shape before k page low high key t step) → (done : Bool) → HasTakenIf shape before after k step.child child.row.from child.row.to key child.row.here entry.items done
-                → HasTakenIf shape before after (suc k) page low high key t entry.items done
-            taken child true put =
-                let new = put.becomes in
-                let w = with_child shape before after k page low high key t step whole child new in
-                let full = put.enough child.size in
-                record {
-                  was = entry_below shape.width k key low high t.1 t.2 step.place child.row ∙ put.was;
-                  becomes = record {
-                    tree = (page, t.1, child.row.front ++ new.tree ∷ child.row.back);
-                    stands = w.put.stands;
-                    filled = Each-append (IsHalfFullWithRoot shape k) child.row.front (new.tree ∷ child.row.back) child.in_front ((full, new.filled), child.behind);
-                    large = omega arith;
-                    has = w.has;
-                    changes = w.put.changes;
-                  };
-                  enough = λ f. f;
-                  rooted = λ r. r;
-                }
-            taken child false put = put
-
-    pub child_fails : (after : PageMap) (is_sound : Type 0) (fault : Fault) (out : Result Shrunk Fault) → Removes shape k step.child key (Err fault) mid after is_sound → IsErrAnd out (λ e. e ≡ fault)
-        → Removes shape h page key out before after is_sound
-    child_fails after is_sound fault out removes was = at_one before after is_sound out (λ t low high whole.
-        let a = below_answer after is_sound (Err fault) low high t whole removes in
-        fails out fault (λ shrunk. HasRemovedBelow shape before after (suc k) page low high key t shrunk × is_sound) was a.no_damage)
-
-    pub child_absent : (after : PageMap) (is_sound : Type 0) → Removes shape k step.child key (Ok Absent) mid after is_sound → Removes shape h page key (Ok Absent) before after is_sound
-    child_absent after is_sound removes = at_one before after is_sound (Ok Absent) (λ t low high whole.
-        let child = child_at low high t whole in
-        let a = (below_answer after is_sound (Ok Absent) low high t whole removes).answer in
-        record { answer = ((entry_below shape.width k key low high t.1 t.2 step.place child.row ∙ a.0.0, a.0.1), a.1); no_damage = tt })
-
-    -- the child has enough still
-    pub child_taken : (after : PageMap) (is_sound : Type 0) (entry : ArrayVec ℕ) (short few : Bool) → short ≡ false → IsTrue few ↔ (step.count < least_entries shape 1)
-        → Removes shape k step.child key (Ok (Taken entry short)) mid after is_sound → Removes shape h page key (Ok (Taken entry few)) before after is_sound
-    child_taken after is_sound entry short few enough few_is removes = at_one before after is_sound (Ok (Taken entry few)) (λ t low high whole.
-        let child = child_at low high t whole in
-        let a = (below_answer after is_sound (Ok (Taken entry short)) low high t whole removes).answer in
-        let new = a.0.1.becomes in
-        let w = with_child shape before after k page low high key t step whole child new in
-        let full : least_entries shape k ≤ size_of k new.tree = not_short (size_of k new.tree) (least_entries shape k) short enough a.0.1.short_is in
-        let count = (step_of shape before k page low high key t (Ok step) whole.stands steps).answer.count in
-        record {
-          no_damage = tt;
-          answer = (
-            (
-              entry_below shape.width k key low high t.1 t.2 step.place child.row ∙ a.0.0,
-              record {
-                becomes = record {
-                  tree = (page, t.1, child.row.front ++ new.tree ∷ child.row.back);
-                  stands = w.put.stands;
-                  filled = Each-append (IsHalfFullWithRoot shape k) child.row.front (new.tree ∷ child.row.back) child.in_front ((full, new.filled), child.behind);
-                  large = omega arith;
-                  has = w.has;
-                  changes = w.put.changes;
-                };
-                short_is = subst (λ (n : ℕ). IsTrue few ↔ (n < least_entries shape 1)) count few_is;
-              },
-            ),
-            a.1,
-          );
-        })
-      where
-        not_short : (size room : ℕ) (short : Bool) → short ≡ false → IsTrue short ↔ (size < room) → room ≤ size
-        not_short size room short enough is = le_or room size (room ≤ size) (λ h. h) (λ h. let yes = is.1 h in absurd (cc (yes, enough)))
-
-    -- the child lacked one, and the node was rebalanced
-    pub child_rebalanced : (after late : PageMap) (is_sound : Type 0) (was_sound : Type 0) (entry : ArrayVec ℕ) (short : Bool) (rebalanced : Result Bool Fault) → short ≡ true
-        → Removes shape k step.child key (Ok (Taken entry short)) mid after was_sound → (was_sound → Rebalances shape k page step.place rebalanced after late is_sound)
-        → (t : TreeOf (suc k)) (low high : Bound) → IsWhole shape before (suc k) page low high t
-        → IsAnswer rebalanced (λ few. HasRemovedBelow shape before late (suc k) page low high key t (Taken entry few) × is_sound)
-    child_rebalanced after late is_sound was_sound entry short rebalanced lacks removes rebalances t low high whole =
-        let child = child_at low high t whole in
-        let a = (below_answer after was_sound (Ok (Taken entry short)) low high t whole removes).answer in
-        let new = a.0.1.becomes in
-        let w = with_child shape before after k page low high key t step whole child new in
-        let size = child.size in
-        let large = new.large in
-        let under : size_of k new.tree < least_entries shape k = a.0.1.short_is.0 (rw lacks refl) in
-        let one_less : least_entries shape k ≡ size_of k new.tree + 1 = omega arith in
-        let xs = child.row.front ++ new.tree ∷ child.row.back in
-        let but = but_here (IsHalfFullWithRoot shape k) (LacksOne shape k) child.row.front new.tree child.row.back step.place child.row.at child.in_front (one_less, new.filled) child.behind in
-        let m = rebalances a.1 (page, t.1, xs) low high w.put.stands w.put.changes.apart but whole.rooted in
-        record {
-          no_damage = m.no_damage;
-          answer = if_ok rebalanced (λ few. BecomesShort shape after late (suc k) page low high (page ∷ flat_map (pages_of k) xs) (length t.1 - 1) (flat_map (entries_of k) xs) few × is_sound)
-              (λ few. HasRemovedBelow shape before late (suc k) page low high key t (Taken entry few) × is_sound)
-              (λ few done.
-              let b = done.0.becomes in (
-                (
-                  entry_below shape.width k key low high t.1 t.2 step.place child.row ∙ a.0.0,
-                  record {
-                    becomes = record {
-                      tree = b.tree;
-                      stands = b.stands;
-                      filled = b.filled;
-                      large = b.large;
-                      has = b.has ∙ w.has;
-                      changes = changes_trans before after late (pages_of (suc k) t) (page ∷ flat_map (pages_of k) xs) (pages_of (suc k) b.tree) w.put.changes b.changes;
-                    };
-                    short_is = done.0.short_is;
-                  },
-                ),
-                done.1,
-              ))
-              m.answer;
-        }
-      where
-        if_ok : {X : Type 0} (r : Result X Fault) (P Q : X → Type 0) → ((x : X) → P x → Q x) → IfOk r P → IfOk r Q
-        if_ok (Ok x) P Q f h = f x h
-        if_ok (Err e) P Q f h = tt
-
-    pub rebalanced_ok : (after late : PageMap) (is_sound was_sound : Type 0) (entry : ArrayVec ℕ) (short few : Bool) → short ≡ true
-        → Removes shape k step.child key (Ok (Taken entry short)) mid after was_sound → (was_sound → Rebalances shape k page step.place (Ok few) after late is_sound)
-        → Removes shape h page key (Ok (Taken entry few)) before late is_sound
-    rebalanced_ok after late is_sound was_sound entry short few lacks removes rebalances = at_one before late is_sound (Ok (Taken entry few)) (λ t low high whole.
-        record { answer = (child_rebalanced after late is_sound was_sound entry short (Ok few) lacks removes rebalances t low high whole).answer; no_damage = tt })
-
-    pub rebalance_fails : (after late : PageMap) (is_sound was_sound : Type 0) (entry : ArrayVec ℕ) (short : Bool) (fault : Fault) (out : Result Shrunk Fault) → short ≡ true
-        → Removes shape k step.child key (Ok (Taken entry short)) mid after was_sound → (was_sound → Rebalances shape k page step.place (Err fault) after late is_sound) → IsErrAnd out (λ e. e ≡ fault)
-        → Removes shape h page key out before late is_sound
-    rebalance_fails after late is_sound was_sound entry short fault out lacks removes rebalances was = at_one before late is_sound out (λ t low high whole.
-        fails out fault (λ shrunk. HasRemovedBelow shape before late (suc k) page low high key t shrunk × is_sound) was
-        (child_rebalanced after late is_sound was_sound entry short (Err fault) lacks removes rebalances t low high whole).no_damage)
+  -- the child lacked one, and the node was rebalanced
+  pub child_rebalanced : {was_sound : Type 0} {rebalanced : Result Bool Fault} (late : PageMap) (entry : ArrayVec ℕ) (short : Bool)
+      → short ≡ true → Removes (head shape k step.child) key (Ok (Taken entry short)) before after was_sound
+      → (was_sound → Rebalances shape k page step.place rebalanced after late is_sound) → (node : Inner shape k page)
+      → StandsWhole before node → IsAnswer rebalanced (λ few. HasRemovedBelow node before late key (Taken entry few) × is_sound)
+  child_rebalanced late entry short lacks removes rebalances node whole =
+      let child = child_at node whole steps in
+      let row = child.row in
+      let a = (removes (below_it child) child.whole).answer in
+      let new = a.0.1.becomes in
+      let put = with_child node whole child new in
+      let size = child.size in
+      let large = new.large in
+      let under : size_of k new.tree < least_entries shape k = a.0.1.short_is.0 (rw lacks refl) in
+      let one_less : least_entries shape k ≡ size_of k new.tree + 1 = omega arith in
+      let but = but_here (IsHalfFullWithRoot shape k) (LacksOne shape k) row.front new.tree row.back step.place row.at child.in_front
+      (one_less, new.filled) child.behind in
+      let now : Inner shape k page =
+      record { low = node.low; high = node.high; tree = (page, node.tree.1, row.front ++ new.tree ∷ row.back) } in
+      answer_map (rebalances a.1 now (record { stands = put.stands; apart = put.changes.apart; full = but; some = whole.rooted }))
+      (λ few done.
+      let b = done.0.becomes in (
+        (
+          child.entry ∙ a.0.0,
+          record {
+            becomes = record {
+              tree = b.tree;
+              stands = b.stands;
+              filled = b.filled;
+              large = b.large;
+              has = b.has ∙ has_without child new.tree new.has;
+              changes = changes_trans before after late (pages_of (suc k) node.tree) (pages_of (suc k) now.tree) (pages_of (suc k) b.tree)
+                  put.changes b.changes;
+            };
+            short_is = done.0.short_is;
+          },
+        ),
+        done.1,
+      ))
 
 -- ---- one entry less
 

@@ -16,57 +16,70 @@ use Rattle.tree_node.specs.declared.shape.Shape.{Shape}
 use Rattle.bplus_tree.specs.Start.{HasStarted}
 use Rattle.bplus_tree.specs.Standing.{TreeStands, HasRemoved, IsNewTree}
 use Rattle.bplus_tree.proofs.RemoveLemmas.{changes_trans, taken_once}
+use Rattle.bplus_tree.proofs.RootLemmas.{at_root}
 
-pub removed_absent : (before after : PageMap) (old : Tree) (key : List ℕ) (entries : List (List ℕ)) (own : List ℕ) (stands : TreeStands old before entries own)
-    → HasRemovedBelow old.shape before after old.levels old.root None None key stands.value Absent → HasRemoved before after old old key entries own None
-removed_absent before after old key entries own stands h =
-    (subst (λ (es : List (List ℕ)). entry_of old.shape.width key es ≡ None) stands.has h.0, h.1, refl)
+module _ {old : Tree} {before : PageMap} {entries : List (List ℕ)} {own : List ℕ} (key : List ℕ)
+    (stands : TreeStands old before entries own) where
+  pub removed_absent : {after : PageMap} → HasRemovedBelow (at_root old stands.value) before after key Absent
+      → HasRemoved before after old old key entries own None
+  removed_absent h = (rw stands.has at h.0, h.1, refl)
 
-pub removed_some : (before mid late : PageMap) (is_sound : Type 0) (old : Tree) (key : List ℕ) (entries : List (List ℕ)) (own : List ℕ) (stands : TreeStands old before entries own) (entry : ArrayVec ℕ) (short : Bool) (base : Base) (n changes : ℕ) (low : base.levels < 20) → n ≡ old.count - 1
-    → HasRemovedBelow old.shape before mid old.levels old.root None None key stands.value (Taken entry short) → Collapses old.shape old.levels old.root (Ok base) mid late is_sound
-    → HasRemoved before late old (record { shape = old.shape; root = base.root; levels = base.levels; count = n; changes = changes; low = low }) key entries own (Some entry) × is_sound
-removed_some before mid late is_sound old key entries own stands entry short base n changes low is_n h collapses =
-    let b = h.1.becomes in
-    let s = (collapses b.tree b.stands b.changes.apart b.filled).answer in
-    let was = subst (λ (es : List (List ℕ)). entry_of old.shape.width key es ≡ Some entry.items) stands.has h.0 in
-    let has : entries_of base.levels s.0.tree ≡ without_key old.shape.width key entries = s.0.has ∙ b.has ∙ ap (without_key old.shape.width key) stands.has in
-    let fewer : length (without_key old.shape.width key entries) + 1 ≡ length entries =
-    subst (λ (es : List (List ℕ)). length (without_key old.shape.width key es) + 1 ≡ length es) stands.has (taken_once old.shape.width key old.levels stands.value stands.whole.stands.ordered entry.items h.0) in
-    let count = stands.count in (
-      (
-        was,
+  fewer : (entry : List ℕ) → entry_of old.shape.width key (entries_of old.levels stands.value) ≡ Some entry
+      → length (without_key old.shape.width key entries) + 1 ≡ length entries
+  fewer entry was = rw stands.has at (taken_once old.shape.width key old.levels stands.value stands.whole.stands.ordered entry was)
+
+  pub removed_some : {mid late : PageMap} {is_sound : Type 0} {base : Base} {n changes : ℕ} {low : base.levels < 20} (entry : ArrayVec ℕ)
+      (short : Bool) → n ≡ old.count - 1 → HasRemovedBelow (at_root old stands.value) before mid key (Taken entry short)
+      → Collapses old.shape old.levels old.root (Ok base) mid late is_sound
+      → HasRemoved before late old
+      (record { shape = old.shape; root = base.root; levels = base.levels; count = n; changes = changes; low = low }) key entries own
+      (Some entry) × is_sound
+  removed_some {mid} {late} {base} entry short is_n h collapses =
+      let b = h.1.becomes in
+      let s = (collapses b.tree b.stands b.changes.apart b.filled).answer in
+      let one_less = fewer entry.items h.0 in
+      let count = stands.count in (
+        (
+          rw stands.has at h.0,
+          record {
+            own_now = pages_of base.levels s.0.tree;
+            stands = record {
+              value = s.0.tree;
+              whole = s.0.whole;
+              has = s.0.has ∙ b.has ∙ ap (without_key old.shape.width key) stands.has;
+              pages_are = refl;
+              count = omega arith;
+            };
+            changes = subst (λ (l : List ℕ). ChangesPages before late l (pages_of base.levels s.0.tree)) stands.pages_are
+                (changes_trans before mid late (pages_of old.levels stands.value) (pages_of old.levels b.tree)
+                (pages_of base.levels s.0.tree) b.changes s.0.changes);
+          },
+        ),
+        s.1,
+      )
+
+  pub removed_one : {after : PageMap} {n changes : ℕ} {low : old.levels < 20} (entry : ArrayVec ℕ) → n ≡ old.count - 1
+      → HasTaken (at_root old stands.value) before after key entry.items
+      → HasRemoved before after old
+      (record { shape = old.shape; root = old.root; levels = old.levels; count = n; changes = changes; low = low }) key entries own
+      (Some entry)
+  removed_one {after} entry is_n h =
+      let b = h.becomes in
+      let one_less = fewer entry.items h.was in
+      let count = stands.count in (
+        rw stands.has at h.was,
         record {
-          own_now = pages_of base.levels s.0.tree;
-          stands = record { value = s.0.tree; whole = s.0.whole; has = has; pages_are = refl; count = omega arith };
-          changes = subst (λ (l : List ℕ). ChangesPages before late l (pages_of base.levels s.0.tree)) stands.pages_are
-              (changes_trans before mid late (pages_of old.levels stands.value) (pages_of old.levels b.tree) (pages_of base.levels s.0.tree) b.changes s.0.changes);
+          own_now = pages_of old.levels b.tree;
+          stands = record {
+            value = b.tree;
+            whole = record { stands = b.stands; apart = b.changes.apart; filled = b.filled; rooted = h.rooted stands.whole.rooted };
+            has = b.has ∙ ap (without_key old.shape.width key) stands.has;
+            pages_are = refl;
+            count = omega arith;
+          };
+          changes = subst (λ (l : List ℕ). ChangesPages before after l (pages_of old.levels b.tree)) stands.pages_are b.changes;
         },
-      ),
-      s.1,
-    )
-
-pub removed_one : (before after : PageMap) (old : Tree) (key : List ℕ) (entries : List (List ℕ)) (own : List ℕ) (stands : TreeStands old before entries own) (entry : ArrayVec ℕ) (n changes : ℕ) (low : old.levels < 20) → n ≡ old.count - 1
-    → HasTaken old.shape before after old.levels old.root None None key stands.value entry.items → HasRemoved before after old (record { shape = old.shape; root = old.root; levels = old.levels; count = n; changes = changes; low = low }) key entries own (Some entry)
-removed_one before after old key entries own stands entry n changes low is_n h =
-    let b = h.becomes in
-    let was = subst (λ (es : List (List ℕ)). entry_of old.shape.width key es ≡ Some entry.items) stands.has h.was in
-    let has : entries_of old.levels b.tree ≡ without_key old.shape.width key entries = b.has ∙ ap (without_key old.shape.width key) stands.has in
-    let fewer : length (without_key old.shape.width key entries) + 1 ≡ length entries =
-    subst (λ (es : List (List ℕ)). length (without_key old.shape.width key es) + 1 ≡ length es) stands.has (taken_once old.shape.width key old.levels stands.value stands.whole.stands.ordered entry.items h.was) in
-    let count = stands.count in (
-      was,
-      record {
-        own_now = pages_of old.levels b.tree;
-        stands = record {
-          value = b.tree;
-          whole = record { stands = b.stands; apart = b.changes.apart; filled = b.filled; rooted = h.rooted stands.whole.rooted };
-          has = has;
-          pages_are = refl;
-          count = omega arith;
-        };
-        changes = subst (λ (l : List ℕ). ChangesPages before after l (pages_of old.levels b.tree)) stands.pages_are b.changes;
-      },
-    )
+      )
 
 -- ---- a new tree
 

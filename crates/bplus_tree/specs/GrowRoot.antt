@@ -6,9 +6,10 @@ use Rattle.pages.specs.PageMap.{PageMap}
 use Rattle.pages.specs.Owners.{ChangesPages}
 use Rattle.bplus_tree.specs.declared.collapse.Base.{Base}
 use Rattle.node_balance.specs.declared.separator.Separator.{Separator}
-use Rattle.tree_search.specs.Tree.{TreeOf, entries_of, pages_of, size_of, IsRooted}
+use Rattle.tree_search.specs.Tree.{TreeOf, entries_of, pages_of, IsRooted}
 use Rattle.pages.specs.Answer.{IsAnswer}
 use Rattle.tree_search.specs.Calls.{IsWhole}
+use Rattle.bplus_tree.specs.Subtree.{Head, from_root}
 use Rattle.bplus_tree.specs.Insert.{HasGrown}
 
 -- a tree of these entries stands below the root
@@ -20,9 +21,9 @@ pub record HasGrownRoot (shape : Shape) (before after : PageMap) (own : List ℕ
   pub changes : ChangesPages before after own (pages_of base.levels tree)
 
 -- of a tree that has grown since an earlier state of the pages
-abbrev pub GrowsRoot : Shape → ℕ → ℕ → Option Separator → Result Base Fault → PageMap → PageMap → Type 0
-    → Type 0
-GrowsRoot shape h root up result mid after is_sound =
-    (before : PageMap) (t : TreeOf h) (entries : List (List ℕ)) → IsRooted h t
-    → HasGrown shape before mid h root None None (pages_of h t) (size_of h t) entries up
-    → IsAnswer result (λ base. HasGrownRoot shape before after (pages_of h t) entries base × is_sound)
+abbrev pub GrowsRoot : Head → Option Separator → Result Base Fault → PageMap → PageMap → Type 0 → Type 0
+GrowsRoot at up result mid after is_sound =
+    (before : PageMap) (t : TreeOf at.levels) (entries : List (List ℕ)) → IsRooted at.levels t
+    → HasGrown (from_root at t) before mid entries up
+    → IsAnswer result (λ base. HasGrownRoot at.shape before after (pages_of at.levels t) entries base
+    × is_sound)

@@ -8,9 +8,10 @@ use Rattle.pages.specs.Owners.{ChangesPages}
 use Rattle.node_balance.specs.declared.separator.Separator.{Separator}
 use Rattle.bplus_tree.specs.declared.insert.Grown.{Grown}
 use Rattle.bplus_tree.specs.declared.insert.Grown.TheVariants.{Present, Added}
-use Rattle.tree_search.specs.Tree.{TreeOf, entries_of, pages_of, size_of, Bound, NotBelow, Above, Below}
+use Rattle.tree_search.specs.Tree.{TreeOf, entries_of, pages_of, size_of, Above, Below}
 use Rattle.pages.specs.Answer.{IsAnswer}
-use Rattle.tree_search.specs.Calls.{entry_of, IsTree, IsWhole}
+use Rattle.tree_search.specs.Calls.{entry_of, IsTree}
+use Rattle.bplus_tree.specs.Subtree.{Head, Subtree, StandsWhole, IsWithin}
 use Rattle.bplus_tree.specs.Edits.{with_entry}
 use Rattle.bplus_tree.specs.Split.{HasWidth}
 use Rattle.tree_search.specs.Stored.{IsLeafAt}
@@ -21,44 +22,40 @@ use Rattle.bplus_tree.specs.Remove.{Becomes, IsHalfFullWithRoot}
 
 -- The page heads the first of two trees now, which have these entries together, and the separator
 -- leads to the second. Both are at least half full.
-pub record BecomesTwo (shape : Shape) (before after : PageMap) (h page : ℕ) (low high : Bound)
-    (own : List ℕ) (entries : List (List ℕ)) (separator : Separator) : Type 0 where
-  pub left : TreeOf h
-  pub right : TreeOf h
-  pub under : Above low separator.key.items
-  pub over : Below high separator.key.items
-  pub left_stands : IsTree shape after h page low (Some separator.key.items) left
-  pub right_stands : IsTree shape after h separator.child (Some separator.key.items) high right
-  pub left_full : IsHalfFullWithRoot shape h left
-  pub right_full : IsHalfFullWithRoot shape h right
-  pub has : entries_of h left ++ entries_of h right ≡ entries
-  pub changes : ChangesPages before after own (pages_of h left ++ pages_of h right)
+pub record BecomesTwo {at : Head} (old : Subtree at) (before after : PageMap) (entries : List (List ℕ))
+    (separator : Separator) : Type 0 where
+  pub left : TreeOf at.levels
+  pub right : TreeOf at.levels
+  pub under : Above old.low separator.key.items
+  pub over : Below old.high separator.key.items
+  pub left_stands : IsTree at.shape after at.levels at.page old.low (Some separator.key.items) left
+  pub right_stands : IsTree at.shape after at.levels separator.child (Some separator.key.items) old.high right
+  pub left_full : IsHalfFullWithRoot at.shape at.levels left
+  pub right_full : IsHalfFullWithRoot at.shape at.levels right
+  pub has : entries_of at.levels left ++ entries_of at.levels right ≡ entries
+  pub changes : ChangesPages before after (pages_of at.levels old.tree)
+      (pages_of at.levels left ++ pages_of at.levels right)
 
--- The page heads a tree of these entries now, or two where it was split. The root has at least
--- `floor` entries or separators.
-abbrev pub HasGrown : (shape : Shape) → PageMap → PageMap → (h page : ℕ) → (low high : Bound) → List ℕ → ℕ
-    → List (List ℕ) → Option Separator → Type 0
-HasGrown shape before after h page low high own floor entries None =
-    Becomes shape before after h page low high own floor entries
-HasGrown shape before after h page low high own floor entries (Some separator) =
-    BecomesTwo shape before after h page low high own entries separator
+-- The page heads a tree of these entries now, or two where it was split. A root that was not split
+-- has no fewer entries or separators.
+abbrev pub HasGrown : {at : Head} → Subtree at → PageMap → PageMap → List (List ℕ) → Option Separator → Type 0
+HasGrown {at} old before after entries None = Becomes old before after (size_of at.levels old.tree) entries
+HasGrown old before after entries (Some separator) = BecomesTwo old before after entries separator
 
 -- the key is there with this entry, and nothing has changed; or it was not, and the entry stands in order now
-abbrev pub HasInsertedBelow : (shape : Shape) → PageMap → PageMap → (h page : ℕ) → (low high : Bound)
-    → List ℕ → TreeOf h → Grown → Type 0
-HasInsertedBelow shape before after h page low high e t (Present found) =
-    (entry_of shape.width (take shape.width e) (entries_of h t) ≡ Some found.items) × (after ≡ before)
-HasInsertedBelow shape before after h page low high e t (Added up) =
-    (entry_of shape.width (take shape.width e) (entries_of h t) ≡ None)
-    × HasGrown shape before after h page low high (pages_of h t) (size_of h t)
-    (with_entry shape.width e (entries_of h t)) up
+abbrev pub HasInsertedBelow : {at : Head} → Subtree at → PageMap → PageMap → List ℕ → Grown → Type 0
+HasInsertedBelow {at} old before after e (Present found) =
+    (entry_of at.shape.width (take at.shape.width e) (entries_of at.levels old.tree) ≡ Some found.items)
+    × (after ≡ before)
+HasInsertedBelow {at} old before after e (Added up) =
+    (entry_of at.shape.width (take at.shape.width e) (entries_of at.levels old.tree) ≡ None)
+    × HasGrown old before after (with_entry at.shape.width e (entries_of at.levels old.tree)) up
 
 -- of a tree within bounds between which the key belongs
-abbrev pub Inserts : Shape → ℕ → ℕ → List ℕ → Result Grown Fault → PageMap → PageMap → Type 0 → Type 0
-Inserts shape h page e result before after is_sound =
-    (t : TreeOf h) (low high : Bound) → IsWhole shape before h page low high t
-    → NotBelow low (take shape.width e) → Below high (take shape.width e)
-    → IsAnswer result (λ grown. HasInsertedBelow shape before after h page low high e t grown × is_sound)
+abbrev pub Inserts : Head → List ℕ → Result Grown Fault → PageMap → PageMap → Type 0 → Type 0
+Inserts at e result before after is_sound =
+    (old : Subtree at) → StandsWhole before old → IsWithin old (take at.shape.width e)
+    → IsAnswer result (λ grown. HasInsertedBelow old before after e grown × is_sound)
 
 -- where a separator goes up, it has a whole key
 abbrev pub HasWholeKey : Shape → Grown → Type 0
@@ -66,17 +63,14 @@ HasWholeKey shape (Present found) = ⊤
 HasWholeKey shape (Added up) = HasWidth shape.width up
 
 -- the entry was put in where its key was not, and its leaf was not split; or nothing has changed
-abbrev pub HasPutIf : (shape : Shape) → PageMap → PageMap → (h page : ℕ) → (low high : Bound) → List ℕ
-    → TreeOf h → Bool → Type 0
-HasPutIf shape before after h page low high e t true =
-    HasInsertedBelow shape before after h page low high e t (Added None)
-HasPutIf shape before after h page low high e t false = after ≡ before
+abbrev pub HasPutIf : {at : Head} → Subtree at → PageMap → PageMap → List ℕ → Bool → Type 0
+HasPutIf old before after e true = HasInsertedBelow old before after e (Added None)
+HasPutIf old before after e false = after ≡ before
 
-abbrev pub PutsBelow : Shape → ℕ → ℕ → List ℕ → Result Bool Fault → PageMap → PageMap → Type 0 → Type 0
-PutsBelow shape h page e result before after is_sound =
-    (t : TreeOf h) (low high : Bound) → IsWhole shape before h page low high t
-    → NotBelow low (take shape.width e) → Below high (take shape.width e)
-    → IsAnswer result (λ done. HasPutIf shape before after h page low high e t done × is_sound)
+abbrev pub PutsBelow : Head → List ℕ → Result Bool Fault → PageMap → PageMap → Type 0 → Type 0
+PutsBelow at e result before after is_sound =
+    (old : Subtree at) → StandsWhole before old → IsWithin old (take at.shape.width e)
+    → IsAnswer result (λ done. HasPutIf old before after e done × is_sound)
 
 -- the same of the entries of a leaf
 abbrev pub IsPutIf : ℕ → List ℕ → (old new : List (List ℕ)) → Bool → Type 0

@@ -1,5 +1,6 @@
 pub mod Fields
 pub mod Edits
+pub mod Subtree
 pub mod Rebalance
 pub mod Remove
 pub mod Collapse

@@ -15,35 +15,42 @@ pub record AreThree (pages : PageMap) (p q r : ℕ) : Type 0 where
   pub third : IsSome (pages r)
   pub apart : (p ≢ q) × (p ≢ r) × (q ≢ r)
 
--- two pages hold these bytes, and a third one is free
-pub record HasJoined (before after : PageMap) (p : ℕ) (node : List ℕ) (q : ℕ) (left : List ℕ)
-    (r : ℕ) : Type 0 where
-  pub first : after p ≡ Some node
-  pub second : after q ≡ Some left
-  pub third : after r ≡ None
-  pub others : (n : ℕ) → n ≢ p → n ≢ q → n ≢ r → after n ≡ before n
+-- the bytes of a node, and of two of its children
+pub record PairBytes : Type 0 where
+  pub node : List ℕ
+  pub left : List ℕ
+  pub right : List ℕ
 
--- three pages hold these bytes
-pub record HasShared (before after : PageMap) (p : ℕ) (node : List ℕ) (q : ℕ) (left : List ℕ) (r : ℕ)
-    (right : List ℕ) : Type 0 where
-  pub first : after p ≡ Some node
-  pub second : after q ≡ Some left
-  pub third : after r ≡ Some right
-  pub others : (n : ℕ) → n ≢ p → n ≢ q → n ≢ r → after n ≡ before n
+-- these three
+abbrev pub pair_bytes : (node left right : List ℕ) → PairBytes
+pair_bytes node left right = record { node = node; left = left; right = right }
+
+-- the node and the first child hold these bytes, and the page of the second one is free
+pub record HasJoined (before after : PageMap) (page : ℕ) (pair : Pair) (node left : List ℕ) : Type 0 where
+  pub first : after page ≡ Some node
+  pub second : after pair.lower ≡ Some left
+  pub third : after pair.upper ≡ None
+  pub others : (n : ℕ) → n ≢ page → n ≢ pair.lower → n ≢ pair.upper → after n ≡ before n
+
+-- the node and both children hold these bytes
+pub record HasShared (before after : PageMap) (page : ℕ) (pair : Pair) (bytes : PairBytes) : Type 0 where
+  pub first : after page ≡ Some bytes.node
+  pub second : after pair.lower ≡ Some bytes.left
+  pub third : after pair.upper ≡ Some bytes.right
+  pub others : (n : ℕ) → n ≢ page → n ≢ pair.lower → n ≢ pair.upper → after n ≡ before n
 
 -- the two children of a pair have become one
 abbrev pub EndsJoined : ℕ → Pair → (node left : List ℕ) → Result Unit Fault → PageMap → PageMap → Type 0
     → Type 0
 EndsJoined page pair node left result before after is_sound =
-    AreThree before page pair.lower pair.upper → IsAnswer result
-    (λ done. HasJoined before after page node pair.lower left pair.upper × is_sound)
+    AreThree before page pair.lower pair.upper
+    → IsAnswer result (λ done. HasJoined before after page pair node left × is_sound)
 
 -- the two children of a pair have other entries, or other children
-abbrev pub EndsShared : ℕ → Pair → (node left right : List ℕ) → Result Unit Fault → PageMap → PageMap
-    → Type 0 → Type 0
-EndsShared page pair node left right result before after is_sound =
-    AreThree before page pair.lower pair.upper → IsAnswer result
-    (λ done. HasShared before after page node pair.lower left pair.upper right × is_sound)
+abbrev pub EndsShared : ℕ → Pair → PairBytes → Result Unit Fault → PageMap → PageMap → Type 0 → Type 0
+EndsShared page pair bytes result before after is_sound =
+    AreThree before page pair.lower pair.upper
+    → IsAnswer result (λ done. HasShared before after page pair bytes × is_sound)
 
 -- a separator beside child `place`, and the pages of the children on its two sides
 pub record IsBeside (shape : Shape) (place : ℕ) (node : List ℕ) (pair : Pair) : Type 0 where
@@ -67,13 +74,13 @@ pub record IsParent (shape : Shape) (pages : PageMap) (page : ℕ) : Type 0 wher
       → IsSome (pages (slice_index (children shape bytes) i))
 
 -- what stands in a node, and in two of its children
-pub record HasRead (shape : Shape) (pages : PageMap) (page place : ℕ) (node left right : List ℕ)
+pub record HasRead (shape : Shape) (pages : PageMap) (page place : ℕ) (bytes : PairBytes)
     (pair : Pair) : Type 0 where
-  pub parent : pages page ≡ Some node
-  pub beside : IsBeside shape place node pair
-  pub lower : pages pair.lower ≡ Some left
-  pub upper : pages pair.upper ≡ Some right
+  pub parent : pages page ≡ Some bytes.node
+  pub beside : IsBeside shape place bytes.node pair
+  pub lower : pages pair.lower ≡ Some bytes.left
+  pub upper : pages pair.upper ≡ Some bytes.right
 
-abbrev pub ReadsPair : Shape → ℕ → ℕ → (node left right : List ℕ) → Result Pair Fault → PageMap → Type 0
-ReadsPair shape page place node left right result pages =
-    IsParent shape pages page → IsAnswer result (HasRead shape pages page place node left right)
+abbrev pub ReadsPair : Shape → (page place : ℕ) → PairBytes → Result Pair Fault → PageMap → Type 0
+ReadsPair shape page place bytes result pages =
+    IsParent shape pages page → IsAnswer result (HasRead shape pages page place bytes)

@@ -11,43 +11,43 @@ use Rattle.node_balance.specs.Fill.{least_entries}
 use Rattle.arrayvec.specs.ArrayVec.{ArrayVec}
 use Rattle.tree_node.specs.Leaf.{IsLeaf, leaf_entries}
 use Rattle.tree_node.specs.Order.{Ascends, IsRank}
-use Rattle.tree_search.specs.Tree.{TreeOf, entries_of, pages_of, size_of, Bound, IsHalfFull, IsRooted}
+use Rattle.tree_search.specs.Tree.{TreeOf, entries_of, pages_of, size_of, IsHalfFull, IsRooted}
 use Rattle.tree_search.specs.Stored.{IsLeafAt}
 use Rattle.pages.specs.Answer.{IsAnswer}
-use Rattle.tree_search.specs.Calls.{entry_of, IsTree, IsWhole}
+use Rattle.tree_search.specs.Calls.{entry_of, IsTree}
+use Rattle.bplus_tree.specs.Subtree.{Head, head, Subtree, StandsIn, StandsWhole}
 use Rattle.pages.specs.Owners.{AreApart, ChangesPages}
 use Rattle.bplus_tree.specs.Edits.{without_key}
 
 -- The page heads a tree of these entries now, filled below its root. The root has at least `floor`
 -- entries or separators.
-pub record Becomes (shape : Shape) (before after : PageMap) (h page : ℕ) (low high : Bound) (own : List ℕ)
-    (floor : ℕ) (entries : List (List ℕ)) : Type 0 where
-  pub tree : TreeOf h
-  pub stands : IsTree shape after h page low high tree
-  pub filled : IsHalfFull shape h tree
-  pub large : floor ≤ size_of h tree
-  pub has : entries_of h tree ≡ entries
-  pub changes : ChangesPages before after own (pages_of h tree)
+pub record Becomes {at : Head} (old : Subtree at) (before after : PageMap) (floor : ℕ)
+    (entries : List (List ℕ)) : Type 0 where
+  pub tree : TreeOf at.levels
+  pub stands : IsTree at.shape after at.levels at.page old.low old.high tree
+  pub filled : IsHalfFull at.shape at.levels tree
+  pub large : floor ≤ size_of at.levels tree
+  pub has : entries_of at.levels tree ≡ entries
+  pub changes : ChangesPages before after (pages_of at.levels old.tree) (pages_of at.levels tree)
 
--- such a tree; and whether its root has too little for a node below another one
-pub record BecomesShort (shape : Shape) (before after : PageMap) (h page : ℕ) (low high : Bound)
-    (own : List ℕ) (floor : ℕ) (entries : List (List ℕ)) (short : Bool) : Type 0 where
-  pub becomes : Becomes shape before after h page low high own floor entries
-  pub short_is : IsTrue short ↔ (size_of h becomes.tree < least_entries shape h)
+-- such a tree, whose root has at most one entry or separator less; and whether it has too little for a
+-- node below another one
+pub record BecomesShort {at : Head} (old : Subtree at) (before after : PageMap) (entries : List (List ℕ))
+    (short : Bool) : Type 0 where
+  pub becomes : Becomes old before after (size_of at.levels old.tree - 1) entries
+  pub short_is : IsTrue short ↔ (size_of at.levels becomes.tree < least_entries at.shape at.levels)
 
-abbrev pub HasRemovedBelow : (shape : Shape) → PageMap → PageMap → (h page : ℕ) → (low high : Bound)
-    → List ℕ → TreeOf h → Shrunk → Type 0
-HasRemovedBelow shape before after h page low high key t Absent =
-    (entry_of shape.width key (entries_of h t) ≡ None) × (after ≡ before)
-HasRemovedBelow shape before after h page low high key t (Taken entry short) =
-    (entry_of shape.width key (entries_of h t) ≡ Some entry.items)
-    × BecomesShort shape before after h page low high (pages_of h t) (size_of h t - 1)
-    (without_key shape.width key (entries_of h t)) short
+abbrev pub HasRemovedBelow : {at : Head} → Subtree at → PageMap → PageMap → List ℕ → Shrunk → Type 0
+HasRemovedBelow {at} old before after key Absent =
+    (entry_of at.shape.width key (entries_of at.levels old.tree) ≡ None) × (after ≡ before)
+HasRemovedBelow {at} old before after key (Taken entry short) =
+    (entry_of at.shape.width key (entries_of at.levels old.tree) ≡ Some entry.items)
+    × BecomesShort old before after (without_key at.shape.width key (entries_of at.levels old.tree)) short
 
-abbrev pub Removes : Shape → ℕ → ℕ → List ℕ → Result Shrunk Fault → PageMap → PageMap → Type 0 → Type 0
-Removes shape h page key result before after is_sound =
-    (t : TreeOf h) (low high : Bound) → IsWhole shape before h page low high t
-    → IsAnswer result (λ shrunk. HasRemovedBelow shape before after h page low high key t shrunk × is_sound)
+abbrev pub Removes : Head → List ℕ → Result Shrunk Fault → PageMap → PageMap → Type 0 → Type 0
+Removes at key result before after is_sound =
+    (old : Subtree at) → StandsWhole before old
+    → IsAnswer result (λ shrunk. HasRemovedBelow old before after key shrunk × is_sound)
 
 -- all are at least half full, but for the one at this place, which lacks one entry or separator
 abbrev pub AreFullBut : {X : Type 0} → (X → Type 0) → (X → Type 0) → ℕ → List X → Type 0
@@ -63,13 +63,18 @@ abbrev pub LacksOne : Shape → (h : ℕ) → TreeOf h → Type 0
 LacksOne shape h t = (least_entries shape h ≡ size_of h t + 1) × IsHalfFull shape h t
 
 -- a node one of whose children lacks one
-abbrev pub Rebalances : Shape → ℕ → ℕ → ℕ → Result Bool Fault → PageMap → PageMap → Type 0 → Type 0
+pub record LacksBelow {shape : Shape} {k page : ℕ} (pages : PageMap) (place : ℕ)
+    (node : Subtree (head shape (suc k) page)) : Type 0 where
+  pub stands : StandsIn pages node
+  pub apart : AreApart (pages_of (suc k) node.tree)
+  pub full : AreFullBut (IsHalfFullWithRoot shape k) (LacksOne shape k) place node.tree.2
+  pub some : 1 ≤ length node.tree.1
+
+abbrev pub Rebalances : Shape → (k page place : ℕ) → Result Bool Fault → PageMap → PageMap → Type 0 → Type 0
 Rebalances shape k page place result before after is_sound =
-    (t : TreeOf (suc k)) (low high : Bound) → IsTree shape before (suc k) page low high t
-    → AreApart (pages_of (suc k) t)
-    → AreFullBut (IsHalfFullWithRoot shape k) (LacksOne shape k) place t.2 → 1 ≤ length t.1
-    → IsAnswer result (λ short. BecomesShort shape before after (suc k) page low high (pages_of (suc k) t)
-    (length t.1 - 1) (entries_of (suc k) t) short × is_sound)
+    (node : Subtree (head shape (suc k) page)) → LacksBelow before place node
+    → IsAnswer result (λ short. BecomesShort node before after (entries_of (suc k) node.tree) short
+    × is_sound)
 
 -- the bytes are a leaf with an entry at this place
 pub record HasPlace (shape : Shape) (place : ℕ) (page : List ℕ) : Type 0 where
@@ -89,26 +94,23 @@ OutOfLeaf shape page place result before after is_sound =
     → IsAnswer result (λ short. TakesOut shape before after page (remove entries place) short × is_sound)
 
 -- The entry of the key was taken out, and its leaf has enough still: no other node has changed.
-pub record HasTaken (shape : Shape) (before after : PageMap) (h page : ℕ) (low high : Bound) (key : List ℕ)
-    (t : TreeOf h) (entry : List ℕ) : Type 0 where
-  pub was : entry_of shape.width key (entries_of h t) ≡ Some entry
-  pub becomes : Becomes shape before after h page low high (pages_of h t) (size_of h t - 1)
-      (without_key shape.width key (entries_of h t))
-  pub enough : least_entries shape h ≤ size_of h t → least_entries shape h ≤ size_of h becomes.tree
-  pub rooted : IsRooted h t → IsRooted h becomes.tree
+pub record HasTaken {at : Head} (old : Subtree at) (before after : PageMap)
+    (key entry : List ℕ) : Type 0 where
+  pub was : entry_of at.shape.width key (entries_of at.levels old.tree) ≡ Some entry
+  pub becomes : Becomes old before after (size_of at.levels old.tree - 1)
+      (without_key at.shape.width key (entries_of at.levels old.tree))
+  pub enough : least_entries at.shape at.levels ≤ size_of at.levels old.tree
+      → least_entries at.shape at.levels ≤ size_of at.levels becomes.tree
+  pub rooted : IsRooted at.levels old.tree → IsRooted at.levels becomes.tree
 
-abbrev pub HasTakenIf : (shape : Shape) → PageMap → PageMap → (h page : ℕ) → (low high : Bound) → List ℕ
-    → TreeOf h → List ℕ → Bool → Type 0
-HasTakenIf shape before after h page low high key t entry true =
-    HasTaken shape before after h page low high key t entry
-HasTakenIf shape before after h page low high key t entry false = after ≡ before
+abbrev pub HasTakenIf : {at : Head} → Subtree at → PageMap → PageMap → (key entry : List ℕ) → Bool → Type 0
+HasTakenIf old before after key entry true = HasTaken old before after key entry
+HasTakenIf old before after key entry false = after ≡ before
 
-abbrev pub TakesBelow : Shape → ℕ → ℕ → List ℕ → ArrayVec ℕ → Result Bool Fault → PageMap → PageMap
-    → Type 0 → Type 0
-TakesBelow shape h page key entry result before after is_sound =
-    (t : TreeOf h) (low high : Bound) → IsWhole shape before h page low high t
-    → IsAnswer result (λ done. HasTakenIf shape before after h page low high key t entry.items done
-    × is_sound)
+abbrev pub TakesBelow : Head → List ℕ → ArrayVec ℕ → Result Bool Fault → PageMap → PageMap → Type 0 → Type 0
+TakesBelow at key entry result before after is_sound =
+    (old : Subtree at) → StandsWhole before old
+    → IsAnswer result (λ done. HasTakenIf old before after key entry.items done × is_sound)
 
 -- the same of the entries of a leaf
 pub record IsTaken (shape : Shape) (key : List ℕ) (old new : List (List ℕ)) (entry : List ℕ) : Type 0 where

@@ -8,7 +8,7 @@ ghost use Rattle.tree_search.specs.LookUps.{WhenHonest};
 ghost use Rattle.bplus_tree.specs.Changes.{CanWrite, WhereSound, Alters, GivesPages};
 ghost use Rattle.node_balance.specs.Balance.{Balances};
 ghost use Rattle.node_balance.specs.Fill.{least_entries};
-ghost use Rattle.bplus_tree.specs.Rebalance.{EndsJoined, EndsShared, IsPairAt, ReadsPair};
+ghost use Rattle.bplus_tree.specs.Rebalance.{EndsJoined, EndsShared, IsPairAt, ReadsPair, pair_bytes};
 ghost use Rattle.bplus_tree.specs.Remove.{Rebalances};
 
 use io_state::Fault;
@@ -73,8 +73,8 @@ fn end_shared<P: Pages>(
     right: &[u8; PAGE_SIZE],
 ) -> Result<(), Fault>
     requires { CanWrite P.shown pages.old }
-    ensures { Alters P.shown GivesPages 3 (EndsShared page pair node.now left.now right.now) pages.old
-        pages.new result }
+    ensures { Alters P.shown GivesPages 3 (EndsShared page pair (pair_bytes node.now left.now
+        right.now)) pages.old pages.new result }
 {
     store(pages, page, node)?;
     store(pages, pair.lower, left)?;
@@ -128,7 +128,7 @@ fn read_pair<P: Pages>(
     ensures inner { IfOk result (λ pair. IsInner shape node.new
         × (pair.at < length (separators shape node.new))) }
     ensures read { WhenHonest P.shown pages.old pages.new
-        (ReadsPair shape page place node.new left.new right.new result) }
+        (ReadsPair shape page place (pair_bytes node.new left.new right.new) result) }
     ensures reads { ReadsPages P.shown 3 pages.old pages.new result }
 {
     copy(pages, page, node)?;

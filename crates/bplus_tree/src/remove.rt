@@ -7,6 +7,7 @@ ghost use Rattle.bplus_tree.specs.Changes.{CanWrite, WhereSound, Alters, EditsPa
 ghost use Rattle.bplus_tree.specs.Remove.{Removes, HasPlace, OutOfLeaf, TakesBelow, TakesInPlace};
 ghost use Rattle.bplus_tree.specs.Remove.{TakesFromLeaf};
 ghost use Rattle.bplus_tree.specs.Edits.{IsLeafOf};
+ghost use Rattle.bplus_tree.specs.Subtree.{head};
 
 use crate::rebalance::rebalance;
 use io_state::Fault;
@@ -33,7 +34,8 @@ pub fn remove_below<P: Pages>(
     key: &[u8],
 ) -> Result<Shrunk, Fault>
     requires { CanWrite P.shown pages.old }
-    ensures removed { WhereSound P.shown pages.old pages.new (Removes shape levels page key.now result) }
+    ensures removed { WhereSound P.shown pages.old pages.new (Removes (head shape levels page)
+        key.now result) }
     ensures writes { GivesPages P.shown (7 * (levels + 1)) pages.old pages.new result }
 {
     if levels == 0 {
@@ -65,8 +67,8 @@ pub fn take_below<P: Pages>(
     to: &mut Entry,
 ) -> Result<bool, Fault>
     requires { CanWrite P.shown pages.old }
-    ensures { EditsDown P.shown levels (TakesBelow shape levels page key.now to.new) pages.old pages.new
-        result }
+    ensures { EditsDown P.shown levels (TakesBelow (head shape levels page) key.now to.new) pages.old
+        pages.new result }
 {
     if levels == 0 {
         return take_in_place(pages, shape, page, key, to);
@@ -117,7 +119,8 @@ fn remove_from_leaf<P: Pages>(
     key: &[u8],
 ) -> Result<Shrunk, Fault>
     requires { CanWrite P.shown pages.old }
-    ensures removed { WhereSound P.shown pages.old pages.new (Removes shape 0 page key.now result) }
+    ensures removed { WhereSound P.shown pages.old pages.new (Removes (head shape 0 page)
+        key.now result) }
     ensures writes { GivesPages P.shown 2 pages.old pages.new result }
 {
     let Look { place, found } = seek(pages, shape, page, key)?;

@@ -1,14 +1,14 @@
-use Rattle.std.proofs.Common.{◌≡◌, ◌-◌, suc, IsTrue, subst, sym, arith, rules, ◌∙◌}
+use Rattle.std.proofs.Common.{◌≡◌, ◌-◌, suc, arith, rules, ◌∙◌}
 use Rattle.pages.proofs.CauseLemmas.{caused_since, fails_since}
-use Rattle.bplus_tree.proofs.RemoveLemmas.{take_leaf, take_fails, take_inner}
+use Rattle.bplus_tree.proofs.RemoveLemmas.{takes_at, descent_fails, take_leaf, take_inner}
 use Rattle.bplus_tree.proofs.remove.+take_below.Goals as goal
 
 pub returns-then-levels-eq0 : goal.returns-then-levels-eq0
 returns-then-levels-eq0 g t c = record {
   leaves = λ honest sound.
-      let new = g.P.Pages.shown.state c.take_in_place.new.pages in
-      take_leaf c.args.shape ((g.P.Pages.shown.state c.args.pages.now).live) new.live (IsTrue new.is_sound) c.args.levels c.args.page c.args.key.now c.take_in_place.new.to c.take_in_place.result c.if-levels-eq0.true
-      (c.take_in_place.ensures.leaves honest sound);
+      let live = (g.P.Pages.shown.state c.take_in_place.new.pages).live in
+      takes_at live c.args.key.now c.take_in_place.new.to c.if-levels-eq0.true
+      (take_leaf live c.args.key.now c.take_in_place.new.to (c.take_in_place.ensures.leaves honest sound));
   writes = search rules;
 }
 
@@ -16,9 +16,8 @@ pub returns-in_err-down : goal.returns-in_err-down
 returns-in_err-down g t c = record {
   leaves = λ honest sound.
       let one : c.args.levels ≡ suc (c.args.levels - 1) = omega arith in
-      let new = g.P.Pages.shown.state c.descend.new.pages in
-      take_fails c.args.shape c.args.levels (c.args.levels - 1) c.args.page c.args.key.now one ((g.P.Pages.shown.state c.args.pages.now).live) new.live (IsTrue new.is_sound) c.args.to.now _ c.from_residual.result
-      (c.in_err-down.ensures.found honest) c.from_residual.ensures.1;
+      takes_at (g.P.Pages.shown.state c.descend.new.pages).live c.args.key.now c.args.to.now one
+      (λ node whole. descent_fails node whole (c.in_err-down.ensures.found honest) c.from_residual.ensures.1);
   writes = record {
     available = g.met.P.Pages.reads_available c.args.pages.now c.descend.new.pages c.descend.ensures.reads.step;
     cause = fails_since c.from_residual.result _ _ _ _ _ c.from_residual.ensures.1 (λ failed. failed) (λ none. none) c.in_err-down.ensures.reads.cause;
@@ -33,12 +32,12 @@ returns g t c = record {
       let one : c.args.levels ≡ suc (c.args.levels - 1) = omega arith in
       let old = c.args.pages.now in
       let mid = c.descend.new.pages in
-      let new = c.take_below.new.pages in
       let reads = c.descend.ensures.reads.step in
-      let h = g.met.P.Pages.writes_honestly mid new c.take_below.ensures.writes.step honest in
-      let sound' : IsTrue (g.P.Pages.shown.state mid).is_sound = subst IsTrue (sym (g.met.P.Pages.reads_sound old mid reads h)) sound in
-      take_inner c.args.shape c.args.levels (c.args.levels - 1) c.args.page c.args.key.now one (g.P.Pages.shown.state old).live (g.P.Pages.shown.state mid).live (g.met.P.Pages.reads_live old mid reads h)
-      c.in_ok-down.down (c.in_ok-down.ensures.found h) (g.P.Pages.shown.state new).live (IsTrue (g.P.Pages.shown.state new).is_sound) c.take_below.new.to c.take_below.result (c.take_below.ensures.leaves honest sound');
+      let h = g.met.P.Pages.writes_honestly mid c.take_below.new.pages c.take_below.ensures.writes.step honest in
+      let below = c.take_below.ensures.leaves honest (rw (g.met.P.Pages.reads_sound old mid reads h) sound) in
+      let live = (g.P.Pages.shown.state c.take_below.new.pages).live in
+      takes_at live c.args.key.now c.take_below.new.to one
+      (take_inner (c.in_ok-down.ensures.found h) live c.take_below.new.to (rw (g.met.P.Pages.reads_live old mid reads h) at below));
   writes =
       let one : c.args.levels ≡ suc (c.args.levels - 1) = omega arith in
       let old = c.args.pages.now in

@@ -1,28 +1,24 @@
-use Rattle.std.proofs.Common.{◌≡◌, Bool, None, IsTrue, refl, subst, arith}
-use Rattle.pages.specs.PageMap.{PageMap}
-use Rattle.bplus_tree.specs.Insert.{HasPutIf}
-use Rattle.bplus_tree.specs.Standing.{Inserts}
+use Rattle.std.proofs.Common.{◌≡◌, None, refl, arith}
 use Rattle.tree_search.proofs.AnswerLemmas.{fails}
 use Rattle.bplus_tree.proofs.GrowRootLemmas.{grows_none}
-use Rattle.bplus_tree.proofs.RootLemmas.{inserted_one}
+use Rattle.bplus_tree.proofs.RootLemmas.{at_root, inserted_one}
 use Rattle.bplus_tree.proofs.DepthLemmas.{never_deep, never_full}
 use Rattle.bplus_tree.proofs.tree.Tree.insert.Goals as goal
 use Rattle.bplus_tree.proofs.tree.Tree.insert.Goals.{then-self-ge-GREATEST_LEVELS-via-then-self-ge-GREATEST_LEVELS, then-self-ge-GREATEST_LEVELS-via-else-self-ge-GREATEST_LEVELS+then-self-room}
 
 pub returns-in_err-put_below-clause-inserted : goal.returns-in_err-put_below-clause-inserted
 returns-in_err-put_below-clause-inserted g c honest sound entries own stands =
-    fails c.from_residual.result _ _ c.from_residual.ensures.1 (c.in_err-put_below.ensures.leaves honest sound stands.value None None stands.whole tt tt).no_damage
+    fails _ _ _ c.from_residual.ensures.1
+    (c.in_err-put_below.ensures.leaves honest sound (at_root c.args.self.now stands.value) stands.whole (tt, tt)).no_damage
 
 pub returns-then-branch-clause-inserted : goal.returns-then-branch-clause-inserted
 returns-then-branch-clause-inserted g c honest sound entries own stands =
     let old = c.args.self.now in
-    let before = (g.P.Pages.shown.state c.args.pages.now).live in
-    let new = g.P.Pages.shown.state c.put_below.new.pages in
-    let a = (c.in_ok-put_below.ensures.leaves honest sound stands.value None None stands.whole tt tt).answer in
-    let h = subst (λ (b : Bool). HasPutIf old.shape before new.live old.levels old.root None None c.args.entry.now stands.value b) c.if-branch.true a.0 in
+    let a = (c.in_ok-put_below.ensures.leaves honest sound (at_root old stands.value) stands.whole (tt, tt)).answer in
     record {
-      answer = inserted_one old c.args.entry.now before entries own stands new.live new.live (IsTrue new.is_sound) None (record { root = old.root; levels = old.levels }) _ _ _ refl h
-          (grows_none old.shape old.levels old.root new.live new.live (IsTrue new.is_sound) refl a.1);
+      answer = inserted_one c.args.entry.now stands {base = record { root = old.root; levels = old.levels }}
+          (g.P.Pages.shown.state c.put_below.new.pages).live None refl
+          (rw c.if-branch.true at a.0) (grows_none a.1);
       no_damage = tt;
     }
 
@@ -31,12 +27,10 @@ returns-clause-inserted g c honest sound entries own stands =
     let old = c.args.self.now in
     let before = (g.P.Pages.shown.state c.args.pages.now).live in
     let mid = g.P.Pages.shown.state c.put_below.new.pages in
-    let new = g.P.Pages.shown.state c.insert_or_split.new.pages in
     let h1 = g.met.P.Pages.writes_honestly c.put_below.new.pages c.insert_or_split.new.pages c.insert_or_split.ensures.writes.step honest in
-    let a = (c.in_ok-put_below.ensures.leaves h1 sound stands.value None None stands.whole tt tt).answer in
-    let same : mid.live ≡ before = subst (λ (b : Bool). HasPutIf old.shape before mid.live old.levels old.root None None c.args.entry.now stands.value b) c.if-branch.false a.0 in
-    (subst (λ (m : PageMap). Inserts old c.insert_or_split.new.self c.args.entry.now c.insert_or_split.result m new.live (IsTrue new.is_sound)) same
-    (c.insert_or_split.ensures.inserts.inserted honest a.1)) entries own stands
+    let a = (c.in_ok-put_below.ensures.leaves h1 sound (at_root old stands.value) stands.whole (tt, tt)).answer in
+    let same : mid.live ≡ before = rw c.if-branch.false at a.0 in
+    (rw same at (c.insert_or_split.ensures.inserts.inserted honest a.1)) entries own stands
 
 pub returns-then-self-ge-GREATEST_LEVELS-clause-inserted : goal.returns-then-self-ge-GREATEST_LEVELS-clause-inserted
 returns-then-self-ge-GREATEST_LEVELS-clause-inserted g c honest sound entries own stands =
