@@ -7,8 +7,7 @@ use Rattle.bplus_tree.proofs.insert.+put_below.Goals as goal
 pub returns-then-levels-eq0 : goal.returns-then-levels-eq0
 returns-then-levels-eq0 g t c = record {
   leaves = λ honest sound.
-      let live = (g.P.Pages.shown.state c.put_in_place.new.pages).live in
-      puts_at live c.args.entry.now c.if-levels-eq0.true (put_leaf live c.args.entry.now (c.put_in_place.ensures.leaves honest sound));
+      puts_at _ c.args.entry.now c.if-levels-eq0.true (put_leaf _ c.args.entry.now (c.put_in_place.ensures.leaves honest sound));
   writes = search rules;
 }
 
@@ -16,13 +15,13 @@ pub returns-in_err-down : goal.returns-in_err-down
 returns-in_err-down g t c = record {
   leaves = λ honest sound.
       let one : c.args.levels ≡ suc (c.args.levels - 1) = omega arith in
-      puts_at (g.P.Pages.shown.state c.descend.new.pages).live c.args.entry.now one
+      puts_at _ c.args.entry.now one
       (λ node whole within. descent_fails node whole (c.in_err-down.ensures.found honest) c.from_residual.ensures.1);
   writes = record {
-    available = g.met.P.Pages.reads_available c.args.pages.now c.descend.new.pages c.descend.ensures.reads.step;
+    available = g.met.P.Pages.reads_available _ _ c.descend.ensures.reads.step;
     cause = fails_since c.from_residual.result _ _ _ _ _ c.from_residual.ensures.1 (λ failed. failed) (λ none. none) c.in_err-down.ensures.reads.cause;
     asked = omega (arith, c.descend.ensures.reads.asked);
-    step = g.met.P.Pages.reads_writes c.args.pages.now c.descend.new.pages c.descend.ensures.reads.step;
+    step = g.met.P.Pages.reads_writes _ _ c.descend.ensures.reads.step;
   };
 }
 
@@ -30,22 +29,19 @@ pub returns : goal.returns
 returns g t c = record {
   leaves = λ honest sound.
       let one : c.args.levels ≡ suc (c.args.levels - 1) = omega arith in
-      let old = c.args.pages.now in
-      let mid = c.descend.new.pages in
       let reads = c.descend.ensures.reads.step in
-      let h = g.met.P.Pages.writes_honestly mid c.put_below.new.pages c.put_below.ensures.writes.step honest in
-      let below = c.put_below.ensures.leaves honest (rw (g.met.P.Pages.reads_sound old mid reads h) sound) in
-      let live = (g.P.Pages.shown.state c.put_below.new.pages).live in
-      puts_at live c.args.entry.now one
-      (put_inner c.args.entry.now (c.in_ok-down.ensures.found h) live (rw (g.met.P.Pages.reads_live old mid reads h) at below));
+      let h = g.met.P.Pages.writes_honestly _ _ c.put_below.ensures.writes.step honest in
+      let below = c.put_below.ensures.leaves honest (rw (g.met.P.Pages.reads_sound _ _ reads h) sound) in
+      puts_at _ c.args.entry.now one
+      (put_inner c.args.entry.now (c.in_ok-down.ensures.found h) _ (rw (g.met.P.Pages.reads_live _ _ reads h) at below));
   writes =
       let one : c.args.levels ≡ suc (c.args.levels - 1) = omega arith in
       let old = c.args.pages.now in
       let mid = c.descend.new.pages in
       let new = c.put_below.new.pages in
-      let first = g.met.P.Pages.reads_writes old mid c.descend.ensures.reads.step in
+      let first = g.met.P.Pages.reads_writes _ _ c.descend.ensures.reads.step in
       record {
-        available = c.put_below.ensures.writes.available ∙ g.met.P.Pages.reads_available old mid c.descend.ensures.reads.step;
+        available = c.put_below.ensures.writes.available ∙ g.met.P.Pages.reads_available _ _ c.descend.ensures.reads.step;
         cause = caused_since c.put_below.result _ _ _ _ (g.met.P.Pages.failed_after old mid new first) (λ none. none) c.put_below.ensures.writes.cause;
         asked = omega (arith, c.descend.ensures.reads.asked, c.put_below.ensures.writes.asked);
         step = g.met.P.Pages.writes_on old mid new first c.put_below.ensures.writes.step;

@@ -17,8 +17,7 @@ returns-then-branch-clause-inserted g c honest sound entries own stands =
     let a = (c.in_ok-put_below.ensures.leaves honest sound (at_root old stands.value) stands.whole (tt, tt)).answer in
     record {
       answer = inserted_one c.args.entry.now stands {base = record { root = old.root; levels = old.levels }}
-          (g.P.Pages.shown.state c.put_below.new.pages).live None refl
-          (rw c.if-branch.true at a.0) (grows_none a.1);
+          (g.P.Pages.shown.state c.put_below.new.pages).live None refl (rw c.if-branch.true at a.0) (grows_none a.1);
       no_damage = tt;
     }
 
@@ -27,7 +26,7 @@ returns-clause-inserted g c honest sound entries own stands =
     let old = c.args.self.now in
     let before = (g.P.Pages.shown.state c.args.pages.now).live in
     let mid = g.P.Pages.shown.state c.put_below.new.pages in
-    let h1 = g.met.P.Pages.writes_honestly c.put_below.new.pages c.insert_or_split.new.pages c.insert_or_split.ensures.writes.step honest in
+    let h1 = g.met.P.Pages.writes_honestly _ _ c.insert_or_split.ensures.writes.step honest in
     let a = (c.in_ok-put_below.ensures.leaves h1 sound (at_root old stands.value) stands.whole (tt, tt)).answer in
     let same : mid.live ≡ before = rw c.if-branch.false at a.0 in
     (rw same at (c.insert_or_split.ensures.inserts.inserted honest a.1)) entries own stands

@@ -24,7 +24,7 @@ returns-in-Present-clause-inserts g c = record {
 pub returns-in_err-base-in-Added-clause-inserts : goal.returns-in_err-base-in-Added-clause-inserts
 returns-in_err-base-in-Added-clause-inserts g c = record {
   inserted = λ honest sound entries own stands.
-      let h1 = g.met.P.Pages.writes_honestly c.insert_below.new.pages c.grow_root.new.pages c.grow_root.ensures.alters.writes.step honest in
+      let h1 = g.met.P.Pages.writes_honestly _ _ c.grow_root.ensures.alters.writes.step honest in
       let a = (c.in_ok-found.ensures.inserted h1 sound (at_root c.args.self.now stands.value) stands.whole (tt, tt)).answer in
       fails _ _ _ c.from_residual-in_err-base-in-Added.ensures.1
       (c.in_err-base-in-Added.ensures.alters.leaves honest a.1 (g.P.Pages.shown.state c.args.pages.now).live stands.value _
@@ -36,7 +36,7 @@ returns-in_err-base-in-Added-clause-inserts g c = record {
 pub returns-in_ok-base-in-Added-clause-inserts : goal.returns-in_ok-base-in-Added-clause-inserts
 returns-in_ok-base-in-Added-clause-inserts g c = record {
   inserted = λ honest sound entries own stands.
-      let h1 = g.met.P.Pages.writes_honestly c.insert_below.new.pages c.grow_root.new.pages c.grow_root.ensures.alters.writes.step honest in
+      let h1 = g.met.P.Pages.writes_honestly _ _ c.grow_root.ensures.alters.writes.step honest in
       let a = (c.in_ok-found.ensures.inserted h1 sound (at_root c.args.self.now stands.value) stands.whole (tt, tt)).answer in
       record {
         answer = inserted_one c.args.entry.now stands (g.P.Pages.shown.state c.insert_below.new.pages).live c.in-Added.up refl

@@ -19,7 +19,7 @@ pub returns-clause-removed : goal.returns-clause-removed
 returns-clause-removed g c honest sound entries own stands =
     let before = (g.P.Pages.shown.state c.args.pages.now).live in
     let mid = g.P.Pages.shown.state c.take_below.new.pages in
-    let h1 = g.met.P.Pages.writes_honestly c.take_below.new.pages c.remove_or_rebalance.new.pages c.remove_or_rebalance.ensures.writes.step honest in
+    let h1 = g.met.P.Pages.writes_honestly _ _ c.remove_or_rebalance.ensures.writes.step honest in
     let a = (c.in_ok-take_below.ensures.leaves h1 sound (at_root c.args.self.now stands.value) stands.whole).answer in
     let same : mid.live ≡ before = rw c.if-branch.false at a.0 in
     (rw same at (c.remove_or_rebalance.ensures.removes.removed honest a.1)) entries own stands

@@ -25,7 +25,7 @@ returns-in-Absent-clause-removes g c = record {
 pub returns-in_err-base-in-Taken-clause-removes : goal.returns-in_err-base-in-Taken-clause-removes
 returns-in_err-base-in-Taken-clause-removes g c = record {
   removed = λ honest sound entries own stands.
-      let h1 = g.met.P.Pages.writes_honestly c.remove_below.new.pages c.collapse.new.pages c.collapse.ensures.alters.writes.step honest in
+      let h1 = g.met.P.Pages.writes_honestly _ _ c.collapse.ensures.alters.writes.step honest in
       let a = (c.in_ok-remove_below.ensures.removed h1 sound (at_root c.args.self.now stands.value) stands.whole).answer in
       let b = (rw c.in-Taken.is at a.0).1.becomes in
       fails _ _ _ c.from_residual-in_err-base-in-Taken.ensures.1
@@ -37,7 +37,7 @@ returns-in_err-base-in-Taken-clause-removes g c = record {
 pub returns-in_ok-base-in-Taken-clause-removes : goal.returns-in_ok-base-in-Taken-clause-removes
 returns-in_ok-base-in-Taken-clause-removes g c = record {
   removed = λ honest sound entries own stands.
-      let h1 = g.met.P.Pages.writes_honestly c.remove_below.new.pages c.collapse.new.pages c.collapse.ensures.alters.writes.step honest in
+      let h1 = g.met.P.Pages.writes_honestly _ _ c.collapse.ensures.alters.writes.step honest in
       let a = (c.in_ok-remove_below.ensures.removed h1 sound (at_root c.args.self.now stands.value) stands.whole).answer in
       record {
         answer = removed_some c.args.key.now stands c.in-Taken.entry _ c.saturating_sub.ensures (rw c.in-Taken.is at a.0)
