@@ -1,13 +1,8 @@
 -- A file whose bytes are closed, and what its name stands for.
 use Rattle.std.proofs.Common.{◌≡◌, ℕ, List, Option, None, Some, ◌∙◌, refl}
-use Rattle.indexed_file.specs.File.{File}
-use Rattle.indexed_file.specs.World.{Closed}
-use Rattle.record_layout.specs.Schema.{Schema}
-use Rattle.page_store.specs.DeviceFile.{DeviceFile, content, bytes_or_none}
-use Rattle.shelf_file.specs.declared.look.Look.TheVariants.{Refused, Accepted}
-use Rattle.shelf_file.specs.Named.{named_of}
-use Rattle.shelf_file.specs.Shelves.{AreClosed}
-use Rattle.shelf_file.proofs.AcceptedLemmas.{reads_back, named_by_header}
+use Rattle.shelf_library.proofs.Terms.{Schema, File, Closed, DeviceFile, bytes_or_none, content, reads_back, named_of, AreClosed, Accepted}
+use Rattle.shelf_library.proofs.Terms.{Refused}
+use Rattle.shelf_file.proofs.AcceptedLemmas.{named_by_header}
 
 -- bytes that are closed stand for their rows
 pub closed_named : (bytes : List ℕ) (schema : Schema) (rows : File) → AreClosed schema rows bytes → named_of (Some bytes) ≡ Closed schema rows

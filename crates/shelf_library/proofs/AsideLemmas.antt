@@ -3,37 +3,21 @@ use Rattle.std.proofs.Common.{◌≡◌, ◌≢◌, ℕ, zero, suc, ◌<◌, ◌
 use Rattle.std.specs.Prelude.{IsTrue, Option, is_some, if◌then◌else◌}
 use Rattle.std.specs.List.{IsDistinct, AllByRecursion}
 use Rattle.std.proofs.lemmas.List.{set-get_or}
-use Rattle.std.proofs.lemmas.Bool.{eqb-true, eqb-false}
-use Rattle.std.proofs.lemmas.Slice.Eq.{bytes_eq-Decides}
-use Rattle.indexed_file.proofs.TestLemmas.{either}
-use Rattle.indexed_file.specs.File.{File}
-use Rattle.indexed_file.specs.World.{World, FileUnit, Named, Absent, Holding, Shut, Broken, Opened as HasOpened, holding_at, named_at, name_at, with_unit, OnlyAt}
-use Rattle.indexed_file.specs.Images.{Stays}
-use Rattle.page_store.specs.DeviceFile.{DeviceFile, content}
-use Rattle.page_store.specs.ShelfState.{ShelfState, unit_name, unit_file}
-use Rattle.page_store.specs.Gate.{AllOpen}
-use Rattle.page_store.specs.Pages.{page_of_bytes, HoldsPages}
+use Rattle.page_store.specs.Pages.{HoldsPages}
 use Rattle.page_cache.specs.Cached.{cached_pages_in}
 use Rattle.page_alloc.specs.Chain.{chain, used}
 use Rattle.page_alloc.specs.Steps.{pages_state_of}
-use Rattle.page_alloc.specs.Joining.{first_free_page, pages_counted, pages_free}
-use Rattle.page_alloc.specs.PagedFile.{cache_of, counts_of, unit_of_pages}
-use Rattle.open_file.specs.ReadOff.{file_off}
-use Rattle.open_file.specs.Stands.{Stands}
-use Rattle.file_header.specs.declared.header.Header.{Header}
-use Rattle.shelf_file.specs.declared.shelf_file.ShelfFile.{ShelfFile}
-use Rattle.shelf_file.specs.Named.{look_of, named_of}
-use Rattle.shelf_file.specs.Standing.{IsReady, StandsFor, live_of, file_read_off, is_broken_file, pages_behind, parts_of, schema_behind}
-use Rattle.shelf_file.specs.Shelves.{AreClosed}
-use Rattle.shelf_library.specs.declared.held.Held.{Held}
-use Rattle.shelf_library.specs.declared.held.Held.TheVariants.{Nothing, Looked, Opened}
-use Rattle.shelf_library.specs.State.{LibraryState, held_at, IsLooked, AreLooked, IsReadyAt, AreReady}
-use Rattle.shelf_library.specs.Units.{holding_of, world_of}
-use Rattle.shelf_library.specs.Truth.{IsTrulyClosed, IsTrulyOpen, IsShownTruly}
-use Rattle.shelf_library.specs.OneUnit.{AreUnits, ChangesAt, FitsItsFile, IsTrulyHeld}
-use Rattle.shelf_library.specs.Crashes.{MayReadAs}
-use Rattle.shelf_library.specs.MomentLaws.{EachRead}
-use Rattle.shelf_library.specs.Library.{shown_by}
+use Rattle.page_alloc.specs.Joining.{first_free_page}
+use Rattle.page_alloc.specs.PagedFile.{cache_of}
+use Rattle.shelf_library.specs.State.{AreLooked, AreReady}
+use Rattle.shelf_library.proofs.Terms.{eqb-false, eqb-true, bytes_eq-Decides, either, File, Stays, Absent, Broken, FileUnit, Holding, Named}
+use Rattle.shelf_library.proofs.Terms.{OnlyAt, HasOpened, Shut, World, holding_at, name_at, named_at, with_unit, DeviceFile, content}
+use Rattle.shelf_library.proofs.Terms.{AllOpen, page_of_bytes, KeepsOthers, ShelfState, unit_file, unit_name, pages_counted, pages_free}
+use Rattle.shelf_library.proofs.Terms.{counts_of, unit_of_pages, Header, file_off, Stands, look_of, named_of, AreClosed, IsReady, StandsFor}
+use Rattle.shelf_library.proofs.Terms.{file_read_off, is_broken_file, live_of, pages_behind, parts_of, schema_behind, ShelfFile, MayReadAs}
+use Rattle.shelf_library.proofs.Terms.{shown_by, EachRead, AreUnits, ChangesAt, FitsItsFile, IsTrulyHeld, IsLooked, IsReadyAt, LibraryState}
+use Rattle.shelf_library.proofs.Terms.{held_at, IsShownTruly, IsTrulyClosed, IsTrulyOpen, holding_of, world_of, Held, Looked, Nothing}
+use Rattle.shelf_library.proofs.Terms.{Opened}
 use Rattle.shelf_library.proofs.WorldLemmas.{only_at, set_here, set_aside, set_long, name_now, holding_now, named_now}
 
 -- ---- two units have two names
@@ -43,7 +27,7 @@ unlike [] name v all within = absurd (omega (arith, within))
 unlike (first ∷ names) name zero all within = all.0
 unlike (first ∷ names) name (suc v) all within = unlike names name v all.1 (omega (arith, within))
 
-differs : (a b : List ℕ) → bytes_eq a b ≡ false → a ≢ b
+pub differs : (a b : List ℕ) → bytes_eq a b ≡ false → a ≢ b
 differs a b miss same = let hit = (bytes_eq-Decides a b).1 same in let clash : true ≡ false = sym hit ∙ miss in cc
 
 pub names_differ : (names : List (List ℕ)) (u v : ℕ) → IsDistinct bytes_eq names → u < length names → v < length names → v ≢ u → get_or names v [] ≢ get_or names u []
@@ -53,6 +37,10 @@ names_differ (name ∷ names) zero zero distinct lu lv other = absurd (other ref
 names_differ (name ∷ names) zero (suc v) distinct lu lv other = λ same. differs name (get_or names v []) (unlike names name v distinct.0 (omega (arith, lv))) (sym same)
 names_differ (name ∷ names) (suc u) zero distinct lu lv other = differs name (get_or names u []) (unlike names name u distinct.0 (omega (arith, lu)))
 names_differ (name ∷ names) (suc u) (suc v) distinct lu lv other = names_differ names u v distinct.1 (omega (arith, lu)) (omega (arith, lv)) (λ same. other (ap suc same))
+
+-- a call that leaves the shelf
+pub rests : (shelf : ShelfState) (u : ℕ) → KeepsOthers u shelf shelf
+rests shelf u = record { names = refl; others = λ name other. refl; honest = λ honest. honest }
 
 -- ---- an open file whose bytes are as they were
 

@@ -2,20 +2,10 @@
 use Rattle.std.proofs.Common.{◌≡◌, ℕ, zero, suc, List, [], ◌∷◌, length, map, Some, IsTrue, refl, sym, ap, subst, ◌∙◌, arith}
 use Rattle.std.specs.Prelude.{replicate, bytes_eq}
 use Rattle.std.specs.List.{IsDistinct}
-use Rattle.indexed_file.specs.Calls.{Keeps}
-use Rattle.indexed_file.specs.Images.{Stays}
-use Rattle.indexed_file.specs.World.{FileUnit, Named, Shut, named_in, attached}
-use Rattle.page_store.specs.DeviceFile.{DeviceFile}
-use Rattle.page_store.specs.ShelfState.{ShelfState}
-use Rattle.shelf_file.specs.Named.{look_of, named_of}
-use Rattle.shelf_library.specs.declared.held.Held.{Held}
-use Rattle.shelf_library.specs.declared.held.Held.TheVariants.{Nothing, Looked, Opened}
-use Rattle.shelf_library.specs.State.{LibraryState, held_at}
-use Rattle.shelf_library.specs.Truth.{IsShownTruly, IsTrulyClosed}
-use Rattle.shelf_library.specs.Units.{world_of, units_of}
-use Rattle.shelf_library.specs.Library.{shown_by}
-use Rattle.shelf_library.specs.OneUnit.{AreUnits}
-use Rattle.shelf_library.specs.Attaching.{Attaches}
+use Rattle.indexed_file.specs.World.{named_in, attached}
+use Rattle.shelf_library.proofs.Terms.{Keeps, Stays, FileUnit, Named, Shut, DeviceFile, ShelfState, look_of, named_of, Attaches, shown_by}
+use Rattle.shelf_library.proofs.Terms.{AreUnits, LibraryState, held_at, IsShownTruly, IsTrulyClosed, units_of, world_of, Held, Looked}
+use Rattle.shelf_library.proofs.Terms.{Nothing, Opened}
 use Rattle.shelf_library.proofs.WorldLemmas.{named_anywhere}
 use Rattle.shelf_library.proofs.AsideLemmas.{images_aside}
 

@@ -1,30 +1,20 @@
 -- What a call that changes the open file of a unit promises of the library.
-use Rattle.std.proofs.Common.{◌≡◌, ℕ, ◌+◌, ◌≤◌, Bool, true, not, Some, Result, Ok, Err, IsTrue, IsFalse, OnOk, refl, sym, ap, subst, ◌∙◌}
-use Rattle.record_layout.specs.Schema.{Schema}
-use Rattle.indexed_file.proofs.TestLemmas.{either}
+use Rattle.std.proofs.Common.{◌≡◌, ℕ, ◌+◌, ◌≤◌, Bool, true, not, Result, Ok, Err, IsTrue, IsFalse, OnOk, refl, sym, subst, ◌∙◌}
 use Rattle.indexed_file.specs.Room.{most_to_change}
-use Rattle.indexed_file.specs.World.{World, holding_at, name_at, schema_at, file_at, is_broken}
-use Rattle.indexed_file.specs.Images.{Trace, ImagesGo, unfinished, trace_if, trace_of_change}
-use Rattle.indexed_file.specs.Calls.{Keeps, SamePages, is_unmade}
+use Rattle.indexed_file.specs.Images.{trace_if, trace_of_change}
+use Rattle.indexed_file.specs.Calls.{is_unmade}
 use Rattle.indexed_file.specs.Believed.{Believed}
 use Rattle.indexed_file.specs.UnitCalls.{GivesUp, ChangesUnit}
-use Rattle.io_state.specs.declared.fault.Fault.{Fault}
-use Rattle.io_state.specs.declared.fault.Fault.TheVariants.{Device, Memory, Full, Damage, Broken as BrokenFile}
-use Rattle.indexed_file.specs.FileChange.{FileChange, has_room_for, LacksRoomFor}
-use Rattle.shelf_file.specs.declared.shelf_file.ShelfFile.{ShelfFile}
-use Rattle.shelf_file.specs.Standing.{pages_behind, schema_behind}
-use Rattle.shelf_library.specs.State.{LibraryState, held_at}
-use Rattle.shelf_library.specs.Units.{world_of, room_of_held, pages_asked_of}
-use Rattle.shelf_library.specs.Library.{shown_by}
-use Rattle.shelf_library.specs.OneUnit.{IsTrulyHeld}
-use Rattle.shelf_library.specs.Changing.{MovesAt, ChangesFile}
-use Rattle.shelf_library.specs.declared.held.Held.{Held}
-use Rattle.shelf_library.specs.declared.held.Held.TheVariants.{Opened}
-use Rattle.shelf_library.proofs.AsideLemmas.{only_here, held_truly, truth_after}
+use Rattle.indexed_file.specs.FileChange.{has_room_for, LacksRoomFor}
+use Rattle.shelf_library.proofs.Terms.{Fault, BrokenUnit as BrokenFile, Damage, Device, Full, Memory, Schema, either, Keeps, SamePages}
+use Rattle.shelf_library.proofs.Terms.{FileChange, ImagesGo, Trace, unfinished, World, file_at, holding_at, is_broken, name_at, schema_at}
+use Rattle.shelf_library.proofs.Terms.{times_asked, pages_behind, schema_behind, ShelfFile, ChangesFile, MovesAt, shown_by, IsTrulyHeld}
+use Rattle.shelf_library.proofs.Terms.{LibraryState, held_at, pages_asked_of, room_of_held, world_of, Held, Opened}
+use Rattle.shelf_library.proofs.AsideLemmas.{only_here}
+use Rattle.shelf_library.proofs.UnitLemmas.{keeps_at}
 use Rattle.shelf_library.proofs.ReadsLemmas.{reads_images, reads_pages}
-use Rattle.shelf_library.proofs.MovingLemmas.{others, changes_at, reads_at, goes_unfinished}
+use Rattle.shelf_library.proofs.MovingLemmas.{changes_at, reads_at, goes_unfinished}
 use Rattle.shelf_library.proofs.ChangingLemmas.{broken_now, schema_before, schema_now, open_now, held_now, broken_told, truly_after, fault_after, answers, done_at_ok, told_at_ok, told_at_full, takes_at_full, rests_at_full}
-use Rattle.page_alloc.specs.PagedFile.{times_asked}
 
 module _
     {S X : Type 0} (state : S → LibraryState) (a b : S) (u : ℕ) (file after : ShelfFile) (call : MovesAt u file after (state a) (state b))
@@ -78,16 +68,9 @@ module _
 
   keeps_after : (result : Result X Fault) → Change result → Keeps (shown_by state) a b
   keeps_after result change =
-      let at = changes_at u file after old new call in
-      record {
-        honest = (others u file after old new call).honest;
-        truth = λ honest. truth_after u (Opened after) old.shelf new.shelf old.held new.held call.units at (λ truly.
-            truly_after u file after old new call change_of result change honest
-            (subst (λ (one : Held). IsTrulyHeld u one old.shelf) call.opened (held_truly u (Opened after) old.shelf new.shelf old.held new.held call.units at truly)));
-        count = call.moves.faults;
-        limit = ap Some call.limit;
-        frames = ap Some call.frames;
-      }
+      keeps_at state u (Opened after) a b call.units (changes_at u file after old new call) call.limit call.frames call.moves.faults
+      (λ honest truly. truly_after u file after old new call change_of result change honest
+      (subst (λ (one : Held). IsTrulyHeld u one old.shelf) call.opened truly))
 
   abbrev before : World
   before = world_of old.shelf old.held

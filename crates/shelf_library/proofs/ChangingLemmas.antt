@@ -1,27 +1,15 @@
 -- What a call that changes the open file of a unit leaves of it.
 use Rattle.std.proofs.Common.{◌≡◌, ◌≢◌, ◌⊎◌, inl, inr, ℕ, Bool, true, false, Result, Ok, Err, IsTrue, IsFalse, IfErr, IfOk, OnOk, ◌<◌, length, refl, sym, ap, subst, ◌∙◌}
 use Rattle.std.specs.Prelude.{if◌then◌else◌}
-use Rattle.record_layout.specs.Schema.{Schema}
-use Rattle.indexed_file.proofs.TestLemmas.{either}
-use Rattle.indexed_file.specs.File.{File}
-use Rattle.indexed_file.specs.Room.{Room}
-use Rattle.indexed_file.specs.World.{World, Named, Holding, Unsound, Opened as HasOpened, Broken, with_unit, holding_at, name_at, named_at, schema_at, file_at, is_open, is_broken}
 use Rattle.indexed_file.specs.UnitAnswers.{world_changed}
-use Rattle.indexed_file.specs.Calls.{OnlyReads as ReadsWorld, MayFail, LeavesBroken}
-use Rattle.io_state.specs.declared.fault.Fault.{Fault}
-use Rattle.io_state.specs.declared.fault.Fault.TheVariants.{Device, Memory, Full, Damage, Broken as BrokenFile}
-use Rattle.page_store.specs.ShelfState.{unit_file}
-use Rattle.indexed_file.specs.FileChange.{FileChange}
-use Rattle.shelf_file.specs.declared.shelf_file.ShelfFile.{ShelfFile}
-use Rattle.shelf_file.specs.Named.{named_of}
-use Rattle.shelf_file.specs.Standing.{StandsFor, live_of, file_read_off, room_in, is_broken_file, pages_behind, parts_of, schema_behind}
-use Rattle.shelf_library.specs.State.{LibraryState, held_at}
-use Rattle.shelf_library.specs.Truth.{IsTrulyOpen, IsShownTruly}
-use Rattle.shelf_library.specs.Units.{world_of, room_of_held}
-use Rattle.shelf_library.specs.OneUnit.{AreUnits, ChangesAt, IsTrulyHeld}
-use Rattle.shelf_library.specs.Changing.{MovesAt, ChangesFile}
-use Rattle.shelf_library.specs.declared.held.Held.TheVariants.{Opened}
-use Rattle.open_file.proofs.ReadOffLemmas.{reads_as}
+use Rattle.indexed_file.specs.Calls.{LeavesBroken}
+use Rattle.shelf_library.proofs.Terms.{Fault, BrokenUnit as BrokenFile, Damage, Device, Full, Memory, Schema, either, MayFail, ReadsWorld}
+use Rattle.shelf_library.proofs.Terms.{File, FileChange, Room, Broken, Holding, Named, HasOpened, Unsound, World, file_at, holding_at}
+use Rattle.shelf_library.proofs.Terms.{is_broken, is_open, name_at, named_at, schema_at, with_unit, unit_file, is_begun, reads_as, named_of}
+use Rattle.shelf_library.proofs.Terms.{StandsFor, file_read_off, is_broken_file, live_of, pages_behind, parts_of, room_in, schema_behind}
+use Rattle.shelf_library.proofs.Terms.{ShelfFile, ChangesFile, MovesAt, AreUnits, ChangesAt, IsTrulyHeld, LibraryState, held_at}
+use Rattle.shelf_library.proofs.Terms.{IsShownTruly, IsTrulyOpen, room_of_held, world_of, Opened}
+use Rattle.shelf_library.proofs.WorldLemmas.{same_open}
 use Rattle.shelf_library.proofs.AsideLemmas.{only_here, named_before, named_after, attached_after, held_here, are_after}
 use Rattle.shelf_library.proofs.ReadingLemmas.{truly_held}
 use Rattle.shelf_library.proofs.ReadsLemmas.{reads_world}
@@ -29,10 +17,6 @@ use Rattle.shelf_library.proofs.FaultLemmas.{may_fail}
 use Rattle.shelf_library.proofs.MovingLemmas.{changes_at, fits, reads_at, same_or_unsound, unsound_after, closed_truly}
 use Rattle.shelf_library.proofs.KnownLemmas.{known}
 use Rattle.shelf_library.proofs.ShownLemmas.{holding_shown, schema_shown, open_shown, broken_shown, told}
-use Rattle.page_alloc.specs.PagedFile.{is_begun}
-
-opened_is : (a b : ShelfFile) → Opened a ≡ Opened b → a ≡ b
-opened_is a b e = cc
 
 module _ (u : ℕ) (file after : ShelfFile) (old new : LibraryState) (call : MovesAt u file after old new) where
   abbrev pub before : World
@@ -125,7 +109,7 @@ module _ (u : ℕ) (file after : ShelfFile) (old new : LibraryState) (call : Mov
       opened = λ held same unbroken.
           let was = truly.opened file refl (unbroken_at_ok x change) in
           let has = (change.changes.done honest was.stands.sound was.rows was.stands.stands).answer in
-          subst (λ (h : ShelfFile). IsTrulyOpen new.shelf h (unit_file new.shelf u)) (opened_is after held same) (record {
+          subst (λ (h : ShelfFile). IsTrulyOpen new.shelf h (unit_file new.shelf u)) (same_open after held same) (record {
             rows = (change_of (schema_behind file)).leaves was.rows;
             stands = record { stands = has.stands; sound = has.sound };
             closed = λ unchanged. let begun = change.changes.begun is in absurd (cc);
@@ -135,7 +119,7 @@ module _ (u : ℕ) (file after : ShelfFile) (old new : LibraryState) (call : Mov
     broken_truly : IsTrue (is_broken_file after) → IsTrue new.shelf.is_honest → IsTrulyHeld u (Opened file) old.shelf → IsTrulyHeld u (Opened after) new.shelf
     broken_truly broken honest truly = record {
       closed = closed_truly u file after old new call honest truly.closed;
-      opened = λ held same unbroken. let is : after ≡ held = opened_is after held same in absurd (cc);
+      opened = λ held same unbroken. let is : after ≡ held = same_open after held same in absurd (cc);
     }
 
     pub truly_after : (result : Result X Fault) → Change result → IsTrue new.shelf.is_honest → IsTrulyHeld u (Opened file) old.shelf → IsTrulyHeld u (Opened after) new.shelf

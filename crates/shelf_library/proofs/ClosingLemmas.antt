@@ -1,35 +1,15 @@
 -- What the closing of a unit's file leaves of its name.
 use Rattle.std.proofs.Common.{◌≡◌, ◌⊎◌, inl, inr, ℕ, true, false, List, [], ◌∷◌, Option, IsTrue, IsFalse, OnOk, Result, Ok, Err, refl, sym, ap, subst, ◌∙◌}
-use Rattle.std.proofs.lemmas.Bool.{cases_Bool}
-use Rattle.indexed_file.proofs.TestLemmas.{either}
-use Rattle.io_state.specs.declared.fault.Fault.{Fault}
-use Rattle.record_layout.specs.Schema.{Schema}
-use Rattle.indexed_file.specs.File.{File}
-use Rattle.indexed_file.specs.Images.{IsAmong}
-use Rattle.indexed_file.specs.World.{Named, Closed, Unsound}
-use Rattle.page_store.specs.DeviceFile.{DeviceFile, content, bytes_or_none}
-use Rattle.page_store.specs.Gate.{AllOpen}
 use Rattle.page_store.specs.Images.{IsSettled}
-use Rattle.page_store.proofs.MomentLemmas.{throughout_none, throughout_last}
-use Rattle.page_store.proofs.OpenLemmas.{refused_open}
-use Rattle.page_store.specs.ShelfState.{KeepsOthers, unit_file}
-use Rattle.page_store.proofs.ShelfLemmas.{same_place}
-use Rattle.file_header.specs.declared.header.Header.{Header}
-use Rattle.shelf_file.specs.declared.look.Look.TheVariants.{Accepted, Refused}
-use Rattle.shelf_file.specs.declared.shelf_file.ShelfFile.{ShelfFile}
-use Rattle.shelf_file.specs.Named.{look_of, named_of, StandsIn}
-use Rattle.shelf_file.specs.Shelves.{AreClosed, ClosedFileOrRefused, Closes}
-use Rattle.shelf_file.specs.Standing.{is_broken_file, pages_behind, schema_behind}
-use Rattle.shelf_library.specs.declared.held.Held.TheVariants.{Nothing}
-use Rattle.shelf_library.specs.Crashes.{IsSoundImage, MayReadAs}
-use Rattle.shelf_library.specs.MomentLaws.{EachRead, each_read}
-use Rattle.shelf_library.specs.State.{LibraryState, IsReadyAt, held_at}
-use Rattle.shelf_library.specs.Truth.{IsTrulyClosed, IsTrulyOpen}
-use Rattle.shelf_library.specs.OneUnit.{ChangesAt, IsTrulyHeld}
-use Rattle.shelf_library.specs.Closing.{ClosesUnitAt}
+use Rattle.page_store.proofs.MomentLemmas.{throughout_last}
+use Rattle.shelf_library.proofs.Terms.{cases_Bool, Fault, Schema, either, File, IsAmong, Closed, Named, Unsound, throughout_none}
+use Rattle.shelf_library.proofs.Terms.{refused_open, same_place, DeviceFile, bytes_or_none, content, AllOpen, KeepsOthers, unit_file}
+use Rattle.shelf_library.proofs.Terms.{is_begun, Header, StandsIn, look_of, named_of, AreClosed, ClosedFileOrRefused, Closes}
+use Rattle.shelf_library.proofs.Terms.{is_broken_file, pages_behind, schema_behind, Accepted, Refused, ShelfFile, ClosesUnitAt}
+use Rattle.shelf_library.proofs.Terms.{IsSoundImage, MayReadAs, EachRead, each_read, ChangesAt, IsTrulyHeld, IsReadyAt, LibraryState}
+use Rattle.shelf_library.proofs.Terms.{held_at, IsTrulyClosed, IsTrulyOpen, Nothing}
 use Rattle.shelf_library.proofs.RefusedLemmas.{refused_look, refused_named}
 use Rattle.shelf_library.proofs.AcceptedLemmas.{closed_named, closed_there}
-use Rattle.page_alloc.specs.PagedFile.{is_begun}
 
 -- ---- bytes that are closed
 

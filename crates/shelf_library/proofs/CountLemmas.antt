@@ -1,39 +1,26 @@
 -- A unit whose count of pages begins again.
 use Rattle.std.proofs.Common.{◌≡◌, ℕ, ◌<◌, List, length, IsFalse, refl, ap, sym, subst, ◌∙◌, ◌==◌}
-use Rattle.std.specs.Prelude.{slice_index_or, Option, Some}
+use Rattle.std.specs.Prelude.{slice_index_or, slice_set, Option, Some}
+use Rattle.shelf_library.proofs.Terms.{eqb-false, eqb-true, non_zero_usize_get, either, DeviceFile, ShelfState, unit_file, Ghosts, named_of}
+use Rattle.shelf_library.proofs.Terms.{HasLimits, is_broken_file, ShelfFile, shown_by, AreUnits, ChangesAt, FitsItsFile, IsTrulyHeld}
+use Rattle.shelf_library.proofs.Terms.{AreLimited, IsReadyAt, LibraryState, held_at, IsTrulyOpen, counts_of_held, holding_of}
+use Rattle.shelf_library.proofs.Terms.{pages_asked_of, room_of_held, world_of, Held, Looked, Nothing, Opened, ShelfLibrary}
+use Rattle.shelf_library.proofs.StateLemmas.{is_within}
+use Rattle.shelf_library.proofs.LimitLemmas.{limits_set}
 use Rattle.std.proofs.lemmas.List.{get_or_default}
 use Rattle.indexed_file.specs.UnitCalls.{RestartsCount}
-use Rattle.page_store.specs.DeviceFile.{DeviceFile}
-use Rattle.page_store.specs.ShelfState.{ShelfState, KeepsOthers, unit_file}
-use Rattle.shelf_file.specs.declared.shelf_file.ShelfFile.{ShelfFile}
-use Rattle.shelf_file.specs.Named.{named_of}
-use Rattle.shelf_file.specs.Standing.{is_broken_file, recounted}
-use Rattle.shelf_library.specs.declared.held.Held.{Held}
-use Rattle.shelf_library.specs.declared.held.Held.TheVariants.{Nothing, Looked, Opened}
-use Rattle.shelf_library.specs.State.{LibraryState, held_at, IsReadyAt}
-use Rattle.shelf_library.specs.Units.{holding_of, room_of_held, counts_of_held, pages_asked_of}
-use Rattle.shelf_library.specs.Truth.{IsTrulyOpen}
-use Rattle.shelf_library.specs.OneUnit.{AreUnits, ChangesAt, FitsItsFile, IsTrulyHeld}
-use Rattle.shelf_library.specs.Library.{shown_by}
-use Rattle.shelf_library.proofs.AsideLemmas.{held_here, held_aside, world_same, truth_after, held_truly, images_aside}
-use Rattle.std.proofs.lemmas.Bool.{eqb-true, eqb-false}
-use Rattle.indexed_file.proofs.TestLemmas.{either}
-
--- a call that leaves the shelf
-pub rests : (shelf : ShelfState) (u : ℕ) → KeepsOthers u shelf shelf
-rests shelf u = record { names = refl; others = λ name other. refl; honest = λ honest. honest }
+use Rattle.shelf_file.specs.Standing.{recounted}
+use Rattle.shelf_library.proofs.WorldLemmas.{same_open}
+use Rattle.shelf_library.proofs.AsideLemmas.{rests, are_after, held_here, held_aside, world_same, truth_after, held_truly, images_aside}
 
 -- an element that is read is the one that is there
-pub read_held : (held : List Held) (u : ℕ) (one : Held) → u < length held → one ≡ slice_index_or held u one → held_at held u ≡ one
+read_held : (held : List Held) (u : ℕ) (one : Held) → u < length held → one ≡ slice_index_or held u one → held_at held u ≡ one
 read_held held u one within is = get_or_default held u Nothing one within ∙ sym is
 
 abbrev pub recount : Held → Held
 recount Nothing = Nothing
 recount (Looked header) = Looked header
 recount (Opened file) = Opened (recounted file)
-
-same_open : (a b : ShelfFile) → Opened a ≡ Opened b → a ≡ b
-same_open a b e = cc
 
 recounted_ready : (shelf : ShelfState) (u : ℕ) (file : ShelfFile) → IsReadyAt shelf u file → IsReadyAt shelf u (recounted file)
 recounted_ready shelf u file at =
@@ -55,7 +42,8 @@ recounted_ready shelf u file at =
       };
     }
 
-pub recount_fits : (shelf : ShelfState) (held : List Held) (u : ℕ) (one : Held) → AreUnits shelf held → held_at held u ≡ one → FitsItsFile u (recount one) shelf
+recount_fits : (shelf : ShelfState) (held : List Held) (u : ℕ) (one : Held) → AreUnits shelf held → held_at held u ≡ one
+    → FitsItsFile u (recount one) shelf
 recount_fits shelf held u Nothing are is = record { looked = λ header e. absurd (cc); ready = λ file e. absurd (cc) }
 recount_fits shelf held u (Looked header) are is = record { looked = λ other e. are.looked u other (is ∙ e); ready = λ file e. absurd (cc) }
 recount_fits shelf held u (Opened file) are is = record {
@@ -141,3 +129,36 @@ recounts {S} state u old new are call shelf faults limit frames =
       frames = ap Some frames;
       images = λ name. images_aside state old new name (ap (λ s. s.file name) shelf);
     }
+
+recount_limits : (limit frames : ℕ) (one : Held) (after : ShelfFile)
+    → ((file : ShelfFile) → one ≡ Opened file → HasLimits limit frames file) → recount one ≡ Opened after → HasLimits limit frames after
+recount_limits limit frames Nothing after has is = absurd (cc)
+recount_limits limit frames (Looked header) after has is = absurd (cc)
+recount_limits limit frames (Opened file) after has is =
+    let had = has file refl in
+    subst (λ (f : ShelfFile). HasLimits limit frames f) (same_open (recounted file) after is) (record { limit = had.limit; cap = had.cap })
+
+-- ---- the call
+
+module _ {S : Type 0} (shelf : Ghosts S) (s : ShelfLibrary S shelf) (u : ℕ)
+    (attached : u < length (world_of (shelf.state s.shelf) s.units.items).units)
+    (one : Held) (read : one ≡ slice_index_or s.units.items u one) (now : Held) (is : now ≡ recount one) where
+  abbrev was : Held
+  was = held_at s.units.items u
+
+  held_was : was ≡ one
+  held_was = read_held s.units.items u one (is_within shelf s u attached) read
+
+  pub restart : ChangesAt u (recount was) (shelf.state s.shelf) (shelf.state s.shelf) s.units.items (slice_set s.units.items u now)
+  restart = record {
+    attached = is_within shelf s u attached;
+    others = rests (shelf.state s.shelf) u;
+    holds = ap (λ x. slice_set s.units.items u x) (is ∙ sym (ap recount held_was));
+  }
+
+  pub restart_units : AreUnits (shelf.state s.shelf) (slice_set s.units.items u now)
+  restart_units = are_after u (recount was) _ _ _ _ s.fit restart (recount_fits _ s.units.items u was s.fit refl)
+
+  pub restart_limits : AreLimited s.limit (non_zero_usize_get s.frames) (slice_set s.units.items u now)
+  restart_limits = limits_set _ _ s.units.items u (is_within shelf s u attached) s.limits now (λ after same.
+      recount_limits _ _ one after (λ file at. s.limits u file (held_was ∙ at)) (sym is ∙ same))

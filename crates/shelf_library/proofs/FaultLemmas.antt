@@ -1,12 +1,8 @@
 -- When a call may answer a fault, from why the file gave up.
 use Rattle.std.proofs.Common.{◌≡◌, ◌≢◌, inl, inr, ℕ, ◌≤◌, Bool, nat_lt, IsTrue, IsFalse, IfErr, Result, Ok, Err, refl, arith}
 use Rattle.std.proofs.lemmas.Bool.{ltb-true, ltb-false}
-use Rattle.indexed_file.proofs.TestLemmas.{either}
-use Rattle.io_state.specs.declared.fault.Fault.{Fault}
-use Rattle.io_state.specs.declared.fault.Fault.TheVariants.{Device, Memory, Full, Damage, Broken as BrokenUnit}
-use Rattle.indexed_file.specs.Calls.{HasRisen, MayFail}
-use Rattle.page_alloc.specs.Joining.{FaultsRose}
-use Rattle.open_file.specs.Faults.{IsCausedIn}
+use Rattle.shelf_library.proofs.Terms.{Fault, BrokenUnit, Damage, Device, Full, Memory, either, MayFail, FaultsRose, IsCausedIn}
+use Rattle.indexed_file.specs.Calls.{HasRisen}
 
 pub has_risen : (old new : ℕ) → FaultsRose old new → HasRisen old new
 has_risen old new failed =

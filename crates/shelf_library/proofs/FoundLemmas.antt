@@ -1,25 +1,21 @@
 -- What a call that looks for a record answers.
 use Rattle.std.proofs.Common.{◌≡◌, ◌≢◌, ℕ, Bool, List, Option, option_map, unwrap_or, IsTrue, IfOk, IfErr, OnOk, Result, Err, sym, subst}
 use Rattle.arrayvec.specs.ArrayVec.{ArrayVec}
-use Rattle.io_state.specs.declared.fault.Fault.{Fault}
-use Rattle.io_state.specs.declared.fault.Fault.TheVariants.{Damage, Broken as BrokenUnit}
 use Rattle.io_state.specs.declared.modes.Relation.{Relation}
-use Rattle.record_layout.specs.Schema.{Schema}
 use Rattle.indexed_file.specs.declared.answer.Found.{Found}
-use Rattle.indexed_file.specs.File.{File, Row, empty_file}
+use Rattle.indexed_file.specs.File.{Row}
 use Rattle.indexed_file.specs.Rank.{least, satisfies, highest_of}
-use Rattle.indexed_file.specs.World.{Holding, file_in, schema_in, schema_at, name_at}
+use Rattle.indexed_file.specs.World.{file_in}
 use Rattle.indexed_file.specs.Answers.{found_of, key_of_row, area_after}
 use Rattle.indexed_file.specs.UnitAnswers.{first_at, found_at, key_of_row_at, row_sought, highest_at}
 use Rattle.pages.specs.Answer.{IsAnswer}
-use Rattle.open_file.specs.Reading.{Delivers, Seeks}
-use Rattle.open_file.specs.Stands.{Stands}
-use Rattle.shelf_file.specs.declared.shelf_file.ShelfFile.{ShelfFile}
-use Rattle.shelf_file.specs.Standing.{live_of, is_broken_file, parts_of, schema_behind}
-use Rattle.shelf_library.specs.State.{LibraryState}
-use Rattle.shelf_library.specs.Units.{world_of}
-use Rattle.shelf_library.specs.Truth.{IsShownTruly}
-use Rattle.shelf_library.specs.Reading.{ReadsAt}
+use Rattle.open_file.specs.Reading.{Delivers, FindsFirst, Seeks}
+use Rattle.shelf_file.specs.Calls.{ReadsOnShelf, on_shelf}
+use Rattle.indexed_file.specs.UnitCalls.{FindsRow}
+use Rattle.shelf_library.proofs.Terms.{Fault, BrokenUnit, Damage, Schema, File, empty_file, most_to_read, Holding, name_at, schema_at}
+use Rattle.shelf_library.proofs.Terms.{schema_in, Stands, is_broken_file, live_of, parts_of, room_in, schema_behind, ShelfFile, shown_by}
+use Rattle.shelf_library.proofs.Terms.{ReadsAt, LibraryState, IsShownTruly, room_of_held, world_of}
+use Rattle.shelf_library.proofs.ReadsLemmas.{reads_unit}
 use Rattle.shelf_library.proofs.KnownLemmas.{by_known}
 
 abbrev pub rows_in : Holding → File
@@ -89,3 +85,23 @@ module _ (u : ℕ) (file after : ShelfFile) (old new : LibraryState) (call : Rea
       → ((rows : File) → Stands (parts_of file) (live_of file old.shelf) rows → IsAnswer result (λ key. option_map (λ key. key.items) key ≡ highest_of (schema_behind file) rows.rows))
       → IfErr result (λ fault. fault ≢ Damage)
   highest_undamaged result broken highest = never_damage (λ rows key. option_map (λ key. key.items) key ≡ highest_of (schema_behind file) rows.rows) result broken highest
+
+-- a call that looks for the first record that passes a test, and reads it into the area
+module _ {S : Type 0} (state : S → LibraryState) (a b : S) (u : ℕ) (file after : ShelfFile)
+    (call : ReadsAt u file after (state a) (state b)) where
+  pub finds_row : (k : ℕ) (test : Schema → Row → Bool) (area new_area : List ℕ) (result : Result (Option Found) Fault)
+      → FindsFirst (state b).shelf.is_honest (parts_of file) (live_of file (state a).shelf) k (test (schema_behind file))
+      area new_area result
+      → ReadsOnShelf (most_to_read (room_in file) k) (on_shelf file (state a).shelf (state a).faults)
+      (on_shelf after (state b).shelf (state b).faults) result
+      → let world = world_of (state a).shelf (state a).held in
+      FindsRow (shown_by state) u k (first_at world u k (test (schema_at world u))) area new_area a b result
+  finds_row k test area new_area result finds reads = record {
+    found = λ honest truly. delivers_found _ _ _ _ _ call truly k test area new_area result reads.broken (finds.found honest);
+    area = λ honest truly. delivers_area _ _ _ _ _ call truly k test area new_area result reads.broken (finds.found honest);
+    none = finds.none;
+    err = finds.kept;
+    reads = reads_unit state a b u file after call (λ one. most_to_read (room_of_held one) k) result reads.asked reads.broken reads.cause
+        (λ honest truly. delivers_undamaged _ _ _ _ _ call truly k (test (schema_behind file)) area new_area result reads.broken
+        (finds.found honest));
+  }

@@ -1,17 +1,9 @@
 -- An open unit that is shown truly holds the rows that its file stands for.
 use Rattle.std.proofs.Common.{◌≡◌, ℕ, ◌<◌, Bool, length, IsTrue, IsFalse, sym, ap, subst, ◌∙◌, arith, if◌then◌else◌}
-use Rattle.indexed_file.proofs.TestLemmas.{either}
-use Rattle.indexed_file.specs.File.{File}
-use Rattle.indexed_file.specs.World.{Holding, Opened as HasOpened, Broken, holding_at, name_at}
-use Rattle.shelf_file.specs.declared.shelf_file.ShelfFile.{ShelfFile}
-use Rattle.shelf_file.specs.Standing.{StandsFor, live_of, file_read_off, is_broken_file, parts_of, schema_behind}
-use Rattle.shelf_library.specs.State.{LibraryState, held_at}
-use Rattle.shelf_library.specs.Units.{world_of, holding_of}
-use Rattle.shelf_library.specs.Truth.{IsTrulyOpen, IsShownTruly}
-use Rattle.shelf_library.specs.OneUnit.{AreUnits}
-use Rattle.open_file.proofs.ReadOffLemmas.{reads_as}
 use Rattle.shelf_library.specs.Reading.{IsKnown}
-use Rattle.shelf_library.specs.declared.held.Held.TheVariants.{Opened}
+use Rattle.shelf_library.proofs.Terms.{either, File, Broken, Holding, HasOpened, holding_at, name_at, reads_as, StandsFor, file_read_off}
+use Rattle.shelf_library.proofs.Terms.{is_broken_file, live_of, parts_of, schema_behind, ShelfFile, AreUnits, LibraryState, held_at}
+use Rattle.shelf_library.proofs.Terms.{IsShownTruly, IsTrulyOpen, holding_of, world_of, Opened}
 use Rattle.shelf_library.proofs.WorldLemmas.{name_now, holding_now}
 
 module _ (u : ℕ) (file : ShelfFile) (state : LibraryState) (units : AreUnits state.shelf state.held) (within : u < length state.held) (opened : held_at state.held u ≡ Opened file)

@@ -1,3 +1,4 @@
+pub mod Terms
 pub mod WorldLemmas
 pub mod StateLemmas
 pub mod AsideLemmas

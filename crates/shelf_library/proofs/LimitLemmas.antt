@@ -1,32 +1,14 @@
 -- What a call leaves of the limits of a library's open files.
 use Rattle.std.proofs.Common.{◌≡◌, ◌==◌, ℕ, ◌<◌, List, [], length, IfOk, Result, Ok, Err, sym, ap, subst, ◌∙◌}
 use Rattle.std.specs.Prelude.{slice_set}
-use Rattle.std.proofs.lemmas.Bool.{eqb-true, eqb-false}
-use Rattle.indexed_file.proofs.TestLemmas.{either}
-use Rattle.io_state.specs.declared.fault.Fault.{Fault}
-use Rattle.record_layout.specs.Schema.{Schema}
-use Rattle.file_header.specs.declared.header.Header.{Header}
-use Rattle.shelf_file.specs.declared.look.Look.{Look}
-use Rattle.shelf_file.specs.declared.look.Look.TheVariants.{NoFile, Refused, Accepted}
-use Rattle.shelf_file.specs.declared.shelf_file.ShelfFile.{ShelfFile}
-use Rattle.shelf_file.specs.Standing.{HasLimits, pages_behind}
-use Rattle.shelf_library.specs.declared.held.Held.{Held}
-use Rattle.shelf_library.specs.declared.held.Held.TheVariants.{Nothing, Opened}
-use Rattle.shelf_library.specs.State.{LibraryState, held_at, AreLimited}
-use Rattle.shelf_library.specs.Told.{held_after, held_open}
-use Rattle.shelf_library.specs.Attaching.{Attaches}
-use Rattle.shelf_library.specs.Changing.{MovesAt}
-use Rattle.shelf_library.specs.Closing.{ClosesUnitAt}
-use Rattle.shelf_library.specs.Looking.{LooksAt}
-use Rattle.shelf_library.specs.Opening.{OpensAt, MakesAt}
-use Rattle.shelf_library.specs.Reading.{ReadsAt}
-use Rattle.shelf_library.proofs.WorldLemmas.{set_here, set_aside}
+use Rattle.shelf_library.proofs.Terms.{eqb-false, eqb-true, Fault, Schema, either, counts_of, Header, HasLimits, pages_behind, Look}
+use Rattle.shelf_library.proofs.Terms.{ShelfFile, Attaches, MovesAt, ClosesUnitAt, LooksAt, MakesAt, OpensAt, ReadsAt, AreLimited}
+use Rattle.shelf_library.proofs.Terms.{LibraryState, held_at, held_after, held_open, Held, Nothing, Opened}
+use Rattle.shelf_library.proofs.WorldLemmas.{same_open, set_here, set_aside}
+use Rattle.shelf_library.proofs.LookingLemmas.{no_file}
 use Rattle.shelf_library.proofs.AttachLemmas.{holds_nothing}
 use Rattle.page_alloc.specs.Joining.{page_limit}
-use Rattle.page_alloc.specs.PagedFile.{counts_of, most_held}
-
-opened_is : (a b : ShelfFile) → Opened a ≡ Opened b → a ≡ b
-opened_is a b e = cc
+use Rattle.page_alloc.specs.PagedFile.{most_held}
 
 module _ (limit frames : ℕ) (held : List Held) (u : ℕ) (within : u < length held) (are : AreLimited limit frames held) where
   -- what unit u holds now has them, if it is an open file
@@ -41,7 +23,7 @@ module _ (limit frames : ℕ) (held : List Held) (u : ℕ) (within : u < length 
       → most_held (pages_behind after) ≡ most_held (pages_behind file) → AreLimited limit frames (slice_set held u (Opened after))
   limits_after file after at limit_is cap_is =
       let had = are u file at in
-      limits_set (Opened after) (λ other same. subst (λ (f : ShelfFile). HasLimits limit frames f) (opened_is after other same)
+      limits_set (Opened after) (λ other same. subst (λ (f : ShelfFile). HasLimits limit frames f) (same_open after other same)
       (record { limit = limit_is ∙ had.limit; cap = cap_is ∙ had.cap }))
 
 module _ (u : ℕ) (file after : ShelfFile) (old new : LibraryState) where
@@ -57,7 +39,7 @@ module _ (u : ℕ) (file after : ShelfFile) (old new : LibraryState) where
 
 -- a file that was opened or made
 open_has : (limit frames : ℕ) (r : Result ShelfFile Fault) → IfOk r (HasLimits limit frames) → (file : ShelfFile) → held_open r ≡ Opened file → HasLimits limit frames file
-open_has limit frames (Ok made) has file same = subst (λ (f : ShelfFile). HasLimits limit frames f) (opened_is made file same) has
+open_has limit frames (Ok made) has file same = subst (λ (f : ShelfFile). HasLimits limit frames f) (same_open made file same) has
 open_has limit frames (Err fault) has file same = absurd (cc)
 
 pub limits_opened : (u : ℕ) (header : Header) (r : Result ShelfFile Fault) (old new : LibraryState) → OpensAt u header r old new
@@ -73,17 +55,11 @@ limits_made u schema r old new call are =
     (limits_set new.limit new.frames old.held u call.attached are (held_open r) (open_has new.limit new.frames r call.make.limits))
 
 -- no file is open in a unit that was looked at, shut or attached
-not_open : (r : Result Look Fault) (file : ShelfFile) → held_after r ≡ Opened file → ⊥
-not_open (Ok NoFile) file same = absurd (cc)
-not_open (Ok Refused) file same = absurd (cc)
-not_open (Ok (Accepted header)) file same = absurd (cc)
-not_open (Err fault) file same = absurd (cc)
-
 pub limits_looked : (u : ℕ) (look : Result Look Fault) (old new : LibraryState) → LooksAt u look old new → (limit frames : ℕ)
     → AreLimited limit frames old.held → AreLimited limit frames new.held
 limits_looked u look old new call limit frames are =
     subst (λ (held : List Held). AreLimited limit frames held) (sym call.holds)
-    (limits_set limit frames old.held u call.attached are (held_after look) (λ file same. absurd (not_open look file same)))
+    (limits_set limit frames old.held u call.attached are (held_after look) (λ file same. absurd (no_file look file same)))
 
 pub limits_shut : (u : ℕ) (file : ShelfFile) (r : Result (Unit {0}) Fault) (old new : LibraryState) → ClosesUnitAt u file r old new → (limit frames : ℕ)
     → AreLimited limit frames old.held → AreLimited limit frames new.held

@@ -1,29 +1,13 @@
 -- A unit that was looked at.
 use Rattle.std.proofs.Common.{◌≡◌, inl, inr, ℕ, Bool, false, List, Option, Some, None, IsTrue, IsFalse, IfOk, IfErr, OnOk, OnErr, Result, Ok, Err, refl, sym, ap, subst, ◌∙◌}
-use Rattle.io_state.specs.declared.fault.Fault.{Fault}
-use Rattle.io_state.specs.declared.fault.Fault.TheVariants.{Device, Memory}
-use Rattle.indexed_file.specs.declared.answer.Seen.{Seen}
-use Rattle.indexed_file.specs.Answers.{seen_of, looked_at}
-use Rattle.indexed_file.specs.Calls.{MayFail}
-use Rattle.indexed_file.specs.Images.{untouched}
-use Rattle.indexed_file.specs.UnitCalls.{OpensUnit}
-use Rattle.indexed_file.specs.World.{Shut, holding_at, named_at, is_broken}
-use Rattle.page_store.specs.DeviceFile.{DeviceFile}
-use Rattle.page_store.specs.ShelfState.{ShelfState, FaultHasCause, unit_name, unit_file}
-use Rattle.file_header.specs.declared.header.Header.{Header}
-use Rattle.shelf_file.specs.declared.look.Look.{Look}
-use Rattle.shelf_file.specs.declared.look.Look.TheVariants.{NoFile, Refused, Accepted}
-use Rattle.shelf_file.specs.declared.shelf_file.ShelfFile.{ShelfFile}
+use Rattle.page_store.specs.ShelfState.{FaultHasCause}
 use Rattle.shelf_file.specs.Shelves.{HasHeader}
-use Rattle.shelf_file.specs.Named.{look_of, named_of, named_by}
-use Rattle.shelf_library.specs.declared.held.Held.TheVariants.{Looked, Opened}
-use Rattle.shelf_library.specs.State.{LibraryState, held_at}
-use Rattle.shelf_library.specs.Told.{held_by, held_after, seen_by, seen_after}
-use Rattle.shelf_library.specs.Truth.{IsTrulyClosed}
-use Rattle.shelf_library.specs.Units.{world_of, holding_of}
-use Rattle.shelf_library.specs.Library.{shown_by}
-use Rattle.shelf_library.specs.Looking.{LooksAt}
-use Rattle.shelf_library.specs.OneUnit.{AreUnits, ChangesAt, FitsItsFile, IsTrulyHeld}
+use Rattle.shelf_library.specs.Told.{held_by, seen_by, seen_after}
+use Rattle.shelf_library.proofs.Terms.{Fault, Device, Memory, looked_at, seen_of, MayFail, untouched, OpensUnit, Shut, holding_at}
+use Rattle.shelf_library.proofs.Terms.{is_broken, named_at, Seen, DeviceFile, ShelfState, unit_file, unit_name, Header, look_of, named_by}
+use Rattle.shelf_library.proofs.Terms.{named_of, Look, Accepted, NoFile, Refused, ShelfFile, shown_by, LooksAt, AreUnits, ChangesAt}
+use Rattle.shelf_library.proofs.Terms.{FitsItsFile, IsTrulyHeld, LibraryState, held_at, held_after, IsTrulyClosed, holding_of, world_of}
+use Rattle.shelf_library.proofs.Terms.{Looked, Opened}
 use Rattle.shelf_library.proofs.AsideLemmas.{only_here, holding_after, named_before, named_after, are_after, images_aside}
 use Rattle.shelf_library.proofs.FaultLemmas.{has_risen}
 use Rattle.shelf_library.proofs.UnitLemmas.{keeps_at, images_at}
@@ -44,7 +28,7 @@ held_told shelf NoFile = refl
 held_told shelf Refused = refl
 held_told shelf (Accepted header) = refl
 
-no_file : (look : Result Look Fault) (file : ShelfFile) → held_after look ≡ Opened file → ⊥
+pub no_file : (look : Result Look Fault) (file : ShelfFile) → held_after look ≡ Opened file → ⊥
 no_file (Ok NoFile) file is = cc
 no_file (Ok Refused) file is = cc
 no_file (Ok (Accepted header)) file is = cc

@@ -1,36 +1,20 @@
 -- A file that was made in the place of what a unit's name stood for.
 use Rattle.std.proofs.Common.{◌≡◌, ◌⊎◌, inl, inr, ℕ, true, false, List, IsTrue, IsFalse, IfOk, OnOk, OnErr, Result, Ok, Err, refl, sym, ap, subst, ◌∙◌}
-use Rattle.io_state.specs.declared.fault.Fault.{Fault}
-use Rattle.record_layout.specs.Schema.{Schema}
-use Rattle.indexed_file.specs.File.{empty_file}
-use Rattle.indexed_file.specs.Images.{unfinished}
-use Rattle.indexed_file.specs.UnitCalls.{OpensUnit, IsNew}
-use Rattle.indexed_file.specs.World.{Named, Unsound, Opened as HasOpened, holding_at, named_at, name_at, schema_at, is_open}
-use Rattle.page_store.specs.Gate.{AllOpen, SameOrRefused, WasOrRefused}
-use Rattle.page_store.specs.Moments.{Throughout}
-use Rattle.page_store.proofs.OpenLemmas.{refused_open}
-use Rattle.page_store.specs.ShelfState.{ShelfState, unit_name, unit_file}
-use Rattle.page_alloc.specs.PagedFile.{IsKeptOrRefused}
-use Rattle.shelf_file.specs.declared.look.Look.TheVariants.{Accepted, Refused}
-use Rattle.shelf_file.specs.declared.shelf_file.ShelfFile.{ShelfFile}
-use Rattle.shelf_file.specs.Named.{named_of}
-use Rattle.shelf_file.specs.Standing.{file_read_off, live_of, is_broken_file, parts_of, schema_behind}
+use Rattle.indexed_file.specs.UnitCalls.{IsNew}
 use Rattle.shelf_file.specs.Shelves.{IsMade}
-use Rattle.shelf_library.specs.declared.held.Held.TheVariants.{Opened}
-use Rattle.shelf_library.specs.State.{LibraryState, held_at}
-use Rattle.shelf_library.specs.Told.{held_open, answer_open}
-use Rattle.shelf_library.specs.Truth.{IsTrulyOpen, IsShownTruly}
-use Rattle.shelf_library.specs.Units.{world_of, holding_of, room_of_held}
-use Rattle.shelf_library.specs.Library.{shown_by}
-use Rattle.shelf_library.specs.OneUnit.{AreUnits, ChangesAt, FitsItsFile, IsTrulyHeld}
-use Rattle.shelf_library.specs.Opening.{MakesAt}
+use Rattle.shelf_library.proofs.Terms.{Fault, Schema, empty_file, unfinished, OpensUnit, Named, HasOpened, Unsound, holding_at, is_open}
+use Rattle.shelf_library.proofs.Terms.{name_at, named_at, schema_at, refused_open, AllOpen, SameOrRefused, WasOrRefused, Throughout}
+use Rattle.shelf_library.proofs.Terms.{ShelfState, unit_file, unit_name, IsKeptOrRefused, reads_as, named_of, file_read_off, is_broken_file}
+use Rattle.shelf_library.proofs.Terms.{live_of, parts_of, schema_behind, Accepted, Refused, ShelfFile, shown_by, AreUnits, ChangesAt}
+use Rattle.shelf_library.proofs.Terms.{FitsItsFile, IsTrulyHeld, MakesAt, LibraryState, held_at, answer_open, held_open, IsShownTruly}
+use Rattle.shelf_library.proofs.Terms.{IsTrulyOpen, holding_of, room_of_held, world_of, Opened}
 use Rattle.shelf_library.proofs.AsideLemmas.{are_after, name_before, name_same, held_here, holding_after, named_before, named_after, truth_here}
 use Rattle.shelf_library.proofs.RefusedLemmas.{refused_look, refused_named}
 use Rattle.shelf_library.proofs.FaultLemmas.{faults_are}
-use Rattle.open_file.proofs.ReadOffLemmas.{reads_as}
 use Rattle.shelf_library.proofs.MovingLemmas.{was_or_refused, closed_kept, named_kept}
+use Rattle.shelf_library.proofs.WorldLemmas.{same_open}
 use Rattle.shelf_library.proofs.UnitLemmas.{keeps_at, images_at}
-use Rattle.shelf_library.proofs.OpensLemmas.{same_open, nothing_fits, open_fits, open_holding, is_opened, opens_unit}
+use Rattle.shelf_library.proofs.OpensLemmas.{nothing_fits, open_fits, open_holding, is_opened, opens_unit}
 
 -- ---- the new file
 

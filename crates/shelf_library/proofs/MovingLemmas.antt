@@ -1,36 +1,15 @@
 -- What a call that may open the gate leaves of its unit.
-use Rattle.std.proofs.Common.{◌≡◌, ◌⊎◌, inl, inr, ℕ, true, false, List, [], ◌∷◌, Option, IsTrue, refl, sym, ap, subst, ◌∙◌, bytes_eq}
-use Rattle.std.proofs.lemmas.Slice.Eq.{bytes_eq-Decides}
-use Rattle.indexed_file.specs.Images.{Trace, IsAmong, LibraryMayLeave, LeavesOnly, ImagesGo, unfinished}
-use Rattle.indexed_file.specs.World.{Named, Unsound, name_at}
-use Rattle.page_store.specs.DeviceFile.{DeviceFile, bytes_or_none}
-use Rattle.page_store.specs.Moments.{Throughout}
-use Rattle.page_store.proofs.MomentLemmas.{throughout_weaker, throughout_first}
-use Rattle.page_store.proofs.OpenLemmas.{refused_open}
-use Rattle.page_store.specs.Gate.{AllOpen, SameOrRefused, WasOrRefused}
-use Rattle.page_store.specs.ShelfState.{KeepsOthers, unit_name, unit_file}
-use Rattle.page_alloc.specs.PagedFile.{IsKeptOrRefused, is_begun, unit_of_pages}
-use Rattle.file_header.specs.declared.header.Header.{Header}
-use Rattle.shelf_file.specs.declared.look.Look.TheVariants.{Accepted}
-use Rattle.shelf_file.specs.declared.shelf_file.ShelfFile.{ShelfFile}
-use Rattle.shelf_file.specs.Calls.{OnlyReadsFile}
-use Rattle.shelf_file.specs.Named.{look_of, named_of, StandsIn}
-use Rattle.shelf_file.specs.Standing.{pages_behind}
-use Rattle.shelf_library.specs.State.{LibraryState, IsReadyAt}
-use Rattle.shelf_library.specs.Truth.{IsTrulyClosed}
-use Rattle.shelf_library.specs.Crashes.{IsSoundImage, MayReadAs}
-use Rattle.shelf_library.specs.MomentLaws.{EachRead, each_read, found_now}
-use Rattle.shelf_library.specs.Library.{shown_by}
-use Rattle.shelf_library.specs.Units.{world_of}
-use Rattle.shelf_library.specs.OneUnit.{ChangesAt, FitsItsFile}
-use Rattle.shelf_library.specs.Reading.{ReadsAt}
-use Rattle.shelf_library.specs.Changing.{MovesAt}
-use Rattle.shelf_library.specs.declared.held.Held.TheVariants.{Opened}
-use Rattle.shelf_library.proofs.AsideLemmas.{name_before, name_same, images_aside}
+use Rattle.std.proofs.Common.{◌≡◌, ◌⊎◌, inl, inr, ℕ, true, List, [], ◌∷◌, Option, IsTrue, refl, sym, ap, subst, ◌∙◌}
+use Rattle.page_store.proofs.MomentLemmas.{throughout_first}
+use Rattle.shelf_library.proofs.Terms.{ImagesGo, IsAmong, unfinished, Named, Unsound, name_at, throughout_weaker, refused_open, DeviceFile}
+use Rattle.shelf_library.proofs.Terms.{bytes_or_none, AllOpen, SameOrRefused, WasOrRefused, Throughout, KeepsOthers, unit_file, unit_name}
+use Rattle.shelf_library.proofs.Terms.{IsKeptOrRefused, is_begun, unit_of_pages, Header, OnlyReadsFile, StandsIn, look_of, named_of}
+use Rattle.shelf_library.proofs.Terms.{pages_behind, Accepted, ShelfFile, MovesAt, IsSoundImage, MayReadAs, shown_by, EachRead, each_read}
+use Rattle.shelf_library.proofs.Terms.{found_now, ChangesAt, FitsItsFile, ReadsAt, IsReadyAt, LibraryState, IsTrulyClosed, world_of, Opened}
+use Rattle.shelf_library.proofs.AsideLemmas.{name_same}
+use Rattle.shelf_library.proofs.UnitLemmas.{images_at}
+use Rattle.shelf_library.proofs.OpensLemmas.{open_fits}
 use Rattle.shelf_library.proofs.RefusedLemmas.{refused_look, refused_named, refused_sound}
-
-opened_is : (a b : ShelfFile) → Opened a ≡ Opened b → a ≡ b
-opened_is a b e = cc
 
 -- images that a crash could leave before, and refused ones
 abbrev pub WasOrUnsound : DeviceFile → Named → Type 0
@@ -69,10 +48,7 @@ module _ (u : ℕ) (file after : ShelfFile) (old new : LibraryState) (call : Mov
   changes_at = record { attached = call.attached; others = others; holds = call.holds }
 
   pub fits : FitsItsFile u (Opened after) new.shelf
-  fits = record {
-    looked = λ header is. absurd (cc);
-    ready = λ held is. subst (λ held. IsReadyAt new.shelf u held) (opened_is after held is) (record { unit_is = unit_after; ready = call.ready });
-  }
+  fits = open_fits u after new.shelf (record { unit_is = unit_after; ready = call.ready })
 
   -- where it only read
   pub reads_at : OnlyReadsFile file after old.shelf new.shelf old.faults new.faults → ReadsAt u file after old new
@@ -125,27 +101,9 @@ module _ (u : ℕ) (file after : ShelfFile) (old new : LibraryState) (call : Mov
       (name_same u (Opened after) old.shelf new.shelf old.held new.held call.units changes_at)
       (was_or_refused (unit_file old.shelf u) (unit_file new.shelf u) (images honest) real)
 
-differs : (a b : List ℕ) → bytes_eq a b ≡ false → ¬ (b ≡ a)
-differs a b miss same = let hit = (bytes_eq-Decides a b).1 (sym same) in let clash : true ≡ false = sym hit ∙ miss in cc
-
--- what the images of a name do in a call on the unit that has it
-pub images_of_unit : {S : Type 0} (state : S → LibraryState) (u : ℕ) (file after : ShelfFile) (old new : S) (trace : Trace) → MovesAt u file after (state old) (state new)
-    → LibraryMayLeave (shown_by state).moments trace.may old new (unit_name (state old).shelf u) → LeavesOnly (shown_by state).moments trace.only new (unit_name (state old).shelf u)
-    → ImagesGo (shown_by state).moments (name_at (world_of (state old).shelf (state old).held) u) trace old new
-images_of_unit {S} state u file after old new trace call may only =
-    subst (λ (name : List ℕ). ImagesGo (shown_by state).moments name trace old new)
-    (sym (name_before u (Opened after) (state old).shelf (state new).shelf (state old).held (state new).held call.units (changes_at u file after (state old) (state new) call)))
-    (record {
-      may = may;
-      only = only;
-      others = λ other apart.
-          images_aside state old new other ((others u file after (state old) (state new) call).others other (differs (unit_name (state old).shelf u) other apart));
-    })
-
 pub goes_unfinished : {S : Type 0} (state : S → LibraryState) (u : ℕ) (file after : ShelfFile) (old new : S) → MovesAt u file after (state old) (state new)
     → IsTrue (state new).shelf.is_honest
     → ImagesGo (shown_by state).moments (name_at (world_of (state old).shelf (state old).held) u) unfinished old new
-goes_unfinished {S} state u file after old new call honest =
-    images_of_unit state u file after old new unfinished call
-    (λ real. reads_unfinished u file after (state old) (state new) call honest real)
-    tt
+goes_unfinished state u file after old new call honest =
+    images_at state u (Opened after) old new call.units (changes_at u file after (state old) (state new) call) unfinished
+    (reads_unfinished u file after (state old) (state new) call honest) tt

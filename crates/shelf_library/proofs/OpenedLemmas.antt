@@ -1,26 +1,16 @@
 -- What a call finds in a unit that is open.
-use Rattle.std.proofs.Common.{◌≡◌, ℕ, ◌<◌, Bool, true, false, List, length, slice_index_or, IsTrue, refl, sym, ap, ◌∙◌, if◌then◌else◌}
+use Rattle.std.proofs.Common.{◌≡◌, ℕ, ◌<◌, ◌≤◌, Bool, true, false, List, length, slice_index_or, IsTrue, refl, sym, ap, subst, ◌∙◌}
+use Rattle.std.proofs.Common.{if◌then◌else◌}
 use Rattle.std.specs.Prelude.{slice_set}
 use Rattle.std.proofs.lemmas.List.{get_or_read}
-use Rattle.indexed_file.specs.File.{File}
-use Rattle.indexed_file.specs.World.{Opened as HasOpened, Broken, holding_at, schema_at, schema_in, is_open, is_broken}
-use Rattle.record_layout.specs.Schema.{Schema}
-use Rattle.page_store.specs.declared.shelf.Shelf.{Ghosts}
-use Rattle.page_store.specs.Images.{Leaves}
-use Rattle.page_store.specs.ShelfState.{ShelfState, unit_name}
 use Rattle.page_alloc.specs.Steps.{MayOpenGate}
-use Rattle.shelf_file.specs.declared.shelf_file.ShelfFile.{ShelfFile}
-use Rattle.shelf_file.specs.Calls.{OnlyReadsFile}
-use Rattle.shelf_file.specs.Standing.{IsReady, file_read_off, is_broken_file, pages_behind, schema_behind}
-use Rattle.shelf_library.specs.State.{held_at}
-use Rattle.shelf_library.specs.Units.{world_of, holding_of}
-use Rattle.shelf_library.specs.Reading.{ReadsAt}
-use Rattle.shelf_library.specs.Changing.{MovesAt}
-use Rattle.shelf_library.specs.declared.library.ShelfLibrary.{ShelfLibrary}
-use Rattle.shelf_library.specs.declared.held.Held.{Held}
-use Rattle.shelf_library.specs.declared.held.Held.TheVariants.{Nothing, Looked, Opened}
+use Rattle.shelf_file.specs.Calls.{IsReadyToRead, IsReadyToSeek, IsReadyToWrite}
+use Rattle.shelf_library.proofs.Terms.{Schema, File, Broken, HasOpened, holding_at, is_broken, is_open, schema_at, schema_in, Leaves}
+use Rattle.shelf_library.proofs.Terms.{ShelfState, unit_name, Ghosts, OnlyReadsFile, IsReady, file_read_off, is_broken_file, pages_behind}
+use Rattle.shelf_library.proofs.Terms.{schema_behind, ShelfFile, MovesAt, ReadsAt, held_at, holding_of, world_of, Held, Looked, Nothing}
+use Rattle.shelf_library.proofs.Terms.{Opened, ShelfLibrary}
 use Rattle.shelf_library.proofs.WorldLemmas.{holding_now}
-use Rattle.shelf_library.proofs.StateLemmas.{library_state, state_left, are_units, is_within}
+use Rattle.shelf_library.proofs.StateLemmas.{library_state, state_left, is_within}
 
 -- what an open file shows, whether or not a change of it failed
 pub schema_open : (broken : Bool) (schema : Schema) (rows : File)
@@ -49,6 +39,10 @@ module _ {S : Type 0} (shelf : Ghosts S) (s : ShelfLibrary S shelf) (u : ℕ)
   pub is_one : held_at s.units.items u ≡ one
   is_one = sym (get_or_read s.units.items u one (is_within shelf s u attached) read Nothing)
 
+  -- what was taken out of it is what it held
+  pub taken : (out : Held) → out ≡ one → {is : Held} → out ≡ is → held_at s.units.items u ≡ is
+  taken out same found = is_one ∙ sym same ∙ found
+
   is_shown : holding_at (world_of (shelf.state s.shelf) s.units.items) u ≡ holding_of (shelf.state s.shelf) one
   is_shown =
       holding_now (shelf.state s.shelf) s.units.items u (is_within shelf s u attached) s.many ∙ ap (holding_of (shelf.state s.shelf)) is_one
@@ -70,7 +64,29 @@ module _ {S : Type 0} (shelf : Ghosts S) (s : ShelfLibrary S shelf) (u : ℕ)
 
     -- on which calls may be made
     pub may_call : IsReady file (shelf.state s.shelf)
-    may_call = (s.ready u file opened_at).ready
+    may_call = (s.fit.ready u file opened_at).ready
+
+    pub may_seek : (k : ℕ) → k < length (schema_at (world_of (shelf.state s.shelf) s.units.items) u).keys
+        → IsReadyToSeek file (shelf.state s.shelf) k
+    may_seek k key = record { ready = may_call; key = subst (λ (schema : Schema). k < length schema.keys) schema_is key }
+
+    pub may_read : (k : ℕ) (area : List ℕ) → k < length (schema_at (world_of (shelf.state s.shelf) s.units.items) u).keys
+        → length area ≡ (schema_at (world_of (shelf.state s.shelf) s.units.items) u).greatest
+        → IsReadyToRead file (shelf.state s.shelf) k area
+    may_read k area key long = record {
+      ready = may_call;
+      key = (may_seek k key).key;
+      area = long ∙ ap (λ (schema : Schema). schema.greatest) schema_is;
+    }
+
+    pub may_write : (bytes : List ℕ) → (schema_at (world_of (shelf.state s.shelf) s.units.items) u).least ≤ length bytes
+        → length bytes ≤ (schema_at (world_of (shelf.state s.shelf) s.units.items) u).greatest
+        → IsReadyToWrite file (shelf.state s.shelf) bytes
+    may_write bytes least greatest = record {
+      ready = may_call;
+      least = subst (λ (schema : Schema). schema.least ≤ length bytes) schema_is least;
+      greatest = subst (λ (schema : Schema). length bytes ≤ schema.greatest) schema_is greatest;
+    }
 
     -- a call that only reads
     pub reads_at :
@@ -79,7 +95,7 @@ module _ {S : Type 0} (shelf : Ghosts S) (s : ShelfLibrary S shelf) (u : ℕ)
         → ((x : S) (name : List ℕ) → IsTrue (shelf.state x).is_honest → Leaves ((shelf.state x).file name) ((shelf.state x).file name).seen)
         → ReadsAt u file after (library_state shelf s) (state_left shelf s now (slice_set s.units.items u (Opened after)))
     reads_at after now reads image = record {
-      units = are_units shelf s;
+      units = s.fit;
       attached = is_within shelf s u attached;
       opened = opened_at;
       holds = refl;
@@ -98,7 +114,7 @@ module _ {S : Type 0} (shelf : Ghosts S) (s : ShelfLibrary S shelf) (u : ℕ)
         → ((x : S) (name : List ℕ) → IsTrue (shelf.state x).is_honest → Leaves ((shelf.state x).file name) ((shelf.state x).file name).seen)
         → MovesAt u file after (library_state shelf s) (state_left shelf s now (slice_set s.units.items u (Opened after)))
     moves_at after now moves ready image = record {
-      units = are_units shelf s;
+      units = s.fit;
       attached = is_within shelf s u attached;
       opened = opened_at;
       holds = refl;

@@ -1,48 +1,23 @@
 -- The file of a unit, opened by the header that a look had accepted.
-use Rattle.std.proofs.Common.{◌≡◌, ℕ, ◌<◌, false, Bool, List, length, IsTrue, IsFalse, IfOk, IfErr, OnOk, OnErr, Result, Ok, Err, refl, sym, ap, subst, ◌∙◌, arith}
-use Rattle.std.specs.Prelude.{slice_set, Option}
-use Rattle.io_state.specs.declared.fault.Fault.{Fault}
-use Rattle.io_state.specs.declared.fault.Fault.TheVariants.{Memory}
-use Rattle.record_layout.specs.Schema.{Schema}
-use Rattle.indexed_file.specs.Calls.{MayFail}
+use Rattle.std.proofs.Common.{◌≡◌, ℕ, false, Bool, List, IsTrue, IsFalse, IfOk, IfErr, OnOk, OnErr, Result, Ok, Err, refl, sym, ap, subst}
+use Rattle.std.proofs.Common.{◌∙◌, arith}
+use Rattle.std.specs.Prelude.{Option}
 use Rattle.indexed_file.specs.Room.{PageCounts}
-use Rattle.shelf_file.specs.declared.look.Look.TheVariants.{Accepted}
-use Rattle.indexed_file.specs.World.{Holding, Named, Opened as HasOpened, opened_from}
-use Rattle.page_store.specs.ShelfState.{ShelfState, HasUnit, KeepsOthers, unit_file, unit_name}
-use Rattle.file_header.specs.declared.header.Header.{Header}
-use Rattle.shelf_file.specs.declared.shelf_file.ShelfFile.{ShelfFile}
-use Rattle.shelf_file.specs.Named.{look_of, named_of}
+use Rattle.page_store.specs.ShelfState.{HasUnit}
 use Rattle.shelf_file.specs.Shelves.{IsOpened, HasAccepted}
-use Rattle.shelf_library.specs.declared.held.Held.{Held}
-use Rattle.shelf_library.specs.declared.held.Held.TheVariants.{Looked}
-use Rattle.shelf_library.specs.State.{held_at, LibraryState, IsLooked}
-use Rattle.shelf_library.specs.Told.{held_open, answer_open}
-use Rattle.shelf_library.specs.Truth.{IsTrulyOpen, IsShownTruly}
-use Rattle.shelf_library.specs.Units.{holding_of, world_of, counts_by, counts_of_held}
-use Rattle.shelf_library.specs.OneUnit.{ChangesAt, FitsItsFile, IsTrulyHeld, AreUnits}
-use Rattle.indexed_file.specs.Images.{untouched}
-use Rattle.indexed_file.specs.UnitCalls.{OpensUnit}
-use Rattle.indexed_file.specs.World.{holding_at, named_at, name_at, schema_at, schema_in, is_open}
-use Rattle.page_store.specs.DeviceFile.{DeviceFile}
-use Rattle.shelf_library.specs.Library.{shown_by}
-use Rattle.shelf_library.specs.Opening.{OpensAt}
-use Rattle.shelf_library.proofs.WorldLemmas.{set_twice}
-use Rattle.shelf_library.proofs.AsideLemmas.{are_after, held_here, holding_before, holding_after, named_before, named_after, images_aside}
+use Rattle.shelf_library.specs.Units.{counts_by}
+use Rattle.shelf_library.proofs.Terms.{Fault, Memory, Schema, MayFail, untouched, OpensUnit, Holding, Named, HasOpened, holding_at, is_open}
+use Rattle.shelf_library.proofs.Terms.{name_at, named_at, opened_from, schema_at, schema_in, DeviceFile, KeepsOthers, ShelfState, unit_file}
+use Rattle.shelf_library.proofs.Terms.{unit_name, pages_counted, pages_free, counts_of, Header, look_of, named_of, is_broken_file}
+use Rattle.shelf_library.proofs.Terms.{pages_behind, schema_behind, Accepted, ShelfFile, shown_by, AreUnits, ChangesAt, FitsItsFile}
+use Rattle.shelf_library.proofs.Terms.{IsTrulyHeld, OpensAt, IsLooked, LibraryState, held_at, answer_open, held_open, IsShownTruly}
+use Rattle.shelf_library.proofs.Terms.{IsTrulyOpen, counts_of_held, holding_of, world_of, Held, Looked}
+use Rattle.shelf_library.proofs.WorldLemmas.{same_open}
+use Rattle.shelf_library.proofs.AsideLemmas.{rests, are_after, held_here, holding_before, holding_after, named_before, named_after}
+use Rattle.shelf_library.proofs.AsideLemmas.{images_aside}
 use Rattle.shelf_library.proofs.UnitLemmas.{keeps_at, images_at}
 use Rattle.shelf_file.proofs.AcceptedLemmas.{accepted_there, accepted_named}
-use Rattle.shelf_file.specs.Standing.{is_broken_file, pages_behind, schema_behind}
-use Rattle.shelf_library.proofs.OpensLemmas.{same_open, nothing_fits, open_fits, open_holding, is_opened, opens_unit}
-use Rattle.page_alloc.specs.Joining.{pages_counted, pages_free}
-use Rattle.page_alloc.specs.PagedFile.{counts_of}
-
-pub nothing_changes : (u : ℕ) (shelf : ShelfState) → KeepsOthers u shelf shelf
-nothing_changes u shelf = record { names = refl; others = λ name other. refl; honest = λ honest. honest }
-
--- what is held while the file is opened does not matter
-pub held_then : (u : ℕ) (meanwhile one : Held) (old new : ShelfState) (held : List Held) → u < length held → KeepsOthers u old new → (is : Held) → one ≡ is
-    → ChangesAt u is old new held (slice_set (slice_set held u meanwhile) u one)
-held_then u meanwhile one old new held within others is same =
-    record { attached = within; others = others; holds = set_twice held u meanwhile one ∙ ap (λ (x : Held). slice_set held u x) same }
+use Rattle.shelf_library.proofs.OpensLemmas.{nothing_fits, open_fits, open_holding, is_opened, opens_unit}
 
 -- only want of memory keeps a file from being opened
 pub want_of_memory : (is_honest : Bool) (truly : Type 0) (old new : ℕ) (r : Result ShelfFile Fault) → OnErr r (r ≡ Err Memory) → IfErr r (MayFail false is_honest truly old new)
@@ -102,7 +77,7 @@ module _ (u : ℕ) (shelf : ShelfState) (header : Header) (has : HasUnit shelf u
 
 module _ (u : ℕ) (header : Header) (r : Result ShelfFile Fault) (old new : LibraryState) (call : OpensAt u header r old new) where
   others : KeepsOthers u old.shelf new.shelf
-  others = subst (λ (s : ShelfState). KeepsOthers u old.shelf s) (sym call.shelf) (nothing_changes u old.shelf)
+  others = subst (λ (s : ShelfState). KeepsOthers u old.shelf s) (sym call.shelf) (rests old.shelf u)
 
   changes : ChangesAt u (held_open r) old.shelf new.shelf old.held new.held
   changes = record { attached = call.attached; others = others; holds = call.holds }

@@ -1,28 +1,15 @@
 -- What a call that opens a unit promises, from what it leaves of the unit.
 use Rattle.std.proofs.Common.{◌≡◌, ℕ, true, false, Bool, IsTrue, IsFalse, IfOk, IfErr, OnOk, OnErr, Result, Ok, Err, refl, sym, ap, subst, ◌∙◌, if◌then◌else◌}
-use Rattle.io_state.specs.declared.fault.Fault.{Fault}
-use Rattle.record_layout.specs.Schema.{Schema}
-use Rattle.indexed_file.specs.Images.{Trace, CallGoes}
-use Rattle.indexed_file.specs.Calls.{Keeps, MayAnswerShut}
-use Rattle.indexed_file.specs.UnitCalls.{OpensUnit}
-use Rattle.indexed_file.specs.World.{World, Shut, Opened as HasOpened, Broken, holding_at, schema_at, schema_in, is_open, is_looked, is_broken}
-use Rattle.page_store.specs.ShelfState.{ShelfState}
-use Rattle.file_header.specs.declared.header.Header.{Header}
-use Rattle.shelf_file.specs.declared.shelf_file.ShelfFile.{ShelfFile}
-use Rattle.shelf_file.specs.Standing.{file_read_off, is_broken_file, schema_behind}
-use Rattle.shelf_library.specs.declared.held.Held.{Held}
-use Rattle.shelf_library.specs.declared.held.Held.TheVariants.{Nothing, Looked, Opened}
-use Rattle.shelf_library.specs.State.{LibraryState, IsReadyAt}
-use Rattle.shelf_library.specs.Told.{held_open, answer_open}
-use Rattle.shelf_library.specs.Units.{world_of, holding_of}
-use Rattle.shelf_library.specs.Library.{shown_by}
-use Rattle.shelf_library.specs.OneUnit.{AreUnits, ChangesAt, FitsItsFile}
+use Rattle.indexed_file.specs.Images.{CallGoes}
+use Rattle.indexed_file.specs.Calls.{MayAnswerShut}
+use Rattle.shelf_library.proofs.Terms.{Fault, Schema, Keeps, Trace, OpensUnit, Broken, HasOpened, Shut, World, holding_at, is_broken}
+use Rattle.shelf_library.proofs.Terms.{is_looked, is_open, schema_at, schema_in, ShelfState, Header, file_read_off, is_broken_file}
+use Rattle.shelf_library.proofs.Terms.{schema_behind, ShelfFile, shown_by, AreUnits, ChangesAt, FitsItsFile, IsReadyAt, LibraryState}
+use Rattle.shelf_library.proofs.Terms.{answer_open, held_open, holding_of, world_of, Held, Looked, Nothing, Opened}
+use Rattle.shelf_library.proofs.WorldLemmas.{same_open}
 use Rattle.shelf_library.proofs.AsideLemmas.{only_here, holding_after}
 
 -- ---- what a unit holds
-
-pub same_open : (a b : ShelfFile) → Opened a ≡ Opened b → a ≡ b
-same_open a b e = cc
 
 pub nothing_fits : (u : ℕ) (shelf : ShelfState) → FitsItsFile u Nothing shelf
 nothing_fits u shelf = record { looked = λ header is. absurd (cc); ready = λ file is. absurd (cc) }

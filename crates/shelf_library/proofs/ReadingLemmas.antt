@@ -1,35 +1,17 @@
 -- What a call that only reads leaves of its unit.
 use Rattle.std.proofs.Common.{◌≡◌, ◌⊎◌, inl, inr, ℕ, false, IsTrue, IsFalse, refl, sym, ap, subst, ◌∙◌, if◌then◌else◌}
-use Rattle.std.proofs.lemmas.Bool.{cases_Bool}
-use Rattle.indexed_file.specs.World.{Opened as HasOpened, Broken}
-use Rattle.record_layout.specs.Schema.{Schema}
-use Rattle.page_store.specs.DeviceFile.{DeviceFile, content}
-use Rattle.page_store.proofs.OpenLemmas.{open_kept, refused_open}
-use Rattle.page_store.specs.Gate.{AllOpen}
-use Rattle.page_store.specs.ShelfState.{unit_file}
+use Rattle.page_store.proofs.OpenLemmas.{open_kept}
 use Rattle.page_cache.specs.Quietly.{GoesQuietly}
-use Rattle.page_store.proofs.ShelfLemmas.{same_place}
-use Rattle.open_file.specs.declared.open_file.OpenFile.{OpenFile}
 use Rattle.open_file.specs.Fields.{has_broken, file_schema}
-use Rattle.open_file.specs.ReadOff.{file_off}
-use Rattle.file_header.specs.declared.header.Header.{Header}
-use Rattle.shelf_file.specs.declared.look.Look.TheVariants.{Accepted}
-use Rattle.shelf_file.specs.declared.shelf_file.ShelfFile.{ShelfFile}
-use Rattle.shelf_file.specs.Named.{look_of, named_of}
-use Rattle.shelf_file.specs.Shelves.{AreClosed}
-use Rattle.shelf_file.specs.Standing.{live_of, file_read_off, is_broken_file, pages_behind, parts_of, schema_behind}
-use Rattle.shelf_library.specs.State.{LibraryState, IsReadyAt}
-use Rattle.shelf_library.specs.Units.{holding_of}
-use Rattle.shelf_library.specs.Truth.{IsTrulyClosed, IsTrulyOpen}
-use Rattle.shelf_library.specs.OneUnit.{AreUnits, ChangesAt, FitsItsFile, IsTrulyHeld}
-use Rattle.shelf_library.specs.Reading.{ReadsAt, GoesOpen}
-use Rattle.shelf_library.specs.declared.held.Held.TheVariants.{Opened}
+use Rattle.shelf_library.proofs.Terms.{cases_Bool, Schema, Broken, HasOpened, refused_open, same_place, DeviceFile, content, AllOpen}
+use Rattle.shelf_library.proofs.Terms.{unit_file, is_begun, Header, file_off, OpenFile, look_of, named_of, AreClosed, file_read_off}
+use Rattle.shelf_library.proofs.Terms.{is_broken_file, live_of, pages_behind, parts_of, schema_behind, Accepted, ShelfFile, AreUnits}
+use Rattle.shelf_library.proofs.Terms.{ChangesAt, FitsItsFile, IsTrulyHeld, GoesOpen, ReadsAt, IsReadyAt, LibraryState, IsTrulyClosed}
+use Rattle.shelf_library.proofs.Terms.{IsTrulyOpen, holding_of, Opened}
+use Rattle.shelf_library.proofs.WorldLemmas.{same_open}
 use Rattle.shelf_library.proofs.AsideLemmas.{are_after}
+use Rattle.shelf_library.proofs.OpensLemmas.{open_fits}
 use Rattle.shelf_library.proofs.RefusedLemmas.{refused_look, refused_named}
-use Rattle.page_alloc.specs.PagedFile.{is_begun}
-
-opened_is : (a b : ShelfFile) → Opened a ≡ Opened b → a ≡ b
-opened_is a b e = cc
 
 module _ (u : ℕ) (file after : ShelfFile) (old new : LibraryState) (call : ReadsAt u file after old new) where
   pub is_ready : IsReadyAt old.shelf u file
@@ -45,15 +27,10 @@ module _ (u : ℕ) (file after : ShelfFile) (old new : LibraryState) (call : Rea
   changes_at = record { attached = call.attached; others = quietly.others; holds = call.holds }
 
   pub fits : FitsItsFile u (Opened after) new.shelf
-  fits = record {
-    looked = λ header is. absurd (cc);
-    ready = λ held is.
-        let same : after ≡ held = opened_is after held is in
-        subst (λ held. IsReadyAt new.shelf u held) same (record {
-          unit_is = call.reads.pages.goes.parts.unit ∙ is_ready.unit_is;
-          ready = call.reads.ready is_ready.ready;
-        });
-  }
+  fits = open_fits u after new.shelf (record {
+    unit_is = call.reads.pages.goes.parts.unit ∙ is_ready.unit_is;
+    ready = call.reads.ready is_ready.ready;
+  })
 
   -- and what every library keeps is kept
   pub reads_units : AreUnits new.shelf new.held
@@ -113,7 +90,7 @@ module _ (u : ℕ) (file after : ShelfFile) (old new : LibraryState) (call : Rea
 
       opened : (held : ShelfFile) → Opened after ≡ Opened held → IsFalse (is_broken_file held) → IsTrulyOpen new.shelf held (unit_file new.shelf u)
       opened held is unbroken =
-          let same : after ≡ held = opened_is after held is in
+          let same : after ≡ held = same_open after held is in
           let works : IsFalse (is_broken_file file) = sym same_broken ∙ ap (λ (h : ShelfFile). is_broken_file h) same ∙ unbroken in
           let was = truly.opened file refl works in
           subst (λ held. IsTrulyOpen new.shelf held (unit_file new.shelf u)) same (record {

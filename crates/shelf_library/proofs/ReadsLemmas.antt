@@ -1,36 +1,21 @@
 -- What a call that only reads promises of its unit.
-use Rattle.std.proofs.Common.{◌≡◌, ◌≢◌, inl, inr, ℕ, ◌+◌, ◌≤◌, Bool, true, false, List, bytes_eq, Some, IsTrue, IfErr, Result, Err, sym, ap, subst, ◌∙◌}
-use Rattle.std.proofs.lemmas.Slice.Eq.{bytes_eq-Decides}
-use Rattle.io_state.specs.declared.fault.Fault.{Fault}
-use Rattle.io_state.specs.declared.fault.Fault.TheVariants.{Damage, Broken as BrokenUnit}
-use Rattle.indexed_file.specs.World.{holding_at, name_at, schema_in, is_open, is_broken}
-use Rattle.indexed_file.specs.Images.{Stays, ImagesGo, untouched}
-use Rattle.indexed_file.specs.Calls.{Keeps, OnlyReads as ReadsWorld, MayFail, SamePages}
+use Rattle.std.proofs.Common.{◌≡◌, ◌≢◌, inl, inr, ℕ, ◌+◌, ◌≤◌, ◌<◌, length, Bool, List, IsTrue, IfErr, Result, Err, sym, ap, subst, ◌∙◌}
 use Rattle.indexed_file.specs.UnitCalls.{ReadsUnit}
-use Rattle.page_store.specs.DeviceFile.{DeviceFile}
-use Rattle.page_store.specs.ShelfState.{unit_name, unit_file}
-use Rattle.page_alloc.specs.Joining.{FaultsRose, available_of}
-use Rattle.open_file.specs.Faults.{IsCausedIn}
+use Rattle.page_alloc.specs.Joining.{available_of}
 use Rattle.open_file.specs.Stands.{room_of}
-use Rattle.open_file.specs.declared.open_file.OpenFile.{OpenFile}
-use Rattle.page_alloc.specs.PagedFile.{counts_of, times_asked}
-use Rattle.shelf_file.specs.declared.shelf_file.ShelfFile.{ShelfFile}
-use Rattle.shelf_file.specs.Standing.{file_read_off, room_in, is_broken_file, pages_behind, parts_of, schema_behind}
-use Rattle.shelf_library.specs.State.{LibraryState, held_at}
-use Rattle.shelf_library.specs.Units.{world_of, holding_of, room_of_held, counts_of_pager, counts_of_held, pages_asked_of}
-use Rattle.shelf_library.specs.Truth.{IsShownTruly}
-use Rattle.shelf_library.specs.Crashes.{MayReadAs}
-use Rattle.shelf_library.specs.MomentLaws.{EachRead}
-use Rattle.shelf_library.specs.Library.{shown_by}
-use Rattle.shelf_library.specs.OneUnit.{ChangesAt, IsTrulyHeld}
-use Rattle.shelf_library.specs.Reading.{ReadsAt, GoesOpen}
-use Rattle.shelf_library.specs.declared.held.Held.{Held}
-use Rattle.shelf_library.specs.declared.held.Held.TheVariants.{Opened}
-use Rattle.shelf_library.proofs.AsideLemmas.{held_here, held_truly, name_before, name_same, holding_before, holding_after, only_here, world_same, truth_after, images_aside}
+use Rattle.shelf_library.specs.Units.{counts_of_pager}
+use Rattle.shelf_library.proofs.Terms.{Fault, BrokenUnit, Damage, Keeps, MayFail, ReadsWorld, SamePages, ImagesGo, Stays, untouched}
+use Rattle.shelf_library.proofs.Terms.{holding_at, is_broken, name_at, DeviceFile, unit_file, unit_name, FaultsRose, counts_of, times_asked}
+use Rattle.shelf_library.proofs.Terms.{IsCausedIn, OpenFile, is_broken_file, pages_behind, parts_of, room_in, ShelfFile, MayReadAs}
+use Rattle.shelf_library.proofs.Terms.{shown_by, EachRead, ChangesAt, IsTrulyHeld, GoesOpen, ReadsAt, LibraryState, held_at, IsShownTruly}
+use Rattle.shelf_library.proofs.Terms.{counts_of_held, holding_of, pages_asked_of, room_of_held, world_of, Held, Opened}
+use Rattle.shelf_library.proofs.AsideLemmas.{held_here, attached_after, name_same, only_here, world_same, images_aside}
 use Rattle.shelf_library.proofs.RefusedLemmas.{quiet_reads, open_reads}
-use Rattle.shelf_library.proofs.ReadingLemmas.{changes_at, was_honest, still_or_open, same_named, same_holding, same_schema, same_broken, truly_held}
+use Rattle.shelf_library.proofs.ReadingLemmas.{reads_units, changes_at, was_honest, still_or_open, same_named, same_holding, same_schema}
+use Rattle.shelf_library.proofs.ReadingLemmas.{same_broken, truly_held}
 use Rattle.shelf_library.proofs.FaultLemmas.{faults_are}
-use Rattle.shelf_library.proofs.OpenedLemmas.{schema_open, open_open, broken_open}
+use Rattle.shelf_library.proofs.ShownLemmas.{schema_shown, open_shown, broken_shown}
+use Rattle.shelf_library.proofs.UnitLemmas.{keeps_at, images_at}
 
 module _ {S : Type 0} (state : S → LibraryState) (a b : S) (u : ℕ) (file after : ShelfFile) (call : ReadsAt u file after (state a) (state b)) where
   abbrev old : LibraryState
@@ -64,43 +49,35 @@ module _ {S : Type 0} (state : S → LibraryState) (a b : S) (u : ℕ) (file aft
   ]
 
   pub reads_images : IsTrue new.shelf.is_honest → ImagesGo (shown_by state).moments (name_at (world_of old.shelf old.held) u) untouched a b
-  reads_images honest =
-      subst (λ (name : List ℕ). ImagesGo (shown_by state).moments name untouched a b) (sym (name_before u (Opened after) old.shelf new.shelf old.held new.held call.units at)) (record {
-        may = stays honest;
-        only = tt;
-        others = λ other miss. images_aside state a b other (at.others.others other (λ same.
-            let hit : bytes_eq (unit_name old.shelf u) other ≡ true = (bytes_eq-Decides (unit_name old.shelf u) other).1 (sym same) in
-            let clash : true ≡ false = sym hit ∙ miss in absurd (cc)));
-      })
+  reads_images honest = images_at state u (Opened after) a b call.units at untouched (stays honest) tt
 
   -- ---- the world
 
-  now_open : holding_at (world_of new.shelf new.held) u ≡ holding_of new.shelf (Opened after)
-  now_open = holding_after u (Opened after) old.shelf new.shelf old.held new.held call.units at
-
-  pub was_open : holding_at (world_of old.shelf old.held) u ≡ holding_of old.shelf (Opened file)
-  was_open = holding_before u (Opened after) old.shelf new.shelf old.held new.held call.units at ∙ ap (holding_of old.shelf) call.opened
-
-  -- the unit is broken where its file is
-  pub broken_is : is_broken (holding_at (world_of old.shelf old.held) u) ≡ is_broken_file file
-  broken_is = ap is_broken was_open ∙ broken_open (is_broken_file file) (schema_behind file) (file_read_off file old.shelf)
-
-  pub reads_world : ReadsWorld u new.shelf.is_honest (world_of old.shelf old.held) (world_of new.shelf new.held)
-  reads_world = record {
-    only = only_here u (Opened after) old.shelf new.shelf old.held new.held call.units at;
-    state = record {
-      opened = ap is_open now_open ∙ open_open (is_broken_file after) (schema_behind after) (file_read_off after new.shelf)
-          ∙ sym (ap is_open was_open ∙ open_open (is_broken_file file) (schema_behind file) (file_read_off file old.shelf));
-      broken = ap is_broken now_open ∙ broken_open (is_broken_file after) (schema_behind after) (file_read_off after new.shelf) ∙ same_broken u file after old new call ∙ sym broken_is;
-    };
-    schema = ap schema_in now_open ∙ schema_open (is_broken_file after) (schema_behind after) (file_read_off after new.shelf) ∙ same_schema u file after old new call
-        ∙ sym (ap schema_in was_open ∙ schema_open (is_broken_file file) (schema_behind file) (file_read_off file old.shelf));
-    same = λ honest. world_same u (Opened after) old.shelf new.shelf old.held new.held call.units at
-        (same_holding u file after old new call honest ∙ sym (ap (holding_of old.shelf) call.opened)) (same_named u file after old new call honest);
-  }
-
   now_held : held_at new.held u ≡ Opened after
   now_held = held_here u (Opened after) old.shelf new.shelf old.held new.held call.units at
+
+  within : u < length new.held
+  within = attached_after u (Opened after) old.shelf new.shelf old.held new.held call.units at
+
+  -- the unit is broken where its file is
+  broken_is : is_broken (holding_at (world_of old.shelf old.held) u) ≡ is_broken_file file
+  broken_is = broken_shown u file old call.units call.attached call.opened
+
+  pub reads_world : ReadsWorld u new.shelf.is_honest (world_of old.shelf old.held) (world_of new.shelf new.held)
+  reads_world =
+      let units = reads_units u file after old new call in
+      record {
+        only = only_here u (Opened after) old.shelf new.shelf old.held new.held call.units at;
+        state = record {
+          opened = open_shown u after new units within now_held ∙ sym (open_shown u file old call.units call.attached call.opened);
+          broken = broken_shown u after new units within now_held ∙ same_broken u file after old new call ∙ sym broken_is;
+        };
+        schema = schema_shown u after new units within now_held ∙ same_schema u file after old new call
+            ∙ sym (schema_shown u file old call.units call.attached call.opened);
+        same = λ honest. world_same u (Opened after) old.shelf new.shelf old.held new.held call.units at
+            (same_holding u file after old new call honest ∙ sym (ap (holding_of old.shelf) call.opened))
+            (same_named u file after old new call honest);
+      }
 
   same_room : room_in after ≡ room_in file
   same_room =
@@ -119,15 +96,9 @@ module _ {S : Type 0} (state : S → LibraryState) (a b : S) (u : ℕ) (file aft
   -- ---- what every call keeps
 
   pub reads_keeps : Keeps (shown_by state) a b
-  reads_keeps = record {
-    honest = was_honest u file after old new call;
-    truth = λ honest. truth_after u (Opened after) old.shelf new.shelf old.held new.held call.units at (λ truly.
-        truly_held u file after old new call honest
-        (subst (λ (one : Held). IsTrulyHeld u one old.shelf) call.opened (held_truly u (Opened after) old.shelf new.shelf old.held new.held call.units at truly)));
-    count = call.reads.pages.goes.parts.faults;
-    limit = ap Some call.limit;
-    frames = ap Some call.frames;
-  }
+  reads_keeps =
+      keeps_at state u (Opened after) a b call.units at call.limit call.frames call.reads.pages.goes.parts.faults (λ honest truly.
+      truly_held u file after old new call honest (subst (λ (one : Held). IsTrulyHeld u one old.shelf) call.opened truly))
 
   -- ---- all of it, with the pages that were asked for and with why the file gave up
 

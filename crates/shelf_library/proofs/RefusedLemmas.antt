@@ -1,21 +1,15 @@
 -- A refused file, and a file behind an open gate.
 use Rattle.std.proofs.Common.{◌≡◌, inl, inr, ℕ, List, [], ◌∷◌, length, nat_lt, Option, None, Some, refl, sym, ap, subst, ◌∙◌}
 use Rattle.std.proofs.lemmas.Bool.{lt-ltb}
-use Rattle.indexed_file.proofs.TestLemmas.{either}
-use Rattle.indexed_file.specs.World.{Unsound}
+use Rattle.shelf_library.proofs.Terms.{either, Unsound, throughout_none, throughout_weaker, refused_open, DeviceFile, AllOpen, Leaves}
+use Rattle.shelf_library.proofs.Terms.{page_of_bytes, look_of, named_by, named_of, Accepted, Refused, IsSoundImage, MayReadAs, EachRead}
+use Rattle.shelf_library.proofs.Terms.{each_read, found_now}
 use Rattle.file_header.specs.Reading.{header_in}
 use Rattle.file_header.proofs.ReadLemmas.{header_in_none}
-use Rattle.page_store.specs.DeviceFile.{DeviceFile}
-use Rattle.page_store.specs.Images.{Leaves}
 use Rattle.page_store.specs.Moments.{Quiet}
-use Rattle.page_store.proofs.MomentLemmas.{throughout_none, throughout_weaker}
-use Rattle.page_store.proofs.OpenLemmas.{quiet_open, refused_open}
-use Rattle.page_store.specs.Gate.{IsClosed, IsOpen, AllOpen, IsRefused}
-use Rattle.page_store.specs.Pages.{page_of_bytes}
-use Rattle.shelf_file.specs.declared.look.Look.TheVariants.{Refused, Accepted}
-use Rattle.shelf_file.specs.Named.{look_of, look_by, named_of, named_by}
-use Rattle.shelf_library.specs.Crashes.{IsSoundImage, MayReadAs}
-use Rattle.shelf_library.specs.MomentLaws.{EachRead, each_read, found_now}
+use Rattle.page_store.proofs.OpenLemmas.{quiet_open}
+use Rattle.page_store.specs.Gate.{IsClosed, IsOpen, IsRefused}
+use Rattle.shelf_file.specs.Named.{look_by}
 
 first_closed : (bytes : List ℕ) → IsClosed (page_of_bytes bytes 0) → IsClosed bytes
 first_closed [] closed = absurd closed

@@ -1,18 +1,10 @@
 -- What is shown of a unit that has a file open.
 use Rattle.std.proofs.Common.{◌≡◌, ℕ, ◌<◌, true, length, IsFalse, sym, ap, subst, ◌∙◌}
 use Rattle.std.specs.Prelude.{unwrap_or}
-use Rattle.record_layout.specs.Schema.{Schema}
-use Rattle.indexed_file.specs.File.{File, empty_file}
-use Rattle.indexed_file.specs.Room.{Room}
-use Rattle.indexed_file.specs.World.{Holding, holding_at, name_at, schema_at, schema_in, file_at, file_in as rows_in, is_open, is_broken}
-use Rattle.shelf_file.specs.declared.shelf_file.ShelfFile.{ShelfFile}
-use Rattle.shelf_file.specs.Standing.{StandsFor, file_read_off, room_in, is_broken_file, schema_behind}
-use Rattle.shelf_library.specs.State.{LibraryState, held_at}
-use Rattle.shelf_library.specs.Truth.{IsShownTruly}
-use Rattle.shelf_library.specs.Units.{world_of, holding_of, room_of_held}
-use Rattle.shelf_library.specs.OneUnit.{AreUnits}
-use Rattle.shelf_library.specs.declared.held.Held.{Held}
-use Rattle.shelf_library.specs.declared.held.Held.TheVariants.{Opened}
+use Rattle.indexed_file.specs.World.{file_in as rows_in}
+use Rattle.shelf_library.proofs.Terms.{Schema, File, empty_file, Room, Holding, file_at, holding_at, is_broken, is_open, name_at, schema_at}
+use Rattle.shelf_library.proofs.Terms.{schema_in, StandsFor, file_read_off, is_broken_file, room_in, schema_behind, ShelfFile, AreUnits}
+use Rattle.shelf_library.proofs.Terms.{LibraryState, held_at, IsShownTruly, holding_of, room_of_held, world_of, Held, Opened}
 use Rattle.shelf_library.proofs.WorldLemmas.{holding_now}
 use Rattle.shelf_library.proofs.OpenedLemmas.{schema_open, open_open, broken_open}
 use Rattle.shelf_library.proofs.KnownLemmas.{known}

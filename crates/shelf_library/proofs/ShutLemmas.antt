@@ -1,40 +1,21 @@
 -- What the call that shuts a unit promises.
 use Rattle.std.proofs.Common.{◌≡◌, ◌≢◌, ◌⊎◌, inl, inr, ℕ, true, false, Bool, List, [], ◌∷◌, IsTrue, IsFalse, OnOk, IfErr, Result, Ok, Err, refl, sym, ap, subst, ◌∙◌}
 use Rattle.std.specs.Prelude.{unwrap_or}
-use Rattle.std.proofs.lemmas.Bool.{cases_Bool}
-use Rattle.indexed_file.proofs.TestLemmas.{either}
-use Rattle.io_state.specs.declared.fault.Fault.{Fault}
-use Rattle.io_state.specs.declared.fault.Fault.TheVariants.{Broken as BrokenUnit}
-use Rattle.record_layout.specs.Schema.{Schema}
-use Rattle.indexed_file.specs.Calls.{MayFail}
-use Rattle.indexed_file.specs.File.{File, empty_file}
-use Rattle.indexed_file.specs.Images.{Trace, ImagesGo, untouched, finishing, finished, trace_of_shut, trace_of_finish}
+use Rattle.indexed_file.specs.Images.{finishing, finished, trace_of_shut, trace_of_finish}
 use Rattle.indexed_file.specs.UnitCalls.{ShutsUnit}
-use Rattle.indexed_file.specs.World.{World, Holding, Opened as HasOpened, Broken, Named, Absent, Closed, Unsound, holding_at, named_at, name_at, schema_at, schema_in, file_at, file_in as rows_in, is_broken}
-use Rattle.page_store.specs.DeviceFile.{DeviceFile}
-use Rattle.page_store.specs.Moments.{Throughout}
-use Rattle.page_store.proofs.MomentLemmas.{throughout_weaker}
-use Rattle.page_store.specs.ShelfState.{unit_name, unit_file}
-use Rattle.shelf_file.specs.declared.shelf_file.ShelfFile.{ShelfFile}
-use Rattle.shelf_file.specs.Named.{named_of}
-use Rattle.shelf_file.specs.Standing.{StandsFor, live_of, is_broken_file, pages_behind, parts_of, schema_behind}
-use Rattle.shelf_file.specs.Shelves.{ClosedFileOrRefused, Closes}
-use Rattle.shelf_library.specs.declared.held.Held.TheVariants.{Nothing}
-use Rattle.shelf_library.specs.MomentLaws.{EachRead, each_read}
-use Rattle.shelf_library.specs.Library.{shown_by}
-use Rattle.shelf_library.specs.State.{LibraryState}
-use Rattle.shelf_library.specs.Truth.{IsTrulyOpen, IsShownTruly}
-use Rattle.shelf_library.specs.Units.{world_of}
-use Rattle.shelf_library.specs.OneUnit.{AreUnits, ChangesAt}
-use Rattle.shelf_library.specs.Closing.{ClosesUnitAt}
+use Rattle.indexed_file.specs.World.{file_in as rows_in}
+use Rattle.shelf_library.proofs.Terms.{cases_Bool, Fault, BrokenUnit, Schema, either, MayFail, File, empty_file, ImagesGo, Trace, untouched}
+use Rattle.shelf_library.proofs.Terms.{Absent, Broken, Closed, Holding, Named, HasOpened, Unsound, World, file_at, holding_at, is_broken}
+use Rattle.shelf_library.proofs.Terms.{name_at, named_at, schema_at, schema_in, throughout_weaker, DeviceFile, Throughout, unit_file}
+use Rattle.shelf_library.proofs.Terms.{unit_name, is_begun, reads_as, named_of, ClosedFileOrRefused, Closes, StandsFor, is_broken_file}
+use Rattle.shelf_library.proofs.Terms.{live_of, pages_behind, parts_of, schema_behind, ShelfFile, ClosesUnitAt, shown_by, EachRead}
+use Rattle.shelf_library.proofs.Terms.{each_read, AreUnits, ChangesAt, LibraryState, IsShownTruly, IsTrulyOpen, world_of, Nothing}
 use Rattle.shelf_library.proofs.AsideLemmas.{lies, name_before, are_after, only_here, name_same, holding_after, named_before as named_was, named_after, images_aside}
-use Rattle.open_file.proofs.ReadOffLemmas.{reads_as}
 use Rattle.shelf_library.proofs.ShownLemmas.{holding_shown, broken_shown}
 use Rattle.shelf_library.proofs.FaultLemmas.{faults_are}
 use Rattle.shelf_library.proofs.OpensLemmas.{nothing_fits, open_holding}
 use Rattle.shelf_library.proofs.UnitLemmas.{keeps_at, images_at}
 use Rattle.shelf_library.proofs.ClosingLemmas.{IsLeft, closing_reads, settled_reads, closing_named, on_more, changes, still, was_unsound, closes_here, ends_closed, named_closed, named_before, closes_truly}
-use Rattle.page_alloc.specs.PagedFile.{is_begun}
 
 if_any : {X : Type 0} (result : Result X Fault) (P : Fault → Type 0) → ((fault : Fault) → P fault) → IfErr result P
 if_any (Ok x) P p = tt

@@ -1,28 +1,11 @@
 -- A library over a shelf, as the definitions see it: before a call, behind one, and what the calls on units did.
-use Rattle.std.proofs.Common.{◌≡◌, ℕ, ◌<◌, List, length, bytes_eq, IsTrue, Result, refl, ap, ◌∙◌}
+use Rattle.std.proofs.Common.{◌≡◌, ℕ, ◌<◌, List, length, bytes_eq, IsTrue, Result, refl, ap, ◌∙◌, arith}
+use Rattle.std.specs.Prelude.{slice_set, replicate, vec_len}
 use Rattle.std.specs.List.{IsDistinct}
-use Rattle.std.specs.Prelude.{slice_set, replicate}
-use Rattle.std.specs.NonZero.{non_zero_usize_get}
-use Rattle.io_state.specs.declared.fault.Fault.{Fault}
-use Rattle.record_layout.specs.Schema.{Schema}
-use Rattle.page_store.specs.Images.{Leaves}
-use Rattle.page_store.specs.ShelfState.{unit_name}
-use Rattle.page_store.specs.declared.shelf.Shelf.{Ghosts}
-use Rattle.file_header.specs.declared.header.Header.{Header}
-use Rattle.shelf_file.specs.declared.shelf_file.ShelfFile.{ShelfFile}
-use Rattle.shelf_file.specs.declared.look.Look.{Look}
 use Rattle.shelf_file.specs.Opening.{LooksOnShelf, MakesOnShelf, OpensByHeader, ClosesOnShelf, CountedShelf, counted_shelf}
-use Rattle.shelf_library.specs.State.{LibraryState, held_at}
-use Rattle.shelf_library.specs.Told.{held_open, held_after}
-use Rattle.shelf_library.specs.Units.{world_of}
-use Rattle.shelf_library.specs.OneUnit.{AreUnits}
-use Rattle.shelf_library.specs.Attaching.{Attaches}
-use Rattle.shelf_library.specs.Looking.{LooksAt}
-use Rattle.shelf_library.specs.Opening.{MakesAt, OpensAt}
-use Rattle.shelf_library.specs.Closing.{ClosesUnitAt}
-use Rattle.shelf_library.specs.declared.held.Held.{Held}
-use Rattle.shelf_library.specs.declared.held.Held.TheVariants.{Nothing, Looked, Opened}
-use Rattle.shelf_library.specs.declared.library.ShelfLibrary.{ShelfLibrary}
+use Rattle.shelf_library.proofs.Terms.{non_zero_usize_get, Fault, Schema, Leaves, unit_name, Ghosts, Header, Look, ShelfFile, Attaches}
+use Rattle.shelf_library.proofs.Terms.{ClosesUnitAt, LooksAt, MakesAt, OpensAt, LibraryState, held_at, held_after, held_open, world_of}
+use Rattle.shelf_library.proofs.Terms.{Held, Looked, Nothing, Opened, ShelfLibrary}
 use Rattle.shelf_library.proofs.WorldLemmas.{is_held, set_twice}
 
 module _ {S : Type 0} (shelf : Ghosts S) where
@@ -44,13 +27,14 @@ module _ {S : Type 0} (shelf : Ghosts S) where
     frames = non_zero_usize_get s.frames;
   }
 
-  pub are_units : (s : ShelfLibrary S shelf) → AreUnits (shelf.state s.shelf) s.units.items
-  are_units s = record { many = s.many; distinct = s.distinct; looked = s.looked; ready = s.ready }
-
   -- a unit that has a name holds something
   pub is_within : (s : ShelfLibrary S shelf) (u : ℕ) → u < length (world_of (shelf.state s.shelf) s.units.items).units
       → u < length s.units.items
   is_within s u attached = is_held (shelf.state s.shelf) s.units.items u s.many attached
+
+  -- so it may be read
+  pub is_item : (s : ShelfLibrary S shelf) (u : ℕ) → u < length (world_of (shelf.state s.shelf) s.units.items).units → u < vec_len s.units
+  is_item s u attached = let within = is_within s u attached in omega (arith, within, s.units.ok.0)
 
   abbrev at_shelf : S → CountedShelf
   at_shelf now = counted_shelf (shelf.state now) (shelf.fault_count now)
@@ -65,7 +49,7 @@ module _ {S : Type 0} (shelf : Ghosts S) where
         → MakesOnShelf u s.limit (non_zero_usize_get s.frames) schema (at_shelf s.shelf) (at_shelf now) r → ReadsImages
         → MakesAt u schema r (library_state s) (state_left s now (slice_set s.units.items u one))
     makes_at schema r now one is make image = record {
-      units = are_units s;
+      units = s.fit;
       attached = is_within s u attached;
       holds = ap (slice_set s.units.items u) is;
       limit = refl;
@@ -79,7 +63,7 @@ module _ {S : Type 0} (shelf : Ghosts S) where
         → OpensByHeader u s.limit (non_zero_usize_get s.frames) header r
         → OpensAt u header r (library_state s) (state_left s s.shelf (slice_set (slice_set s.units.items u left) u one))
     opens_at header looked r left one is by_header = record {
-      units = are_units s;
+      units = s.fit;
       attached = is_within s u attached;
       looked = looked;
       holds = set_twice s.units.items u left one ∙ ap (slice_set s.units.items u) is;
@@ -95,7 +79,7 @@ module _ {S : Type 0} (shelf : Ghosts S) where
         → ClosesOnShelf file (at_shelf s.shelf) (at_shelf now) result → ReadsImages
         → ClosesUnitAt u file result (library_state s) (state_left s now (slice_set s.units.items u left))
     closes_at file opened result now left is close image = record {
-      units = are_units s;
+      units = s.fit;
       attached = is_within s u attached;
       opened = opened;
       holds = ap (slice_set s.units.items u) is;
@@ -110,7 +94,7 @@ module _ {S : Type 0} (shelf : Ghosts S) where
         → LooksOnShelf u (at_shelf s.shelf) (at_shelf now) look
         → LooksAt u look (library_state s) (state_left s now (slice_set s.units.items u one))
     looks_at look now one is looks = record {
-      units = are_units s;
+      units = s.fit;
       attached = is_within s u attached;
       holds = ap (slice_set s.units.items u) is;
       limit = refl;
@@ -123,7 +107,7 @@ module _ {S : Type 0} (shelf : Ghosts S) where
       → held ≡ replicate count Nothing → shelf.state now ≡ record (shelf.state s.shelf) { names = names }
       → shelf.fault_count now ≡ shelf.fault_count s.shelf → Attaches names count (library_state s) (state_left s now held)
   attaches s names count now held distinct counts nothing shelf_is faults = record {
-    units = are_units s;
+    units = s.fit;
     distinct = distinct;
     counted = counts;
     held = nothing;

@@ -1,22 +1,16 @@
 -- What a crash may leave of a file, in the words of tests: each image of a name passes a test where each thing that a crash may leave stands for something that does.
 use Rattle.std.proofs.Common.{◌≡◌, ℕ, suc, ◌+◌, Bool, List, [], ◌∷◌, ◌++◌, length, take, Option, None, Some, IsTrue, refl, sym, ap, subst, ◌∙◌}
 use Rattle.std.proofs.Math.Seq.{take-append-add}
-use Rattle.indexed_file.specs.File.{File}
-use Rattle.indexed_file.specs.World.{Named, Absent, Closed, Unsound}
+use Rattle.shelf_library.proofs.Terms.{File, Absent, Closed, Named, Unsound, throughout_weaker, DeviceFile, Throughout, ShelfState, Header}
+use Rattle.shelf_library.proofs.Terms.{reads_back, StandsIn, look_of, named_by, named_of, Look, Accepted, NoFile, Refused, IsSoundImage}
+use Rattle.shelf_library.proofs.Terms.{each_read}
 use Rattle.indexed_file.proofs.ImageLemmas.{AllPassTest}
-use Rattle.page_store.specs.DeviceFile.{FileStep, DeviceFile}
+use Rattle.page_store.specs.DeviceFile.{FileStep}
 use Rattle.page_store.specs.Images.{Durable, nothing, after_step, durable_from, durable, MayLeave}
-use Rattle.page_store.specs.Moments.{AtEachMoment, Throughout}
-use Rattle.page_store.specs.ShelfState.{ShelfState}
+use Rattle.page_store.specs.Moments.{AtEachMoment}
 use Rattle.page_store.proofs.ImageLemmas.{durable_from-append}
-use Rattle.page_store.proofs.MomentLemmas.{throughout_weaker}
-use Rattle.file_header.specs.declared.header.Header.{Header}
-use Rattle.shelf_file.specs.declared.look.Look.{Look}
-use Rattle.shelf_file.specs.declared.look.Look.TheVariants.{NoFile, Refused, Accepted}
-use Rattle.shelf_file.specs.Named.{look_of, named_of, named_by, StandsIn}
-use Rattle.shelf_file.proofs.AcceptedLemmas.{reads_back}
-use Rattle.shelf_library.specs.Crashes.{IsSoundImage, MayBeFound, moments_on}
-use Rattle.shelf_library.specs.MomentLaws.{found_such, each_read}
+use Rattle.shelf_library.specs.Crashes.{MayBeFound, moments_on}
+use Rattle.shelf_library.specs.MomentLaws.{found_such}
 
 -- what holds of all that may be found holds at each moment
 at_each : (Q : Option (List ℕ) → Type 0) (d : Durable) (more : List FileStep) → ((n : ℕ) (c : Option (List ℕ)) → MayLeave (durable_from d (take n more)) c → Q c) → AtEachMoment Q d more

@@ -1,19 +1,9 @@
 -- What a call on one unit promises of every name.
-use Rattle.std.proofs.Common.{◌≡◌, ℕ, ◌≤◌, false, List, bytes_eq, Some, IsTrue, sym, ap, subst}
-use Rattle.std.proofs.lemmas.Slice.Eq.{bytes_eq-Decides}
-use Rattle.indexed_file.specs.Calls.{Keeps}
-use Rattle.indexed_file.specs.Images.{Trace, ImagesGo, LibraryMayLeave, LeavesOnly}
-use Rattle.indexed_file.specs.World.{name_at}
-use Rattle.page_store.specs.ShelfState.{unit_name}
-use Rattle.shelf_library.specs.State.{LibraryState, held_at}
-use Rattle.shelf_library.specs.Units.{world_of}
-use Rattle.shelf_library.specs.Library.{shown_by}
-use Rattle.shelf_library.specs.OneUnit.{AreUnits, ChangesAt, IsTrulyHeld}
-use Rattle.shelf_library.specs.declared.held.Held.{Held}
-use Rattle.shelf_library.proofs.AsideLemmas.{name_before, held_truly, truth_after, images_aside}
-
-apart_from : (name other : List ℕ) → bytes_eq name other ≡ false → ¬ (other ≡ name)
-apart_from name other apart same = let e = (bytes_eq-Decides name other).1 (sym same) in absurd (cc)
+use Rattle.std.proofs.Common.{◌≡◌, ℕ, ◌≤◌, List, Some, IsTrue, sym, ap, subst}
+use Rattle.indexed_file.specs.Images.{LibraryMayLeave, LeavesOnly}
+use Rattle.shelf_library.proofs.Terms.{Keeps, ImagesGo, Trace, name_at, unit_name, shown_by, AreUnits, ChangesAt, IsTrulyHeld, LibraryState}
+use Rattle.shelf_library.proofs.Terms.{held_at, world_of, Held}
+use Rattle.shelf_library.proofs.AsideLemmas.{differs, name_before, held_truly, truth_after, images_aside}
 
 module _ {S : Type 0} (state : S → LibraryState) (u : ℕ) (one : Held) (old new : S)
     (are : AreUnits (state old).shelf (state old).held) (call : ChangesAt u one (state old).shelf (state new).shelf (state old).held (state new).held) where
@@ -40,5 +30,7 @@ module _ {S : Type 0} (state : S → LibraryState) (u : ℕ) (one : Held) (old n
       (record {
         may = may;
         only = only;
-        others = λ other apart. images_aside state old new other (call.others.others other (apart_from (unit_name (state old).shelf u) other apart));
+        others = λ other apart.
+            images_aside state old new other (call.others.others other (λ same.
+            differs (unit_name (state old).shelf u) other apart (sym same)));
       })

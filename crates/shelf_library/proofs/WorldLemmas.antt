@@ -3,17 +3,15 @@ use Rattle.std.proofs.Common.{◌≡◌, ◌≢◌, ℕ, zero, suc, ◌<◌, tru
 use Rattle.std.specs.Prelude.{slice_set, if◌then◌else◌}
 use Rattle.std.specs.List.{list_any}
 use Rattle.std.proofs.lemmas.List.Folds.{list_any_at}
-use Rattle.std.proofs.lemmas.Slice.Eq.{bytes_eq-Decides}
-use Rattle.indexed_file.proofs.TestLemmas.{either}
-use Rattle.indexed_file.specs.World.{FileUnit, Absent, holding_at, named_at, name_at, OnlyAt}
-use Rattle.page_store.specs.DeviceFile.{DeviceFile}
-use Rattle.page_store.specs.ShelfState.{ShelfState, unit_name}
-use Rattle.shelf_file.specs.Named.{named_of}
+use Rattle.shelf_library.proofs.Terms.{bytes_eq-Decides, either, Absent, FileUnit, OnlyAt, holding_at, name_at, named_at, DeviceFile}
+use Rattle.shelf_library.proofs.Terms.{ShelfState, unit_name, named_of, ShelfFile, held_at, holding_of, units_of, world_of, Held, Opened}
 pub use Rattle.shelf_library.specs.WorldLaws.{named_anywhere, unit_now, name_now, holding_now, named_now}
 use Rattle.shelf_library.specs.WorldLaws.{units_long}
-use Rattle.shelf_library.specs.State.{held_at}
-use Rattle.shelf_library.specs.Units.{unit_of, units_of, holding_of, elsewhere_of, world_of}
-use Rattle.shelf_library.specs.declared.held.Held.{Held}
+use Rattle.shelf_library.specs.Units.{unit_of, elsewhere_of}
+
+-- a unit that holds an open file holds no other one
+pub same_open : (a b : ShelfFile) → Opened a ≡ Opened b → a ≡ b
+same_open a b e = cc
 
 -- ---- what is held after a unit was let hold something
 

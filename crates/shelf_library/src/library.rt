@@ -1,15 +1,15 @@
 //! The library.
 
-ghost use Rattle.std.specs.Prelude.{◌≡◌, ◌≤◌, ℕ, List, [], length, map, slice_index, replicate, bytes_eq};
+ghost use Rattle.std.specs.Prelude.{◌≡◌, ◌≤◌, ℕ, List, [], length, map, slice_index, replicate};
 ghost use Rattle.std.specs.Prelude.{Ok, Err, IsTrue, IfOk, IsOkUnless};
-ghost use Rattle.std.specs.List.{IsDistinct};
 ghost use Rattle.std.specs.NonZero.{non_zero_usize_get};
 ghost use Rattle.std.proofs.Props.{props};
 ghost use Rattle.record_layout.proofs.PropLemmas.{keys_prop};
 ghost use Rattle.page_store.proofs.PropLemmas.{open_prop};
 ghost use Rattle.indexed_file.specs.Room.{height_at};
 ghost use Rattle.open_file.specs.Stands.{heights_of};
-ghost use Rattle.shelf_library.specs.State.{AreLooked, AreReady, AreLimited, held_at};
+ghost use Rattle.shelf_library.specs.State.{AreLimited, held_at};
+ghost use Rattle.shelf_library.specs.OneUnit.{AreUnits};
 ghost use Rattle.shelf_library.specs.Units.{room_of_held};
 ghost use Rattle.shelf_library.specs.Told.{held_after, seen_after, held_open, answer_open};
 
@@ -35,9 +35,7 @@ pub struct ShelfLibrary<S: Shelf> {
     units: Vec<Held>,
     ghost room: { 16 ≤ limit },
     ghost many: { length units.items ≡ length (S.state shelf).names },
-    ghost distinct: { IsDistinct bytes_eq (S.state shelf).names } by { Prim.hlevel (props, keys_prop, open_prop) },
-    ghost looked: { AreLooked (S.state shelf) units.items } by { Prim.hlevel (props, keys_prop, open_prop) },
-    ghost ready: { AreReady (S.state shelf) units.items } by { Prim.hlevel (props, keys_prop, open_prop) },
+    ghost fit: { AreUnits (S.state shelf) units.items } by { Prim.hlevel (props, keys_prop, open_prop) },
     ghost limits: { AreLimited limit (non_zero_usize_get frames) units.items } by { Prim.hlevel props },
 }
 
@@ -157,7 +155,7 @@ impl<S: Shelf> Library for ShelfLibrary<S> {
         library.many };
 
     ghost fills = { λ library u schema file honest. fills (S.state library.shelf) library.units.items u
-        schema file library.many library.ready };
+        schema file library.many library.fit.ready };
 
     ghost limits = { λ library u opened. record {
       room = room_within (S.state library.shelf) library.units.items library.limit

@@ -1,6 +1,6 @@
 use Rattle.std.proofs.Common.{◌≡◌}
 use Rattle.std.specs.Prelude.{replicate}
-use Rattle.shelf_library.specs.declared.held.Held.TheVariants.{Nothing}
+use Rattle.shelf_library.proofs.Terms.{Nothing}
 use Rattle.shelf_library.proofs.library.nothing_held.Given as goal
 
 abbrev pub invariant-loop : goal.invariant-loop

@@ -1,23 +1,14 @@
-use Rattle.std.proofs.Common.{arith, slice_set}
-use Rattle.indexed_file.specs.Room.{most_to_seek}
-use Rattle.shelf_library.specs.State.{LibraryState}
-use Rattle.shelf_library.specs.Units.{room_of_held}
-use Rattle.shelf_library.specs.Reading.{ReadsAt}
-use Rattle.shelf_library.specs.declared.held.Held.TheVariants.{Opened}
-use Rattle.shelf_library.proofs.StateLemmas.{library_state, state_left, is_within}
+use Rattle.shelf_library.proofs.Terms.{most_to_seek, room_of_held}
+use Rattle.shelf_library.proofs.StateLemmas.{library_state, is_item}
 use Rattle.shelf_library.proofs.OpenedLemmas.{must_be_open, may_call, reads_at}
 use Rattle.shelf_library.proofs.ReadingLemmas.{reads_units}
 use Rattle.shelf_library.proofs.ReadsLemmas.{reads_unit}
 use Rattle.shelf_library.proofs.FoundLemmas.{highest_found, highest_undamaged}
 use Rattle.shelf_library.proofs.LimitLemmas.{limits_read}
-use Rattle.shelf_library.proofs.library.ShelfLibraryLibrary.highest.Given as given
 use Rattle.shelf_library.proofs.library.ShelfLibraryLibrary.highest.Goals as goal
 
 pub index_mut-requires : goal.index_mut-requires
-index_mut-requires g c =
-    let s = c.args.self.now in
-    let within = is_within g.S.Shelf s c.args.u c.requires.attached in
-    omega (arith, within, s.units.ok.0)
+index_mut-requires g c = is_item g.S.Shelf c.args.self.now c.args.u c.requires.attached
 
 pub highest-requires : goal.highest-requires
 highest-requires g c =
@@ -29,8 +20,7 @@ highest-requires g c =
 
 pub unreachable-requires : goal.unreachable-requires
 unreachable-requires g c =
-    let s = c.args.self.now in
-    must_be_open g.S.Shelf s c.args.u c.requires.attached c.index_mut.result.now c.index_mut.ensures.value
+    must_be_open g.S.Shelf c.args.self.now c.args.u c.requires.attached c.index_mut.result.now c.index_mut.ensures.value
     c.requires.opened c.in_default.not-Opened
 
 pub invariant_of-self : goal.invariant_of-self
@@ -40,38 +30,24 @@ invariant_of-self g c =
     reads_at g.S.Shelf s c.args.u c.requires.attached c.index_mut.result.now c.index_mut.ensures.value c.in-Opened.file c.in-Opened.is
     c.highest.new.self c.highest.new.shelf c.highest.ensures.reads.step g.met.S.Shelf.reads_an_image in
     let after = reads_units _ _ _ _ _ call in
-    record {
-      room = s.room;
-      many = after.many;
-      distinct = after.distinct;
-      looked = after.looked;
-      ready = after.ready;
-      limits = limits_read _ _ _ _ _ call _ _ s.limits;
-    }
-
--- the call, as the other goals have it
-module _ (g : given.Over) (c : goal.After-self-in-Opened-1 g) where
-  abbrev before : LibraryState
-  before = library_state g.S.Shelf c.args.self.now
-
-  abbrev after : LibraryState
-  after = state_left g.S.Shelf c.args.self.now c.highest.new.shelf
-      (slice_set c.args.self.now.units.items c.args.u (Opened c.highest.new.self))
-
-  call : ReadsAt c.args.u c.in-Opened.file c.highest.new.self before after
-  call =
-      let s = c.args.self.now in
-      reads_at g.S.Shelf s c.args.u c.requires.attached c.index_mut.result.now c.index_mut.ensures.value c.in-Opened.file c.in-Opened.is
-      c.highest.new.self c.highest.new.shelf c.highest.ensures.reads.step g.met.S.Shelf.reads_an_image
+    record { room = s.room; many = after.many; fit = after; limits = limits_read _ _ _ _ _ call _ _ s.limits }
 
 pub returns-clause-found : goal.returns-clause-found
 returns-clause-found g c honest truly =
-    highest_found _ _ _ _ _ (call g c) truly c.highest.result c.highest.ensures.reads.broken (c.highest.ensures.found honest)
+    let s = c.args.self.now in
+    let call =
+    reads_at g.S.Shelf s c.args.u c.requires.attached c.index_mut.result.now c.index_mut.ensures.value c.in-Opened.file c.in-Opened.is
+    c.highest.new.self c.highest.new.shelf c.highest.ensures.reads.step g.met.S.Shelf.reads_an_image in
+    highest_found _ _ _ _ _ call truly c.highest.result
+    c.highest.ensures.reads.broken (c.highest.ensures.found honest)
 
 pub returns-clause-reads : goal.returns-clause-reads
 returns-clause-reads g c =
-    reads_unit (library_state g.S.Shelf) c.args.self.now _ c.args.u c.in-Opened.file c.highest.new.self (call g c)
-    (λ one. most_to_seek (room_of_held one) 0)
+    let s = c.args.self.now in
+    let call =
+    reads_at g.S.Shelf s c.args.u c.requires.attached c.index_mut.result.now c.index_mut.ensures.value c.in-Opened.file c.in-Opened.is
+    c.highest.new.self c.highest.new.shelf c.highest.ensures.reads.step g.met.S.Shelf.reads_an_image in
+    reads_unit (library_state g.S.Shelf) s _ c.args.u c.in-Opened.file c.highest.new.self call (λ one. most_to_seek (room_of_held one) 0)
     c.highest.result c.highest.ensures.reads.asked c.highest.ensures.reads.broken c.highest.ensures.reads.cause
-    (λ honest truly. highest_undamaged _ _ _ _ _ (call g c) truly c.highest.result
+    (λ honest truly. highest_undamaged _ _ _ _ _ call truly c.highest.result
     c.highest.ensures.reads.broken (c.highest.ensures.found honest))

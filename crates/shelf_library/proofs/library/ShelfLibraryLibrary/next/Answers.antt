@@ -1,40 +1,22 @@
-use Rattle.std.proofs.Common.{◌<◌, length, subst, ap, ◌∙◌, rules, arith}
-use Rattle.std.proofs.lemmas.Grind.{common_steps}
 use Rattle.indexed_file.specs.Rank.{admits}
-use Rattle.indexed_file.specs.Room.{most_to_read}
-use Rattle.record_layout.specs.Schema.{Schema}
-use Rattle.shelf_library.specs.Units.{room_of_held}
-use Rattle.shelf_library.proofs.StateLemmas.{library_state, is_within}
-use Rattle.shelf_library.proofs.OpenedLemmas.{must_be_open, schema_is, may_call, reads_at}
+use Rattle.shelf_library.proofs.StateLemmas.{library_state, is_item}
+use Rattle.shelf_library.proofs.OpenedLemmas.{must_be_open, reads_at, may_read}
 use Rattle.shelf_library.proofs.ReadingLemmas.{reads_units}
-use Rattle.shelf_library.proofs.ReadsLemmas.{reads_unit}
-use Rattle.shelf_library.proofs.FoundLemmas.{delivers_found, delivers_area, delivers_undamaged}
 use Rattle.shelf_library.proofs.LimitLemmas.{limits_read}
-use Rattle.shelf_file.specs.Standing.{schema_behind}
+use Rattle.shelf_library.proofs.FoundLemmas.{finds_row}
 use Rattle.shelf_library.proofs.library.ShelfLibraryLibrary.next.Goals as goal
 
 pub index_mut-requires : goal.index_mut-requires
-index_mut-requires g c =
-    let s = c.args.self.now in
-    let within = is_within g.S.Shelf s c.args.u c.requires.attached in
-    omega (arith, within, s.units.ok.0)
+index_mut-requires g c = is_item g.S.Shelf c.args.self.now c.args.u c.requires.attached
 
 pub next-requires : goal.next-requires
 next-requires g c =
-    let s = c.args.self.now in
-    let same = schema_is g.S.Shelf s c.args.u c.requires.attached c.index_mut.result.now c.index_mut.ensures.value
-    c.in-Opened.file c.in-Opened.is in
-    record {
-      ready = may_call g.S.Shelf s c.args.u c.requires.attached c.index_mut.result.now c.index_mut.ensures.value
-          c.in-Opened.file c.in-Opened.is;
-      key = subst (λ (schema : Schema). c.args.k < length schema.keys) same c.requires.key;
-      area = c.requires.length ∙ ap (λ (schema : Schema). schema.greatest) same;
-    }
+    may_read g.S.Shelf c.args.self.now c.args.u c.requires.attached c.index_mut.result.now c.index_mut.ensures.value
+    c.in-Opened.file c.in-Opened.is c.args.k c.args.area.now c.requires.key c.requires.length
 
 pub unreachable-requires : goal.unreachable-requires
 unreachable-requires g c =
-    let s = c.args.self.now in
-    must_be_open g.S.Shelf s c.args.u c.requires.attached c.index_mut.result.now c.index_mut.ensures.value
+    must_be_open g.S.Shelf c.args.self.now c.args.u c.requires.attached c.index_mut.result.now c.index_mut.ensures.value
     c.requires.opened c.in_default.not-Opened
 
 pub invariant_of-self : goal.invariant_of-self
@@ -44,14 +26,7 @@ invariant_of-self g c =
     reads_at g.S.Shelf s c.args.u c.requires.attached c.index_mut.result.now c.index_mut.ensures.value c.in-Opened.file c.in-Opened.is
     c.next.new.self c.next.new.shelf c.next.ensures.reads.step g.met.S.Shelf.reads_an_image in
     let after = reads_units _ _ _ _ _ call in
-    record {
-      room = s.room;
-      many = after.many;
-      distinct = after.distinct;
-      looked = after.looked;
-      ready = after.ready;
-      limits = limits_read _ _ _ _ _ call _ _ s.limits;
-    }
+    record { room = s.room; many = after.many; fit = after; limits = limits_read _ _ _ _ _ call _ _ s.limits }
 
 pub returns : goal.returns
 returns g c =
@@ -59,20 +34,6 @@ returns g c =
     let call =
     reads_at g.S.Shelf s c.args.u c.requires.attached c.index_mut.result.now c.index_mut.ensures.value c.in-Opened.file c.in-Opened.is
     c.next.new.self c.next.new.shelf c.next.ensures.reads.step g.met.S.Shelf.reads_an_image in
-    record {
-      found = λ honest truly.
-          delivers_found _ _ _ _ _ call truly c.args.k (λ schema. admits schema c.args.k c.args.position.now)
-          c.args.area.now c.next.new.area c.next.result c.next.ensures.reads.broken (c.next.ensures.finds.found honest);
-      area = λ honest truly.
-          delivers_area _ _ _ _ _ call truly c.args.k (λ schema. admits schema c.args.k c.args.position.now)
-          c.args.area.now c.next.new.area c.next.result c.next.ensures.reads.broken (c.next.ensures.finds.found honest);
-      none = first_of (search rules, grind (arith, common_steps));
-      err = first_of (search rules, grind (arith, common_steps));
-      reads =
-          reads_unit (library_state g.S.Shelf) s _ c.args.u c.in-Opened.file c.next.new.self call
-          (λ one. most_to_read (room_of_held one) c.args.k) c.next.result
-          c.next.ensures.reads.asked c.next.ensures.reads.broken c.next.ensures.reads.cause
-          (λ honest truly. delivers_undamaged _ _ _ _ _ call truly c.args.k
-          (admits (schema_behind c.in-Opened.file) c.args.k c.args.position.now)
-          c.args.area.now c.next.new.area c.next.result c.next.ensures.reads.broken (c.next.ensures.finds.found honest));
-    }
+    finds_row (library_state g.S.Shelf) s _ c.args.u c.in-Opened.file c.next.new.self call
+    c.args.k (λ schema. admits schema c.args.k c.args.position.now)
+    c.args.area.now c.next.new.area c.next.result c.next.ensures.finds c.next.ensures.reads

@@ -1,19 +1,14 @@
-use Rattle.std.proofs.Common.{◌≡◌, sym, ◌∙◌, arith, slice_set}
-use Rattle.shelf_library.specs.declared.held.Held.TheVariants.{Opened}
-use Rattle.shelf_library.specs.State.{LibraryState, held_at}
-use Rattle.shelf_library.specs.Closing.{ClosesUnitAt}
-use Rattle.shelf_library.proofs.StateLemmas.{library_state, state_left, is_within, closes_at}
-use Rattle.shelf_library.proofs.OpenedLemmas.{is_one, must_be_open}
+use Rattle.std.proofs.Common.{◌∙◌, slice_set}
+use Rattle.shelf_library.proofs.Terms.{ClosesUnitAt}
+use Rattle.shelf_library.proofs.StateLemmas.{library_state, state_left, closes_at, is_item}
+use Rattle.shelf_library.proofs.OpenedLemmas.{taken, must_be_open}
 use Rattle.shelf_library.proofs.ShutLemmas.{units_after, shut_ok, shut_err, shut_broken, shut_unchanged, shuts_unit}
 use Rattle.shelf_library.proofs.LimitLemmas.{limits_shut}
 use Rattle.shelf_library.proofs.library.ShelfLibraryLibrary.shut.Given as given
 use Rattle.shelf_library.proofs.library.ShelfLibraryLibrary.shut.Goals as goal
 
 pub index_mut-requires : goal.index_mut-requires
-index_mut-requires g c =
-    let s = c.args.self.now in
-    let within = is_within g.S.Shelf s c.args.u c.requires.attached in
-    omega (arith, within, s.units.ok.0)
+index_mut-requires g c = is_item g.S.Shelf c.args.self.now c.args.u c.requires.attached
 
 pub unreachable-requires : goal.unreachable-requires
 unreachable-requires g c =
@@ -23,58 +18,41 @@ unreachable-requires g c =
 pub close-requires : goal.close-requires
 close-requires g c =
     let s = c.args.self.now in
-    let at : held_at s.units.items c.args.u ≡ Opened c.in-Opened.file =
-    is_one g.S.Shelf s c.args.u c.requires.attached c.index_mut.result.now c.index_mut.ensures.value
-    ∙ sym c.replace.ensures.value ∙ c.in-Opened.is in
-    record { ready = (s.ready c.args.u c.in-Opened.file at).ready }
+    let at = taken g.S.Shelf s c.args.u c.requires.attached c.index_mut.result.now c.index_mut.ensures.value
+    c.replace.result c.replace.ensures.value c.in-Opened.is in
+    record { ready = (s.fit.ready c.args.u c.in-Opened.file at).ready }
 
 pub invariant_of-self : goal.invariant_of-self
 invariant_of-self g c =
     let s = c.args.self.now in
-    let at : held_at s.units.items c.args.u ≡ Opened c.in-Opened.file =
-    is_one g.S.Shelf s c.args.u c.requires.attached c.index_mut.result.now c.index_mut.ensures.value
-    ∙ sym c.replace.ensures.value ∙ c.in-Opened.is in
+    let at = taken g.S.Shelf s c.args.u c.requires.attached c.index_mut.result.now c.index_mut.ensures.value
+    c.replace.result c.replace.ensures.value c.in-Opened.is in
     let call = closes_at g.S.Shelf s c.args.u c.requires.attached c.in-Opened.file at c.close.result c.close.new.shelf
     c.replace.new.dest c.replace.ensures.after c.close.ensures g.met.S.Shelf.reads_an_image in
     let after = units_after _ _ _ _ _ call in
-    record {
-      room = s.room;
-      many = after.many;
-      distinct = after.distinct;
-      looked = after.looked;
-      ready = after.ready;
-      limits = limits_shut _ _ _ _ _ call _ _ s.limits;
-    }
+    record { room = s.room; many = after.many; fit = after; limits = limits_shut _ _ _ _ _ call _ _ s.limits }
 
 -- the call, as the other goals have it
 module _ (g : given.Over) (c : goal.Joined-file g) where
-  abbrev before : LibraryState
-  before = library_state g.S.Shelf c.args.self.now
-
-  abbrev after : LibraryState
-  after = state_left g.S.Shelf c.args.self.now c.close.new.shelf (slice_set c.args.self.now.units.items c.args.u c.replace.new.dest)
-
-  call : ClosesUnitAt c.args.u c.in-Opened.file c.close.result before after
+  call : ClosesUnitAt c.args.u c.in-Opened.file c.close.result (library_state g.S.Shelf c.args.self.now)
+      (state_left g.S.Shelf c.args.self.now c.close.new.shelf (slice_set c.args.self.now.units.items c.args.u c.replace.new.dest))
   call =
-      let s = c.args.self.now in
-      let at : held_at s.units.items c.args.u ≡ Opened c.in-Opened.file =
-      is_one g.S.Shelf s c.args.u c.requires.attached c.index_mut.result.now c.index_mut.ensures.value
-      ∙ sym c.replace.ensures.value ∙ c.in-Opened.is in
-      closes_at g.S.Shelf s c.args.u c.requires.attached c.in-Opened.file at c.close.result c.close.new.shelf
-      c.replace.new.dest c.replace.ensures.after c.close.ensures g.met.S.Shelf.reads_an_image
+      closes_at g.S.Shelf c.args.self.now c.args.u c.requires.attached c.in-Opened.file
+      (taken g.S.Shelf c.args.self.now c.args.u c.requires.attached c.index_mut.result.now c.index_mut.ensures.value
+      c.replace.result c.replace.ensures.value c.in-Opened.is)
+      c.close.result c.close.new.shelf c.replace.new.dest c.replace.ensures.after c.close.ensures g.met.S.Shelf.reads_an_image
 
 pub returns-clause-ok : goal.returns-clause-ok
-returns-clause-ok g c honest truly = shut_ok c.args.u c.in-Opened.file c.close.result (before g c) (after g c) (call g c) honest truly
+returns-clause-ok g c honest truly = shut_ok _ _ _ _ _ (call g c) honest truly
 
 pub returns-clause-err : goal.returns-clause-err
-returns-clause-err g c honest truly = shut_err c.args.u c.in-Opened.file c.close.result (before g c) (after g c) (call g c) honest truly
+returns-clause-err g c honest truly = shut_err _ _ _ _ _ (call g c) honest truly
 
 pub returns-clause-broken : goal.returns-clause-broken
-returns-clause-broken g c = shut_broken c.args.u c.in-Opened.file c.close.result (before g c) (after g c) (call g c)
+returns-clause-broken g c = shut_broken _ _ _ _ _ (call g c)
 
 pub returns-clause-unchanged : goal.returns-clause-unchanged
-returns-clause-unchanged g c honest truly =
-    shut_unchanged c.args.u c.in-Opened.file c.close.result (before g c) (after g c) (call g c) honest
+returns-clause-unchanged g c honest truly = shut_unchanged _ _ _ _ _ (call g c) honest
 
 pub returns-clause-shuts : goal.returns-clause-shuts
 returns-clause-shuts g c =
