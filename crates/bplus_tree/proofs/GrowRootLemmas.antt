@@ -11,7 +11,7 @@ use Rattle.node_balance.specs.declared.separator.Separator.{Separator}
 use Rattle.tree_search.specs.Tree.{TreeOf, page_of, entries_of, pages_of, size_of, IsRooted}
 use Rattle.tree_search.specs.Stored.{Holds, IsInnerAt}
 use Rattle.tree_search.specs.Calls.{IsWhole}
-use Rattle.bplus_tree.specs.Subtree.{head, from_root}
+use Rattle.bplus_tree.specs.Subtree.{at_page, from_root}
 use Rattle.bplus_tree.specs.Remove.{Becomes}
 use Rattle.bplus_tree.specs.Grow.{HasRoot, AddsRoot}
 use Rattle.bplus_tree.specs.Insert.{BecomesTwo}
@@ -25,7 +25,7 @@ rooted_still (suc h) t new rooted large = omega arith
 
 -- the root was not split
 grown_same : {shape : Shape} {before mid : PageMap} {h root : ℕ} {entries : List (List ℕ)} (t : TreeOf h) → IsRooted h t
-    → Becomes (from_root (head shape h root) t) before mid (size_of h t) entries
+    → Becomes (from_root (at_page shape h root) t) before mid (size_of h t) entries
     → HasGrownRoot shape before mid (pages_of h t) entries (record { root = root; levels = h })
 grown_same {h} t rooted b =
     record {
@@ -36,7 +36,7 @@ grown_same {h} t rooted b =
     }
 
 module _ {shape : Shape} {before mid after : PageMap} {h root : ℕ} {entries : List (List ℕ)} {separator : Separator} {new : ℕ}
-    (t : TreeOf h) (two : BecomesTwo (from_root (head shape h root) t) before mid entries separator)
+    (t : TreeOf h) (two : BecomesTwo (from_root (at_page shape h root) t) before mid entries separator)
     (put : HasRoot shape mid after root separator new) where
   fresh : (n : ℕ) → IsSome (mid n) → n ≢ new
   fresh n here e = let no : IsSome (mid new) = subst (λ m. IsSome (mid m)) e here in let free = put.free in cc (no, free)
@@ -101,12 +101,12 @@ module _ {shape : Shape} {before mid after : PageMap} {h root : ℕ} {entries : 
 
 module _ {shape : Shape} {h root : ℕ} where
   pub grows_none : {mid : PageMap} {is_sound : Type 0} → is_sound
-      → GrowsRoot (head shape h root) None (Ok (record { root = root; levels = h })) mid mid is_sound
+      → GrowsRoot (at_page shape h root) None (Ok (record { root = root; levels = h })) mid mid is_sound
   grows_none sound before t entries rooted grown = record { answer = (grown_same t rooted grown, sound); no_damage = tt }
 
   pub grows_above : {mid after : PageMap} {is_sound : Type 0} {separator : Separator} {new : ℕ}
       → AddsRoot shape root separator (Ok new) mid after is_sound
-      → GrowsRoot (head shape h root) (Some separator) (Ok (record { root = new; levels = h + 1 })) mid after is_sound
+      → GrowsRoot (at_page shape h root) (Some separator) (Ok (record { root = new; levels = h + 1 })) mid after is_sound
   grows_above adds before t entries rooted grown =
       let a = adds.answer in
       record { answer = (rw (add-one h) (grown_above t grown a.0), a.1); no_damage = tt }

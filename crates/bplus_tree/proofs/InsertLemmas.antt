@@ -27,7 +27,7 @@ use Rattle.tree_search.specs.Stored.{Holds, IsInnerAt}
 use Rattle.bplus_tree.specs.Edits.{with_entry}
 use Rattle.pages.specs.Answer.{IsAnswer}
 use Rattle.tree_search.specs.Calls.{entry_of}
-use Rattle.bplus_tree.specs.Subtree.{head, StandsIn, StandsWhole, IsWithin}
+use Rattle.bplus_tree.specs.Subtree.{at_page, IsSubtree, IsWholeSubtree, IsInBounds}
 use Rattle.tree_search.specs.Descent.{Steps, IsLook}
 use Rattle.bplus_tree.specs.Remove.{Becomes, IsHalfFullWithRoot}
 use Rattle.bplus_tree.specs.Grow.{HasAddedToLeaf, AddsToLeaf, HasAddedToInner, AddsToInner}
@@ -45,7 +45,7 @@ use Rattle.bplus_tree.proofs.GrowLemmas.{answer_map}
 -- ---- a leaf
 
 module _ {shape : Shape} {page : ℕ} {before : PageMap} (after : PageMap) (e : List ℕ) (leaf : Leaf shape page)
-    (stands : StandsIn before leaf) (within : IsWithin leaf (take shape.width e))
+    (stands : IsSubtree before leaf) (within : IsInBounds leaf (take shape.width e))
     (none : entry_of shape.width (take shape.width e) leaf.tree.1 ≡ None) where
   abbrev now : List (List ℕ)
   now = with_entry shape.width e leaf.tree.1
@@ -96,7 +96,7 @@ module _ {shape : Shape} {page : ℕ} {before : PageMap} (after : PageMap) (e : 
       )
 
 pub leaf_grows : {shape : Shape} {page : ℕ} {before after : PageMap} {is_sound : Type 0} {result : Result (Option Separator) Fault}
-    (e : List ℕ) (leaf : Leaf shape page) (look : Look) → StandsIn before leaf → IsWithin leaf (take shape.width e)
+    (e : List ℕ) (leaf : Leaf shape page) (look : Look) → IsSubtree before leaf → IsInBounds leaf (take shape.width e)
     → IsLook shape.width (take shape.width e) leaf.tree.1 look → look.found ≡ None
     → AddsToLeaf shape page look.place e result before after is_sound
     → IsAnswer result (λ up. HasInsertedBelow leaf before after e (Added up) × is_sound)
@@ -117,12 +117,12 @@ put_page shape before after page e old new false there writes leaf same put =
     written_same before after page old there (record { page = writes.page ∙ ap Some (same refl); others = writes.others })
 
 pub put_leaf : {shape : Shape} {page : ℕ} {before : PageMap} {is_sound : Type 0} {out : Result Bool Fault} (after : PageMap) (e : List ℕ)
-    → PutsInPlace shape page e out before after is_sound → PutsBelow (head shape zero page) e out before after is_sound
+    → PutsInPlace shape page e out before after is_sound → PutsBelow (at_page shape zero page) e out before after is_sound
 put_leaf {shape} {page} {before} after e puts leaf whole within =
     let stands = whole.stands in
     answer_map (puts leaf.tree.1 (rw stands.root at stands.holds) stands.ordered.0) (λ done put. (placed stands done put.0, put.1))
   where
-    placed : StandsIn before leaf → (done : Bool) → HasPutInPlaceIf shape before after page e leaf.tree.1 done
+    placed : IsSubtree before leaf → (done : Bool) → HasPutInPlaceIf shape before after page e leaf.tree.1 done
         → HasPutIf leaf before after e done
     placed stands true put = leaf_grown after e leaf stands within put.0 None put.1
     placed stands false put = put
@@ -242,7 +242,7 @@ record ChildSplit {shape : Shape} {k page : ℕ} (node : Inner shape k page) (be
   pub leads : insert (map (page_of k) node.tree.2) (i + 1) separator.child ≡ map (page_of k) xs
 
 module _ {shape : Shape} {k page : ℕ} {before after : PageMap} {step : StepDown} (e : List ℕ) (node : Inner shape k page)
-    (whole : StandsWhole before node) (child : Child before node (take shape.width e) step) where
+    (whole : IsWholeSubtree before node) (child : Child before node (take shape.width e) step) where
   child_split : (separator : Separator)
       → BecomesTwo (below_it child) before after (with_entry shape.width e (entries_of k child.row.here)) separator
       → ChildSplit node before after e step.place separator
@@ -297,32 +297,33 @@ module _ {shape : Shape} {k page : ℕ} {before after : PageMap} {step : StepDow
       ∙ ap (λ (l : List (TreeOf k)). with_entry shape.width e (flat_map (entries_of k) l)) (sym row.is))
 
 within_it : {shape : Shape} {k page : ℕ} {before : PageMap} {node : Inner shape k page} {key : List ℕ} {step : StepDown}
-    (child : Child before node key step) → IsWithin node key → IsWithin (below_it child) key
+    (child : Child before node key step) → IsInBounds node key → IsInBounds (below_it child) key
 within_it child within = (child.row.under within.0, child.row.over within.1)
 
 -- ---- the exits of an insert below a page
 
 pub inserts_at : {shape : Shape} {n m page : ℕ} {before : PageMap} {is_sound : Type 0} {out : Result Grown Fault} (after : PageMap)
-    (e : List ℕ) → n ≡ m → Inserts (head shape m page) e out before after is_sound → Inserts (head shape n page) e out before after is_sound
+    (e : List ℕ) → n ≡ m → Inserts (at_page shape m page) e out before after is_sound
+    → Inserts (at_page shape n page) e out before after is_sound
 inserts_at {shape} {page} {before} {is_sound} {out} after e same =
-    subst (λ (levels : ℕ). Inserts (head shape levels page) e out before after is_sound) (sym same)
+    subst (λ (levels : ℕ). Inserts (at_page shape levels page) e out before after is_sound) (sym same)
 
 pub puts_at : {shape : Shape} {n m page : ℕ} {before : PageMap} {is_sound : Type 0} {out : Result Bool Fault} (after : PageMap) (e : List ℕ)
-    → n ≡ m → PutsBelow (head shape m page) e out before after is_sound → PutsBelow (head shape n page) e out before after is_sound
+    → n ≡ m → PutsBelow (at_page shape m page) e out before after is_sound → PutsBelow (at_page shape n page) e out before after is_sound
 puts_at {shape} {page} {before} {is_sound} {out} after e same =
-    subst (λ (levels : ℕ). PutsBelow (head shape levels page) e out before after is_sound) (sym same)
+    subst (λ (levels : ℕ). PutsBelow (at_page shape levels page) e out before after is_sound) (sym same)
 
 module _ {shape : Shape} {k page : ℕ} {before : PageMap} {step : StepDown} {is_sound : Type 0} (e : List ℕ)
     (steps : Steps shape before page (take shape.width e) (Ok step)) (after : PageMap) where
   -- the child's fault is no damage
-  pub child_fails : {fault : Fault} → Inserts (head shape k step.child) e (Err fault) before after is_sound → (node : Inner shape k page)
-      → StandsWhole before node → IsWithin node (take shape.width e) → fault ≢ Damage
+  pub child_fails : {fault : Fault} → Inserts (at_page shape k step.child) e (Err fault) before after is_sound → (node : Inner shape k page)
+      → IsWholeSubtree before node → IsInBounds node (take shape.width e) → fault ≢ Damage
   child_fails inserts node whole within =
       let child = child_at node whole steps in
       (inserts (below_it child) child.whole (within_it child within)).no_damage
 
-  pub put_inner : {out : Result Bool Fault} → PutsBelow (head shape k step.child) e out before after is_sound
-      → PutsBelow (head shape (suc k) page) e out before after is_sound
+  pub put_inner : {out : Result Bool Fault} → PutsBelow (at_page shape k step.child) e out before after is_sound
+      → PutsBelow (at_page shape (suc k) page) e out before after is_sound
   put_inner puts node whole within =
       let child = child_at node whole steps in
       answer_map (puts (below_it child) child.whole (within_it child within))
@@ -333,15 +334,15 @@ module _ {shape : Shape} {k page : ℕ} {before : PageMap} {step : StepDown} {is
       grown child true put = (child.entry ∙ put.0, child_same e node whole child put.1)
       grown child false put = put
 
-  pub child_has : (found : ArrayVec ℕ) → Inserts (head shape k step.child) e (Ok (Present found)) before after is_sound
-      → Inserts (head shape (suc k) page) e (Ok (Present found)) before after is_sound
+  pub child_has : (found : ArrayVec ℕ) → Inserts (at_page shape k step.child) e (Ok (Present found)) before after is_sound
+      → Inserts (at_page shape (suc k) page) e (Ok (Present found)) before after is_sound
   child_has found inserts node whole within =
       let child = child_at node whole steps in
       let a = (inserts (below_it child) child.whole (within_it child within)).answer in
       record { answer = ((child.entry ∙ a.0.0, a.0.1), a.1); no_damage = tt }
 
-  pub child_grown : Inserts (head shape k step.child) e (Ok (Added None)) before after is_sound
-      → Inserts (head shape (suc k) page) e (Ok (Added None)) before after is_sound
+  pub child_grown : Inserts (at_page shape k step.child) e (Ok (Added None)) before after is_sound
+      → Inserts (at_page shape (suc k) page) e (Ok (Added None)) before after is_sound
   child_grown inserts node whole within =
       let child = child_at node whole steps in
       let a = (inserts (below_it child) child.whole (within_it child within)).answer in
@@ -349,9 +350,9 @@ module _ {shape : Shape} {k page : ℕ} {before : PageMap} {step : StepDown} {is
 
   -- the child was split, and its parent has a separator more
   pub split_grown : {was_sound : Type 0} {result : Result (Option Separator) Fault} (late : PageMap) (separator : Separator)
-      → Inserts (head shape k step.child) e (Ok (Added (Some separator))) before after was_sound
+      → Inserts (at_page shape k step.child) e (Ok (Added (Some separator))) before after was_sound
       → (was_sound → AddsToInner shape page step.place separator result after late is_sound) → (node : Inner shape k page)
-      → StandsWhole before node → IsWithin node (take shape.width e)
+      → IsWholeSubtree before node → IsInBounds node (take shape.width e)
       → IsAnswer result (λ up. HasInsertedBelow node before late e (Added up) × is_sound)
   split_grown late separator inserts adds node whole within =
       let child = child_at node whole steps in

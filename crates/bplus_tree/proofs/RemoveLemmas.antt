@@ -30,7 +30,7 @@ use Rattle.bplus_tree.specs.Edits.{without_key}
 use Rattle.pages.specs.Answer.{IsAnswer}
 use Rattle.tree_search.specs.Calls.{entry_of, IsTree, IsWhole}
 use Rattle.tree_search.specs.Descent.{Steps, IsLook}
-use Rattle.bplus_tree.specs.Subtree.{head, Subtree, StandsIn, StandsWhole}
+use Rattle.bplus_tree.specs.Subtree.{at_page, Subtree, IsSubtree, IsWholeSubtree}
 use Rattle.bplus_tree.specs.Remove.{Becomes, HasRemovedBelow, Removes, HasTaken, HasTakenIf, TakesBelow, IsTakenIf, HasTakenInPlace}
 use Rattle.bplus_tree.specs.Remove.{HasTakenInPlaceIf}
 use Rattle.bplus_tree.specs.Remove.{TakesInPlace, AreFullBut, IsHalfFullWithRoot, LacksOne, Rebalances, OutOfLeaf}
@@ -123,7 +123,7 @@ module _ (width : ℕ) (key : List ℕ) where
 -- ---- a leaf
 
 abbrev pub Leaf : Shape → (page : ℕ) → Type 0
-Leaf shape page = Subtree (head shape zero page)
+Leaf shape page = Subtree (at_page shape zero page)
 
 -- the entry of a key was taken out of a leaf
 record Without {shape : Shape} {page : ℕ} (leaf : Leaf shape page) (before after : PageMap) (key : List ℕ) (i : ℕ) : Type 0 where
@@ -131,7 +131,7 @@ record Without {shape : Shape} {page : ℕ} (leaf : Leaf shape page) (before aft
   pub size : length becomes.tree.1 ≡ length (remove leaf.tree.1 i)
 
 leaf_without : {shape : Shape} {page : ℕ} {before after : PageMap} (leaf : Leaf shape page) (key : List ℕ) (i : ℕ) (e : List ℕ)
-    → StandsIn before leaf → IsRank shape.width key leaf.tree.1 i → entry_of shape.width key leaf.tree.1 ≡ Some e
+    → IsSubtree before leaf → IsRank shape.width key leaf.tree.1 i → entry_of shape.width key leaf.tree.1 ≡ Some e
     → IsLeafAt shape after page (remove leaf.tree.1 i) → ((n : ℕ) → n ≢ page → after n ≡ before n) → Without leaf before after key i
 leaf_without {shape} {page} {before} {after} leaf key i e stands rank was left frame =
     let here = there shape.width key leaf.tree.1 i e rank stands.ordered.0 was in
@@ -158,7 +158,7 @@ leaf_without {shape} {page} {before} {after} leaf key i e stands rank was left f
     }
 
 pub leaf_removes : {shape : Shape} {page : ℕ} {before after : PageMap} {is_sound : Type 0} {result : Result Bool Fault}
-    (leaf : Leaf shape page) (key : List ℕ) (look : Look) (entry : ArrayVec ℕ) → StandsIn before leaf
+    (leaf : Leaf shape page) (key : List ℕ) (look : Look) (entry : ArrayVec ℕ) → IsSubtree before leaf
     → IsLook shape.width key leaf.tree.1 look → look.found ≡ Some entry → OutOfLeaf shape page look.place result before after is_sound
     → IsAnswer result (λ short. HasRemovedBelow leaf before after key (Taken entry short) × is_sound)
 leaf_removes {shape} leaf key look entry stands is found out =
@@ -177,7 +177,7 @@ take_page shape before after page key old new entry true there writes leaf same 
 take_page shape before after page key old new entry false there writes leaf same taken =
     written_same before after page old there (record { page = writes.page ∙ ap Some (same refl); others = writes.others })
 
-leaf_taken : {shape : Shape} {page : ℕ} {before after : PageMap} (leaf : Leaf shape page) (key entry : List ℕ) → StandsIn before leaf
+leaf_taken : {shape : Shape} {page : ℕ} {before after : PageMap} (leaf : Leaf shape page) (key entry : List ℕ) → IsSubtree before leaf
     → HasTakenInPlace shape before after page key leaf.tree.1 entry → HasTaken leaf before after key entry
 leaf_taken {shape} leaf key entry stands put =
     let taken = put.taken in
@@ -187,12 +187,12 @@ leaf_taken {shape} leaf key entry stands put =
 
 pub take_leaf : {shape : Shape} {page : ℕ} {before : PageMap} {is_sound : Type 0} {out : Result Bool Fault} (after : PageMap) (key : List ℕ)
     (entry : ArrayVec ℕ) → TakesInPlace shape page key entry out before after is_sound
-    → TakesBelow (head shape zero page) key entry out before after is_sound
+    → TakesBelow (at_page shape zero page) key entry out before after is_sound
 take_leaf {shape} {page} {before} after key entry takes leaf whole =
     let stands = whole.stands in
     answer_map (takes leaf.tree.1 (rw stands.root at stands.holds) stands.ordered.0) (λ done put. (placed stands done put.0, put.1))
   where
-    placed : StandsIn before leaf → (done : Bool) → HasTakenInPlaceIf shape before after page key leaf.tree.1 entry done
+    placed : IsSubtree before leaf → (done : Bool) → HasTakenInPlaceIf shape before after page key leaf.tree.1 entry done
         → HasTakenIf leaf before after key entry.items done
     placed stands true put = leaf_taken leaf key entry.items stands put
     placed stands false put = put
@@ -212,7 +212,7 @@ changes_trans a b c old mid new first second = record {
 
 -- a node with so many levels below its children
 abbrev pub Inner : Shape → (k page : ℕ) → Type 0
-Inner shape k page = Subtree (head shape (suc k) page)
+Inner shape k page = Subtree (at_page shape (suc k) page)
 
 pub full_rooted : (shape : Shape) (k : ℕ) (t : TreeOf k) → least_entries shape k ≤ size_of k t → IsRooted k t
 full_rooted shape zero t h = tt
@@ -228,7 +228,7 @@ module _ {shape : Shape} {k page : ℕ} where
     pub behind : Each (Holds shape after k) back
 
   pub around : {before after : PageMap} (node : Inner shape k page) (front : List (TreeOf k)) (here : TreeOf k) (back : List (TreeOf k))
-      (new : List ℕ) → StandsIn before node → AreApart (pages_of (suc k) node.tree) → node.tree.2 ≡ front ++ here ∷ back
+      (new : List ℕ) → IsSubtree before node → AreApart (pages_of (suc k) node.tree) → node.tree.2 ≡ front ++ here ∷ back
       → ChangesPages before after (pages_of k here) new → Around node before after front back new
   around {before} {after} node front here back new stands apart is change =
       let ahead = page ∷ flat_map (pages_of k) front in
@@ -262,7 +262,7 @@ module _ {shape : Shape} {k page : ℕ} where
     pub changes : ChangesPages before after (pages_of (suc k) node.tree) (page ∷ flat_map (pages_of k) xs)
 
   replaced : {before after : PageMap} (node : Inner shape k page) (front : List (TreeOf k)) (here new : TreeOf k) (back : List (TreeOf k))
-      → StandsIn before node → AreApart (pages_of (suc k) node.tree) → node.tree.2 ≡ front ++ here ∷ back → Holds shape after k new
+      → IsSubtree before node → AreApart (pages_of (suc k) node.tree) → node.tree.2 ≡ front ++ here ∷ back → Holds shape after k new
       → page_of k new ≡ page_of k here → ChangesPages before after (pages_of k here) (pages_of k new)
       → IsRow (IsOrdered shape.width k) node.low node.tree.1 (front ++ new ∷ back) node.high
       → Replaced node before after (front ++ new ∷ back)
@@ -295,10 +295,10 @@ module _ {shape : Shape} {k page : ℕ} where
     pub entry : entry_of shape.width key (flat_map (entries_of k) node.tree.2) ≡ entry_of shape.width key (entries_of k row.here)
 
   abbrev pub below_it : {before : PageMap} {node : Inner shape k page} {key : List ℕ} {step : StepDown} → Child before node key step
-      → Subtree (head shape k step.child)
+      → Subtree (at_page shape k step.child)
   below_it child = record { low = child.row.from; high = child.row.to; tree = child.row.here }
 
-  pub child_at : {before : PageMap} {key : List ℕ} {step : StepDown} (node : Inner shape k page) → StandsWhole before node
+  pub child_at : {before : PageMap} {key : List ℕ} {step : StepDown} (node : Inner shape k page) → IsWholeSubtree before node
       → Steps shape before page key (Ok step) → Child before node key step
   child_at {before} {key} {step} node whole steps =
       let is = (step_of shape before k page node.low node.high key node.tree (Ok step) whole.stands steps).answer in
@@ -325,14 +325,14 @@ module _ {shape : Shape} {k page : ℕ} where
 
   -- a descent that fails
   pub descent_fails : {X : Type 0} {before : PageMap} {key : List ℕ} {fault : Fault} {out : Result X Fault} {P : X → Type 0}
-      (node : Inner shape k page) → StandsWhole before node → Steps shape before page key (Err fault) → IsErrAnd out (λ e. e ≡ fault)
+      (node : Inner shape k page) → IsWholeSubtree before node → Steps shape before page key (Err fault) → IsErrAnd out (λ e. e ≡ fault)
       → IsAnswer out P
   descent_fails {before} {key} {fault} {out} {P} node whole steps was =
       fails out fault P was (step_of shape before k page node.low node.high key node.tree (Err fault) whole.stands steps).no_damage
 
   -- the node with another tree in the place of that child
   module _ {before after : PageMap} {key : List ℕ} {step : StepDown} {least : ℕ} {es : List (List ℕ)} (node : Inner shape k page)
-      (whole : StandsWhole before node) (child : Child before node key step) (new : Becomes (below_it child) before after least es) where
+      (whole : IsWholeSubtree before node) (child : Child before node key step) (new : Becomes (below_it child) before after least es) where
     pub with_child : Replaced node before after (child.row.front ++ new.tree ∷ child.row.back)
     with_child = replaced node child.row.front child.row.here new.tree child.row.back whole.stands whole.apart child.row.is new.stands.holds
         (new.stands.root ∙ sym child.whole.stands.root) new.changes (child.row.put new.tree new.stands.ordered)
@@ -365,21 +365,22 @@ but_here F L (y ∷ front) x back zero is a l b = absurd (omega arith)
 but_here F L (y ∷ front) x back (suc place) is a l b = (a.0, but_here F L front x back place (omega arith) a.1 l b)
 
 pub takes_at : {shape : Shape} {n m page : ℕ} {before : PageMap} {is_sound : Type 0} {out : Result Bool Fault} (after : PageMap)
-    (key : List ℕ) (entry : ArrayVec ℕ) → n ≡ m → TakesBelow (head shape m page) key entry out before after is_sound
-    → TakesBelow (head shape n page) key entry out before after is_sound
+    (key : List ℕ) (entry : ArrayVec ℕ) → n ≡ m → TakesBelow (at_page shape m page) key entry out before after is_sound
+    → TakesBelow (at_page shape n page) key entry out before after is_sound
 takes_at {shape} {page} {before} {is_sound} {out} after key entry same =
-    subst (λ (levels : ℕ). TakesBelow (head shape levels page) key entry out before after is_sound) (sym same)
+    subst (λ (levels : ℕ). TakesBelow (at_page shape levels page) key entry out before after is_sound) (sym same)
 
 pub removes_at : {shape : Shape} {n m page : ℕ} {before : PageMap} {is_sound : Type 0} {out : Result Shrunk Fault} (after : PageMap)
-    (key : List ℕ) → n ≡ m → Removes (head shape m page) key out before after is_sound
-    → Removes (head shape n page) key out before after is_sound
+    (key : List ℕ) → n ≡ m → Removes (at_page shape m page) key out before after is_sound
+    → Removes (at_page shape n page) key out before after is_sound
 removes_at {shape} {page} {before} {is_sound} {out} after key same =
-    subst (λ (levels : ℕ). Removes (head shape levels page) key out before after is_sound) (sym same)
+    subst (λ (levels : ℕ). Removes (at_page shape levels page) key out before after is_sound) (sym same)
 
 module _ {shape : Shape} {k page : ℕ} {before : PageMap} {key : List ℕ} {step : StepDown} {is_sound : Type 0}
     (steps : Steps shape before page key (Ok step)) (after : PageMap) where
-  pub take_inner : {out : Result Bool Fault} (entry : ArrayVec ℕ) → TakesBelow (head shape k step.child) key entry out before after is_sound
-      → TakesBelow (head shape (suc k) page) key entry out before after is_sound
+  pub take_inner : {out : Result Bool Fault} (entry : ArrayVec ℕ)
+      → TakesBelow (at_page shape k step.child) key entry out before after is_sound
+      → TakesBelow (at_page shape (suc k) page) key entry out before after is_sound
   take_inner entry takes node whole =
       answer_map (takes (below_it (child_at node whole steps)) (child_at node whole steps).whole)
       (λ done put. (taken (child_at node whole steps) done put.0, put.1))
@@ -395,8 +396,8 @@ module _ {shape : Shape} {k page : ℕ} {before : PageMap} {key : List ℕ} {ste
       }
       taken child false put = put
 
-  pub child_absent : Removes (head shape k step.child) key (Ok Absent) before after is_sound
-      → Removes (head shape (suc k) page) key (Ok Absent) before after is_sound
+  pub child_absent : Removes (at_page shape k step.child) key (Ok Absent) before after is_sound
+      → Removes (at_page shape (suc k) page) key (Ok Absent) before after is_sound
   child_absent removes node whole =
       let child = child_at node whole steps in
       let a = (removes (below_it child) child.whole).answer in
@@ -404,8 +405,8 @@ module _ {shape : Shape} {k page : ℕ} {before : PageMap} {key : List ℕ} {ste
 
   -- the child has enough still
   pub child_taken : (entry : ArrayVec ℕ) (short few : Bool) → short ≡ false → IsTrue few ↔ (step.count < least_entries shape 1)
-      → Removes (head shape k step.child) key (Ok (Taken entry short)) before after is_sound
-      → Removes (head shape (suc k) page) key (Ok (Taken entry few)) before after is_sound
+      → Removes (at_page shape k step.child) key (Ok (Taken entry short)) before after is_sound
+      → Removes (at_page shape (suc k) page) key (Ok (Taken entry few)) before after is_sound
   child_taken entry short few enough few_is removes node whole =
       let child = child_at node whole steps in
       let a = (removes (below_it child) child.whole).answer in
@@ -431,9 +432,9 @@ module _ {shape : Shape} {k page : ℕ} {before : PageMap} {key : List ℕ} {ste
 
   -- the child lacked one, and the node was rebalanced
   pub child_rebalanced : {was_sound : Type 0} {rebalanced : Result Bool Fault} (late : PageMap) (entry : ArrayVec ℕ) (short : Bool)
-      → short ≡ true → Removes (head shape k step.child) key (Ok (Taken entry short)) before after was_sound
+      → short ≡ true → Removes (at_page shape k step.child) key (Ok (Taken entry short)) before after was_sound
       → (was_sound → Rebalances shape k page step.place rebalanced after late is_sound) → (node : Inner shape k page)
-      → StandsWhole before node → IsAnswer rebalanced (λ few. HasRemovedBelow node before late key (Taken entry few) × is_sound)
+      → IsWholeSubtree before node → IsAnswer rebalanced (λ few. HasRemovedBelow node before late key (Taken entry few) × is_sound)
   child_rebalanced late entry short lacks removes rebalances node whole =
       let child = child_at node whole steps in
       let row = child.row in

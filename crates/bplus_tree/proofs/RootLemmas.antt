@@ -9,15 +9,15 @@ use Rattle.node_balance.specs.declared.separator.Separator.{Separator}
 use Rattle.bplus_tree.specs.declared.insert.Grown.TheVariants.{Present, Added}
 use Rattle.tree_search.specs.Tree.{TreeOf, entries_of, pages_of}
 use Rattle.bplus_tree.specs.Edits.{with_entry}
-use Rattle.bplus_tree.specs.Subtree.{head, Subtree, from_root}
+use Rattle.bplus_tree.specs.Subtree.{at_page, Subtree, from_root}
 use Rattle.bplus_tree.specs.Insert.{HasInsertedBelow}
 use Rattle.bplus_tree.specs.GrowRoot.{GrowsRoot}
 use Rattle.bplus_tree.specs.Standing.{TreeStands, HasInserted}
 use Rattle.bplus_tree.proofs.WithEntryLemmas.{one_more}
 
 -- the tree, from its root
-abbrev pub at_root : (tree : Tree) → TreeOf tree.levels → Subtree (head tree.shape tree.levels tree.root)
-at_root tree value = from_root (head tree.shape tree.levels tree.root) value
+abbrev pub at_root : (tree : Tree) → TreeOf tree.levels → Subtree (at_page tree.shape tree.levels tree.root)
+at_root tree value = from_root (at_page tree.shape tree.levels tree.root) value
 
 module _ {old : Tree} {before : PageMap} {entries : List (List ℕ)} {own : List ℕ} (e : List ℕ)
     (stands : TreeStands old before entries own) where
@@ -27,7 +27,7 @@ module _ {old : Tree} {before : PageMap} {entries : List (List ℕ)} {own : List
 
   pub inserted_one : {late : PageMap} {is_sound : Type 0} {base : Base} {count changes : ℕ} {low : base.levels < 20} (mid : PageMap)
       (up : Option Separator) → count ≡ old.count + 1 → HasInsertedBelow (at_root old stands.value) before mid e (Added up)
-      → GrowsRoot (head old.shape old.levels old.root) up (Ok base) mid late is_sound
+      → GrowsRoot (at_page old.shape old.levels old.root) up (Ok base) mid late is_sound
       → HasInserted before late old
       (record { shape = old.shape; root = base.root; levels = base.levels; count = count; changes = changes; low = low }) e entries own
       None × is_sound

@@ -7,6 +7,10 @@ use Rattle.bplus_tree.specs.declared.cursor.Cursor.{Cursor}
 abbrev pub tree_shape : Tree → Shape
 tree_shape tree = tree.shape
 
+-- of its keys, in bytes
+abbrev pub key_width : Tree → ℕ
+key_width tree = tree.shape.width
+
 abbrev pub tree_root : Tree → ℕ
 tree_root tree = tree.root
 

@@ -11,7 +11,7 @@ use Rattle.bplus_tree.specs.declared.insert.Grown.TheVariants.{Present, Added}
 use Rattle.tree_search.specs.Tree.{TreeOf, entries_of, pages_of, size_of, Above, Below}
 use Rattle.pages.specs.Answer.{IsAnswer}
 use Rattle.tree_search.specs.Calls.{entry_of, IsTree}
-use Rattle.bplus_tree.specs.Subtree.{Head, Subtree, StandsWhole, IsWithin}
+use Rattle.bplus_tree.specs.Subtree.{Head, Subtree, IsWholeSubtree, IsInBounds}
 use Rattle.bplus_tree.specs.Edits.{with_entry}
 use Rattle.bplus_tree.specs.Split.{HasWidth}
 use Rattle.tree_search.specs.Stored.{IsLeafAt}
@@ -54,7 +54,7 @@ HasInsertedBelow {at} old before after e (Added up) =
 -- of a tree within bounds between which the key belongs
 abbrev pub Inserts : Head → List ℕ → Result Grown Fault → PageMap → PageMap → Type 0 → Type 0
 Inserts at e result before after is_sound =
-    (old : Subtree at) → StandsWhole before old → IsWithin old (take at.shape.width e)
+    (old : Subtree at) → IsWholeSubtree before old → IsInBounds old (take at.shape.width e)
     → IsAnswer result (λ grown. HasInsertedBelow old before after e grown × is_sound)
 
 -- where a separator goes up, it has a whole key
@@ -69,7 +69,7 @@ HasPutIf old before after e false = after ≡ before
 
 abbrev pub PutsBelow : Head → List ℕ → Result Bool Fault → PageMap → PageMap → Type 0 → Type 0
 PutsBelow at e result before after is_sound =
-    (old : Subtree at) → StandsWhole before old → IsWithin old (take at.shape.width e)
+    (old : Subtree at) → IsWholeSubtree before old → IsInBounds old (take at.shape.width e)
     → IsAnswer result (λ done. HasPutIf old before after e done × is_sound)
 
 -- the same of the entries of a leaf

@@ -15,7 +15,7 @@ use Rattle.tree_search.specs.Tree.{TreeOf, entries_of, pages_of, size_of, IsHalf
 use Rattle.tree_search.specs.Stored.{IsLeafAt}
 use Rattle.pages.specs.Answer.{IsAnswer}
 use Rattle.tree_search.specs.Calls.{entry_of, IsTree}
-use Rattle.bplus_tree.specs.Subtree.{Head, head, Subtree, StandsIn, StandsWhole}
+use Rattle.bplus_tree.specs.Subtree.{Head, at_page, Subtree, IsSubtree, IsWholeSubtree}
 use Rattle.pages.specs.Owners.{AreApart, ChangesPages}
 use Rattle.bplus_tree.specs.Edits.{without_key}
 
@@ -46,7 +46,7 @@ HasRemovedBelow {at} old before after key (Taken entry short) =
 
 abbrev pub Removes : Head → List ℕ → Result Shrunk Fault → PageMap → PageMap → Type 0 → Type 0
 Removes at key result before after is_sound =
-    (old : Subtree at) → StandsWhole before old
+    (old : Subtree at) → IsWholeSubtree before old
     → IsAnswer result (λ shrunk. HasRemovedBelow old before after key shrunk × is_sound)
 
 -- all are at least half full, but for the one at this place, which lacks one entry or separator
@@ -64,15 +64,15 @@ LacksOne shape h t = (least_entries shape h ≡ size_of h t + 1) × IsHalfFull s
 
 -- a node one of whose children lacks one
 pub record LacksBelow {shape : Shape} {k page : ℕ} (pages : PageMap) (place : ℕ)
-    (node : Subtree (head shape (suc k) page)) : Type 0 where
-  pub stands : StandsIn pages node
+    (node : Subtree (at_page shape (suc k) page)) : Type 0 where
+  pub stands : IsSubtree pages node
   pub apart : AreApart (pages_of (suc k) node.tree)
   pub full : AreFullBut (IsHalfFullWithRoot shape k) (LacksOne shape k) place node.tree.2
   pub some : 1 ≤ length node.tree.1
 
 abbrev pub Rebalances : Shape → (k page place : ℕ) → Result Bool Fault → PageMap → PageMap → Type 0 → Type 0
 Rebalances shape k page place result before after is_sound =
-    (node : Subtree (head shape (suc k) page)) → LacksBelow before place node
+    (node : Subtree (at_page shape (suc k) page)) → LacksBelow before place node
     → IsAnswer result (λ short. BecomesShort node before after (entries_of (suc k) node.tree) short
     × is_sound)
 
@@ -109,7 +109,7 @@ HasTakenIf old before after key entry false = after ≡ before
 
 abbrev pub TakesBelow : Head → List ℕ → ArrayVec ℕ → Result Bool Fault → PageMap → PageMap → Type 0 → Type 0
 TakesBelow at key entry result before after is_sound =
-    (old : Subtree at) → StandsWhole before old
+    (old : Subtree at) → IsWholeSubtree before old
     → IsAnswer result (λ done. HasTakenIf old before after key entry.items done × is_sound)
 
 -- the same of the entries of a leaf

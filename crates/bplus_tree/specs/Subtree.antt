@@ -12,8 +12,8 @@ pub record Head : Type 0 where
   pub page : ℕ
 
 -- this page with so many levels below it
-abbrev pub head : Shape → (levels page : ℕ) → Head
-head shape levels page = record { shape = shape; levels = levels; page = page }
+abbrev pub at_page : Shape → (levels page : ℕ) → Head
+at_page shape levels page = record { shape = shape; levels = levels; page = page }
 
 -- the tree that it heads, and the bounds of its keys
 pub record Subtree (at : Head) : Type 0 where
@@ -26,13 +26,13 @@ abbrev pub from_root : (at : Head) → TreeOf at.levels → Subtree at
 from_root at tree = record { low = None; high = None; tree = tree }
 
 -- it stands in these pages
-abbrev pub StandsIn : {at : Head} → PageMap → Subtree at → Type 0
-StandsIn {at} pages old = IsTree at.shape pages at.levels at.page old.low old.high old.tree
+abbrev pub IsSubtree : {at : Head} → PageMap → Subtree at → Type 0
+IsSubtree {at} pages old = IsTree at.shape pages at.levels at.page old.low old.high old.tree
 
 -- and no page stands twice in it, and its nodes are filled
-abbrev pub StandsWhole : {at : Head} → PageMap → Subtree at → Type 0
-StandsWhole {at} pages old = IsWhole at.shape pages at.levels at.page old.low old.high old.tree
+abbrev pub IsWholeSubtree : {at : Head} → PageMap → Subtree at → Type 0
+IsWholeSubtree {at} pages old = IsWhole at.shape pages at.levels at.page old.low old.high old.tree
 
 -- a key belongs between its bounds
-abbrev pub IsWithin : {at : Head} → Subtree at → List ℕ → Type 0
-IsWithin old key = NotBelow old.low key × Below old.high key
+abbrev pub IsInBounds : {at : Head} → Subtree at → List ℕ → Type 0
+IsInBounds old key = NotBelow old.low key × Below old.high key

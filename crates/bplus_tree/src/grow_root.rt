@@ -3,7 +3,7 @@
 ghost use Rattle.std.specs.Prelude.{◌≡◌, ◌+◌, ◌<◌, ◌≤◌, IsTrue, IfOk};
 ghost use Rattle.bplus_tree.specs.Changes.{CanWrite, Alters, TakesOne};
 ghost use Rattle.bplus_tree.specs.Split.{HasWidth};
-ghost use Rattle.bplus_tree.specs.Subtree.{head};
+ghost use Rattle.bplus_tree.specs.Subtree.{at_page};
 ghost use Rattle.bplus_tree.specs.GrowRoot.{GrowsRoot};
 
 use crate::collapse::Base;
@@ -26,7 +26,7 @@ pub fn grow_root<P: Pages>(
     requires low { levels < 19 }
     requires width { HasWidth shape.width up }
     requires pages { CanWrite P.shown pages.old }
-    ensures alters { Alters P.shown TakesOne 2 (GrowsRoot (head shape levels root) up) pages.old
+    ensures alters { Alters P.shown TakesOne 2 (GrowsRoot (at_page shape levels root) up) pages.old
         pages.new result }
     ensures height { IfOk result (λ base. base.levels ≤ levels + 1) }
 {

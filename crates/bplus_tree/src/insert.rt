@@ -7,7 +7,7 @@ ghost use Rattle.bplus_tree.specs.Changes.{TakesOne, TakesUpTo};
 ghost use Rattle.bplus_tree.specs.Insert.{Inserts, HasWholeKey, PutsBelow, PutsInPlace, CanPut, CanPutAt};
 ghost use Rattle.bplus_tree.specs.Insert.{PutsInLeaf};
 ghost use Rattle.bplus_tree.specs.Edits.{IsLeafOf};
-ghost use Rattle.bplus_tree.specs.Subtree.{head};
+ghost use Rattle.bplus_tree.specs.Subtree.{at_page};
 
 use crate::grow::{add_to_inner, add_to_leaf};
 use io_state::Fault;
@@ -35,7 +35,7 @@ pub fn insert_below<P: Pages>(
     entry: &[u8],
 ) -> Result<Grown, Fault>
     requires { CanInsert P.shown shape entry.now pages.old }
-    ensures inserted { WhereSound P.shown pages.old pages.new (Inserts (head shape levels page)
+    ensures inserted { WhereSound P.shown pages.old pages.new (Inserts (at_page shape levels page)
         entry.now result) }
     ensures width { IfOk result (HasWholeKey shape) }
     ensures writes { TakesUpTo P.shown (levels + 1) (6 * (levels + 1)) pages.old pages.new result }
@@ -64,7 +64,7 @@ pub fn put_below<P: Pages>(
     entry: &[u8],
 ) -> Result<bool, Fault>
     requires { CanInsert P.shown shape entry.now pages.old }
-    ensures { EditsDown P.shown levels (PutsBelow (head shape levels page) entry.now) pages.old
+    ensures { EditsDown P.shown levels (PutsBelow (at_page shape levels page) entry.now) pages.old
         pages.new result }
 {
     if levels == 0 {
@@ -121,7 +121,7 @@ fn insert_in_leaf<P: Pages>(
     entry: &[u8],
 ) -> Result<Grown, Fault>
     requires { CanInsert P.shown shape entry.now pages.old }
-    ensures inserted { WhereSound P.shown pages.old pages.new (Inserts (head shape 0 page)
+    ensures inserted { WhereSound P.shown pages.old pages.new (Inserts (at_page shape 0 page)
         entry.now result) }
     ensures width { IfOk result (HasWholeKey shape) }
     ensures writes { TakesOne P.shown 6 pages.old pages.new result }

@@ -7,7 +7,7 @@ ghost use Rattle.bplus_tree.specs.Changes.{CanWrite, WhereSound, Alters, EditsPa
 ghost use Rattle.bplus_tree.specs.Remove.{Removes, HasPlace, OutOfLeaf, TakesBelow, TakesInPlace};
 ghost use Rattle.bplus_tree.specs.Remove.{TakesFromLeaf};
 ghost use Rattle.bplus_tree.specs.Edits.{IsLeafOf};
-ghost use Rattle.bplus_tree.specs.Subtree.{head};
+ghost use Rattle.bplus_tree.specs.Subtree.{at_page};
 
 use crate::rebalance::rebalance;
 use io_state::Fault;
@@ -34,7 +34,7 @@ pub fn remove_below<P: Pages>(
     key: &[u8],
 ) -> Result<Shrunk, Fault>
     requires { CanWrite P.shown pages.old }
-    ensures removed { WhereSound P.shown pages.old pages.new (Removes (head shape levels page)
+    ensures removed { WhereSound P.shown pages.old pages.new (Removes (at_page shape levels page)
         key.now result) }
     ensures writes { GivesPages P.shown (7 * (levels + 1)) pages.old pages.new result }
 {
@@ -67,7 +67,7 @@ pub fn take_below<P: Pages>(
     to: &mut Entry,
 ) -> Result<bool, Fault>
     requires { CanWrite P.shown pages.old }
-    ensures { EditsDown P.shown levels (TakesBelow (head shape levels page) key.now to.new) pages.old
+    ensures { EditsDown P.shown levels (TakesBelow (at_page shape levels page) key.now to.new) pages.old
         pages.new result }
 {
     if levels == 0 {
@@ -119,7 +119,7 @@ fn remove_from_leaf<P: Pages>(
     key: &[u8],
 ) -> Result<Shrunk, Fault>
     requires { CanWrite P.shown pages.old }
-    ensures removed { WhereSound P.shown pages.old pages.new (Removes (head shape 0 page)
+    ensures removed { WhereSound P.shown pages.old pages.new (Removes (at_page shape 0 page)
         key.now result) }
     ensures writes { GivesPages P.shown 2 pages.old pages.new result }
 {

@@ -41,7 +41,7 @@ impl Tree {
     ghost use Rattle.bplus_tree.specs.TreeCalls.{InsertsInPages, RemovesInPages};
     ghost use Rattle.bplus_tree.specs.Within.{FindsWithin};
     ghost use Rattle.bplus_tree.specs.Depth.{IsPastAll, FindsDamage};
-    ghost use Rattle.bplus_tree.specs.Fields.{tree_shape, tree_root, tree_levels, tree_count};
+    ghost use Rattle.bplus_tree.specs.Fields.{tree_shape, key_width, tree_root, tree_levels, tree_count};
     ghost use Rattle.bplus_tree.specs.Standing.{Answers, Tells, MakesTree, Inserts, Removes, one_more};
     ghost use Rattle.tree_search.specs.Tail.{CanFillTail, IsTail, TellsPresence};
     ghost use Rattle.tree_search.specs.Calls.{entry_of, first_from, first_after, last_of};
@@ -123,7 +123,7 @@ impl Tree {
     /// The entry of a key. A key may have any length; one that is too short or too long is not found.
     pub fn find<P: Pages>(&self, pages: &mut P, key: &[u8]) -> Result<Option<Entry>, Fault>
         requires ready { P.shown.IsReady pages.old }
-        ensures { LooksDown P.shown self.now (Answers (entry_of (tree_shape self.now).width key.now))
+        ensures { LooksDown P.shown self.now (Answers (entry_of (key_width self.now) key.now))
             pages.old pages.new result }
     {
         find_below(pages, self.shape, self.root, self.levels, key)
@@ -138,7 +138,7 @@ impl Tree {
         tail: &mut [u8],
     ) -> Result<bool, Fault>
         requires { CanFillTail P.shown (tree_shape self.now) tail.old pages.old }
-        ensures { LooksDown P.shown self.now (Tells (IsTail (tree_shape self.now).width tail.new)
+        ensures { LooksDown P.shown self.now (Tells (IsTail (key_width self.now) tail.new)
             key.now) pages.old pages.new result }
     {
         find_tail(pages, self.shape, self.root, self.levels, key, tail)
@@ -155,7 +155,7 @@ impl Tree {
     /// The first entry whose key is not below this one, which may have any length.
     pub fn at_or_after<P: Pages>(&self, pages: &mut P, key: &[u8]) -> Result<Option<Entry>, Fault>
         requires ready { P.shown.IsReady pages.old }
-        ensures { LooksAlong P.shown self.now (Answers (first_from (tree_shape self.now).width key.now))
+        ensures { LooksAlong P.shown self.now (Answers (first_from (key_width self.now) key.now))
             pages.old pages.new result }
     {
         let mut spot = Spot::nowhere();
@@ -173,7 +173,7 @@ impl Tree {
     /// The first entry whose key is above this one, which may have any length.
     pub fn after<P: Pages>(&self, pages: &mut P, key: &[u8]) -> Result<Option<Entry>, Fault>
         requires ready { P.shown.IsReady pages.old }
-        ensures { LooksAlong P.shown self.now (Answers (first_after (tree_shape self.now).width key.now))
+        ensures { LooksAlong P.shown self.now (Answers (first_after (key_width self.now) key.now))
             pages.old pages.new result }
     {
         let mut spot = Spot::nowhere();
