@@ -36,10 +36,17 @@ fn is_mark(byte: u8) -> bool {
     matches!(byte, b'"' | b'\'')
 }
 
+fn has_plain_bytes(text: &[u8]) -> bool {
+    for byte in text {
+        if !byte.is_ascii_alphanumeric() && !matches!(*byte, b'-' | b'(' | b')') {
+            return false;
+        }
+    }
+    true
+}
+
 fn is_plain(text: &[u8]) -> bool {
-    text.len() <= WORD_LIMIT
-        && text.iter().all(|byte| byte.is_ascii_alphanumeric()
-            || matches!(*byte, b'-' | b'(' | b')'))
+    text.len() <= WORD_LIMIT && has_plain_bytes(text)
 }
 
 fn kind_of(text: &[u8]) -> Kind {

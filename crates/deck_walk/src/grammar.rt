@@ -627,10 +627,29 @@ const HOMES: [Home; 28] = [
 ];
 
 fn is_in(phrase: &Phrase, word: &Word<'_>) -> bool {
-    phrase.parts.iter().any(|part| part.want().names(word))
+    for part in phrase.parts {
+        if part.want().names(word) {
+            return true;
+        }
+    }
+    false
+}
+
+fn is_in_one_of(phrases: &[Phrase], word: &Word<'_>) -> bool {
+    for phrase in phrases {
+        if is_in(phrase, word) {
+            return true;
+        }
+    }
+    false
 }
 
 /// Whether the grammar names a word.
 pub fn is_reserved(word: &Word<'_>) -> bool {
-    HOMES.iter().any(|home| phrases(*home).iter().any(|phrase| is_in(phrase, word)))
+    for home in &HOMES {
+        if is_in_one_of(phrases(*home), word) {
+            return true;
+        }
+    }
+    false
 }

@@ -59,7 +59,12 @@ impl Walker {
 
     /// Whether one of the parts that are left has to come before the phrase ends.
     pub fn is_amid_phrase(&self) -> bool {
-        self.parts.iter().any(|part| part.has_to_be())
+        for part in self.parts {
+            if part.has_to_be() {
+                return true;
+            }
+        }
+        false
     }
 
     /// What may come next: the parts up to the first that has to be there, or else those with which

@@ -24,6 +24,28 @@ pub struct Word<'a> {
     pub text: &'a [u8],
 }
 
+/// Whether bytes are letters, a letter at least, digits and hyphens.
+fn has_name_bytes(text: &[u8]) -> bool {
+    let mut has_letter = false;
+    for byte in text {
+        if byte.is_ascii_alphabetic() {
+            has_letter = true;
+        } else if !byte.is_ascii_digit() && *byte != b'-' {
+            return false;
+        }
+    }
+    has_letter
+}
+
+fn has_digits_alone(text: &[u8]) -> bool {
+    for byte in text {
+        if !byte.is_ascii_digit() {
+            return false;
+        }
+    }
+    true
+}
+
 impl<'a> Word<'a> {
     /// Whether it is this word of the language, in capitals or small letters.
     pub fn says(&self, word: &str) -> bool {
@@ -31,7 +53,12 @@ impl<'a> Word<'a> {
     }
 
     pub fn says_one_of(&self, words: &[&str]) -> bool {
-        words.iter().any(|word| self.says(word))
+        for word in words {
+            if self.says(word) {
+                return true;
+            }
+        }
+        false
     }
 
     /// Whether the two are one name.
@@ -40,19 +67,15 @@ impl<'a> Word<'a> {
     }
 
     pub fn is_number(&self) -> bool {
-        self.kind == Kind::Plain && self.text.iter().all(|byte| byte.is_ascii_digit())
+        self.kind == Kind::Plain && has_digits_alone(self.text)
     }
 
     /// Whether it is a name or a reserved word.
     pub fn is_name_like(&self) -> bool {
         self.kind == Kind::Plain
-            && self.text.iter().any(|byte| byte.is_ascii_alphabetic())
-            && self
-                .text
-                .iter()
-                .all(|byte| byte.is_ascii_alphanumeric() || *byte == b'-')
-            && self.text.first() != Some(&b'-')
-            && self.text.last() != Some(&b'-')
+            && has_name_bytes(self.text)
+            && !self.text.starts_with(b"-")
+            && !self.text.ends_with(b"-")
     }
 
     pub fn is_reserved(&self) -> bool {
