@@ -2,7 +2,6 @@
 
 use crate::finding::Finding;
 use deck_walk::{Kind, Word};
-use std::fmt::Write;
 
 /// The most bytes of a word.
 const WORD_LIMIT: usize = 30;
@@ -18,13 +17,52 @@ fn is_word_byte(byte: u8) -> bool {
 }
 
 fn has(text: &[u8], byte: u8) -> bool {
-    text.iter().any(|it| *it == byte)
+    text.contains(&byte)
+}
+
+/// Whether each byte of a text is one of these.
+fn has_none_but(text: &[u8], bytes: &[u8]) -> bool {
+    for byte in text {
+        if !bytes.contains(byte) {
+            return false;
+        }
+    }
+    true
+}
+
+fn has_word_bytes(text: &[u8]) -> bool {
+    for byte in text {
+        if !is_word_byte(*byte) {
+            return false;
+        }
+    }
+    true
+}
+
+fn has_control(text: &[u8]) -> bool {
+    for byte in text {
+        if byte.is_ascii_control() {
+            return true;
+        }
+    }
+    false
+}
+
+/// Whether a mark stands an even number of times in a literal: the one that opens it closes it, too.
+fn is_even(text: &[u8], mark: u8) -> bool {
+    let mut is_even = true;
+    for byte in text {
+        if *byte == mark {
+            is_even = !is_even;
+        }
+    }
+    is_even
 }
 
 /// Whether the mark that opens a literal closes it, too.
 fn is_closed(text: &[u8]) -> bool {
     match text.first() {
-        Some(mark) => text.iter().filter(|byte| **byte == *mark).count() % 2 == 0,
+        Some(mark) => is_even(text, *mark),
         None => false,
     }
 }
@@ -45,7 +83,7 @@ fn literal_reason(text: &[u8]) -> &'static str {
 
 /// Why a run is no word, where a point or a comma is in it.
 fn pointed_reason(text: &[u8]) -> &'static str {
-    if text.iter().all(|byte| byte.is_ascii_digit() || matches!(*byte, b'.' | b',' | b'+' | b'-')) {
+    if has_none_but(text, b"0123456789.,+-") {
         return "there are no decimal points; a number is digits alone";
     }
     "a space has to come behind a period, a comma or a semicolon"
@@ -59,16 +97,21 @@ fn byte_reason(text: &[u8]) -> Option<&'static str> {
     if has(text, b'_') {
         return Some("an underscore is in no word; write a hyphen");
     }
-    if text.iter().any(|byte| !byte.is_ascii()) {
+    if !text.is_ascii() {
         return Some("a letter with an accent, or another byte that is not ASCII, is in no word");
     }
-    if text.iter().any(|byte| *byte < 32 || *byte == 127) {
+    if has_control(text) {
         return Some("a character that cannot be printed is in no word");
     }
-    if text.first() == Some(&b'/') {
+    if text.starts_with(b"/") {
         return Some("comments are not read, nor / in column 7; leave the line out");
     }
-    if text.iter().all(|byte| matches!(*byte, b'<' | b'>' | b'=')) {
+    None
+}
+
+/// Why a run is no word, for the sake of a relation in it.
+fn relation_reason(text: &[u8]) -> Option<&'static str> {
+    if has_none_but(text, b"<>=") {
         return Some("no relation; there are =, >, >=, NOT <, and those that are written out");
     }
     if has(text, b'=') || has(text, b'>') || has(text, b'<') {
@@ -82,22 +125,30 @@ fn run_reason(text: &[u8]) -> &'static str {
     if text.starts_with(&ORDER_MARK) {
         return "a byte order mark stands before this word; save the deck without it";
     }
-    if text.last() == Some(&b'.') {
+    if text.ends_with(b".") {
         return "a period too many";
     }
     if let Some(reason) = byte_reason(text) {
         return reason;
     }
+    if let Some(reason) = relation_reason(text) {
+        return reason;
+    }
     if has(text, b'.') || has(text, b',') || has(text, b';') {
         return pointed_reason(text);
     }
-    if text.len() > WORD_LIMIT && text.iter().all(|byte| is_word_byte(*byte)) {
-        return "a word of more than 30 characters";
+    spelling_reason(text)
+}
+
+/// Why a run is no word, by its length or by the other bytes in it.
+fn spelling_reason(text: &[u8]) -> &'static str {
+    if !has_word_bytes(text) {
+        "a word has letters, digits, hyphens and parentheses alone"
+    } else if text.len() > WORD_LIMIT {
+        "a word of more than 30 characters"
+    } else {
+        "a space has to come before a literal"
     }
-    if text.iter().all(|byte| is_word_byte(*byte)) {
-        return "a space has to come before a literal";
-    }
-    "a word has letters, digits, hyphens and parentheses alone"
 }
 
 fn is_mark(byte: Option<&u8>) -> bool {
@@ -117,10 +168,10 @@ fn reason(text: &[u8]) -> &'static str {
 
 /// What is found at the first word of a line that is none.
 pub fn faulty_word<'a>(words: &[Word<'a>], line: u64) -> Option<Finding<'a>> {
-    let word = words
-        .iter()
-        .find(|word| word.kind == Kind::Faulty && word.line == line)?;
-    let mut finding = Finding::of_word(word);
-    let _ = finding.why.write_str(reason(word.text));
-    Some(finding)
+    for word in words {
+        if word.kind == Kind::Faulty && word.line == line {
+            return Some(Finding::saying(word, reason(word.text)));
+        }
+    }
+    None
 }

@@ -218,14 +218,20 @@ const MISPLACED: [(Home, &str, &str); 12] = [
 
 /// What to do without a word that decks do not have.
 pub fn without(word: &Word<'_>) -> Option<&'static str> {
-    let row = LACKING.iter().find(|row| word.says_one_of(row.0))?;
-    Some(row.1)
+    for &(words, text) in &LACKING {
+        if word.says_one_of(words) {
+            return Some(text);
+        }
+    }
+    None
 }
 
 /// What to do without a word that decks do not have in a home.
 pub fn without_here(home: Home, word: &Word<'_>) -> Option<&'static str> {
-    let row = MISPLACED
-        .iter()
-        .find(|row| row.0 == home && word.says(row.1))?;
-    Some(row.2)
+    for &(place, misplaced, text) in &MISPLACED {
+        if place == home && word.says(misplaced) {
+            return Some(text);
+        }
+    }
+    None
 }

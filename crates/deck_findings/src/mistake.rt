@@ -13,7 +13,7 @@ const SEQUENCE_DIGITS: usize = 6;
 /// Whether a word begins a line.
 fn begins_line(bytes: &[u8], word: &Word<'_>) -> bool {
     match bytes.get(..word.start) {
-        Some(before) => before.last().is_none_or(|byte| *byte == b'\n'),
+        Some(before) => before.is_empty() || before.ends_with(b"\n"),
         None => false,
     }
 }
@@ -132,6 +132,27 @@ fn of_spelling<'a>(
     perhaps_misspelt(alloc, at, word)
 }
 
+/// What is found at a word that is not read, there or anywhere.
+fn of_lacking<'a>(bytes: &[u8], home: Home, word: &Word<'a>) -> Option<Finding<'a>> {
+    if let Some(reason) = of_columns(bytes, word) {
+        return Some(Finding::saying(word, reason));
+    }
+    if let Some(text) = without_here(home, word) {
+        return Some(Finding::saying(word, "not read here").with_text(text));
+    }
+    not_read(word)
+}
+
+/// What is found at a word that is read, but not where a walk stands.
+fn of_place<'a>(alloc: Global, at: &Walker, word: &Word<'a>) -> Result<Finding<'a>, AllocError> {
+    let expected = expected(alloc, at)?;
+    let finding = match of_spelling(alloc, at, word)? {
+        Some(finding) => finding,
+        None => Finding::saying(word, unexpected(at, word)),
+    };
+    Ok(finding.with_hint(expected))
+}
+
 /// What is found at a word that does not fit where a walk stands.
 fn of_word<'a>(
     alloc: Global,
@@ -139,25 +160,19 @@ fn of_word<'a>(
     at: &Walker,
     word: &Word<'a>,
 ) -> Result<Finding<'a>, AllocError> {
-    if let Some(reason) = of_columns(bytes, word) {
-        return Ok(Finding::saying(word, reason));
+    match of_lacking(bytes, at.home(), word) {
+        Some(finding) => Ok(finding),
+        None => of_place(alloc, at, word),
     }
-    if let Some(text) = without_here(at.home(), word) {
-        return Ok(Finding::saying(word, "not read here").with_text(text));
-    }
-    if let Some(finding) = not_read(word) {
-        return Ok(finding);
-    }
-    let expected = expected(alloc, at)?;
-    if let Some(finding) = of_spelling(alloc, at, word)? {
-        return Ok(finding.with_hint(expected));
-    }
+}
+
+/// Why a word does not fit where a walk stands.
+fn unexpected(at: &Walker, word: &Word<'_>) -> &'static str {
     if lacks_period(at, word) {
-        return Ok(Finding::saying(word, "a period is missing before this word").with_hint(
-            expected,
-        ));
+        "a period is missing before this word"
+    } else {
+        of_home(at.home(), word)
     }
-    Ok(Finding::saying(word, of_home(at.home(), word)).with_hint(expected))
 }
 
 /// Why a word does not fit in a home.
@@ -169,17 +184,26 @@ fn of_home(home: Home, word: &Word<'_>) -> &'static str {
     }
 }
 
+fn last_level<'a>(steps: &[Step<'a>]) -> Option<Word<'a>> {
+    for step in steps.iter().rev() {
+        if step.role == Role::Level {
+            return Some(step.word);
+        }
+    }
+    None
+}
+
 /// What is found at an entry of level 88 with a value.
 fn of_condition<'a>(word: &Word<'a>, steps: &[Step<'a>]) -> Option<Finding<'a>> {
     if !word.says_one_of(&["VALUE", "VALUES"]) {
         return None;
     }
-    let level = steps.iter().rev().find(|step| step.role == Role::Level)?;
-    if !level.word.says("88") {
+    let level = last_level(steps)?;
+    if !level.says("88") {
         return None;
     }
     Some(Finding::saying(
-        &level.word,
+        &level,
         "there are no condition names, of level 88; leave the entry out",
     ))
 }

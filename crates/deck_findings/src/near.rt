@@ -2,19 +2,26 @@
 
 /// How many bytes at the front are the same.
 fn same_front(a: &[u8], b: &[u8]) -> usize {
-    a.iter()
-        .zip(b.iter())
-        .take_while(|(a, b)| a.eq_ignore_ascii_case(b))
-        .count()
+    let mut same = 0usize;
+    for (a, b) in a.iter().zip(b.iter()) {
+        if !a.eq_ignore_ascii_case(b) {
+            return same;
+        }
+        same = same.saturating_add(1);
+    }
+    same
 }
 
 /// How many bytes at the end are the same.
 fn same_end(a: &[u8], b: &[u8]) -> usize {
-    a.iter()
-        .rev()
-        .zip(b.iter().rev())
-        .take_while(|(a, b)| a.eq_ignore_ascii_case(b))
-        .count()
+    let mut same = 0usize;
+    for (a, b) in a.iter().rev().zip(b.iter().rev()) {
+        if !a.eq_ignore_ascii_case(b) {
+            return same;
+        }
+        same = same.saturating_add(1);
+    }
+    same
 }
 
 /// Whether two different words may be one word, misspelt.

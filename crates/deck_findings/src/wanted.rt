@@ -1,6 +1,7 @@
 //! What was expected at a place, in words.
 
 use crate::finding::{Hint, add_to_list};
+use crate::near::is_near;
 use deck_walk::{Part, Role, Walker, Want};
 use std::alloc::{AllocError, Global};
 use std::fmt::Write;
@@ -60,14 +61,21 @@ pub fn expected(alloc: Global, at: &Walker) -> Result<Hint, AllocError> {
     Ok(list)
 }
 
+/// The first of these words of the language of which a text may be a misspelling.
+fn near_one_of(words: &[&'static str], text: &[u8]) -> Option<&'static str> {
+    for word in words {
+        if is_near(text, word.as_bytes()) {
+            return Some(*word);
+        }
+    }
+    None
+}
+
 /// The word of the language that was expected, and of which this one may be a misspelling.
 fn near_text(part: &Part, text: &[u8]) -> Option<&'static str> {
     match part.want() {
-        Want::Word(word) if crate::near::is_near(text, word.as_bytes()) => Some(word),
-        Want::Any(words) => words
-            .iter()
-            .find(|word| crate::near::is_near(text, word.as_bytes()))
-            .copied(),
+        Want::Word(word) => near_one_of(&[word], text),
+        Want::Any(words) => near_one_of(words, text),
         _ => None,
     }
 }
@@ -88,18 +96,22 @@ pub fn misspelt(
 
 /// Whether nothing but a name has to come where a walk stands.
 pub fn wants_name(alloc: Global, at: &Walker) -> Result<bool, AllocError> {
-    let wanted = at.wanted(alloc)?;
-    Ok(wanted.iter().all(|part| !part.has_to_be() || matches!(part.want(), Want::Name)))
+    for part in &at.wanted(alloc)? {
+        if part.has_to_be() && !matches!(part.want(), Want::Name) {
+            return Ok(false);
+        }
+    }
+    Ok(true)
 }
 
 /// Whether the name of an item may come where a walk stands.
 pub fn wants_item_name(alloc: Global, at: &Walker) -> Result<bool, AllocError> {
-    let wanted = at.wanted(alloc)?;
-    Ok(
-        wanted
-            .iter()
-            .any(|part| matches!(part.want(), Want::ItemName)),
-    )
+    for part in &at.wanted(alloc)? {
+        if matches!(part.want(), Want::ItemName) {
+            return Ok(true);
+        }
+    }
+    Ok(false)
 }
 
 /// Whether a source of a MOVE was expected where a walk stands.
