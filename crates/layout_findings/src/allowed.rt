@@ -1,7 +1,7 @@
 //! What is not allowed where it stands.
 
 use crate::keys::field_of;
-use crate::layout::{is_numeric, layout_of_file};
+use crate::layout::{has_none_but, is_numeric, layout_of_file};
 use deck_findings::{Finding, Hint, Shown};
 use deck_names::{Operand, Outline, keys_of};
 use deck_walk::{Kind, Role, Word};
@@ -20,6 +20,19 @@ fn inner(text: &[u8]) -> &[u8] {
     }
 }
 
+fn has_separator(name: &[u8]) -> bool {
+    name.contains(&b'/') || name.contains(&b'\\')
+}
+
+fn has_file_name_bytes(name: &[u8]) -> bool {
+    for byte in name {
+        if !byte.is_ascii_alphanumeric() && !matches!(*byte, b'.' | b'-' | b'_') {
+            return false;
+        }
+    }
+    true
+}
+
 /// Whether the first byte is a letter or a digit.
 fn begins_with_letter(name: &[u8]) -> bool {
     match name.first() {
@@ -30,15 +43,13 @@ fn begins_with_letter(name: &[u8]) -> bool {
 
 /// Why a literal is no name of a file, if it is none.
 fn file_name_reason(name: &[u8]) -> Option<&'static str> {
-    if name.iter().any(|byte| matches!(*byte, b'/' | b'\\')) {
+    if has_separator(name) {
         return Some("a path; the name of a file alone stands here, and --folder names the folder");
     }
     if name.len() > NAME_LIMIT {
         return Some("the name of a file has at most 64 characters");
     }
-    if !name.iter().all(|byte| byte.is_ascii_alphanumeric()
-        || matches!(*byte, b'.' | b'-' | b'_'))
-    {
+    if !has_file_name_bytes(name) {
         return Some(
             "the name of a file has letters, digits, points, hyphens and underscores alone",
         );
@@ -192,8 +203,7 @@ fn picture_of<'a>(outline: &Outline<'a>, name: &Word<'_>) -> Option<Word<'a>> {
 fn is_of_digits(source: &Word<'_>) -> bool {
     source.says_one_of(&["ZERO", "ZEROS", "ZEROES"])
         || source.is_number()
-        || (source.kind == Kind::Literal
-            && inner(source.text).iter().all(|byte| byte.is_ascii_digit()))
+        || (source.kind == Kind::Literal && has_none_but(inner(source.text), b"0123456789"))
 }
 
 /// A line of what an item of digits takes.

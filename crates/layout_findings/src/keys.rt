@@ -26,8 +26,12 @@ pub fn field_of(layout: &Layout, word: &Word<'_>) -> Option<Field> {
 
 /// An earlier key that begins where this one begins.
 fn beginning_there<'a>(keys: &[(Word<'a>, Field)], field: &Field) -> Option<Word<'a>> {
-    let found = keys.iter().find(|key| key.1.offset == field.offset)?;
-    Some(found.0)
+    for (word, key) in keys {
+        if key.offset == field.offset {
+            return Some(*word);
+        }
+    }
+    None
 }
 
 fn of_same_place<'a>(word: &Word<'a>, other: &Word<'a>) -> Finding<'a> {

@@ -140,7 +140,7 @@ pub fn layout_of_file(
 
 /// Whether a picture has this letter or digit, the letter in capitals or small.
 fn has(text: &[u8], symbol: u8) -> bool {
-    text.iter().any(|byte| byte.to_ascii_uppercase() == symbol)
+    text.contains(&symbol) || text.contains(&symbol.to_ascii_lowercase())
 }
 
 /// Why a picture is none.
@@ -163,17 +163,22 @@ fn picture_reason(text: &[u8]) -> &'static str {
     "no picture; a picture is X(n) or 9(n)"
 }
 
+/// Whether each byte of a text is one of these.
+pub fn has_none_but(text: &[u8], bytes: &[u8]) -> bool {
+    for byte in text {
+        if !bytes.contains(byte) {
+            return false;
+        }
+    }
+    true
+}
+
 /// Whether a picture that is none has digits alone, and so too many.
 fn is_of_many_digits(text: &[u8]) -> bool {
     match text {
-        [b'9', b'(', first, .., b')'] => *first != b'0'
-            && text.iter().all(|byte| is_of_digits(*byte)),
-        _ => text.iter().all(|byte| *byte == b'9'),
+        [b'9', b'(', first, .., b')'] => *first != b'0' && has_none_but(text, b"0123456789()"),
+        _ => has_none_but(text, b"9"),
     }
-}
-
-fn is_of_digits(byte: u8) -> bool {
-    matches!(byte, b'0'..=b'9' | b'(' | b')')
 }
 
 fn bad_picture<'a>(word: &Word<'a>) -> Option<Finding<'a>> {
