@@ -15,7 +15,8 @@ macro_rules! answers {
   0   the run ended, whatever statuses its verbs answered
   2   the deck is refused: 'cobix: line L: fault C'
   3   the command line is not understood
-  4   the deck could not be read or DIR is no folder ('cobix: input'), the transcript could not be written ('cobix: output'), or memory ran out before the first verb ('cobix: memory')
+  4   the deck could not be read or DIR is no folder ('cobix: input'), the transcript could not be written \
+('cobix: output'), or memory ran out before the first verb ('cobix: memory')
 
 Statuses of verbs, in the transcript:",
         $("\n  ", $digits, "  ", $first, $(" ", $more,)*)*
@@ -48,27 +49,33 @@ pub const REASONS: &str = reasons!(verdicts);
 
 /// How frames are answered.
 pub const SERVING: &str =
-    "Each frame on standard input is a request, and each is answered by a frame on standard output (docs/FRAMES.md). At the end of the input each file that is still open is closed.
+    "Each frame on standard input is a request, and each is answered by a frame on standard output \
+(docs/FRAMES.md). At the end of the input each file that is still open is closed.
 
 Exit status:
   0   the input ended
   3   the command line is not understood
-  4   DIR is no folder or a request could not be read ('cobix: input'), an answer could not be written ('cobix: output'), or memory ran out before the first request ('cobix: memory')";
+  4   DIR is no folder or a request could not be read ('cobix: input'), an answer could not be written \
+('cobix: output'), or memory ran out before the first request ('cobix: memory')";
 
 /// What the schema of a file says.
 pub const SCHEMA: &str = "Lines on standard output:
-  record N, or record N to M                           the length of each record, or the least and the greatest
+  record N, or record N to M                           the length of each record, or the least and the \
+greatest
   key N offset N length N prime|unique|duplicates height N
-                                                       a line for each key, from 0 on: where it is in a record, its kind, and the levels of its tree
+                                                       a line for each key, from 0 on: where it is in a \
+record, its kind, and the levels of its tree
   records N                                            the records
   pages N                                              the pages of 4,096 bytes, the first one among them
   free pages N                                         the pages among them that hold nothing
   next stamp N                                         the stamp of the next duplicate
   bytes N                                              the bytes of the pages
-With '--deck' and '--file', which go together: a line for each difference of the lengths or the keys, and none where OPEN would find them the same.
+With '--deck' and '--file', which go together: a line for each difference of the lengths or the keys, and \
+none where OPEN would find them the same.
 
 Exit status:
-  0   the lines were written; only 'cobix check' tells whether the rest of the file agrees with them. With '--deck': there is no difference
+  0   the lines were written; only 'cobix check' tells whether the rest of the file agrees with them. With \
+'--deck': there is no difference
   1   'unsound N' on standard error, and why:
       1  short: fewer bytes than a page
       2  the gate is not closed: it was not closed after a change
@@ -76,7 +83,8 @@ Exit status:
       With '--deck' also: there are differences
   2   the deck is refused: 'cobix: line L: fault C'
   3   the command line is not understood, '--deck' or '--file' is alone, or the deck has no file NAME
-  4   the file or the deck could not be read ('cobix: input'), the lines could not be written ('cobix: output'), or memory ran out ('cobix: memory')";
+  4   the file or the deck could not be read ('cobix: input'), the lines could not be written \
+('cobix: output'), or memory ran out ('cobix: memory')";
 
 /// What is explained.
 pub const EXPLAINED: &str = "KIND and NUMBER are what a run or a check has written, for example:
@@ -91,80 +99,103 @@ Exit status:
 
 /// What is listed of a deck.
 pub const LISTED: &str =
-    "It lists the files with their items and keys, and the verbs and paragraphs with their lines of the deck. Verb N writes line N of the transcript. No file is touched.
+    "It lists the files with their items and keys, and the verbs and paragraphs with their lines of the \
+deck. Verb N writes line N of the transcript. No file is touched.
 
 Exit status:
   0   the deck is accepted, and was listed
   2   the deck is refused: 'cobix: line L: fault C', and then the line, the word and why
   3   the command line is not understood
-  4   the deck could not be read ('cobix: input'), the list could not be written ('cobix: output'), or memory ran out ('cobix: memory')";
+  4   the deck could not be read ('cobix: input'), the list could not be written ('cobix: output'), or \
+memory ran out ('cobix: memory')";
 
 /// What the list of a file's records is.
 pub const RECORDS: &str =
-    "Each line is a record in brackets, as a transcript shows it. V is compared with the first bytes of each value.
+    "Each line is a record in brackets, as a transcript shows it. V is compared with the first bytes of each \
+value.
 The file is checked first, and read once before the first line.
 
 Forms:
   text  a record in brackets
-  csv   the names of the columns, and then the columns of each record: in quotes, with commas between, and CRLF at the end
+  csv   the names of the columns, and then the columns of each record: in quotes, with commas between, and \
+CRLF at the end
   json  an object on a line for each record, with a string for each column
 
 Columns of csv and json:
-  --cut N,N..               'column-1' up to the first N, 'column-2' up to the next, and so on; the last one is the rest
+  --cut N,N..               'column-1' up to the first N, 'column-2' up to the next, and so on; the last one \
+is the rest
   --deck DECK --file NAME   the elementary items of the record of that file, by their names
   neither                   'record'
 
 Exit status:
   0   the lines were written
-  1   'unsound N' on standard error, as of 'cobix check', or the file does not have the key; no line was written
+  1   'unsound N' on standard error, as of 'cobix check', or the file does not have the key; no line was \
+written
   2   the deck is refused: 'cobix: line L: fault C'
-  3   the command line is not understood, V is longer than 250 bytes, there is no such form, text is to have columns, '--cut' is beside '--deck', '--deck' or '--file' is alone, the cuts are no rising numbers from 1 to 65,535, or the deck has no file NAME
-  4   the file or the deck could not be read ('cobix: input'), the lines could not be written ('cobix: output'), or memory ran out ('cobix: memory')";
+  3   the command line is not understood, V is longer than 250 bytes, there is no such form, text is to have \
+columns, '--cut' is beside '--deck', '--deck' or '--file' is alone, the cuts are no rising numbers from 1 to \
+65,535, or the deck has no file NAME
+  4   the file or the deck could not be read ('cobix: input'), the lines could not be written \
+('cobix: output'), or memory ran out ('cobix: memory')";
 
 /// What is counted of a file.
 pub const COUNTED: &str =
-    "The file is checked first. Then there is a line for its pages, one for its slots, and one for each key, with its levels below it:
-  pages N: header 1, heap N, keys N, free N            the pages by what they are: of records, of the trees of keys, or free
+    "The file is checked first. Then there is a line for its pages, one for its slots, and one for each key, \
+with its levels below it:
+  pages N: header 1, heap N, keys N, free N            the pages by what they are: of records, of the trees \
+of keys, or free
   slots N: used N, free N                              the places for records; each record has one
-  key N pages N entries N longest run N                the pages of the tree of a key, its entries, and how many of them have one value at most
-    level N pages N entries N fill N% [####    ]       a level of it, from the root down to the leaves, level 0; how full its pages are, and a bar of 20 characters
+  key N pages N entries N longest run N                the pages of the tree of a key, its entries, and how \
+many of them have one value at most
+    level N pages N entries N fill N% [####    ]       a level of it, from the root down to the leaves, \
+level 0; how full its pages are, and a bar of 20 characters
 
-Where the file is unsound for a reason from 4 on, a second line on standard error tells where the reason was met, and what it means:
+Where the file is unsound for a reason from 4 on, a second line on standard error tells where the reason was \
+met, and what it means:
   page N: ...            a page; they are numbered from 0
-  page N, entry N: ...   an entry of a leaf, a separator of an inner node, or a slot of a page of records; they are numbered from 0 too
+  page N, entry N: ...   an entry of a leaf, a separator of an inner node, or a slot of a page of records; \
+they are numbered from 0 too
 
 Exit status:
   0   the lines were written
   1   'unsound N' on standard error, as of 'cobix check'; no line was written
   3   the command line is not understood
-  4   the file could not be read ('cobix: input'), the lines could not be written ('cobix: output'), or memory ran out ('cobix: memory')";
+  4   the file could not be read ('cobix: input'), the lines could not be written ('cobix: output'), or \
+memory ran out ('cobix: memory')";
 
 /// What a load answers.
 pub const LOADED: &str =
-    "TEXT is what 'cobix list' writes in the same form. The lines are read first, and then written one after another, up to the first that is refused.
+    "TEXT is what 'cobix list' writes in the same form. The lines are read first, and then written one after \
+another, up to the first that is refused.
 Without '--into' a file that is there is left as it is, whatever it is.
 
 Forms:
   text  a record in brackets
-  csv   line 1 has the names of the columns, and each other line the columns of a record: in quotes, with commas between, and CRLF at the end
+  csv   line 1 has the names of the columns, and each other line the columns of a record: in quotes, with \
+commas between, and CRLF at the end
   json  an object on a line for each record, with a string for each column
-The columns are the elementary items of the record of NAME, as 'cobix list' has them by that deck. No value is padded, cut or converted.
+The columns are the elementary items of the record of NAME, as 'cobix list' has them by that deck. No value \
+is padded, cut or converted.
 
 Exit status:
   0   'loaded N': the records of all N lines were written
-  1   'line L: status S': the WRITE of line L answered S; or 'line L: no record of this file'. The lines before it were loaded
+  1   'line L: status S': the WRITE of line L answered S; or 'line L: no record of this file'. The lines \
+before it were loaded
       'open: status S' or 'close: status S': OPEN or CLOSE answered S
       'cobix: the file is there already': nothing was done
   2   the deck is refused: 'cobix: line L: fault C'
   3   the command line is not understood, there is no such form, or the deck has no file NAME
-  4   the deck or TEXT could not be read, both are '-', or DIR is no folder ('cobix: input'), the answer could not be written ('cobix: output'), or memory ran out ('cobix: memory')";
+  4   the deck or TEXT could not be read, both are '-', or DIR is no folder ('cobix: input'), the answer \
+could not be written ('cobix: output'), or memory ran out ('cobix: memory')";
 
 /// What a deck is in COBOL.
 pub const COBOL: &str =
-    "The program opens the same files, performs the same verbs and displays the same lines, so that another file handler can be held against cobix with 'diff'.
+    "The program opens the same files, performs the same verbs and displays the same lines, so that another \
+file handler can be held against cobix with 'diff'.
 
 Exit status:
   0   the program was written
   2   the deck is refused: 'cobix: line L: fault C', and then the line, the word and why
   3   the command line is not understood
-  4   the deck could not be read ('cobix: input'), the program could not be written ('cobix: output'), or memory ran out ('cobix: memory')";
+  4   the deck could not be read ('cobix: input'), the program could not be written ('cobix: output'), or \
+memory ran out ('cobix: memory')";

@@ -162,7 +162,8 @@ fn schema_command<'a>(alloc: Global) -> Result<Command<'a>, AllocError>
     with_deck(
         alloc,
         schema.arg(file)?,
-        "Tells how the schema differs from that of a file of the deck in this file, or '-' for standard input",
+        "Tells how the schema differs from that of a file of the deck in this file, or '-' for standard \
+         input",
     )
 }
 
