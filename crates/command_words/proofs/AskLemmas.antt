@@ -6,7 +6,7 @@ use Rattle.clap.specs.declared.error.Error.{Error}
 use Rattle.clap.specs.declared.error.ErrorKind.TheVariants.{OutOfMemory}
 use Rattle.clap.proofs.OnLiterals.{clap_on_literals}
 use Rattle.command_words.specs.CommandLine.{program_app}
-use Rattle.command_words.specs.Asks.{Ask, AskNothing, AreFaultless, IsRequestMet, IsHelpText}
+use Rattle.command_words.specs.Asks.{Ask, AskNothing, AreFaultless, IsNone, IsRequestMet, IsHelpText}
 use Rattle.command_words.specs.declared.fault.WordsFault.{WordsFault}
 use Rattle.command_words.specs.declared.fault.WordsFault.TheVariants.{Usage}
 use Rattle.command_words.specs.declared.request.Request.{Request}
@@ -37,8 +37,18 @@ asked words (Load deck folder file text form into limits quiet) faultless h = (f
 asked words (Stat file) faultless h = (faultless, h)
 asked words (Help text) faultless h = absurd h
 
-pub met_asked : (words : List Text) (met : Option (Text × List Row)) (request : Request) → AreFaultless words → met ≡ subcommand_of program_app words → IsRequestMet met request → Ask words request
-met_asked words met request faultless is h = asked words request faultless (subst (λ (m : Option (Text × List Row)). IsRequestMet m request) is h)
+pub met_asked : (words : List Text) (met : Option (Text × List Row)) (result : Result Request WordsFault) → AreFaultless words
+    → met ≡ subcommand_of program_app words → IfOk result (IsRequestMet met) → IfOk result (Ask words)
+met_asked words met (Ok request) faultless is h =
+    asked words request faultless (subst (λ (m : Option (Text × List Row)). IsRequestMet m request) is h)
+met_asked words met (Err fault) faultless is h = tt
+
+-- where it was nothing, the words ask for nothing
+pub none_asked : (words : List Text) (met : Option (Text × List Row)) (result : Result Request WordsFault) → AreFaultless words
+    → met ≡ subcommand_of program_app words → IfErr result (λ fault. (text : Error) → fault ≡ Usage text → IsNone met)
+    → IfErr result (λ fault. (text : Error) → fault ≡ Usage text → AskNothing words text)
+none_asked words met (Ok request) faultless is h = tt
+none_asked words met (Err fault) faultless is h = λ text told. inr (faultless, subst IsNone is (h text told))
 
 -- of two things, the second
 second : {A B : Type 0} → A ⊎ B → (A → ⊥) → B

@@ -138,30 +138,36 @@ versioned_shape = record (new_shape (codes "cobix")) { has_version = true }
 abbrev pub program_shape : Shape
 program_shape = record versioned_shape { subcommand_required = true }
 
--- to run, check and serve
+-- to run and check
 abbrev pub runs_app : App
 runs_app = record {
   top = record program_shape { is_leaf = false };
-  subs = run_shape ∷ check_shape ∷ serve_shape ∷ [];
+  subs = run_shape ∷ check_shape ∷ [];
 }
 
--- and to tell of a file, of a number or of a deck
+-- and to serve, or to tell the schema of a file
+abbrev pub schemas_app : App
+schemas_app = record {
+  top = record program_shape { is_leaf = false };
+  subs = run_shape ∷ check_shape ∷ serve_shape ∷ schema_shape ∷ [];
+}
+
+-- and to explain a number, or to list a deck
 abbrev pub lists_app : App
 lists_app = record {
   top = record program_shape { is_leaf = false };
   subs = run_shape ∷ check_shape ∷ serve_shape ∷ schema_shape ∷ explain_shape ∷ deck_shape ∷ [];
 }
 
--- and to list or load records, or to write a deck in COBOL
+-- and to list records, or to write a deck in COBOL
 abbrev pub records_app : App
 records_app = record {
   top = record program_shape { is_leaf = false };
   subs = run_shape ∷ check_shape ∷ serve_shape ∷ schema_shape ∷ explain_shape ∷ deck_shape ∷ list_shape ∷
-      cobol_shape ∷ load_shape ∷ [];
+      cobol_shape ∷ [];
 }
 
--- one of these, to list or load records, to write a deck in COBOL or to count what a file has, or
--- help or the version
+-- one of these, to load records or to count what a file has, or help or the version
 abbrev pub program_app : App
 program_app = record {
   top = record program_shape { is_leaf = false };

@@ -1,14 +1,17 @@
 //! What a command line asks for.
 ghost use Rattle.std.specs.Prelude.{◌≡◌, map, string_bytes, IfOk, IfErr};
+ghost use Rattle.clap.specs.Words.{app_of, subcommand_rows_of};
+ghost use Rattle.command_words.specs.CommandLine.{program_app};
 ghost use Rattle.command_words.specs.Asks.{Ask, AskNothing, IsHelpText, IfUsage, IsMistake};
+ghost use Rattle.command_words.specs.Asks.{IsRequestMet, IsNone};
 
 use crate::asked::request_of;
 use crate::fault::WordsFault;
 use crate::form_words::FormWords;
 use crate::limits::Limits;
 use crate::subcommands::command;
-use clap::Error;
 use clap::error::ErrorKind;
+use clap::{ArgMatches, Command, Error};
 use std::alloc::Global;
 
 /// What a command line asks for.
@@ -110,6 +113,49 @@ fn without_matches<'a>(error: Error) -> Result<Request<'a>, WordsFault>
     }
 }
 
+/// Why the words ask for nothing where the program's command line takes them: the usage is told.
+fn wanted(command: &mut Command<'_>) -> WordsFault {
+    match command.error(
+        ErrorKind::MissingRequiredArgument,
+        "a deck and a folder, or a file, are wanted",
+    ) {
+        Ok(text) => WordsFault::Usage(text),
+        Err(_) => WordsFault::Memory,
+    }
+}
+
+/// What the matches of the program's words ask for.
+fn with_matches<'a>(
+    alloc: Global,
+    command: &mut Command<'_>,
+    matches: &ArgMatches<'a>,
+) -> Result<Request<'a>, WordsFault>
+    ensures asked { IfOk result (IsRequestMet (subcommand_rows_of matches.now)) }
+    ensures nothing { IfErr result (IfUsage (λ _. IsNone (subcommand_rows_of matches.now))) }
+{
+    match request_of(alloc, matches) {
+        Ok(Some(request)) => Ok(request),
+        Ok(None) => Err(wanted(command)),
+        Err(_) => Err(WordsFault::Memory),
+    }
+}
+
+/// What the words ask for by the program's command line.
+fn parse<'a>(
+    alloc: Global,
+    command: &mut Command<'a>,
+    words: &'a [String],
+) -> Result<Request<'a>, WordsFault>
+    requires { app_of command.old ≡ program_app }
+    ensures asked { IfOk result (Ask (map string_bytes words.entry.now)) }
+    ensures nothing { IfErr result (IfUsage (AskNothing (map string_bytes words.entry.now))) }
+{
+    match command.try_get_matches_from_mut(words) {
+        Ok(matches) => with_matches(alloc, command, &matches),
+        Err(error) => without_matches(error),
+    }
+}
+
 /// What the words ask for, of which the first is the program's name. `Usage`: they are not
 /// understood. `Memory`.
 pub fn read_words<'a>(alloc: Global, words: &'a [String]) -> Result<Request<'a>, WordsFault>
@@ -117,18 +163,5 @@ pub fn read_words<'a>(alloc: Global, words: &'a [String]) -> Result<Request<'a>,
     ensures nothing { IfErr result (IfUsage (AskNothing (map string_bytes words.entry.now))) }
 {
     let mut command = command(alloc)?;
-    match command.try_get_matches_from_mut(words) {
-        Ok(matches) => match request_of(alloc, &matches) {
-            Ok(Some(request)) => Ok(request),
-            Err(_) => Err(WordsFault::Memory),
-            Ok(None) => match command.error(
-                ErrorKind::MissingRequiredArgument,
-                "a deck and a folder, or a file, are wanted",
-            ) {
-                Ok(text) => Err(WordsFault::Usage(text)),
-                Err(_) => Err(WordsFault::Memory),
-            },
-        },
-        Err(error) => without_matches(error),
-    }
+    parse(alloc, &mut command, words)
 }

@@ -10,7 +10,7 @@ ghost use Rattle.command_words.specs.Commands.{with_text};
 ghost use Rattle.command_words.specs.CommandLine.{run_shape, check_shape, serve_shape, schema_shape};
 ghost use Rattle.command_words.specs.CommandLine.{explain_shape, deck_shape, list_shape, cobol_shape};
 ghost use Rattle.command_words.specs.CommandLine.{load_shape, stat_shape, versioned_shape, program_shape};
-ghost use Rattle.command_words.specs.CommandLine.{runs_app, lists_app, records_app, program_app};
+ghost use Rattle.command_words.specs.CommandLine.{runs_app, schemas_app, lists_app, records_app, program_app};
 
 use crate::arguments::{deck, first, flag, folder, name, number, option, text, usual, word, words};
 use crate::help::{
@@ -388,36 +388,42 @@ fn with_added<'a>(
     whole.subcommand(subcommand)
 }
 
-/// The program with the subcommands that run, check and serve.
+/// The program with the subcommands that run and check.
 fn with_runs<'a>(alloc: Global) -> Result<Command<'a>, AllocError>
     ensures { IfOk result (IsApp runs_app) }
 {
     let run = with_added(Ok(program(alloc)), run_command(alloc));
-    let check = with_added(run, check_command(alloc));
-    with_added(check, serve_command(alloc))
+    with_added(run, check_command(alloc))
 }
 
-/// The program with these, and those that tell of a file, of a number or of a deck.
+/// The program with these, and those that serve or tell the schema of a file.
+fn with_schemas<'a>(alloc: Global) -> Result<Command<'a>, AllocError>
+    ensures { IfOk result (IsApp schemas_app) }
+{
+    let serve = with_added(with_runs(alloc), serve_command(alloc));
+    with_added(serve, schema_command(alloc))
+}
+
+/// The program with these, and those that explain a number or list a deck.
 fn with_lists<'a>(alloc: Global) -> Result<Command<'a>, AllocError>
     ensures { IfOk result (IsApp lists_app) }
 {
-    let schema = with_added(with_runs(alloc), schema_command(alloc));
-    let explain = with_added(schema, explain_command(alloc));
+    let explain = with_added(with_schemas(alloc), explain_command(alloc));
     with_added(explain, deck_command(alloc))
 }
 
-/// The program with these, and those that list or load records or write a deck in COBOL.
+/// The program with these, and those that list records or write a deck in COBOL.
 fn with_records<'a>(alloc: Global) -> Result<Command<'a>, AllocError>
     ensures { IfOk result (IsApp records_app) }
 {
     let list = with_added(with_lists(alloc), list_command(alloc));
-    let cobol = with_added(list, cobol_command(alloc));
-    with_added(cobol, load_command(alloc))
+    with_added(list, cobol_command(alloc))
 }
 
 /// The program with all its subcommands.
 pub fn command<'a>(alloc: Global) -> Result<Command<'a>, AllocError>
     ensures { IfOk result (λ command. app_of command ≡ program_app) }
 {
-    with_added(with_records(alloc), stat_command(alloc))
+    let load = with_added(with_records(alloc), load_command(alloc));
+    with_added(load, stat_command(alloc))
 }

@@ -1,8 +1,9 @@
 use Rattle.std.proofs.lemmas.Result.{IfOk-weaker}
-use Rattle.command_words.specs.CommandLine.{stat_shape}
+use Rattle.command_words.specs.CommandLine.{load_shape, stat_shape}
 use Rattle.command_words.proofs.subcommands.command.Goals as goal
 
 pub returns : goal.returns
 returns c =
+    let loads = c.with_added-load.ensures _ load_shape c.with_records.ensures c.load_command.ensures in
     IfOk-weaker c.with_added.result _ _ (λ command is. is.shape)
-    (c.with_added.ensures _ stat_shape c.with_records.ensures c.stat_command.ensures)
+    (c.with_added.ensures _ stat_shape loads c.stat_command.ensures)
