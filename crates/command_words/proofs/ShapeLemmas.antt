@@ -1,18 +1,14 @@
 -- What each argument and each subcommand makes of the program.
-use Rattle.std.proofs.Common.{◌≡◌, ◌∙◌, false, ap, ap₂, refl, Result, IfOk}
+use Rattle.std.proofs.Common.{◌≡◌, ◌∙◌, false, ap, ap₂, Result, IfOk}
 use Rattle.std.specs.Prelude.{◌||◌}
 use Rattle.std.proofs.lemmas.Result.{IfOk-weaker}
 use Rattle.clap.specs.Simple.{app_of_fields}
-use Rattle.clap.specs.Words.{AddsArg, AddsSubcommand, App, Rule, Shape, app_of, with_rule, with_subcommand}
+use Rattle.clap.specs.Words.{AddsArg, AddsSubcommand, App, Rule, Shape, with_rule, with_subcommand}
 use Rattle.clap.specs.declared.builder.arg.Arg.{Arg}
 use Rattle.clap.specs.declared.builder.command.Command.{Command}
 use Rattle.clap.specs.declared.builder.command.Command.TheOpen.{Command-F}
 use Rattle.clap.specs.declared.builder.command.Command.TheViews.{out-Command}
-use Rattle.command_words.specs.Commands.{HasRule, HasShape, IsApp, IsLocal}
-
--- as it is
-pub as_it_is : {command : Command} → IsLocal command → IsApp (app_of command) command
-as_it_is local = record { shape = refl; local = local }
+use Rattle.command_words.specs.Commands.{HasRule, HasShape, IsApp}
 
 -- with an argument more
 pub with_arg : {app : App} {rule : Rule} {old new : Command} {arg : Arg} → AddsArg old arg new → IsApp app old → HasRule rule arg → IsApp (with_rule app rule) new
@@ -24,13 +20,6 @@ with_arg added is has = record {
 pub last_arg : {E : Type 0} {app : App} {rule : Rule} (old : Command) (arg : Arg) (new : Result Command E) → IfOk new (AddsArg old arg) → IsApp app old → HasRule rule arg
     → IfOk new (IsApp (with_rule app rule))
 last_arg old arg new added is has = IfOk-weaker new _ _ (λ command it. with_arg it is has) added
-
--- with what a function adds
-pub with_more : (add : App → App) {app : App} {old new : Command} → IsApp app old → IsApp (add (app_of old)) new → IsApp (add app) new
-with_more add is added = record { shape = added.shape ∙ ap add is.shape; local = added.local }
-
-pub last_more : {E : Type 0} (add : App → App) {app : App} {old : Command} (new : Result Command E) → IsApp app old → IfOk new (IsApp (add (app_of old))) → IfOk new (IsApp (add app))
-last_more add new is added = IfOk-weaker new _ _ (λ command it. with_more add is it) added
 
 -- with a subcommand more
 pub with_command : {app : App} {shape : Shape} {old sub new : Command} → AddsSubcommand old sub new → IsApp app old → HasShape shape sub → IsApp (with_subcommand app shape) new

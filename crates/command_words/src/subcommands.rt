@@ -2,7 +2,7 @@
 ghost use Rattle.std.specs.Prelude.{◌≡◌, IfOk};
 ghost use Rattle.clap.specs.Words.{App, Rule, Shape, app_of, with_rule, with_subcommand};
 ghost use Rattle.clap.specs.Simple.{new_shape};
-ghost use Rattle.command_words.specs.Commands.{HasRule, IsLocal, IsApp, HasShape};
+ghost use Rattle.command_words.specs.Commands.{HasRule, IsApp, HasShape};
 ghost use Rattle.command_words.specs.Commands.{with_files, with_limits, with_quiet};
 ghost use Rattle.command_words.specs.Commands.{with_deck, with_values, with_bounds, with_form};
 ghost use Rattle.command_words.specs.Commands.{with_file_words};
@@ -39,20 +39,25 @@ fn with_argument<'a>(
 }
 
 /// `run` or `load` with its deck and its folder.
-fn with_files<'a>(alloc: Global, run: Command<'a>) -> Result<Command<'a>, AllocError>
-    requires { IsLocal run }
-    ensures { IfOk result (IsApp (with_files (app_of run.entry))) }
+fn with_files<'a>(
+    alloc: Global,
+    run: Result<Command<'a>, AllocError>,
+) -> Result<Command<'a>, AllocError>
+    ensures { (app : App) → IfOk run.entry (IsApp app) → IfOk result (IsApp (with_files app)) }
 {
+    let begun = with_argument(run, deck(alloc));
     with_argument(
-        run.arg(deck(alloc)),
+        begun,
         folder(alloc, "The folder in which the deck's files stay"),
     )
 }
 
 /// `run`, `serve` or `load` with its limits.
-fn with_limits<'a>(alloc: Global, files: Command<'a>) -> Result<Command<'a>, AllocError>
-    requires { IsLocal files }
-    ensures { IfOk result (IsApp (with_limits (app_of files.entry))) }
+fn with_limits<'a>(
+    alloc: Global,
+    files: Result<Command<'a>, AllocError>,
+) -> Result<Command<'a>, AllocError>
+    ensures { (app : App) → IfOk files.entry (IsApp app) → IfOk result (IsApp (with_limits app)) }
 {
     let pages = number(
         alloc,
@@ -70,19 +75,23 @@ fn with_limits<'a>(alloc: Global, files: Command<'a>) -> Result<Command<'a>, All
         "64",
         "How many pages of an open file are held in memory at most, from 1 to 4,096",
     );
-    with_argument(files.arg(pages), frames)
+    let begun = with_argument(files, pages);
+    with_argument(begun, frames)
 }
 
 /// `check`, `list` or `load` with the option by which it shows no progress.
-fn with_quiet<'a>(alloc: Global, long: Command<'a>) -> Result<Command<'a>, AllocError>
-    requires { IsLocal long }
-    ensures { IfOk result (IsApp (with_quiet (app_of long.entry))) }
+fn with_quiet<'a>(
+    alloc: Global,
+    long: Result<Command<'a>, AllocError>,
+) -> Result<Command<'a>, AllocError>
+    ensures { (app : App) → IfOk long.entry (IsApp app) → IfOk result (IsApp (with_quiet app)) }
 {
-    long.arg(flag(
+    let quiet = flag(
         alloc,
         "quiet",
         "Shows no progress; without it a terminal shows some on standard error, after two seconds",
-    ))
+    );
+    with_argument(long, quiet)
 }
 
 /// `run`, with its words and options.
@@ -95,7 +104,7 @@ fn run_command<'a>(alloc: Global) -> Result<Command<'a>, AllocError>
         "Runs a deck, and writes its transcript to standard output",
         ANSWERS,
     );
-    with_limits(alloc, with_files(alloc, run)?)
+    with_limits(alloc, with_files(alloc, Ok(run)))
 }
 
 /// `check`.
@@ -114,7 +123,7 @@ fn check_command<'a>(alloc: Global) -> Result<Command<'a>, AllocError>
         "Checks whether files stand for records",
         REASONS,
     );
-    with_quiet(alloc, check.arg(files)?)
+    with_quiet(alloc, check.arg(files))
 }
 
 /// `serve`.
@@ -127,20 +136,20 @@ fn serve_command<'a>(alloc: Global) -> Result<Command<'a>, AllocError>
         "Performs the verbs that frames on standard input ask for",
         SERVING,
     );
-    let with_folder = serve.arg(folder(alloc, "The folder in which the files stay"))?;
-    with_limits(alloc, with_folder)
+    let folder = folder(alloc, "The folder in which the files stay");
+    with_limits(alloc, serve.arg(folder))
 }
 
 /// `list` or `schema` with a deck, and a file of it.
 fn with_deck<'a>(
     alloc: Global,
-    listed: Command<'a>,
+    listed: Result<Command<'a>, AllocError>,
     help: &'a str,
 ) -> Result<Command<'a>, AllocError>
-    requires { IsLocal listed }
-    ensures { IfOk result (IsApp (with_deck (app_of listed.entry))) }
+    ensures { (app : App) → IfOk listed.entry (IsApp app) → IfOk result (IsApp (with_deck app)) }
 {
-    with_argument(listed.arg(text(alloc, "deck", "DECK", help)), name(alloc))
+    let begun = with_argument(listed, text(alloc, "deck", "DECK", help));
+    with_argument(begun, name(alloc))
 }
 
 /// `schema`.
@@ -161,7 +170,7 @@ fn schema_command<'a>(alloc: Global) -> Result<Command<'a>, AllocError>
     );
     with_deck(
         alloc,
-        schema.arg(file)?,
+        schema.arg(file),
         "Tells how the schema differs from that of a file of the deck in this file, or '-' for standard \
          input",
     )
@@ -196,19 +205,24 @@ fn deck_command<'a>(alloc: Global) -> Result<Command<'a>, AllocError>
 }
 
 /// The first and the last value of a list.
-fn with_values<'a>(alloc: Global, list: Command<'a>) -> Result<Command<'a>, AllocError>
-    requires { IsLocal list }
-    ensures { IfOk result (IsApp (with_values (app_of list.entry))) }
+fn with_values<'a>(
+    alloc: Global,
+    list: Result<Command<'a>, AllocError>,
+) -> Result<Command<'a>, AllocError>
+    ensures { (app : App) → IfOk list.entry (IsApp app) → IfOk result (IsApp (with_values app)) }
 {
     let from = text(alloc, "from", "V", "The first value, or its first bytes");
     let to = text(alloc, "to", "V", "The last value, or its first bytes");
-    with_argument(list.arg(from), to)
+    let begun = with_argument(list, from);
+    with_argument(begun, to)
 }
 
 /// The bounds of a list.
-fn with_bounds<'a>(alloc: Global, list: Command<'a>) -> Result<Command<'a>, AllocError>
-    requires { IsLocal list }
-    ensures { IfOk result (IsApp (with_bounds (app_of list.entry))) }
+fn with_bounds<'a>(
+    alloc: Global,
+    list: Result<Command<'a>, AllocError>,
+) -> Result<Command<'a>, AllocError>
+    ensures { (app : App) → IfOk list.entry (IsApp app) → IfOk result (IsApp (with_bounds app)) }
 {
     let key = number(
         alloc,
@@ -218,13 +232,15 @@ fn with_bounds<'a>(alloc: Global, list: Command<'a>) -> Result<Command<'a>, Allo
         "0",
         "The key in whose order they are listed: 0 is the prime key, 1 to 8 the alternate keys",
     );
-    with_values(alloc, list.arg(key)?)
+    with_values(alloc, with_argument(list, key))
 }
 
 /// The form of a list.
-fn with_form<'a>(alloc: Global, list: Command<'a>) -> Result<Command<'a>, AllocError>
-    requires { IsLocal list }
-    ensures { IfOk result (IsApp (with_form (app_of list.entry))) }
+fn with_form<'a>(
+    alloc: Global,
+    list: Result<Command<'a>, AllocError>,
+) -> Result<Command<'a>, AllocError>
+    ensures { (app : App) → IfOk list.entry (IsApp app) → IfOk result (IsApp (with_form app)) }
 {
     let form = usual(
         alloc,
@@ -239,9 +255,10 @@ fn with_form<'a>(alloc: Global, list: Command<'a>) -> Result<Command<'a>, AllocE
         "N,N..",
         "Begins a column at each of these offsets, and at 0",
     );
+    let formed = with_argument(list, form);
     with_deck(
         alloc,
-        with_argument(list.arg(form), cut)?,
+        with_argument(formed, cut),
         "Takes the columns from the record of a file of the deck in this file, or '-' for standard input",
     )
 }
@@ -262,8 +279,8 @@ fn list_command<'a>(alloc: Global) -> Result<Command<'a>, AllocError>
         "Lists the records of a file, a line each, in the order of a key",
         RECORDS,
     );
-    let bounded = with_bounds(alloc, list.arg(file)?)?;
-    let formed = with_form(alloc, bounded.arg(first(alloc))?)?;
+    let bounded = with_bounds(alloc, list.arg(file));
+    let formed = with_form(alloc, with_argument(bounded, first(alloc)));
     with_quiet(alloc, formed)
 }
 
@@ -286,9 +303,11 @@ fn cobol_command<'a>(alloc: Global) -> Result<Command<'a>, AllocError>
 }
 
 /// A load with the name of its file, and its text.
-fn with_names<'a>(alloc: Global, load: Command<'a>) -> Result<Command<'a>, AllocError>
-    requires { IsLocal load }
-    ensures { IfOk result (IsApp (with_file_words (app_of load.entry))) }
+fn with_names<'a>(
+    alloc: Global,
+    load: Result<Command<'a>, AllocError>,
+) -> Result<Command<'a>, AllocError>
+    ensures { (app : App) → IfOk load.entry (IsApp app) → IfOk result (IsApp (with_file_words app)) }
 {
     let file = option(
         alloc,
@@ -302,13 +321,16 @@ fn with_names<'a>(alloc: Global, load: Command<'a>) -> Result<Command<'a>, Alloc
         "TEXT",
         "The file of the lines, or '-' for standard input",
     );
-    with_argument(load.arg(file), text)
+    let begun = with_argument(load, file);
+    with_argument(begun, text)
 }
 
 /// The options of a load, and its text.
-fn with_text<'a>(alloc: Global, load: Command<'a>) -> Result<Command<'a>, AllocError>
-    requires { IsLocal load }
-    ensures { IfOk result (IsApp (with_text (app_of load.entry))) }
+fn with_text<'a>(
+    alloc: Global,
+    load: Result<Command<'a>, AllocError>,
+) -> Result<Command<'a>, AllocError>
+    ensures { (app : App) → IfOk load.entry (IsApp app) → IfOk result (IsApp (with_text app)) }
 {
     let form = usual(
         alloc,
@@ -336,8 +358,8 @@ fn load_command<'a>(alloc: Global) -> Result<Command<'a>, AllocError>
         "Writes the lines of a text as records into a file",
         LOADED,
     );
-    let limited = with_limits(alloc, with_text(alloc, with_files(alloc, load)?)?)?;
-    with_quiet(alloc, limited)
+    let written = with_text(alloc, with_files(alloc, Ok(load)));
+    with_quiet(alloc, with_limits(alloc, written))
 }
 
 /// `stat`.

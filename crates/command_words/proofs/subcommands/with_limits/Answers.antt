@@ -1,6 +1,5 @@
-use Rattle.command_words.proofs.ShapeLemmas.{last_arg, as_it_is}
 use Rattle.command_words.proofs.subcommands.with_limits.Goals as goal
 
 pub returns : goal.returns
 returns c =
-    c.with_argument.ensures _ _ (last_arg _ _ c.arg.result c.arg.ensures (as_it_is c.requires) c.number-pages.ensures) c.number-frames.ensures
+    λ app is. c.with_argument.ensures _ _ (c.with_argument-begun.ensures _ _ is c.number-pages.ensures) c.number-frames.ensures

@@ -1,5 +1,5 @@
-use Rattle.command_words.proofs.ShapeLemmas.{last_arg, as_it_is}
 use Rattle.command_words.proofs.subcommands.with_quiet.Goals as goal
 
 pub returns : goal.returns
-returns c = last_arg _ _ c.arg.result c.arg.ensures (as_it_is c.requires) c.flag.ensures
+returns c =
+    λ app is. c.with_argument.ensures _ _ is c.flag-quiet.ensures
