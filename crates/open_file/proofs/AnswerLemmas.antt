@@ -20,7 +20,8 @@ use Rattle.open_file.specs.Reading.{ReadsRow, IsEntryOfRow}
 use Rattle.open_file.proofs.ByKeyLemmas.{prime_once, by_entry, entry_is_of}
 use Rattle.open_file.proofs.FirstLemmas.{same_bytes, first_passes, RowOf, row_of_entry}
 use Rattle.open_file.proofs.RowLemmas.{least_is_first}
-use Rattle.open_file.proofs.DeliverLemmas.{from_some, repeated_first}
+use Rattle.open_file.proofs.DeliverLemmas.{repeated_first}
+use Rattle.open_file.proofs.OrderLemmas.{from_some}
 
 -- where the index of key k stands
 pub index_at : (opened : OpenFile) (k : ℕ) → 1 ≤ k → k ≤ length opened.alternates.items → (k - 1 < length opened.alternates.items) × (k - 1 + 1 ≡ k)
@@ -59,10 +60,7 @@ found_it schema k file v entry r answer old new found =
 prime_told : (schema : Schema) (file : File) (v : List ℕ) (key : ArrayVec ℕ) → key.items ≡ v → (n : ℕ) (old new : List ℕ) (found : Option Row) → least schema 0 (has_value schema 0 v) file ≡ found
     → ReadsRow (Ok (Some n)) (option_map (λ row. length row.bytes) found) old new found
     → ReadsRow (Ok (Some (record { key = key; length = n; stamp = 0; repeated = false }))) (option_map (found_of schema 0 file) found) old new found
-prime_told schema file v key same n old new None is told = absurd (no_some told.answered.answer)
-  where
-    no_some : {x : ℕ} → Some x ≡ None → ⊥
-    no_some e = cc
+prime_told schema file v key same n old new None is told = absurd (let none = told.answered.answer in cc)
 prime_told schema file v key same n old new (Some row) is told =
     let has = first_passes (has_value schema 0 v) (in_order schema 0 file.rows) row (sym (least_is_first schema 0 (has_value schema 0 v) file.rows) ∙ is) in
     let value = same ∙ sym (same_bytes (value_of schema 0 row.bytes) v has) in

@@ -1,10 +1,12 @@
 -- The first row of a value, by the first entry of it.
-use Rattle.std.proofs.Common.{◌≡◌, ℕ, Bool, true, false, List, [], ◌∷◌, Option, Some, None, refl, ap, sym, ◌∙◌}
-use Rattle.std.specs.Prelude.{find, option_map, ◌&&◌, nat_lt}
+use Rattle.std.proofs.Common.{◌≡◌, ℕ, Bool, true, false, List, [], ◌∷◌, Some, None, refl, ap, sym, ◌∙◌, arith}
+use Rattle.std.specs.Prelude.{find, ◌&&◌, nat_lt}
 use Rattle.std.specs.List.{list_any, list_all}
 use Rattle.std.specs.Ordering.{is_lt, is_eq}
 use Rattle.std.specs.declared.cmp.Ordering.{Ordering}
-use Rattle.std.specs.declared.cmp.Ordering.TheVariants.{Less, Equal, Greater}
+use Rattle.std.proofs.Math.Bool.{and-false}
+use Rattle.std.proofs.lemmas.Bool.{and_parts}
+use Rattle.std.proofs.lemmas.Grind.{common_steps}
 use Rattle.std.proofs.lemmas.Map.Text.{is_eq-slice_cmp}
 use Rattle.std.proofs.lemmas.Cmp.{nat_list_cmp_total, tied_itself}
 use Rattle.record_layout.specs.Schema.{Schema, value_of, prime_of}
@@ -17,8 +19,8 @@ use Rattle.key_index.specs.declared.entry.AltEntry.{AltEntry}
 use Rattle.key_index.specs.Entries.{entry_has_value}
 use Rattle.open_file.specs.InOrder.{in_order, alt_entry, alt_entries}
 use Rattle.open_file.specs.Reading.{IsEntryOfRow}
-use Rattle.open_file.proofs.RowLemmas.{least_is_first, row_is_first, put_each, both}
-use Rattle.open_file.proofs.RepeatLemmas.{find_mapped}
+use Rattle.open_file.proofs.RowLemmas.{least_is_first, row_is_first, put_each}
+use Rattle.open_file.proofs.EntryLemmas.{alt_none}
 use Rattle.open_file.proofs.PlaceLemmas.{find_each}
 use Rattle.open_file.proofs.FirstLemmas.{RowOf}
 
@@ -29,21 +31,19 @@ own_each : (schema : Schema) (row : Row) (all rows : List Row)
     → Each (λ other. find (has_value schema 0 (prime_of schema other.bytes)) (row ∷ all) ≡ Some other) rows
 own_each schema row all [] h each = tt
 own_each schema row all (other ∷ rows) h each =
-    let one = both _ _ h in
-    let less = (both _ _ one.0).0 in
+    let one = and_parts _ _ h in
+    let less = (and_parts _ _ one.0).0 in
     let miss : has_value schema 0 (prime_of schema other.bytes) row ≡ false = sym (is_eq-slice_cmp (prime_of schema row.bytes) (prime_of schema other.bytes)) ∙ not_tied _ less in
     (rw miss each.0, own_each schema row all rows one.1 each.1)
   where
     not_tied : (o : Ordering) → is_lt o ≡ true → is_eq o ≡ false
-    not_tied Less h = refl
-    not_tied Equal h = absurd (cc)
-    not_tied Greater h = absurd (cc)
+    not_tied o h = grind (arith, common_steps)
 
 pub each_own : (schema : Schema) (next : ℕ) (rows : List Row) → are_rows schema next rows ≡ true → Each (λ row. find (has_value schema 0 (prime_of schema row.bytes)) rows ≡ Some row) rows
 each_own schema next [] h = tt
 each_own schema next (row ∷ rows) h =
-    let one = both _ _ h in
-    let two = both _ _ one.0 in
+    let one = and_parts _ _ h in
+    let two = and_parts _ _ one.0 in
     let p = prime_of schema row.bytes in
     let itself : has_value schema 0 p row ≡ true = sym (is_eq-slice_cmp p p) ∙ ap is_eq (tied_itself nat_list_cmp_total p) in
     (rw itself refl, own_each schema row rows rows two.1 (each_own schema next rows one.1))
@@ -55,8 +55,9 @@ in_order_each schema k P (row ∷ rows) h = put_each schema k P row (in_order sc
 -- so an entry leads to its row
 pub entry_is_of : (schema : Schema) (k : ℕ) (file : File) → is_file schema file ≡ true → (test : Row → Bool) (entry : AltEntry) (r : RowOf schema k test (in_order schema k file.rows) entry) → IsEntryOfRow schema k file entry r.row
 entry_is_of schema k file sound test entry r =
-    let own = find_each (λ row. find (has_value schema 0 (prime_of schema row.bytes)) file.rows ≡ Some row) test (in_order schema k file.rows) r.row
-    (in_order_each schema k (λ row. find (has_value schema 0 (prime_of schema row.bytes)) file.rows ≡ Some row) file.rows (each_own schema file.next_stamp file.rows (both _ _ sound).1)) r.is_first in
+    let Own : Row → Type 0 = λ row. find (has_value schema 0 (prime_of schema row.bytes)) file.rows ≡ Some row in
+    let own = find_each Own test (in_order schema k file.rows) r.row
+    (in_order_each schema k Own file.rows (each_own schema file.next_stamp file.rows (and_parts _ _ sound).1)) r.is_first in
     record { is_entry = r.is_entry; is_row = rw (r.is_entry) (row_is_first schema file (prime_of schema r.row.bytes) sound ∙ own) }
 
 -- a row of the prime key is never repeated
@@ -64,22 +65,15 @@ never : {X : Type 0} (test : X → Bool) (xs : List X) → ((x : X) → test x �
 never test [] h = refl
 never test (x ∷ xs) h = rw (h x) (never test xs h)
 
-and_false : (b : Bool) → (b && false) ≡ false
-and_false true = refl
-and_false false = refl
-
 pub prime_once : (schema : Schema) (row : Row) (file : File) → is_repeated schema 0 row file ≡ false
-prime_once schema row file = never (λ other. has_value schema 0 (value_of schema 0 row.bytes) other && nat_lt (stamp_of 0 row) (stamp_of 0 other)) file.rows (λ other. and_false _)
+prime_once schema row file =
+    never (λ other. has_value schema 0 (value_of schema 0 row.bytes) other && nat_lt (stamp_of 0 row) (stamp_of 0 other)) file.rows
+    (λ other. and-false _)
 
 -- no entry, so no row
 pub by_none : (schema : Schema) (k : ℕ) (v : List ℕ) (file : File) → find (entry_has_value v) (alt_entries schema k file.rows) ≡ None → least schema k (has_value schema k v) file ≡ None
 by_none schema k v file none =
-    let rows = in_order schema k file.rows in
-    least_is_first schema k (has_value schema k v) file.rows ∙ unmapped _ (sym (find_mapped (alt_entry schema k) (entry_has_value v) rows) ∙ none)
-  where
-    unmapped : (found : Option Row) → option_map (alt_entry schema k) found ≡ None → found ≡ None
-    unmapped None e = refl
-    unmapped (Some row) e = absurd (cc)
+    least_is_first schema k (has_value schema k v) file.rows ∙ alt_none schema k (entry_has_value v) file.rows none
 
 -- the first entry tells
 pub by_entry : (schema : Schema) (k : ℕ) (v : List ℕ) (file : File) (entry : AltEntry) (r : RowOf schema k (λ row. entry_has_value v (alt_entry schema k row)) (in_order schema k file.rows) entry)

@@ -13,10 +13,8 @@ use Rattle.key_index.specs.Entries.{after_rank, entry_has_value}
 use Rattle.key_index.specs.Calls.{IsAltFirst}
 use Rattle.open_file.specs.InOrder.{alt_entries}
 use Rattle.open_file.specs.Reading.{ReadsRow, IsEntryOfRow}
+use Rattle.open_file.proofs.OrderLemmas.{from_some}
 use Rattle.open_file.proofs.RepeatLemmas.{next_tells}
-
-pub from_some : {X : Type 0} (x y : X) → Some x ≡ Some y → x ≡ y
-from_some x y e = cc
 
 pub told : (schema : Schema) (k : ℕ) (file : File) (entry : AltEntry) (row : Row) → IsEntryOfRow schema k file entry row → (n : ℕ) (repeated : Bool) (old new : List ℕ) → repeated ≡ is_repeated schema k row file
     → ReadsRow (Ok (Some n)) (option_map (λ row. length row.bytes) (row_of schema entry.prime.items file)) old new (row_of schema entry.prime.items file)

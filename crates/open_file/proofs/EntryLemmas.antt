@@ -1,6 +1,6 @@
 -- The row of the first entry that passes a test.
-use Rattle.std.proofs.Common.{◌≡◌, ℕ, ◌+◌, ◌-◌, ◌≤◌, ◌<◌, Bool, false, List, [], ◌∷◌, length, Option, Some, None, refl, ap, sym, subst, ◌∙◌, arith}
-use Rattle.std.specs.Prelude.{find, option_map, slice_index_or}
+use Rattle.std.proofs.Common.{◌≡◌, ℕ, ◌+◌, ◌-◌, ◌≤◌, ◌<◌, Bool, false, List, [], ◌∷◌, length, Some, None, refl, ap, sym, subst, ◌∙◌, arith}
+use Rattle.std.specs.Prelude.{find, slice_index_or}
 use Rattle.record_layout.specs.Schema.{Schema, prime_of}
 use Rattle.indexed_file.specs.File.{Row, File}
 use Rattle.pages.specs.PageMap.{PageMap}
@@ -15,11 +15,8 @@ use Rattle.open_file.specs.InOrder.{in_order, alt_entry, alt_entries, prime_entr
 use Rattle.open_file.specs.Stored.{AreAt, stored}
 use Rattle.open_file.specs.Parts.{alternate_pages}
 use Rattle.open_file.specs.Stands.{Stands}
-use Rattle.open_file.proofs.OrderLemmas.{either}
+use Rattle.open_file.proofs.OrderLemmas.{either, from_some, unmapped}
 use Rattle.open_file.proofs.RepeatLemmas.{find_mapped}
-
-from_some : {X : Type 0} (x y : X) → Some x ≡ Some y → x ≡ y
-from_some x y e = cc
 
 -- what nothing passes
 pub none_passes : {X : Type 0} (xs : List X) → find (λ x. false) xs ≡ None
@@ -62,21 +59,14 @@ module _ (schema : Schema) (slots : Slots) (test : PrimeEntry → Bool) (of_row 
   prime_none (place ∷ places) [] at found = absurd at
   prime_none (place ∷ places) (row ∷ rows) at found =
       either (of_row row) (find of_row (row ∷ rows) ≡ None)
-      (λ is. absurd (nothing _ (rw (same place row ∙ is) at found)))
+      (λ is. let none = rw (same place row ∙ is) at found in absurd (cc))
       (λ is. rw is (prime_none places rows at.1 (rw (same place row ∙ is) at found)))
-    where
-      nothing : (e : PrimeEntry) → Some e ≡ None → ⊥
-      nothing e h = cc
-
-unmapped : (schema : Schema) (k : ℕ) (found : Option Row) → option_map (alt_entry schema k) found ≡ None → found ≡ None
-unmapped schema k None e = refl
-unmapped schema k (Some row) e = absurd (cc)
 
 -- no entry passes, and so no row does
 pub alt_none : (schema : Schema) (k : ℕ) (test : AltEntry → Bool) (rows : List Row) → find test (alt_entries schema k rows) ≡ None
     → find (λ row. test (alt_entry schema k row)) (in_order schema k rows) ≡ None
 alt_none schema k test rows none =
-    unmapped schema k _ (sym (find_mapped (alt_entry schema k) test (in_order schema k rows)) ∙ none)
+    unmapped (alt_entry schema k) _ (sym (find_mapped (alt_entry schema k) test (in_order schema k rows)) ∙ none)
 
 -- the index of an alternate key stands
 pub alt_at : (opened : OpenFile) (pages : PageMap) (file : File) (stands : Stands opened pages file) (k : ℕ) (index : AltIndex) → 1 ≤ k

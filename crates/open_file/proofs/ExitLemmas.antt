@@ -1,15 +1,13 @@
 -- A call that failed, and what an answer says.
 use Rattle.std.proofs.Common.{◌≡◌, ◌≢◌, ℕ, List, Option}
-use Rattle.std.specs.Prelude.{Result, Ok, Err, IfOk, IfErr, IsErrAnd, OnOk, Bool, IsTrue}
+use Rattle.std.specs.Prelude.{Result, Ok, Err, IfOk, IsErrAnd, Bool, IsTrue}
 use Rattle.std.proofs.lemmas.Result.{err_from_is_err_and}
 use Rattle.io_state.specs.declared.fault.Fault.{Fault}
 use Rattle.io_state.specs.declared.fault.Fault.TheVariants.{Damage}
 use Rattle.pages.specs.Answer.{IsAnswer}
-use Rattle.pages.specs.Cause.{IsCaused}
 use Rattle.indexed_file.specs.File.{Row, File}
 use Rattle.indexed_file.specs.declared.answer.Found.{Found}
 use Rattle.pages.specs.PageMap.{PageMap}
-use Rattle.open_file.specs.Faults.{IsCausedIn}
 use Rattle.open_file.specs.Reading.{ReadsRow, FindsFirst}
 use Rattle.open_file.specs.Stands.{Stands}
 use Rattle.open_file.specs.declared.open_file.OpenFile.{OpenFile}
@@ -38,10 +36,6 @@ fails_finding r fault was honest opened pages k test old new sound same =
     }
 
 -- what follows from an answer
-pub on_ok : {X : Type 0} (r : Result X Fault) (A B : Type 0) → (A → B) → OnOk r A → OnOk r B
-on_ok (Ok x) A B f h = f h
-on_ok (Err e) A B f h = h
-
 pub if_ok : {X : Type 0} (r : Result X Fault) (A B : X → Type 0) → ((x : X) → A x → B x) → IfOk r A → IfOk r B
 if_ok (Ok x) A B f h = f x h
 if_ok (Err e) A B f h = h

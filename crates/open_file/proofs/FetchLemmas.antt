@@ -1,6 +1,7 @@
 -- The row of a prime value, by the prime index and the heap.
 use Rattle.std.proofs.Common.{◌≡◌, ℕ, true, List, length, drop, Option, Some, None, refl, ap, sym, subst, ◌∙◌}
 use Rattle.std.specs.Prelude.{find, Ok, option_map}
+use Rattle.std.proofs.lemmas.Bool.{and_parts}
 use Rattle.record_layout.specs.Schema.{Schema}
 use Rattle.indexed_file.specs.File.{Row, File}
 use Rattle.indexed_file.specs.Rank.{has_value}
@@ -17,9 +18,9 @@ use Rattle.open_file.specs.Stands.{Stands}
 use Rattle.open_file.specs.Parts.{heap_pages}
 use Rattle.open_file.specs.Stored.{stamps_length}
 use Rattle.open_file.specs.Reading.{IsRowAt, ReadsRow}
-use Rattle.open_file.proofs.FirstLemmas.{from_some}
+use Rattle.open_file.proofs.OrderLemmas.{from_some, unmapped}
 use Rattle.open_file.proofs.PlaceLemmas.{entry_leads, no_entry, find_each}
-use Rattle.open_file.proofs.RowLemmas.{row_is_first, each_row, both}
+use Rattle.open_file.proofs.RowLemmas.{row_is_first, each_row}
 use Rattle.open_file.proofs.LengthLemmas.{is_made}
 
 pub record PlaceOf (u : OpenFile) (pages : PageMap) (file : File) (value : List ℕ) (place : Place) : Type 0 where
@@ -32,7 +33,7 @@ place_of_row : (u : OpenFile) (pages after : PageMap) → (slot_shape u.heap).st
 place_of_row u pages after stamps same file stands value entry found =
     let leads = entry_leads u.schema stands.slots value stands.places file.rows entry stands.placed.rows_at found in
     let made = is_made u.schema file.next_stamp leads.row (find_each (λ row. is_row u.schema file.next_stamp row ≡ true) (has_value u.schema 0 value) file.rows leads.row
-    (each_row u.schema file.next_stamp file.rows (both _ _ stands.sound).1) leads.is_first) in
+    (each_row u.schema file.next_stamp file.rows (and_parts _ _ stands.sound).1) leads.is_first) in
     record {
       row = leads.row;
       is_row = row_is_first u.schema file value stands.sound ∙ leads.is_first;
@@ -55,14 +56,12 @@ row_at_place u pages after stamps same file stands value place told = from_entry
     from_entry None is told = absurd (cc)
     from_entry (Some entry) is told = subst (λ (p : Place). PlaceOf u after file value p) (from_some _ _ told) (place_of_row u pages after stamps same file stands value entry is)
 
-no_place : (o : Option PrimeEntry) → option_map (λ e. e.place) o ≡ None → o ≡ None
-no_place None told = refl
-no_place (Some entry) told = absurd (cc)
-
 pub no_row : (u : OpenFile) (pages : PageMap) (file : File) (stands : Stands u pages file) (value old : List ℕ) → option_map (λ e. e.place) (find (has_prime value) (prime_entries u.schema stands.places file.rows)) ≡ None
     → ReadsRow (Ok None) (option_map (λ row. length row.bytes) (row_of u.schema value file)) old old (row_of u.schema value file)
 no_row u pages file stands value old none =
-    let missing = row_is_first u.schema file value stands.sound ∙ no_entry u.schema stands.slots value stands.places file.rows stands.placed.rows_at (no_place _ none) in
+    let nowhere = unmapped (λ (e : PrimeEntry). e.place) _ none in
+    let missing = row_is_first u.schema file value stands.sound
+    ∙ no_entry u.schema stands.slots value stands.places file.rows stands.placed.rows_at nowhere in
     rw missing (record { answered = record { answer = refl; no_damage = tt }; area = refl })
 
 pub found_row : (schema : Schema) (file : File) (value : List ℕ) (row : Row) → row_of schema value file ≡ Some row → (n : ℕ) (old new : List ℕ) → ReadsRow (Ok n) (length row.bytes) old new (Some row)

@@ -1,12 +1,9 @@
 -- A tree of two levels or more has many entries, one for each row.
-use Rattle.std.proofs.Common.{◌≡◌, ℕ, zero, suc, ◌+◌, ◌-◌, ◌*◌, ◌^◌, ◌≤◌, ◌<◌, List, [], ◌∷◌, length, None, refl, ap, sym, subst, ◌∙◌, arith}
+use Rattle.std.proofs.Common.{◌≡◌, ℕ, zero, suc, ◌+◌, ◌-◌, ◌*◌, ◌^◌, ◌≤◌, ◌<◌, List, length, None, sym, subst, ◌∙◌, arith}
 use Rattle.std.specs.Prelude.{map, slice_index}
-use Rattle.std.specs.Ordering.{is_lt}
 use Rattle.std.proofs.lemmas.List.{length-map}
 use Rattle.std.proofs.Math.Nat.{pow-succ'}
-use Rattle.record_layout.specs.Schema.{Schema}
-use Rattle.indexed_file.specs.File.{Row, File}
-use Rattle.indexed_file.specs.Rank.{row_cmp}
+use Rattle.indexed_file.specs.File.{File}
 use Rattle.pages.specs.PageMap.{PageMap}
 use Rattle.tree_node.specs.declared.shape.Shape.{Shape}
 use Rattle.bplus_tree.specs.declared.tree.Tree.{Tree}
@@ -18,41 +15,14 @@ use Rattle.bplus_tree.proofs.CountLemmas.{have_many_entries}
 use Rattle.bplus_tree.specs.Fields.{tree_shape, tree_root, tree_levels}
 use Rattle.key_index.specs.Standing.{alt_height}
 use Rattle.key_index.specs.Stored.{prime_bytes, alt_bytes}
-use Rattle.record_heap.specs.declared.shape.Place.{Place}
-use Rattle.record_heap.specs.Chain.{Slots}
-use Rattle.open_file.specs.InOrder.{put_row, in_order, alt_entries, prime_entries}
+use Rattle.open_file.specs.InOrder.{alt_entries, prime_entries}
 use Rattle.open_file.specs.Parts.{prime_pages, alternate_pages}
-use Rattle.open_file.specs.Stored.{AreAt}
 use Rattle.open_file.specs.Stands.{Stands, heights_of}
 use Rattle.open_file.specs.Laws.{is_filled, counts_its_rows}
 use Rattle.open_file.specs.declared.open_file.OpenFile.{OpenFile}
-use Rattle.open_file.proofs.OrderLemmas.{either}
+use Rattle.open_file.proofs.HeaderLemmas.{alt_entries_many, prime_entries_many}
 use Rattle.open_file.proofs.PartsLemmas.{found_at}
 use Rattle.open_file.proofs.HeightLemmas.{heights_many, mapped_at}
-
--- ---- entries and rows
-
-put_long : (schema : Schema) (k : ℕ) (row : Row) (rows : List Row) → length (put_row schema k row rows) ≡ suc (length rows)
-put_long schema k row [] = refl
-put_long schema k row (next ∷ rows) =
-    either (is_lt (row_cmp schema k next row)) (length (put_row schema k row (next ∷ rows)) ≡ suc (length (next ∷ rows)))
-    (λ yes. rw yes (ap suc (put_long schema k row rows)))
-    (λ no. rw no refl)
-
-in_order_long : (schema : Schema) (k : ℕ) (rows : List Row) → length (in_order schema k rows) ≡ length rows
-in_order_long schema k [] = refl
-in_order_long schema k (row ∷ rows) = put_long schema k row (in_order schema k rows) ∙ ap suc (in_order_long schema k rows)
-
--- an alternate index has an entry of each row
-pub alternates_many : (schema : Schema) (k : ℕ) (rows : List Row) → length (alt_entries schema k rows) ≡ length rows
-alternates_many schema k rows = simp length-map (in_order_long schema k rows)
-
--- and so has the prime index
-pub primes_many : (schema : Schema) (slots : Slots) (places : List Place) (rows : List Row) → AreAt schema slots places rows → length (prime_entries schema places rows) ≡ length rows
-primes_many schema slots [] [] at = refl
-primes_many schema slots [] (row ∷ rows) at = absurd at
-primes_many schema slots (place ∷ places) [] at = absurd at
-primes_many schema slots (place ∷ places) (row ∷ rows) at = ap suc (primes_many schema slots places rows at.1)
 
 -- ---- trees
 
@@ -83,12 +53,14 @@ AtKey heights rows k = (1 ≤ slice_index heights k) × (2 ≤ slice_index heigh
 pub counted : counts_its_rows
 counted opened pages file stands =
     let entries = prime_entries opened.schema stands.places file.rows in
-    stands.parts.prime_stands.tree.count ∙ length-map entries prime_bytes ∙ primes_many opened.schema stands.slots stands.places file.rows stands.placed.rows_at
+    stands.parts.prime_stands.tree.count ∙ length-map entries prime_bytes
+    ∙ prime_entries_many opened.schema stands.slots stands.places file.rows stands.placed.rows_at
 
 filled_at : (opened : OpenFile) (pages : PageMap) (file : File) → Stands opened pages file → (k : ℕ) → k < length opened.alternates.items + 1 → AtKey (heights_of opened) (length file.rows) k
 filled_at opened pages file stands zero lt =
     let entries = prime_entries opened.schema stands.places file.rows in
-    let many = length-map entries prime_bytes ∙ primes_many opened.schema stands.slots stands.places file.rows stands.placed.rows_at in (
+    let rows = prime_entries_many opened.schema stands.slots stands.places file.rows stands.placed.rows_at in
+    let many = length-map entries prime_bytes ∙ rows in (
       omega arith,
       λ high. subst (λ n. 2 * 4 ^ (tree_levels opened.prime.tree + 1 - 1) ≤ n) many
           (tree_filled opened.prime.tree pages (map prime_bytes entries) (prime_pages stands.parts.owns) stands.parts.prime_stands.tree high),
@@ -99,7 +71,7 @@ filled_at opened pages file stands (suc j) lt =
     let index = found_at indexes j within in
     let entries = alt_entries opened.schema (j + 1) file.rows in
     let stand = stands.parts.alternates_stand j index.0 within index.1 in
-    let many = length-map entries alt_bytes ∙ alternates_many opened.schema (j + 1) file.rows in
+    let many = length-map entries alt_bytes ∙ alt_entries_many opened.schema (j + 1) file.rows in
     let height : slice_index (heights_of opened) (suc j) ≡ alt_height index.0 = mapped_at indexes j index.0 within index.1 in
     rw height (
       omega arith,

@@ -1,12 +1,12 @@
 -- The first row of a value, by the first entry that is not below it.
-use Rattle.std.proofs.Common.{◌≡◌, ℕ, Bool, true, false, List, [], ◌∷◌, Option, Some, None, refl, ap, sym, subst, ◌∙◌}
+use Rattle.std.proofs.Common.{◌≡◌, ℕ, Bool, true, false, List, [], ◌∷◌, Option, Some, None, refl, ap, sym, ◌∙◌, arith}
 use Rattle.std.specs.Prelude.{find, option_map, is_some, if◌then◌else◌, bytes_eq}
 use Rattle.std.specs.List.{list_any}
-use Rattle.std.specs.Ordering.{is_lt, is_ge, is_eq}
-use Rattle.std.specs.declared.cmp.Ordering.{Ordering}
-use Rattle.std.specs.declared.cmp.Ordering.TheVariants.{Less, Equal, Greater}
+use Rattle.std.specs.Ordering.{is_lt, is_ge}
+use Rattle.std.specs.declared.cmp.Ordering.TheVariants.{Greater}
 use Rattle.std.proofs.lemmas.Map.Text.{is_eq-slice_cmp}
-use Rattle.std.proofs.lemmas.Map.Lookups.{exact_bytes}
+use Rattle.std.proofs.lemmas.Slice.Eq.{bytes_eq-Decides}
+use Rattle.std.proofs.lemmas.Grind.{common_steps}
 use Rattle.record_layout.specs.Schema.{Schema, value_of}
 use Rattle.indexed_file.specs.File.{Row}
 use Rattle.io_state.specs.Rank.{value_cmp}
@@ -18,45 +18,20 @@ use Rattle.record_heap.specs.Chain.{Slots}
 use Rattle.key_index.specs.Entries.{from_value, has_prime}
 use Rattle.open_file.specs.InOrder.{in_order, alt_entry, alt_entries, prime_entries}
 use Rattle.open_file.specs.Stored.{AreAt}
-use Rattle.open_file.proofs.OrderLemmas.{either}
+use Rattle.open_file.proofs.OrderLemmas.{either, tied_ge, above}
+pub use Rattle.open_file.proofs.OrderLemmas.{from_some}
+use Rattle.open_file.proofs.EntryLemmas.{alt_none}
 use Rattle.open_file.proofs.RowLemmas.{AreSorted, in_order_sorted}
 use Rattle.open_file.proofs.RepeatLemmas.{find_mapped, value_below, any_in_order}
-
-pub from_some : {X : Type 0} (x y : X) → Some x ≡ Some y → x ≡ y
-from_some x y e = cc
 
 -- the first that passes does
 pub first_passes : {X : Type 0} (test : X → Bool) (xs : List X) (x : X) → find test xs ≡ Some x → test x ≡ true
 first_passes test [] x found = absurd (cc)
-first_passes test (y ∷ xs) x found =
-    either (test y) (test x ≡ true)
-    (λ yes. subst (λ z. test z ≡ true) (from_some _ _ (rw yes at found)) yes)
-    (λ no. first_passes test xs x (rw no at found))
-
-pub from : Schema → ℕ → List ℕ → Row → Bool
-from schema k v row = from_value v (alt_entry schema k row)
-
-tied : (o : Ordering) → is_eq o ≡ true → o ≡ Equal
-tied Less e = absurd (cc)
-tied Equal e = refl
-tied Greater e = absurd (cc)
-
-tied_ge : (o : Ordering) → is_eq o ≡ true → is_ge o ≡ true
-tied_ge Less e = absurd (cc)
-tied_ge Equal e = refl
-tied_ge Greater e = absurd (cc)
-
-above : (o : Ordering) → is_ge o ≡ true → is_eq o ≡ false → o ≡ Greater
-above Less h e = absurd (cc)
-above Equal h e = absurd (cc)
-above Greater h e = refl
-
-pub differ : {b : Bool} → b ≡ true → b ≡ false → ⊥
-differ e k = let both : true ≡ false = sym e ∙ k in cc
+first_passes test (y ∷ xs) x found = grind (arith, common_steps, first_passes test xs x)
 
 -- bytes that are alike are the same
 pub same_bytes : (v w : List ℕ) → bytes_eq v w ≡ true → v ≡ w
-same_bytes v w e = exact_bytes v w (tied (value_cmp v w) (is_eq-slice_cmp v w ∙ e))
+same_bytes v w e = (bytes_eq-Decides v w).0 e
 
 abbrev pub kept : (Row → Bool) → Option Row → Option Row
 kept test None = None
@@ -79,7 +54,7 @@ first_exact schema k v (row ∷ rows) sorted =
     (λ yes. rw (ge, yes) refl)
     (λ no. rw (ge, no) (none_has schema k v row rows (above (value_cmp w v) ge (eq ∙ no)) sorted.0)))
     (λ lt. either (has_value schema k v row) (find (has_value schema k v) (row ∷ rows) ≡ kept (has_value schema k v) (find (λ row. from_value v (alt_entry schema k row)) (row ∷ rows)))
-    (λ yes. absurd (differ (tied_ge (value_cmp w v) (eq ∙ yes)) lt))
+    (λ yes. let ge = tied_ge (value_cmp w v) (eq ∙ yes) in absurd (cc))
     (λ no. rw (lt, no) (first_exact schema k v rows sorted.1)))
 
 -- the row of an entry that the index found
@@ -101,7 +76,7 @@ row_of_entry schema k test rows entry found =
 
 pub any_is_found : {X : Type 0} (test : X → Bool) (xs : List X) → list_any test xs ≡ is_some (find test xs)
 any_is_found test [] = refl
-any_is_found test (x ∷ xs) = either (test x) (list_any test (x ∷ xs) ≡ is_some (find test (x ∷ xs))) (λ yes. rw yes refl) (λ no. rw no (any_is_found test xs))
+any_is_found test (x ∷ xs) = grind (arith, common_steps, any_is_found test xs)
 
 -- some row has a value exactly where the first that is not below it does
 any_kept : (schema : Schema) (k : ℕ) (v : List ℕ) (rows : List Row) → list_any (has_value schema k v) rows ≡ is_some (kept (has_value schema k v) (find (λ row. from_value v (alt_entry schema k row)) (in_order schema k rows)))
@@ -110,8 +85,7 @@ any_kept schema k v rows =
     ∙ ap is_some (first_exact schema k v (in_order schema k rows) (in_order_sorted schema k rows))
 
 some_kept : (b : Bool) (row : Row) → is_some (if b then Some row else None) ≡ b
-some_kept true row = refl
-some_kept false row = refl
+some_kept b row = grind (arith, common_steps)
 
 -- the first entry of an alternate index tells
 pub there_by_entry : (schema : Schema) (k : ℕ) (v : List ℕ) (rows : List Row) (entry : AltEntry) → find (from_value v) (alt_entries schema k rows) ≡ Some entry → list_any (has_value schema k v) rows ≡ bytes_eq entry.value.items v
@@ -120,14 +94,10 @@ there_by_entry schema k v rows entry found =
     any_kept schema k v rows ∙ ap (λ o. is_some (kept (has_value schema k v) o)) r.is_first ∙ some_kept (has_value schema k v r.row) r.row
     ∙ ap (λ (e : AltEntry). bytes_eq e.value.items v) (sym r.is_entry)
 
-unmapped : (schema : Schema) (k : ℕ) (found : Option Row) → option_map (alt_entry schema k) found ≡ None → found ≡ None
-unmapped schema k None e = refl
-unmapped schema k (Some row) e = absurd (cc)
-
 pub not_there : (schema : Schema) (k : ℕ) (v : List ℕ) (rows : List Row) → find (from_value v) (alt_entries schema k rows) ≡ None → list_any (has_value schema k v) rows ≡ false
 not_there schema k v rows none =
     any_kept schema k v rows ∙ ap (λ o. is_some (kept (has_value schema k v) o))
-    (unmapped schema k _ (sym (find_mapped (alt_entry schema k) (from_value v) (in_order schema k rows)) ∙ none))
+    (alt_none schema k (from_value v) rows none)
 
 -- the entry of a prime value tells
 pub there_by_prime : (schema : Schema) (slots : Slots) (v : List ℕ) (places : List Place) (rows : List Row) → AreAt schema slots places rows
@@ -136,6 +106,4 @@ there_by_prime schema slots v [] [] at = refl
 there_by_prime schema slots v [] (row ∷ rows) at = absurd at
 there_by_prime schema slots v (place ∷ places) [] at = absurd at
 there_by_prime schema slots v (place ∷ places) (row ∷ rows) at =
-    either (has_value schema 0 v row) (list_any (has_value schema 0 v) (row ∷ rows) ≡ is_some (find (has_prime v) (prime_entries schema (place ∷ places) (row ∷ rows))))
-    (λ yes. rw yes refl)
-    (λ no. rw no (there_by_prime schema slots v places rows at.1))
+    grind (arith, common_steps, there_by_prime schema slots v places rows at.1)

@@ -1,14 +1,13 @@
 -- What is opened by the header of a file that stands, stands for the same records.
 use Rattle.std.proofs.Common.{◌≡◌, ℕ, ◌+◌, ◌^◌, ◌≤◌, ◌<◌, List, [], ◌∷◌, length, drop, map, None, refl, ap, sym, subst, ◌∙◌, arith}
 use Rattle.std.specs.Prelude.{IsTrue}
-use Rattle.std.specs.Ordering.{is_lt}
+use Rattle.std.proofs.lemmas.Grind.{common_steps}
 use Rattle.std.proofs.lemmas.List.{length-map}
 use Rattle.std.proofs.Math.Bridge.{le_prop}
 use mathlib.Core.HLevel.{is_prop→PathP}
 use Rattle.record_layout.specs.Schema.{Schema, key_at}
 use Rattle.indexed_file.specs.File.{Row}
 use Rattle.indexed_file.specs.Sound.{is_file}
-use Rattle.indexed_file.specs.Rank.{row_cmp}
 use Rattle.pages.specs.PageMap.{PageMap}
 use Rattle.tree_node.specs.declared.shape.Shape.{Shape}
 use Rattle.bplus_tree.specs.declared.tree.Tree.{Tree}
@@ -33,7 +32,6 @@ use Rattle.open_file.specs.Stored.{AreAt, stamps_length}
 use Rattle.open_file.specs.Parts.{Parts, heap_pages, prime_pages, alternate_pages}
 use Rattle.open_file.specs.Stands.{IsPlaced}
 use Rattle.open_file.specs.Headers.{is_read_back}
-use Rattle.open_file.proofs.OrderLemmas.{either}
 use Rattle.open_file.proofs.PartsLemmas.{found_at}
 
 -- ---- shapes of the same numbers are one
@@ -109,14 +107,11 @@ heap_moved old new pages slots own shape first page slot s =
 
 put_more : (schema : Schema) (k : ℕ) (row : Row) (rows : List Row) → length (put_row schema k row rows) ≡ length rows + 1
 put_more schema k row [] = refl
-put_more schema k row (next ∷ rows) =
-    either (is_lt (row_cmp schema k next row)) (length (put_row schema k row (next ∷ rows)) ≡ length (next ∷ rows) + 1)
-    (λ yes. rw yes (let more = put_more schema k row rows in omega (arith, more)))
-    (λ no. rw no (omega arith))
+put_more schema k row (next ∷ rows) = grind (arith, common_steps, put_more schema k row rows)
 
 in_order_many : (schema : Schema) (k : ℕ) (rows : List Row) → length (in_order schema k rows) ≡ length rows
 in_order_many schema k [] = refl
-in_order_many schema k (row ∷ rows) = let more = put_more schema k row (in_order schema k rows) in let rest = in_order_many schema k rows in omega (arith, more, rest)
+in_order_many schema k (row ∷ rows) = omega (arith, put_more schema k row (in_order schema k rows), in_order_many schema k rows)
 
 pub alt_entries_many : (schema : Schema) (k : ℕ) (rows : List Row) → length (alt_entries schema k rows) ≡ length rows
 alt_entries_many schema k rows = length-map (in_order schema k rows) _ ∙ in_order_many schema k rows

@@ -57,7 +57,5 @@ last_is_highest schema slots next (place ∷ (other ∷ places)) (row ∷ []) at
 last_is_highest schema slots next (place ∷ (other ∷ places)) (row ∷ (second ∷ rows)) at sound =
     let parts = rows_parts schema next row (second ∷ rows) sound in
     let rest = last_is_highest schema slots next (other ∷ places) (second ∷ rows) at.1 parts.2 in
-    rest ∙ sym (step schema row (second ∷ rows) (highest_of schema (second ∷ rows)) refl (λ e. nothing _ e) parts.1)
-  where
-    nothing : (v : List ℕ) → Some v ≡ None → ⊥
-    nothing v e = cc
+    rest ∙ sym (step schema row (second ∷ rows) (highest_of schema (second ∷ rows)) refl
+    (λ e. let none : Some (greater_of (prime_of schema second.bytes) (highest_of schema rows)) ≡ None = e in cc) parts.1)

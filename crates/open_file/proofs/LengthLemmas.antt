@@ -1,6 +1,6 @@
 -- How long a row is, and its stamps in the heap.
 use Rattle.std.proofs.Common.{◌≡◌, ℕ, ◌+◌, ◌≤◌, true, List, [], ◌∷◌, length, drop, refl, arith, length-append, length-drop}
-use Rattle.std.specs.Prelude.{nat_le, ◌==◌}
+use Rattle.std.specs.Prelude.{nat_le}
 use Rattle.std.proofs.lemmas.Grind.{common_steps}
 use Rattle.byteorder.specs.Endian.{big_bytes}
 use Rattle.record_layout.specs.declared.schema.KeyPart.{KeyPart}
@@ -9,6 +9,7 @@ use Rattle.indexed_file.specs.File.{Row}
 use Rattle.indexed_file.specs.Sound.{is_row}
 use Rattle.open_file.specs.Stored.{stamp_bytes, stamps_length}
 use Rattle.open_file.proofs.OrderLemmas.{either}
+use Rattle.open_file.proofs.PartsLemmas.{from_eq}
 use Rattle.indexed_file.proofs.RowLemmas.{row_parts}
 use Rattle.std.proofs.lemmas.Bool.{and_parts}
 
@@ -30,9 +31,6 @@ stamp_length (part ∷ parts) (stamp ∷ stamps) h =
 
 from_le : (a b : ℕ) → nat_le a b ≡ true → a ≤ b
 from_le a b h = grind (arith, common_steps)
-
-from_eq : (a b : ℕ) → (a == b) ≡ true → a ≡ b
-from_eq a b h = grind (arith, common_steps)
 
 pub is_made : (schema : Schema) (next : ℕ) (row : Row) → is_row schema next row ≡ true → IsMade schema row
 is_made schema next row h =

@@ -1,8 +1,14 @@
 -- A change of one part leaves the others.
-use Rattle.std.proofs.Common.{◌≡◌, ◌≢◌, ℕ, zero, suc, ◌+◌, ◌==◌, ◌≤◌, ◌<◌, true, false, List, [], ◌∷◌, length, Option, Some, None, refl, ap, sym, subst, ◌∙◌, arith}
+use Rattle.std.proofs.Common.{◌≡◌, ◌≢◌, ℕ, zero, suc, ◌+◌, ◌==◌, ◌≤◌, ◌<◌, true, false, List, [], ◌∷◌, length, Option, None, refl, ap, sym}
+use Rattle.std.proofs.Common.{subst, ◌∙◌, arith}
 use Rattle.std.specs.Prelude.{slice_index_or, slice_set, IsSome, nat_lt}
+use Rattle.std.proofs.lemmas.Bool.{ltb-true, ltb-false}
 use Rattle.std.proofs.lemmas.Grind.{common_steps}
+use Rattle.std.proofs.lemmas.List.{get_or-set_same as set_same, get_or-set_other as set_other, length-set as set_length, get_or_past}
+pub use Rattle.std.proofs.lemmas.List.{get_or_default as same_default}
 use Rattle.page_bytes.specs.Each.{Each}
+use Rattle.page_marks.proofs.EachLemmas.{outside_symm}
+pub use Rattle.page_marks.proofs.EachLemmas.{each_weaker as each_map, each_both}
 use Rattle.pages.specs.PageMap.{PageMap}
 use Rattle.pages.specs.Owners.{IsOutside, ChangesPages}
 use Rattle.key_index.specs.declared.entry.PrimeEntry.{PrimeEntry}
@@ -22,47 +28,6 @@ use Rattle.open_file.proofs.OrderLemmas.{either}
 
 -- ---- lists
 
-pub each_map : {X : Type 0} (P Q : X → Type 0) → ((x : X) → P x → Q x) → (xs : List X) → Each P xs → Each Q xs
-each_map P Q f [] h = tt
-each_map P Q f (x ∷ xs) h = (f x h.0, each_map P Q f xs h.1)
-
-pub each_both : {X : Type 0} (P Q R : X → Type 0) → ((x : X) → P x → Q x → R x) → (xs : List X) → Each P xs → Each Q xs → Each R xs
-each_both P Q R f [] h k = tt
-each_both P Q R f (x ∷ xs) h k = (f x h.0 k.0, each_both P Q R f xs h.1 k.1)
-
--- of two lists no one has an element of the other
-swapped : (xs ys : List ℕ) → Each (λ y. IsOutside xs y) ys → Each (λ x. IsOutside ys x) xs
-swapped [] ys h = tt
-swapped (x ∷ xs) ys h =
-    (each_map (λ y. IsOutside (x ∷ xs) y) (λ y. x ≢ y) (λ y out. λ e. out.0 (sym e)) ys h, swapped xs ys (each_map (λ y. IsOutside (x ∷ xs) y) (λ y. IsOutside xs y) (λ y out. out.1) ys h))
-
-pub set_same : {X : Type 0} (xs : List X) (i : ℕ) (y d : X) → i < length xs → slice_index_or (slice_set xs i y) i d ≡ y
-set_same [] i y d within = absurd (omega (arith, within))
-set_same (x ∷ xs) zero y d within = refl
-set_same (x ∷ xs) (suc i) y d within = set_same xs i y d (omega (arith, within))
-
-pub set_other : {X : Type 0} (xs : List X) (i j : ℕ) (y d : X) → j ≢ i → slice_index_or (slice_set xs i y) j d ≡ slice_index_or xs j d
-set_other [] i j y d other = refl
-set_other (x ∷ xs) zero zero y d other = absurd (other refl)
-set_other (x ∷ xs) zero (suc j) y d other = refl
-set_other (x ∷ xs) (suc i) zero y d other = refl
-set_other (x ∷ xs) (suc i) (suc j) y d other = set_other xs i j y d (λ e. other (ap suc e))
-
-pub set_length : {X : Type 0} (xs : List X) (i : ℕ) (y : X) → length (slice_set xs i y) ≡ length xs
-set_length [] i y = refl
-set_length (x ∷ xs) zero y = refl
-set_length (x ∷ xs) (suc i) y = ap suc (set_length xs i y)
-
-beyond : {X : Type 0} (xs : List X) (k : ℕ) (d : X) → length xs ≤ k → slice_index_or xs k d ≡ d
-beyond [] k d past = refl
-beyond (x ∷ xs) zero d past = absurd (omega (arith, past))
-beyond (x ∷ xs) (suc k) d past = beyond xs k d (omega (arith, past))
-
-pub same_default : {X : Type 0} (xs : List X) (i : ℕ) (a b : X) → i < length xs → slice_index_or xs i a ≡ slice_index_or xs i b
-same_default [] i a b within = absurd (omega (arith, within))
-same_default (x ∷ xs) zero a b within = refl
-same_default (x ∷ xs) (suc i) a b within = same_default xs i a b (omega (arith, within))
-
 each_at : {X : Type 0} (P : X → Type 0) (xs : List X) (i : ℕ) (d : X) → i < length xs → Each P xs → P (slice_index_or xs i d)
 each_at P [] i d within h = absurd (omega (arith, within))
 each_at P (x ∷ xs) zero d within h = h.0
@@ -79,13 +44,11 @@ from_eq a b h = grind (arith, common_steps)
 pub from_ne : (a b : ℕ) → (a == b) ≡ false → a ≢ b
 from_ne a b h = grind (arith, common_steps)
 
-no_some : {X : Type 0} (o : Option X) → (IsSome o → ⊥) → o ≡ None
-no_some None h = refl
-no_some (Some x) h = absurd (h refl)
+pub no_some : {X : Type 0} (o : Option X) → (IsSome o → ⊥) → o ≡ None
+no_some o h = grind (arith, common_steps)
 
 pub some_none : {X : Type 0} (o : Option X) → IsSome o → o ≡ None → ⊥
-some_none None s e = cc
-some_none (Some x) s e = let h : Some x ≡ None = e in cc
+some_none o s e = grind (arith, common_steps)
 
 -- ---- the partition
 
@@ -114,7 +77,8 @@ parted_after before after owns i now within changes parted used = record {
       (λ no. let a_other = from_ne a i no in
       either (b == i) (Each (λ n. IsOutside (own_at (slice_set owns i now) a) n) (own_at (slice_set owns i now) b))
       (λ yes. let e = from_eq b i yes in
-      rw (e, set_same owns i now [] within, set_other owns i a now [] a_other) (swapped now (own_at owns a) (outside_now before after owns i now changes parted used a a_other)))
+      rw (e, set_same owns i now [] within, set_other owns i a now [] a_other)
+      (outside_symm (own_at owns a) now (outside_now before after owns i now changes parted used a a_other)))
       (λ none. let b_other = from_ne b i none in
       rw (set_other owns i a now [] a_other, set_other owns i b now [] b_other) (parted.apart a b differ)));
   covers = λ n out.
@@ -136,20 +100,14 @@ module _ (heap : Heap) (prime : PrimeIndex) (alternates : List AltIndex) (before
   used_alternate : (j : ℕ) → Each (λ n. IsSome (before n)) (alternate_pages p.owns j)
   used_alternate j =
       either (nat_lt j (length alternates)) (Each (λ n. IsSome (before n)) (alternate_pages p.owns j))
-      (λ yes. let within : j < length alternates = from_lt j (length alternates) yes in
+      (λ yes. let within = ltb-true j (length alternates) yes in
       let index = found_at alternates j within in
       (alt_live index.0 before (entries j) (alternate_pages p.owns j) (p.alternates_stand j index.0 within index.1)).live)
-      (λ no. let past : length alternates ≤ j = from_not_lt j (length alternates) no in
-      let none : alternate_pages p.owns j ≡ [] = beyond p.owns (j + 2) [] (omega (arith, past, p.owners)) in
+      (λ no. let past : length alternates ≤ j = ltb-false j (length alternates) no in
+      let none : alternate_pages p.owns j ≡ [] = get_or_past p.owns (j + 2) [] (omega (arith, past, p.owners)) in
       rw none tt)
-    where
-      from_lt : (a b : ℕ) → nat_lt a b ≡ true → a < b
-      from_lt a b h = grind (arith, common_steps)
 
-      from_not_lt : (a b : ℕ) → nat_lt a b ≡ false → b ≤ a
-      from_not_lt a b h = grind (arith, common_steps)
-
-  used : AreUsed before p.owns
+  pub used : AreUsed before p.owns
   used zero = chain_live before (first_heap_page heap) (heap_pages p.owns) p.heap_stands.chain
   used (suc zero) = (prime_live prime before primes (prime_pages p.owns) p.prime_stands).live
   used (suc (suc j)) = let e : j + 2 ≡ suc (suc j) = omega arith in subst (λ m. Each (λ n. IsSome (before n)) (own_at p.owns m)) e (used_alternate j)

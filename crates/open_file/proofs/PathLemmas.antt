@@ -1,7 +1,8 @@
 -- An open file with another path stands for the same file.
-use Rattle.std.proofs.Common.{◌≡◌, ℕ, ◌+◌, ◌<◌, false, List, length, Option, None, Some, Ok, Err, ap, sym, subst, ◌∙◌}
+use Rattle.std.proofs.Common.{◌≡◌, ℕ, ◌+◌, ◌<◌, false, List, length, Option, Some, Ok, Err, ap, sym, subst, ◌∙◌}
 use Rattle.std.specs.Prelude.{Result}
 use Rattle.std.specs.Result.{is_err}
+use Rattle.std.proofs.lemmas.List.{get_or_default}
 use Rattle.io_state.specs.declared.fault.Fault.{Fault}
 use Rattle.pages.specs.Answer.{IsAnswer}
 use Rattle.std.specs.Prelude.{slice_index_or}
@@ -18,7 +19,6 @@ use Rattle.open_file.specs.InOrder.{alt_entries, prime_entries}
 use Rattle.open_file.specs.Paths.{IsOnPath, IsInPrime, IsInAlternate}
 use Rattle.open_file.specs.Parts.{alternate_pages}
 use Rattle.open_file.specs.Stands.{Stands}
-use Rattle.open_file.proofs.PartsLemmas.{same_default}
 
 -- the path is one of its index, as the file's rows have it
 abbrev pub IsPathOf : Option Path → (opened : OpenFile) (pages : PageMap) (file : File) → Stands opened pages file → Type 0
@@ -60,7 +60,7 @@ in_alternate path j cursor place fact is behind = rw is at behind
 
 -- what stands at a place of a list does not depend on what is given where nothing does
 only_one : (indexes : List AltIndex) (j : ℕ) (index other : AltIndex) → j < length indexes → index ≡ slice_index_or indexes j index → other ≡ slice_index_or indexes j other → index ≡ other
-only_one indexes j index other within is again = is ∙ same_default indexes j index other within ∙ sym again
+only_one indexes j index other within is again = is ∙ get_or_default indexes j index other within ∙ sym again
 
 -- a cursor of the index of an alternate key is on its path
 pub on_alternate : (opened : OpenFile) (pages : PageMap) (file : File) (stands : Stands opened pages file) (j : ℕ) (index : AltIndex) (cursor : AltCursor)

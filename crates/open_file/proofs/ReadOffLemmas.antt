@@ -2,6 +2,7 @@
 use Rattle.std.proofs.Common.{◌≡◌, ℕ, ◌^◌, ◌≤◌, ◌<◌, true, List, [], ◌∷◌, ◌++◌, length, drop, Some, refl, ap, sym, subst, ◌∙◌, arith, length-drop}
 use Rattle.std.specs.Prelude.{nat_lt, nat_le, ◌&&◌}
 use Rattle.std.specs.List.{list_all}
+use Rattle.std.proofs.Math.Seq.{drop-append_seam}
 use Rattle.std.proofs.lemmas.Bool.{and_parts}
 use Rattle.std.proofs.lemmas.Grind.{common_steps}
 use Rattle.byteorder.specs.Endian.{big_number, big_bytes}
@@ -27,7 +28,6 @@ use Rattle.open_file.specs.declared.open_file.OpenFile.{OpenFile}
 use Rattle.open_file.proofs.OrderLemmas.{either}
 use Rattle.open_file.proofs.PartsLemmas.{from_eq}
 use Rattle.open_file.proofs.LengthLemmas.{stamp_length}
-use Rattle.open_file.proofs.ReadLemmas.{drop_front}
 
 below : (s next : ℕ) → (nat_le 1 s && nat_lt s next) ≡ true → s < next
 below s next h = grind (arith, common_steps)
@@ -57,7 +57,8 @@ row_back schema next row fit limit =
     let long : length row.stamps ≡ length (drop 1 schema.keys) = omega (arith, many, length-drop 1 schema.keys) in
     let stamps = stamps_back (drop 1 schema.keys) row.stamps row.bytes next long parts.2 limit in
     let bytes : drop (stamps_length (drop 1 schema.keys)) (stored schema row) ≡ row.bytes =
-    ap (λ n. drop n (stored schema row)) (sym (stamp_length (drop 1 schema.keys) row.stamps long)) ∙ drop_front (stamp_bytes (drop 1 schema.keys) row.stamps) row.bytes in
+    ap (λ n. drop n (stored schema row)) (sym (stamp_length (drop 1 schema.keys) row.stamps long))
+    ∙ drop-append_seam (stamp_bytes (drop 1 schema.keys) row.stamps) row.bytes in
     λ i. record { bytes = bytes i; stamps = stamps i }
 
 rows_back : (schema : Schema) (heap : Heap) (pages : PageMap) (slots : Slots) (own : List ℕ) (next : ℕ) (places : List Place) (rows : List Row) → HeapStands heap pages slots own → AreAt schema slots places rows

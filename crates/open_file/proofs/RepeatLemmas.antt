@@ -5,7 +5,8 @@ use Rattle.std.specs.Option.{option_map_or}
 use Rattle.std.specs.List.{list_any}
 use Rattle.std.specs.Ordering.{is_lt, is_gt, is_eq, nat_cmp, ordering_then, ordering_reverse}
 use Rattle.std.specs.declared.cmp.Ordering.{Ordering}
-use Rattle.std.specs.declared.cmp.Ordering.TheVariants.{Less, Equal, Greater}
+use Rattle.std.specs.declared.cmp.Ordering.TheVariants.{Less, Greater}
+use Rattle.std.specs.Cmp.{Equal-is}
 use Rattle.std.proofs.lemmas.Cmp.{nat_list_cmp_total}
 use Rattle.std.proofs.lemmas.Map.Text.{is_eq-slice_cmp}
 use Rattle.std.proofs.lemmas.Bool.Decides.{nat_tests}
@@ -24,24 +25,12 @@ use Rattle.open_file.proofs.RowLemmas.{AreSorted, in_order_sorted}
 -- a test of the entries of rows is a test of the rows
 pub find_mapped : {X Y : Type 0} (f : X → Y) (test : Y → Bool) (xs : List X) → find test (map f xs) ≡ option_map f (find (λ x. test (f x)) xs)
 find_mapped f test [] = refl
-find_mapped f test (x ∷ xs) =
-    either (test (f x)) (find test (map f (x ∷ xs)) ≡ option_map f (find (λ x. test (f x)) (x ∷ xs)))
-    (λ yes. rw yes refl)
-    (λ no. rw no (find_mapped f test xs))
-
-either_way : (a b c : Bool) → (a || (b || c)) ≡ (b || (a || c))
-either_way true true c = refl
-either_way true false c = refl
-either_way false true c = refl
-either_way false false c = refl
+find_mapped f test (x ∷ xs) = grind (arith, common_steps, find_mapped f test xs)
 
 -- some row passes, in whatever order
 any_put : (schema : Schema) (k : ℕ) (test : Row → Bool) (row : Row) (rows : List Row) → list_any test (put_row schema k row rows) ≡ list_any test (row ∷ rows)
 any_put schema k test row [] = refl
-any_put schema k test row (next ∷ rows) =
-    either (is_lt (row_cmp schema k next row)) (list_any test (put_row schema k row (next ∷ rows)) ≡ list_any test (row ∷ next ∷ rows))
-    (λ yes. rw (yes, any_put schema k test row rows) (either_way (test next) (test row) (list_any test rows)))
-    (λ no. rw no refl)
+any_put schema k test row (next ∷ rows) = grind (arith, common_steps, any_put schema k test row rows)
 
 pub any_in_order : (schema : Schema) (k : ℕ) (test : Row → Bool) (rows : List Row) → list_any test rows ≡ list_any test (in_order schema k rows)
 any_in_order schema k test [] = refl
@@ -52,46 +41,28 @@ abbrev pub comes_after : Schema → ℕ → List ℕ → ℕ → Row → Bool
 comes_after schema k v s row = is_gt (rank_cmp (value_of schema k row.bytes) (stamp_of k row) v s)
 
 tied_after : (o p : Ordering) → is_gt (ordering_then o p) ≡ true → is_eq o ≡ true → is_gt p ≡ true
-tied_after Less p h e = absurd (cc)
-tied_after Equal p h e = h
-tied_after Greater p h e = absurd (cc)
+tied_after o p h e = grind (arith, common_steps)
 
 above_after : (o p : Ordering) → is_gt (ordering_then o p) ≡ true → is_eq o ≡ false → o ≡ Greater
-above_after Less p h e = absurd (cc)
-above_after Equal p h e = absurd (cc)
-above_after Greater p h e = refl
+above_after o p h e = grind (arith, common_steps)
 
 not_after : (o p : Ordering) → is_gt (ordering_then o p) ≡ false → is_eq o ≡ true → is_gt p ≡ false
-not_after Less p h e = absurd (cc)
-not_after Equal p h e = h
-not_after Greater p h e = absurd (cc)
-
-tied : (o : Ordering) → is_eq o ≡ true → o ≡ Equal
-tied Less e = absurd (cc)
-tied Equal e = refl
-tied Greater e = absurd (cc)
+not_after o p h e = grind (arith, common_steps)
 
 gt_numbers : (a s : ℕ) → is_gt (nat_cmp a s) ≡ nat_lt s a
 gt_numbers a s = grind (arith, common_steps, nat_tests)
-
-and_false : (b : Bool) → (b && false) ≡ false
-and_false true = refl
-and_false false = refl
 
 -- a row of this value is below one of a greater value
 pub value_below : (schema : Schema) (k : ℕ) (v : List ℕ) (row other : Row) → value_cmp (value_of schema k row.bytes) v ≡ Greater → is_lt (row_cmp schema k other row) ≡ false → has_value schema k v other ≡ false
 value_below schema k v row other above low =
     either (has_value schema k v other) (has_value schema k v other ≡ false)
     (λ yes.
-    let same = tied (value_cmp (value_of schema k other.bytes) v) (is_eq-slice_cmp (value_of schema k other.bytes) v ∙ yes) in
+    let same = (Equal-is (value_cmp (value_of schema k other.bytes) v)).0 (is_eq-slice_cmp (value_of schema k other.bytes) v ∙ yes) in
     let under : value_cmp v (value_of schema k row.bytes) ≡ Less = nat_list_cmp_total.antisymm v (value_of schema k row.bytes) ∙ ap ordering_reverse above in
     let less : value_cmp (value_of schema k other.bytes) (value_of schema k row.bytes) ≡ Less = nat_list_cmp_total.congr (value_of schema k other.bytes) v (value_of schema k row.bytes) same ∙ under in
     let lower : is_lt (row_cmp schema k other row) ≡ true = ap (λ o. is_lt (ordering_then o (nat_cmp (stamp_of k other) (stamp_of k row)))) less in
-    absurd (differ lower low))
+    absurd (cc))
     (λ no. no)
-  where
-    differ : {b : Bool} → b ≡ true → b ≡ false → ⊥
-    differ e k = let both : true ≡ false = sym e ∙ k in cc
 
 none_later : (schema : Schema) (k : ℕ) (v : List ℕ) (s : ℕ) (row : Row) (rows : List Row) → value_cmp (value_of schema k row.bytes) v ≡ Greater
     → Each (λ other. is_lt (row_cmp schema k other row) ≡ false) rows → list_any (λ other. has_value schema k v other && nat_lt s (stamp_of k other)) rows ≡ false

@@ -1,11 +1,12 @@
 -- The stamps of a new record, written one after another.
 use Rattle.std.proofs.Common.{◌≡◌, ℕ, ◌+◌, ◌*◌, ◌≤◌, ◌<◌, true, false, List, [], ◌∷◌, ◌++◌, length, drop, map, refl, ap, sym, ◌∙◌, arith, append_assoc, length-append, length-drop}
 use Rattle.std.specs.Prelude.{slice_index_or, if◌then◌else◌}
+use Rattle.std.proofs.lemmas.Grind.{common_steps}
+use Rattle.std.proofs.lemmas.List.{append-nil}
 use Rattle.byteorder.specs.Endian.{big_bytes}
 use Rattle.record_layout.specs.declared.schema.KeyPart.{KeyPart}
 use Rattle.record_layout.specs.Schema.{has_duplicates}
 use Rattle.open_file.specs.Stored.{stamp_bytes, stamps_length}
-use Rattle.open_file.proofs.OrderLemmas.{either}
 use Rattle.open_file.proofs.LookLemmas.{dropped, all_dropped}
 
 abbrev pub stamps_of : ℕ → List KeyPart → List ℕ
@@ -46,23 +47,16 @@ written_skip keys d stamp k written lt one w =
           omega (arith, l, w.long));
     }
 
-append_nil : (xs : List ℕ) → xs ++ [] ≡ xs
-append_nil [] = refl
-append_nil (x ∷ xs) = ap (λ r. x ∷ r) (append_nil xs)
-
 pub written_whole : (keys : List KeyPart) (stamp k : ℕ) (written : List ℕ) → length keys ≤ k → Written keys stamp k written → (written ≡ stamp_bytes (drop 1 keys) (stamps_of stamp (drop 1 keys))) × (length written ≡ stamps_length (drop 1 keys))
 written_whole keys stamp k written all w =
     let e = all_dropped keys k all in (
-      sym (append_nil written) ∙ ap (λ ks. written ++ stamp_bytes ks (stamps_of stamp ks)) (sym e) ∙ w.bytes,
+      sym (append-nil written) ∙ ap (λ ks. written ++ stamp_bytes ks (stamps_of stamp ks)) (sym e) ∙ w.bytes,
       (let l : stamps_length (drop k keys) ≡ 0 = ap stamps_length e in omega (arith, l, w.long)),
     )
 
 at_most : (parts : List KeyPart) → stamps_length parts ≤ 8 * length parts
 at_most [] = omega arith
-at_most (part ∷ parts) =
-    either (has_duplicates part) (stamps_length (part ∷ parts) ≤ 8 * length (part ∷ parts))
-    (λ y. rw y (omega (arith, at_most parts)))
-    (λ n. rw n (omega (arith, at_most parts)))
+at_most (part ∷ parts) = grind (arith, common_steps, at_most parts)
 
 -- at most 64 bytes of stamps
 pub few_stamps : (keys : List KeyPart) → length keys ≤ 9 → stamps_length (drop 1 keys) ≤ 64

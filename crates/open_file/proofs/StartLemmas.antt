@@ -1,10 +1,12 @@
 -- The first row that START asks for, by the first that it begins with.
 use Rattle.std.proofs.Common.{◌≡◌, ℕ, zero, suc, Bool, true, false, List, [], ◌∷◌, length, take, Option, Some, None, refl, ap, sym, ◌∙◌}
+use Rattle.std.proofs.Common.{arith}
 use Rattle.std.specs.Prelude.{find, bytes_eq}
 use Rattle.std.specs.Ordering.{is_lt, is_ge, is_eq, nat_cmp, ordering_then, ordering_reverse}
 use Rattle.std.specs.declared.cmp.Ordering.{Ordering}
-use Rattle.std.specs.declared.cmp.Ordering.TheVariants.{Less, Equal, Greater}
+use Rattle.std.specs.declared.cmp.Ordering.TheVariants.{Less, Greater}
 use Rattle.std.specs.Cmp.{IsTotalOrder}
+use Rattle.std.proofs.lemmas.Grind.{common_steps}
 use Rattle.std.proofs.lemmas.Map.Text.{is_eq-slice_cmp}
 use Rattle.std.proofs.lemmas.Cmp.{nat_list_cmp_total}
 use Rattle.io_state.specs.declared.modes.Relation.{Relation}
@@ -16,23 +18,14 @@ use Rattle.indexed_file.specs.Rank.{row_cmp, satisfies}
 use Rattle.page_bytes.specs.Each.{Each}
 use Rattle.open_file.specs.InOrder.{alt_entry}
 use Rattle.open_file.specs.Steps.{leads_alt, is_wanted_value}
-use Rattle.open_file.proofs.OrderLemmas.{either}
+use Rattle.open_file.proofs.OrderLemmas.{either, by_not_lt, tied_ge, above}
 use Rattle.open_file.proofs.RowLemmas.{AreSorted}
 use Rattle.open_file.proofs.FirstLemmas.{kept}
-
-differ : {b : Bool} → b ≡ true → b ≡ false → ⊥
-differ e k = let both : true ≡ false = sym e ∙ k in cc
-
--- an order that is not less is equal or greater
-not_less : (o : Ordering) (P : Type 0) → is_lt o ≡ false → (o ≡ Equal → P) → (o ≡ Greater → P) → P
-not_less Less P h e g = absurd (cc)
-not_less Equal P h e g = e refl
-not_less Greater P h e g = g refl
 
 -- x is not below y, which is above z
 still_above : {X : Type 0} (R : X → X → Ordering) (o : IsTotalOrder R) (x y z : X) → is_lt (R x y) ≡ false → R y z ≡ Greater → R x z ≡ Greater
 still_above R o x y z low above =
-    not_less (R x y) (R x z ≡ Greater) low
+    by_not_lt (R x y) (R x z ≡ Greater) low
     (λ tied. o.congr x y z tied ∙ above)
     (λ higher.
     let back : R z y ≡ Less = o.antisymm z y ∙ ap ordering_reverse above in
@@ -40,9 +33,7 @@ still_above R o x y z low above =
     o.antisymm x z ∙ ap ordering_reverse (o.trans z y x back next))
 
 then_ge : (a b c : Ordering) → is_ge b ≡ is_ge c → is_ge (ordering_then a b) ≡ is_ge (ordering_then a c)
-then_ge Less b c h = refl
-then_ge Equal b c h = h
-then_ge Greater b c h = refl
+then_ge a b c h = grind (arith, common_steps)
 
 -- what stands behind the first bytes does not make a value less
 pub front_ge : (v w : List ℕ) → is_ge (value_cmp (take (length w) v) w) ≡ is_ge (value_cmp v w)
@@ -52,9 +43,7 @@ front_ge [] (y ∷ ys) = refl
 front_ge (x ∷ xs) (y ∷ ys) = then_ge (nat_cmp x y) (value_cmp (take (length ys) xs) ys) (value_cmp xs ys) (front_ge xs ys)
 
 then_low : (a b c : Ordering) → (is_lt b ≡ false → is_lt c ≡ false) → is_lt (ordering_then a b) ≡ false → is_lt (ordering_then a c) ≡ false
-then_low Less b c f h = h
-then_low Equal b c f h = f h
-then_low Greater b c f h = refl
+then_low a b c f h = grind (arith, common_steps)
 
 -- the first bytes of a value that is not less are not less
 front_up : (n : ℕ) (x v : List ℕ) → is_lt (value_cmp x v) ≡ false → is_lt (value_cmp (take n x) (take n v)) ≡ false
@@ -66,19 +55,7 @@ front_up (suc n) (x ∷ xs) (y ∷ ys) low =
     then_low (nat_cmp x y) (value_cmp xs ys) (value_cmp (take n xs) (take n ys)) (front_up n xs ys) low
 
 first_low : (a b : Ordering) → is_lt (ordering_then a b) ≡ false → is_lt a ≡ false
-first_low Less b h = h
-first_low Equal b h = refl
-first_low Greater b h = refl
-
-above : (o : Ordering) → is_ge o ≡ true → is_eq o ≡ false → o ≡ Greater
-above Less h e = absurd (cc)
-above Equal h e = absurd (cc)
-above Greater h e = refl
-
-tied_ge : (o : Ordering) → is_eq o ≡ true → is_ge o ≡ true
-tied_ge Less e = absurd (cc)
-tied_ge Equal e = refl
-tied_ge Greater e = absurd (cc)
+first_low a b h = grind (arith, common_steps)
 
 -- where the first bytes of a row are above the operand, no row that is not below it begins with the operand
 none_begins : (schema : Schema) (k : ℕ) (w : List ℕ) (row : Row) (rows : List Row) → value_cmp (take (length w) (value_of schema k row.bytes)) w ≡ Greater
@@ -107,12 +84,12 @@ first_begins schema k w (row ∷ rows) sorted =
     (λ same. rw (ge, same) refl)
     (λ other. rw (ge, other) (none_begins schema k w row rows (above (value_cmp front w) (front_ge v w ∙ ge) (eq ∙ other)) sorted.0)))
     (λ lt. either (bytes_eq front w) _
-    (λ same. absurd (differ (sym (front_ge v w) ∙ tied_ge (value_cmp front w) (eq ∙ same)) lt))
+    (λ same. let ge = sym (front_ge v w) ∙ tied_ge (value_cmp front w) (eq ∙ same) in absurd (cc))
     (λ other. rw (lt, other) (first_begins schema k w rows sorted.1)))
 
 pub find_alike : {X : Type 0} (p q : X → Bool) → ((x : X) → p x ≡ q x) → (xs : List X) → find p xs ≡ find q xs
 find_alike p q same [] = refl
-find_alike p q same (x ∷ xs) = rw (same x) (either (q x) _ (λ is. rw is refl) (λ is. rw is (find_alike p q same xs)))
+find_alike p q same (x ∷ xs) = grind (arith, common_steps, same x, find_alike p q same xs)
 
 kept_all : (o : Option Row) → o ≡ kept (λ row. true) o
 kept_all None = refl

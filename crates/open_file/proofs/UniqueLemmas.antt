@@ -1,10 +1,11 @@
 -- The first entry of a value of a unique key: the one of stamp 0.
-use Rattle.std.proofs.Common.{◌≡◌, ℕ, ◌<◌, Bool, true, false, List, [], ◌∷◌, Some, None, refl, ap, sym, ◌∙◌, arith}
+use Rattle.std.proofs.Common.{◌≡◌, ℕ, ◌<◌, true, false, List, [], ◌∷◌, Some, None, refl, ap, sym, ◌∙◌, arith}
 use Rattle.std.specs.Prelude.{find, map, length, ◌&&◌, ◌==◌, cond, bytes_eq}
 use Rattle.std.specs.Option.{option_map_or}
 use Rattle.std.specs.Ordering.{nat_cmp, ordering_then, is_gt, is_eq}
 use Rattle.std.specs.declared.cmp.Ordering.{Ordering}
-use Rattle.std.specs.declared.cmp.Ordering.TheVariants.{Less, Equal, Greater}
+use Rattle.std.proofs.Math.Bool.{and-true}
+use Rattle.std.proofs.lemmas.Bool.{and_parts}
 use Rattle.std.proofs.lemmas.Bool.Decides.{nat_tests}
 use Rattle.std.proofs.lemmas.Grind.{common_steps}
 use Rattle.std.proofs.lemmas.Map.Text.{is_eq-slice_cmp}
@@ -18,30 +19,27 @@ use Rattle.key_index.specs.Entries.{entry_has_value, has_rank, after_rank}
 use Rattle.key_index.specs.Calls.{IsAltFirst}
 use Rattle.open_file.specs.InOrder.{in_order, alt_entry, alt_entries}
 use Rattle.open_file.proofs.OrderLemmas.{either}
-use Rattle.open_file.proofs.RowLemmas.{both, each_row, stamp_zero}
+use Rattle.open_file.proofs.PartsLemmas.{each_map}
+use Rattle.open_file.proofs.RowLemmas.{each_row, stamp_zero}
 use Rattle.open_file.proofs.ByKeyLemmas.{in_order_each}
-use Rattle.open_file.proofs.FirstLemmas.{first_passes, same_bytes, differ}
+use Rattle.open_file.proofs.FirstLemmas.{first_passes, same_bytes}
 
 -- the entries of a unique key have stamp 0
 entries_zero : (schema : Schema) (k : ℕ) (rows : List Row) → Each (λ row. stamp_of k row ≡ 0) rows → Each (λ (e : AltEntry). e.stamp ≡ 0) (map (alt_entry schema k) rows)
 entries_zero schema k [] h = tt
 entries_zero schema k (row ∷ rows) h = (h.0, entries_zero schema k rows h.1)
 
-rows_zero : (schema : Schema) (next k : ℕ) (rows : List Row) → k < length schema.keys → has_duplicates (key_at schema k) ≡ false → Each (λ row. is_row schema next row ≡ true) rows → Each (λ row. stamp_of k row ≡ 0) rows
-rows_zero schema next k [] lt one h = tt
-rows_zero schema next k (row ∷ rows) lt one h = (stamp_zero schema next k row h.0 lt one, rows_zero schema next k rows lt one h.1)
-
-pub are_zero : (schema : Schema) (k : ℕ) (file : File) → is_file schema file ≡ true → k < length schema.keys → has_duplicates (key_at schema k) ≡ false → Each (λ (e : AltEntry). e.stamp ≡ 0) (alt_entries schema k file.rows)
+pub are_zero : (schema : Schema) (k : ℕ) (file : File) → is_file schema file ≡ true → k < length schema.keys
+    → has_duplicates (key_at schema k) ≡ false → Each (λ (e : AltEntry). e.stamp ≡ 0) (alt_entries schema k file.rows)
 are_zero schema k file sound lt one =
+    let rows = each_row schema file.next_stamp file.rows (and_parts _ _ sound).1 in
     entries_zero schema k (in_order schema k file.rows)
-    (in_order_each schema k (λ row. stamp_of k row ≡ 0) file.rows (rows_zero schema file.next_stamp k file.rows lt one (each_row schema file.next_stamp file.rows (both _ _ sound).1)))
-
-and_true : (b : Bool) → (b && true) ≡ b
-and_true true = refl
-and_true false = refl
+    (in_order_each schema k (λ row. stamp_of k row ≡ 0) file.rows
+    (each_map (λ row. is_row schema file.next_stamp row ≡ true) (λ row. stamp_of k row ≡ 0)
+    (λ row fit. stamp_zero schema file.next_stamp k row fit lt one) file.rows rows))
 
 same_rank : (v : List ℕ) (e : AltEntry) → e.stamp ≡ 0 → has_rank v 0 e ≡ entry_has_value v e
-same_rank v e zero = ap (λ (s : ℕ). bytes_eq e.value.items v && (s == 0)) zero ∙ and_true (bytes_eq e.value.items v)
+same_rank v e zero = ap (λ (s : ℕ). bytes_eq e.value.items v && (s == 0)) zero ∙ and-true (bytes_eq e.value.items v)
 
 found_alike : (v : List ℕ) (entries : List AltEntry) → Each (λ (e : AltEntry). e.stamp ≡ 0) entries → find (has_rank v 0) entries ≡ find (entry_has_value v) entries
 found_alike v [] h = refl
@@ -51,9 +49,7 @@ never_above : (s : ℕ) → is_gt (nat_cmp 0 s) ≡ false
 never_above s = grind (arith, common_steps, nat_tests)
 
 above : (o : Ordering) (s : ℕ) → is_gt (ordering_then o (nat_cmp 0 s)) ≡ true → is_eq o ≡ false
-above Less s h = refl
-above Equal s h = absurd (differ h (never_above s))
-above Greater s h = refl
+above o s h = grind (arith, common_steps, never_above s)
 
 -- an entry of stamp 0 that comes after a value and stamp has another value
 other : (v : List ℕ) (s : ℕ) (e : AltEntry) → e.stamp ≡ 0 → after_rank v s e ≡ true → entry_has_value v e ≡ false
@@ -72,7 +68,8 @@ unique_none v entries h none = sym (found_alike v entries h) ∙ none
 
 pub unique_some : (v : List ℕ) (entries : List AltEntry) → Each (λ (e : AltEntry). e.stamp ≡ 0) entries → (e : AltEntry) → find (has_rank v 0) entries ≡ Some e → IsAltFirst v entries (Some (record { entry = e; followed = false }))
 unique_some v entries h e found =
-    let value_is : e.value.items ≡ v = same_bytes e.value.items v (both (bytes_eq e.value.items v) (e.stamp == 0) (first_passes (has_rank v 0) entries e found)).0 in (
+    let has = and_parts (bytes_eq e.value.items v) (e.stamp == 0) (first_passes (has_rank v 0) entries e found) in
+    let value_is : e.value.items ≡ v = same_bytes e.value.items v has.0 in (
       sym (found_alike v entries h) ∙ found,
       sym (ap (λ (w : List ℕ). option_map_or (entry_has_value v) (find (after_rank w e.stamp) entries) false) value_is
           ∙ never_followed v e.stamp entries h),

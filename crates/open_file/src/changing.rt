@@ -78,9 +78,10 @@ impl OpenFile {
         to: &mut [u8],
     ) -> Result<usize, Fault>
         requires ready { P.shown.IsReady pages.old }
-        requires room { (slot_shape (heap_of self.now)).stamps + (slot_shape (heap_of self.now)).greatest ≤ length to.old }
-        ensures { ReadsStamped P.shown pages.old pages.new (slot_shape (heap_of self.now)) to.old to.new result
-            (Got (heap_of self.now) place) }
+        requires room { (slot_shape (heap_of self.now)).stamps + (slot_shape (heap_of self.now)).greatest
+            ≤ length to.old }
+        ensures { ReadsStamped P.shown pages.old pages.new (slot_shape (heap_of self.now)) to.old to.new
+            result (Got (heap_of self.now) place) }
     {
         self.heap.get(pages, place, to)
     }
