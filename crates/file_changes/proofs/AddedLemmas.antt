@@ -1,16 +1,12 @@
 -- An open file to whose parts a new record was added stands for the file with it.
 use Rattle.std.proofs.Common.{◌≡◌, ℕ, ◌+◌, ◌≤◌, ◌<◌, ◌^◌, Bool, true, false, List, [], ◌∷◌, length, Option, Some, None, refl, ap, sym, ◌∙◌, arith}
-use Rattle.std.specs.Prelude.{find, is_some, option_map, slice_index_or, nat_lt, ◌&&◌, ◌||◌, not, bytes_eq, ◌==◌}
+use Rattle.std.specs.Prelude.{find, is_some, option_map, slice_index_or, nat_lt, ◌&&◌, not, bytes_eq, ◌==◌}
 use Rattle.std.specs.List.{list_any}
-use Rattle.std.specs.Ordering.{is_eq, ordering_reverse}
-use Rattle.std.specs.declared.cmp.Ordering.{Ordering}
-use Rattle.std.specs.declared.cmp.Ordering.TheVariants.{Less, Equal, Greater}
-use Rattle.std.proofs.lemmas.Bool.{and_from, le-leb}
+use Rattle.std.proofs.lemmas.Bool.{and_from, or_parts, le-leb}
 use Rattle.std.proofs.lemmas.Grind.{common_steps}
 use Rattle.record_layout.specs.declared.schema.KeyPart.{KeyPart}
 use Rattle.record_layout.specs.Schema.{Schema, IsSchema, AreKeys, prime_of, value_of, is_duplicates, has_duplicates, no_key}
 use Rattle.indexed_file.specs.File.{Row, File, stamp_of}
-use Rattle.indexed_file.specs.Rank.{row_cmp}
 use Rattle.indexed_file.specs.Change.{clashes, is_there, added, new_row}
 use Rattle.indexed_file.specs.Sound.{is_file, is_length}
 use Rattle.indexed_file.proofs.SoundLemmas.{added_is_file}
@@ -28,18 +24,13 @@ use Rattle.open_file.specs.Parts.{Parts}
 use Rattle.open_file.specs.Stands.{Stands, IsShaped}
 use Rattle.file_changes.specs.Adding.{added_below, entry_of_record, stamp_in, AreFree}
 use Rattle.open_file.specs.declared.open_file.OpenFile.{OpenFile}
-use Rattle.open_file.proofs.RowLemmas.{row_total, put_each}
+use Rattle.open_file.proofs.ByKeyLemmas.{in_order_each}
 use Rattle.open_file.proofs.RepeatLemmas.{find_mapped}
 use Rattle.open_file.proofs.FirstLemmas.{there_by_prime}
 use Rattle.open_file.proofs.PartsLemmas.{said_so, each_map}
-use Rattle.file_changes.proofs.RankLemmas.{same_rank, new_rank, not_tied, new_stamp}
+use Rattle.file_changes.proofs.RankLemmas.{same_rank, new_rank, new_stamp}
 use Rattle.file_changes.proofs.InsertLemmas.{entries_inserted}
 use Rattle.file_changes.proofs.PlacedLemmas.{places_with, prime_entries_with, placed_with}
-
-reversed : (o : Ordering) → is_eq (ordering_reverse o) ≡ is_eq o
-reversed Less = refl
-reversed Equal = refl
-reversed Greater = refl
 
 -- the new record's entry in an alternate index
 entry_is : (schema : Schema) (stamp : ℕ) (bytes : List ℕ) (j : ℕ) → j + 1 < length schema.keys → alt_entry schema (j + 1) (new_row schema stamp bytes) ≡ entry_of_record schema stamp bytes j
@@ -54,20 +45,14 @@ said schema file bytes count j is sound clash many lt =
     let within : j + 1 < length schema.keys = omega (arith, lt, many) in
     let new = new_row schema file.next_stamp bytes in
     let apart = new_rank schema file bytes (j + 1) is sound clash within in
-    let one = each_map (λ row. same_rank schema (j + 1) row new ≡ false) (λ row. is_eq (row_cmp schema (j + 1) row new) ≡ false) (λ row h. not_tied schema (j + 1) row new h) file.rows apart in
-    let two = each_map (λ row. is_eq (row_cmp schema (j + 1) row new) ≡ false) (λ row. is_eq (row_cmp schema (j + 1) new row) ≡ false)
-    (λ row h. ap is_eq ((row_total schema (j + 1)).antisymm new row) ∙ reversed (row_cmp schema (j + 1) row new) ∙ h) file.rows one in
     let below : nat_lt j count ≡ true = grind (arith, common_steps) in
-    rw below (entries_inserted schema (j + 1) new file.rows one two ∙ ap (λ e. with_alt e (alt_entries schema (j + 1) file.rows)) (entry_is schema file.next_stamp bytes j within))
+    rw below (entries_inserted schema (j + 1) new file.rows apart
+    ∙ ap (λ e. with_alt e (alt_entries schema (j + 1) file.rows)) (entry_is schema file.next_stamp bytes j within))
 
 -- no alternate index has an entry of its rank
 pub none_passes : {X : Type 0} (test : X → Bool) (xs : List X) → Each (λ x. test x ≡ false) xs → find test xs ≡ None
 none_passes test [] h = refl
 none_passes test (x ∷ xs) h = rw h.0 (none_passes test xs h.1)
-
-pub in_order_each : (schema : Schema) (k : ℕ) (P : Row → Type 0) (rows : List Row) → Each P rows → Each P (in_order schema k rows)
-in_order_each schema k P [] h = tt
-in_order_each schema k P (row ∷ rows) h = put_each schema k P row (in_order schema k rows) h.0 (in_order_each schema k P rows h.1)
 
 pub free_rank : (schema : Schema) (file : File) (bytes : List ℕ) (count : ℕ) → IsSchema schema → is_file schema file ≡ true → clashes schema bytes file.rows ≡ false → length schema.keys ≡ count + 1
     → AreFree schema file.next_stamp bytes count (λ j. alt_entries schema (j + 1) file.rows)
@@ -86,17 +71,12 @@ free_rank schema file bytes count is sound clash many j lt =
 
 -- the prime index has no entry of its value
 none_found : {X : Type 0} (o : Option X) → is_some o ≡ false → o ≡ None
-none_found None e = refl
-none_found (Some x) e = absurd (cc)
-
-or_first : (a b : Bool) → (a || b) ≡ false → a ≡ false
-or_first true b h = h
-or_first false b h = refl
+none_found o e = grind (arith, common_steps)
 
 first_free : (keys : List KeyPart) (d : KeyPart) (bytes : List ℕ) (rows : List Row) → AreKeys keys → list_any (λ part. not (has_duplicates part) && is_there part bytes rows) keys ≡ false → is_there (slice_index_or keys 0 d) bytes rows ≡ false
 first_free [] d bytes rows are none = absurd are
 first_free (prime ∷ keys) d bytes rows are none =
-    ap (λ b. not b && is_there prime bytes rows) (sym (ap is_duplicates are.0)) ∙ or_first (not (has_duplicates prime) && is_there prime bytes rows) (list_any (λ part. not (has_duplicates part) && is_there part bytes rows) keys) none
+    ap (λ b. not b && is_there prime bytes rows) (sym (ap is_duplicates are.0)) ∙ (or_parts _ _ none).0
 
 pub free_prime : (u : OpenFile) (pages : PageMap) (file : File) (bytes : List ℕ) (stands : Stands u pages file) → IsSchema (file_schema u) → clashes (file_schema u) bytes file.rows ≡ false
     → find (has_prime (prime_of (file_schema u) bytes)) (prime_entries (file_schema u) stands.places file.rows) ≡ None

@@ -1,7 +1,9 @@
 -- What a change of a record changes, key by key.
-use Rattle.std.proofs.Common.{◌≡◌, ℕ, zero, suc, ◌+◌, ◌≤◌, ◌<◌, Bool, true, false, not, ◌&&◌, ◌||◌, List, [], ◌∷◌, ◌++◌, length, drop, map, refl, ap, sym, ◌∙◌, arith, append_assoc, length-append, length-drop}
+use Rattle.std.proofs.Common.{◌≡◌, ℕ, zero, suc, ◌+◌, ◌≤◌, ◌<◌, Bool, true, false, not, ◌&&◌, List, [], ◌∷◌, ◌++◌, length, drop, map, refl}
+use Rattle.std.proofs.Common.{ap, sym, ◌∙◌, arith, append_assoc, length-append, length-drop}
 use Rattle.std.specs.Prelude.{slice_index, slice_index_or, zip, if◌then◌else◌}
-use Rattle.std.specs.List.{list_any}
+use Rattle.std.proofs.lemmas.Grind.{common_steps}
+use Rattle.std.proofs.lemmas.List.{append-nil, get_or-map}
 use Rattle.byteorder.specs.Endian.{big_bytes}
 use Rattle.record_layout.specs.declared.schema.KeyPart.{KeyPart}
 use Rattle.record_layout.specs.Schema.{Schema, key_at, has_duplicates, no_key}
@@ -12,28 +14,8 @@ use Rattle.key_index.specs.Standing.{alt_height}
 use Rattle.open_file.specs.Stored.{stamp_bytes, stamps_length}
 use Rattle.file_changes.specs.Replacing.{stays, stamp_after}
 use Rattle.open_file.proofs.LookLemmas.{dropped, all_dropped}
+use Rattle.open_file.proofs.RowLemmas.{behind_first}
 use Rattle.open_file.proofs.StampedLemmas.{few_stamps}
-
--- ---- whether a stamp is taken
-
--- none of the keys before k passes
-pub record NoneSo (p : KeyPart → Bool) (keys : List KeyPart) (k : ℕ) : Type 0 where
-  pub same : list_any p keys ≡ list_any p (drop k keys)
-
-pub none_start : (p : KeyPart → Bool) (keys : List KeyPart) → NoneSo p keys 0
-none_start p keys = record { same = refl }
-
-pub any_dropped : (p : KeyPart → Bool) (keys : List KeyPart) (d : KeyPart) (k : ℕ) → k < length keys → list_any p (drop k keys) ≡ (p (slice_index_or keys k d) || list_any p (drop (k + 1) keys))
-any_dropped p keys d k lt = ap (list_any p) (dropped keys d k lt)
-
-pub none_more : (p : KeyPart → Bool) (keys : List KeyPart) (d : KeyPart) (k : ℕ) → k < length keys → p (slice_index_or keys k d) ≡ false → NoneSo p keys k → NoneSo p keys (k + 1)
-none_more p keys d k lt fails n = record { same = n.same ∙ any_dropped p keys d k lt ∙ ap (λ b. b || list_any p (drop (k + 1) keys)) fails }
-
-pub some_here : (p : KeyPart → Bool) (keys : List KeyPart) (d : KeyPart) (k : ℕ) → k < length keys → p (slice_index_or keys k d) ≡ true → NoneSo p keys k → list_any p keys ≡ true
-some_here p keys d k lt passes n = n.same ∙ any_dropped p keys d k lt ∙ ap (λ b. b || list_any p (drop (k + 1) keys)) passes
-
-pub none_all : (p : KeyPart → Bool) (keys : List KeyPart) (k : ℕ) → length keys ≤ k → NoneSo p keys k → list_any p keys ≡ false
-none_all p keys k all n = n.same ∙ ap (list_any p) (all_dropped keys k all)
 
 -- ---- the pages that are needed
 
@@ -67,9 +49,7 @@ pub write_start : (keys : List KeyPart) (stamps : List ℕ) → AreWritten keys 
 write_start keys stamps = record { bytes = refl; long = omega arith }
 
 index_dropped : (stamps : List ℕ) (j : ℕ) → j < length stamps → drop j stamps ≡ slice_index stamps j ∷ drop (j + 1) stamps
-index_dropped [] j lt = absurd (omega (arith, lt))
-index_dropped (s ∷ stamps) zero lt = refl
-index_dropped (s ∷ stamps) (suc j) lt = let e : suc j + 1 ≡ suc (j + 1) = omega arith in rw e (index_dropped stamps j (omega (arith, lt)))
+index_dropped stamps j lt = dropped stamps 0 j lt
 
 bytes_dropped : (keys : List KeyPart) (d : KeyPart) (stamps : List ℕ) (j : ℕ) → j + 1 < length keys → j < length stamps →
     stamp_bytes (drop (j + 1) keys) (drop j stamps)
@@ -104,15 +84,11 @@ write_none keys d stamps j written lt within one w =
           omega (arith, l, w.long));
     }
 
-append_nil : (xs : List ℕ) → xs ++ [] ≡ xs
-append_nil [] = refl
-append_nil (x ∷ xs) = ap (λ r. x ∷ r) (append_nil xs)
-
 pub write_whole : (keys : List KeyPart) (stamps : List ℕ) (j : ℕ) (written : List ℕ) → length keys ≤ j + 1 → AreWritten keys stamps j written
     → (written ≡ stamp_bytes (drop 1 keys) stamps) × (length written ≡ stamps_length (drop 1 keys))
 write_whole keys stamps j written all w =
     let e = all_dropped keys (j + 1) all in (
-      sym (append_nil written) ∙ ap (λ ks. written ++ stamp_bytes ks (drop j stamps)) (sym e) ∙ w.bytes,
+      sym (append-nil written) ∙ ap (λ ks. written ++ stamp_bytes ks (drop j stamps)) (sym e) ∙ w.bytes,
       (let l : stamps_length (drop (j + 1) keys) ≡ 0 = ap stamps_length e in omega (arith, l, w.long)),
     )
 
@@ -121,6 +97,20 @@ write_room keys d stamps j written few lt many w =
     let l : stamps_length (drop (j + 1) keys) ≡ 8 + stamps_length (drop (j + 1 + 1) keys) =
     ap stamps_length (dropped keys d (j + 1) lt) ∙ ap (λ b. if b then 8 + stamps_length (drop (j + 1 + 1) keys) else stamps_length (drop (j + 1 + 1) keys)) many in
     omega (arith, few_stamps keys few, l, w.long)
+
+behind : (keys : List KeyPart) (j : ℕ) (d : KeyPart) → slice_index_or (drop 1 keys) j d ≡ slice_index_or keys (j + 1) d
+behind keys j d = let e : j + 1 ≡ suc j = omega arith in rw e (behind_first keys j d)
+
+-- the stamps of a new row
+abbrev pub stamps_of : ℕ → List KeyPart → List ℕ
+stamps_of stamp parts = map (λ (part : KeyPart). if has_duplicates part then stamp else 0) parts
+
+pub stamp_of_new : (schema : Schema) (stamp j : ℕ) → j + 1 < length schema.keys
+    → slice_index (stamps_of stamp (drop 1 schema.keys)) j ≡ (if has_duplicates (key_at schema (j + 1)) then stamp else 0)
+stamp_of_new schema stamp j lt =
+    let d : KeyPart = no_key in
+    let of = λ (part : KeyPart). if has_duplicates part then stamp else 0 in
+    get_or-map of (drop 1 schema.keys) j d 0 (omega (arith, lt, length-drop 1 schema.keys)) ∙ ap of (behind schema.keys j d)
 
 -- the stamps of a changed row
 abbrev pub stamps_after : ℕ → List ℕ → List ℕ → List KeyPart → List ℕ → List ℕ
@@ -138,10 +128,6 @@ after_many next old new [] stamps h = refl
 after_many next old new (part ∷ parts) [] h = absurd (omega (arith, h))
 after_many next old new (part ∷ parts) (s ∷ stamps) h = ap suc (after_many next old new parts stamps (omega (arith, h)))
 
-behind : (keys : List KeyPart) (j : ℕ) (d : KeyPart) → slice_index_or (drop 1 keys) j d ≡ slice_index_or keys (j + 1) d
-behind [] j d = refl
-behind (x ∷ xs) j d = let e : j + 1 ≡ suc j = omega arith in rw e refl
-
 -- in alternate key j
 pub stamp_at_after : (schema : Schema) (next : ℕ) (old new : List ℕ) (stamps : List ℕ) (j : ℕ) → j + 1 < length schema.keys → length stamps + 1 ≡ length schema.keys
     → slice_index (stamps_after next old new (drop 1 schema.keys) stamps) j ≡ (if is_changed old new (key_at schema (j + 1)) then next else slice_index stamps j)
@@ -158,5 +144,4 @@ stamp_of_duplicates schema next old new stamps j lt many dup =
     ∙ ap (λ b. if (b && not (stays schema old new j)) then next else slice_index stamps j) dup ∙ turned (stays schema old new j) next (slice_index stamps j))
   where
     turned : (b : Bool) (x y : ℕ) → (if not b then x else y) ≡ (if b then y else x)
-    turned true x y = refl
-    turned false x y = refl
+    turned b x y = grind (arith, common_steps)

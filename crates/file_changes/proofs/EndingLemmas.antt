@@ -112,11 +112,7 @@ pub mark_is : (was now answered : Bool) → was ≡ false → now ≡ was → (n
 mark_is was now answered whole kept = rw (kept ∙ whole) refl
 
 is_unmarked : {X : Type 0} (fault : Fault) → ◌≡◌ {A = Result X Fault} (Err fault) (Err Full) → not (is_answered {X = X} (Err fault)) ≡ false
-is_unmarked Device same = absurd (cc)
-is_unmarked Memory same = absurd (cc)
-is_unmarked Full same = refl
-is_unmarked Damage same = absurd (cc)
-is_unmarked Broken same = absurd (cc)
+is_unmarked fault same = let full : fault ≡ Full = cc in rw full refl
 
 is_marked : (X : Type 0) (fault : Fault) → fault ≢ Full → not (is_answered {X = X} (Err fault)) ≡ true
 is_marked X Device other = refl

@@ -1,6 +1,7 @@
 -- Whether there is room for a record in the place of another.
 use Rattle.std.proofs.Common.{◌≡◌, ℕ, ◌+◌, ◌^◌, ◌≤◌, ◌<◌, Bool, true, false, ◌&&◌, ◌||◌, List, [], ◌∷◌, length, drop, map, Some, ap, sym, ◌∙◌, arith}
 use Rattle.std.specs.Prelude.{nat_lt, nat_le, bytes_eq, slice_index_or, if◌then◌else◌}
+use Rattle.std.proofs.lemmas.Bool.{or_parts, ltb-false}
 use Rattle.std.proofs.lemmas.Grind.{common_steps}
 use Rattle.std.proofs.lemmas.List.Sums.{sum_by-cons}
 use Rattle.record_layout.specs.declared.schema.KeyPart.{KeyPart}
@@ -16,7 +17,6 @@ use Rattle.open_file.specs.Fields.{alternates_of, next_stamp_of, prime_index_of,
 use Rattle.open_file.specs.Stands.{Stands, IsShaped, room_of}
 use Rattle.file_changes.specs.Replacing.{need_in_indexes, is_full_for}
 use Rattle.open_file.specs.declared.open_file.OpenFile.{OpenFile}
-use Rattle.open_file.proofs.OrderLemmas.{either}
 use Rattle.file_changes.proofs.RemovedLemmas.{is_one}
 
 -- where the prime value stays, no page is needed for its index
@@ -39,18 +39,12 @@ full_is u pages bytes file old available stands shaped is =
     ∙ ap (λ s. nat_lt available (need_in_indexes (file_schema u) old.bytes bytes (alternates_of u)) || (takes_stamp (file_schema u) old.bytes bytes && nat_le (2 ^ 63) s)) (sym stands.stamp)
 
 enough : (available need : ℕ) (other : Bool) → (nat_lt available need || other) ≡ false → need ≤ available
-enough available need other none = either (nat_lt available need) (need ≤ available) (λ yes. absurd (differ (sym (ap (λ b. b || other) yes) ∙ none))) (λ no. grind (arith, common_steps))
-  where
-    differ : true ≡ false → ⊥
-    differ e = cc
+enough available need other none = ltb-false available need (or_parts _ _ none).0
 
 limited : (short takes : Bool) (stamp : ℕ) → (short || (takes && nat_le (2 ^ 63) stamp)) ≡ false → takes ≡ true → stamp < 2 ^ 63
-limited true takes stamp none yes' = absurd (cc)
-limited false true stamp none yes' = below stamp none
-  where
-    below : (stamp : ℕ) → nat_le (2 ^ 63) stamp ≡ false → stamp < 2 ^ 63
-    below stamp none = grind (arith, common_steps)
-limited false false stamp none yes' = absurd (cc)
+limited short takes stamp none taken =
+    let low : nat_le (2 ^ 63) stamp ≡ false = rw taken at (or_parts short (takes && nat_le (2 ^ 63) stamp) none).1 in
+    grind (arith, common_steps)
 
 -- where the test fails, there is room, and a stamp where one is taken
 pub room_is : (u : OpenFile) (available : ℕ) (old new : List ℕ) → is_full_for u available old new ≡ false → need_in_indexes (file_schema u) old new (alternates_of u) ≤ available
@@ -64,11 +58,7 @@ need_few : (parts : List KeyPart) (old new : List ℕ) (indexes : List AltIndex)
 need_few [] old new indexes = omega arith
 need_few (part ∷ parts) old new [] = omega arith
 need_few (part ∷ parts) old new (index ∷ indexes) =
-    let rest = need_few parts old new indexes in
-    let levels = sum_by-cons (λ (i : AltIndex). alt_height i + 1) index indexes in
-    either (bytes_eq (part_of part old) (part_of part new)) (need_of_changed (part ∷ parts) old new (map alt_height (index ∷ indexes)) ≤ index_levels (index ∷ indexes))
-    (λ yes. rw yes (omega (arith, rest, levels)))
-    (λ no. rw no (omega (arith, rest, levels)))
+    grind (arith, common_steps, need_few parts old new indexes, sum_by-cons (λ (i : AltIndex). alt_height i + 1) index indexes)
 
 pub need_within : (u : OpenFile) (old new : List ℕ) → need_in_indexes (file_schema u) old new (alternates_of u) ≤ index_levels (alternates_of u)
 need_within u old new = need_few (drop 1 (file_schema u).keys) old new (alternates_of u)

@@ -1,5 +1,5 @@
 -- The places of the rows that are left.
-use Rattle.std.proofs.Common.{◌≡◌, ◌≢◌, ℕ, Bool, true, false, List, [], ◌∷◌, drop, Option, Some, None, refl, ap, sym, ◌∙◌}
+use Rattle.std.proofs.Common.{◌≡◌, ◌≢◌, ℕ, Bool, true, false, List, [], ◌∷◌, drop, Some, None, refl, ap, sym, ◌∙◌}
 use Rattle.std.specs.Prelude.{find, is_some, IsSome, option_map, if◌then◌else◌}
 use Rattle.std.proofs.Math.Seq.{drop-append_seam}
 use Rattle.record_layout.specs.Schema.{Schema, prime_of}
@@ -17,8 +17,8 @@ use Rattle.record_heap.proofs.ChainLemmas.{put_here, put_there}
 use Rattle.open_file.specs.InOrder.{prime_entries}
 use Rattle.open_file.specs.Stored.{AreAt, stored, stamp_bytes, stamps_length}
 use Rattle.open_file.specs.Stands.{is_same, IsPlaced}
-use Rattle.open_file.proofs.OrderLemmas.{either}
-use Rattle.open_file.proofs.FirstLemmas.{from_some}
+use Rattle.open_file.proofs.OrderLemmas.{either, from_some}
+use Rattle.open_file.proofs.PartsLemmas.{some_none}
 use Rattle.open_file.proofs.LengthLemmas.{is_made}
 use Rattle.file_changes.proofs.PlacedLemmas.{same_place, same_itself}
 use Rattle.file_changes.proofs.OneRowLemmas.{none_after}
@@ -104,16 +104,9 @@ placed_left schema slots next prime old place places rows fit has here leads sou
       either (is_same p place) (IsSome (find (is_same p) (places_left schema prime places rows)))
       (λ yes.
       let e = same_place p place yes in
-      absurd (empty _ some (ap (put_slot slots place None) e ∙ put_here slots place None)))
+      absurd (some_none _ some (ap (put_slot slots place None) e ∙ put_here slots place None)))
       (λ no.
-      let other : p ≢ place = λ e. differ (ap (λ q. is_same q place) e ∙ same_itself place) no in
+      let other : p ≢ place = λ e. let same = ap (λ q. is_same q place) e ∙ same_itself place in cc in
       found_left schema slots next prime place (is_same p) places rows no sound placed.rows_at leads
       (placed.no_more p (ap is_some (sym (put_there slots place p None other)) ∙ some)));
 }
-  where
-    empty : (o : Option (List ℕ)) → is_some o ≡ true → o ≡ None → ⊥
-    empty None s e = cc
-    empty (Some x) s e = let h : Some x ≡ None = e in cc
-
-    differ : {b : Bool} → b ≡ true → b ≡ false → ⊥
-    differ e k = let both : true ≡ false = sym e ∙ k in cc

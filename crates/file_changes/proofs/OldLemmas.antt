@@ -7,7 +7,7 @@ use Rattle.record_layout.specs.declared.schema.KeyPart.{KeyPart}
 use Rattle.record_layout.specs.Schema.{has_duplicates}
 use Rattle.open_file.specs.Stored.{stamps_length}
 use Rattle.open_file.specs.ReadOff.{stamps_off}
-use Rattle.open_file.proofs.LookLemmas.{dropped, all_dropped}
+use Rattle.open_file.proofs.LookLemmas.{dropped}
 
 -- the stamps of the keys before k were read
 pub record AreRead (keys : List KeyPart) (slot : List ℕ) (k at : ℕ) (stamps : List ℕ) : Type 0 where
@@ -56,14 +56,6 @@ read_none keys d slot k at stamps now lt one is r =
       long = (let l : stamps_length (drop k keys) ≡ stamps_length parts = ap stamps_length e ∙ ap (λ b. if b then 8 + stamps_length parts else stamps_length parts) one in omega (arith, l, r.long));
       many = (let l : length now ≡ length stamps + 1 = ap length is ∙ length-append stamps (0 ∷ []) in omega (arith, l, r.many));
     }
-
-append_nil : (xs : List ℕ) → xs ++ [] ≡ xs
-append_nil [] = refl
-append_nil (x ∷ xs) = ap (λ r. x ∷ r) (append_nil xs)
-
-pub read_whole : (keys : List KeyPart) (slot : List ℕ) (k at : ℕ) (stamps : List ℕ) → length keys ≤ k → AreRead keys slot k at stamps → stamps ≡ stamps_off (drop 1 keys) slot
-read_whole keys slot k at stamps all r =
-    sym (append_nil stamps) ∙ ap (λ ks. stamps ++ stamps_off ks (drop at slot)) (sym (all_dropped keys k all)) ∙ r.whole
 
 -- one more stamp is within them
 pub read_room : (keys : List KeyPart) (d : KeyPart) (slot : List ℕ) (k at : ℕ) (stamps : List ℕ) → k < length keys → has_duplicates (slice_index_or keys k d) ≡ true → AreRead keys slot k at stamps → at + 8 ≤ stamps_length (drop 1 keys)

@@ -1,8 +1,9 @@
 -- The row of a prime value, among the rows of a file.
-use Rattle.std.proofs.Common.{◌≡◌, ℕ, ◌+◌, ◌<◌, Bool, true, false, List, [], ◌∷◌, length, Option, Some, None, refl, ap, sym, subst, ◌∙◌}
-use Rattle.std.specs.Prelude.{find, filter, is_some, IsSome, not, ◌||◌, option_map}
+use Rattle.std.proofs.Common.{◌≡◌, ℕ, ◌+◌, ◌<◌, Bool, true, false, List, [], ◌∷◌, length, Option, Some, refl, ap, sym, subst, ◌∙◌, arith}
+use Rattle.std.specs.Prelude.{find, filter, is_some, IsSome, not, option_map}
 use Rattle.std.specs.List.{list_all, list_any}
 use Rattle.std.proofs.lemmas.Bool.{and_parts, and_from, eq-eqb}
+use Rattle.std.proofs.lemmas.Grind.{common_steps}
 use Rattle.std.proofs.lemmas.Slice.Eq.{bytes_eq-Decides}
 use Rattle.record_layout.specs.Schema.{Schema, value_of, prime_of}
 use Rattle.indexed_file.specs.File.{Row, stamp_of}
@@ -15,15 +16,15 @@ use Rattle.indexed_file.proofs.RowLemmas.{is_before, row_parts, rows_parts}
 use Rattle.page_bytes.specs.Each.{Each}
 use Rattle.key_index.specs.Entries.{has_rank, without_rank}
 use Rattle.open_file.specs.InOrder.{in_order, alt_entry, alt_entries}
-use Rattle.open_file.proofs.OrderLemmas.{either}
+use Rattle.open_file.proofs.OrderLemmas.{either, from_some}
 use Rattle.open_file.proofs.PartsLemmas.{from_eq, each_map, each_both}
-use Rattle.open_file.proofs.FirstLemmas.{from_some, same_bytes, any_is_found}
+use Rattle.open_file.proofs.FirstLemmas.{same_bytes, any_is_found}
 use Rattle.open_file.proofs.PlaceLemmas.{find_each}
 use Rattle.open_file.proofs.RepeatLemmas.{find_mapped, any_in_order}
 use Rattle.file_changes.proofs.RankLemmas.{same_rank, apart_in, each_all}
 use Rattle.file_changes.proofs.RemoveLemmas.{entries_filtered}
 
-many_stamps : (schema : Schema) (next : ℕ) (row : Row) → is_row schema next row ≡ true → length row.stamps + 1 ≡ length schema.keys
+pub many_stamps : (schema : Schema) (next : ℕ) (row : Row) → is_row schema next row ≡ true → length row.stamps + 1 ≡ length schema.keys
 many_stamps schema next row fit = from_eq _ _ (row_parts schema next row fit).1
 
 -- the rows after one of this prime value have others
@@ -92,10 +93,7 @@ only_one schema next prime old (row ∷ rows) sound found =
 
 filter_same : {X : Type 0} (p q : X → Bool) (xs : List X) → Each (λ x. p x ≡ q x) xs → filter p xs ≡ filter q xs
 filter_same p q [] h = refl
-filter_same p q (x ∷ xs) h =
-    either (q x) (filter p (x ∷ xs) ≡ filter q (x ∷ xs))
-    (λ yes. rw (h.0 ∙ yes, yes) (ap (λ r. x ∷ r) (filter_same p q xs h.1)))
-    (λ no. rw (h.0 ∙ no, no) (filter_same p q xs h.1))
+filter_same p q (x ∷ xs) h = grind (arith, common_steps, h.0, filter_same p q xs h.1)
 
 -- the entries of the other rows are those of other ranks
 pub entries_left : (schema : Schema) (next k : ℕ) (prime : List ℕ) (old : Row) (rows : List Row) → k < length schema.keys → are_rows schema next rows ≡ true → find (has_value schema 0 prime) rows ≡ Some old
@@ -110,18 +108,10 @@ entries_left schema next k prime old rows lt sound found =
 
 any_found : (p t : Row → Bool) (rows : List Row) (row : Row) → find p rows ≡ Some row → t row ≡ true → list_any t rows ≡ true
 any_found p t [] row found has = absurd (cc)
-any_found p t (first ∷ rows) row found has =
-    either (p first) (list_any t (first ∷ rows) ≡ true)
-    (λ yes. let same : first ≡ row = from_some first row (rw yes at found) in rw (ap t same ∙ has) refl)
-    (λ no. rest (t first) (list_any t rows) (any_found p t rows row (rw no at found) has))
-  where
-    rest : (a b : Bool) → b ≡ true → (a || b) ≡ true
-    rest true b h = refl
-    rest false b h = h
+any_found p t (first ∷ rows) row found has = grind (arith, common_steps, any_found p t rows row)
 
 some_mapped : {X Y : Type 0} (f : X → Y) (o : Option X) → is_some (option_map f o) ≡ is_some o
-some_mapped f None = refl
-some_mapped f (Some x) = refl
+some_mapped f o = grind (arith, common_steps)
 
 -- the row's own entry is among them
 pub entry_there : (schema : Schema) (k : ℕ) (prime : List ℕ) (old : Row) (rows : List Row) → find (has_value schema 0 prime) rows ≡ Some old

@@ -1,8 +1,9 @@
 -- The place of one more row.
-use Rattle.std.proofs.Common.{◌≡◌, ◌≢◌, ℕ, Bool, true, false, List, [], ◌∷◌, Some, None, refl, ap, sym, ◌∙◌}
-use Rattle.std.specs.Prelude.{find, is_some, IsSome, if◌then◌else◌}
+use Rattle.std.proofs.Common.{◌≡◌, ◌≢◌, Bool, true, List, [], ◌∷◌, Some, None, refl, ap, sym, ◌∙◌, arith}
+use Rattle.std.specs.Prelude.{find, is_some, IsSome, if◌then◌else◌, ◌||◌}
 use Rattle.std.specs.Ordering.{is_lt}
-use Rattle.std.proofs.lemmas.Bool.{and_parts, and_from, eq-eqb}
+use Rattle.std.proofs.lemmas.Bool.{and_parts, and_from, eq-eqb, or_left, or_right}
+use Rattle.std.proofs.lemmas.Grind.{common_steps}
 use Rattle.record_layout.specs.Schema.{Schema, prime_of}
 use Rattle.indexed_file.specs.File.{Row}
 use Rattle.io_state.specs.Rank.{value_cmp}
@@ -42,11 +43,8 @@ still_at schema slots now place [] [] free others at = tt
 still_at schema slots now place [] (next ∷ rows) free others at = at
 still_at schema slots now place (first ∷ places) [] free others at = at
 still_at schema slots now place (first ∷ places) (next ∷ rows) free others at =
-    let other : first ≢ place = λ e. in_use _ (sym (ap slots e ∙ free) ∙ at.0) in
+    let other : first ≢ place = λ e. let none : None ≡ Some (stored schema next) = sym (ap slots e ∙ free) ∙ at.0 in cc in
     (others first other ∙ at.0, still_at schema slots now place places rows free others at.1)
-  where
-    in_use : (x : List ℕ) → None ≡ Some x → ⊥
-    in_use x e = cc
 
 at_with : (schema : Schema) (slots now : Slots) (row : Row) (place : Place) (places : List Place) (rows : List Row) → slots place ≡ None → now place ≡ Some (stored schema row) → ((p : Place) → p ≢ place → now p ≡ slots p)
     → AreAt schema slots places rows → AreAt schema now (places_with schema row place places rows) (inserted schema row rows)
@@ -66,31 +64,15 @@ same_place p q e =
     let slot = from_eq p.slot q.slot parts.1 in
     λ i. record { page = page i; slot = slot i }
 
--- a place among others is among them and one more
-found_with : (schema : Schema) (slots : Slots) (row : Row) (place : Place) (test : Place → Bool) (places : List Place) (rows : List Row) → AreAt schema slots places rows → is_some (find test places) ≡ true
-    → is_some (find test (places_with schema row place places rows)) ≡ true
-found_with schema slots row place test [] [] at some = absurd (cc)
-found_with schema slots row place test [] (next ∷ rows) at some = absurd at
-found_with schema slots row place test (first ∷ places) [] at some = absurd at
-found_with schema slots row place test (first ∷ places) (next ∷ rows) at some =
-    either (is_lt (value_cmp (prime_of schema row.bytes) (prime_of schema next.bytes))) (is_some (find test (places_with schema row place (first ∷ places) (next ∷ rows))) ≡ true)
-    (λ yes. rw yes (either (test place) (is_some (find test (place ∷ first ∷ places)) ≡ true) (λ t. rw t refl) (λ f. rw f some)))
-    (λ no. rw no (either (test first) (is_some (find test (first ∷ places_with schema row place places rows)) ≡ true)
-    (λ t. rw t refl)
-    (λ f. rw f (found_with schema slots row place test places rows at.1 (rw f at some)))))
-
--- the new place is among them
-here_with : (schema : Schema) (slots : Slots) (row : Row) (place : Place) (test : Place → Bool) (places : List Place) (rows : List Row) → AreAt schema slots places rows → test place ≡ true
-    → is_some (find test (places_with schema row place places rows)) ≡ true
-here_with schema slots row place test [] [] at it = rw it refl
-here_with schema slots row place test [] (next ∷ rows) at it = absurd at
-here_with schema slots row place test (first ∷ places) [] at it = absurd at
-here_with schema slots row place test (first ∷ places) (next ∷ rows) at it =
-    either (is_lt (value_cmp (prime_of schema row.bytes) (prime_of schema next.bytes))) (is_some (find test (places_with schema row place (first ∷ places) (next ∷ rows))) ≡ true)
-    (λ lower. rw lower (rw it refl))
-    (λ no. rw no (either (test first) (is_some (find test (first ∷ places_with schema row place places rows)) ≡ true)
-    (λ t. rw t refl)
-    (λ f. rw f (here_with schema slots row place test places rows at.1 it))))
+-- the new place and the others are among them
+found_with : (schema : Schema) (slots : Slots) (row : Row) (place : Place) (test : Place → Bool) (places : List Place) (rows : List Row)
+    → AreAt schema slots places rows
+    → is_some (find test (places_with schema row place places rows)) ≡ (test place || is_some (find test places))
+found_with schema slots row place test [] [] at = grind (arith, common_steps)
+found_with schema slots row place test [] (next ∷ rows) at = absurd at
+found_with schema slots row place test (first ∷ places) [] at = absurd at
+found_with schema slots row place test (first ∷ places) (next ∷ rows) at =
+    grind (arith, common_steps, found_with schema slots row place test places rows at.1)
 
 pub same_itself : (p : Place) → is_same p p ≡ true
 same_itself p = and_from _ _ (eq-eqb p.page p.page refl) (eq-eqb p.slot p.slot refl)
@@ -102,12 +84,9 @@ placed_with schema slots now row place places rows free here others placed = rec
   rows_at = at_with schema slots now row place places rows free here others placed.rows_at;
   no_more = λ p some.
       either (is_same p place) (IsSome (find (is_same p) (places_with schema row place places rows)))
-      (λ yes. here_with schema slots row place (is_same p) places rows placed.rows_at yes)
+      (λ yes. found_with schema slots row place (is_same p) places rows placed.rows_at ∙ or_left _ _ yes)
       (λ no.
-      let other : p ≢ place = λ e. differ (ap (λ q. is_same q place) e ∙ same_itself place) no in
+      let other : p ≢ place = λ e. let same = ap (λ q. is_same q place) e ∙ same_itself place in cc in
       let before : IsSome (slots p) = ap is_some (sym (others p other)) ∙ some in
-      found_with schema slots row place (is_same p) places rows placed.rows_at (placed.no_more p before));
+      found_with schema slots row place (is_same p) places rows placed.rows_at ∙ or_right _ _ (placed.no_more p before));
 }
-  where
-    differ : {b : Bool} → b ≡ true → b ≡ false → ⊥
-    differ e k = let both : true ≡ false = sym e ∙ k in cc

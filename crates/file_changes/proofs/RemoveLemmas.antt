@@ -1,7 +1,8 @@
 -- Rows with some of them taken out, in the order of each key.
-use Rattle.std.proofs.Common.{◌≡◌, ℕ, Bool, true, false, List, [], ◌∷◌, map, refl, ap, sym, ◌∙◌}
+use Rattle.std.proofs.Common.{◌≡◌, ℕ, Bool, true, false, List, [], ◌∷◌, map, refl, ap, sym, ◌∙◌, arith}
 use Rattle.std.specs.Prelude.{filter}
 use Rattle.std.specs.Ordering.{is_lt}
+use Rattle.std.proofs.lemmas.Grind.{common_steps}
 use Rattle.record_layout.specs.Schema.{Schema}
 use Rattle.indexed_file.specs.File.{Row}
 use Rattle.indexed_file.specs.Rank.{row_cmp}
@@ -25,18 +26,13 @@ put_first schema k row (next ∷ rows) h = rw h.0 refl
 
 filter_put_no : (schema : Schema) (k : ℕ) (test : Row → Bool) (row : Row) (rows : List Row) → test row ≡ false → filter test (put_row schema k row rows) ≡ filter test rows
 filter_put_no schema k test row [] h = rw h refl
-filter_put_no schema k test row (next ∷ rows) h =
-    either (is_lt (row_cmp schema k next row)) (filter test (put_row schema k row (next ∷ rows)) ≡ filter test (next ∷ rows))
-    (λ yes. rw yes (either (test next) (filter test (next ∷ put_row schema k row rows) ≡ filter test (next ∷ rows))
-    (λ t. rw t (ap (λ (r : List Row). next ∷ r) (filter_put_no schema k test row rows h)))
-    (λ f. rw f (filter_put_no schema k test row rows h))))
-    (λ no. rw no (rw h refl))
+filter_put_no schema k test row (next ∷ rows) h = grind (arith, common_steps, filter_put_no schema k test row rows h)
 
 filter_put_yes : (schema : Schema) (k : ℕ) (test : Row → Bool) (row : Row) (rows : List Row) → AreSorted schema k rows → test row ≡ true → filter test (put_row schema k row rows) ≡ put_row schema k row (filter test rows)
 filter_put_yes schema k test row [] sorted h = rw h refl
 filter_put_yes schema k test row (next ∷ rows) sorted h =
     either (is_lt (row_cmp schema k next row)) (filter test (put_row schema k row (next ∷ rows)) ≡ put_row schema k row (filter test (next ∷ rows)))
-    (λ yes. rw yes (either (test next) (filter test (next ∷ put_row schema k row rows) ≡ put_row schema k row (filter test (next ∷ rows)))
+    (λ yes. rw yes (either (test next) _
     (λ t. rw (t, yes) (ap (λ (r : List Row). next ∷ r) (filter_put_yes schema k test row rows sorted.1 h)))
     (λ f. rw f (filter_put_yes schema k test row rows sorted.1 h))))
     (λ no.
@@ -59,10 +55,7 @@ in_order_filtered schema k test (row ∷ rows) =
 
 filter_mapped : {X Y : Type 0} (f : X → Y) (test : Y → Bool) (xs : List X) → filter test (map f xs) ≡ map f (filter (λ x. test (f x)) xs)
 filter_mapped f test [] = refl
-filter_mapped f test (x ∷ xs) =
-    either (test (f x)) (filter test (map f (x ∷ xs)) ≡ map f (filter (λ x. test (f x)) (x ∷ xs)))
-    (λ yes. rw yes (ap (λ r. f x ∷ r) (filter_mapped f test xs)))
-    (λ no. rw no (filter_mapped f test xs))
+filter_mapped f test (x ∷ xs) = grind (arith, common_steps, filter_mapped f test xs)
 
 -- the entries that are left are those of the rows that are left
 pub entries_filtered : (schema : Schema) (k : ℕ) (test : AltEntry → Bool) (rows : List Row) → filter test (alt_entries schema k rows) ≡ alt_entries schema k (filter (λ row. test (alt_entry schema k row)) rows)

@@ -1,5 +1,5 @@
 -- An open file from whose parts a row was taken out stands for the file without it.
-use Rattle.std.proofs.Common.{◌≡◌, ℕ, ◌+◌, ◌<◌, true, false, List, length, Option, Some, None, refl, ap, sym, subst, ◌∙◌, arith}
+use Rattle.std.proofs.Common.{◌≡◌, ℕ, ◌+◌, ◌<◌, true, false, List, length, Option, Some, None, ap, sym, subst, ◌∙◌, arith}
 use Rattle.std.specs.Prelude.{find, is_some, IsSome, option_map, nat_lt, nat_le}
 use Rattle.std.proofs.lemmas.Bool.{and_parts}
 use Rattle.std.proofs.lemmas.Grind.{common_steps}
@@ -52,8 +52,7 @@ is_one schema file prime row sound found =
     }
 
 some_place : (o : Option PrimeEntry) (place : Place) → option_map (λ (e : PrimeEntry). e.place) o ≡ Some place → IsSome o
-some_place None place leads = absurd (cc)
-some_place (Some e) place leads = refl
+some_place o place leads = grind (arith, common_steps)
 
 -- the parts of a file have each of its rows
 pub has_row : (u : OpenFile) (pages : PageMap) (file : File) (prime : List ℕ) (place : Place) (row : Row) (stands : Stands u pages file)

@@ -1,5 +1,5 @@
 -- Rows one of which has become another record of its prime value, and their places.
-use Rattle.std.proofs.Common.{◌≡◌, ◌≢◌, ℕ, Bool, true, false, List, [], ◌∷◌, map, Option, Some, refl, ap, sym, ◌∙◌}
+use Rattle.std.proofs.Common.{◌≡◌, ◌≢◌, ℕ, true, false, List, [], ◌∷◌, map, Option, Some, refl, ap, sym, ◌∙◌}
 use Rattle.std.specs.Prelude.{find, is_some, IsSome, option_map, if◌then◌else◌}
 use Rattle.std.proofs.lemmas.Slice.Eq.{bytes_eq-Decides}
 use Rattle.record_layout.specs.Schema.{Schema, prime_of}
@@ -17,8 +17,8 @@ use Rattle.record_heap.proofs.ChainLemmas.{put_here, put_there}
 use Rattle.open_file.specs.InOrder.{prime_entries}
 use Rattle.open_file.specs.Stored.{AreAt, stored}
 use Rattle.open_file.specs.Stands.{is_same, IsPlaced}
-use Rattle.open_file.proofs.OrderLemmas.{either}
-use Rattle.open_file.proofs.FirstLemmas.{from_some, same_bytes}
+use Rattle.open_file.proofs.OrderLemmas.{either, from_some}
+use Rattle.open_file.proofs.FirstLemmas.{same_bytes}
 use Rattle.file_changes.proofs.PlacedLemmas.{same_place, same_itself}
 use Rattle.file_changes.proofs.OneRowLemmas.{none_after}
 use Rattle.file_changes.proofs.LeftLemmas.{other_place}
@@ -117,9 +117,6 @@ placed_renewed schema slots next bytes old place places rows fit has here sound 
       either (is_same p place) (IsSome (find (is_same p) places))
       (λ yes. placed.no_more p (ap (λ q. is_some (slots q)) (same_place p place yes) ∙ ap is_some here))
       (λ no.
-      let other : p ≢ place = λ e. differ (ap (λ q. is_same q place) e ∙ same_itself place) no in
+      let other : p ≢ place = λ e. let same = ap (λ q. is_same q place) e ∙ same_itself place in cc in
       placed.no_more p (ap is_some (sym (put_there slots place p (Some (stored schema (changed_row schema next bytes old))) other)) ∙ some));
 }
-  where
-    differ : {b : Bool} → b ≡ true → b ≡ false → ⊥
-    differ e k = let both : true ≡ false = sym e ∙ k in cc

@@ -2,6 +2,7 @@
 use Rattle.std.proofs.Common.{◌≡◌, ◌≢◌, ℕ, ◌+◌, ◌^◌, ◌≤◌, ◌<◌, Bool, true, false, not, ◌&&◌, List, length, Some, None, refl, ap, sym, subst, ◌∙◌, arith}
 use Rattle.std.specs.Prelude.{find, is_some, if◌then◌else◌, Option}
 use Rattle.std.proofs.lemmas.Bool.{and_from, le-leb}
+use Rattle.std.proofs.lemmas.Grind.{common_steps}
 use Rattle.record_layout.specs.Schema.{Schema, key_at, prime_of, value_of, has_duplicates}
 use Rattle.indexed_file.specs.File.{Row, File, stamp_of}
 use Rattle.indexed_file.specs.Rank.{has_value}
@@ -11,7 +12,6 @@ use Rattle.indexed_file.specs.Answers.{replaced_answer_at}
 use Rattle.indexed_file.specs.declared.answer.Replaced.{Replaced}
 use Rattle.indexed_file.specs.declared.answer.Replaced.TheVariants.{Done, Clash, Gone}
 use Rattle.indexed_file.proofs.SoundLemmas.{replaced_is_file}
-use Rattle.indexed_file.proofs.RowLemmas.{row_parts}
 use Rattle.pages.specs.PageMap.{PageMap}
 use Rattle.key_index.specs.declared.alt_index.AltIndex.{AltIndex}
 use Rattle.key_index.specs.declared.entry.AltEntry.{AltEntry}
@@ -36,17 +36,14 @@ use Rattle.open_file.specs.declared.open_file.OpenFile.{OpenFile}
 use Rattle.open_file.specs.declared.path.Path.{Path}
 use Rattle.open_file.proofs.OrderLemmas.{either}
 use Rattle.open_file.proofs.FirstLemmas.{same_bytes}
-use Rattle.open_file.proofs.PartsLemmas.{said_so, from_eq}
-use Rattle.file_changes.proofs.OneRowLemmas.{entries_left, entry_there}
+use Rattle.open_file.proofs.PartsLemmas.{said_so}
+use Rattle.file_changes.proofs.OneRowLemmas.{many_stamps, entries_left, entry_there}
 use Rattle.file_changes.proofs.WithoutLemmas.{stamp_in_key}
 use Rattle.file_changes.proofs.ChangedLemmas.{stamp_at_after}
 use Rattle.open_file.proofs.RowLemmas.{stamp_zero}
 use Rattle.file_changes.proofs.SplitLemmas.{entries_split, none_of_rank}
 use Rattle.file_changes.proofs.RenewedLemmas.{others_renewed, found_renewed, prime_entries_renewed, placed_renewed}
 use Rattle.file_changes.proofs.RemovedLemmas.{IsOne, is_one, file_rows, same_many, lt_is}
-
-many_stamps : (schema : Schema) (next : ℕ) (row : Row) → is_row schema next row ≡ true → length row.stamps + 1 ≡ length schema.keys
-many_stamps schema next row fit = from_eq (length row.stamps + 1) (length schema.keys) (row_parts schema next row fit).1
 
 -- the stamp of a changed row in an alternate key
 stamp_changed : (schema : Schema) (next : ℕ) (bytes : List ℕ) (old : Row) (j : ℕ) → j + 1 < length schema.keys → is_row schema next old ≡ true
@@ -62,8 +59,7 @@ stamp_stays schema next bytes old j lt fit same =
     stamp_changed schema next bytes old j lt fit ∙ ap (λ b. if has_duplicates (key_at schema (j + 1)) && not b then next else stamp_of (j + 1) old) same ∙ never (has_duplicates (key_at schema (j + 1))) next (stamp_of (j + 1) old)
   where
     never : (d : Bool) (x y : ℕ) → (if d && false then x else y) ≡ y
-    never true x y = refl
-    never false x y = refl
+    never d x y = grind (arith, common_steps)
 
 -- else it is that of a new record
 stamp_moves : (schema : Schema) (next : ℕ) (bytes : List ℕ) (old : Row) (j : ℕ) → j + 1 < length schema.keys → is_row schema next old ≡ true → stays schema old.bytes bytes j ≡ false
@@ -212,10 +208,7 @@ has_replaced u v before after is_sound bytes file place old answer stands one tw
 -- what is answered tells whether there is a clash
 pub clashed : (schema : Schema) (bytes : List ℕ) (file : File) (old : Row) → Clash ≡ replaced_answer_at schema bytes file (Some old) → clashes_with_others schema bytes file ≡ true
 clashed schema bytes file old told =
-    either (clashes_with_others schema bytes file) (clashes_with_others schema bytes file ≡ true) (λ yes. yes) (λ no. absurd (differ (rw no at told)))
-  where
-    differ : {b : Bool} → Clash ≡ Done b → ⊥
-    differ e = cc
+    either (clashes_with_others schema bytes file) _ (λ yes. yes) (λ no. let e = rw no at told in absurd (cc))
 
 -- a clash changes nothing
 pub has_clashed : (u : OpenFile) (before after : PageMap) (is_sound : Type 0) (bytes : List ℕ) (file : File) (old : Row) → Stands u before file → after ≡ before → row_of (file_schema u) (prime_of (file_schema u) bytes) file ≡ Some old
@@ -237,10 +230,7 @@ has_none u before after is_sound bytes file stands same none sound = record {
 
 pub not_clashed : (schema : Schema) (bytes : List ℕ) (file : File) (old : Row) (r : Bool) → Done r ≡ replaced_answer_at schema bytes file (Some old) → clashes_with_others schema bytes file ≡ false
 not_clashed schema bytes file old r told =
-    either (clashes_with_others schema bytes file) (clashes_with_others schema bytes file ≡ false) (λ yes. absurd (differ (rw yes at told))) (λ no. no)
-  where
-    differ : {r : Bool} → Done r ≡ Clash → ⊥
-    differ e = cc
+    either (clashes_with_others schema bytes file) _ (λ yes. let e = rw yes at told in absurd (cc)) (λ no. no)
 
 pub only_clash : (r : Replaced) → r ≢ Gone → ((b : Bool) → r ≡ Done b → ⊥) → r ≡ Clash
 only_clash (Done b) some not_done = absurd (not_done b refl)

@@ -1,8 +1,11 @@
 -- The looks for the values that a record changes, one key after another.
-use Rattle.std.proofs.Common.{◌≡◌, ℕ, ◌+◌, ◌==◌, ◌≤◌, ◌<◌, Bool, true, false, not, ◌&&◌, ◌||◌, List, [], ◌∷◌, length, drop, Some, refl, ap, sym, ◌∙◌}
+use Rattle.std.proofs.Common.{◌≡◌, ℕ, ◌+◌, ◌==◌, ◌≤◌, ◌<◌, Bool, true, false, not, ◌&&◌, List, [], ◌∷◌, length, Some, refl, ap, sym, ◌∙◌}
+use Rattle.std.proofs.Common.{arith}
 use Rattle.std.specs.Prelude.{bytes_eq, find, if◌then◌else◌}
 use Rattle.std.specs.List.{list_any}
-use Rattle.std.proofs.lemmas.Bool.{eq-eqb}
+use Rattle.std.proofs.Math.Bool.{or-true}
+use Rattle.std.proofs.lemmas.Bool.{eq-eqb, and_from, and_right}
+use Rattle.std.proofs.lemmas.Grind.{common_steps}
 use Rattle.record_layout.specs.declared.schema.KeyPart.{KeyPart}
 use Rattle.record_layout.specs.Schema.{Schema, AreKeys, key_at, value_of, prime_of, has_duplicates, no_key}
 use Rattle.indexed_file.specs.File.{Row, File, stamp_of}
@@ -15,8 +18,7 @@ use Rattle.page_bytes.specs.Each.{Each}
 use Rattle.file_changes.specs.Replacing.{new_there}
 use Rattle.open_file.proofs.OrderLemmas.{either}
 use Rattle.open_file.proofs.PartsLemmas.{each_map, each_both}
-use Rattle.open_file.proofs.LookLemmas.{all_dropped}
-use Rattle.file_changes.proofs.ChangedLemmas.{NoneSo, none_start, none_more, none_all, some_here, any_dropped}
+use Rattle.open_file.proofs.LookLemmas.{HasLooked, look_start, look_on, look_found, look_none, look_told}
 use Rattle.file_changes.proofs.OneRowLemmas.{one_of_rank, only_one}
 use Rattle.open_file.proofs.FirstLemmas.{same_bytes}
 use Rattle.open_file.proofs.RowLemmas.{each_row, stamp_zero}
@@ -31,29 +33,23 @@ abbrev pub repeats_at : Schema → List ℕ → List ℕ → List Row → KeyPar
 repeats_at schema old bytes rows part = is_changed old bytes part && is_there part bytes (others_in schema (prime_of schema bytes) rows)
 
 -- the keys before k do not clash, and tell whether a value is repeated
-pub record SeenOn (schema : Schema) (old bytes : List ℕ) (rows : List Row) (k : ℕ) (repeated : Bool) : Type 0 where
-  pub clash : NoneSo (clashes_at schema bytes rows) schema.keys k
-  pub repeat : list_any (repeats_at schema old bytes rows) schema.keys ≡ (repeated || list_any (repeats_at schema old bytes rows) (drop k schema.keys))
+abbrev pub SeenOn : Schema → List ℕ → List ℕ → List Row → ℕ → Bool → Type 0
+SeenOn schema old bytes rows k repeated =
+    HasLooked (clashes_at schema bytes rows) (repeats_at schema old bytes rows) schema.keys k repeated
 
 -- where the row of the prime value does not have a value of key k, it is there if another row has it
 there_beside : (schema : Schema) (k : ℕ) (prime bytes : List ℕ) (rows : List Row) → Each (λ row. has_value schema 0 prime row ≡ true → has_value schema k (value_of schema k bytes) row ≡ false) rows
     → is_there (key_at schema k) bytes rows ≡ is_there (key_at schema k) bytes (others_in schema prime rows)
 there_beside schema k prime bytes [] h = refl
 there_beside schema k prime bytes (row ∷ rows) h =
-    let rest = there_beside schema k prime bytes rows h.1 in
-    either (has_value schema 0 prime row) (is_there (key_at schema k) bytes (row ∷ rows) ≡ is_there (key_at schema k) bytes (others_in schema prime (row ∷ rows)))
-    (λ yes. rw (yes, h.0 yes) rest)
-    (λ no. rw no (ap (λ r. has_value schema k (value_of schema k bytes) row || r) rest))
+    grind (arith, common_steps, h.0, there_beside schema k prime bytes rows h.1)
 
 -- where only that row has it, none of the others does
 none_beside : (schema : Schema) (k : ℕ) (prime bytes : List ℕ) (rows : List Row) → Each (λ row. has_value schema 0 prime row ≡ false → has_value schema k (value_of schema k bytes) row ≡ false) rows
     → is_there (key_at schema k) bytes (others_in schema prime rows) ≡ false
 none_beside schema k prime bytes [] h = refl
 none_beside schema k prime bytes (row ∷ rows) h =
-    let rest = none_beside schema k prime bytes rows h.1 in
-    either (has_value schema 0 prime row) (is_there (key_at schema k) bytes (others_in schema prime (row ∷ rows)) ≡ false)
-    (λ yes. rw yes rest)
-    (λ no. rw no (rw (h.0 no) rest))
+    grind (arith, common_steps, h.0, none_beside schema k prime bytes rows h.1)
 
 -- rows of other ranks have other values in a unique key
 other_value : (v w : Bool) (s t : ℕ) → s ≡ 0 → t ≡ 0 → (v && (s == t)) ≡ w → w ≡ false → v ≡ false
@@ -100,82 +96,59 @@ is_told schema next k bytes old rows lt sound fit found =
     })
   where
     never : (d a b : Bool) → ((d && false) && a) ≡ (d && (false && b))
-    never true a b = refl
-    never false a b = refl
+    never d a b = grind (arith, common_steps)
 
     both : (d a b : Bool) → a ≡ b → ((d && true) && a) ≡ (d && (true && b))
-    both true a b e = e
-    both false a b e = refl
+    both d a b e = grind (arith, common_steps)
 
 -- ---- one key after another
 
 -- the value stays, or is not there
-pub seen_none : (schema : Schema) (old bytes : List ℕ) (rows : List Row) (k : ℕ) (repeated : Bool) → k < length schema.keys → IsTold schema old bytes rows k → new_there schema old bytes rows k ≡ false
+pub seen_none : (schema : Schema) (old bytes : List ℕ) (rows : List Row) (k : ℕ) (repeated : Bool) → k < length schema.keys
+    → IsTold schema old bytes rows k → new_there schema old bytes rows k ≡ false
     → SeenOn schema old bytes rows k repeated → SeenOn schema old bytes rows (k + 1) repeated
-seen_none schema old bytes rows k repeated lt told none on =
-    let d : KeyPart = no_key in
-    let p = clashes_at schema bytes rows in
-    let q = repeats_at schema old bytes rows in
-    record {
-      clash = none_more p schema.keys d k lt (told.clash ∙ and_none (not (has_duplicates (key_at schema k))) (new_there schema old bytes rows k) none) on.clash;
-      repeat = on.repeat ∙ ap (λ b. repeated || b) (any_dropped q schema.keys d k lt)
-          ∙ ap (λ b. repeated || (b || list_any q (drop (k + 1) schema.keys))) (told.repeat ∙ and_none (has_duplicates (key_at schema k)) (new_there schema old bytes rows k) none);
-    }
-  where
-    and_none : (a b : Bool) → b ≡ false → (a && b) ≡ false
-    and_none true b h = h
-    and_none false b h = refl
+seen_none schema old bytes rows k repeated lt told none =
+    look_on (clashes_at schema bytes rows) (repeats_at schema old bytes rows) schema.keys no_key k false repeated repeated lt
+    (told.clash ∙ and_right _ _ none) (told.repeat ∙ and_right _ _ none) (λ b. refl)
 
 -- it is there, in a key of duplicates
-pub seen_repeated : (schema : Schema) (old bytes : List ℕ) (rows : List Row) (k : ℕ) (repeated : Bool) → k < length schema.keys → IsTold schema old bytes rows k → new_there schema old bytes rows k ≡ true
-    → has_duplicates (key_at schema k) ≡ true → SeenOn schema old bytes rows k repeated → SeenOn schema old bytes rows (k + 1) true
-seen_repeated schema old bytes rows k repeated lt told there many on =
-    let d : KeyPart = no_key in
-    let p = clashes_at schema bytes rows in
-    let q = repeats_at schema old bytes rows in
-    record {
-      clash = none_more p schema.keys d k lt (told.clash ∙ ap (λ b. not b && new_there schema old bytes rows k) many) on.clash;
-      repeat = on.repeat ∙ ap (λ b. repeated || b) (any_dropped q schema.keys d k lt)
-          ∙ ap (λ b. repeated || (b || list_any q (drop (k + 1) schema.keys))) (told.repeat ∙ ap (λ b. b && new_there schema old bytes rows k) many ∙ there) ∙ or_true repeated;
-    }
-  where
-    or_true : (b : Bool) → (b || true) ≡ true
-    or_true true = refl
-    or_true false = refl
+pub seen_repeated : (schema : Schema) (old bytes : List ℕ) (rows : List Row) (k : ℕ) (repeated : Bool) → k < length schema.keys
+    → IsTold schema old bytes rows k → new_there schema old bytes rows k ≡ true → has_duplicates (key_at schema k) ≡ true
+    → SeenOn schema old bytes rows k repeated → SeenOn schema old bytes rows (k + 1) true
+seen_repeated schema old bytes rows k repeated lt told there many =
+    look_on (clashes_at schema bytes rows) (repeats_at schema old bytes rows) schema.keys no_key k true repeated true lt
+    (told.clash ∙ ap (λ b. not b && new_there schema old bytes rows k) many) (told.repeat ∙ and_from _ _ many there) (λ b. or-true repeated)
 
 -- it is there, in a unique key
-pub seen_clash : (schema : Schema) (old bytes : List ℕ) (rows : List Row) (k : ℕ) (repeated : Bool) → k < length schema.keys → IsTold schema old bytes rows k → new_there schema old bytes rows k ≡ true
-    → has_duplicates (key_at schema k) ≡ false → SeenOn schema old bytes rows k repeated → list_any (clashes_at schema bytes rows) schema.keys ≡ true
-seen_clash schema old bytes rows k repeated lt told there one on =
-    let d : KeyPart = no_key in
-    some_here (clashes_at schema bytes rows) schema.keys d k lt (told.clash ∙ ap (λ b. not b && new_there schema old bytes rows k) one ∙ there) on.clash
+pub seen_clash : (schema : Schema) (old bytes : List ℕ) (rows : List Row) (k : ℕ) (repeated : Bool) → k < length schema.keys
+    → IsTold schema old bytes rows k → new_there schema old bytes rows k ≡ true → has_duplicates (key_at schema k) ≡ false
+    → SeenOn schema old bytes rows k repeated → list_any (clashes_at schema bytes rows) schema.keys ≡ true
+seen_clash schema old bytes rows k repeated lt told there one =
+    look_found (clashes_at schema bytes rows) (repeats_at schema old bytes rows) schema.keys no_key k repeated lt
+    (told.clash ∙ and_from _ _ (ap not one) there)
 
 -- the prime key needs no look
 pub seen_start : (schema : Schema) (next : ℕ) (bytes : List ℕ) (old : Row) (rows : List Row) → 0 < length schema.keys → AreKeys schema.keys → are_rows schema next rows ≡ true → is_row schema next old ≡ true
     → find (has_value schema 0 (prime_of schema bytes)) rows ≡ Some old → bytes_eq (value_of schema 0 old.bytes) (value_of schema 0 bytes) ≡ true → SeenOn schema old.bytes bytes rows 1 false
 seen_start schema next bytes old rows lt are sound fit found stays =
     seen_none schema old.bytes bytes rows 0 false lt (is_told schema next 0 bytes old rows lt sound fit found) (ap (λ b. not b && is_there (key_at schema 0) bytes rows) stays)
-    (record { clash = none_start (clashes_at schema bytes rows) schema.keys; repeat = refl })
-
-or_false : (b : Bool) → (b || false) ≡ b
-or_false true = refl
-or_false false = refl
+    (look_start (clashes_at schema bytes rows) (repeats_at schema old.bytes bytes rows) schema.keys)
 
 -- all keys were looked at
 pub all_seen : (schema : Schema) (bytes : List ℕ) (file : File) (old : Row) (k : ℕ) (repeated : Bool) → length schema.keys ≤ k → SeenOn schema old.bytes bytes file.rows k repeated
     → Done repeated ≡ replaced_answer_at schema bytes file (Some old)
 all_seen schema bytes file old k repeated all on =
-    let q = repeats_at schema old.bytes bytes file.rows in
-    let told : repeated ≡ list_any q schema.keys = sym (on.repeat ∙ ap (λ ks. repeated || list_any q ks) (all_dropped schema.keys k all) ∙ or_false repeated) in
-    ap Done told ∙ ap (λ b. if b then Clash else Done (repeats_changed schema bytes old file)) (sym (none_all (clashes_at schema bytes file.rows) schema.keys k all on.clash))
+    let clash = clashes_at schema bytes file.rows in
+    let repeat = repeats_at schema old.bytes bytes file.rows in
+    ap Done (look_told clash repeat schema.keys k repeated all on)
+    ∙ ap (λ b. if b then Clash else Done (repeats_changed schema bytes old file))
+    (sym (look_none clash repeat schema.keys k repeated all on))
 
 pub clash_seen : (schema : Schema) (bytes : List ℕ) (file : File) (old : Row) → list_any (clashes_at schema bytes file.rows) schema.keys ≡ true → Clash ≡ replaced_answer_at schema bytes file (Some old)
 clash_seen schema bytes file old clash = ap (λ b. if b then Clash else Done (repeats_changed schema bytes old file)) (sym clash)
 
 pub was_false : (b : Bool) → not b ≡ true → b ≡ false
-was_false true h = sym h
-was_false false h = refl
+was_false b h = grind (arith, common_steps)
 
 pub was_true : (b : Bool) → not b ≡ false → b ≡ true
-was_true true h = refl
-was_true false h = sym h
+was_true b h = grind (arith, common_steps)

@@ -2,30 +2,27 @@
 use Rattle.std.proofs.Common.{◌≡◌, ℕ, ◌<◌, true, false, List, [], ◌∷◌, length, Some, None, refl, ap, sym, ◌∙◌}
 use Rattle.std.specs.Prelude.{find, option_map}
 use Rattle.std.specs.List.{list_all}
-use Rattle.std.specs.Ordering.{is_lt, is_eq, ordering_reverse}
-use Rattle.std.specs.declared.cmp.Ordering.{Ordering}
-use Rattle.std.specs.declared.cmp.Ordering.TheVariants.{Less, Equal, Greater}
+use Rattle.std.specs.Ordering.{is_lt}
 use Rattle.std.proofs.lemmas.Bool.{and_parts}
 use Rattle.std.proofs.lemmas.Cmp.{nat_list_cmp_total}
 use Rattle.record_layout.specs.Schema.{Schema, prime_of, value_of}
 use Rattle.indexed_file.specs.File.{Row, stamp_of}
 use Rattle.io_state.specs.Rank.{value_cmp}
-use Rattle.indexed_file.specs.Rank.{row_cmp, has_value}
+use Rattle.indexed_file.specs.Rank.{has_value}
 use Rattle.indexed_file.specs.Change.{inserted, others_in}
 use Rattle.indexed_file.specs.Sound.{are_rows}
 use Rattle.indexed_file.proofs.RowLemmas.{is_before, rows_parts}
 use Rattle.page_bytes.specs.Each.{Each}
 use Rattle.key_index.specs.Entries.{has_rank, with_alt}
 use Rattle.open_file.specs.InOrder.{in_order, alt_entry, alt_entries}
-use Rattle.open_file.proofs.OrderLemmas.{either, not_back}
+use Rattle.open_file.proofs.OrderLemmas.{either, from_some, not_back}
+use Rattle.open_file.proofs.ByKeyLemmas.{in_order_each}
 use Rattle.open_file.proofs.PartsLemmas.{each_map}
-use Rattle.open_file.proofs.FirstLemmas.{from_some}
 use Rattle.open_file.proofs.PlaceLemmas.{find_each}
 use Rattle.open_file.proofs.RepeatLemmas.{find_mapped}
-use Rattle.open_file.proofs.RowLemmas.{row_total}
-use Rattle.file_changes.proofs.RankLemmas.{same_rank, not_tied, each_all}
+use Rattle.file_changes.proofs.RankLemmas.{same_rank, each_all}
 use Rattle.file_changes.proofs.InsertLemmas.{entries_inserted}
-use Rattle.file_changes.proofs.AddedLemmas.{none_passes, in_order_each}
+use Rattle.file_changes.proofs.AddedLemmas.{none_passes}
 use Rattle.file_changes.proofs.OneRowLemmas.{none_after, one_of_rank}
 
 -- a row goes before rows that it is before
@@ -74,21 +71,13 @@ others_apart schema next k prime old rows lt sound found =
     (each_map (λ row. same_rank schema k row old ≡ has_value schema 0 prime row) (λ row. has_value schema 0 prime row ≡ false → same_rank schema k row old ≡ false) (λ row one none. one ∙ none)
     rows (one_of_rank schema next k prime old rows lt sound found))
 
-reversed : (o : Ordering) → is_eq (ordering_reverse o) ≡ is_eq o
-reversed Less = refl
-reversed Equal = refl
-reversed Greater = refl
-
 -- an index has the entry of the one among those of the others
 pub entries_split : (schema : Schema) (next k : ℕ) (prime : List ℕ) (old : Row) (rows : List Row) → k < length schema.keys → are_rows schema next rows ≡ true → find (has_value schema 0 prime) rows ≡ Some old
     → alt_entries schema k rows ≡ with_alt (alt_entry schema k old) (alt_entries schema k (others_in schema prime rows))
 entries_split schema next k prime old rows lt sound found =
     let others = others_in schema prime rows in
     let apart = others_apart schema next k prime old rows lt sound found in
-    let one = each_map (λ row. same_rank schema k row old ≡ false) (λ row. is_eq (row_cmp schema k row old) ≡ false) (λ row h. not_tied schema k row old h) others apart in
-    let two = each_map (λ row. is_eq (row_cmp schema k row old) ≡ false) (λ row. is_eq (row_cmp schema k old row) ≡ false)
-    (λ row h. ap is_eq ((row_total schema k).antisymm old row) ∙ reversed (row_cmp schema k row old) ∙ h) others one in
-    ap (alt_entries schema k) (split_one schema next prime old rows sound found) ∙ entries_inserted schema k old others one two
+    ap (alt_entries schema k) (split_one schema next prime old rows sound found) ∙ entries_inserted schema k old others apart
 
 -- and no other of its rank
 pub none_of_rank : (schema : Schema) (next k : ℕ) (prime : List ℕ) (old : Row) (rows : List Row) → k < length schema.keys → are_rows schema next rows ≡ true → find (has_value schema 0 prime) rows ≡ Some old

@@ -15,8 +15,8 @@ pub(crate) fn new_stamps(opened: &OpenFile) -> ArrayVec<u8, 64>
     ensures { AreNewStamps opened.now result.items }
 {
     let mut stamps = ArrayVec::new();
-    for k in 1..opened.key_count() {
-        if opened.part(k as u8).has_duplicates() {
+    for j in 0..opened.alternate_count() {
+        if opened.part(j as u8 + 1).has_duplicates() {
             push_stamp(&mut stamps, opened.next_stamp());
         }
     }

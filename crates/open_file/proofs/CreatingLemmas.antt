@@ -68,10 +68,10 @@ each_front P (y ∷ xs) x h = let rest = each_front P xs x h.1 in ((h.0, rest.0)
 
 -- pages in use are as they were, and outside the new ones
 untouched : (before after : PageMap) (own now : List ℕ) → Each (λ n. IsSome (before n)) own → ChangesPages before after [] now → Each (λ n. after n ≡ before n) own × Each (λ n. IsOutside now n) own
-untouched before after [] now used changes = (tt, tt)
-untouched before after (n ∷ own) now used changes =
-    let rest = untouched before after own now used.1 changes in
-    let here = changes.others n used.0 tt in
+untouched before after [] now live changes = (tt, tt)
+untouched before after (n ∷ own) now live changes =
+    let rest = untouched before after own now live.1 changes in
+    let here = changes.others n live.0 tt in
     ((here.0, rest.0), (here.1, rest.1))
 
 parted_more : (before after : PageMap) (owns : List (List ℕ)) (now : List ℕ) → AreUsed before owns → ChangesPages before after [] now

@@ -18,8 +18,7 @@ use Rattle.record_heap.specs.Chain.{Slots}
 use Rattle.key_index.specs.Entries.{from_value, has_prime}
 use Rattle.open_file.specs.InOrder.{in_order, alt_entry, alt_entries, prime_entries}
 use Rattle.open_file.specs.Stored.{AreAt}
-use Rattle.open_file.proofs.OrderLemmas.{either, tied_ge, above}
-pub use Rattle.open_file.proofs.OrderLemmas.{from_some}
+use Rattle.open_file.proofs.OrderLemmas.{either, from_some, tied_ge, above}
 use Rattle.open_file.proofs.EntryLemmas.{alt_none}
 use Rattle.open_file.proofs.RowLemmas.{AreSorted, in_order_sorted}
 use Rattle.open_file.proofs.RepeatLemmas.{find_mapped, value_below, any_in_order}

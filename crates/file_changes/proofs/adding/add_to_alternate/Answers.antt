@@ -1,4 +1,4 @@
-use Rattle.std.proofs.Common.{◌≡◌, ℕ, ◌+◌, ◌-◌, arith, ap, sym, ◌∙◌, rules}
+use Rattle.std.proofs.Common.{◌≡◌, ◌+◌, ◌-◌, arith, ap, sym, ◌∙◌, rules}
 use Rattle.std.specs.Prelude.{slice_index_or, if◌then◌else◌}
 use Rattle.record_layout.specs.Schema.{has_duplicates}
 use Rattle.open_file.specs.Fields.{alternates_of, heap_of, next_stamp_of, prime_index_of, file_schema}
@@ -6,17 +6,14 @@ use Rattle.file_changes.specs.Adding.{stamp_in}
 use Rattle.open_file.proofs.PartsLemmas.{alternate_changed, same_default}
 use Rattle.key_index.specs.declared.alt_index.AltIndex.{AltIndex}
 use Rattle.std.proofs.lemmas.List.{drop-set-lt}
+use Rattle.file_changes.proofs.LevelLemmas.{index_is}
 use Rattle.file_changes.proofs.adding.add_to_alternate.Goals as goal
 use Rattle.file_changes.proofs.adding.add_to_alternate.Goals.{then-has_duplicates, else-has_duplicates}
-
-again : (j : ℕ) → j + 1 - 1 ≡ j
-again j = omega arith
 
 pub returns-then-added-clause-added : goal.returns-then-added-clause-added
 returns-then-added-clause-added g c honest sound slots primes entries p none =
     let opened = c.args.opened.now in
-    let at : c.alternate-index.result ≡ slice_index_or (alternates_of opened) c.args.j c.alternate-index.result =
-    c.alternate-index.ensures ∙ ap (λ m. slice_index_or (alternates_of opened) m c.alternate-index.result) (again c.args.j) in
+    let at = index_is (alternates_of opened) c.args.j c.alternate-index.result c.alternate-index.ensures in
     let stamp : c.if-has_duplicates.stamp ≡ stamp_in (file_schema opened) (next_stamp_of opened) c.args.j =
     (elim c.if-has_duplicates.branch [
       | then-has_duplicates w ↦ w.stamp-is ∙ w.next_stamp-stamp.ensures ∙ ap (λ b. if b then next_stamp_of opened else 0) (sym (ap has_duplicates (sym c.part-part.ensures.part) ∙ (sym c.has_duplicates.ensures ∙ w.if-has_duplicates.true)))
@@ -29,8 +26,7 @@ returns-then-added-clause-added g c honest sound slots primes entries p none =
 pub returns-else-added-clause-alternate : goal.returns-else-added-clause-alternate
 returns-else-added-clause-alternate g c =
     let opened = c.args.opened.now in
-    let at : c.alternate-index.result ≡ slice_index_or (alternates_of opened) c.args.j c.alternate-index.result =
-    c.alternate-index.ensures ∙ ap (λ m. slice_index_or (alternates_of opened) m c.alternate-index.result) (again c.args.j) in
+    let at = index_is (alternates_of opened) c.args.j c.alternate-index.result c.alternate-index.ensures in
     let same : (index : AltIndex) → index ≡ slice_index_or (alternates_of opened) c.args.j index → c.alternate-index.result ≡ index =
     λ index is. at ∙ same_default (alternates_of opened) c.args.j c.alternate-index.result index c.requires.index ∙ sym is in
     record {

@@ -1,23 +1,20 @@
-use Rattle.std.proofs.Common.{◌≡◌, ℕ, ◌+◌, ◌-◌, ◌<◌, Bool, true, false, not, length, refl, ap, ◌∙◌, arith}
-use Rattle.std.specs.Prelude.{slice_index_or, if◌then◌else◌}
+use Rattle.std.proofs.Common.{◌≡◌, ℕ, ◌+◌, ◌-◌, ◌<◌, Bool, true, false, not, length, arith}
+use Rattle.std.specs.Prelude.{if◌then◌else◌}
+use Rattle.std.proofs.lemmas.Grind.{common_steps}
 use Rattle.key_index.specs.Standing.{alt_height}
 use Rattle.open_file.specs.Fields.{alternates_of, file_schema}
 use Rattle.file_changes.specs.Replacing.{stays}
 use Rattle.open_file.proofs.PartsLemmas.{found_at}
 use Rattle.file_changes.proofs.ChangedLemmas.{need_step}
+use Rattle.file_changes.proofs.LevelLemmas.{index_is}
 use Rattle.file_changes.proofs.changed.need_to_change.Goals as goal
 use Rattle.file_changes.proofs.changed.need_to_change.Goals.{then-differs, else-differs}
 
-again : (j : ℕ) → j + 1 - 1 ≡ j
-again j = omega arith
-
 moves : (b moved : Bool) (need : ℕ) → moved ≡ not b → moved ≡ true → (if b then 0 else need) ≡ need
-moves true moved need is yes' = absurd (cc)
-moves false moved need is yes' = refl
+moves b moved need is yes' = grind (arith, common_steps)
 
 rests : (b moved : Bool) (need : ℕ) → moved ≡ not b → moved ≡ false → (if b then 0 else need) ≡ 0
-rests true moved need is no' = refl
-rests false moved need is no' = absurd (cc)
+rests b moved need is no' = grind (arith, common_steps)
 
 pub loop-j-preserved : goal.loop-j-preserved
 loop-j-preserved c =
@@ -28,7 +25,7 @@ loop-j-preserved c =
     let lt : j < length (alternates_of u) = omega (arith, c.loop-j-test.true, c.alternate_count-j-end.ensures.value) in
     elim c.if-differs.branch [
       | then-differs w ↦
-          let is : w.alternate.result ≡ slice_index_or (alternates_of u) j w.alternate.result = w.alternate.ensures ∙ ap (λ m. slice_index_or (alternates_of u) m w.alternate.result) (again j) in
+          let is = index_is (alternates_of u) j w.alternate.result w.alternate.ensures in
           let step = need_step (file_schema u) old new (alternates_of u) j w.alternate.result c.requires.shaped.keys lt is in
           let here = moves (stays (file_schema u) old new j) c.differs.result (alt_height w.alternate.result + 1) c.differs.ensures w.if-differs.true in
           record { so_far = omega (arith, w.need-is, w.from.ensures, w.height.ensures, step, here, c.loop-j.invariant.so_far); small = omega (arith, w.need-is, w.from.ensures, w.height.ensures, w.alternate.result.tree.low, c.loop-j.invariant.small) }

@@ -1,4 +1,5 @@
-use Rattle.std.proofs.Common.{◌≡◌, Bool, true, false, not, ◌||◌, refl, sym, subst, ap, ◌∙◌, arith, IsTrue}
+use Rattle.std.proofs.Common.{not, ◌||◌, refl, sym, subst, ap, ◌∙◌, arith, IsTrue}
+use Rattle.std.proofs.Math.Bool.{or-true}
 use Rattle.record_layout.specs.Schema.{prime_of}
 use Rattle.indexed_file.specs.Change.{clashes_with_others}
 use Rattle.indexed_file.specs.Room.{is_full_at}
@@ -31,10 +32,6 @@ returns-in_err-old-clause-replaces g c =
     (λ honest sound file stands. (c.in_err-old.ensures.found honest file stands).no_damage)
     (kept _ _ _ refl (g.met.P.Pages.begins_ready start looked begins c.requires.ready.pages) c.requires.ready.shaped begins (omega (arith, c.find_old.ensures.reads.asked, heights_few (prime_index_of u) (alternates_of u), levels_of_all (prime_index_of u) (alternates_of u))))
 
-or_true : (b : Bool) → (b || true) ≡ true
-or_true true = refl
-or_true false = refl
-
 pub returns-in_default-clause-replaces : goal.returns-in_default-clause-replaces
 returns-in_default-clause-replaces g c =
     let u = c.args.opened.now in
@@ -50,7 +47,7 @@ returns-in_default-clause-replaces g c =
     (λ honest file stands.
     let none = (rw (c.value-prime.ensures.value, c.in_default.is) at c.in_ok-old.ensures.found honest file stands).answer in
     ap (λ row. clashes_with_others (file_schema u) c.args.bytes.now file || not (is_full_at (room_of u (g.P.Pages.shown.state start).available) (file_schema u) c.args.bytes.now file row)) none
-    ∙ or_true (clashes_with_others (file_schema u) c.args.bytes.now file))
+    ∙ or-true (clashes_with_others (file_schema u) c.args.bytes.now file))
     (kept _ _ _ refl (g.met.P.Pages.begins_ready start looked begins c.requires.ready.pages) c.requires.ready.shaped begins (omega (arith, c.find_old.ensures.reads.asked, heights_few (prime_index_of u) (alternates_of u), levels_of_all (prime_index_of u) (alternates_of u))))
 
 pub returns-clause-keeps : goal.returns-clause-keeps

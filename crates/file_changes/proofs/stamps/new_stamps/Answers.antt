@@ -1,38 +1,53 @@
-use Rattle.std.proofs.Common.{◌≤◌, ◌<◌, ◌++◌, length, ap, sym, ◌∙◌, arith}
+use Rattle.std.proofs.Common.{◌+◌, ◌≤◌, ◌<◌, ◌++◌, length, drop, ap, sym, ◌∙◌, arith, length-drop}
+use Rattle.std.specs.Prelude.{if◌then◌else◌}
+use Rattle.std.proofs.lemmas.List.{length-map}
+use Rattle.byteorder.specs.Endian.{big_bytes}
 use Rattle.record_layout.specs.declared.schema.KeyPart.{KeyPart}
 use Rattle.record_layout.specs.Schema.{has_duplicates, no_key}
 use Rattle.open_file.specs.Fields.{next_stamp_of, file_schema}
-use Rattle.open_file.proofs.StampedLemmas.{written_start, written_more, written_skip, written_whole, written_room}
+use Rattle.file_changes.proofs.ChangedLemmas.{stamps_of, stamp_of_new, write_start, write_more, write_none, write_whole, write_room}
 use Rattle.file_changes.proofs.stamps.new_stamps.Goals as goal
 use Rattle.file_changes.proofs.stamps.new_stamps.Goals.{then-has_duplicates, else-has_duplicates}
 
-pub loop-k-init : goal.loop-k-init
-loop-k-init c = rw c.new-stamps.ensures (written_start (file_schema c.args.opened.now).keys (next_stamp_of c.args.opened.now))
-
-pub loop-k-preserved : goal.loop-k-preserved
-loop-k-preserved c =
+pub loop-j-init : goal.loop-j-init
+loop-j-init c =
     let keys = (file_schema c.args.opened.now).keys in
-    let stamp = next_stamp_of c.args.opened.now in
-    let d : KeyPart = no_key in
-    let lt : c.loop-k.k < length keys = omega (arith, c.loop-k-test.true, c.key_count-k-end.ensures.count) in
-    elim c.if-has_duplicates.branch [
-      | then-has_duplicates w ↦
-          let many = ap has_duplicates (sym c.part.ensures.part) ∙ (sym c.has_duplicates.ensures ∙ w.if-has_duplicates.true) in
-          rw w.stamps-is (written_more keys d stamp c.loop-k.k c.loop-k.stamps.items w.push_stamp.new.stamps.items lt many (rw w.next_stamp.ensures at w.push_stamp.ensures) c.loop-k.invariant)
-      | else-has_duplicates w ↦ rw w.stamps-is (written_skip keys d stamp c.loop-k.k c.loop-k.stamps.items lt (ap has_duplicates (sym c.part.ensures.part) ∙ (sym c.has_duplicates.ensures ∙ w.if-has_duplicates.false)) c.loop-k.invariant)
-    ]
-
-pub returns : goal.returns
-returns c =
-    let all : length (file_schema c.args.opened.now).keys ≤ c.loop-k.k = omega (arith, c.loop-k-test.false, c.key_count-k-end.ensures.count) in
-    let whole = written_whole (file_schema c.args.opened.now).keys (next_stamp_of c.args.opened.now) c.loop-k.k c.loop-k.stamps.items all c.loop-k.invariant in
-    record { stored = λ bytes. ap (λ bs. bs ++ bytes) whole.0; length = whole.1 ∙ sym c.requires.stamps }
+    rw c.new-stamps.ensures (write_start keys (stamps_of (next_stamp_of c.args.opened.now) (drop 1 keys)))
 
 pub push_stamp-requires : goal.push_stamp-requires
 push_stamp-requires c =
     let keys = (file_schema c.args.opened.now).keys in
     let d : KeyPart = no_key in
-    let lt : c.loop-k.k < length keys = omega (arith, c.loop-k-test.true, c.key_count-k-end.ensures.count) in
+    let lt : c.loop-j.j + 1 < length keys = omega (arith, c.loop-j-test.true, c.alternate_count-j-end.ensures.value, c.requires.keys) in
     let many = ap has_duplicates (sym c.part.ensures.part) ∙ (sym c.has_duplicates.ensures ∙ c.if-has_duplicates.true) in
-    let room = written_room keys d (next_stamp_of c.args.opened.now) c.loop-k.k c.loop-k.stamps.items c.requires.is_schema.few lt many c.loop-k.invariant in
-    omega (arith, room)
+    let stamps = stamps_of (next_stamp_of c.args.opened.now) (drop 1 keys) in
+    omega (arith, write_room keys d stamps c.loop-j.j c.loop-j.stamps.items c.requires.is_schema.few lt many c.loop-j.invariant)
+
+pub loop-j-preserved : goal.loop-j-preserved
+loop-j-preserved c =
+    let schema = file_schema c.args.opened.now in
+    let next = next_stamp_of c.args.opened.now in
+    let j = c.loop-j.j in
+    let written = c.loop-j.stamps.items in
+    let d : KeyPart = no_key in
+    let lt : j + 1 < length schema.keys = omega (arith, c.loop-j-test.true, c.alternate_count-j-end.ensures.value, c.requires.keys) in
+    let stamps = stamps_of next (drop 1 schema.keys) in
+    let within : j < length stamps = simp (length-map, length-drop) (omega (arith, lt)) in
+    elim c.if-has_duplicates.branch [
+      | then-has_duplicates w ↦
+          let many = ap has_duplicates (sym c.part.ensures.part) ∙ (sym c.has_duplicates.ensures ∙ w.if-has_duplicates.true) in
+          let number = w.next_stamp.ensures ∙ sym (stamp_of_new schema next j lt ∙ ap (λ b. if b then next else 0) many) in
+          rw w.stamps-is (write_more schema.keys d stamps j written w.push_stamp.new.stamps.items lt within many
+          (w.push_stamp.ensures ∙ ap (λ s. written ++ big_bytes 8 s) number) c.loop-j.invariant)
+      | else-has_duplicates w ↦
+          let one = ap has_duplicates (sym c.part.ensures.part) ∙ (sym c.has_duplicates.ensures ∙ w.if-has_duplicates.false) in
+          rw w.stamps-is (write_none schema.keys d stamps j written lt within one c.loop-j.invariant)
+    ]
+
+pub returns : goal.returns
+returns c =
+    let keys = (file_schema c.args.opened.now).keys in
+    let all : length keys ≤ c.loop-j.j + 1 = omega (arith, c.loop-j-test.false, c.alternate_count-j-end.ensures.value, c.requires.keys) in
+    let stamps = stamps_of (next_stamp_of c.args.opened.now) (drop 1 keys) in
+    let whole = write_whole keys stamps c.loop-j.j c.loop-j.stamps.items all c.loop-j.invariant in
+    record { stored = λ bytes. ap (λ bs. bs ++ bytes) whole.0; length = whole.1 ∙ sym c.requires.stamps }
