@@ -303,15 +303,15 @@ within_it child within = (child.row.under within.0, child.row.over within.1)
 -- ---- the exits of an insert below a page
 
 pub inserts_at : {shape : Shape} {n m page : ℕ} {before : PageMap} {is_sound : Type 0} {out : Result Grown Fault} (after : PageMap)
-    (e : List ℕ) → n ≡ m → Inserts (at_page shape m page) e out before after is_sound
+    (e : List ℕ) → Inserts (at_page shape m page) e out before after is_sound → n ≡ m
     → Inserts (at_page shape n page) e out before after is_sound
-inserts_at {shape} {page} {before} {is_sound} {out} after e same =
-    subst (λ (levels : ℕ). Inserts (at_page shape levels page) e out before after is_sound) (sym same)
+inserts_at {shape} {page} {before} {is_sound} {out} after e says same =
+    subst (λ (levels : ℕ). Inserts (at_page shape levels page) e out before after is_sound) (sym same) says
 
 pub puts_at : {shape : Shape} {n m page : ℕ} {before : PageMap} {is_sound : Type 0} {out : Result Bool Fault} (after : PageMap) (e : List ℕ)
-    → n ≡ m → PutsBelow (at_page shape m page) e out before after is_sound → PutsBelow (at_page shape n page) e out before after is_sound
-puts_at {shape} {page} {before} {is_sound} {out} after e same =
-    subst (λ (levels : ℕ). PutsBelow (at_page shape levels page) e out before after is_sound) (sym same)
+    → PutsBelow (at_page shape m page) e out before after is_sound → n ≡ m → PutsBelow (at_page shape n page) e out before after is_sound
+puts_at {shape} {page} {before} {is_sound} {out} after e says same =
+    subst (λ (levels : ℕ). PutsBelow (at_page shape levels page) e out before after is_sound) (sym same) says
 
 module _ {shape : Shape} {k page : ℕ} {before : PageMap} {step : StepDown} {is_sound : Type 0} (e : List ℕ)
     (steps : Steps shape before page (take shape.width e) (Ok step)) (after : PageMap) where

@@ -18,8 +18,7 @@ use Rattle.node_balance.specs.Balance.{IsNode, count_at, Joins, Shares}
 use Rattle.bplus_tree.specs.Rebalance.{AreThree, PairBytes, HasJoined, HasShared, IsBeside, IsParent, HasRead}
 use Rattle.bplus_tree.specs.Remove.{BecomesShort, AreFullBut, IsHalfFullWithRoot, LacksOne, LacksBelow}
 use Rattle.bplus_tree.proofs.RemoveLemmas.{Inner}
-use Rattle.tree_search.proofs.RowLemmas.{Each-append, row_rises}
-use Rattle.tree_search.proofs.RowLemmas.{each_left, each_right, row_length}
+use Rattle.tree_search.proofs.RowLemmas.{Each-append, row_rises, each_left, each_right, row_length}
 use Rattle.bplus_tree.proofs.PageLemmas.{rows_still}
 use Rattle.bplus_tree.proofs.PairLemmas.{PairAt, pair_at}
 use Rattle.tree_search.proofs.DescentLemmas.{node_whole, root_there}

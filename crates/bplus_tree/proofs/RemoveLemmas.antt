@@ -35,10 +35,9 @@ use Rattle.bplus_tree.specs.Remove.{Becomes, HasRemovedBelow, Removes, HasTaken,
 use Rattle.bplus_tree.specs.Remove.{HasTakenInPlaceIf}
 use Rattle.bplus_tree.specs.Remove.{TakesInPlace, AreFullBut, IsHalfFullWithRoot, LacksOne, Rebalances, OutOfLeaf}
 use Rattle.tree_search.proofs.FindLemmas.{differs, differs_back, found_past, missed_at, apart_behind}
-use Rattle.tree_search.proofs.RowLemmas.{RowAt, Inside, Each-append}
+use Rattle.tree_search.proofs.RowLemmas.{RowAt, Inside, Each-append, each_left, each_right}
 use Rattle.bplus_tree.proofs.GrowLemmas.{answer_map}
 use Rattle.bplus_tree.proofs.PageLemmas.{change_page, written_same, apart_left, apart_right, change_within, pages_live, rows_still}
-use Rattle.tree_search.proofs.RowLemmas.{each_left, each_right}
 use Rattle.tree_search.proofs.DescentLemmas.{below, entry_below, step_of, tree_ascends}
 
 -- one of two cases
@@ -365,16 +364,16 @@ but_here F L (y ∷ front) x back zero is a l b = absurd (omega arith)
 but_here F L (y ∷ front) x back (suc place) is a l b = (a.0, but_here F L front x back place (omega arith) a.1 l b)
 
 pub takes_at : {shape : Shape} {n m page : ℕ} {before : PageMap} {is_sound : Type 0} {out : Result Bool Fault} (after : PageMap)
-    (key : List ℕ) (entry : ArrayVec ℕ) → n ≡ m → TakesBelow (at_page shape m page) key entry out before after is_sound
-    → TakesBelow (at_page shape n page) key entry out before after is_sound
-takes_at {shape} {page} {before} {is_sound} {out} after key entry same =
-    subst (λ (levels : ℕ). TakesBelow (at_page shape levels page) key entry out before after is_sound) (sym same)
+    (key : List ℕ) (entry : ArrayVec ℕ) → TakesBelow (at_page shape m page) key entry out before after is_sound
+    → n ≡ m → TakesBelow (at_page shape n page) key entry out before after is_sound
+takes_at {shape} {page} {before} {is_sound} {out} after key entry says same =
+    subst (λ (levels : ℕ). TakesBelow (at_page shape levels page) key entry out before after is_sound) (sym same) says
 
 pub removes_at : {shape : Shape} {n m page : ℕ} {before : PageMap} {is_sound : Type 0} {out : Result Shrunk Fault} (after : PageMap)
-    (key : List ℕ) → n ≡ m → Removes (at_page shape m page) key out before after is_sound
-    → Removes (at_page shape n page) key out before after is_sound
-removes_at {shape} {page} {before} {is_sound} {out} after key same =
-    subst (λ (levels : ℕ). Removes (at_page shape levels page) key out before after is_sound) (sym same)
+    (key : List ℕ) → Removes (at_page shape m page) key out before after is_sound
+    → n ≡ m → Removes (at_page shape n page) key out before after is_sound
+removes_at {shape} {page} {before} {is_sound} {out} after key says same =
+    subst (λ (levels : ℕ). Removes (at_page shape levels page) key out before after is_sound) (sym same) says
 
 module _ {shape : Shape} {k page : ℕ} {before : PageMap} {key : List ℕ} {step : StepDown} {is_sound : Type 0}
     (steps : Steps shape before page key (Ok step)) (after : PageMap) where

@@ -1,7 +1,7 @@
 -- A tree from its root.
 use Rattle.std.proofs.Common.{◌≡◌, ◌≢◌, ℕ, ◌+◌, ◌-◌, ◌<◌, Bool, List, [], ◌∷◌, length, Some, None, Ok, IsSome, refl, ap, subst, ◌∙◌, arith}
 use Rattle.arrayvec.specs.ArrayVec.{ArrayVec}
-use Rattle.pages.specs.PageMap.{PageMap}
+use Rattle.pages.specs.PageMap.{PageMap, Takes}
 use Rattle.bplus_tree.specs.declared.tree.Tree.{Tree}
 use Rattle.bplus_tree.specs.declared.collapse.Base.{Base}
 use Rattle.bplus_tree.specs.declared.remove.Shrunk.TheVariants.{Absent, Taken}
@@ -11,7 +11,6 @@ use Rattle.bplus_tree.specs.Edits.{without_key}
 use Rattle.tree_search.specs.Calls.{entry_of}
 use Rattle.bplus_tree.specs.Collapse.{Collapses}
 use Rattle.bplus_tree.specs.Remove.{HasRemovedBelow, HasTaken}
-use Rattle.pages.specs.PageMap.{Takes}
 use Rattle.tree_node.specs.declared.shape.Shape.{Shape}
 use Rattle.bplus_tree.specs.Start.{HasStarted}
 use Rattle.bplus_tree.specs.Standing.{TreeStands, HasRemoved, IsNewTree}

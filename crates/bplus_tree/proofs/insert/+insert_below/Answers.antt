@@ -8,47 +8,42 @@ use Rattle.bplus_tree.proofs.insert.+insert_below.Goals as goal
 
 pub returns-then-levels-eq0-clause-inserted : goal.returns-then-levels-eq0-clause-inserted
 returns-then-levels-eq0-clause-inserted g t c honest sound =
-    inserts_at _ c.args.entry.now c.if-levels-eq0.true (c.insert_in_leaf.ensures.inserted honest sound)
+    inserts_at _ c.args.entry.now (c.insert_in_leaf.ensures.inserted honest sound) c.if-levels-eq0.true
 
 pub returns-in_err-down-clause-inserted : goal.returns-in_err-down-clause-inserted
 returns-in_err-down-clause-inserted g t c honest sound =
-    let one : c.args.levels ≡ suc (c.args.levels - 1) = omega arith in
-    inserts_at _ c.args.entry.now one
-    (λ node whole within. descent_fails node whole (c.in_err-down.ensures.found honest) c.from_residual.ensures.1)
+    inserts_at {m = suc (c.args.levels - 1)} _ c.args.entry.now
+    (λ node whole within. descent_fails node whole (c.in_err-down.ensures.found honest) c.from_residual.ensures.1) (omega arith)
 
 pub returns-in_err-found-clause-inserted : goal.returns-in_err-found-clause-inserted
 returns-in_err-found-clause-inserted g t c honest sound =
-    let one : c.args.levels ≡ suc (c.args.levels - 1) = omega arith in
     let reads = c.descend.ensures.reads.step in
     let h = g.met.P.Pages.writes_honestly _ _ c.insert_below.ensures.writes.step honest in
     let inserts = rw (g.met.P.Pages.reads_live _ _ reads h) at
     (c.in_err-found.ensures.inserted honest (rw (g.met.P.Pages.reads_sound _ _ reads h) sound)) in
-    inserts_at _ c.args.entry.now one (λ node whole within.
+    inserts_at _ c.args.entry.now (λ node whole within.
     fails _ _ _ c.from_residual-in_err-found.ensures.1
-    (child_fails c.args.entry.now (c.in_ok-down.ensures.found h) _ inserts node whole within))
+    (child_fails c.args.entry.now (c.in_ok-down.ensures.found h) _ inserts node whole within)) (omega arith)
 
 pub returns-in-Present-clause-inserted : goal.returns-in-Present-clause-inserted
 returns-in-Present-clause-inserted g t c honest sound =
-    let one : c.args.levels ≡ suc (c.args.levels - 1) = omega arith in
     let reads = c.descend.ensures.reads.step in
     let h = g.met.P.Pages.writes_honestly _ _ c.insert_below.ensures.writes.step honest in
     let inserts = rw c.in-Present.is at (c.in_ok-found.ensures.inserted honest (rw (g.met.P.Pages.reads_sound _ _ reads h) sound)) in
-    inserts_at _ c.args.entry.now one (child_has c.args.entry.now (c.in_ok-down.ensures.found h) _ c.in-Present.found
-    (rw (g.met.P.Pages.reads_live _ _ reads h) at inserts))
+    inserts_at _ c.args.entry.now (child_has c.args.entry.now (c.in_ok-down.ensures.found h) _ c.in-Present.found
+    (rw (g.met.P.Pages.reads_live _ _ reads h) at inserts)) (omega arith)
 
 pub returns-in-Added-None-clause-inserted : goal.returns-in-Added-None-clause-inserted
 returns-in-Added-None-clause-inserted g t c honest sound =
-    let one : c.args.levels ≡ suc (c.args.levels - 1) = omega arith in
     let reads = c.descend.ensures.reads.step in
     let h = g.met.P.Pages.writes_honestly _ _ c.insert_below.ensures.writes.step honest in
     let inserts = rw (c.in-Added-None.is, c.in-Added-None.field-0-is) at
     (c.in_ok-found.ensures.inserted honest (rw (g.met.P.Pages.reads_sound _ _ reads h) sound)) in
-    inserts_at _ c.args.entry.now one
-    (child_grown c.args.entry.now (c.in_ok-down.ensures.found h) _ (rw (g.met.P.Pages.reads_live _ _ reads h) at inserts))
+    inserts_at _ c.args.entry.now
+    (child_grown c.args.entry.now (c.in_ok-down.ensures.found h) _ (rw (g.met.P.Pages.reads_live _ _ reads h) at inserts)) (omega arith)
 
 pub returns-in_ok-up-in-Added-Some-clause-inserted : goal.returns-in_ok-up-in-Added-Some-clause-inserted
 returns-in_ok-up-in-Added-Some-clause-inserted g t c honest sound =
-    let one : c.args.levels ≡ suc (c.args.levels - 1) = omega arith in
     let reads = c.descend.ensures.reads.step in
     let late = (g.P.Pages.shown.state c.add_to_inner.new.pages).live in
     let h2 = g.met.P.Pages.writes_honestly _ _ c.add_to_inner.ensures.alters.writes.step honest in
@@ -57,12 +52,12 @@ returns-in_ok-up-in-Added-Some-clause-inserted g t c honest sound =
     (c.in_ok-found.ensures.inserted h2 (rw (g.met.P.Pages.reads_sound _ _ reads h) sound)) in
     let below = rw (g.met.P.Pages.reads_live _ _ reads h) at inserts in
     let split = split_grown c.args.entry.now (c.in_ok-down.ensures.found h) _ late c.in-Added-Some.separator below in
-    inserts_at _ c.args.entry.now one (λ node whole within.
-    let a = split (c.in_ok-up-in-Added-Some.ensures.alters.leaves honest) node whole within in record { answer = a.answer; no_damage = tt })
+    inserts_at _ c.args.entry.now (λ node whole within.
+    let a = split (c.in_ok-up-in-Added-Some.ensures.alters.leaves honest) node whole within in
+    record { answer = a.answer; no_damage = tt }) (omega arith)
 
 pub returns-in_err-up-in-Added-Some-clause-inserted : goal.returns-in_err-up-in-Added-Some-clause-inserted
 returns-in_err-up-in-Added-Some-clause-inserted g t c honest sound =
-    let one : c.args.levels ≡ suc (c.args.levels - 1) = omega arith in
     let reads = c.descend.ensures.reads.step in
     let late = (g.P.Pages.shown.state c.add_to_inner.new.pages).live in
     let h2 = g.met.P.Pages.writes_honestly _ _ c.add_to_inner.ensures.alters.writes.step honest in
@@ -71,9 +66,9 @@ returns-in_err-up-in-Added-Some-clause-inserted g t c honest sound =
     (c.in_ok-found.ensures.inserted h2 (rw (g.met.P.Pages.reads_sound _ _ reads h) sound)) in
     let below = rw (g.met.P.Pages.reads_live _ _ reads h) at inserts in
     let split = split_grown c.args.entry.now (c.in_ok-down.ensures.found h) _ late c.in-Added-Some.separator below in
-    inserts_at _ c.args.entry.now one (λ node whole within.
+    inserts_at _ c.args.entry.now (λ node whole within.
     fails _ _ _ c.from_residual-in_err-up-in-Added-Some.ensures.1
-    (split (c.in_err-up-in-Added-Some.ensures.alters.leaves honest) node whole within).no_damage)
+    (split (c.in_err-up-in-Added-Some.ensures.alters.leaves honest) node whole within).no_damage) (omega arith)
 
 pub returns-in_err-up-in-Added-Some-clause-writes : goal.returns-in_err-up-in-Added-Some-clause-writes
 returns-in_err-up-in-Added-Some-clause-writes g t c =

@@ -7,16 +7,15 @@ use Rattle.bplus_tree.proofs.insert.+put_below.Goals as goal
 pub returns-then-levels-eq0 : goal.returns-then-levels-eq0
 returns-then-levels-eq0 g t c = record {
   leaves = λ honest sound.
-      puts_at _ c.args.entry.now c.if-levels-eq0.true (put_leaf _ c.args.entry.now (c.put_in_place.ensures.leaves honest sound));
+      puts_at _ c.args.entry.now (put_leaf _ c.args.entry.now (c.put_in_place.ensures.leaves honest sound)) c.if-levels-eq0.true;
   writes = search rules;
 }
 
 pub returns-in_err-down : goal.returns-in_err-down
 returns-in_err-down g t c = record {
   leaves = λ honest sound.
-      let one : c.args.levels ≡ suc (c.args.levels - 1) = omega arith in
-      puts_at _ c.args.entry.now one
-      (λ node whole within. descent_fails node whole (c.in_err-down.ensures.found honest) c.from_residual.ensures.1);
+      puts_at {m = suc (c.args.levels - 1)} _ c.args.entry.now
+      (λ node whole within. descent_fails node whole (c.in_err-down.ensures.found honest) c.from_residual.ensures.1) (omega arith);
   writes = record {
     available = g.met.P.Pages.reads_available _ _ c.descend.ensures.reads.step;
     cause = fails_since c.from_residual.result _ _ _ _ _ c.from_residual.ensures.1 (λ failed. failed) (λ none. none) c.in_err-down.ensures.reads.cause;
@@ -28,12 +27,11 @@ returns-in_err-down g t c = record {
 pub returns : goal.returns
 returns g t c = record {
   leaves = λ honest sound.
-      let one : c.args.levels ≡ suc (c.args.levels - 1) = omega arith in
       let reads = c.descend.ensures.reads.step in
       let h = g.met.P.Pages.writes_honestly _ _ c.put_below.ensures.writes.step honest in
       let below = c.put_below.ensures.leaves honest (rw (g.met.P.Pages.reads_sound _ _ reads h) sound) in
-      puts_at _ c.args.entry.now one
-      (put_inner c.args.entry.now (c.in_ok-down.ensures.found h) _ (rw (g.met.P.Pages.reads_live _ _ reads h) at below));
+      puts_at _ c.args.entry.now
+      (put_inner c.args.entry.now (c.in_ok-down.ensures.found h) _ (rw (g.met.P.Pages.reads_live _ _ reads h) at below)) (omega arith);
   writes =
       let one : c.args.levels ≡ suc (c.args.levels - 1) = omega arith in
       let old = c.args.pages.now in

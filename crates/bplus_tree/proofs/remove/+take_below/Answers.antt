@@ -6,17 +6,16 @@ use Rattle.bplus_tree.proofs.remove.+take_below.Goals as goal
 pub returns-then-levels-eq0 : goal.returns-then-levels-eq0
 returns-then-levels-eq0 g t c = record {
   leaves = λ honest sound.
-      takes_at _ c.args.key.now c.take_in_place.new.to c.if-levels-eq0.true
-      (take_leaf _ c.args.key.now c.take_in_place.new.to (c.take_in_place.ensures.leaves honest sound));
+      takes_at _ c.args.key.now c.take_in_place.new.to
+      (take_leaf _ c.args.key.now c.take_in_place.new.to (c.take_in_place.ensures.leaves honest sound)) c.if-levels-eq0.true;
   writes = search rules;
 }
 
 pub returns-in_err-down : goal.returns-in_err-down
 returns-in_err-down g t c = record {
   leaves = λ honest sound.
-      let one : c.args.levels ≡ suc (c.args.levels - 1) = omega arith in
-      takes_at _ c.args.key.now c.args.to.now one
-      (λ node whole. descent_fails node whole (c.in_err-down.ensures.found honest) c.from_residual.ensures.1);
+      takes_at {m = suc (c.args.levels - 1)} _ c.args.key.now c.args.to.now
+      (λ node whole. descent_fails node whole (c.in_err-down.ensures.found honest) c.from_residual.ensures.1) (omega arith);
   writes = record {
     available = g.met.P.Pages.reads_available _ _ c.descend.ensures.reads.step;
     cause = fails_since c.from_residual.result _ _ _ _ _ c.from_residual.ensures.1 (λ failed. failed) (λ none. none) c.in_err-down.ensures.reads.cause;
@@ -28,12 +27,11 @@ returns-in_err-down g t c = record {
 pub returns : goal.returns
 returns g t c = record {
   leaves = λ honest sound.
-      let one : c.args.levels ≡ suc (c.args.levels - 1) = omega arith in
       let reads = c.descend.ensures.reads.step in
       let h = g.met.P.Pages.writes_honestly _ _ c.take_below.ensures.writes.step honest in
       let below = c.take_below.ensures.leaves honest (rw (g.met.P.Pages.reads_sound _ _ reads h) sound) in
-      takes_at _ c.args.key.now c.take_below.new.to one
-      (take_inner (c.in_ok-down.ensures.found h) _ c.take_below.new.to (rw (g.met.P.Pages.reads_live _ _ reads h) at below));
+      takes_at _ c.args.key.now c.take_below.new.to
+      (take_inner (c.in_ok-down.ensures.found h) _ c.take_below.new.to (rw (g.met.P.Pages.reads_live _ _ reads h) at below)) (omega arith);
   writes =
       let one : c.args.levels ≡ suc (c.args.levels - 1) = omega arith in
       let old = c.args.pages.now in
