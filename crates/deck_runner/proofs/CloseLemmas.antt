@@ -23,15 +23,13 @@ get_there (x ∷ xs) (suc u) h = let within : u < length xs = omega arith in get
 
 get_of_rest : {A : Type 0} (xs : List A) (u : ℕ) → slice_get xs u ≡ slice_get (drop u xs) 0
 get_of_rest [] zero = refl
-get_of_rest [] (suc u) = refl
-get_of_rest (x ∷ xs) zero = refl
 get_of_rest (x ∷ xs) (suc u) = get_of_rest xs u
+get_of_rest xs u = refl
 
 rest_of_rest : {A : Type 0} (xs : List A) (u : ℕ) → drop (suc u) xs ≡ drop 1 (drop u xs)
 rest_of_rest [] zero = refl
-rest_of_rest [] (suc u) = refl
-rest_of_rest (x ∷ xs) zero = refl
 rest_of_rest (x ∷ xs) (suc u) = rest_of_rest xs u
+rest_of_rest xs u = refl
 
 rest_of_change : {A : Type 0} (u : ℕ) (f : A → A) (xs : List A) → drop (suc u) (change_at u f xs) ≡ drop (suc u) xs
 rest_of_change u f [] = refl

@@ -1,7 +1,7 @@
 -- What a run of the bytes of a deck tells.
 use Rattle.std.proofs.Common.{◌≡◌, ◌≢◌, ◌≤◌, ℕ, true, List, Option, sym, ap, ◌∙◌, subst, arith}
 use Rattle.deck_words.specs.declared.fault.Cause.{Cause}
-use Rattle.deck_words.specs.declared.fault.Cause.TheVariants.{BadWord, Expected, Unknown, Twice, NotAllowed, Limit, Layout}
+use Rattle.deck_words.specs.declared.fault.Cause.TheVariants.{BadWord}
 use Rattle.deck_words.specs.declared.fault.DeckFault.{DeckFault}
 use Rattle.deck_words.specs.declared.fault.Refusal.{Refusal}
 use Rattle.deck_words.specs.declared.fault.Refusal.TheVariants.{Memory as NoMemory, Fault}
@@ -38,12 +38,7 @@ exact library old new written written_after end deck run clean = λ honest shown
 
 code_within : (cause : Cause) → (1 ≤ cause_code cause) × (cause_code cause ≤ 7)
 code_within BadWord = (omega arith, omega arith)
-code_within Expected = (omega arith, omega arith)
-code_within Unknown = (omega arith, omega arith)
-code_within Twice = (omega arith, omega arith)
-code_within NotAllowed = (omega arith, omega arith)
-code_within Limit = (omega arith, omega arith)
-code_within Layout = (omega arith, omega arith)
+code_within cause = (omega arith, omega arith)
 
 refused_by :
     (bytes : List ℕ) (fault : DeckFault) (result : RunFault) (refusal : Refusal) → fault ≡ told refusal → (fault.code ≡ 8 → result ≡ Memory) → (fault.code ≢ 8 → result ≡ DeckRefused fault)
@@ -68,5 +63,4 @@ refused bytes fault result is_told memory deck none = refused_by bytes fault res
 -- a fault of a run of a deck that was read is no refusal
 pub not_refused : (bytes : List ℕ) (fault : RunFault) → (fault ≢ Output → fault ≡ Memory) → IsRefusedDeck bytes fault
 not_refused bytes (DeckRefused told) other = let is = other (λ e. absurd (cc)) in absurd (cc)
-not_refused bytes Output other = tt
-not_refused bytes Memory other = tt
+not_refused bytes fault other = tt

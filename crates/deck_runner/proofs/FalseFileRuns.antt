@@ -1,5 +1,5 @@
 -- In the run of a deck each name stands by its ledger.
-use Rattle.std.proofs.Common.{◌≡◌, ℕ, List, [], ◌∷◌, refl, sym, ap, subst, inl, inr}
+use Rattle.std.proofs.Common.{◌≡◌, ℕ, List, refl, sym, ap, subst, inl, inr}
 use Rattle.indexed_file.specs.Images.{Stays}
 use Rattle.indexed_file.specs.Moments.{EndsNow, EachImage}
 use Rattle.indexed_file.proofs.ImageLemmas.{each_weaker}
@@ -7,7 +7,7 @@ use Rattle.indexed_file.specs.Shown.{Shown}
 use Rattle.procedure_division.specs.declared.statement.Statement.{Statement}
 use Rattle.deck_reader.specs.declared.deck.Deck.{Deck}
 use Rattle.deck_runner.specs.Line.{Line}
-use Rattle.deck_runner.specs.Steps.{until_stop, closes_from, AreStepsOf, AreStepsInPart}
+use Rattle.deck_runner.specs.Steps.{until_stop, closes_from, AreStepsInPart}
 use Rattle.deck_runner.specs.Stretches.{Point, AreStretches, IsRunOver, AreStretchesInPart, IsBrokenOff}
 use Rattle.deck_runner.specs.Beginning.{run_before, WorldIsLeft, DeckLeads}
 use Rattle.deck_runner.specs.NoFalseFile.{first_ledger, IsOfLedger, Judged, IsSafeStretch, AreWithinLedgers, IsSafeRun, IsSafeBrokenOff, DeckRuns, RunsWhole, RunsInPart}
@@ -26,9 +26,6 @@ module _
   part statements before lines next p now =
       let done = no_false_file library ends start p.0 before lines next p.3 now in
       (done.0, done.1, (p.0, p.1, p.2, done.2), done.3)
-
-  closes_of : (stopped : Point S) (point : Point S) → point ≡ stopped → closes_from 0 stopped.run.files ≡ closes_from 0 point.run.files
-  closes_of stopped point same = ap (λ (p : Point S). closes_from 0 p.run.files) (sym same)
 
   whole : (statements : List Statement) (before : Judged S) (lines : List Line) (next : Point S) → IsRunOver library statements before.point lines next → AreWithinLedgers library start before
       → Safe (IsSafeRun library start statements) before lines next
@@ -85,27 +82,3 @@ module _
 
   pub broken_stands : (new : S) (deck : Deck) (lines : List Line) → DeckLeads library start new deck (IsBrokenOff library deck.statements) lines → RunsInPart library start new deck lines
   broken_stands new deck lines p = stands new deck (IsBrokenOff library deck.statements) (IsSafeBrokenOff library start deck.statements) (broken deck.statements) lines p
-
--- ---- and the other way: such stretches are stretches
-
-module _ {S : Type 0} (library : Shown S) (start : S) where
-  stretches_of : (statements : List Statement) (before : Judged S) (lines : List Line) (after : Judged S) → AreStepsOf (IsSafeStretch library start) statements before lines after
-      → AreStretches library statements before.point lines after.point
-  stretches_of [] before lines after p = (p.0, ap (λ (judged : Judged S). judged.point) p.1)
-  stretches_of (statement ∷ rest) before lines after p = (p.0, p.1.point, p.2, p.3.stretch, stretches_of rest p.1 p.2 after p.4, p.5)
-
-  pub leads_of_stands : (new : S) (deck : Deck) (lines : List Line) → RunsWhole library start new deck lines → DeckLeads library start new deck (IsRunOver library deck.statements) lines
-  leads_of_stands new deck lines p = record {
-    steps = λ honest shown.
-        let ran = p.stretches honest shown in
-        let run = ran.3 in
-        let whole : IsRunOver library deck.statements (record { run = run_before (library.world start) deck; library = ran.0 }) lines ran.1.point =
-        (run.0.point, run.1, run.2, stretches_of (until_stop deck.statements) _ run.1 run.0 run.3, stretches_of (closes_from 0 run.0.point.run.files) run.0 run.2 ran.1 run.4, run.5) in (
-          ran.0,
-          ran.1.point.run,
-          ran.2,
-          subst (λ (last : S). IsRunOver library deck.statements (record { run = run_before (library.world start) deck; library = ran.0 }) lines (record { run = ran.1.point.run; library = last })) ran.4 whole,
-          ran.6,
-        );
-    lines_are = p.lines_are;
-  }

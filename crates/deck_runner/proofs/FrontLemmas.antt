@@ -3,7 +3,7 @@ use Rattle.std.proofs.Common.{◌≡◌, ℕ, suc, Bool, true, false, ◌⊎◌,
 use Rattle.std.specs.List.{list_all}
 use Rattle.io_state.specs.declared.statement.FileStatement.TheVariants.{Close}
 use Rattle.procedure_division.specs.declared.statement.Statement.{Statement}
-use Rattle.procedure_division.specs.declared.statement.Statement.TheVariants.{Perform, Move, MoveLength, StopRun}
+use Rattle.procedure_division.specs.declared.statement.Statement.TheVariants.{Perform}
 use Rattle.indexed_file.specs.Shown.{Shown}
 use Rattle.deck_runner.specs.Line.{Line, is_clean}
 use Rattle.deck_runner.specs.Run.{RunFile, LengthValue, Run, performed, items_after, line_of, lines_on, after_statement, lines_of, lines_until_stop, run_at_stop, is_stop, is_still_open, closing_lines, lines_of_run}
@@ -74,35 +74,38 @@ abbrev Begins : List Line → List Line → Type 0
 Begins front lines = (more : List Line) × (lines ≡ front ++ more)
 
 -- where a list stands before another in the same list as two others
-pub cut : (xs ys zs ws : List Line) → xs ++ ys ≡ zs ++ ws
-    → ((us : List Line) × (zs ≡ xs ++ us) × (ys ≡ us ++ ws)) ⊎ ((us : List Line) × (xs ≡ zs ++ us) × (ws ≡ us ++ ys))
+pub cut : {A : Type 0} (xs ys zs ws : List A) → xs ++ ys ≡ zs ++ ws
+    → ((us : List A) × (zs ≡ xs ++ us) × (ys ≡ us ++ ws)) ⊎ ((us : List A) × (xs ≡ zs ++ us) × (ws ≡ us ++ ys))
 cut [] ys zs ws e = inl (zs, refl, e)
 cut (x ∷ xs) ys [] ws e = inr (x ∷ xs, refl, sym e)
 cut (x ∷ xs) ys (z ∷ zs) ws e =
     let same : x ≡ z = cc in
     let rest : xs ++ ys ≡ zs ++ ws = cc in
-    elim (cut xs ys zs ws rest) [ inl h ↦ inl (h.0, rw same (ap (λ (l : List Line). z ∷ l) h.1), h.2) | inr h ↦ inr (h.0, rw same (ap (λ (l : List Line). z ∷ l) h.1), h.2) ]
+    elim (cut xs ys zs ws rest) [
+      | inl h ↦ inl (h.0, rw same (ap (λ l. z ∷ l) h.1), h.2)
+      | inr h ↦ inr
+          (h.0, rw same (ap (λ l. z ∷ l) h.1), h.2)
+    ]
 
 -- a statement has one line at most
+pub few : (statement : Statement) (run : Run) (lines : List Line) (next : Run) → IsStep statement run lines next
+    → (lines ≡ []) ⊎ ((line : Line) × (lines ≡ line ∷ []))
+few (Perform u statement) run lines next step = on (slice_get run.files u) step
+  where
+    on : (file : Option RunFile) → IsStepOn statement u file run lines next → (lines ≡ []) ⊎ ((line : Line) × (lines ≡ line ∷ []))
+    on None p = inl p.0
+    on (Some file) p = inr (_, p.2)
+few statement run lines next step = inl step.0
+
 step_on_front : (statement : Statement) (run : Run) (lines : List Line) (next : Run) (front us : List Line) → IsStep statement run lines next → lines ≡ front ++ us → list_all is_clean front ≡ true
     → (front ≡ []) ⊎ ((front ≡ lines) × (us ≡ []))
-step_on_front statement run lines next front us step is clean = by_front front is (few statement step)
+step_on_front statement run lines next front us step is clean = by_front front is (few statement run lines next step)
   where
-    few_on : (statement : _) (u : ℕ) (file : Option RunFile) → IsStepOn statement u file run lines next → (lines ≡ []) ⊎ ((line : Line) × (lines ≡ line ∷ []))
-    few_on statement u None p = inl p.0
-    few_on statement u (Some file) p = inr (_, p.2)
-
-    few : (statement : Statement) → IsStep statement run lines next → (lines ≡ []) ⊎ ((line : Line) × (lines ≡ line ∷ []))
-    few (Perform u statement) p = few_on statement u (slice_get run.files u) p
-    few (Move u field source) p = inl p.0
-    few (MoveLength i source) p = inl p.0
-    few StopRun p = inl p.0
-
     by_front : (xs : List Line) → lines ≡ xs ++ us → (lines ≡ []) ⊎ ((line : Line) × (lines ≡ line ∷ [])) → (xs ≡ []) ⊎ ((xs ≡ lines) × (us ≡ []))
     by_front [] e h = inl refl
-    by_front (x ∷ xs) e (inl none) = absurd (cc)
     by_front (x ∷ []) e (inr one) = let rest : us ≡ [] = cc in inr (sym (e ∙ ap (λ (l : List Line). x ∷ l) rest), rest)
     by_front (x ∷ y ∷ xs) e (inr one) = absurd (cc)
+    by_front xs e (inl none) = absurd (cc)
 
 begins_then : (front first others lines more : List Line) → front ≡ first ++ others → first ≡ lines → Begins others more → Begins front (lines ++ more)
 begins_then front first others lines more is one begun = (begun.0, rw (is, one, begun.1) (sym (append_assoc lines others begun.0)))

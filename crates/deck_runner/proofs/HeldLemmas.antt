@@ -1,5 +1,5 @@
 -- Lines that are held, and those that come behind them.
-use Rattle.std.proofs.Common.{◌≡◌, ◌<◌, ℕ, ◌+◌, List, [], ◌∷◌, ◌++◌, All, length, flat_map, Option, IsTrue, refl, sym, ap, ◌∙◌, subst, inl, inr, ◌⊎◌, append_assoc, append-nil, length-append, arith}
+use Rattle.std.proofs.Common.{◌≡◌, ◌<◌, ℕ, ◌+◌, List, [], ◌∷◌, ◌++◌, All, length, flat_map, Option, IsTrue, refl, sym, ap, ◌∙◌, subst, inl, inr, append_assoc, append-nil, length-append, arith}
 use Rattle.std.specs.Io.KnownBytes.{Appends}
 use Rattle.std.proofs.KnownBytes.{Appends-trans}
 use Rattle.std.proofs.lemmas.Grind.{flat_map-append}
@@ -8,6 +8,7 @@ use Rattle.io_state.specs.declared.statement.FileStatement.{FileStatement}
 use Rattle.deck_runner.specs.Line.{Line, transcript_line}
 use Rattle.held_text.specs.Output.{AppendsFront, AddsText}
 use Rattle.deck_runner.specs.Reads.{only_reads, IsOfReading}
+use Rattle.deck_runner.proofs.FrontLemmas.{cut}
 use Rattle.deck_runner.specs.HeldLines.{MakesWay, SoFar, so_far, ReadBehindFirst, AreHeld, GoOut, AreRefused}
 
 -- ---- the lines that are held
@@ -41,16 +42,6 @@ record IsCut (lines : List Line) (front : List ℕ) : Type 0 where
   text : transcript_line failed ≡ part ++ rest
   some : 0 < length rest
   front_is : front ≡ flat_map transcript_line taken ++ part
-
--- where a list stands before another in the same list as two others
-cut : (xs ys zs ws : List ℕ) → xs ++ ys ≡ zs ++ ws
-    → ((us : List ℕ) × (zs ≡ xs ++ us) × (ys ≡ us ++ ws)) ⊎ ((us : List ℕ) × (xs ≡ zs ++ us) × (ws ≡ us ++ ys))
-cut [] ys zs ws e = inl (zs, refl, e)
-cut (x ∷ xs) ys [] ws e = inr (x ∷ xs, refl, sym e)
-cut (x ∷ xs) ys (z ∷ zs) ws e =
-    let same : x ≡ z = cc in
-    let rest : xs ++ ys ≡ zs ++ ws = cc in
-    elim (cut xs ys zs ws rest) [ inl h ↦ inl (h.0, rw same (ap (λ (l : List ℕ). z ∷ l) h.1), h.2) | inr h ↦ inr (h.0, rw same (ap (λ (l : List ℕ). z ∷ l) h.1), h.2) ]
 
 abbrev Cuts : List Line → Type 0
 Cuts lines = (front rest : List ℕ) → flat_map transcript_line lines ≡ front ++ rest → 0 < length rest → IsCut lines front

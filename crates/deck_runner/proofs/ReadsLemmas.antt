@@ -1,5 +1,5 @@
 -- READ and START change no file.
-use Rattle.std.proofs.Common.{◌≡◌, ◌⊎◌, ℕ, zero, suc, Bool, true, false, List, [], ◌∷◌, ◌++◌, All, map, slice_get, Option, Some, None, IsTrue, bytes_eq, if◌then◌else◌, refl, sym, ap, ◌∙◌, subst, inl, inr, append_assoc}
+use Rattle.std.proofs.Common.{◌≡◌, ℕ, zero, suc, Bool, true, false, List, [], ◌∷◌, ◌++◌, All, map, slice_get, Option, Some, None, IsTrue, bytes_eq, if◌then◌else◌, refl, sym, ap, ◌∙◌, subst, inl, inr, append_assoc}
 use Rattle.std.proofs.lemmas.List.Elements.{All-nil, All-cons, All-head, All-tail}
 use Rattle.std.proofs.lemmas.Slice.Eq.{bytes_eq-Decides}
 use Rattle.indexed_file.specs.Images.{Trace, untouched, Stays, LibraryMayLeave, ImagesGo}
@@ -13,7 +13,7 @@ use Rattle.io_state.specs.declared.modes.Relation.{Relation}
 use Rattle.io_state.specs.declared.status.Status.{Status}
 use Rattle.io_state.specs.declared.status.Status.TheVariants.{AtEnd, RecordNotFound}
 use Rattle.io_state.specs.declared.statement.FileStatement.{FileStatement}
-use Rattle.io_state.specs.declared.statement.FileStatement.TheVariants.{Open, Close, ReadNext, Read, Start, Write, Rewrite, Delete}
+use Rattle.io_state.specs.declared.statement.FileStatement.TheVariants.{ReadNext, Read, Start}
 use Rattle.verbs.specs.Checks.{Check, unless_refused}
 use Rattle.verbs.specs.Connector.{Session, FileState, Outcome}
 use Rattle.verbs.specs.Marred.{MarsRead, Step}
@@ -25,7 +25,7 @@ use Rattle.deck_runner.specs.Reads.{only_reads, IsOfReading, FilesStay, ReadsCha
 use Rattle.deck_runner.specs.Run.{RunFile, Run, change_at, record_length, after_move}
 use Rattle.deck_runner.specs.Steps.{line_by, left_by, IsStepOn, IsStep, until_stop}
 use Rattle.deck_runner.specs.Stretches.{Point, IsStretch, AreStretches, name_by, trace_on, trace_by}
-use Rattle.deck_runner.proofs.FrontLemmas.{cut}
+use Rattle.deck_runner.proofs.FrontLemmas.{cut, few}
 use Rattle.deck_runner.proofs.HeldLemmas.{all_behind}
 
 -- ---- a statement
@@ -80,29 +80,21 @@ mars_same s None outcome m = absurd m
 mars_same s (Some session) outcome m = record { named = ap (λ (o : Outcome). o.next.named) m.1; rows = ap (λ (o : Outcome). o.next.file) m.1 }
 
 step_same : (statement : FileStatement) (n : ℕ) (s : FileState) (outcome : Outcome) → IsTrue (only_reads statement) → Step statement n s outcome → Same s outcome
-step_same (Open mode) n s outcome reads step = absurd (cc)
-step_same (Close lock) n s outcome reads step = absurd (cc)
 step_same ReadNext n s outcome reads (inl is) = subst (Same s) is (next_same s s.connector.session)
 step_same ReadNext n s outcome reads (inr m) = mars_same s s.connector.session outcome m.1
 step_same (Read key) n s outcome reads (inl is) = subst (Same s) is (read_same key s s.connector.session)
 step_same (Read key) n s outcome reads (inr m) = mars_same s s.connector.session outcome m.1
 step_same (Start key length relation) n s outcome reads (inl is) = subst (Same s) is (start_same key length relation s s.connector.session)
 step_same (Start key length relation) n s outcome reads (inr m) = mars_same s s.connector.session outcome m.1
-step_same Write n s outcome reads step = absurd (cc)
-step_same Rewrite n s outcome reads step = absurd (cc)
-step_same Delete n s outcome reads step = absurd (cc)
+step_same statement n s outcome reads step = absurd (cc)
 
 no_trace : (statement : FileStatement) (file : Option RunFile) (lines : List Line) → IsTrue (only_reads statement) → trace_on statement file lines ≡ untouched
 no_trace statement None lines reads = refl
 no_trace statement (Some file) [] reads = refl
-no_trace (Open mode) (Some file) (line ∷ lines) reads = absurd (cc)
-no_trace (Close lock) (Some file) (line ∷ lines) reads = absurd (cc)
 no_trace ReadNext (Some file) (line ∷ lines) reads = refl
 no_trace (Read key) (Some file) (line ∷ lines) reads = refl
 no_trace (Start key length relation) (Some file) (line ∷ lines) reads = refl
-no_trace Write (Some file) (line ∷ lines) reads = absurd (cc)
-no_trace Rewrite (Some file) (line ∷ lines) reads = absurd (cc)
-no_trace Delete (Some file) (line ∷ lines) reads = absurd (cc)
+no_trace statement (Some file) (line ∷ lines) reads = absurd (cc)
 
 -- ---- a step
 
@@ -160,17 +152,6 @@ quiet StopRun run lines next step all = record {
   rows = ap (λ (r : Run). map rows_of r.files) step.1;
   trace = refl;
 }
-
--- a statement has one line at most
-few : (statement : Statement) (run : Run) (lines : List Line) (next : Run) → IsStep statement run lines next → (lines ≡ []) ⊎ ((line : Line) × (lines ≡ line ∷ []))
-few (Perform u statement) run lines next step = on (slice_get run.files u) step
-  where
-    on : (file : Option RunFile) → IsStepOn statement u file run lines next → (lines ≡ []) ⊎ ((line : Line) × (lines ≡ line ∷ []))
-    on None p = inl p.0
-    on (Some file) p = inr (_, p.2)
-few (Move u field source) run lines next step = inl step.0
-few (MoveLength i source) run lines next step = inl step.0
-few StopRun run lines next step = inl step.0
 
 all_before : (xs ys : List Line) → All IsOfReading (xs ++ ys) → All IsOfReading xs
 all_before [] ys all = All-nil IsOfReading

@@ -10,7 +10,7 @@ use Rattle.verbs.specs.Faults.{is_unclean}
 use Rattle.verbs.specs.Checks.{check, unless_refused}
 use Rattle.verbs.specs.Opening.{ended, closed, close_in}
 use Rattle.procedure_division.specs.declared.statement.Statement.{Statement}
-use Rattle.procedure_division.specs.declared.statement.Statement.TheVariants.{Perform, Move, MoveLength, StopRun}
+use Rattle.procedure_division.specs.declared.statement.Statement.TheVariants.{Perform}
 use Rattle.deck_runner.specs.Line.{Line, is_clean}
 use Rattle.deck_runner.specs.Run.{RunFile, LengthValue, Run, change_at, record_length, outcome_on, performed, items_after_read, line_of, lines_on, items_after, after_statement, lines_of, lines_until_stop, run_at_stop, is_stop, is_still_open, closing_lines, closed_at_end}
 use Rattle.deck_runner.specs.Steps.{line_by, left_by, IsStepOn, IsStep, AreSteps, until_stop, closes_from, IsRun, CleanRunsAreExact}
@@ -70,9 +70,7 @@ clean_on statement u (Some file) run lines next is step clean =
 pub clean_one : (statement : Statement) (run : Run) (lines : List Line) (next : Run) → IsStep statement run lines next → list_all is_clean lines ≡ true
     → (lines ≡ lines_of statement run) × (next ≡ after_statement statement run)
 clean_one (Perform u statement) run lines next step clean = clean_on statement u (slice_get run.files u) run lines next refl step clean
-clean_one (Move u field source) run lines next step clean = step
-clean_one (MoveLength i source) run lines next step clean = step
-clean_one StopRun run lines next step clean = step
+clean_one statement run lines next step clean = step
 
 -- clean steps up to STOP RUN
 abbrev pub AreExactUntilStop : List Statement → Type 0
@@ -104,9 +102,8 @@ close_delivers_none n s None = refl
 close_delivers_none n s (Some session) = by_checks session.failed session.missing
   where
     by_checks : (failed missing : Bool) → (unless_refused (check failed (answers PermanentError (ended false s)) ∷ check missing (answers Successful (ended false s)) ∷ []) (closed false s)).delivered ≡ None
-    by_checks true missing = refl
     by_checks false true = refl
-    by_checks false false = refl
+    by_checks failed missing = refl
 
 no_record_read : (depends_on : Option ℕ) (items : List LengthValue) → items_after_read depends_on None items ≡ items
 no_record_read None items = refl
