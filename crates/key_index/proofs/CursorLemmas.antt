@@ -23,16 +23,14 @@ use Rattle.key_index.specs.declared.alt_index.AltIndex.{AltIndex}
 use Rattle.key_index.specs.declared.cursor.PrimeCursor.{PrimeCursor}
 use Rattle.key_index.specs.declared.cursor.AltCursor.{AltCursor}
 use Rattle.key_index.proofs.ListLemmas.{found, found_fits}
-use Rattle.key_index.proofs.KeyLemmas.{front, prime_key, alt_key}
-use Rattle.key_index.proofs.LookLemmas.{prime_after_at, alt_after_at}
+use Rattle.key_index.proofs.KeyLemmas.{front, prime_key, alt_key, prime_after, alt_after}
 
 prime_key_after : (w : ℕ) (key : List ℕ) (gave : Option (ArrayVec ℕ)) (e : Option PrimeEntry) → IfSome e (IsPrimeEntry w)
     → option_map (λ b. b.items) gave ≡ option_map prime_bytes e → key_after w key gave ≡ value_after key e
 prime_key_after w key None None fit same = refl
-prime_key_after w key None (Some e) fit same = cc
-prime_key_after w key (Some b) None fit same = cc
 prime_key_after w key (Some b) (Some e) fit same =
     let is : b.items ≡ prime_bytes e = cc in ap (take w) is ∙ prime_key w e fit
+prime_key_after w key gave e fit same = cc
 
 pub prime_moved : (old new : PrimeCursor) (index : PrimeIndex) (pages : PageMap) (entries : List PrimeEntry) (own : List ℕ)
     (result : Result (Option PrimeEntry) Fault) (gave : Option (ArrayVec ℕ))
@@ -44,7 +42,8 @@ prime_moved old new index pages entries own result gave told stands moved key =
     let e : Option PrimeEntry = find (after_prime (cursor_key old.cursor)) entries in
     let fits : IfSome e (IsPrimeEntry index.width) = found_fits prime_bytes (IsPrimeEntry index.width) (after_prime (cursor_key old.cursor)) entries stands.each in
     let same : option_map (λ b. b.items) gave ≡ option_map prime_bytes e =
-    moved.found_is ∙ found prime_bytes (IsPrimeEntry index.width) _ (after_prime (cursor_key old.cursor)) (prime_after_at index (cursor_key old.cursor)) entries stands.each in
+    moved.found_is ∙ found prime_bytes (IsPrimeEntry index.width) _ (after_prime (cursor_key old.cursor))
+    (prime_after index.keys (cursor_key old.cursor)) entries stands.each in
     let after : cursor_key new.cursor ≡ value_after (cursor_key old.cursor) e =
     key ∙ ap (λ (n : ℕ). key_after n (cursor_key old.cursor) gave) index.keys ∙ prime_key_after index.width (cursor_key old.cursor) gave e fits same in
     subst (λ (r : Result (Option PrimeEntry) Fault). IsAnswer r (PrimeHasMoved old new index pages entries own)) (sym (told e fits same))
@@ -53,10 +52,9 @@ prime_moved old new index pages entries own result gave told stands moved key =
 alt_key_after : (w p : ℕ) (key : List ℕ) (gave : Option (ArrayVec ℕ)) (e : Option AltEntry) → IfSome e (IsAltEntry w p)
     → option_map (λ b. b.items) gave ≡ option_map alt_bytes e → key_after (w + 8) key gave ≡ rank_after key e
 alt_key_after w p key None None fit same = refl
-alt_key_after w p key None (Some e) fit same = cc
-alt_key_after w p key (Some b) None fit same = cc
 alt_key_after w p key (Some b) (Some e) fit same =
     let is : b.items ≡ alt_bytes e = cc in ap (take (w + 8)) is ∙ alt_key w p e fit
+alt_key_after w p key gave e fit same = cc
 
 pub alt_moved : (value : List ℕ) (stamp : ℕ) (old new : AltCursor) (index : AltIndex) (pages : PageMap) (entries : List AltEntry) (own : List ℕ)
     (result : Result (Option AltEntry) Fault) (gave : Option (ArrayVec ℕ))
@@ -69,7 +67,8 @@ alt_moved value stamp old new index pages entries own result gave told stands mo
     let e : Option AltEntry = find (after_rank value stamp) entries in
     let fits : IfSome e (IsAltEntry index.width index.prime) = found_fits alt_bytes (IsAltEntry index.width index.prime) (after_rank value stamp) entries stands.each in
     let same : option_map (λ b. b.items) gave ≡ option_map alt_bytes e =
-    moved.found_is ∙ found alt_bytes (IsAltEntry index.width index.prime) _ (after_rank value stamp) (alt_after_at index (cursor_key old.cursor) value stamp behind long small) entries stands.each in
+    moved.found_is ∙ found alt_bytes (IsAltEntry index.width index.prime) _ (after_rank value stamp)
+    (alt_after index.prime index.keys (cursor_key old.cursor) value stamp behind long small) entries stands.each in
     let after : cursor_key new.cursor ≡ rank_after (cursor_key old.cursor) e =
     key ∙ ap (λ (n : ℕ). key_after n (cursor_key old.cursor) gave) index.keys ∙ alt_key_after index.width index.prime (cursor_key old.cursor) gave e fits same in
     subst (λ (r : Result (Option AltEntry) Fault). IsAnswer r (AltHasMoved value stamp old new index pages entries own)) (sym (told e fits same))
@@ -93,7 +92,8 @@ alt_told value stamp cursor index pages entries own start result stands long sma
     let key = cursor_key cursor.cursor in
     let width = (tree_shape index.tree).width in
     let first : first_after width key (map alt_bytes entries) ≡ option_map alt_bytes (find (after_rank value stamp) entries) =
-    found alt_bytes (IsAltEntry index.width index.prime) _ (after_rank value stamp) (alt_after_at index key value stamp behind long small) entries stands.each in
+    found alt_bytes (IsAltEntry index.width index.prime) _ (after_rank value stamp)
+    (alt_after index.prime index.keys key value stamp behind long small) entries stands.each in
     let same : option_map_or (begins_with start) (first_after width key (map alt_bytes entries)) false ≡ option_map_or (entry_has_value value) (find (after_rank value stamp) entries) false =
     ap (λ (v : List ℕ). option_map_or (begins_with v) (first_after width key (map alt_bytes entries)) false) is
     ∙ ap (λ (o : Option (List ℕ)). option_map_or (begins_with value) o false) first

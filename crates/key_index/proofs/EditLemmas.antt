@@ -3,7 +3,7 @@ use Rattle.std.proofs.Common.{◌≡◌, ◌≢◌, ℕ, ◌+◌, ◌^◌, ◌<�
 use Rattle.std.specs.Prelude.{find, option_map, bytes_eq, slice_index_or, ◌&&◌, ◌==◌}
 use Rattle.std.proofs.lemmas.Slice.Eq.{bytes_eq-Decides}
 use Rattle.std.specs.declared.cmp.Ordering.{Ordering}
-use Rattle.std.specs.declared.cmp.Ordering.TheVariants.{Less, Equal, Greater}
+use Rattle.std.specs.declared.cmp.Ordering.TheVariants.{Equal}
 use Rattle.std.specs.Ordering.{ordering_reverse, is_lt, is_eq}
 use Rattle.std.specs.Int.{bytes_high_first}
 use Rattle.std.proofs.lemmas.Cmp.{nat_list_cmp_total}
@@ -26,8 +26,7 @@ use Rattle.key_index.specs.declared.prime_index.PrimeIndex.{PrimeIndex}
 use Rattle.key_index.specs.declared.alt_index.AltIndex.{AltIndex}
 use Rattle.key_index.proofs.OrderLemmas.{ranks}
 use Rattle.key_index.proofs.ListLemmas.{found, filtered, filtered_fits}
-use Rattle.key_index.proofs.KeyLemmas.{prime_key, alt_key}
-use Rattle.key_index.proofs.LookLemmas.{prime_has_at, alt_has_at}
+use Rattle.key_index.proofs.KeyLemmas.{prime_key, prime_key_at, alt_key, alt_key_at, prime_has, alt_has}
 
 none_back : {X : Type 0} (bytes : X → List ℕ) (o : Option X) → option_map bytes o ≡ None → o ≡ None
 none_back bytes None h = refl
@@ -40,9 +39,8 @@ some_back bytes (Some x) y h = refl
 -- ---- the prime index
 
 turned : (o : Ordering) → is_eq o ≡ false → is_lt o ≡ not (is_lt (ordering_reverse o))
-turned Less h = refl
 turned Equal h = cc
-turned Greater h = refl
+turned o h = refl
 
 -- of two entries of other values one comes first
 prime_less : (w : ℕ) (x e : PrimeEntry) → IsPrimeEntry w x → IsPrimeEntry w e → has_prime e.value.items x ≡ false
@@ -84,16 +82,15 @@ prime_put_fits w e fe (x ∷ xs) fit = by_test (prime_put_fits w e fe xs fit.1) 
 
 module _ (before after : PageMap) (old : PrimeIndex) (entries : List PrimeEntry) (own : List ℕ) (each : Each (IsPrimeEntry old.width) entries) where
   prime_rows : (k : List ℕ) → find (λ r. bytes_eq (take (tree_shape old.tree).width r) k) (map prime_bytes entries) ≡ option_map prime_bytes (find (has_prime k) entries)
-  prime_rows k = found prime_bytes (IsPrimeEntry old.width) _ (has_prime k) (prime_has_at old k) entries each
+  prime_rows k = found prime_bytes (IsPrimeEntry old.width) _ (has_prime k) (prime_has old.keys k) entries each
 
   module _ (e : PrimeEntry) (fits : IsPrimeEntry old.width e) where
-    value_is : take (tree_shape old.tree).width (prime_bytes e) ≡ e.value.items
-    value_is = ap (λ (n : ℕ). take n (prime_bytes e)) old.keys ∙ prime_key old.width e fits
-
     prime_looked : find (λ r. bytes_eq (take (tree_shape old.tree).width r) (take (tree_shape old.tree).width (prime_bytes e))) (map prime_bytes entries)
         ≡ option_map prime_bytes (find (has_prime e.value.items) entries)
     prime_looked =
-        ap (λ (k : List ℕ). find (λ r. bytes_eq (take (tree_shape old.tree).width r) k) (map prime_bytes entries)) value_is ∙ prime_rows e.value.items
+        ap (λ (k : List ℕ). find (λ r. bytes_eq (take (tree_shape old.tree).width r) k) (map prime_bytes entries))
+        (prime_key_at old.keys e fits)
+        ∙ prime_rows e.value.items
 
     pub prime_added : (new : PrimeIndex) → new.width ≡ old.width → HasInserted before after old.tree new.tree (prime_bytes e) (map prime_bytes entries) own None
         → PrimeHasAdded before after old new e entries own true
@@ -121,7 +118,7 @@ module _ (before after : PageMap) (old : PrimeIndex) (entries : List PrimeEntry)
       → PrimeHasRemoved before after old new k entries own true
   prime_removed k new removed width h =
       let rows : without_key (tree_shape old.tree).width k (map prime_bytes entries) ≡ map prime_bytes (without_prime k entries) =
-      filtered prime_bytes (IsPrimeEntry old.width) _ (has_prime k) (prime_has_at old k) entries each in (
+      filtered prime_bytes (IsPrimeEntry old.width) _ (has_prime k) (prime_has old.keys k) entries each in (
         some_back prime_bytes (find (has_prime k) entries) removed.items (sym (prime_rows k) ∙ h.0),
         record {
           own_now = h.1.own_now;
@@ -180,14 +177,16 @@ alt_each old new entries of each =
 module _ (before after : PageMap) (old : AltIndex) (entries : List AltEntry) (own : List ℕ) (each : Each (IsAltEntry old.width old.prime) entries) where
   module _ (key k : List ℕ) (t : ℕ) (is : key ≡ k ++ bytes_high_first 8 t) (long : length k ≡ old.width) (small : t < 2 ^ 64) where
     alt_rows : find (λ r. bytes_eq (take (tree_shape old.tree).width r) key) (map alt_bytes entries) ≡ option_map alt_bytes (find (has_rank k t) entries)
-    alt_rows = found alt_bytes (IsAltEntry old.width old.prime) _ (has_rank k t) (alt_has_at old key k t is long small) entries each
+    alt_rows =
+        found alt_bytes (IsAltEntry old.width old.prime) _ (has_rank k t) (alt_has old.prime old.keys key k t is long small) entries each
 
     pub alt_removed : (new : AltIndex) (removed : ArrayVec ℕ) → IsOf old.width old.prime new
         → HasRemoved before after old.tree new.tree key (map alt_bytes entries) own (Some removed)
         → AltHasRemoved before after old new k t entries own true
     alt_removed new removed of h =
         let rows : without_key (tree_shape old.tree).width key (map alt_bytes entries) ≡ map alt_bytes (without_rank k t entries) =
-        filtered alt_bytes (IsAltEntry old.width old.prime) _ (has_rank k t) (alt_has_at old key k t is long small) entries each in (
+        filtered alt_bytes (IsAltEntry old.width old.prime) _ (has_rank k t)
+        (alt_has old.prime old.keys key k t is long small) entries each in (
           some_back alt_bytes (find (has_rank k t) entries) removed.items (sym alt_rows ∙ h.0),
           record {
             own_now = h.1.own_now;
@@ -204,13 +203,11 @@ module _ (before after : PageMap) (old : AltIndex) (entries : List AltEntry) (ow
     alt_absent tree h = (none_back alt_bytes (find (has_rank k t) entries) (sym alt_rows ∙ h.0), h.1, refl)
 
   module _ (e : AltEntry) (fits : IsAltEntry old.width old.prime e) where
-    rank_is : take (tree_shape old.tree).width (alt_bytes e) ≡ e.value.items ++ bytes_high_first 8 e.stamp
-    rank_is = ap (λ (n : ℕ). take n (alt_bytes e)) old.keys ∙ alt_key old.width old.prime e fits
-
     alt_looked : find (λ r. bytes_eq (take (tree_shape old.tree).width r) (take (tree_shape old.tree).width (alt_bytes e))) (map alt_bytes entries)
         ≡ option_map alt_bytes (find (has_rank e.value.items e.stamp) entries)
     alt_looked =
-        ap (λ (k : List ℕ). find (λ r. bytes_eq (take (tree_shape old.tree).width r) k) (map alt_bytes entries)) rank_is
+        ap (λ (k : List ℕ). find (λ r. bytes_eq (take (tree_shape old.tree).width r) k) (map alt_bytes entries))
+        (alt_key_at old.prime old.keys e fits)
         ∙ alt_rows (e.value.items ++ bytes_high_first 8 e.stamp) e.value.items e.stamp refl fits.long fits.stamp
 
     pub alt_added : (new : AltIndex) → IsOf old.width old.prime new → HasInserted before after old.tree new.tree (alt_bytes e) (map alt_bytes entries) own None

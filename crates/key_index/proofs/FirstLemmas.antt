@@ -5,7 +5,7 @@ use Rattle.std.specs.Option.{option_map_or}
 use Rattle.std.specs.Int.{bytes_high_first}
 use Rattle.std.specs.Ordering.{nat_cmp, ordering_then, is_lt, is_gt, is_eq}
 use Rattle.std.specs.declared.cmp.Ordering.{Ordering}
-use Rattle.std.specs.declared.cmp.Ordering.TheVariants.{Less, Equal, Greater}
+use Rattle.std.specs.declared.cmp.Ordering.TheVariants.{Equal}
 use Rattle.std.proofs.lemmas.Map.Text.{is_eq-slice_cmp}
 use Rattle.std.proofs.lemmas.Bool.Decides.{nat_tests}
 use Rattle.std.proofs.lemmas.Slice.Eq.{bytes_eq-Decides}
@@ -25,15 +25,13 @@ use Rattle.key_index.specs.Calls.{IsAltFirst}
 use Rattle.key_index.specs.declared.entry.AltEntry.{AltEntry}
 use Rattle.key_index.specs.declared.alt_index.AltIndex.{AltIndex}
 use Rattle.key_index.proofs.ListLemmas.{found, found_fits}
-use Rattle.key_index.proofs.KeyLemmas.{alt_key}
+use Rattle.key_index.proofs.KeyLemmas.{alt_key_at, alt_after}
 use Rattle.key_index.proofs.OrderLemmas.{ranks}
-use Rattle.key_index.proofs.LookLemmas.{alt_after_at}
 
 -- neither below the least nor above the greatest stamp of a value
 same_value : (o p q : Ordering) → is_lt p ≡ false → is_gt q ≡ false → (not (is_lt (ordering_then o p)) && not (is_gt (ordering_then o q))) ≡ is_eq o
-same_value Less p q low high = refl
 same_value Equal p q low high = rw (low, high) refl
-same_value Greater p q low high = refl
+same_value o p q low high = refl
 
 never_below : (s : ℕ) → is_lt (nat_cmp s 0) ≡ false
 never_below s = grind (arith, common_steps, nat_tests)
@@ -70,12 +68,13 @@ module _ (index : AltIndex) (v least greatest : List ℕ) (long : length v ≡ i
   unfolding less
   in_range e fit =
       let stamp = fit.stamp in
-      let key : take (tree_shape index.tree).width (alt_bytes e) ≡ e.value.items ++ bytes_high_first 8 e.stamp = ap (λ (n : ℕ). take n (alt_bytes e)) index.keys ∙ alt_key index.width index.prime e fit in
+      let key : take (tree_shape index.tree).width (alt_bytes e) ≡ e.value.items ++ bytes_high_first 8 e.stamp =
+      alt_key_at index.prime index.keys e fit in
       let low : less (take (tree_shape index.tree).width (alt_bytes e)) least ≡ is_lt (ordering_then (value_cmp e.value.items v) (nat_cmp e.stamp 0)) =
       ap (λ (l : List ℕ). less l least) key ∙ ap (λ (l : List ℕ). less (e.value.items ++ bytes_high_first 8 e.stamp) l) is_least
       ∙ ap is_lt (ranks e.value.items v e.stamp 0 (fit.long ∙ sym long) fit.stamp (omega arith)) in
       let high : less greatest (take (tree_shape index.tree).width (alt_bytes e)) ≡ is_gt (ordering_then (value_cmp e.value.items v) (nat_cmp e.stamp (2 ^ 64 - 1))) =
-      alt_after_at index greatest v (2 ^ 64 - 1) is_greatest long (omega arith) e fit in
+      alt_after index.prime index.keys greatest v (2 ^ 64 - 1) is_greatest long (omega arith) e fit in
       ap (λ b. not b && not (less greatest (take (tree_shape index.tree).width (alt_bytes e)))) low
       ∙ ap (λ b. not (is_lt (ordering_then (value_cmp e.value.items v) (nat_cmp e.stamp 0))) && not b) high
       ∙ same_value (value_cmp e.value.items v) (nat_cmp e.stamp 0) (nat_cmp e.stamp (2 ^ 64 - 1)) (never_below e.stamp) (never_above e.stamp (2 ^ 64 - 1) (omega arith))
@@ -111,10 +110,11 @@ module _ (index : AltIndex) (v least greatest : List ℕ) (long : length v ≡ i
     of_found gave h (Some e) is fit same =
         let bytes : gave.entry.items ≡ alt_bytes e = some_same gave.entry.items (alt_bytes e) same in
         let key : take (tree_shape index.tree).width gave.entry.items ≡ e.value.items ++ bytes_high_first 8 e.stamp =
-        ap (take (tree_shape index.tree).width) bytes ∙ ap (λ (n : ℕ). take n (alt_bytes e)) index.keys ∙ alt_key index.width index.prime e fit in
+        ap (take (tree_shape index.tree).width) bytes ∙ alt_key_at index.prime index.keys e fit in
         let next : first_after (tree_shape index.tree).width (take (tree_shape index.tree).width gave.entry.items) (map alt_bytes entries) ≡ option_map alt_bytes (find (after_rank e.value.items e.stamp) entries) =
         found alt_bytes (IsAltEntry index.width index.prime) _ (after_rank e.value.items e.stamp)
-        (alt_after_at index (take (tree_shape index.tree).width gave.entry.items) e.value.items e.stamp key fit.long fit.stamp) entries each in
+        (alt_after index.prime index.keys
+        (take (tree_shape index.tree).width gave.entry.items) e.value.items e.stamp key fit.long fit.stamp) entries each in
         record {
           entry = e;
           fits = fit;

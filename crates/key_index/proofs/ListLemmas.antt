@@ -48,9 +48,8 @@ module _ {X : Type 0} (bytes : X → List ℕ) (Fits : X → Type 0) where
       by_test rest false = rest
 
   pub last : (xs : List X) → last_of (map bytes xs) ≡ option_map bytes (last_of xs)
-  last [] = refl
-  last (x ∷ []) = refl
   last (x ∷ (y ∷ ys)) = last (y ∷ ys)
+  last xs = refl
 
   pub last_fits : (xs : List X) → Each Fits xs → IfSome (last_of xs) Fits
   last_fits [] fit = tt

@@ -1,13 +1,15 @@
 -- How tree keys compare: a value with a stamp behind it, and the first bytes of a value with the greatest bytes behind them.
-use Rattle.std.proofs.Common.{◌≡◌, ℕ, zero, suc, ◌+◌, ◌*◌, ◌/◌, ◌%◌, ◌^◌, ◌<◌, ◌≤◌, false, not, List, [], ◌∷◌, ◌++◌, length, take, refl, sym, ap, ◌∙◌, arith}
+use Rattle.std.proofs.Common.{◌≡◌, ℕ, zero, suc, ◌+◌, ◌*◌, ◌/◌, ◌%◌, ◌^◌, ◌<◌, ◌≤◌, Bool, true, false, not, refl, sym, ap, ◌∙◌, arith}
+use Rattle.std.proofs.Common.{List, [], ◌∷◌, ◌++◌, length, take}
 use Rattle.std.specs.Prelude.{replicate}
 use Rattle.std.proofs.Math.Nat.{add-mul, add_assoc, div-add-mod', mod-eq_of_lt, mod-lt, mul-add-mod_self_right, mul-le-mul_right, mul_assoc, one-le-pow, pow-succ', div-one}
 use Rattle.std.specs.declared.cmp.Ordering.{Ordering}
 use Rattle.std.specs.declared.cmp.Ordering.TheVariants.{Less, Equal, Greater}
 use Rattle.std.specs.Ordering.{nat_cmp, ordering_then, ordering_reverse, is_lt, is_gt, is_ge, MatchOrdering}
+use Rattle.std.specs.Cmp.{nat_cmp_is}
 use Rattle.std.specs.Cmp.Lexicographic.{slice_cmp}
 use Rattle.std.specs.Int.{byte_at, bytes_high_first}
-use Rattle.std.proofs.lemmas.Cmp.{nat_cmp_total, tied_itself, ranked}
+use Rattle.std.proofs.lemmas.Cmp.{nat_cmp_total, ranked}
 use Rattle.page_bytes.specs.Each.{Each}
 use Rattle.io_state.specs.Rank.{value_cmp, rank_cmp}
 
@@ -21,18 +23,13 @@ by_order x y P below equal above = split (nat_cmp x y) (ranked x y (nat_cmp x y)
     split Greater h = above h
 
 lower : (x y : ℕ) → x < y → nat_cmp x y ≡ Less
-lower x y h = by_match (nat_cmp x y) refl (ranked x y (nat_cmp x y) refl)
-  where
-    by_match : (o : Ordering) → nat_cmp x y ≡ o → MatchOrdering o (x < y) (x ≡ y) (y < x) → nat_cmp x y ≡ Less
-    by_match Less e k = e
-    by_match Equal e k = absurd (omega arith)
-    by_match Greater e k = absurd (omega arith)
+lower x y h = sym (nat_cmp_is x y Less h)
 
 same : (x y : ℕ) → x ≡ y → nat_cmp x y ≡ Equal
-same x y e = ap (λ (z : ℕ). nat_cmp z y) e ∙ tied_itself nat_cmp_total y
+same x y e = sym (nat_cmp_is x y Equal e)
 
 upper : (x y : ℕ) → y < x → nat_cmp x y ≡ Greater
-upper x y h = nat_cmp_total.antisymm x y ∙ ap ordering_reverse (lower y x h)
+upper x y h = sym (nat_cmp_is x y Greater h)
 
 -- two numbers compare by their upper parts and then by their lower ones
 by_parts : (m a b c d : ℕ) → b < m → d < m → nat_cmp (a * m + b) (c * m + d) ≡ ordering_then (nat_cmp a c) (nat_cmp b d)
@@ -103,46 +100,33 @@ bytes_small (suc n) x = (byte_at-small n x, bytes_small n x)
 -- what is told of two orderings, of which the second one decides where the first does not
 then_assoc : (a b c : Ordering) → ordering_then a (ordering_then b c) ≡ ordering_then (ordering_then a b) c
 then_assoc Less b c = refl
-then_assoc Equal b c = refl
-then_assoc Greater b c = refl
+then_assoc a b c = refl
 
-then_lt : (a b c : Ordering) → is_lt b ≡ is_lt c → is_lt (ordering_then a b) ≡ is_lt (ordering_then a c)
-then_lt Less b c h = refl
-then_lt Equal b c h = h
-then_lt Greater b c h = refl
-
-then_gt : (a b c : Ordering) → is_gt b ≡ is_gt c → is_gt (ordering_then a b) ≡ is_gt (ordering_then a c)
-then_gt Less b c h = refl
-then_gt Equal b c h = h
-then_gt Greater b c h = refl
-
-then_ge : (a b c : Ordering) → is_ge b ≡ is_gt c → is_ge (ordering_then a b) ≡ is_gt (ordering_then a c)
-then_ge Less b c h = refl
-then_ge Equal b c h = h
-then_ge Greater b c h = refl
+-- two tests that say the same where the first one decides, and the same of the second ones
+then_alike : (f h : Ordering → Bool) → f Less ≡ h Less → f Greater ≡ h Greater → (a b c : Ordering) → f b ≡ h c
+    → f (ordering_then a b) ≡ h (ordering_then a c)
+then_alike f h less more Less b c same = less
+then_alike f h less more Equal b c same = same
+then_alike f h less more Greater b c same = more
 
 then_turned : (a b c : Ordering) → is_lt b ≡ is_gt c → is_lt (ordering_then a b) ≡ is_gt (ordering_then (ordering_reverse a) c)
-then_turned Less b c h = refl
 then_turned Equal b c h = h
-then_turned Greater b c h = refl
+then_turned a b c h = refl
 
 pub not_lt : (o : Ordering) → not (is_lt o) ≡ is_ge o
 not_lt Less = refl
-not_lt Equal = refl
-not_lt Greater = refl
+not_lt o = refl
 
 pub turned_lt : (o : Ordering) → is_lt (ordering_reverse o) ≡ is_gt o
 turned_lt Less = refl
-turned_lt Equal = refl
-turned_lt Greater = refl
+turned_lt o = refl
 
 -- behind values of one length what follows them decides where they are the same
 pub behind : (v w s t : List ℕ) → length v ≡ length w → slice_cmp nat_cmp (v ++ s) (w ++ t) ≡ ordering_then (value_cmp v w) (slice_cmp nat_cmp s t)
 behind [] [] s t h = refl
-behind [] (y ∷ ys) s t h = absurd (omega arith)
-behind (x ∷ xs) [] s t h = absurd (omega arith)
 behind (x ∷ xs) (y ∷ ys) s t h =
     ap (λ o. ordering_then (nat_cmp x y) o) (behind xs ys s t (omega arith)) ∙ then_assoc (nat_cmp x y) (value_cmp xs ys) (slice_cmp nat_cmp s t)
+behind v w s t h = absurd (omega arith)
 
 -- the tree keys of values of one length are in the order of their ranks
 pub ranks : (v w : List ℕ) (s t : ℕ) → length v ≡ length w → s < 2 ^ 64 → t < 2 ^ 64
@@ -153,56 +137,37 @@ ranks v w s t h hs ht =
 -- what stands behind a value is not looked at by an operand that is no longer than it
 pub cut : (v s k : List ℕ) → length k ≤ length v → is_lt (slice_cmp nat_cmp (v ++ s) k) ≡ is_lt (value_cmp v k)
 cut [] [] [] h = refl
-cut [] (y ∷ ys) [] h = refl
-cut (x ∷ xs) s [] h = refl
 cut [] s (y ∷ ys) h = absurd (omega arith)
-cut (x ∷ xs) s (y ∷ ys) h = then_lt (nat_cmp x y) (slice_cmp nat_cmp (xs ++ s) ys) (value_cmp xs ys) (cut xs s ys (omega arith))
+cut (x ∷ xs) s (y ∷ ys) h =
+    then_alike is_lt is_lt refl refl (nat_cmp x y) (slice_cmp nat_cmp (xs ++ s) ys) (value_cmp xs ys) (cut xs s ys (omega arith))
+cut v s [] h = refl
 
--- a value that begins with a shorter operand comes after it, whatever the stamps are
-pub shorter_rank : (v k : List ℕ) (o : Ordering) → length k < length v → is_gt (ordering_then (value_cmp v k) o) ≡ is_ge (value_cmp v k)
-shorter_rank [] k o h = absurd (omega arith)
-shorter_rank (x ∷ xs) [] o h = refl
-shorter_rank (x ∷ xs) (y ∷ ys) o h = by_first (nat_cmp x y) (value_cmp xs ys) (shorter_rank xs ys o (omega arith))
-  where
-    by_first : (a b : Ordering) → is_gt (ordering_then b o) ≡ is_ge b → is_gt (ordering_then (ordering_then a b) o) ≡ is_ge (ordering_then a b)
-    by_first Less b k = refl
-    by_first Equal b k = k
-    by_first Greater b k = refl
+-- a value that begins with a shorter operand comes after it, by every test that tells what is less and what is greater
+pub shorter : (f : Ordering → Bool) → f Less ≡ false → f Greater ≡ true → (v k : List ℕ) → length k < length v
+    → f (value_cmp v k) ≡ is_ge (value_cmp v k)
+shorter f less more [] k h = absurd (omega arith)
+shorter f less more (x ∷ xs) [] h = more
+shorter f less more (x ∷ xs) (y ∷ ys) h =
+    then_alike f is_ge less more (nat_cmp x y) (value_cmp xs ys) (value_cmp xs ys) (shorter f less more xs ys (omega arith))
 
--- an operand that is longer than a value comes after it where it begins with it, whatever the stamps are
-pub longer_rank : (v k : List ℕ) (o : Ordering) → length v < length k → is_gt (ordering_then (value_cmp v k) o) ≡ is_gt (value_cmp v (take (length v) k))
-longer_rank [] [] o h = absurd (omega arith)
-longer_rank [] (y ∷ ys) o h = refl
-longer_rank (x ∷ xs) [] o h = absurd (omega arith)
-longer_rank (x ∷ xs) (y ∷ ys) o h = by_first (nat_cmp x y) (value_cmp xs ys) (value_cmp xs (take (length xs) ys)) (longer_rank xs ys o (omega arith))
-  where
-    by_first : (a b c : Ordering) → is_gt (ordering_then b o) ≡ is_gt c → is_gt (ordering_then (ordering_then a b) o) ≡ is_gt (ordering_then a c)
-    by_first Less b c k = refl
-    by_first Equal b c k = k
-    by_first Greater b c k = refl
-
-pub longer_from : (v k : List ℕ) → length v < length k → is_ge (value_cmp v k) ≡ is_gt (value_cmp v (take (length v) k))
-longer_from [] [] h = absurd (omega arith)
-longer_from [] (y ∷ ys) h = refl
-longer_from (x ∷ xs) [] h = absurd (omega arith)
-longer_from (x ∷ xs) (y ∷ ys) h = then_ge (nat_cmp x y) (value_cmp xs ys) (value_cmp xs (take (length xs) ys)) (longer_from xs ys (omega arith))
-
-pub longer_past : (v k : List ℕ) → length v < length k → is_gt (value_cmp v k) ≡ is_gt (value_cmp v (take (length v) k))
-longer_past [] [] h = absurd (omega arith)
-longer_past [] (y ∷ ys) h = refl
-longer_past (x ∷ xs) [] h = absurd (omega arith)
-longer_past (x ∷ xs) (y ∷ ys) h = then_gt (nat_cmp x y) (value_cmp xs ys) (value_cmp xs (take (length xs) ys)) (longer_past xs ys (omega arith))
+-- and an operand that is longer than a value comes after it where it begins with it
+pub longer : (f : Ordering → Bool) → f Less ≡ false → f Greater ≡ true → (v k : List ℕ) → length v < length k
+    → f (value_cmp v k) ≡ is_gt (value_cmp v (take (length v) k))
+longer f less more [] (y ∷ ys) h = less
+longer f less more (x ∷ xs) (y ∷ ys) h =
+    then_alike f is_gt less more (nat_cmp x y) (value_cmp xs ys) (value_cmp xs (take (length xs) ys))
+    (longer f less more xs ys (omega arith))
+longer f less more v [] h = absurd (omega arith)
 
 -- nothing comes after the greatest bytes
 greatest : (m : ℕ) (xs : List ℕ) → length xs ≡ m → Each (λ b. b < 256) xs → is_lt (slice_cmp nat_cmp (replicate m 255) xs) ≡ false
 greatest zero [] h small = refl
-greatest zero (x ∷ xs) h small = absurd (omega arith)
-greatest (suc m) [] h small = absurd (omega arith)
 greatest (suc m) (x ∷ xs) h small =
     by_order 255 x (is_lt (ordering_then (nat_cmp 255 x) (slice_cmp nat_cmp (replicate m 255) xs)) ≡ false)
     (λ k. let below : x < 256 = small.0 in absurd (omega arith))
     (λ e. ap (λ o. is_lt (ordering_then o (slice_cmp nat_cmp (replicate m 255) xs))) (same 255 x e) ∙ greatest m xs (omega arith) small.1)
     (λ k. ap (λ o. is_lt (ordering_then o (slice_cmp nat_cmp (replicate m 255) xs))) (upper 255 x k))
+greatest m xs h small = absurd (omega arith)
 
 -- what comes after the operand with the greatest bytes behind it is what has other first bytes, which come after the operand
 pub padded : (k xs : List ℕ) (m : ℕ) → length xs ≡ length k + m → Each (λ b. b < 256) xs

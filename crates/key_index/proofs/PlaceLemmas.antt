@@ -13,7 +13,7 @@ use Rattle.key_index.specs.Entries.{has_prime}
 use Rattle.key_index.specs.declared.entry.PrimeEntry.{PrimeEntry}
 use Rattle.key_index.specs.declared.prime_index.PrimeIndex.{PrimeIndex}
 use Rattle.key_index.proofs.ListLemmas.{found, found_fits}
-use Rattle.key_index.proofs.LookLemmas.{prime_has_at}
+use Rattle.key_index.proofs.KeyLemmas.{prime_has}
 use Rattle.key_index.proofs.StoredLemmas.{prime_back}
 
 -- the bytes behind the value of an entry are its place
@@ -25,7 +25,7 @@ place_back w e fit =
 
 module _ (index : PrimeIndex) (value : List ℕ) (entries : List PrimeEntry) (each : Each (IsPrimeEntry index.width) entries) where
   entry_is : entry_of (tree_shape index.tree).width value (map prime_bytes entries) ≡ option_map prime_bytes (find (has_prime value) entries)
-  entry_is = found prime_bytes (IsPrimeEntry index.width) _ (has_prime value) (prime_has_at index value) entries each
+  entry_is = found prime_bytes (IsPrimeEntry index.width) _ (has_prime value) (prime_has index.keys value) entries each
 
   placed : (o : Option PrimeEntry) → IfSome o (IsPrimeEntry index.width) → option_map place_in (option_map (drop (tree_shape index.tree).width) (option_map prime_bytes o)) ≡ option_map (λ e. e.place) o
   placed None fit = refl

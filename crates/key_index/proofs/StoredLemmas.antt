@@ -51,8 +51,3 @@ module _ {X : Type 0} (bytes : X → List ℕ) (Fits : X → Type 0) where
       → (found : List ℕ) (e : Option X) → IfSome e Fits → Some found ≡ option_map bytes e → Some (entry found) ≡ e
   told_some entry read found None fit h = cc
   told_some entry read found (Some x) fit h = let same : found ≡ bytes x = cc in ap Some (ap entry same ∙ read x fit)
-
-  pub told_long : (n : ℕ) → ((x : X) → Fits x → length (bytes x) ≡ n)
-      → (found : List ℕ) (e : Option X) → IfSome e Fits → Some found ≡ option_map bytes e → length found ≡ n
-  told_long n long found None fit h = cc
-  told_long n long found (Some x) fit h = let same : found ≡ bytes x = cc in ap length same ∙ long x fit

@@ -1,6 +1,7 @@
 use Rattle.std.proofs.Common.{◌≡◌, ◌≢◌, length, map, sym, ◌∙◌, arith, rules}
 use Rattle.key_index.specs.Stored.{alt_bytes, IsAltEntry}
-use Rattle.key_index.proofs.LookLemmas.{fails, finds, alt_has_at}
+use Rattle.key_index.proofs.LookLemmas.{fails, finds}
+use Rattle.key_index.proofs.KeyLemmas.{alt_has}
 use Rattle.key_index.proofs.EditLemmas.{no_rank}
 use Rattle.key_index.proofs.alt_index.AltIndex.find.Goals as goal
 
@@ -26,7 +27,8 @@ returns g c = record {
       let index = c.args.self.now in
       let long : length c.args.value.now ≡ index.width = omega arith in
       finds alt_bytes (IsAltEntry index.width index.prime) c.decode_found.result c.in_ok-found.found c.decode_found.ensures.told _ _
-      (alt_has_at index c.as_slice.result.now c.args.value.now c.args.stamp (c.as_slice.ensures.value ∙ c.rank_key-wanted.ensures) long c.ranges.stamp.fits) entries stands.each
+      (alt_has index.prime index.keys c.as_slice.result.now c.args.value.now c.args.stamp
+      (c.as_slice.ensures.value ∙ c.rank_key-wanted.ensures) long c.ranges.stamp.fits) entries stands.each
       (c.in_ok-found.ensures.found honest (map alt_bytes entries) own stands.tree).answer;
   reads = search rules;
 }

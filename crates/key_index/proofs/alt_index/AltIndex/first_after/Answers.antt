@@ -4,9 +4,9 @@ use Rattle.pages.specs.Answer.{IsAnswer}
 use Rattle.key_index.specs.Entries.{past_value, from_value, after_rank}
 use Rattle.key_index.specs.declared.entry.AltEntry.{AltEntry}
 use Rattle.key_index.proofs.ListLemmas.{found_alike}
-use Rattle.key_index.proofs.KeyLemmas.{past_rank, from_rank}
+use Rattle.key_index.proofs.KeyLemmas.{past_rank, from_rank, alt_after}
 use Rattle.key_index.specs.Stored.{alt_bytes, IsAltEntry}
-use Rattle.key_index.proofs.LookLemmas.{fails, finds, alt_after_at}
+use Rattle.key_index.proofs.LookLemmas.{fails, finds}
 use Rattle.key_index.proofs.alt_index.AltIndex.first_after.Goals as goal
 
 pub returns-in_err-found : goal.returns-in_err-found
@@ -23,7 +23,8 @@ returns g c = record {
       let whole : length c.args.value.now ≡ index.width = omega arith in
       let is : c.as_slice.result.now ≡ c.args.value.now ++ bytes_high_first 8 c.args.stamp = c.as_slice.ensures.value ∙ c.rank_key-key.ensures in
       finds alt_bytes (IsAltEntry index.width index.prime) c.decode_found.result c.in_ok-found.found c.decode_found.ensures.told _ _
-      (alt_after_at index c.as_slice.result.now c.args.value.now c.args.stamp is whole c.ranges.stamp.fits) entries stands.each
+      (alt_after index.prime index.keys c.as_slice.result.now c.args.value.now c.args.stamp is whole c.ranges.stamp.fits)
+      entries stands.each
       (c.in_ok-found.ensures.found honest (map alt_bytes entries) own stands.tree).answer;
   reads = search rules;
 }

@@ -3,9 +3,9 @@ use Rattle.pages.specs.Answer.{IsAnswer}
 use Rattle.key_index.specs.Entries.{past_value, from_value}
 use Rattle.key_index.specs.declared.entry.AltEntry.{AltEntry}
 use Rattle.key_index.proofs.ListLemmas.{found_alike}
-use Rattle.key_index.proofs.KeyLemmas.{past_from}
+use Rattle.key_index.proofs.KeyLemmas.{past_from, alt_from}
 use Rattle.key_index.specs.Stored.{alt_bytes, IsAltEntry}
-use Rattle.key_index.proofs.LookLemmas.{fails, finds, alt_from_at}
+use Rattle.key_index.proofs.LookLemmas.{fails, finds}
 use Rattle.key_index.proofs.alt_index.AltIndex.first_from.Goals as goal
 
 pub returns-in_err-found : goal.returns-in_err-found
@@ -20,7 +20,8 @@ returns g c = record {
   found = λ honest entries own stands.
       let index = c.args.self.now in
       let short : length c.args.value.now ≤ index.width = omega arith in
-      finds alt_bytes (IsAltEntry index.width index.prime) c.decode_found.result c.in_ok-found.found c.decode_found.ensures.told _ _ (alt_from_at index c.args.value.now short) entries stands.each
+      finds alt_bytes (IsAltEntry index.width index.prime) c.decode_found.result c.in_ok-found.found c.decode_found.ensures.told _ _
+      (alt_from index.prime index.keys c.args.value.now short) entries stands.each
       (c.in_ok-found.ensures.found honest (map alt_bytes entries) own stands.tree).answer;
   reads = search rules;
 }

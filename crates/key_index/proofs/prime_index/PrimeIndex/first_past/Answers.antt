@@ -1,7 +1,8 @@
 use Rattle.std.proofs.Common.{map, ◌∙◌, ℕ, ap, rules}
 use Rattle.key_index.specs.Keys.{greatest_key}
 use Rattle.key_index.specs.Stored.{prime_bytes, IsPrimeEntry}
-use Rattle.key_index.proofs.LookLemmas.{fails, finds, prime_past_at}
+use Rattle.key_index.proofs.LookLemmas.{fails, finds}
+use Rattle.key_index.proofs.KeyLemmas.{prime_past}
 use Rattle.key_index.proofs.prime_index.PrimeIndex.first_past.Goals as goal
 
 pub returns-in_err-found : goal.returns-in_err-found
@@ -15,7 +16,10 @@ pub returns : goal.returns
 returns g c = record {
   found = λ honest entries own stands.
       let index = c.args.self.now in
-      finds prime_bytes (IsPrimeEntry index.width) c.decode_found.result c.in_ok-found.found c.decode_found.ensures.told _ _ (prime_past_at index c.as_slice.result.now c.args.value.now (c.as_slice.ensures.value ∙ c.greatest_key-key.ensures ∙ ap (λ (n : ℕ). greatest_key n n c.args.value.now) c.from-width.ensures)) entries stands.each
+      finds prime_bytes (IsPrimeEntry index.width) c.decode_found.result c.in_ok-found.found c.decode_found.ensures.told _ _
+      (prime_past index.keys c.as_slice.result.now c.args.value.now
+      (c.as_slice.ensures.value ∙ c.greatest_key-key.ensures
+      ∙ ap (λ (n : ℕ). greatest_key n n c.args.value.now) c.from-width.ensures)) entries stands.each
       (c.in_ok-found.ensures.found honest (map prime_bytes entries) own stands.tree).answer;
   reads = search rules;
 }
