@@ -1,4 +1,5 @@
-//! What is found of files that are written byte by byte, as the format says: one that stands is sound, and of one that does not its reason is told.
+//! What is found of files that are written byte by byte, as the format says: one that stands is sound, and of
+//! one that does not its reason is told.
 
 use crate::checks::{assert_equal, assert_equal_for, assert_that};
 use crate::slow::Slow;
@@ -212,7 +213,8 @@ fn is_short(rt: &impl Abort, alloc: Global, bytes: &[u8], length: usize) {
     }
 }
 
-// The gate and all else are looked at only where the bytes are as many as the page count needs, and the page count is that of the first page, accepted or not.
+// The gate and all else are looked at only where the bytes are as many as the page count needs, and the page
+// count is that of the first page, accepted or not.
 #[test]
 fn a_file_that_is_cut_is_short(rt: HostRuntime) -> Result<(), Fail> {
     let mut bytes = one_record(&rt, rt.alloc())?;
@@ -416,7 +418,8 @@ fn entries_that_are_exchanged_are_out_of_order(rt: HostRuntime) -> Result<(), Fa
     Ok(())
 }
 
-// One byte each that is changed in the file of three keys, of which page 5 is free: in the chain, and reached by nothing.
+// One byte each that is changed in the file of three keys, of which page 5 is free: in the chain, and reached
+// by nothing.
 const CHANGED_CHAINS: [(usize, u8, Reason, FaultPlace, &str); 5] = [
     (
         20487,
@@ -498,7 +501,8 @@ fn check_slowly(
     check_file(alloc, &mut reader)
 }
 
-// However the bytes come, the answer is the same; the end is not looked for behind the pages that are counted.
+// However the bytes come, the answer is the same; the end is not looked for behind the pages that are
+// counted.
 #[test]
 fn a_file_may_come_in_parts(rt: HostRuntime) -> Result<(), Fail> {
     let bytes = one_record(&rt, rt.alloc())?;
@@ -534,7 +538,8 @@ fn a_reader_that_fails_is_a_fault(rt: HostRuntime) -> Result<(), Fail> {
     Ok(())
 }
 
-// What may stand at a place of the file of three keys: one thing, or any byte; in the text of a record and in the next stamp, some.
+// What may stand at a place of the file of three keys: one thing, or any byte; in the text of a record and in
+// the next stamp, some.
 #[derive(Clone, Copy)]
 enum Freedom {
     None,

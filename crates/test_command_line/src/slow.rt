@@ -2,7 +2,8 @@
 
 use std::io::{self, ErrorKind, Read};
 
-/// A reader of these bytes, at most so many of them at a call. Before each part it is interrupted so many times, and where `fails`, it fails at its end.
+/// A reader of these bytes, at most so many of them at a call. Before each part it is interrupted so many
+/// times, and where `fails`, it fails at its end.
 #[derive(Drop)]
 pub struct Slow<'a> {
     pub bytes: &'a [u8],

@@ -77,7 +77,8 @@ impl Ended {
     }
 }
 
-/// Runs the program over writers with so much room, of which that of the output takes so many bytes at a call.
+/// Runs the program over writers with so much room, of which that of the output takes so many bytes at a
+/// call.
 fn run<R: Files + AllocGlobal + Abort>(
     rt: &R,
     words: &[&str],

@@ -29,7 +29,8 @@ fn zeros(alloc: Global, pages: usize) -> Result<Vec<u8>, Fail> {
     Ok(bytes)
 }
 
-// Links the free slots of a page of the heap, of so many bytes each, from number `first` to the last, in rising order. They are free where byte 0 is zero, as it is.
+// Links the free slots of a page of the heap, of so many bytes each, from number `first` to the last, in
+// rising order. They are free where byte 0 is zero, as it is.
 fn link(rt: &impl Abort, bytes: &mut [u8], page: u8, size: usize, first: usize, room: usize) {
     assert!(rt; size < 4096 && room < 582);
     for i in first..room {
@@ -45,7 +46,8 @@ fn link(rt: &impl Abort, bytes: &mut [u8], page: u8, size: usize, first: usize, 
 // Where the numbers of the first page end.
 const PLACES: [usize; 11] = [9, 11, 15, 19, 23, 27, 31, 33, 34, 37, 47];
 
-// The first bytes: version, greatest length, pages, free pages, first heap page, first free slot, keys, least length, next stamp and records.
+// The first bytes: version, greatest length, pages, free pages, first heap page, first free slot, keys, least
+// length, next stamp and records.
 fn put_numbers(rt: &impl Abort, bytes: &mut [u8], numbers: &[u8; 11]) {
     put_all(rt, bytes, 0, b"CCOBIXIF");
     for (&at, &number) in PLACES.iter().zip(numbers) {
@@ -92,7 +94,8 @@ pub fn one_record(rt: &impl Abort, alloc: Global) -> Result<Vec<u8>, Fail> {
     Ok(bytes)
 }
 
-/// One record of 10 bytes, where 16 are the most, with a prime key of 4 and an alternate key of 6 from place 4 on: a header, two leaves, a page of 214 slots.
+/// One record of 10 bytes, where 16 are the most, with a prime key of 4 and an alternate key of 6 from place
+/// 4 on: a header, two leaves, a page of 214 slots.
 pub fn varying(rt: &impl Abort, alloc: Global) -> Result<Vec<u8>, Fail> {
     let mut bytes = zeros(alloc, 4)?;
     put_numbers(rt, &mut bytes, &[2, 16, 4, 0, 0, 3, 3, 1, 2, 10, 1]);
@@ -131,8 +134,8 @@ const CITIES: [&[u8]; 3] = [
     b"ROME\0\0\0\0\0\0\0\x020003",
 ];
 
-/// Three records of 12 bytes with a prime key of 4, a unique alternate key of 2 and one of 4 that has duplicates: a header, three leaves (pages 1 to 3), a page of
-/// 194 slots (page 4), and a free page (page 5).
+/// Three records of 12 bytes with a prime key of 4, a unique alternate key of 2 and one of 4 that has
+/// duplicates: a header, three leaves (pages 1 to 3), a page of 194 slots (page 4), and a free page (page 5).
 pub fn three_keys(rt: &impl Abort, alloc: Global) -> Result<Vec<u8>, Fail> {
     let mut bytes = zeros(alloc, 6)?;
     put_numbers(rt, &mut bytes, &[1, 12, 6, 5, 1, 4, 4, 3, 3, 0, 4]);

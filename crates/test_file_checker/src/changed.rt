@@ -60,7 +60,8 @@ fn changes(
     Ok(())
 }
 
-/// Changes each byte of a page of a file of three records. In each page there are bytes that have a meaning, and others.
+/// Changes each byte of a page of a file of three records. In each page there are bytes that have a meaning,
+/// and others.
 fn changes_page(rt: &impl Abort, alloc: Global, page: usize) -> Result<(), Fail> {
     let mut bytes = made(rt, alloc, 3, 0)?;
     assert_equal(rt, bytes.len(), 5 * PAGE_SIZE);
@@ -107,7 +108,8 @@ fn count_of(bytes: &[u8], kind: u8) -> usize {
         .count()
 }
 
-// Of a file with inner nodes, free pages and free slots the first bytes of each page are changed, and every 61st byte behind them.
+// Of a file with inner nodes, free pages and free slots the first bytes of each page are changed, and every
+// 61st byte behind them.
 #[test]
 fn a_changed_byte_of_a_file_that_shrank(rt: HostRuntime) -> Result<(), Fail> {
     let alloc = rt.alloc();

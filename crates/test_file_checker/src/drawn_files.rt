@@ -20,7 +20,8 @@ use std::test::Fail;
 
 /// A new library over a shelf in memory, with the name of one file.
 fn new_library(alloc: Global) -> Result<ShelfLibrary<MemShelf>, Fault>
-    ensures { IfOk result (λ library. IsNotOpen (⟦<ShelfLibrary<MemShelf> as Library>⟧.shown.world library) 0) }
+    ensures { IfOk result
+        (λ library. IsNotOpen (⟦<ShelfLibrary<MemShelf> as Library>⟧.shown.world library) 0) }
 {
     let frames = NonZeroUsize::new(4).unwrap_or(NonZeroUsize::MIN);
     let mut library = ShelfLibrary::new(alloc, MemShelf::new(alloc), 1000, frames);

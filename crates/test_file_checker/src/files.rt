@@ -125,7 +125,8 @@ pub fn bytes_of<S: Shelf>(alloc: Global, shelf: &mut S) -> Result<Vec<u8>, Fail>
     Ok(bytes)
 }
 
-/// Makes a file on a shelf, with records of so many numbers but for the first ones, which are removed, and closes it.
+/// Makes a file on a shelf, with records of so many numbers but for the first ones, which are removed, and
+/// closes it.
 fn makes(
     rt: &impl Abort,
     alloc: Global,
@@ -142,7 +143,8 @@ fn makes(
     Ok(())
 }
 
-/// The bytes of a file that was closed with records of so many numbers, but for the first ones, which were removed.
+/// The bytes of a file that was closed with records of so many numbers, but for the first ones, which were
+/// removed.
 pub fn made(rt: &impl Abort, alloc: Global, count: u32, removed: u32) -> Result<Vec<u8>, Fail> {
     let schema = Schema::from_parts(LENGTH, LENGTH, &KEYS);
     assert_that(rt, schema.is_some());

@@ -6,7 +6,8 @@ use file_checker::{CheckFault, Verdict, check_file};
 use std::alloc::Global;
 use std::process::Abort;
 
-/// How many records the bytes stand for; none where they do not stand. Both readers agree on that, and on the pages.
+/// How many records the bytes stand for; none where they do not stand. Both readers agree on that, and on the
+/// pages.
 pub fn records_of(rt: &impl Abort, alloc: Global, bytes: &[u8]) -> Result<Option<u64>, CheckFault> {
     let mut reader = bytes;
     let verdict = check_file(alloc, &mut reader)?;

@@ -1,4 +1,5 @@
-//! A second reader of files: whether bytes stand for records, by the tables of the format alone. It shares nothing with the checker.
+//! A second reader of files: whether bytes stand for records, by the tables of the format alone. It shares
+//! nothing with the checker.
 
 mod first_page;
 mod heap;

@@ -113,7 +113,8 @@ fn reads_record<L: Library + HasTrees>(
     Ok((behind, asked_at_most(rt, library, schema, most)))
 }
 
-/// Whether the record of a number is one of an odd number with this value of key k. By their numbers they are all of one value.
+/// Whether the record of a number is one of an odd number with this value of key k. By their numbers they are
+/// all of one value.
 fn has_value(k: u8, value: u64, n: u64) -> bool {
     let same = if k == 0 { value == 0 } else { n % 7 == value };
     same && n % 2 == 1
@@ -229,7 +230,8 @@ fn has_highest<L: Library + HasTrees>(
     Ok(asked_at_most(rt, library, schema, most))
 }
 
-/// Makes the file, and removes records of it once it was shut and opened. It answers the pages that were asked for.
+/// Makes the file, and removes records of it once it was shut and opened. It answers the pages that were
+/// asked for.
 fn fills<L: Library + HasTrees>(
     rt: &impl Abort,
     library: &mut L,

@@ -63,7 +63,8 @@ fn runs<S: Shelf + Drop>(
     pages
 }
 
-/// Runs programs over a new file with so many frames: its shelf reads no more pages than are asked for, and three for each OPEN. It answers the shelf.
+/// Runs programs over a new file with so many frames: its shelf reads no more pages than are asked for, and
+/// three for each OPEN. It answers the shelf.
 fn reads_no_more(
     rt: &impl Abort,
     alloc: Global,
@@ -86,8 +87,8 @@ fn reads_no_more(
     Ok(shelf)
 }
 
-/// OPEN INPUT and one READ by the prime key make few reads, by the height of its tree: the READ asks for a page of each level, and for the record's. A WRITE is refused
-/// then, and asks for no page.
+/// OPEN INPUT and one READ by the prime key make few reads, by the height of its tree: the READ asks for a
+/// page of each level, and for the record's. A WRITE is refused then, and asks for no page.
 fn reads_one(
     rt: &impl Abort,
     alloc: Global,

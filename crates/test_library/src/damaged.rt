@@ -1,5 +1,5 @@
-//! Files that are damaged behind a first page that is accepted: each call asks for no more pages, and makes no more calls of the shelf, than over a sound file of
-//! the heights that the first page tells.
+//! Files that are damaged behind a first page that is accepted: each call asks for no more pages, and makes
+//! no more calls of the shelf, than over a sound file of the heights that the first page tells.
 
 ghost use Rattle.indexed_file.specs.Clients.{IsOpenWith};
 
@@ -22,7 +22,8 @@ use unit_calls::{
 /// Bytes that are put into a file, and where.
 type Edit = (usize, &'static [u8]);
 
-/// Page 1 is the leaf of the first key, page 2 that of the second, and page 3 the heap's, whose slots have 249 bytes.
+/// Page 1 is the leaf of the first key, page 2 that of the second, and page 3 the heap's, whose slots have
+/// 249 bytes.
 const DAMAGES: [(&str, &[Edit]); 8] = [
     ("nothing", &[]),
     (
@@ -92,7 +93,8 @@ fn made(rt: &impl Abort, alloc: Global, schema: &Schema) -> Result<Vec<u8>, Fail
     Ok(bytes)
 }
 
-/// Makes a call of one kind, and answers the most pages that it may ask for. What it says of the file is not looked at.
+/// Makes a call of one kind, and answers the most pages that it may ask for. What it says of the file is not
+/// looked at.
 fn makes<L: Library + HasTrees>(library: &mut L, schema: &Schema, call: u8) -> Result<u64, Fault>
     requires { IsOpenWith (L.shown.world library.old) 0 schema.now }
     ensures { IsOpenWith (L.shown.world library.new) 0 schema.now }
@@ -156,8 +158,8 @@ fn replaces_or_tops<L: Library + HasTrees>(library: &mut L, schema: &Schema, k: 
     }
 }
 
-/// Opens a file of these bytes and makes a call. It asks for as many pages at most as over a sound file, and each of them is read at most once, and written at
-/// most once.
+/// Opens a file of these bytes and makes a call. It asks for as many pages at most as over a sound file, and
+/// each of them is read at most once, and written at most once.
 fn is_bounded(
     rt: &impl Abort,
     alloc: Global,

@@ -1,4 +1,5 @@
-//! Calls that are drawn, to a library over a shelf and to one in lists, with the file shut and opened in between.
+//! Calls that are drawn, to a library over a shelf and to one in lists, with the file shut and opened in
+//! between.
 
 ghost use Rattle.std.specs.Prelude.{OnOk};
 ghost use Rattle.test_library.specs.Alike.{AreAlike};

@@ -1,4 +1,5 @@
-//! The least and the greatest lengths, and as many keys as a file can have, in a library over a shelf and in one in lists.
+//! The least and the greatest lengths, and as many keys as a file can have, in a library over a shelf and in
+//! one in lists.
 
 ghost use Rattle.test_library.specs.Alike.{AreAlike};
 

@@ -52,7 +52,8 @@ fn makes<L: Library>(library: &mut L, schema: &Schema) -> Result<(), Fault>
     Ok(())
 }
 
-// OPEN statement: a file that was changed since it was opened, and not closed, can't be opened; a new one may be made in its place.
+// OPEN statement: a file that was changed since it was opened, and not closed, can't be opened; a new one may
+// be made in its place.
 #[test]
 fn a_file_that_was_changed_and_not_shut_is_unsound(rt: HostRuntime) -> Result<(), Fail> {
     let schema = numbers()?;

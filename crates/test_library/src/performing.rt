@@ -19,7 +19,8 @@ use verbs::Connector;
 /// The bytes of a record.
 const LENGTH: u16 = 240;
 
-/// A connector that is closed, and a library over a shelf, whose units are forgotten, with the name of its file.
+/// A connector that is closed, and a library over a shelf, whose units are forgotten, with the name of its
+/// file.
 pub fn begins<S: Shelf + Drop>(
     alloc: Global,
     shelf: S,
@@ -49,7 +50,8 @@ fn has_operands(rt: &impl Abort, statement: &FileStatement)
     }
 }
 
-/// The most pages that a statement may ask for, by the heights of the trees; `reference` is the key of reference. Those of OPEN and CLOSE are not counted.
+/// The most pages that a statement may ask for, by the heights of the trees; `reference` is the key of
+/// reference. Those of OPEN and CLOSE are not counted.
 fn most_asked<S: Shelf + Drop>(
     library: &ShelfLibrary<S>,
     statement: &FileStatement,
@@ -67,8 +69,9 @@ fn most_asked<S: Shelf + Drop>(
     }
 }
 
-/// Performs a statement, and answers its status with the pages that it asked for, which are so many at most, also where it is refused. The statement begins
-/// the count, and not this test; OPEN and CLOSE do not, and none are counted of them.
+/// Performs a statement, and answers its status with the pages that it asked for, which are so many at most,
+/// also where it is refused. The statement begins the count, and not this test; OPEN and CLOSE do not, and
+/// none are counted of them.
 pub fn performs<S: Shelf + Drop>(
     rt: &impl Abort,
     connector: &mut Connector,

@@ -18,7 +18,8 @@ const RECORDS: u64 = 1500;
 /// The records below this number have one value of the last key in twos, and the others each its own.
 const PAIRED: u64 = 400;
 
-/// Records of 360 bytes: a number, a value that is of one alone, and one that several may have, each a key of 120 bytes.
+/// Records of 360 bytes: a number, a value that is of one alone, and one that several may have, each a key of
+/// 120 bytes.
 fn numbers() -> Result<Schema, Fault> {
     let keys = [
         part(0, 120, KeyKind::Prime),
@@ -64,8 +65,8 @@ fn reads<L: Library>(
     Ok((asked(library, 0, schema), repeated))
 }
 
-/// Reads each record by the keys that one alone can have: one page for each level of the key's tree, one for each of the prime key's, and the
-/// record's.
+/// Reads each record by the keys that one alone can have: one page for each level of the key's tree, one for
+/// each of the prime key's, and the record's.
 fn reads_unique<L: Library>(
     rt: &impl Abort,
     library: &mut L,
@@ -89,8 +90,9 @@ fn reads_unique<L: Library>(
     Ok(())
 }
 
-/// Reads each record by the key that several can have. As many pages are asked for, but where the first record of the value is the first of a leaf:
-/// then the leaf before it is looked into too. That is once a leaf at most, and a leaf has eight entries at least.
+/// Reads each record by the key that several can have. As many pages are asked for, but where the first
+/// record of the value is the first of a leaf: then the leaf before it is looked into too. That is once a
+/// leaf at most, and a leaf has eight entries at least.
 fn reads_shared<L: Library>(
     rt: &impl Abort,
     library: &mut L,

@@ -155,7 +155,8 @@ fn at(clock: &SetClock, line: &mut impl Progress, done: u64, milliseconds: u64) 
     line.at(done, 27);
 }
 
-/// What a terminal, or another writer, was given of a load of 27 bytes, whose parts of 9 bytes were done after so many milliseconds.
+/// What a terminal, or another writer, was given of a load of 27 bytes, whose parts of 9 bytes were done
+/// after so many milliseconds.
 fn shown(alloc: Global, is_terminal: bool, times: [u64; 3]) -> Result<Vec<u8>, Fail> {
     let clock = SetClock::new();
     let mut out = Vec::with_capacity(alloc, 1000)?;

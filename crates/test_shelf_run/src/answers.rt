@@ -184,7 +184,8 @@ fn after_reading(status: &str, found: &[&str], missed: &str) -> Option<State> {
     }
 }
 
-/// After a statement that the mode permits, on one that is open and has met a fault, by the status that it answers.
+/// After a statement that the mode permits, on one that is open and has met a fault, by the status that it
+/// answers.
 fn after_open(state: State, verb: Verb, status: &str) -> Option<State> {
     match verb {
         Verb::Close => where_one_of(status, &["00"], State::Closed),

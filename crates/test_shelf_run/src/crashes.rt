@@ -13,8 +13,8 @@ use worked_decks::{
     WRITTEN_AND_READ_BACK, Worked, deck_of,
 };
 
-/// What a crash may leave: what reads give, what was synced, or these bytes wherever something was written since, that of a closed gate among them; or
-/// what was synced, but one page.
+/// What a crash may leave: what reads give, what was synced, or these bytes wherever something was written
+/// since, that of a closed gate among them; or what was synced, but one page.
 const CRASHES: [Crash; 8] = [
     Crash::Whole(Image::AsRead),
     Crash::Whole(Image::Synced),
@@ -26,7 +26,8 @@ const CRASHES: [Crash; 8] = [
     Crash::OnePage(3),
 ];
 
-/// The device stops at each change of a deck in turn, as each of its files meets it, before it is performed and after it, and a crash follows.
+/// The device stops at each change of a deck in turn, as each of its files meets it, before it is performed
+/// and after it, and a crash follows.
 fn stops_at_each_change(
     rt: &impl Abort,
     alloc: Global,

@@ -7,7 +7,8 @@ fn head(line: &str) -> &str {
     line.split_once(" [").map_or(line, |(head, _)| head)
 }
 
-/// Whether a line has no status of want of room, of a fault or of a connector that has failed; 91 may stand at an OPEN.
+/// Whether a line has no status of want of room, of a fault or of a connector that has failed; 91 may stand
+/// at an OPEN.
 fn is_clean(line: &str) -> bool {
     let line = head(line);
     let is_marred = line.ends_with(" 24")

@@ -118,8 +118,9 @@ fn fails_at(
     Ok(is_last)
 }
 
-/// Runs a deck, as each of its files meets it, over the files of a shelf again and again, and each time the next call fails, until there is no further one.
-/// Each transcript is one that the deck may have, and each crash leaves each file as a run with this transcript may leave it.
+/// Runs a deck, as each of its files meets it, over the files of a shelf again and again, and each time the
+/// next call fails, until there is no further one. Each transcript is one that the deck may have, and each
+/// crash leaves each file as a run with this transcript may leave it.
 pub fn fails_in_turn(
     rt: &impl Abort,
     alloc: Global,

@@ -36,7 +36,8 @@ fn each_call_fails_of(
     Ok(())
 }
 
-/// Each read of a deck fails in turn, and each creation, write and sync, before it is performed and after it, once and for good.
+/// Each read of a deck fails in turn, and each creation, write and sync, before it is performed and after it,
+/// once and for good.
 fn each_call_fails(rt: &impl Abort, alloc: Global, files: &[Worked]) -> Result<(), Fail> {
     let [first, ..] = files else {
         return Ok(());

@@ -106,7 +106,8 @@ fn delivers(steps: &[Step], record: &str) -> bool {
     steps.iter().any(|(_, line)| line.ends_with(record))
 }
 
-/// Whether the record of an answer, if it has one, is one that the file has in the deck, before it or after it, byte for byte.
+/// Whether the record of an answer, if it has one, is one that the file has in the deck, before it or after
+/// it, byte for byte.
 fn is_of_file(worked: &Worked, answer: &str) -> bool {
     match answer.split_once(" ") {
         None => true,

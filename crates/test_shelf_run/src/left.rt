@@ -140,8 +140,8 @@ fn is_left(
     is_astray(alloc, shelf, worked)
 }
 
-/// Whether the deck may have this transcript over a device with such a fault, and each of these crashes leaves the file as a run with this transcript may
-/// leave it.
+/// Whether the deck may have this transcript over a device with such a fault, and each of these crashes
+/// leaves the file as a run with this transcript may leave it.
 pub fn is_allowed(
     alloc: Global,
     worked: &Worked,

@@ -1,9 +1,12 @@
-//! Tests of the run of a deck over the files of a shelf, also of one that fails, that wants memory, or that a crash stops.
+//! Tests of the run of a deck over the files of a shelf, also of one that fails, that wants memory, or that a
+//! crash stops.
 //!
-//! That a transcript is the one of the definitions, and that a crash leaves no false file, is proved. Here worked decks are run: their transcripts are those
-//! that stand beside their statements, and where a device fails, what the file reads as is compared with what such a transcript allows.
+//! That a transcript is the one of the definitions, and that a crash leaves no false file, is proved. Here
+//! worked decks are run: their transcripts are those that stand beside their statements, and where a device
+//! fails, what the file reads as is compared with what such a transcript allows.
 //!
-//! Read `transcripts`, then `answers` and `judged` for what a transcript may say behind a fault, and `failing`.
+//! Read `transcripts`, then `answers` and `judged` for what a transcript may say behind a fault, and
+//! `failing`.
 #![tactic(auto)]
 
 #[cfg(test)]

@@ -18,7 +18,8 @@ use worked_decks::{
 /// The least limit of pages.
 const LIMIT: u32 = 16;
 
-/// Whether a run had the lines of these steps, and its end tells how many there are and whether all are clean.
+/// Whether a run had the lines of these steps, and its end tells how many there are and whether all are
+/// clean.
 fn ends_so(
     alloc: Global,
     steps: &[Step],

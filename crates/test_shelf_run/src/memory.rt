@@ -18,7 +18,8 @@ use worked_decks::{
     transcript_of,
 };
 
-/// A run that has met want of memory before its first statement has written nothing, and the file is as it was.
+/// A run that has met want of memory before its first statement has written nothing, and the file is as it
+/// was.
 fn has_written_nothing(
     rt: &impl Abort,
     alloc: Global,
@@ -35,7 +36,8 @@ fn has_written_nothing(
     Ok(())
 }
 
-/// A run that has met want of memory: nothing is written, and the file is as it was, or the first line that is not the worked one has 90.
+/// A run that has met want of memory: nothing is written, and the file is as it was, or the first line that
+/// is not the worked one has 90.
 fn has_wanted(
     rt: &impl Abort,
     alloc: Global,
@@ -59,7 +61,8 @@ fn has_wanted(
     Ok(())
 }
 
-/// Runs a deck over a shelf of which this call wants memory, counted from 1. It answers whether there was such a call.
+/// Runs a deck over a shelf of which this call wants memory, counted from 1. It answers whether there was
+/// such a call.
 fn wants_memory(
     rt: &impl Abort,
     alloc: Global,
@@ -125,7 +128,8 @@ fn worked_before(alloc: Global, worked: &Worked) -> Result<Option<MemShelf>, Fai
     }
 }
 
-/// Runs a deck over a shelf in memory, and answers whether the run was the worked one. Where it was not, it has met want of memory.
+/// Runs a deck over a shelf in memory, and answers whether the run was the worked one. Where it was not, it
+/// has met want of memory.
 fn is_worked_over_pages(rt: &impl Abort, alloc: Global, worked: &Worked) -> Result<bool, Fail> {
     let Some(shelf) = worked_before(alloc, worked)? else {
         return Ok(false);
@@ -190,7 +194,8 @@ fn is_worked_over_lists(rt: &impl Abort, alloc: Global, worked: &Worked) -> Resu
     Ok(false)
 }
 
-/// Where one request for memory is refused, as by `rt try --test --fail-alloc N`, one of two runs is the worked one, or what stands round a run has given up.
+/// Where one request for memory is refused, as by `rt try --test --fail-alloc N`, one of two runs is the
+/// worked one, or what stands round a run has given up.
 #[test]
 fn a_run_wants_no_memory_that_is_there(rt: HostRuntime) -> Result<(), Fail> {
     for worked in &[

@@ -11,7 +11,8 @@ use worked_decks::{
     A_CLASH, CUSTOMERS, READ_THAT_FAILS, REFUSED, WRITE_THAT_FAILS, deck_of, transcript_of,
 };
 
-/// Whether the first READ fails where this read of the shelf does. Each line is then the one that is expected.
+/// Whether the first READ fails where this read of the shelf does. Each line is then the one that is
+/// expected.
 fn takes_position_away(
     rt: &impl Abort,
     alloc: Global,

@@ -15,7 +15,8 @@ use worked_decks::{Worked, deck_of};
 /// The most pages of a file.
 const LIMIT: u32 = 4000;
 
-/// Runs a deck over a shelf, whose units are forgotten, with so many pages of a file at most, and gives the shelf back with the transcript and the end.
+/// Runs a deck over a shelf, whose units are forgotten, with so many pages of a file at most, and gives the
+/// shelf back with the transcript and the end.
 pub fn run_within<S: Shelf + Drop>(
     alloc: Global,
     shelf: S,

@@ -70,7 +70,8 @@ fn are_so_over_pages(alloc: Global, decks: &[Deck], frames: usize) -> Result<boo
     Ok(true)
 }
 
-/// Decks that are run one after another have their transcripts over lists, and over pages with any number of frames.
+/// Decks that are run one after another have their transcripts over lists, and over pages with any number of
+/// frames.
 fn have_their_transcripts(rt: &impl Abort, alloc: Global, decks: &[Deck]) -> Result<(), Fail> {
     assert_that(rt, are_so_over_lists(alloc, decks)?);
     for &frames in &[1, 2, 64, 4096] {

@@ -99,7 +99,8 @@ fn run_over_pages(
     run_on_shelf(alloc, deck.as_bytes(), shelf, 16, NonZeroUsize::MIN, out)
 }
 
-/// What the file reads as where only these bytes of the transcript were taken. The fourth line is that of CLOSE: it is performed before its line is refused.
+/// What the file reads as where only these bytes of the transcript were taken. The fourth line is that of
+/// CLOSE: it is performed before its line is refused.
 fn left_of(taken: &[u8]) -> &'static [Step] {
     let lines = taken.iter().filter(|byte| **byte == b'\n').count();
     if lines < 3 { REFUSED } else { ONE_IS_READ }
@@ -124,7 +125,8 @@ impl<'a> Cut<'a> {
         end == Err(RunFault::Output) && out.taken.as_slice() == self.front
     }
 
-    /// Whether the run over these pages is broken off, and the next run over the same files finds what it has to.
+    /// Whether the run over these pages is broken off, and the next run over the same files finds what it has
+    /// to.
     fn is_broken_off_over_pages(
         &self,
         alloc: Global,
@@ -155,7 +157,8 @@ impl<'a> Cut<'a> {
     }
 }
 
-/// Whether a run with this writer is broken off behind what the writer has taken, over pages and over lists, and the next run over the same files finds what it has to.
+/// Whether a run with this writer is broken off behind what the writer has taken, over pages and over lists,
+/// and the next run over the same files finds what it has to.
 fn is_broken_off(alloc: Global, room: usize, refusal: Refusal) -> Result<bool, Fail> {
     let worked = &WRITTEN_AND_READ_BACK;
     let deck = deck_of(alloc, worked.heading, worked.steps)?;
@@ -191,7 +194,8 @@ fn behind_a_line_that_the_writer_refuses_no_file_is_changed(rt: HostRuntime) -> 
     Ok(())
 }
 
-/// Whether a run is whole, over pages and over lists, where each write behind the first bytes is interrupted so many times and then takes all.
+/// Whether a run is whole, over pages and over lists, where each write behind the first bytes is interrupted
+/// so many times and then takes all.
 fn is_whole(alloc: Global, room: usize, times: u32) -> Result<bool, Fail> {
     let worked = &WRITTEN_AND_READ_BACK;
     let deck = deck_of(alloc, worked.heading, worked.steps)?;
@@ -244,7 +248,8 @@ const THREE_ARE_READ: &[Step] = &[
     ("STOP RUN.", "CLOSE CUST 00"),
 ];
 
-/// What the three records read as where only these bytes of that transcript were taken, less than all but the last line. The sixth line is that of WRITE.
+/// What the three records read as where only these bytes of that transcript were taken, less than all but the
+/// last line. The sixth line is that of WRITE.
 fn left_behind_reads(taken: &[u8]) -> &'static [Step] {
     let lines = taken.iter().filter(|byte| **byte == b'\n').count();
     if lines < 5 { THREE_ARE_READ } else { REFUSED }
@@ -278,7 +283,8 @@ fn leaves_what_was_read(alloc: Global, room: usize, refusal: Refusal) -> Result<
     Ok(over_pages && over_lists)
 }
 
-// The lines of the READs are held until the WRITE, which is performed only where the writer took all of them: 160 bytes.
+// The lines of the READs are held until the WRITE, which is performed only where the writer took all of them:
+// 160 bytes.
 #[test]
 fn a_write_behind_reads_waits_for_their_lines(rt: HostRuntime) -> Result<(), Fail> {
     for &refusal in &[Refusal::TakesNothing, Refusal::Fails] {
@@ -290,7 +296,8 @@ fn a_write_behind_reads_waits_for_their_lines(rt: HostRuntime) -> Result<(), Fai
     Ok(())
 }
 
-// 10,000 lines of READs are 180,000 bytes: two parts of at most 65,536 bytes are handed over as the next line has no room, and the rest before the CLOSE.
+// 10,000 lines of READs are 180,000 bytes: two parts of at most 65,536 bytes are handed over as the next line
+// has no room, and the rest before the CLOSE.
 #[test]
 fn the_lines_of_reads_are_handed_over_together(rt: HostRuntime) -> Result<(), Fail> {
     let alloc = rt.alloc();

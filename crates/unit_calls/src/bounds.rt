@@ -25,7 +25,8 @@ pub fn most_to_seek<L: HasTrees>(library: &L, k: u8) -> u64 {
     2 * u64::from(library.tree_height(k))
 }
 
-/// The most pages that a call asks for which changes the file: thirty for each level of both trees, and for one level more of each.
+/// The most pages that a call asks for which changes the file: thirty for each level of both trees, and for
+/// one level more of each.
 pub fn most_to_change<L: HasTrees>(library: &L) -> u64 {
     30 * (u64::from(library.tree_height(0)) + u64::from(library.tree_height(1)) + 2)
 }

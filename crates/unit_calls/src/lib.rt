@@ -1,5 +1,5 @@
-//! Calls on a unit of a library of indexed files, for tests: a library over a shelf, a shelf that wants memory, records whose values are numbers, also drawn ones,
-//! and programs of verbs on one file.
+//! Calls on a unit of a library of indexed files, for tests: a library over a shelf, a shelf that wants
+//! memory, records whose values are numbers, also drawn ones, and programs of verbs on one file.
 //!
 //! Each call keeps the unit open or shut as its name says.
 //!

@@ -6,7 +6,8 @@ ghost use Rattle.io_state.specs.declared.fault.Fault.TheVariants.{Memory};
 use io_state::{Fault, FileName};
 use page_store::Shelf;
 
-/// A shelf over another one, of which one call wants memory that is not there, or every call from that one on.
+/// A shelf over another one, of which one call wants memory that is not there, or every call from that one
+/// on.
 #[derive(Drop)]
 pub struct NarrowShelf<S: Shelf + Drop> {
     inner: S,
@@ -16,7 +17,8 @@ pub struct NarrowShelf<S: Shelf + Drop> {
 }
 
 impl<S: Shelf + Drop> NarrowShelf<S> {
-    /// The `at`-th call but `faults`, counted from 1, answers `Fault::Memory`, and performs nothing. With `for_good` every later one does too.
+    /// The `at`-th call but `faults`, counted from 1, answers `Fault::Memory`, and performs nothing. With
+    /// `for_good` every later one does too.
     pub fn new(shelf: S, at: u64, for_good: bool) -> NarrowShelf<S> {
         NarrowShelf {
             inner: shelf,

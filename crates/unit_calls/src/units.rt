@@ -45,7 +45,8 @@ pub fn creates<L: Library>(library: &mut L, u: usize, schema: &Schema) -> Result
 /// Opens the file of a unit, where it is sound and of this schema.
 pub fn opens<L: Library>(library: &mut L, u: usize, schema: &Schema) -> Result<Told, Fault>
     requires { IsNotOpen (L.shown.world library.old) u }
-    ensures opened { IfOk result (λ told. told ≡ Sound → IsOpenWith (L.shown.world library.new) u schema.now) }
+    ensures opened { IfOk result
+        (λ told. told ≡ Sound → IsOpenWith (L.shown.world library.new) u schema.now) }
     ensures failed { OnErr result (IsNotOpen (L.shown.world library.new) u) }
 {
     match library.look(u)? {
@@ -205,7 +206,8 @@ fn new_area(bytes: usize) -> Record
     area
 }
 
-/// Reads the first record with this value of a key. A key that the schema does not have is `Damage`, here and below.
+/// Reads the first record with this value of a key. A key that the schema does not have is `Damage`, here and
+/// below.
 pub fn finds<L: Library>(
     library: &mut L,
     u: usize,

@@ -25,7 +25,8 @@ pub struct Worked {
     pub refused: &'static [Step],
 }
 
-/// Decks that are run one after another over the same files, each as its divisions but the statements, and its steps.
+/// Decks that are run one after another over the same files, each as its divisions but the statements, and
+/// its steps.
 #[derive(Clone, Copy)]
 pub struct Runs {
     pub decks: &'static [(&'static str, &'static [Step])],

@@ -1,4 +1,5 @@
-//! Worked decks, for tests of their runs: each statement beside the line that it gives in the transcript, and what the file reads as before and after.
+//! Worked decks, for tests of their runs: each statement beside the line that it gives in the transcript, and
+//! what the file reads as before and after.
 //!
 //! Read `decks` for what a worked deck is, then `plain_customers`, the least of them.
 #![tactic(auto)]

@@ -45,7 +45,8 @@ pub const DUPLICATES_IN_ORDER: Worked = Worked {
     refused: REFUSED,
 };
 
-/// REWRITE keeps the place of a record among duplicates while its value stays, and puts it last when the value comes back.
+/// REWRITE keeps the place of a record among duplicates while its value stays, and puts it last when the
+/// value comes back.
 pub const A_DUPLICATE_REWRITTEN: Worked = Worked {
     heading: CUSTOMERS,
     file: "CUST",

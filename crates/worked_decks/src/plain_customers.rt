@@ -1,4 +1,5 @@
-//! Decks of customers that are read and written in order, each statement beside the line that it gives in the transcript.
+//! Decks of customers that are read and written in order, each statement beside the line that it gives in the
+//! transcript.
 
 use crate::decks::{Step, Worked};
 

@@ -1,4 +1,5 @@
-//! Decks that are run one after another over the same files, each statement beside the line that it gives in the transcript.
+//! Decks that are run one after another over the same files, each statement beside the line that it gives in
+//! the transcript.
 
 use crate::customers::{CUSTOMERS, THREE_CITIES};
 use crate::decks::Runs;

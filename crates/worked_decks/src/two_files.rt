@@ -1,4 +1,5 @@
-//! A deck of two files, whose statements stand among one another, each beside the line that it gives in the transcript.
+//! A deck of two files, whose statements stand among one another, each beside the line that it gives in the
+//! transcript.
 
 use crate::decks::{Step, Worked};
 

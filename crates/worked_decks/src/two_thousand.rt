@@ -47,8 +47,8 @@ fn deliver(
     lines.push_str(&line)
 }
 
-/// Records 1 to 2,000 are written, whose second key is their number modulo 7; those of even numbers are deleted, and what is left is read by both keys.
-/// Each key has so many bytes behind its four digits.
+/// Records 1 to 2,000 are written, whose second key is their number modulo 7; those of even numbers are
+/// deleted, and what is left is read by both keys. Each key has so many bytes behind its four digits.
 pub fn deck_of_two_thousand(alloc: Global, more: usize) -> Result<String, AllocError> {
     let mut deck = String::from_str(alloc, HEADING)?;
     deck.push_str(&items(alloc, more)?)?;
@@ -72,7 +72,8 @@ pub fn deck_of_two_thousand(alloc: Global, more: usize) -> Result<String, AllocE
     Ok(deck)
 }
 
-/// Its lines. The first record of each of seven values is no duplicate, and the last that is read of each has none behind it.
+/// Its lines. The first record of each of seven values is no duplicate, and the last that is read of each has
+/// none behind it.
 pub fn lines_of_two_thousand(alloc: Global, more: usize) -> Result<String, AllocError> {
     let spaces = format!(in alloc; "{:more$}", "")?;
     let mut lines = String::from_str(alloc, "OPEN OUTPUT BIG 00\n")?;

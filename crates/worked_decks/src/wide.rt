@@ -1,4 +1,5 @@
-//! A deck of records of which a page holds one, each statement beside the line that it gives in the transcript.
+//! A deck of records of which a page holds one, each statement beside the line that it gives in the
+//! transcript.
 
 use crate::decks::Step;
 

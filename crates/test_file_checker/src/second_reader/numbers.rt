@@ -14,7 +14,8 @@ pub fn part(bytes: &[u8], at: usize, length: usize) -> Result<&[u8], Refusal> {
     Ok(&bytes[at..end])
 }
 
-/// The number in so many bytes from one place on, the first of which weighs most; 0 where they are not all there.
+/// The number in so many bytes from one place on, the first of which weighs most; 0 where they are not all
+/// there.
 pub fn number(bytes: &[u8], at: usize, length: usize) -> u64 {
     let mut number = 0u64;
     if let Ok(digits) = part(bytes, at, length) {

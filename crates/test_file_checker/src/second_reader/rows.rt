@@ -65,7 +65,8 @@ fn are_stamps(stamps: &[u8], next: u64) -> bool {
     true
 }
 
-/// The entry of an alternate key is that of its record, whose stamp stands from this byte of the stamps on; in a unique key it is 0.
+/// The entry of an alternate key is that of its record, whose stamp stands from this byte of the stamps on;
+/// in a unique key it is 0.
 fn is_alternate(rows: &[Row<'_>], entry: &[u8], key: KeyRow, stamp: usize) -> Result<(), Refusal> {
     let behind = key.length.saturating_add(8);
     let prime = part(entry, behind, entry.len().saturating_sub(behind))?;

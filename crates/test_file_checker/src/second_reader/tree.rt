@@ -95,7 +95,8 @@ fn leaves<'a>(
     Ok(entries)
 }
 
-/// The page of a node of this kind, and how many entries or separators it has: so many at most, and half of that but for the root.
+/// The page of a node of this kind, and how many entries or separators it has: so many at most, and half of
+/// that but for the root.
 fn node_page<'a>(
     bytes: &'a [u8],
     tree: Tree,
