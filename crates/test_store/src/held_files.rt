@@ -5,7 +5,7 @@ ghost use Rattle.page_store.specs.ShelfState.{HasUnit};
 use crate::checks::{assert_equal, assert_equal_for, assert_that};
 use crate::files::{Found, begin, change, find, make};
 use crate::refusing_system::{Change, Refusals, Refusing};
-use crate::shelves::name;
+use crate::shelves::{name, name_of};
 use folder_shelf::{EmptyDisk, FolderShelf};
 use io_state::{Fault, FileName};
 use page_store::{Shelf, Store};
@@ -28,6 +28,10 @@ enum Act {
     Change(u8),
     /// It opens the gate, and stops.
     Begin,
+    /// It lets its files go, attaches this one by both of its names, and opens the gate by the second.
+    BeginByLink,
+    /// It lets its files go, and attaches one of another name.
+    AttachOther,
 }
 
 /// What it is answered: what it finds, or that it is done.
@@ -55,6 +59,11 @@ fn answer_to<S: Shelf>(run: &mut S, act: Act) -> Answer
         Act::Make(byte) => make(run, 3, byte)?,
         Act::Change(byte) => change(run, 3, byte)?,
         Act::Begin => begin(run, 0)?,
+        Act::BeginByLink => {
+            run.attach(&[name(), second_name()])?;
+            begin(run, 1)?;
+        }
+        Act::AttachOther => run.attach(&[second_name()])?,
     }
     DONE
 }
@@ -113,6 +122,19 @@ where
     Ok(run)
 }
 
+// Each step of a run over the files of a folder, with these refusals, beside what it is answered.
+fn perform_over(
+    test: &impl Abort,
+    rt: HostRuntime,
+    refusals: &Refusals,
+    folder: &str,
+    steps: &[(Act, Answer)],
+) -> Result<(), Fail> {
+    let mut run = run_over(refusals.over(rt), rt.alloc(), folder)?;
+    perform(test, &mut run, steps);
+    Ok(())
+}
+
 // Makes a folder of this name, with a file of three pages in it.
 fn make_file(rt: HostRuntime, folder: &str) -> Result<(), Fail> {
     let _ = fs::remove_dir_all(&rt, folder);
@@ -129,6 +151,14 @@ fn has_bytes(rt: &impl Abort, found: io::Result<Vec<u8>>, bytes: &[u8]) {
     }
 }
 
+// A file was read before, and has the same bytes now.
+fn has_same_bytes(rt: &impl Abort, found: io::Result<Vec<u8>>, before: &io::Result<Vec<u8>>) {
+    match before {
+        Ok(before) => has_bytes(rt, found, before.as_slice()),
+        Err(_) => assert_that(rt, false),
+    }
+}
+
 // Makes such a folder without its file.
 fn make_folder(rt: HostRuntime, folder: &str, file: &str) -> Result<(), Fail> {
     make_file(rt, folder)?;
@@ -136,9 +166,34 @@ fn make_folder(rt: HostRuntime, folder: &str, file: &str) -> Result<(), Fail> {
 }
 
 fn second_name() -> FileName {
-    let mut name = FileName::new();
-    name.push_str("LINK");
-    name
+    name_of("LINK")
+}
+
+const NEITHER_READ_NOR_MADE: [(Act, Answer); 2] = [(Act::Find, REFUSED), (Act::Make(2), REFUSED)];
+
+// The first run makes a file, which the second finds once it is made and let go.
+fn is_read_once_it_is_let_go<S: Shelf>(
+    rt: &impl Abort,
+    first: &mut S,
+    second: &mut S,
+) -> Result<(), Fault>
+    requires first { HasUnit (S.state first.old) 0 }
+    requires second { HasUnit (S.state second.old) 0 }
+{
+    let store = Store::make(first, 0)?;
+    perform(rt, second, &NEITHER_READ_NOR_MADE);
+    store.finish(first)?;
+    assert_equal(rt, find(second), Err(Fault::Device));
+    lets_go(rt, first, second, Found::Refused)
+}
+
+// A run lets its files go, and another finds this.
+fn lets_go<S: Shelf>(rt: &impl Abort, run: &mut S, other: &mut S, found: Found) -> Result<(), Fault>
+    requires other { HasUnit (S.state other.old) 0 }
+{
+    run.attach(&[])?;
+    assert_equal(rt, find(other), Ok(found));
+    Ok(())
 }
 
 #[test]
@@ -146,16 +201,8 @@ fn a_file_that_is_made_is_read_by_no_other_run(rt: HostRuntime) -> Result<(), Fa
     make_folder(rt, "made_and_read", "made_and_read/CUST")?;
     let mut first = run_over(rt, rt.alloc(), "made_and_read")?;
     let mut second = run_over(rt, rt.alloc(), "made_and_read")?;
-    let store = Store::make(&mut first, 0)?;
-    perform(
-        &rt,
-        &mut second,
-        &[(Act::Find, REFUSED), (Act::Make(2), REFUSED)],
-    );
-    store.finish(&mut first)?;
-    assert_equal(&rt, find(&mut second), Err(Fault::Device));
-    first.attach(&[])?;
-    assert_equal(&rt, find(&mut second), Ok(Found::Refused));
+    let made = is_read_once_it_is_let_go(&rt, &mut first, &mut second);
+    assert_equal(&rt, made, Ok(()));
     has_bytes(&rt, fs::read(&rt, "made_and_read/CUST"), b"C");
     Ok(())
 }
@@ -179,15 +226,15 @@ const CHANGED_BY_THE_SECOND: [(Run, Act, Answer); 4] = [
 #[test]
 fn a_file_that_another_run_has_read_is_not_changed(rt: HostRuntime) -> Result<(), Fail> {
     make_file(rt, "read_and_changed")?;
-    let before = fs::read(&rt, "read_and_changed/CUST")?;
+    let before = fs::read(&rt, "read_and_changed/CUST");
     let mut first = run_over(rt, rt.alloc(), "read_and_changed")?;
     let mut second = run_over(rt, rt.alloc(), "read_and_changed")?;
     perform_both(&rt, &mut first, &mut second, &READ_BY_BOTH);
     let after = fs::read(&rt, "read_and_changed/CUST");
-    has_bytes(&rt, after, before.as_slice());
+    has_same_bytes(&rt, after, &before);
     perform_both(&rt, &mut first, &mut second, &CHANGED_BY_THE_SECOND);
-    second.attach(&[])?;
-    assert_equal(&rt, find(&mut first), Ok(Found::Closed(2, 3)));
+    let done = lets_go(&rt, &mut second, &mut first, Found::Closed(2, 3));
+    assert_equal(&rt, done, Ok(()));
     Ok(())
 }
 
@@ -211,58 +258,56 @@ fn of_two_changes_at_once_one_is_made_and_one_refused(rt: HostRuntime) -> Result
     Ok(())
 }
 
+const BEGUN_AND_FOUND: [(Act, Answer); 2] = [(Act::BeginByLink, DONE), (Act::Find, REFUSED)];
+
+// Its gate is open already, so that it is only read.
+const BEGUN_AND_MADE: [(Act, Answer); 2] = [(Act::BeginByLink, DONE), (Act::Make(2), REFUSED)];
+
 #[test]
 fn two_names_of_one_file_are_two_that_have_it_open(rt: HostRuntime) -> Result<(), Fail> {
     make_file(rt, "two_names")?;
     fs::hard_link(&rt, "two_names/CUST", "two_names/LINK")?;
     let mut run = run_over(rt, rt.alloc(), "two_names")?;
-    run.attach(&[name(), second_name()])?;
-    assert_equal(&rt, begin(&mut run, 1), Ok(()));
-    assert_equal(&rt, find(&mut run), Err(Fault::Device));
-    let before = fs::read(&rt, "two_names/CUST")?;
-    run.attach(&[name(), second_name()])?;
-    // Its gate is open already, so that it is only read.
-    assert_equal(&rt, begin(&mut run, 1), Ok(()));
-    assert_equal(&rt, make(&mut run, 3, 2), Err(Fault::Device));
-    has_bytes(&rt, fs::read(&rt, "two_names/CUST"), before.as_slice());
+    perform(&rt, &mut run, &BEGUN_AND_FOUND);
+    let before = fs::read(&rt, "two_names/CUST");
+    perform(&rt, &mut run, &BEGUN_AND_MADE);
+    has_same_bytes(&rt, fs::read(&rt, "two_names/CUST"), &before);
     Ok(())
 }
 
-// Why a file is not opened for writing, and what is found then.
-const ONLY_READ: [(ErrorKind, Answer); 4] = [
-    (ErrorKind::PermissionDenied, MADE_FIRST),
-    (ErrorKind::ReadOnlyFilesystem, MADE_FIRST),
-    (ErrorKind::NotFound, REFUSED),
-    (ErrorKind::Other, REFUSED),
+const ONLY_READ: [(Act, Answer); 4] = [
+    (Act::Find, MADE_FIRST),
+    (Act::Change(2), REFUSED),
+    (Act::Make(2), REFUSED),
+    (Act::Find, MADE_FIRST),
+];
+
+const NOT_OPENED: [(Act, Answer); 4] = [
+    (Act::Find, REFUSED),
+    (Act::Change(2), REFUSED),
+    (Act::Make(2), REFUSED),
+    (Act::Find, REFUSED),
+];
+
+// Why a file is not opened for writing, and what a run is answered then.
+const NOT_WRITTEN: [(ErrorKind, &[(Act, Answer)]); 4] = [
+    (ErrorKind::PermissionDenied, &ONLY_READ),
+    (ErrorKind::ReadOnlyFilesystem, &ONLY_READ),
+    (ErrorKind::NotFound, &NOT_OPENED),
+    (ErrorKind::Other, &NOT_OPENED),
 ];
 
 #[test]
 fn a_file_that_may_only_be_read_is_read_whole_and_not_changed(rt: HostRuntime) -> Result<(), Fail> {
     make_file(rt, "only_read")?;
-    let before = fs::read(&rt, "only_read/CUST")?;
+    let before = fs::read(&rt, "only_read/CUST");
     let refusals = Refusals::none();
-    for &(reason, found) in &ONLY_READ {
+    for &(reason, steps) in &NOT_WRITTEN {
         refusals.writing.set(Some(reason));
-        let mut run = run_over(refusals.over(rt), rt.alloc(), "only_read")?;
-        perform(
-            &rt,
-            &mut run,
-            &[
-                (Act::Find, found),
-                (Act::Change(2), REFUSED),
-                (Act::Make(2), REFUSED),
-                (Act::Find, found),
-            ],
-        );
-        has_bytes(&rt, fs::read(&rt, "only_read/CUST"), before.as_slice());
+        perform_over(&rt, rt, &refusals, "only_read", steps)?;
+        has_same_bytes(&rt, fs::read(&rt, "only_read/CUST"), &before);
     }
     Ok(())
-}
-
-// What another run finds, and lets go.
-fn found_by_another(rt: HostRuntime) -> Result<Found, Fail> {
-    let mut other = run_over(rt, rt.alloc(), "between_two_locks")?;
-    Ok(find(&mut other)?)
 }
 
 fn set(bytes: &mut [u8], at: usize, byte: u8) {
@@ -290,6 +335,34 @@ const MEANWHILE: [(Change, Answer, Found); 4] = [
     (Change::Times, REFUSED, Found::Closed(1, 3)),
 ];
 
+// A run that has read the file begins to change it, and this happens meanwhile.
+fn begin_after<S: Shelf>(
+    test: &impl Abort,
+    run: &mut S,
+    refusals: &Refusals,
+    meanwhile: Change,
+    answer: Answer,
+)
+    requires unit { HasUnit (S.state run.old) 0 }
+    ensures unit { HasUnit (S.state run.new) 0 }
+{
+    assert_equal_for(test, meanwhile, answer_to(run, Act::Find), MADE_FIRST);
+    refusals.change.set(meanwhile);
+    assert_equal_for(test, meanwhile, answer_to(run, Act::Begin), answer);
+}
+
+// Another run finds this, and lets it go.
+fn another_finds(
+    test: &impl Abort,
+    rt: HostRuntime,
+    meanwhile: Change,
+    found: Found,
+) -> Result<(), Fail> {
+    let mut other = run_over(rt, rt.alloc(), "between_two_locks")?;
+    assert_equal_for(test, meanwhile, find(&mut other), Ok(found));
+    Ok(())
+}
+
 // Another run has the file, and lets it go, while the shared lock is made exclusive.
 fn changes_between_two_locks(
     test: &impl Abort,
@@ -299,17 +372,15 @@ fn changes_between_two_locks(
     found: Found,
 ) -> Result<(), Fail> {
     make_file(rt, "between_two_locks")?;
+    let expected = changed(fs::read(&rt, "between_two_locks/CUST")?, meanwhile)?;
     let refusals = Refusals::none();
     let mut run = run_over(refusals.over(rt), rt.alloc(), "between_two_locks")?;
-    assert_equal_for(test, meanwhile, answer_to(&mut run, Act::Find), MADE_FIRST);
-    let expected = changed(fs::read(&rt, "between_two_locks/CUST")?, meanwhile)?;
-    refusals.change.set(meanwhile);
-    assert_equal_for(test, meanwhile, answer_to(&mut run, Act::Begin), answer);
+    begin_after(test, &mut run, &refusals, meanwhile, answer);
     let left = fs::read(&rt, "between_two_locks/CUST");
     has_bytes(test, left, expected.as_slice());
     // What reads the file anew may change it.
     if answer == REFUSED {
-        assert_equal_for(test, meanwhile, found_by_another(rt)?, found);
+        another_finds(test, rt, meanwhile, found)?;
         perform(
             test,
             &mut run,
@@ -329,13 +400,14 @@ fn a_file_that_was_changed_between_two_locks_is_not_changed_again(
     Ok(())
 }
 
+const NOT_MADE: [(Act, Answer); 1] = [(Act::Make(2), REFUSED)];
+
 #[test]
 fn a_file_that_another_run_had_first_is_not_made(rt: HostRuntime) -> Result<(), Fail> {
     make_folder(rt, "had_first", "had_first/CUST")?;
     let refusals = Refusals::none();
-    let mut run = run_over(refusals.over(rt), rt.alloc(), "had_first")?;
     refusals.change.set(Change::Length);
-    assert_equal(&rt, make(&mut run, 3, 2), Err(Fault::Device));
+    perform_over(&rt, rt, &refusals, "had_first", &NOT_MADE)?;
     has_bytes(&rt, fs::read(&rt, "had_first/CUST"), b"\0");
     Ok(())
 }
@@ -346,6 +418,12 @@ const WITHOUT_LOCKS: [(Run, Act, Answer); 3] = [
     (Run::First, Act::Find, WRITTEN_WITH_2),
 ];
 
+const MADE_AGAIN: [(Act, Answer); 3] = [
+    (Act::Attach, DONE),
+    (Act::Make(3), DONE),
+    (Act::Find, WRITTEN_WITH_3),
+];
+
 #[test]
 fn a_system_without_locks_is_as_if_each_was_had(rt: HostRuntime) -> Result<(), Fail> {
     make_file(rt, "no_locks")?;
@@ -354,16 +432,32 @@ fn a_system_without_locks_is_as_if_each_was_had(rt: HostRuntime) -> Result<(), F
     let mut first = run_over(refusals.over(rt), rt.alloc(), "no_locks")?;
     let mut second = run_over(refusals.over(rt), rt.alloc(), "no_locks")?;
     perform_both(&rt, &mut first, &mut second, &WITHOUT_LOCKS);
-    fs::remove_file(&rt, "no_locks/CUST")?;
-    perform(
-        &rt,
-        &mut first,
-        &[
-            (Act::Attach, DONE),
-            (Act::Make(3), DONE),
-            (Act::Find, WRITTEN_WITH_3),
-        ],
-    );
+    assert_that(&rt, fs::remove_file(&rt, "no_locks/CUST").is_ok());
+    perform(&rt, &mut first, &MADE_AGAIN);
+    Ok(())
+}
+
+// Neither by the same file nor by another one.
+const NEVER_MADE: [(Act, Answer); 3] = [
+    (Act::Make(2), REFUSED),
+    (Act::AttachOther, DONE),
+    (Act::Make(2), REFUSED),
+];
+
+// A later run cannot see it any more.
+const MADE_LATER: [(Act, Answer); 2] = [(Act::Make(2), DONE), (Act::Find, WRITTEN_WITH_2)];
+
+// The next sync of the folder fails: a run makes no file in it any more.
+fn folder_is_not_synced(
+    test: &impl Abort,
+    rt: HostRuntime,
+    refusals: &Refusals,
+) -> Result<(), Fail> {
+    let mut run = run_over(refusals.over(rt), rt.alloc(), "folder_sync")?;
+    refusals.folder_sync.set(true);
+    perform(test, &mut run, &NOT_MADE);
+    assert_that(test, !refusals.folder_sync.get());
+    perform(test, &mut run, &NEVER_MADE);
     Ok(())
 }
 
@@ -371,20 +465,6 @@ fn a_system_without_locks_is_as_if_each_was_had(rt: HostRuntime) -> Result<(), F
 fn a_sync_of_the_folder_that_failed_stays_failed(rt: HostRuntime) -> Result<(), Fail> {
     make_folder(rt, "folder_sync", "folder_sync/CUST")?;
     let refusals = Refusals::none();
-    let mut run = run_over(refusals.over(rt), rt.alloc(), "folder_sync")?;
-    refusals.folder_sync.set(true);
-    assert_equal(&rt, make(&mut run, 3, 2), Err(Fault::Device));
-    assert_that(&rt, !refusals.folder_sync.get());
-    // Neither by the same file nor by another one.
-    assert_equal(&rt, make(&mut run, 3, 2), Err(Fault::Device));
-    run.attach(&[second_name()])?;
-    assert_equal(&rt, make(&mut run, 3, 2), Err(Fault::Device));
-    // A later run cannot see it any more.
-    let mut later = run_over(refusals.over(rt), rt.alloc(), "folder_sync")?;
-    perform(
-        &rt,
-        &mut later,
-        &[(Act::Make(2), DONE), (Act::Find, WRITTEN_WITH_2)],
-    );
-    Ok(())
+    folder_is_not_synced(&rt, rt, &refusals)?;
+    perform_over(&rt, rt, &refusals, "folder_sync", &MADE_LATER)
 }

@@ -8,10 +8,16 @@ use memory_shelf::MemShelf;
 use page_store::Shelf;
 use std::alloc::Global;
 
+/// The name of a file; none of these texts is too long for one.
+pub fn name_of(text: &str) -> FileName {
+    match FileName::from(text) {
+        Ok(name) => name,
+        Err(_) => FileName::new(),
+    }
+}
+
 pub fn name() -> FileName {
-    let mut name = FileName::new();
-    name.push_str("CUST");
-    name
+    name_of("CUST")
 }
 
 pub fn new_shelf(alloc: Global) -> Result<MemShelf, Fault>
