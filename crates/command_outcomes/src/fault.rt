@@ -34,7 +34,7 @@ impl fmt::Display for RefusedDeck {
 /// | Fault | Exit status | On standard error |
 /// |---|---|---|
 /// | the deck is refused | 2 | `cobix: line L: fault C` |
-/// | a deck that was to be listed, or written in COBOL, is refused | 2 | the same, then the line, the word and why |
+/// | a deck to be listed, or written in COBOL, is refused | 2 | the same, then line, word and reason |
 /// | the command line is not understood | 3 | why, and the usage |
 /// | a deck has no such file | 3 | `cobix: the deck has no file of this name` |
 /// | there is no such form of a list, or `--deck` or `--file` is alone | 3 | `cobix: `, and why |

@@ -74,7 +74,14 @@ impl Model for FileControlEntry {
 
     ghost Value = { Entry };
 
-    ghost view = { λ e. record { name = e.name.bytes; file_name = e.file_name.bytes; optional = e.optional; access = e.access; record_key = e.record_key.bytes; alternate_keys = e.alternate_keys } };
+    ghost view = { λ e. record {
+      name = e.name.bytes;
+      file_name = e.file_name.bytes;
+      optional = e.optional;
+      access = e.access;
+      record_key = e.record_key.bytes;
+      alternate_keys = e.alternate_keys;
+    } };
 }
 
 /// An entry, and the line of its word SELECT. Contracts see the entry.
@@ -126,7 +133,13 @@ impl Model for Clauses {
 
     ghost Value = { Said };
 
-    ghost view = { λ c. record { indexed = c.indexed; access = c.access; record_key = option_map (λ key. key.bytes) c.record_key; alternate_keys = c.alternate_keys; status = c.status } };
+    ghost view = { λ c. record {
+      indexed = c.indexed;
+      access = c.access;
+      record_key = option_map (λ key. key.bytes) c.record_key;
+      alternate_keys = c.alternate_keys;
+      status = c.status;
+    } };
 }
 
 impl Clauses {

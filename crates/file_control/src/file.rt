@@ -45,7 +45,16 @@ impl Model for FileDesc {
 
     ghost Value = { File };
 
-    ghost view = { λ f. record { name = f.name.bytes; file = f.file.bytes; access = f.access; optional = f.optional; entry = option_map (λ name. name.bytes) f.entry; layout = f.layout; schema = f.schema; depends_on = f.depends_on } };
+    ghost view = { λ f. record {
+      name = f.name.bytes;
+      file = f.file.bytes;
+      access = f.access;
+      optional = f.optional;
+      entry = option_map (λ name. name.bytes) f.entry;
+      layout = f.layout;
+      schema = f.schema;
+      depends_on = f.depends_on;
+    } };
 
     ghost invariant = { λ f. AreFields f.fields f.layout };
 }

@@ -33,7 +33,10 @@ impl Model for ListFile {
 
     ghost Value = { Stored };
 
-    ghost view = { λ f. record { schema = f.schema; file = record { rows = f.rows.items; next_stamp = f.next_stamp } } };
+    ghost view = { λ f. record {
+      schema = f.schema;
+      file = record { rows = f.rows.items; next_stamp = f.next_stamp };
+    } };
 
     ghost invariant = { λ f. IsStored f.schema (record { rows = f.rows.items; next_stamp = f.next_stamp }) };
 }

@@ -39,7 +39,8 @@ impl MemShelf {
 
     /// The shelf that a crash leaves. It has no unit until it is attached, and no fault is counted.
     pub fn crash(&self, alloc: Global, image: Image) -> Result<MemShelf, Fault>
-        ensures files { IfOk result (λ shelf. EachCrashed image (mem_state_of self.now) (mem_state_of shelf)) }
+        ensures files { IfOk result (λ shelf.
+            EachCrashed image (mem_state_of self.now) (mem_state_of shelf)) }
         ensures units { IfOk result (λ shelf. (mem_state_of shelf).names ≡ []) }
         ensures only_memory { IsOkUnless result Memory }
     {

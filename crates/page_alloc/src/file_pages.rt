@@ -38,8 +38,11 @@ impl<'a, S: Shelf> Pages for FilePages<'a, S> {
       HasFailed = λ a b. Failed (S.Shelf.fault_count a.shelf.now) (S.Shelf.fault_count b.shelf.now);
     } };
 
-    ghost reads_nothing = { λ a.
-        (refl, refl, reads_nothing a.file.now (S.Shelf.state a.shelf.now) (S.Shelf.fault_count a.shelf.now)) };
+    ghost reads_nothing = { λ a. (
+      refl,
+      refl,
+      reads_nothing a.file.now (S.Shelf.state a.shelf.now) (S.Shelf.fault_count a.shelf.now),
+    ) };
 
     ghost reads_on = { λ a b c ab bc.
         (bc.0 ∙ ab.0, bc.1 ∙ ab.1, reads_on a.file.now b.file.now c.file.now _ _ _ _ _ _ ab.2 bc.2) };

@@ -74,7 +74,8 @@ pub trait Pages {
     ghost reads_sound: { (a b : Self) → shown.Reads a b → IsTrue (shown.state b).is_honest
         → (shown.state b).is_sound ≡ (shown.state a).is_sound };
 
-    ghost reads_available: { (a b : Self) → shown.Reads a b → (shown.state b).available ≡ (shown.state a).available };
+    ghost reads_available: { (a b : Self) → shown.Reads a b
+        → (shown.state b).available ≡ (shown.state a).available };
 
     /// Doing nothing is such a step, and two in a row are one. The gate stays open.
     ghost writes_nothing: { (a : Self) → shown.Writes a a };
@@ -83,7 +84,8 @@ pub trait Pages {
 
     ghost writes_begins: { (a b : Self) → shown.Writes a b → shown.Begins a b };
 
-    ghost writes_honestly: { (a b : Self) → shown.Writes a b → IsTrue (shown.state b).is_honest → IsTrue (shown.state a).is_honest };
+    ghost writes_honestly: { (a b : Self) → shown.Writes a b
+        → IsTrue (shown.state b).is_honest → IsTrue (shown.state a).is_honest };
 
     ghost writes_ready: { (a b : Self) → shown.Writes a b → shown.IsReady a → shown.IsReady b };
 
@@ -99,7 +101,8 @@ pub trait Pages {
     /// The same of any call.
     ghost begins_on: { (a b c : Self) → shown.Begins a b → shown.Begins b c → shown.Begins a c };
 
-    ghost begins_honestly: { (a b : Self) → shown.Begins a b → IsTrue (shown.state b).is_honest → IsTrue (shown.state a).is_honest };
+    ghost begins_honestly: { (a b : Self) → shown.Begins a b
+        → IsTrue (shown.state b).is_honest → IsTrue (shown.state a).is_honest };
 
     ghost begins_ready: { (a b : Self) → shown.Begins a b → shown.IsReady a → shown.IsReady b };
 

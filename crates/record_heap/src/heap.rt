@@ -21,7 +21,8 @@ impl Heap {
     ghost use Rattle.pages.specs.PageMap.{PageMap};
     ghost use Rattle.record_heap.specs.Chain.{no_slots};
     ghost use Rattle.record_heap.specs.Calls.{MayChange, MayFill, ReadsStamped, ReadsUnstamped};
-    ghost use Rattle.record_heap.specs.Standing.{HeapStands, slot_shape, first_heap_page, first_free_slot, heap_with};
+    ghost use Rattle.record_heap.specs.Standing.{HeapStands, heap_with};
+    ghost use Rattle.record_heap.specs.Standing.{slot_shape, first_heap_page, first_free_slot};
     ghost use Rattle.record_heap.specs.Order.{AddsToHeap, SetsSlot, MakesFreeSlot};
     ghost use Rattle.record_heap.specs.Found.{Got, GotRecord, MayGrow};
 

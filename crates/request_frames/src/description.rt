@@ -9,8 +9,10 @@
 //! | 4 to 5 | least length of a record |
 //! | 6 to 7 | greatest length of a record |
 //! | 8 | number of keys, k: 1 to 9 |
-//! | 9 to 8 + 5 k | for each key, the prime key first: offset (2), length (2), 1 where duplicates are allowed, else 0 (1) |
+//! | 9 to 8 + 5 k | for each key, the prime key first: offset (2), length (2), duplicates (1) |
 //! | 9 + 5 k to the end | the file's name in its folder |
+//!
+//! The byte for duplicates is 1 where the key allows them, else 0.
 ghost use Rattle.std.specs.Prelude.{◌≡◌, ◌≤◌, ◌*◌, length, option_map};
 ghost use Rattle.request_frames.specs.Request.{described_of};
 ghost use Rattle.request_frames.specs.Reading.{access_in, kind_by_flag, key_in, keys_in, described_in};

@@ -5,7 +5,9 @@
 //! | 0 | 2 |
 //! | 1 | number of the file |
 //! | 2 | verb: 0 OPEN, 1 CLOSE, 2 READ NEXT, 3 READ, 4 START, 5 WRITE, 6 REWRITE, 7 DELETE |
-//! | 3 | OPEN: 0 INPUT, 1 OUTPUT, 2 I-O, 3 EXTEND; CLOSE: 1 WITH LOCK, else 0; START: 0 equal, 1 greater, 2 not less; else 0 |
+//! | 3 | OPEN: 0 INPUT, 1 OUTPUT, 2 I-O, 3 EXTEND |
+//! | 3 | CLOSE: 1 WITH LOCK, else 0 |
+//! | 3 | START: 0 equal, 1 greater, 2 not less; 0 for the other verbs |
 //! | 4 | READ, START: the key; else 0 |
 //! | 5 to 6 | START: how many of the key's first bytes are compared; else 0 |
 //! | 7 to 8 | WRITE, REWRITE: length of the record; else 0 |

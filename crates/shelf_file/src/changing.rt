@@ -41,7 +41,8 @@ impl ShelfFile {
     /// file is broken.
     pub fn remove<S: Shelf>(&mut self, shelf: &mut S, key: &Key) -> Result<bool, Fault>
         requires ready { IsReady self.old (S.state shelf.old) }
-        ensures { RemovesHeld S.state S.fault_count key.now.items self.old self.new shelf.old shelf.new result }
+        ensures { RemovesHeld S.state S.fault_count key.now.items
+            self.old self.new shelf.old shelf.new result }
     {
         let mut pages = FilePages {
             file: &mut self.pages,
