@@ -144,16 +144,6 @@ module _ {S : Type 0} (next : S → Rule S) (starts goes_on : List Class) (alike
       ∙ (bind_is (λ (a : S × List Word). reads_further_from next (length words) a.0 a.1) ((next s).reads (w ∷ words)) (u, middle) (reads_further_from next (length words) u middle) e refl
       ∙ more_turns (length words) (length middle) u middle (omega (arith, less)) (omega arith))
 
-  pub no_further : (s : S) (words : List Word) → begins (next s).starts words ≡ false → reads_further next s words ≡ Some (s, words)
-  no_further s [] i = refl
-  no_further s (w ∷ words) i = ap (λ b. cond b (option_and_then (λ (a : S × List Word). reads_further_from next (length words) a.0 a.1) ((next s).reads (w ∷ words))) (Some (s, w ∷ words))) i
-
-  pub refused_further : (s : S) (words : List Word) → begins (next s).starts words ≡ true → (next s).reads words ≡ None → reads_further next s words ≡ None
-  refused_further s [] i e = absurd (false≢true i)
-  refused_further s (w ∷ words) i e =
-      ap (λ b. cond b (option_and_then (λ (a : S × List Word). reads_further_from next (length words) a.0 a.1) ((next s).reads (w ∷ words))) (Some (s, w ∷ words))) i
-      ∙ ap (λ (o : Option (S × List Word)). option_and_then (λ (a : S × List Word). reads_further_from next (length words) a.0 a.1) o) e
-
   pub first_in_turn : (s u : S) (words middle : List Word) → (next s).reads words ≡ Some (u, middle) → reads_in_turn next s words ≡ reads_further next u middle
   first_in_turn s u words middle e =
       bind_is (λ (a : S × List Word). reads_further next a.0 a.1) ((next s).reads words) (u, middle) (reads_further next u middle) e refl

@@ -48,9 +48,6 @@ pub record ItemsSoFar (before names : List (List ℕ)) (storage rest : List Stor
   pub back : (all : List LengthItem) → AreItems before storage all → (more : List LengthItem) × AreItems names rest more
 
 module _ (before : List (List ℕ)) (storage : List StorageEntry) where
-  pub start_items : ItemsSoFar before before storage storage []
-  start_items = record { onward = λ more h. h; back = λ all h. (all, h) }
-
   behind_item : (names : List (List ℕ)) (entry : StorageEntry) (rest : List StorageEntry) (all : List LengthItem) → AreItems names (entry ∷ rest) all → (more : List LengthItem) × AreItems (names ++ entry.name ∷ []) rest more
   behind_item names entry rest [] h = absurd h
   behind_item names entry rest (item ∷ more) h = (more, h.3)

@@ -1,5 +1,5 @@
 -- 77-level items are made one by one, whatever their names are.
-use Rattle.std.proofs.Common.{◌≡◌, ℕ, List, [], ◌∷◌, ◌++◌, refl, sym, subst, append_assoc, length, arith}
+use Rattle.std.proofs.Common.{◌≡◌, ℕ, List, [], ◌∷◌, ◌++◌, refl, subst, length, arith}
 use Rattle.std.proofs.lemmas.List.{append-nil}
 use Rattle.deck_entries.specs.FileControlEntry.{FileControlEntry}
 use Rattle.deck_entries.specs.FileDescription.{FileDescription, StorageEntry}
@@ -12,20 +12,9 @@ pub record DigitsSoFar (storage rest : List StorageEntry) (items : List LengthIt
   pub back : (all : List LengthItem) → HaveDigits storage all → (more : List LengthItem) × HaveDigits rest more
 
 module _ (storage : List StorageEntry) where
-  pub start_digits : DigitsSoFar storage storage []
-  start_digits = record { onward = λ more h. h; back = λ all h. (all, h) }
-
   behind_one : (entry : StorageEntry) (rest : List StorageEntry) (all : List LengthItem) → HaveDigits (entry ∷ rest) all → (more : List LengthItem) × HaveDigits rest more
   behind_one entry rest [] h = absurd h
   behind_one entry rest (item ∷ more) h = (more, h.2)
-
-  pub step_digits : (entry : StorageEntry) (left rest : List StorageEntry) (items : List LengthItem) (item : LengthItem) → DigitsSoFar storage left items → left ≡ entry ∷ rest → item.name ≡ entry.name → HasDigits entry.picture item.digits → DigitsSoFar storage rest (items ++ item ∷ [])
-  step_digits entry left rest items item so is name digits =
-      let here = subst (λ es. DigitsSoFar storage es items) is so in
-      record {
-        onward = λ more h. subst (λ (xs : List LengthItem). HaveDigits storage xs) (sym (append_assoc items (item ∷ []) more)) (here.onward (item ∷ more) (name, digits, h));
-        back = λ all h. let b = here.back all h in behind_one entry rest b.0 b.1;
-      }
 
   no_digits : (entry : StorageEntry) (rest : List StorageEntry) → ((digits : ℕ) → HasDigits entry.picture digits → ⊥) → (all : List LengthItem) → HaveDigits (entry ∷ rest) all → ⊥
   no_digits entry rest none [] h = h

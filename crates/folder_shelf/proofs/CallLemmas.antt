@@ -4,7 +4,7 @@ use Rattle.std.proofs.lemmas.Bool.{cases_Bool, and_parts, le-leb}
 use Rattle.std.proofs.Common.{eq-eqb}
 use Rattle.std.proofs.lemmas.Slice.Eq.{bytes_eq-Decides}
 use Rattle.page_store.specs.DeviceFile.{DeviceFile, IsWithin, IsThere, overlay, content, created, wrote}
-use Rattle.page_store.specs.Calls.{ReadsBytes, Created, CreateFails, WrittenAt, WriteFails, Synced, SyncFails}
+use Rattle.page_store.specs.Calls.{ReadsBytes, Created, WrittenAt, WriteFails, Synced}
 use Rattle.page_store.specs.ShelfState.{ShelfState, unit_file, ChangesOnly}
 use Rattle.page_store.proofs.TornLemmas.{part_torn}
 use Rattle.folder_shelf.specs.Events.{Event, folder_path, named, made, read, held, written, flushed, asked}
@@ -51,13 +51,6 @@ module _ (disks : List ℕ → Unseen) (names : List (List ℕ)) (events : List 
 
   pub made_true : (done : Bool) (calls : List Event) → calls ≡ asked (made done) name events → done ≡ true → Created f (noted calls)
   made_true done calls is e = subst (λ (c : List Event). Created f (noted c)) (sym is) (record { is = made_file done ∙ rw e refl })
-
-  pub made_any : (done : Bool) → CreateFails f (unit_file (new (made done)) unit)
-  made_any done = go (done || disk.came (named name ∷ events)) (made_file done)
-    where
-      go : (there : Bool) → unit_file (new (made done)) unit ≡ record { seen = if there then Some [] else f.seen; log = f.log ++ created ∷ [] } → CreateFails f (unit_file (new (made done)) unit)
-      go true is = inr (inl (record { is = is }))
-      go false is = inr (inr is)
 
   pub made_only : (done : Bool) → (IsTrue old.is_honest → f.seen ≡ None) → ChangesOnly unit old (new (made done))
   made_only done absent = record { names = refl; others = λ n differs. rw (other n differs) refl; honest = both old.is_honest absent }
@@ -111,10 +104,6 @@ module _ (disks : List ℕ → Unseen) (names : List (List ℕ)) (events : List 
   -- a file was to be synced
   pub flushed_true : (done : Bool) (calls : List Event) → calls ≡ asked (flushed done) name events → done ≡ true → Synced f (noted calls)
   flushed_true done calls is e = subst (λ (c : List Event). Synced f (noted c)) (sym is) (record { is = rw (e, same) refl })
-
-  pub flushed_any : (done : Bool) → SyncFails f (unit_file (new (flushed done)) unit)
-  flushed_any true = inr (flushed_true true (asked (flushed true) name events) refl refl)
-  flushed_any false = inl refl
 
   pub flushed_only : (done : Bool) → (IsTrue old.is_honest → IsThere f) → ChangesOnly unit old (new (flushed done))
   flushed_only done there = record { names = refl; others = others done; honest = both old.is_honest there }

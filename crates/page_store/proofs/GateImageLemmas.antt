@@ -150,9 +150,6 @@ module _ (f : DeviceFile) (shut : AllRefused f) (read : Leaves f (Some (content 
   pub closing_synced : (g : DeviceFile) → Synced f g → Throughout (ClosedOrRefused f) f g
   closing_synced g = sync_done (ClosedOrRefused f) f g before (inr (shut (Some (content f)) read))
 
-  pub closing_sync_failed : (g : DeviceFile) → SyncFails f g → Throughout (ClosedOrRefused f) f g
-  closing_sync_failed g = sync_failed (ClosedOrRefused f) f g before (inr (shut (Some (content f)) read))
-
   closing : (g : DeviceFile) → Synced f g → (c : Option (List ℕ)) → MayLeave (after_step (durable g.log) (wrote 0 1)) c → ClosedOrRefused f c
   closing g so c may = cases (synced_byte f g so c may)
     where

@@ -3,12 +3,12 @@ use Rattle.std.proofs.Common.{◌≡◌, ◌⊎◌, inl, inr, ℕ, ◌<◌, ◌�
 use Rattle.std.proofs.lemmas.Bool.{cases_Bool, eqb-true}
 use Rattle.page_store.specs.DeviceFile.{DeviceFile, created, wrote, bytes_or_none, content}
 use Rattle.page_store.specs.Images.{Durable, after_step, durable, IsImage, MayLeave, Leaves}
-use Rattle.page_store.specs.Calls.{Created, CreateFails, Synced, SyncFails}
+use Rattle.page_store.specs.Calls.{Created, Synced}
 use Rattle.page_store.proofs.ImageLemmas.{durable_push}
 use Rattle.page_store.specs.Moments.{Throughout}
-use Rattle.page_store.proofs.MomentLemmas.{throughout_none, throughout_one, throughout_then, throughout_last}
+use Rattle.page_store.proofs.MomentLemmas.{throughout_one, throughout_then, throughout_last}
 use Rattle.page_store.specs.Gate.{IsClosed, IsRefused, WasOrRefused, GateWritten, GateFails, with_gate, opened_gate, Opens}
-use Rattle.page_store.proofs.GateImageLemmas.{gate_done, gate_failed, gate_content, gate_settled, refused_68, sync_done, sync_failed, synced_byte, content_synced, settled_synced}
+use Rattle.page_store.proofs.GateImageLemmas.{gate_done, gate_failed, gate_content, gate_settled, refused_68, sync_done, synced_byte, content_synced, settled_synced}
 
 -- in a file of which nothing was synced there is nothing behind the range
 one_byte : (c : List ℕ) → IsImage [] ((0, 1) ∷ []) c → length c ≤ 1
@@ -40,11 +40,6 @@ module _ (f : DeviceFile) (none : Leaves f None) where
   made g same = throughout_one P f g created same (λ c may. inl may)
       (λ c may. made_image (durable f.log) none c (subst (λ (d : Durable). MayLeave d c) (ap durable same ∙ durable_push f.log created) may))
 
-  pub making_failed : (g : DeviceFile) → CreateFails f g → Throughout (WasOrRefused f) f g
-  making_failed g (inl same) = throughout_none P f g (ap (λ (x : DeviceFile). x.log) same) (λ c may. inl may)
-  making_failed g (inr (inl so)) = made g (ap (λ (x : DeviceFile). x.log) so.is)
-  making_failed g (inr (inr noted)) = made g (ap (λ (x : DeviceFile). x.log) noted)
-
   during : (g : DeviceFile) → Created f g → (c : Option (List ℕ)) → MayLeave (after_step (durable g.log) (wrote 0 1)) c → WasOrRefused f c
   during g so c may =
       begun_image (durable f.log) none c (subst (λ (d : Durable). MayLeave (after_step d (wrote 0 1)) c) (ap durable (ap (λ (x : DeviceFile). x.log) so.is) ∙ durable_push f.log created) may)
@@ -66,9 +61,6 @@ module _ (f : DeviceFile) (empty : content f ≡ []) (read : Leaves f (Some (con
 
   pub emptied_done : (g : DeviceFile) → Synced f g → Throughout (WasOrRefused f) f g
   emptied_done g = sync_done Q f g (λ c may. inl may) (inl read)
-
-  pub emptied_failed : (g : DeviceFile) → SyncFails f g → Throughout (WasOrRefused f) f g
-  emptied_failed g = sync_failed Q f g (λ c may. inl may) (inl read)
 
   first_byte : (g : DeviceFile) → Synced f g → (c : Option (List ℕ)) → MayLeave (after_step (durable g.log) (wrote 0 1)) c → WasOrRefused f c
   first_byte g so c may = cases (synced_byte f g so c may)

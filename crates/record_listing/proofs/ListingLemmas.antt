@@ -1,10 +1,10 @@
 -- How a list ends.
-use Rattle.std.proofs.Common.{◌≡◌, inl, inr, ◌<◌, ℕ, true, false, List, [], length, Option, Result, Ok, Err, refl, sym, ap, ◌∙◌, append-nil}
+use Rattle.std.proofs.Common.{◌≡◌, inr, ◌<◌, ℕ, true, false, List, [], length, Option, Result, Ok, Err, refl, sym, ap, ◌∙◌, append-nil}
 use Rattle.std.specs.Prelude.{IsTrue, IfErr}
 use Rattle.io_state.specs.declared.fault.Fault.{Fault}
 use Rattle.io_state.specs.declared.fault.Fault.TheVariants.{Device, Memory as NoMemory, Full, Damage, Broken}
 use Rattle.record_layout.specs.Schema.{Schema}
-use Rattle.indexed_file.specs.declared.answer.Seen.TheVariants.{Sound, Absent as SeenAbsent, Unsound as SeenUnsound}
+use Rattle.indexed_file.specs.declared.answer.Seen.TheVariants.{Sound, Unsound as SeenUnsound}
 use Rattle.indexed_file.specs.File.{File}
 use Rattle.indexed_file.specs.Sound.{is_file}
 use Rattle.indexed_file.specs.World.{Named, Absent as NoFile, Closed, Unsound as Refused, name_at, holding_at, is_broken}
@@ -20,12 +20,6 @@ use Rattle.record_listing.specs.Reading.{IsWritten, IsWrittenInPart, MayStop, On
 use Rattle.record_listing.specs.Listing.{end_by, list_end_of, WritesFront, ListBreaksOff, EndsList, TellsWhy}
 use Rattle.record_listing.proofs.ListedLemmas.{are_listed}
 use Rattle.record_listing.proofs.WorldLemmas.{fault_later, fault_before, unbroken_fault}
-
--- nothing was written
-pub broken_off : (form : Form) (asked : Asked) (named : Named) (a : Option (List ℕ)) → ListBreaksOff form asked named a a
-broken_off form asked NoFile a = refl
-broken_off form asked Refused a = refl
-broken_off form asked (Closed schema file) a = inl refl
 
 -- what was found sound is closed
 pub is_closed : (named : Named) (schema : Schema) → Sound schema ≡ seen_of named → (file : File) × (named ≡ Closed schema file)
@@ -61,12 +55,6 @@ module _ {S : Type 0} (shown : Shown S) (a c : S) where
   tells Full may = absurd may
   tells Damage may = may.1
   tells Broken may = absurd (cc)
-
-  pub tells_end : (written : Result Unit Stop) (shut : Result Unit Fault) → IfErr written (MayStop shown a c) → IfErr shut (MayAnswerShut shown 0 a c) → TellsWhy shown (name_at (shown.world a) 0) a c (list_end_of written shut)
-  tells_end (Ok done) (Ok closed) may also = tt
-  tells_end (Ok done) (Err fault) may also = tells fault also
-  tells_end (Err (GaveUp fault)) shut may also = tells fault may
-  tells_end (Err NotTaken) shut may also = tt
 
   module _ (honest : IsTrue (shown.is_honest c)) (truly : shown.IsShownTruly a (name_at (shown.world a) 0)) where
     -- a call that gave up breaks the list off
