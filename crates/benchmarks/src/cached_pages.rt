@@ -1,4 +1,5 @@
-//! Lends the pages of a file through the cache, and tells how long it takes: of a new file in an empty folder, or of a few pages in memory.
+//! Lends the pages of a file through the cache, and tells how long it takes: of a new file in an
+//! empty folder, or of a few pages in memory.
 
 use crate::arguments::number;
 use crate::measured_file::{new_file, shelf_over};
@@ -137,7 +138,8 @@ fn in_memory(rt: &HostRuntime) -> anyhow::Result<()> {
     Ok(())
 }
 
-// The sum over rounds of pages that were filled, and the nanoseconds of the fastest one that read, and of the fastest that wrote.
+// The sum over rounds of pages that were filled, and the nanoseconds of the fastest one that read,
+// and of the fastest that wrote.
 fn work_in_rounds<P: Pages>(
     rt: &HostRuntime,
     pages: &mut P,

@@ -1,7 +1,9 @@
 //! Measures each call of the library of files in pages.
 //!
-//! A file is made in an empty folder, or in memory where FOLDER is `-`, and for each kind of call it is printed how many were made, the nanoseconds, the pages
-//! asked for and how often the shelf read and wrote. With no words a small file is made in memory, and what does not change is printed.
+//! A file is made in an empty folder, or in memory where FOLDER is `-`, and for each kind of call
+//! it is printed how many were made, the nanoseconds, the pages asked for and how often the shelf
+//! read and wrote. With no words a small file is made in memory, and what does not change is
+//! printed.
 
 ghost use Rattle.std.specs.Prelude.{OnOk};
 ghost use Rattle.indexed_file.specs.Clients.{IsOpenWith, IsNotOpen};
@@ -108,7 +110,8 @@ fn print_cost(rt: &HostRuntime, what: &str, cost: &Cost, timed: bool) -> anyhow:
     Ok(())
 }
 
-/// Makes the calls of every kind on a new file, and prints what they asked for, and where they are `timed`, all that they took.
+/// Makes the calls of every kind on a new file, and prints what they asked for, and where they are
+/// `timed`, all that they took.
 fn measure_all<S: Shelf + Drop>(
     rt: &HostRuntime,
     shelf: S,
@@ -133,7 +136,8 @@ const SMALL: Plan = Plan {
     frames: NonZeroUsize::MIN,
 };
 
-/// Works in the folder that a word names, in memory where that is `-`, and on a small file where there is none.
+/// Works in the folder that a word names, in memory where that is `-`, and on a small file where
+/// there is none.
 pub fn run(rt: &HostRuntime, words: &mut Args) -> anyhow::Result<()> {
     let Some(folder) = words.next() else {
         return measure_all(rt, MemShelf::new(rt.alloc()), &SMALL, false);

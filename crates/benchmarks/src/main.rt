@@ -7,7 +7,8 @@
 //! - `trees FOLDER ENTRIES ROUNDS`
 //! - `library FOLDER RECORDS GROUPS FRAMES`
 //!
-//! A name alone makes little work, in memory, and prints what does not change; `benchmarks` alone does so for every name.
+//! A name alone makes little work, in memory, and prints what does not change; `benchmarks` alone
+//! does so for every name.
 #![tactic(auto)]
 
 mod arguments;

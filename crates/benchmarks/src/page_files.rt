@@ -1,4 +1,5 @@
-//! Reads and writes the pages of a file in mixed order through `Store`, and tells how long it takes: of a new file in an empty folder, or of a few pages in memory.
+//! Reads and writes the pages of a file in mixed order through `Store`, and tells how long it
+//! takes: of a new file in an empty folder, or of a few pages in memory.
 
 ghost use Rattle.std.specs.Prelude.{◌≡◌, IsTrue, IfOk};
 ghost use Rattle.page_store.specs.ShelfState.{HasUnit, unit_file};
@@ -85,7 +86,8 @@ fn mix_rounds<S: Shelf>(shelf: &mut S, store: &mut Store, rounds: u32) -> Result
     Ok(sum)
 }
 
-// Makes a file of so many pages, and reads and writes them in so many rounds. Prints the sum, and the time that the rounds took where they are `timed`.
+// Makes a file of so many pages, and reads and writes them in so many rounds. Prints the sum, and
+// the time that the rounds took where they are `timed`.
 fn work<S: Shelf>(
     rt: &HostRuntime,
     shelf: &mut S,

@@ -1,6 +1,7 @@
 //! How fast a leaf in a page answers, beside std's binary search over a `Vec` of the same entries.
 //!
-//! Without a number of steps each is asked a little, and only the sums of the places that it answers are printed. With one, the speed is printed too.
+//! Without a number of steps each is asked a little, and only the sums of the places that it
+//! answers are printed. With one, the speed is printed too.
 
 mod entries;
 mod leaf;

@@ -1,4 +1,5 @@
-//! Calls on a tree whose pages are all in memory, and how long they take: of a new file in an empty folder, or of a few pages in memory.
+//! Calls on a tree whose pages are all in memory, and how long they take: of a new file in an empty
+//! folder, or of a few pages in memory.
 
 ghost use Rattle.std.specs.Prelude.{◌≡◌};
 ghost use Rattle.bplus_tree.specs.Fields.{tree_shape};
@@ -219,8 +220,8 @@ fn rounds<P: Pages>(
     Ok(figures)
 }
 
-// Fills a tree on a new file with so many entries, and makes so many rounds of calls on it. Prints what was answered, and what a call of each kind
-// took where they are `timed`.
+// Fills a tree on a new file with so many entries, and makes so many rounds of calls on it. Prints
+// what was answered, and what a call of each kind took where they are `timed`.
 fn work<S: Shelf>(
     rt: &HostRuntime,
     shelf: &mut S,

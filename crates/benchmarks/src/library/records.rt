@@ -1,4 +1,5 @@
-//! The records of the measured file: 100 bytes, with a number of eight digits, another of eight, and one of four that several records have.
+//! The records of the measured file: 100 bytes, with a number of eight digits, another of eight,
+//! and one of four that several records have.
 
 ghost use Rattle.std.specs.Prelude.{◌≤◌};
 

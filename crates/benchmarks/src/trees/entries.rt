@@ -30,8 +30,8 @@ fn entry_of(number: u64) -> Bytes {
     entry
 }
 
-/// The entries of `count` numbers, each once where the factor has no divisor in common with `count`. Memory is the
-/// only fault.
+/// The entries of `count` numbers, each once where the factor has no divisor in common with
+/// `count`. Memory is the only fault.
 pub fn mixed(alloc: Global, count: u64, factor: u64) -> Result<Vec<Bytes>, AllocError> {
     let mut entries = Vec::new(alloc);
     for i in 0..count {
