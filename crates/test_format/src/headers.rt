@@ -3,7 +3,7 @@
 use crate::checks::{assert_equal, assert_equal_for};
 use file_header::{Header, TreeNumbers};
 use page_bytes::PAGE_SIZE;
-use record_layout::{KeyKind, KeyPart};
+use record_layout::{KeyKind, KeyPart, Schema};
 use std::process::Abort;
 
 // A file of three pages with one key, and one record of 10 bytes.
@@ -38,12 +38,21 @@ fn accepted(rt: &impl Abort, page: &[u8; PAGE_SIZE]) -> Header {
     Header::read(page).expect(rt, "the page is accepted")
 }
 
-const fn part(offset: u16, length: u16, kind: KeyKind) -> KeyPart {
-    KeyPart {
-        offset,
-        length,
-        kind,
-    }
+const PRIME: KeyPart = KeyPart {
+    offset: 0,
+    length: 4,
+    kind: KeyKind::Prime,
+};
+
+const UNIQUE: KeyPart = KeyPart {
+    offset: 4,
+    length: 6,
+    kind: KeyKind::Unique,
+};
+
+fn has_schema(rt: &impl Abort, schema: &Schema, least: u16, greatest: u16, keys: &[KeyPart]) {
+    assert_equal(rt, (schema.least(), schema.greatest()), (least, greatest));
+    assert_equal(rt, schema.keys(), keys);
 }
 
 // A tree that is one leaf.
@@ -54,35 +63,20 @@ const fn leaf(root: u32) -> TreeNumbers {
 #[test]
 fn a_page_tells_what_the_format_says(rt: HostRuntime) {
     let header = accepted(&rt, &first_page(&rt, &ONE_KEY));
-    assert_equal(&rt, header.schema.least(), 10);
-    assert_equal(&rt, header.schema.greatest(), 10);
-    assert_equal(&rt, header.pages, 3);
-    assert_equal(&rt, header.first_free, 0);
-    assert_equal(&rt, header.free, 0);
-    assert_equal(&rt, header.first_heap, 2);
-    assert_equal(&rt, header.free_slot_page, 2);
-    assert_equal(&rt, header.free_slot, 1);
-    assert_equal(&rt, header.next_stamp, 2);
-    assert_equal(&rt, header.records, 1);
-    assert_equal(
-        &rt,
-        header.schema.keys(),
-        [part(0, 4, KeyKind::Prime)].as_slice(),
-    );
+    let pages = (header.pages, header.first_free, header.free);
+    assert_equal(&rt, pages, (3, 0, 0));
+    let slots = (header.first_heap, header.free_slot_page, header.free_slot);
+    assert_equal(&rt, slots, (2, 2, 1));
+    assert_equal(&rt, (header.next_stamp, header.records), (2, 1));
     assert_equal(&rt, header.trees.as_slice(), [leaf(1)].as_slice());
+    has_schema(&rt, &header.schema, 10, 10, &[PRIME]);
 }
 
 #[test]
 fn version_2_tells_the_least_length(rt: HostRuntime) {
     let header = accepted(&rt, &first_page(&rt, &TWO_KEYS));
-    assert_equal(&rt, header.schema.least(), 10);
-    assert_equal(&rt, header.schema.greatest(), 16);
-    assert_equal(
-        &rt,
-        header.schema.keys(),
-        [part(0, 4, KeyKind::Prime), part(4, 6, KeyKind::Unique)].as_slice(),
-    );
     assert_equal(&rt, header.trees.as_slice(), [leaf(1), leaf(2)].as_slice());
+    has_schema(&rt, &header.schema, 10, 16, &[PRIME, UNIQUE]);
 }
 
 #[test]

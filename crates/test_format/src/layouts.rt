@@ -1,14 +1,10 @@
 //! Records, and where their items stand.
 
 use crate::checks::{assert_equal, assert_equal_for};
-use crate::entries::{Row, items};
+use crate::entries::{Row, items, layout_of};
 use record_layout::{Field, Layout, LayoutFault};
 use std::alloc::Global;
-use std::test::Fail;
-
-fn layout_of(alloc: Global, rows: &[Row]) -> Result<Layout, Fail> {
-    Ok(Layout::build(alloc, &items(alloc, rows)?)?)
-}
+use std::process::Abort;
 
 // The item at an offset, of a length, and whether it is numeric.
 fn item_of(place: Option<(u16, u16, bool)>) -> Option<Field> {
@@ -66,15 +62,12 @@ const PLACES: [(&[Row], &str, Option<(u16, u16, bool)>, u16); 14] = [
 
 // Data description entry, level-number: a group is the items behind it of greater level numbers.
 #[test]
-fn items_stand_one_behind_another_and_groups_round_their_members(
-    rt: HostRuntime,
-) -> Result<(), Fail> {
+fn items_stand_one_behind_another_and_groups_round_their_members(rt: HostRuntime) {
     for &(rows, name, place, length) in &PLACES {
-        let layout = layout_of(rt.alloc(), rows)?;
+        let layout = layout_of(&rt, rt.alloc(), rows);
         assert_equal_for(&rt, name, layout.field(name), item_of(place));
         assert_equal_for(&rt, rows, layout.length(), length);
     }
-    Ok(())
 }
 
 const FAULTY: [(&[Row], LayoutFault); 14] = [
@@ -120,31 +113,31 @@ const FAULTY: [(&[Row], LayoutFault); 14] = [
     ),
 ];
 
-fn fault_of(alloc: Global, rows: &[Row]) -> Result<Option<LayoutFault>, Fail> {
-    Ok(Layout::build(alloc, &items(alloc, rows)?).err())
+fn fault_of(rt: &impl Abort, alloc: Global, rows: &[Row]) -> Option<LayoutFault> {
+    Layout::build(alloc, &items(rt, alloc, rows)).err()
 }
 
 #[test]
-fn the_first_fault_of_a_description_is_told(rt: HostRuntime) -> Result<(), Fail> {
+fn the_first_fault_of_a_description_is_told(rt: HostRuntime) {
     for &(rows, fault) in &FAULTY {
-        assert_equal_for(&rt, rows, fault_of(rt.alloc(), rows)?, Some(fault));
+        let found = fault_of(&rt, rt.alloc(), rows);
+        assert_equal_for(&rt, rows, found, Some(fault));
     }
-    Ok(())
 }
 
+const OF_TWO_KINDS: &[Row] = &[
+    (1, "R", ""),
+    (5, "A", "X(2)"),
+    (5, "B", ""),
+    (10, "C", "9(2)"),
+    (10, "D", "X"),
+];
+
 #[test]
-fn a_record_area_begins_with_spaces_and_zeros(rt: HostRuntime) -> Result<(), Fail> {
-    let rows = &[
-        (1, "R", ""),
-        (5, "A", "X(2)"),
-        (5, "B", ""),
-        (10, "C", "9(2)"),
-        (10, "D", "X"),
-    ];
-    let layout = layout_of(rt.alloc(), rows)?;
+fn a_record_area_begins_with_spaces_and_zeros(rt: HostRuntime) {
+    let layout = layout_of(&rt, rt.alloc(), OF_TWO_KINDS);
     let mut area = *b"......";
     assert!(rt; layout.length() == 5);
     layout.blank(&mut area[..5]);
     assert_equal(&rt, area, *b"  00 .");
-    Ok(())
 }

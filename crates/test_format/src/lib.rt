@@ -1,9 +1,11 @@
 //! Tests of what stands in bytes: layouts of records and keys, headers, statuses, and nodes of a tree.
 //!
-//! What a clause says is proved and not tested again. Here descriptions, keys and moves of the standard's rules are worked out by hand, and a file's first page,
-//! a leaf and an inner node are read off the bytes that the format gives.
+//! What a clause says is proved and not tested again. Here descriptions, keys and moves of the
+//! standard's rules are worked out by hand, and a file's first page, a leaf and an inner node are
+//! read off the bytes that the format gives.
 //!
-//! Read `layouts` for items and their places, `schemas` for keys, `headers` for the bytes of a file's first page, and `nodes` for those of a tree.
+//! Read `layouts` for items and their places, `schemas` for keys, `headers` for the bytes of a file's
+//! first page, and `nodes` for those of a tree.
 #![tactic(auto)]
 
 #[cfg(test)]

@@ -3,7 +3,6 @@
 use crate::checks::{assert_equal, assert_equal_for};
 use record_layout::{Bytes, Field, Figure, Source, put, takes};
 use std::process::Abort;
-use std::test::Fail;
 
 const fn item(length: u16, numeric: bool) -> Field {
     Field {
@@ -37,7 +36,8 @@ const MOVES: [(u16, bool, Source<&[u8]>, &[u8; 6]); 12] = [
     (2, false, Source::Fill(Figure::High), b".\xff\xff..."),
 ];
 
-// MOVE statement, general rules: alphanumeric moves from the left, numeric moves from the right; figurative constants.
+// MOVE statement, general rules: alphanumeric moves from the left, numeric moves from the right;
+// figurative constants.
 #[test]
 fn a_move_fits_its_source_to_the_item(rt: HostRuntime) {
     for (length, numeric, source, expected) in &MOVES {
@@ -64,10 +64,9 @@ fn a_numeric_item_takes_digits_and_zero_alone(rt: HostRuntime) {
 }
 
 #[test]
-fn a_source_with_bytes_of_its_own_can_be_moved(rt: HostRuntime) -> Result<(), Fail> {
-    let text = Bytes::from_vec(b"AB".to_vec(rt.alloc())?);
+fn a_source_with_bytes_of_its_own_can_be_moved(rt: HostRuntime) {
+    let text = Bytes::from_vec(b"AB".to_vec(rt.alloc()).expect(&rt, "memory"));
     let source = Source::Text(text);
     let area = area_after(&rt, item(3, false), &source.as_ref());
     assert_equal(&rt, area, *b".AB ..");
-    Ok(())
 }

@@ -37,14 +37,17 @@ const LONG: Shape = Shape {
     entry: 248,
 };
 
+// The greatest number of entries in a leaf, and of separators in an inner node.
+const ROOMS: [(Shape, usize, usize); 4] = [
+    (PRIME, 408, 509),
+    (STAMPED, 226, 254),
+    (LONG, 16, 30),
+    (WIDE, 8, 15),
+];
+
 #[test]
 fn the_greatest_numbers_come_out_of_the_shapes(rt: HostRuntime) {
-    for &(shape, entries, separators) in &[
-        (PRIME, 408, 509),
-        (STAMPED, 226, 254),
-        (LONG, 16, 30),
-        (WIDE, 8, 15),
-    ] {
+    for &(shape, entries, separators) in &ROOMS {
         assert_equal_for(&rt, shape, shape.leaf_room(), entries);
         assert_equal_for(&rt, shape, shape.inner_room(), separators);
     }
