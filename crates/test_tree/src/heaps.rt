@@ -1,12 +1,13 @@
-//! What no clause says: numbers and bytes that a person reads off the format, and that each call can succeed.
+//! What no clause says: numbers and bytes that a person reads off the format, and that each call can
+//! succeed.
 
 use crate::checks::{assert_equal, assert_equal_for};
-use crate::memory_pages::{MemoryPages, new_pages, put_byte};
+use crate::memory_pages::{MemoryPages, new_pages, page_of, put_byte};
 use io_state::Fault;
 use page_marks::{FaultPlace, PageFault, WalkFault};
 use record_heap::{Heap, Place, Shape, heap_laws, walk_heap};
+use std::alloc::Global;
 use std::process::Abort;
-use std::test::Fail;
 
 const FIXED: Shape = Shape {
     stamps: 0,
@@ -40,38 +41,45 @@ fn add(
     heap.add(pages, stamps, record)
 }
 
+// Adds such bytes, for which there is room.
+fn added(rt: &impl Abort, heap: &mut Heap, pages: &mut MemoryPages, bytes: &[u8]) -> Place {
+    add(rt, heap, pages, bytes).expect(rt, "room for a record")
+}
+
 // Sets a place to such bytes.
-fn set(
-    rt: &impl Abort,
-    heap: &Heap,
-    pages: &mut MemoryPages,
-    place: Place,
-    bytes: &[u8],
-) -> Result<(), Fault> {
+fn set(rt: &impl Abort, heap: &Heap, pages: &mut MemoryPages, place: Place, bytes: &[u8]) {
     let shape = heap.shape();
     assert!(rt; shape.stamps as usize <= bytes.len());
     let (stamps, record) = bytes.split_at(shape.stamps as usize);
     assert!(rt; shape.least as usize <= record.len() && record.len() <= shape.greatest as usize);
-    heap.set(pages, place, stamps, record)
+    assert_equal(rt, heap.set(pages, place, stamps, record), Ok(()));
 }
 
 // Reads a place into an area of dots, and the record alone into another.
-fn get(
-    rt: &impl Abort,
-    heap: &Heap,
-    pages: &mut MemoryPages,
-    place: Place,
-) -> Result<(usize, [u8; 16]), Fault> {
+fn read(rt: &impl Abort, heap: &Heap, pages: &mut MemoryPages, place: Place) -> (usize, [u8; 16]) {
     let shape = heap.shape();
     let mut area = [b'.'; 16];
     assert!(rt; shape.stamps as usize + shape.greatest as usize <= area.len());
-    let n = heap.get(pages, place, &mut area)?;
+    let n = heap.get(pages, place, &mut area).expect(rt, "a record");
     let mut alone = [b'.'; 16];
-    let m = heap.get_record(pages, place, &mut alone)?;
+    let m = heap
+        .get_record(pages, place, &mut alone)
+        .expect(rt, "a record");
     let stamps = shape.stamps as usize;
     assert!(rt; m <= 16 && stamps <= n && n <= 16);
-    assert!(rt; alone[..m] == area[stamps..n]);
-    Ok((n, area))
+    assert_equal(rt, &alone[..m], &area[stamps..n]);
+    (n, area)
+}
+
+// No record stands at a place.
+fn is_damage(rt: &impl Abort, heap: &Heap, pages: &mut MemoryPages, place: Place) {
+    let found = heap.get(pages, place, &mut [b'.'; 4096]);
+    assert_equal_for(rt, place, found, Err(Fault::Damage));
+}
+
+// A place is free then.
+fn free(rt: &impl Abort, heap: &mut Heap, pages: &mut MemoryPages, place: Place) {
+    assert_equal(rt, heap.free(pages, place), Ok(()));
 }
 
 // A record of 16 bytes that begins with a number.
@@ -81,49 +89,79 @@ fn numbered(i: usize) -> [u8; 16] {
     record
 }
 
+// Adds records that begin with the numbers below a count.
+fn add_numbered(
+    rt: &impl Abort,
+    alloc: Global,
+    heap: &mut Heap,
+    pages: &mut MemoryPages,
+    count: usize,
+) -> Vec<Place> {
+    let mut places = Vec::new(alloc);
+    for i in 0..count {
+        let place = added(rt, heap, pages, &numbered(i));
+        places.push(place).expect(rt, "memory");
+    }
+    places
+}
+
+const TEN: Shape = Shape {
+    stamps: 0,
+    least: 10,
+    greatest: 10,
+};
+
+const ONE: Shape = Shape {
+    stamps: 0,
+    least: 1,
+    greatest: 1,
+};
+
+const LARGEST: Shape = Shape {
+    stamps: 64,
+    least: 4000,
+    greatest: 4000,
+};
+
+const LARGEST_VARYING: Shape = Shape {
+    stamps: 64,
+    least: 1,
+    greatest: 4000,
+};
+
+// The bytes of a slot of each shape, and the slots of a page.
+const SLOTS: [(Shape, usize, usize); 6] = [
+    (FIXED, 17, 240),
+    (VARYING, 19, 214),
+    (TEN, 11, 370),
+    (ONE, 7, 582),
+    (LARGEST, 4065, 1),
+    (LARGEST_VARYING, 4067, 1),
+];
+
 #[test]
 fn slots_are_as_many_as_fit(rt: HostRuntime) {
-    for &(stamps, least, greatest, size, room) in &[
-        (0, 16, 16, 17, 240),
-        (0, 10, 16, 19, 214),
-        (0, 10, 10, 11, 370),
-        (0, 1, 1, 7, 582),
-        (64, 4000, 4000, 4065, 1),
-        (64, 1, 4000, 4067, 1),
-    ] {
-        assert!(rt; least <= greatest && stamps <= 64 && greatest <= 4000);
-        let shape = Shape {
-            stamps,
-            least,
-            greatest,
-        };
-        assert_equal_for(&rt, shape, shape.size(), size);
-        assert_equal_for(&rt, shape, shape.room(), room);
+    for &(shape, size, room) in &SLOTS {
+        assert_equal_for(&rt, shape, (shape.size(), shape.room()), (size, room));
     }
 }
 
 #[test]
-fn freed_slots_are_taken_before_a_page_is(rt: HostRuntime) -> Result<(), Fail> {
+fn freed_slots_are_taken_before_a_page_is(rt: HostRuntime) {
     heap_laws();
-    let mut pages = new_pages(rt.alloc(), 0, 3)?;
+    let mut pages = new_pages(&rt, rt.alloc(), 0, 3);
     let mut heap = Heap::new(FIXED);
-    let mut places = Vec::new(rt.alloc());
-    for i in 0..500 {
-        places.push(add(&rt, &mut heap, &mut pages, &numbered(i))?)?;
-    }
+    let places = add_numbered(&rt, rt.alloc(), &mut heap, &mut pages, 500);
     assert_equal(&rt, pages.pages.len(), 4);
     for (i, &place) in places.iter().enumerate() {
-        let found = get(&rt, &heap, &mut pages, place);
-        assert_equal_for(&rt, place, found, Ok((16, numbered(i))));
+        let found = read(&rt, &heap, &mut pages, place);
+        assert_equal_for(&rt, place, found, (16, numbered(i)));
     }
     for &place in places.iter() {
-        heap.free(&mut pages, place)?;
+        free(&rt, &mut heap, &mut pages, place);
     }
-    for i in 0..500 {
-        add(&rt, &mut heap, &mut pages, &numbered(i))?;
-    }
+    add_numbered(&rt, rt.alloc(), &mut heap, &mut pages, 500);
     assert_equal(&rt, pages.pages.len(), 4);
-    Ok(())
 }
 
 // A place holds so many bytes, and an area of dots is this one once they are read into it.
@@ -135,60 +173,47 @@ fn holds(
     length: usize,
     area: &[u8; 16],
 ) {
-    assert_equal(rt, get(rt, heap, pages, place), Ok((length, *area)));
+    assert_equal(rt, read(rt, heap, pages, place), (length, *area));
 }
 
+// A record that is not there, behind the last slot of its page, and behind the last page.
+const NO_PLACES: [Place; 3] = [
+    Place { page: 0, slot: 0 },
+    Place { page: 1, slot: 214 },
+    Place { page: 2, slot: 0 },
+];
+
 #[test]
-fn a_shorter_record_leaves_the_rest_of_the_area(rt: HostRuntime) -> Result<(), Fail> {
-    let mut pages = new_pages(rt.alloc(), 0, 1)?;
+fn a_shorter_record_leaves_the_rest_of_the_area(rt: HostRuntime) {
+    let mut pages = new_pages(&rt, rt.alloc(), 0, 1);
     let mut heap = Heap::new(VARYING);
-    let first = add(&rt, &mut heap, &mut pages, b"0002SVEN  ")?;
-    let second = add(&rt, &mut heap, &mut pages, b"0001SMITH OSLO  ")?;
+    let first = added(&rt, &mut heap, &mut pages, b"0002SVEN  ");
+    let second = added(&rt, &mut heap, &mut pages, b"0001SMITH OSLO  ");
     holds(&rt, &heap, &mut pages, first, 10, b"0002SVEN  ......");
-    set(&rt, &heap, &mut pages, first, b"0002SVEN  MOSS  ")?;
-    set(&rt, &heap, &mut pages, second, b"0001SMITH ")?;
+    set(&rt, &heap, &mut pages, first, b"0002SVEN  MOSS  ");
+    set(&rt, &heap, &mut pages, second, b"0001SMITH ");
     holds(&rt, &heap, &mut pages, first, 16, b"0002SVEN  MOSS  ");
     holds(&rt, &heap, &mut pages, second, 10, b"0001SMITH ......");
-    heap.free(&mut pages, first)?;
-    for place in [
-        first,
-        Place { page: 0, slot: 0 },
-        Place { page: 1, slot: 214 },
-        Place { page: 2, slot: 0 },
-    ] {
-        let found = get(&rt, &heap, &mut pages, place);
-        assert_equal_for(&rt, place, found, Err(Fault::Damage));
+    free(&rt, &mut heap, &mut pages, first);
+    is_damage(&rt, &heap, &mut pages, first);
+    for &place in &NO_PLACES {
+        is_damage(&rt, &heap, &mut pages, place);
     }
     holds(&rt, &heap, &mut pages, second, 10, b"0001SMITH ......");
-    Ok(())
 }
 
 #[test]
-fn a_heap_is_full_where_no_slot_and_no_page_is_left(rt: HostRuntime) -> Result<(), Fail> {
-    let mut pages = new_pages(rt.alloc(), 0, 1)?;
+fn a_heap_is_full_where_no_slot_and_no_page_is_left(rt: HostRuntime) {
+    let place = Place { page: 1, slot: 7 };
+    let mut pages = new_pages(&rt, rt.alloc(), 0, 1);
     let mut heap = Heap::new(FIXED);
-    for i in 0..240 {
-        add(&rt, &mut heap, &mut pages, &numbered(i))?;
-    }
-    assert_equal(
-        &rt,
-        add(&rt, &mut heap, &mut pages, &numbered(240)),
-        Err(Fault::Full),
-    );
-    heap.free(&mut pages, Place { page: 1, slot: 7 })?;
-    assert_equal(
-        &rt,
-        add(&rt, &mut heap, &mut pages, &numbered(240)),
-        Ok(Place { page: 1, slot: 7 }),
-    );
-    Ok(())
+    add_numbered(&rt, rt.alloc(), &mut heap, &mut pages, 240);
+    let found = add(&rt, &mut heap, &mut pages, &numbered(240));
+    assert_equal(&rt, found, Err(Fault::Full));
+    free(&rt, &mut heap, &mut pages, place);
+    let found = add(&rt, &mut heap, &mut pages, &numbered(240));
+    assert_equal(&rt, found, Ok(place));
 }
-
-const TEN: Shape = Shape {
-    stamps: 0,
-    least: 10,
-    greatest: 10,
-};
 
 const TENS: &[(usize, &[u8])] = &[
     (0, b"H\0\0\0\0\0\0\0\0\0\0\0\0\0\0\0"),
@@ -221,21 +246,26 @@ const FIRST_PAGES: [(Shape, usize, &[u8], &[(usize, &[u8])]); 3] = [
     (STAMPED, 2, b"\0\0\0\0\0\0\x02\x050001SMITH ", STAMPEDS),
 ];
 
-// The page of the first record: of a file of records of 10 bytes with one key, and of records of 10 to 16 bytes with two keys, and with a stamp.
-#[test]
-fn a_heap_page_is_written_byte_for_byte(rt: HostRuntime) -> Result<(), Fail> {
-    for &(shape, others, bytes, parts) in &FIRST_PAGES {
-        let mut pages = new_pages(rt.alloc(), others, 1)?;
-        let mut heap = Heap::new(shape);
-        let place = add(&rt, &mut heap, &mut pages, bytes)?;
-        assert_equal(&rt, place.page as usize, others + 1);
-        let page = pages.pages.last().expect(&rt, "a page");
-        for &(at, bytes) in parts {
-            let found = page.get(at..at + bytes.len());
-            assert_equal_for(&rt, (shape, at), found, Some(bytes));
-        }
+// These parts stand in a page.
+fn has_parts(rt: &impl Abort, page: &[u8; 4096], shape: Shape, parts: &[(usize, &[u8])]) {
+    for &(at, bytes) in parts {
+        let found = page.get(at..at.saturating_add(bytes.len()));
+        assert_equal_for(rt, (shape, at), found, Some(bytes));
     }
-    Ok(())
+}
+
+// The page of the first record: of a file of records of 10 bytes with one key, and of records of 10
+// to 16 bytes with two keys, and with a stamp.
+#[test]
+fn a_heap_page_is_written_byte_for_byte(rt: HostRuntime) {
+    for &(shape, others, bytes, parts) in &FIRST_PAGES {
+        let mut pages = new_pages(&rt, rt.alloc(), others, 1);
+        let mut heap = Heap::new(shape);
+        let place = added(&rt, &mut heap, &mut pages, bytes);
+        assert_equal(&rt, place.page as usize, others + 1);
+        let page = page_of(&rt, &pages, place.page);
+        has_parts(&rt, page, shape, parts);
+    }
 }
 
 // A byte of a page of the heap that is changed, the fault that is told then, and what is wrong.
@@ -314,45 +344,53 @@ const DAMAGES: [(usize, usize, u8, PageFault, FaultPlace, &str); 9] = [
     ),
 ];
 
-#[test]
-fn a_walk_finds_the_pages_of_a_heap_and_what_is_lost(rt: HostRuntime) -> Result<(), Fail> {
-    let mut pages = new_pages(rt.alloc(), 0, 2)?;
+// A heap of two pages, whose first page has a free slot.
+fn two_pages(rt: &impl Abort, alloc: Global, pages: &mut MemoryPages) -> Heap {
     let mut heap = Heap::new(FIXED);
-    for i in 0..250 {
-        add(&rt, &mut heap, &mut pages, &numbered(i))?;
-    }
-    heap.free(&mut pages, Place { page: 1, slot: 7 })?;
+    add_numbered(rt, alloc, &mut heap, pages, 250);
+    free(rt, &mut heap, pages, Place { page: 1, slot: 7 });
+    heap
+}
+
+#[test]
+fn a_walk_finds_the_pages_of_a_heap(rt: HostRuntime) {
+    let mut pages = new_pages(&rt, rt.alloc(), 0, 2);
+    let heap = two_pages(&rt, rt.alloc(), &mut pages);
     let mut reached = [false; 3];
-    let own = walk_heap(rt.alloc(), &pages.pages, &heap, &mut reached)?;
+    let own = walk_heap(rt.alloc(), &pages.pages, &heap, &mut reached).expect(&rt, "its pages");
     assert_equal(&rt, own.as_slice(), [2, 1].as_slice());
     assert_equal(&rt, reached, [false, true, true]);
-    let again = walk_heap(rt.alloc(), &pages.pages, &heap, &mut reached);
-    assert_equal(
-        &rt,
-        again.err(),
-        Some(WalkFault::of_page(PageFault::Shared, 2)),
-    );
+    let again = walk_heap(rt.alloc(), &pages.pages, &heap, &mut reached).err();
+    let fault = WalkFault::of_page(PageFault::Shared, 2);
+    assert_equal(&rt, again, Some(fault));
+}
+
+#[test]
+fn a_walk_finds_what_is_lost(rt: HostRuntime) {
+    let mut pages = new_pages(&rt, rt.alloc(), 0, 2);
+    let heap = two_pages(&rt, rt.alloc(), &mut pages);
     for &(n, at, byte, fault, place, what) in &DAMAGES {
         let was = put_byte(&rt, &mut pages.pages, n, at, byte);
         let found = walk_heap(rt.alloc(), &pages.pages, &heap, &mut [false; 3]);
         assert_equal_for(&rt, what, found.err(), Some(WalkFault::At(fault, place)));
         put_byte(&rt, &mut pages.pages, n, at, was);
     }
-    Ok(())
 }
 
-// What the header tells of a heap is told at page 0.
+// What the header tells of a heap of one page is told at page 0.
+fn begins_wrongly(rt: &impl Abort, alloc: Global, pages: &MemoryPages, heap: Heap) {
+    let found = walk_heap(alloc, &pages.pages, &heap, &mut [false; 2]).err();
+    let fault = WalkFault::of_page(PageFault::Chain, 0);
+    assert_equal_for(rt, heap, found, Some(fault));
+}
+
 #[test]
-fn a_heap_that_begins_wrongly_is_told_at_the_first_page(rt: HostRuntime) -> Result<(), Fail> {
-    let mut pages = new_pages(rt.alloc(), 0, 1)?;
+fn a_heap_that_begins_wrongly_is_told_at_the_first_page(rt: HostRuntime) {
+    let mut pages = new_pages(&rt, rt.alloc(), 0, 1);
     let mut heap = Heap::new(FIXED);
-    add(&rt, &mut heap, &mut pages, &numbered(0))?;
+    added(&rt, &mut heap, &mut pages, &numbered(0));
     let away = Heap::stored(heap.shape(), 2, heap.first_free());
+    begins_wrongly(&rt, rt.alloc(), &pages, away);
     let in_use = Heap::stored(FIXED, heap.first_page(), Place { page: 1, slot: 0 });
-    for heap in [away, in_use] {
-        let found = walk_heap(rt.alloc(), &pages.pages, &heap, &mut [false; 2]);
-        let fault = WalkFault::of_page(PageFault::Chain, 0);
-        assert_equal_for(&rt, heap, found.err(), Some(fault));
-    }
-    Ok(())
+    begins_wrongly(&rt, rt.alloc(), &pages, in_use);
 }

@@ -1,38 +1,45 @@
-//! What no clause says: the order of names that a person sees, the bytes of a leaf, and that each call can succeed.
+//! What no clause says: the order of names that a person sees, the bytes of a leaf, and that each
+//! call can succeed.
 
 use crate::checks::{assert_equal, assert_that};
-use crate::memory_pages::{MemoryPages, new_pages};
+use crate::memory_pages::{MemoryPages, new_pages, page_of};
 use io_state::Fault;
 use key_index::{
     AltCursor, AltEntry, AltFirst, AltIndex, PrimeEntry, PrimeIndex, alt_laws, prime_laws,
 };
 use record_heap::Place;
 use std::process::Abort;
-use std::test::Fail;
 
-// Adds a value, which has the width of the index.
-fn add_place(
+const FIRST: Place = Place { page: 2, slot: 0 };
+
+const SECOND: Place = Place { page: 2, slot: 1 };
+
+// Adds a value, which has the width of the index, and is there already or not, as is said.
+fn adds_place(
     rt: &impl Abort,
     index: &mut PrimeIndex,
     pages: &mut MemoryPages,
     value: &[u8],
     place: Place,
-) -> Result<bool, Fault> {
+    is_new: bool,
+) {
     assert!(rt; value.len() == usize::from(index.width));
-    index.add(pages, value, place)
+    assert_equal(rt, index.add(pages, value, place), Ok(is_new));
 }
 
-fn add_name(
+// Adds an entry of a name, which is there already or not, as is said.
+fn adds_name(
     rt: &impl Abort,
     index: &mut AltIndex,
     pages: &mut MemoryPages,
     name: &[u8],
     stamp: u64,
     prime: &[u8],
-) -> Result<bool, Fault> {
+    is_new: bool,
+) {
     assert!(rt; name.len() == usize::from(index.width));
     assert!(rt; prime.len() == usize::from(index.prime));
-    index.add(pages, name, stamp, prime)
+    assert_equal(rt, index.add(pages, name, stamp, prime), Ok(is_new));
 }
 
 // The entry of a name, with a stamp, of the record with a prime value.
@@ -83,48 +90,32 @@ fn is_at(rt: &impl Abort, found: Result<Option<PrimeEntry>, Fault>, value: &[u8]
 
 // No entry is found.
 fn shows_none<T: Drop>(rt: &impl Abort, found: Result<Option<T>, Fault>) {
-    assert!(rt; matches!(found, Ok(None)));
+    assert_that(rt, matches!(found, Ok(None)));
 }
 
 // The page of the prime index of a file with the one record 0001SMITH.
 #[test]
-fn a_leaf_is_written_byte_for_byte(rt: HostRuntime) -> Result<(), Fail> {
-    let mut pages = new_pages(rt.alloc(), 0, 1)?;
-    let mut index = PrimeIndex::empty(&mut pages, 4)?;
-    let place = Place { page: 2, slot: 0 };
-    let added = add_place(&rt, &mut index, &mut pages, b"0001", place);
-    assert_equal(&rt, added, Ok(true));
+fn a_leaf_is_written_byte_for_byte(rt: HostRuntime) {
+    let mut pages = new_pages(&rt, rt.alloc(), 0, 1);
+    let mut index = PrimeIndex::empty(&mut pages, 4).expect(&rt, "an index");
+    adds_place(&rt, &mut index, &mut pages, b"0001", FIRST, true);
     assert_equal(&rt, index.tree.root(), 1);
-    assert!(rt; pages.pages.len() == 2);
-    let page = &pages.pages[1];
+    assert_equal(&rt, pages.pages.len(), 2);
+    let page = page_of(&rt, &pages, 1);
     assert_equal(
         &rt,
-        &page[..16],
-        b"L\0\0\x01\0\0\0\0\0\0\0\0\0\0\0\0".as_slice(),
+        &page[..26],
+        b"L\0\0\x01\0\0\0\0\0\0\0\0\0\0\0\00001\0\0\0\x02\0\0".as_slice(),
     );
-    assert_equal(&rt, &page[16..26], b"0001\0\0\0\x02\0\0".as_slice());
-    Ok(())
 }
 
-const FIRST: Place = Place { page: 2, slot: 0 };
-
-const SECOND: Place = Place { page: 2, slot: 1 };
-
 // An index of two values.
-fn two_values(rt: &impl Abort, pages: &mut MemoryPages) -> Result<PrimeIndex, Fault> {
-    let empty = PrimeIndex::empty(pages, 4)?;
+fn two_values(rt: &impl Abort, pages: &mut MemoryPages) -> PrimeIndex {
+    let empty = PrimeIndex::empty(pages, 4).expect(rt, "an index");
     let mut index = PrimeIndex::stored(4, empty.tree.root(), empty.height(), empty.count());
-    assert_equal(
-        rt,
-        add_place(rt, &mut index, pages, b"0002", FIRST),
-        Ok(true),
-    );
-    assert_equal(
-        rt,
-        add_place(rt, &mut index, pages, b"0001", SECOND),
-        Ok(true),
-    );
-    Ok(index)
+    adds_place(rt, &mut index, pages, b"0002", FIRST, true);
+    adds_place(rt, &mut index, pages, b"0001", SECOND, true);
+    index
 }
 
 fn is_read_by_its_values(rt: &impl Abort, index: &PrimeIndex, pages: &mut MemoryPages) {
@@ -152,33 +143,32 @@ fn is_removed_once(rt: &impl Abort, index: &mut PrimeIndex, pages: &mut MemoryPa
 }
 
 #[test]
-fn a_prime_value_stands_once(rt: HostRuntime) -> Result<(), Fail> {
+fn a_prime_value_stands_once(rt: HostRuntime) {
     prime_laws();
-    let mut pages = new_pages(rt.alloc(), 0, 1)?;
-    let mut index = two_values(&rt, &mut pages)?;
-    let again = add_place(&rt, &mut index, &mut pages, b"0002", SECOND);
-    assert_equal(&rt, again, Ok(false));
+    let mut pages = new_pages(&rt, rt.alloc(), 0, 1);
+    let mut index = two_values(&rt, &mut pages);
+    adds_place(&rt, &mut index, &mut pages, b"0002", SECOND, false);
     is_read_by_its_values(&rt, &index, &mut pages);
     is_read_in_order(&rt, &index, &mut pages);
     is_removed_once(&rt, &mut index, &mut pages);
-    assert_equal(&rt, index.count(), 1);
-    assert_equal(&rt, index.height(), 1);
-    Ok(())
+    assert_equal(&rt, (index.count(), index.height()), (1, 1));
 }
 
+// A name, its stamp and the prime value of its record.
+const NAMES: [(&[u8; 5], u64, &[u8; 2]); 3] = [
+    (b"SVEN ", 1, b"01"),
+    (b"ADAMS", 2, b"02"),
+    (b"SMITH", 3, b"03"),
+];
+
 // An index of three names.
-fn three_names(rt: &impl Abort, pages: &mut MemoryPages) -> Result<AltIndex, Fault> {
-    let empty = AltIndex::empty(pages, 1, 5, 2)?;
+fn three_names(rt: &impl Abort, pages: &mut MemoryPages) -> AltIndex {
+    let empty = AltIndex::empty(pages, 1, 5, 2).expect(rt, "an index");
     let mut index = AltIndex::stored(1, 5, 2, empty.tree.root(), empty.height(), empty.count());
-    for (name, stamp, prime) in &[
-        (b"SVEN ", 1, b"01"),
-        (b"ADAMS", 2, b"02"),
-        (b"SMITH", 3, b"03"),
-    ] {
-        let added = add_name(rt, &mut index, pages, *name, *stamp, *prime);
-        assert_equal(rt, added, Ok(true));
+    for &(name, stamp, prime) in &NAMES {
+        adds_name(rt, &mut index, pages, name, stamp, prime, true);
     }
-    Ok(index)
+    index
 }
 
 fn names_come_from_their_first_bytes(rt: &impl Abort, index: &AltIndex, pages: &mut MemoryPages) {
@@ -214,24 +204,25 @@ fn names_come_past_a_letter(rt: &impl Abort, index: &AltIndex, pages: &mut Memor
 }
 
 #[test]
-fn names_come_in_their_order_and_from_their_first_bytes(rt: HostRuntime) -> Result<(), Fail> {
+fn names_come_in_their_order_and_from_their_first_bytes(rt: HostRuntime) {
     alt_laws();
-    let mut pages = new_pages(rt.alloc(), 0, 1)?;
-    let index = three_names(&rt, &mut pages)?;
+    let mut pages = new_pages(&rt, rt.alloc(), 0, 1);
+    let index = three_names(&rt, &mut pages);
     names_come_from_their_first_bytes(&rt, &index, &mut pages);
     a_whole_name_is_looked_for(&rt, &index, &mut pages);
     names_come_past_a_letter(&rt, &index, &mut pages);
-    Ok(())
 }
 
+// The stamps and prime values of records of one name.
+const DUPLICATES: [(u64, &[u8; 2]); 3] = [(256, b"03"), (2, b"01"), (255, b"02")];
+
 // An index of one name of three records.
-fn one_name(rt: &impl Abort, pages: &mut MemoryPages) -> Result<AltIndex, Fault> {
-    let mut index = AltIndex::empty(pages, 1, 5, 2)?;
-    for (stamp, prime) in &[(256, b"03"), (2, b"01"), (255, b"02")] {
-        let added = add_name(rt, &mut index, pages, b"SMITH", *stamp, *prime);
-        assert_equal(rt, added, Ok(true));
+fn one_name(rt: &impl Abort, pages: &mut MemoryPages) -> AltIndex {
+    let mut index = AltIndex::empty(pages, 1, 5, 2).expect(rt, "an index");
+    for &(stamp, prime) in &DUPLICATES {
+        adds_name(rt, &mut index, pages, b"SMITH", stamp, prime, true);
     }
-    Ok(index)
+    index
 }
 
 fn duplicates_are_in_order(rt: &impl Abort, index: &AltIndex, pages: &mut MemoryPages) {
@@ -279,48 +270,43 @@ fn a_duplicate_is_removed(rt: &impl Abort, index: &mut AltIndex, pages: &mut Mem
 }
 
 #[test]
-fn duplicates_come_in_the_order_of_their_stamps(rt: HostRuntime) -> Result<(), Fail> {
-    let mut pages = new_pages(rt.alloc(), 0, 1)?;
-    let mut index = one_name(&rt, &mut pages)?;
-    let again = add_name(&rt, &mut index, &mut pages, b"SMITH", 255, b"09");
-    assert_equal(&rt, again, Ok(false));
+fn duplicates_come_in_the_order_of_their_stamps(rt: HostRuntime) {
+    let mut pages = new_pages(&rt, rt.alloc(), 0, 1);
+    let mut index = one_name(&rt, &mut pages);
+    adds_name(&rt, &mut index, &mut pages, b"SMITH", 255, b"09", false);
     duplicates_are_in_order(&rt, &index, &mut pages);
     a_duplicate_is_found(&rt, &index, &mut pages);
     a_duplicate_is_removed(&rt, &mut index, &mut pages);
-    assert_equal(&rt, index.count(), 2);
-    assert_equal(&rt, index.height(), 1);
-    Ok(())
+    assert_equal(&rt, (index.count(), index.height()), (2, 1));
+}
+
+// Two values in an index of records of one prime value, of which the first is the greatest.
+fn values_are_told_apart(
+    rt: &impl Abort,
+    index: &mut AltIndex,
+    pages: &mut MemoryPages,
+    greatest: &[u8],
+    next: &[u8],
+    prime: &[u8],
+) {
+    adds_name(rt, index, pages, greatest, u64::MAX, prime, true);
+    adds_name(rt, index, pages, next, u64::MAX, prime, true);
+    let found = index.first_from(pages, next);
+    shows(rt, found, next, u64::MAX, prime);
+    let found = index.first_past(pages, next);
+    shows(rt, found, greatest, u64::MAX, prime);
+    shows_none(rt, index.first_past(pages, greatest));
+    shows(rt, index.last(pages), greatest, u64::MAX, prime);
 }
 
 #[test]
-fn values_of_250_bytes_are_told_apart_by_the_last(rt: HostRuntime) -> Result<(), Fail> {
-    let mut pages = new_pages(rt.alloc(), 0, 1)?;
-    let mut index = AltIndex::empty(&mut pages, 2, 250, 250)?;
+fn values_of_250_bytes_are_told_apart_by_the_last(rt: HostRuntime) {
+    let mut pages = new_pages(&rt, rt.alloc(), 0, 1);
+    let mut index = AltIndex::empty(&mut pages, 2, 250, 250).expect(&rt, "an index");
     let greatest = [255; 250];
     let mut next = [255; 250];
-    let prime = [b'7'; 250];
     next[249] = 254;
-    for value in [greatest, next] {
-        let added = add_name(&rt, &mut index, &mut pages, &value, u64::MAX, &prime);
-        assert_equal(&rt, added, Ok(true));
-    }
-    shows(
-        &rt,
-        index.first_from(&mut pages, &next),
-        &next,
-        u64::MAX,
-        &prime,
-    );
-    shows(
-        &rt,
-        index.first_past(&mut pages, &next),
-        &greatest,
-        u64::MAX,
-        &prime,
-    );
-    shows_none(&rt, index.first_past(&mut pages, &greatest));
-    shows(&rt, index.last(&mut pages), &greatest, u64::MAX, &prime);
-    Ok(())
+    values_are_told_apart(&rt, &mut index, &mut pages, &greatest, &next, &[b'7'; 250]);
 }
 
 // The next name is this one, and another duplicate follows where the cursor stands, as is said.
@@ -338,37 +324,28 @@ fn goes_on(
     shows(rt, cursor.next(index, pages), name, stamp, prime);
 }
 
+// A cursor over one name of three records goes on behind the first to the end.
+fn goes_to_the_end(
+    rt: &impl Abort,
+    cursor: &mut AltCursor,
+    index: &AltIndex,
+    pages: &mut MemoryPages,
+) {
+    goes_on(rt, cursor, index, pages, true, b"SMITH", 255, b"02");
+    goes_on(rt, cursor, index, pages, true, b"SMITH", 256, b"03");
+    assert_equal(rt, cursor.is_followed(index, pages), Ok(false));
+    shows_none(rt, cursor.next(index, pages));
+    assert_that(rt, cursor.is_after(b"SMITH", 256));
+}
+
 #[test]
-fn a_cursor_gives_one_name_after_another(rt: HostRuntime) -> Result<(), Fail> {
-    let mut pages = new_pages(rt.alloc(), 0, 1)?;
-    let mut names = one_name(&rt, &mut pages)?;
+fn a_cursor_gives_one_name_after_another(rt: HostRuntime) {
+    let mut pages = new_pages(&rt, rt.alloc(), 0, 1);
+    let mut names = one_name(&rt, &mut pages);
     assert!(rt; names.width == 5);
     let mut cursor = names.cursor(b"SMITH", 2);
-    goes_on(
-        &rt,
-        &mut cursor,
-        &names,
-        &mut pages,
-        true,
-        b"SMITH",
-        255,
-        b"02",
-    );
-    goes_on(
-        &rt,
-        &mut cursor,
-        &names,
-        &mut pages,
-        true,
-        b"SMITH",
-        256,
-        b"03",
-    );
-    assert_equal(&rt, cursor.is_followed(&names, &mut pages), Ok(false));
-    shows_none(&rt, cursor.next(&names, &mut pages));
-    assert_that(&rt, cursor.is_after(b"SMITH", 256));
-    let added = add_name(&rt, &mut names, &mut pages, b"SVEN ", 0, b"04");
-    assert_equal(&rt, added, Ok(true));
+    goes_to_the_end(&rt, &mut cursor, &names, &mut pages);
+    adds_name(&rt, &mut names, &mut pages, b"SVEN ", 0, b"04", true);
     goes_on(
         &rt,
         &mut cursor,
@@ -379,16 +356,14 @@ fn a_cursor_gives_one_name_after_another(rt: HostRuntime) -> Result<(), Fail> {
         0,
         b"04",
     );
-    Ok(())
 }
 
 #[test]
-fn a_cursor_gives_one_number_after_another(rt: HostRuntime) -> Result<(), Fail> {
-    let mut pages = new_pages(rt.alloc(), 0, 1)?;
-    let index = two_values(&rt, &mut pages)?;
+fn a_cursor_gives_one_number_after_another(rt: HostRuntime) {
+    let mut pages = new_pages(&rt, rt.alloc(), 0, 1);
+    let index = two_values(&rt, &mut pages);
     assert!(rt; index.width == 4);
     let mut cursor = index.cursor(b"0001");
     is_at(&rt, cursor.next(&index, &mut pages), b"0002", FIRST);
     assert_that(&rt, cursor.is_after(b"0002"));
-    Ok(())
 }

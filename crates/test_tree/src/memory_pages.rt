@@ -4,7 +4,6 @@ use io_state::Fault;
 use pages::Pages;
 use std::alloc::Global;
 use std::process::Abort;
-use std::test::Fail;
 
 /// Pages by number, the free ones among them, and how many can be taken yet. Page 0 is never taken.
 #[derive(Drop)]
@@ -25,16 +24,21 @@ impl MemoryPages {
 }
 
 /// Page 0 and so many others, which are all taken, and room for so many more.
-pub fn new_pages(alloc: Global, others: usize, left: u64) -> Result<MemoryPages, Fail> {
+pub fn new_pages(rt: &impl Abort, alloc: Global, others: usize, left: u64) -> MemoryPages {
     let mut pages = Vec::new(alloc);
     for _ in 0..others.saturating_add(1) {
-        pages.push([0; 4096])?;
+        pages.push([0; 4096]).expect(rt, "memory");
     }
-    Ok(MemoryPages {
+    MemoryPages {
         pages,
         free: Vec::new(alloc),
         left,
-    })
+    }
+}
+
+/// The bytes of a page.
+pub fn page_of<'a>(rt: &impl Abort, pages: &'a MemoryPages, n: u32) -> &'a [u8; 4096] {
+    pages.pages.get(n as usize).expect(rt, "a page")
 }
 
 /// Puts another byte into a page, and answers the one that stood there.
@@ -45,7 +49,8 @@ pub fn put_byte(rt: &impl Abort, pages: &mut [[u8; 4096]], n: usize, at: usize, 
     was
 }
 
-// Nothing is claimed of what the pages hold: honesty is never true here, and what a test sees is what it asks.
+// Nothing is claimed of what the pages hold: honesty is never true here, and what a test sees is what
+// it asks.
 impl Pages for MemoryPages {
     ghost use Rattle.std.specs.Prelude.{◌≡◌, ⊤, refl};
     ghost use Rattle.std.proofs.Common.{◌∙◌, le_refl};

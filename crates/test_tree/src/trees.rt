@@ -1,13 +1,12 @@
-//! What no clause says: how many entries fit, that each call can succeed, and long series of changes beside a list in order.
+//! What no clause says: how many entries fit, that each call can succeed, and long series of changes
+//! beside a list in order.
 
 use crate::checks::{assert_equal, assert_equal_for, assert_that};
-use crate::memory_pages::{MemoryPages, new_pages};
+use crate::memory_pages::{MemoryPages, new_pages, page_of};
 use bplus_tree::{Cursor, Tree, have_many_entries, reads_its_entries};
 use io_state::Fault;
-use pages::Pages;
 use std::alloc::Global;
 use std::process::Abort;
-use std::test::Fail;
 use tree_node::{Entry, InnerView, LeafView, Shape, is_inner, is_leaf};
 
 const SHORT: Shape = Shape {
@@ -51,178 +50,193 @@ fn number_of(entry: &Entry, shape: Shape) -> u64 {
 }
 
 // Whether the number was not there yet.
-fn put(tree: &mut Tree, pages: &mut MemoryPages, number: u64) -> Result<bool, Fault> {
+fn put(rt: &impl Abort, tree: &mut Tree, pages: &mut MemoryPages, number: u64) -> bool {
     let entry = entry_of(tree.shape(), number);
     let size = tree.shape().entry as usize;
-    Ok(tree.insert(pages, &entry[..size])?.is_none())
+    let old = tree.insert(pages, &entry[..size]);
+    old.expect(rt, "an entry is put in").is_none()
 }
 
 // Whether the number was there.
-fn take(tree: &mut Tree, pages: &mut MemoryPages, number: u64) -> Result<bool, Fault> {
+fn take(rt: &impl Abort, tree: &mut Tree, pages: &mut MemoryPages, number: u64) -> bool {
     let entry = entry_of(tree.shape(), number);
     let width = tree.shape().width as usize;
-    Ok(tree.remove(pages, &entry[..width])?.is_some())
+    let old = tree.remove(pages, &entry[..width]);
+    old.expect(rt, "an entry is taken out").is_some()
 }
 
-fn find(tree: &Tree, pages: &mut MemoryPages, number: u64) -> Result<Option<u64>, Fault> {
+// The number of what was found.
+fn number_found(rt: &impl Abort, found: Result<Option<Entry>, Fault>, shape: Shape) -> Option<u64> {
+    match found.expect(rt, "the tree is read") {
+        None => None,
+        Some(entry) => Some(number_of(&entry, shape)),
+    }
+}
+
+fn find(rt: &impl Abort, tree: &Tree, pages: &mut MemoryPages, number: u64) -> Option<u64> {
     let entry = entry_of(tree.shape(), number);
     let width = tree.shape().width as usize;
-    let found = tree.find(pages, &entry[..width])?;
-    Ok(found.map(|entry| number_of(&entry, tree.shape())))
+    number_found(rt, tree.find(pages, &entry[..width]), tree.shape())
 }
 
 // Whether the number is there, whose entry has these bytes behind its key then.
-fn is_there(
-    rt: &impl Abort,
-    tree: &Tree,
-    pages: &mut MemoryPages,
-    number: u64,
-) -> Result<bool, Fault> {
+fn is_there(rt: &impl Abort, tree: &Tree, pages: &mut MemoryPages, number: u64) -> bool {
     let entry = entry_of(tree.shape(), number);
     let (width, size) = (tree.shape().width as usize, tree.shape().entry as usize);
     let mut tail = [0; 508];
-    let told = tree.find_tail(pages, &entry[..width], &mut tail[..size - width])?;
-    if told {
+    let told = tree.find_tail(pages, &entry[..width], &mut tail[..size - width]);
+    assert_equal(rt, tree.has(pages, &entry[..width]), told);
+    let is_there = told.expect(rt, "the tree is read");
+    if is_there {
         assert_equal(rt, &tail[..size - width], &entry[width..size]);
     }
-    assert_equal(rt, tree.has(pages, &entry[..width])?, told);
-    Ok(told)
+    is_there
 }
 
-fn at_or_after(tree: &Tree, pages: &mut MemoryPages, number: u64) -> Result<Option<u64>, Fault> {
+fn at_or_after(rt: &impl Abort, tree: &Tree, pages: &mut MemoryPages, number: u64) -> Option<u64> {
     let entry = entry_of(tree.shape(), number);
     let width = tree.shape().width as usize;
-    let found = tree.at_or_after(pages, &entry[..width])?;
-    Ok(found.map(|entry| number_of(&entry, tree.shape())))
+    number_found(rt, tree.at_or_after(pages, &entry[..width]), tree.shape())
 }
 
 // The number behind this one, or the first one.
-fn after(tree: &Tree, pages: &mut MemoryPages, number: Option<u64>) -> Result<Option<u64>, Fault> {
+fn after(
+    rt: &impl Abort,
+    tree: &Tree,
+    pages: &mut MemoryPages,
+    number: Option<u64>,
+) -> Option<u64> {
     let entry = entry_of(tree.shape(), number.unwrap_or(0));
     let width = if number.is_none() {
         0
     } else {
         tree.shape().width as usize
     };
-    let found = tree.after(pages, &entry[..width])?;
-    Ok(found.map(|entry| number_of(&entry, tree.shape())))
+    number_found(rt, tree.after(pages, &entry[..width]), tree.shape())
 }
 
-fn next(cursor: &mut Cursor, tree: &Tree, pages: &mut MemoryPages) -> Result<Option<u64>, Fault> {
+fn next(rt: &impl Abort, cursor: &mut Cursor, tree: &Tree, pages: &mut MemoryPages) -> Option<u64> {
     let mut entry = Entry::new();
-    if !cursor.next(tree, pages, &mut entry)? {
-        return Ok(None);
+    let is_found = cursor.next(tree, pages, &mut entry);
+    if !is_found.expect(rt, "the tree is read") {
+        return None;
     }
-    Ok(Some(number_of(&entry, tree.shape())))
+    Some(number_of(&entry, tree.shape()))
 }
 
 // Whether the next number is this one. The cursor stays.
 fn is_next(
+    rt: &impl Abort,
     cursor: &Cursor,
     tree: &Tree,
     pages: &mut MemoryPages,
     number: u64,
-) -> Result<bool, Fault> {
+) -> bool {
     let entry = entry_of(tree.shape(), number);
     let width = tree.shape().width as usize;
-    cursor.next_begins_with(tree, pages, &entry[..width])
+    let begins = cursor.next_begins_with(tree, pages, &entry[..width]);
+    begins.expect(rt, "the tree is read")
 }
 
 // The first number from one to another, and whether the next number is one of them too.
 fn first_within(
+    rt: &impl Abort,
     tree: &Tree,
     pages: &mut MemoryPages,
     from: u64,
     to: u64,
-) -> Result<Option<(u64, bool)>, Fault> {
+) -> Option<(u64, bool)> {
     let least = entry_of(tree.shape(), from);
     let greatest = entry_of(tree.shape(), to);
     let width = tree.shape().width as usize;
-    match tree.first_within(pages, &least[..width], &greatest[..width])? {
-        None => Ok(None),
-        Some(first) => Ok(Some((number_of(&first.entry, tree.shape()), first.followed))),
+    let found = tree.first_within(pages, &least[..width], &greatest[..width]);
+    match found.expect(rt, "the tree is read") {
+        None => None,
+        Some(first) => Some((number_of(&first.entry, tree.shape()), first.followed)),
     }
 }
 
-fn last(tree: &Tree, pages: &mut MemoryPages) -> Result<Option<u64>, Fault> {
-    let found = tree.last(pages)?;
-    Ok(found.map(|entry| number_of(&entry, tree.shape())))
+fn last(rt: &impl Abort, tree: &Tree, pages: &mut MemoryPages) -> Option<u64> {
+    number_found(rt, tree.last(pages), tree.shape())
 }
 
 // Adds the children of an inner node that has so many separators at least.
 fn add_children(
     rt: &impl Abort,
-    pages: &mut MemoryPages,
+    page: &[u8; 4096],
     shape: Shape,
-    page: u32,
     least: usize,
     below: &mut Vec<u32>,
-) -> Result<(), Fail> {
-    let bytes = *pages.page(page)?;
-    assert!(rt; is_inner(&bytes, shape));
-    let node = InnerView {
-        page: &bytes,
-        shape,
-    };
+) {
+    assert!(rt; is_inner(page, shape));
+    let node = InnerView { page, shape };
     let count = node.count();
-    assert!(rt; count >= least);
+    assert_that(rt, count >= least);
     for i in 0..count + 1 {
-        below.push(node.child(i))?;
+        below.push(node.child(i)).expect(rt, "memory");
     }
-    Ok(())
+}
+
+// The children of these inner nodes, which have so many separators at least.
+fn children(
+    rt: &impl Abort,
+    alloc: Global,
+    pages: &MemoryPages,
+    shape: Shape,
+    row: &[u32],
+    least: usize,
+) -> Vec<u32> {
+    let mut below = Vec::new(alloc);
+    for &page in row {
+        add_children(rt, page_of(rt, pages, page), shape, least, &mut below);
+    }
+    below
 }
 
 // How many entries a leaf has, which are so many at least.
-fn count_leaf(
-    rt: &impl Abort,
-    pages: &mut MemoryPages,
-    shape: Shape,
-    page: u32,
-    least: usize,
-) -> Result<usize, Fail> {
-    let bytes = *pages.page(page)?;
-    assert!(rt; is_leaf(&bytes, shape));
-    let leaf = LeafView {
-        page: &bytes,
-        shape,
-    };
+fn count_leaf(rt: &impl Abort, page: &[u8; 4096], shape: Shape, least: usize) -> usize {
+    assert!(rt; is_leaf(page, shape));
+    let leaf = LeafView { page, shape };
     let count = leaf.count();
-    assert!(rt; count >= least);
-    Ok(count)
+    assert_that(rt, count >= least);
+    count
+}
+
+// How many entries these leaves have, each of which has so many at least.
+fn count_leaves(
+    rt: &impl Abort,
+    pages: &MemoryPages,
+    shape: Shape,
+    row: &[u32],
+    least: usize,
+) -> usize {
+    let mut entries = 0usize;
+    for &page in row {
+        let count = count_leaf(rt, page_of(rt, pages, page), shape, least);
+        entries = entries.saturating_add(count);
+    }
+    entries
 }
 
 // How many entries the leaves have. Each node but the root is half full at least.
-fn count_filled(
-    rt: &impl Abort,
-    alloc: Global,
-    tree: &Tree,
-    pages: &mut MemoryPages,
-) -> Result<usize, Fail> {
+fn count_filled(rt: &impl Abort, alloc: Global, tree: &Tree, pages: &MemoryPages) -> usize {
     let shape = tree.shape();
     let mut row = Vec::new(alloc);
-    row.push(tree.root())?;
+    row.push(tree.root()).expect(rt, "memory");
     for level in 0..tree.levels() {
         let least = if level == 0 {
             1
         } else {
             shape.inner_room() / 2
         };
-        let mut below = Vec::new(alloc);
-        for &page in row.iter() {
-            add_children(rt, pages, shape, page, least, &mut below)?;
-        }
-        row = below;
+        row = children(rt, alloc, pages, shape, &row, least);
     }
     let least = if tree.levels() == 0 {
         0
     } else {
         shape.leaf_room() / 2
     };
-    let mut entries = 0usize;
-    for &page in row.iter() {
-        entries = entries.saturating_add(count_leaf(rt, pages, shape, page, least)?);
-    }
-    Ok(entries)
+    count_leaves(rt, pages, shape, &row, least)
 }
 
 #[derive(Clone, Copy)]
@@ -241,126 +255,178 @@ fn in_order(order: Order, i: u64) -> u64 {
     }
 }
 
-// The numbers below 3,000 go in, in this order, come back by `after` and by a cursor, and go out in that order.
-fn fill_and_empty(
-    rt: &impl Abort,
-    alloc: Global,
-    shape: Shape,
-    entering: Order,
-    leaving: Order,
-) -> Result<(), Fail> {
-    let mut pages = new_pages(alloc, 0, 1000)?;
-    let mut tree = Tree::empty(&mut pages, shape)?;
+// The numbers below 3,000 go in, in this order.
+fn fill(rt: &impl Abort, tree: &mut Tree, pages: &mut MemoryPages, entering: Order) {
     for i in 0..3000 {
-        let added = put(&mut tree, &mut pages, in_order(entering, i));
-        assert_equal_for(rt, i, added, Ok(true));
+        let added = put(rt, tree, pages, in_order(entering, i));
+        assert_equal_for(rt, i, added, true);
     }
-    assert_equal(rt, count_filled(rt, alloc, &tree, &mut pages)?, 3000);
+}
+
+// They come back by `after` and by a cursor.
+fn come_back(rt: &impl Abort, tree: &Tree, pages: &mut MemoryPages) {
     let mut cursor = tree.cursor(b"");
     let mut number = None;
     for i in 0..3000 {
-        number = after(&tree, &mut pages, number)?;
+        number = after(rt, tree, pages, number);
         assert_equal(rt, number, Some(i));
-        assert_equal(rt, next(&mut cursor, &tree, &mut pages), Ok(Some(i)));
+        assert_equal(rt, next(rt, &mut cursor, tree, pages), Some(i));
     }
-    assert_equal(rt, next(&mut cursor, &tree, &mut pages), Ok(None));
+    assert_equal(rt, next(rt, &mut cursor, tree, pages), None);
+}
+
+// They go out, in this order.
+fn empty(rt: &impl Abort, tree: &mut Tree, pages: &mut MemoryPages, leaving: Order) {
     for i in 0..3000 {
-        let taken = take(&mut tree, &mut pages, in_order(leaving, i));
-        assert_equal_for(rt, i, taken, Ok(true));
+        let taken = take(rt, tree, pages, in_order(leaving, i));
+        assert_equal_for(rt, i, taken, true);
     }
+}
+
+fn fill_and_empty(rt: &impl Abort, alloc: Global, shape: Shape, entering: Order, leaving: Order) {
+    let mut pages = new_pages(rt, alloc, 0, 1000);
+    let mut tree = Tree::empty(&mut pages, shape).expect(rt, "a tree");
+    fill(rt, &mut tree, &mut pages, entering);
+    assert_equal(rt, count_filled(rt, alloc, &tree, &pages), 3000);
+    come_back(rt, &tree, &mut pages);
+    empty(rt, &mut tree, &mut pages, leaving);
     assert_equal(rt, (tree.height(), tree.count(), pages.taken()), (1, 0, 1));
-    Ok(())
 }
 
 #[test]
-fn entries_come_back_in_order_and_leave_one_leaf(rt: HostRuntime) -> Result<(), Fail> {
+fn entries_come_back_in_order_and_leave_one_leaf(rt: HostRuntime) {
     reads_its_entries();
     have_many_entries();
-    fill_and_empty(&rt, rt.alloc(), SHORT, Order::Rising, Order::Mixed)?;
-    fill_and_empty(&rt, rt.alloc(), SHORT, Order::Falling, Order::Rising)?;
-    fill_and_empty(&rt, rt.alloc(), SHORT, Order::Mixed, Order::Falling)
+    fill_and_empty(&rt, rt.alloc(), SHORT, Order::Rising, Order::Mixed);
+    fill_and_empty(&rt, rt.alloc(), SHORT, Order::Falling, Order::Rising);
+    fill_and_empty(&rt, rt.alloc(), SHORT, Order::Mixed, Order::Falling);
 }
 
 #[test]
-fn long_entries_that_come_in_rising_order_leave_in_it(rt: HostRuntime) -> Result<(), Fail> {
-    fill_and_empty(&rt, rt.alloc(), LONG, Order::Rising, Order::Rising)
+fn long_entries_that_come_in_rising_order_leave_in_it(rt: HostRuntime) {
+    fill_and_empty(&rt, rt.alloc(), LONG, Order::Rising, Order::Rising);
 }
 
 #[test]
-fn long_entries_that_come_in_falling_order_leave_in_it(rt: HostRuntime) -> Result<(), Fail> {
-    fill_and_empty(&rt, rt.alloc(), LONG, Order::Falling, Order::Falling)
+fn long_entries_that_come_in_falling_order_leave_in_it(rt: HostRuntime) {
+    fill_and_empty(&rt, rt.alloc(), LONG, Order::Falling, Order::Falling);
 }
 
 #[test]
-fn long_entries_that_come_in_mixed_order_leave_in_it(rt: HostRuntime) -> Result<(), Fail> {
-    fill_and_empty(&rt, rt.alloc(), LONG, Order::Mixed, Order::Mixed)
+fn long_entries_that_come_in_mixed_order_leave_in_it(rt: HostRuntime) {
+    fill_and_empty(&rt, rt.alloc(), LONG, Order::Mixed, Order::Mixed);
 }
 
-#[test]
-fn a_leaf_is_split_by_the_entry_that_it_has_no_room_for(rt: HostRuntime) -> Result<(), Fail> {
-    for &(width, entry, room) in &[(8, 10, 408), (12, 18, 226), (240, 255, 16), (258, 508, 8)] {
-        assert!(rt; 1 <= width && width <= 258 && width <= entry && entry <= 508);
-        let shape = Shape {
-            key: 0,
-            width,
-            entry,
-        };
-        let mut pages = new_pages(rt.alloc(), 0, 3)?;
-        let mut tree = Tree::empty(&mut pages, shape)?;
-        for i in 0..room {
-            assert_equal_for(&rt, i, put(&mut tree, &mut pages, i), Ok(true));
-        }
-        assert_equal_for(&rt, room, tree.height(), 1);
-        assert_equal_for(&rt, room, put(&mut tree, &mut pages, 0), Ok(false));
-        assert_equal_for(&rt, room, put(&mut tree, &mut pages, room), Ok(true));
-        assert_equal_for(&rt, room, tree.height(), 2);
+const NARROWEST: Shape = Shape {
+    key: 0,
+    width: 8,
+    entry: 10,
+};
+
+const NARROW: Shape = Shape {
+    key: 0,
+    width: 12,
+    entry: 18,
+};
+
+const WIDE: Shape = Shape {
+    key: 0,
+    width: 240,
+    entry: 255,
+};
+
+const WIDEST: Shape = Shape {
+    key: 0,
+    width: 258,
+    entry: 508,
+};
+
+// How many entries a leaf has room for.
+const ROOMS: [(Shape, u64); 4] = [(NARROWEST, 408), (NARROW, 226), (WIDE, 16), (WIDEST, 8)];
+
+// The numbers below `room` fill one leaf, and the next number splits it.
+fn room_fills_a_leaf(rt: &impl Abort, alloc: Global, shape: Shape, room: u64) {
+    let mut pages = new_pages(rt, alloc, 0, 3);
+    let mut tree = Tree::empty(&mut pages, shape).expect(rt, "a tree");
+    for i in 0..room {
+        assert_equal_for(rt, i, put(rt, &mut tree, &mut pages, i), true);
     }
-    Ok(())
+    assert_equal_for(rt, room, tree.height(), 1);
+    assert_equal_for(rt, room, put(rt, &mut tree, &mut pages, 0), false);
+    assert_equal_for(rt, room, put(rt, &mut tree, &mut pages, room), true);
+    assert_equal_for(rt, room, tree.height(), 2);
 }
 
 #[test]
-fn a_cursor_gives_what_after_gives_while_the_tree_changes(rt: HostRuntime) -> Result<(), Fail> {
-    let mut pages = new_pages(rt.alloc(), 0, 1000)?;
-    let mut tree = Tree::empty(&mut pages, LONGEST)?;
-    for i in 0..500u64 {
-        put(&mut tree, &mut pages, i.wrapping_mul(4))?;
+fn a_leaf_is_split_by_the_entry_that_it_has_no_room_for(rt: HostRuntime) {
+    for &(shape, room) in &ROOMS {
+        room_fills_a_leaf(&rt, rt.alloc(), shape, room);
     }
+}
+
+// A tree of the first numbers, each so many times.
+fn tree_of(rt: &impl Abort, pages: &mut MemoryPages, count: u64, times: u64) -> Tree {
+    let mut tree = Tree::empty(pages, LONGEST).expect(rt, "a tree");
+    for i in 0..count {
+        put(rt, &mut tree, pages, i.wrapping_mul(times));
+    }
+    tree
+}
+
+// What is done to the tree between two numbers that the cursor gives.
+fn change_between(rt: &impl Abort, tree: &mut Tree, pages: &mut MemoryPages, step: u64) {
+    match step % 5 {
+        1 => put(rt, tree, pages, step.wrapping_mul(3)),
+        3 => take(rt, tree, pages, step.wrapping_mul(4)),
+        _ => true,
+    };
+}
+
+#[test]
+fn a_cursor_gives_what_after_gives_while_the_tree_changes(rt: HostRuntime) {
+    let mut pages = new_pages(&rt, rt.alloc(), 0, 1000);
+    let mut tree = tree_of(&rt, &mut pages, 500, 4);
     let mut cursor = tree.cursor(b"");
     let mut number = None;
     for step in 0..400u64 {
-        number = after(&tree, &mut pages, number)?;
+        number = after(&rt, &tree, &mut pages, number);
         assert_that(&rt, number.is_some());
-        assert_equal_for(&rt, step, next(&mut cursor, &tree, &mut pages), Ok(number));
-        match step % 5 {
-            1 => put(&mut tree, &mut pages, step.wrapping_mul(3))?,
-            3 => take(&mut tree, &mut pages, step.wrapping_mul(4))?,
-            _ => true,
-        };
+        let found = next(&rt, &mut cursor, &tree, &mut pages);
+        assert_equal_for(&rt, step, found, number);
+        change_between(&rt, &mut tree, &mut pages, step);
     }
-    Ok(())
+}
+
+// The next number of a cursor is this one, and not the one behind it.
+fn stands_before(
+    rt: &impl Abort,
+    cursor: &mut Cursor,
+    tree: &Tree,
+    pages: &mut MemoryPages,
+    number: u64,
+) {
+    assert_that(rt, is_next(rt, cursor, tree, pages, number));
+    assert_that(
+        rt,
+        !is_next(rt, cursor, tree, pages, number.wrapping_add(1)),
+    );
+    assert_equal(rt, next(rt, cursor, tree, pages), Some(number));
 }
 
 #[test]
-fn a_cursor_tells_how_the_next_entry_begins_and_stays(rt: HostRuntime) -> Result<(), Fail> {
-    let mut pages = new_pages(rt.alloc(), 0, 1000)?;
-    let mut tree = Tree::empty(&mut pages, LONGEST)?;
-    for i in 0..20 {
-        put(&mut tree, &mut pages, i)?;
-    }
+fn a_cursor_tells_how_the_next_entry_begins_and_stays(rt: HostRuntime) {
+    let mut pages = new_pages(&rt, rt.alloc(), 0, 1000);
+    let mut tree = tree_of(&rt, &mut pages, 20, 1);
     let mut cursor = tree.cursor(b"");
-    for i in 0..20u64 {
-        assert_equal(&rt, is_next(&cursor, &tree, &mut pages, i), Ok(true));
-        let behind = is_next(&cursor, &tree, &mut pages, i.wrapping_add(1));
-        assert_equal(&rt, behind, Ok(false));
-        assert_equal(&rt, next(&mut cursor, &tree, &mut pages), Ok(Some(i)));
+    for i in 0..20 {
+        stands_before(&rt, &mut cursor, &tree, &mut pages, i);
     }
     let goes_on = cursor.next_begins_with(&tree, &mut pages, b"");
     assert_equal(&rt, goes_on, Ok(false));
-    assert_equal(&rt, put(&mut tree, &mut pages, 20), Ok(true));
+    assert_that(&rt, put(&rt, &mut tree, &mut pages, 20));
     let goes_on = cursor.next_begins_with(&tree, &mut pages, b"");
     assert_equal(&rt, goes_on, Ok(true));
-    assert_equal(&rt, is_next(&cursor, &tree, &mut pages, 20), Ok(true));
-    Ok(())
+    assert_that(&rt, is_next(&rt, &cursor, &tree, &mut pages, 20));
 }
 
 // The next number of a series that looks like chance.
@@ -368,6 +434,61 @@ fn another(random: u64) -> u64 {
     random
         .wrapping_mul(6364136223846793005)
         .wrapping_add(1442695040888963407)
+}
+
+// The first number from this one to the fourth behind it is that of the list, from this place on.
+fn is_first_within(
+    rt: &impl Abort,
+    tree: &Tree,
+    pages: &mut MemoryPages,
+    list: &[u64],
+    place: usize,
+    number: u64,
+) {
+    let to = number.saturating_add(4);
+    let first = match list.get(place) {
+        Some(&first) if first <= to => {
+            let followed = match list.get(place.saturating_add(1)) {
+                Some(&next) => next <= to,
+                None => false,
+            };
+            Some((first, followed))
+        }
+        _ => None,
+    };
+    assert_equal(rt, first_within(rt, tree, pages, number, to), first);
+}
+
+// A number is put into a tree, and into the list at its place.
+fn put_into_both(
+    rt: &impl Abort,
+    tree: &mut Tree,
+    pages: &mut MemoryPages,
+    list: &mut Vec<u64>,
+    place: usize,
+    number: u64,
+) {
+    let there = list.get(place).copied() == Some(number);
+    assert_equal(rt, put(rt, tree, pages, number), !there);
+    if !there && place <= list.len() {
+        list.insert(place, number).expect(rt, "memory");
+    }
+}
+
+// A number is taken out of a tree, and out of the list at its place.
+fn take_from_both(
+    rt: &impl Abort,
+    tree: &mut Tree,
+    pages: &mut MemoryPages,
+    list: &mut Vec<u64>,
+    place: usize,
+    number: u64,
+) {
+    let there = list.get(place).copied() == Some(number);
+    assert_equal(rt, take(rt, tree, pages, number), there);
+    if there && place < list.len() {
+        list.remove(place);
+    }
 }
 
 // One change or look-up of a tree and of the list beside it.
@@ -378,61 +499,40 @@ fn step(
     list: &mut Vec<u64>,
     choice: u64,
     number: u64,
-) -> Result<(), Fail> {
+) {
     let place = list.partition_point(|&other| other < number);
     let behind = list.get(place).copied();
-    let there = behind == Some(number);
     match choice {
         0 => {
-            assert_equal(rt, find(tree, pages, number)?.is_some(), there);
-            assert_equal(rt, is_there(rt, tree, pages, number)?, there);
+            let there = behind == Some(number);
+            assert_equal(rt, find(rt, tree, pages, number).is_some(), there);
+            assert_equal(rt, is_there(rt, tree, pages, number), there);
         }
-        1 => assert_equal(rt, at_or_after(tree, pages, number)?, behind),
-        2 => assert_equal(rt, last(tree, pages)?, list.last().copied()),
-        3 => {
-            let to = number.saturating_add(4);
-            let next = list.get(place.saturating_add(1)).copied();
-            let first = behind
-                .filter(|&other| other <= to)
-                .map(|other| (other, next.is_some_and(|other| other <= to)));
-            assert_equal(rt, first_within(tree, pages, number, to)?, first);
-        }
-        4 | 5 | 6 => {
-            assert_equal(rt, put(tree, pages, number)?, !there);
-            if !there && place <= list.len() {
-                list.insert(place, number)?;
-            }
-        }
-        _ => {
-            assert_equal(rt, take(tree, pages, number)?, there);
-            if there && place < list.len() {
-                list.remove(place);
-            }
-        }
+        1 => assert_equal(rt, at_or_after(rt, tree, pages, number), behind),
+        2 => assert_equal(rt, last(rt, tree, pages), list.last().copied()),
+        3 => is_first_within(rt, tree, pages, list, place, number),
+        4 | 5 | 6 => put_into_both(rt, tree, pages, list, place, number),
+        _ => take_from_both(rt, tree, pages, list, place, number),
     }
-    Ok(())
 }
 
 #[test]
-fn a_series_of_changes_goes_as_in_a_list_in_order(rt: HostRuntime) -> Result<(), Fail> {
-    let mut pages = new_pages(rt.alloc(), 0, 1000)?;
-    let mut tree = Tree::empty(&mut pages, LONGEST)?;
+fn a_series_of_changes_goes_as_in_a_list_in_order(rt: HostRuntime) {
+    let mut pages = new_pages(&rt, rt.alloc(), 0, 1000);
+    let mut tree = Tree::empty(&mut pages, LONGEST).expect(&rt, "a tree");
     let mut list = Vec::new(rt.alloc());
     let mut random = 1u64;
     for i in 0..20000u64 {
         random = another(random);
-        step(
-            &rt,
-            &mut tree,
-            &mut pages,
-            &mut list,
-            (random >> 20) % 10,
-            (random >> 33) % 700,
-        )?;
+        let (choice, number) = ((random >> 20) % 10, (random >> 33) % 700);
+        step(&rt, &mut tree, &mut pages, &mut list, choice, number);
         if i % 100 == 0 {
-            assert!(rt; count_filled(&rt, rt.alloc(), &tree, &mut pages)? == list.len());
+            assert_equal(
+                &rt,
+                count_filled(&rt, rt.alloc(), &tree, &pages),
+                list.len(),
+            );
         }
     }
-    assert!(rt; tree.count() == list.len() as u64);
-    Ok(())
+    assert_equal(&rt, tree.count(), list.len() as u64);
 }

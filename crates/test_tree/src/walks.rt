@@ -1,4 +1,5 @@
-//! What no clause says: which faults are told, and that each call can succeed. The pages are written byte by byte, as the format says.
+//! What no clause says: which faults are told, and that each call can succeed. The pages are written
+//! byte by byte, as the format says.
 
 use crate::checks::{assert_equal, assert_equal_for, assert_that};
 use crate::memory_pages::{new_pages, put_byte};
@@ -7,7 +8,6 @@ use page_marks::{FaultPlace, PageFault, WalkFault, all_marked, mark};
 use page_walks::{Leaf, Spot, trees_stay, walk_free, walk_tree, walks_part_the_file};
 use std::alloc::Global;
 use std::process::Abort;
-use std::test::Fail;
 use tree_node::Shape;
 
 // A leaf has 4 to 8 entries, and an inner node 7 to 15 separators.
@@ -29,7 +29,8 @@ fn put_leaf(rt: &impl Abort, pages: &mut [[u8; 4096]], n: usize, keys: &[u8]) {
     }
 }
 
-// An inner node: its first child, and separators that begin with these bytes, each with the child to its right.
+// An inner node: its first child, and separators that begin with these bytes, each with the child to
+// its right.
 fn put_inner(
     rt: &impl Abort,
     pages: &mut [[u8; 4096]],
@@ -50,12 +51,12 @@ fn put_inner(
 }
 
 // Root 1 above leaves 2 and 3.
-fn two_leaves(rt: &impl Abort, alloc: Global) -> Result<Vec<[u8; 4096]>, Fail> {
-    let mut pages = new_pages(alloc, 3, 0)?.pages;
+fn two_leaves(rt: &impl Abort, alloc: Global) -> Vec<[u8; 4096]> {
+    let mut pages = new_pages(rt, alloc, 3, 0).pages;
     put_inner(rt, &mut pages, 1, 2, &[(20, 3)]);
     put_leaf(rt, &mut pages, 2, &[10, 11, 12, 13]);
     put_leaf(rt, &mut pages, 3, &[20, 21, 22, 23]);
-    Ok(pages)
+    pages
 }
 
 fn tree(rt: &impl Abort, root: u32, levels: u8, count: u64) -> Tree {
@@ -63,82 +64,89 @@ fn tree(rt: &impl Abort, root: u32, levels: u8, count: u64) -> Tree {
     Tree::stored(LONGEST, root, levels, count)
 }
 
-#[test]
-fn the_entries_of_a_tree_are_found_in_order(rt: HostRuntime) -> Result<(), Fail> {
-    trees_stay();
-    let pages = two_leaves(&rt, rt.alloc())?;
-    let mut reached = [false; 4];
-    let leaves = walk_tree(rt.alloc(), &pages, &tree(&rt, 1, 1, 8), &mut reached)?;
-    assert_equal(&rt, reached, [false, true, true, true]);
-    assert_equal(
-        &rt,
-        leaves.as_slice(),
-        [Leaf { page: 2, count: 4 }, Leaf { page: 3, count: 4 }].as_slice(),
-    );
-    let mut keys = Vec::new(rt.alloc());
-    for leaf in leaves.iter() {
-        for place in 0..leaf.count {
-            let spot = Spot {
-                page: leaf.page,
-                place,
-            };
-            let entry = spot.entry(&pages, LONGEST).expect(&rt, "an entry");
-            assert!(rt; entry.len() == 508);
-            keys.push(entry[0])?;
-        }
-    }
-    assert_equal(
-        &rt,
-        keys.as_slice(),
-        [10, 11, 12, 13, 20, 21, 22, 23].as_slice(),
-    );
-    for &(page, place) in &[(0, 0), (1, 0), (2, 4), (4, 0)] {
-        let spot = Spot { page, place };
-        assert_that(&rt, spot.entry(&pages, LONGEST).is_none());
-    }
-    Ok(())
+// The leaves of these pages, which a walk finds.
+const LEAVES: &[Leaf] = &[Leaf { page: 2, count: 4 }, Leaf { page: 3, count: 4 }];
+
+// The first byte of an entry, which has 508.
+fn first_byte(rt: &impl Abort, pages: &[[u8; 4096]], spot: Spot) -> u8 {
+    let entry = spot.entry(pages, LONGEST).expect(rt, "an entry");
+    assert!(rt; entry.len() == 508);
+    entry[0]
 }
 
+// The first bytes of the entries of a leaf, behind others.
+fn add_keys(rt: &impl Abort, pages: &[[u8; 4096]], leaf: Leaf, keys: &mut Vec<u8>) {
+    for place in 0..leaf.count {
+        let spot = Spot {
+            page: leaf.page,
+            place,
+        };
+        let key = first_byte(rt, pages, spot);
+        keys.push(key).expect(rt, "memory");
+    }
+}
+
+// Places where no entry is.
+const NO_SPOTS: [Spot; 4] = [
+    Spot { page: 0, place: 0 },
+    Spot { page: 1, place: 0 },
+    Spot { page: 2, place: 4 },
+    Spot { page: 4, place: 0 },
+];
+
+#[test]
+fn the_entries_of_a_tree_are_found_in_order(rt: HostRuntime) {
+    trees_stay();
+    let pages = two_leaves(&rt, rt.alloc());
+    let mut reached = [false; 4];
+    let tree = tree(&rt, 1, 1, 8);
+    let leaves = walk_tree(rt.alloc(), &pages, &tree, &mut reached).expect(&rt, "the leaves");
+    assert_equal(&rt, reached, [false, true, true, true]);
+    assert_equal(&rt, leaves.as_slice(), LEAVES);
+    let mut keys = Vec::new(rt.alloc());
+    for &leaf in leaves.iter() {
+        add_keys(&rt, &pages, leaf, &mut keys);
+    }
+    let expected = b"\x0a\x0b\x0c\x0d\x14\x15\x16\x17".as_slice();
+    assert_equal(&rt, keys.as_slice(), expected);
+    for &spot in &NO_SPOTS {
+        assert_that(&rt, spot.entry(&pages, LONGEST).is_none());
+    }
+}
+
+// The separators of an inner node above eight leaves of four entries, and those of another one.
+const BRANCHES: &[(u8, u8)] = &[
+    (4, 5),
+    (8, 6),
+    (12, 7),
+    (16, 8),
+    (20, 9),
+    (24, 10),
+    (28, 11),
+];
+
+const OTHER_BRANCHES: &[(u8, u8)] = &[
+    (36, 13),
+    (40, 14),
+    (44, 15),
+    (48, 16),
+    (52, 17),
+    (56, 18),
+    (60, 19),
+];
+
 // A root above two inner nodes, each above eight leaves of four entries.
-fn three_levels(rt: &impl Abort, alloc: Global) -> Result<Vec<[u8; 4096]>, Fail> {
-    let mut pages = new_pages(alloc, 19, 0)?.pages;
+fn three_levels(rt: &impl Abort, alloc: Global) -> Vec<[u8; 4096]> {
+    let mut pages = new_pages(rt, alloc, 19, 0).pages;
     put_inner(rt, &mut pages, 1, 2, &[(32, 3)]);
-    put_inner(
-        rt,
-        &mut pages,
-        2,
-        4,
-        &[
-            (4, 5),
-            (8, 6),
-            (12, 7),
-            (16, 8),
-            (20, 9),
-            (24, 10),
-            (28, 11),
-        ],
-    );
-    put_inner(
-        rt,
-        &mut pages,
-        3,
-        12,
-        &[
-            (36, 13),
-            (40, 14),
-            (44, 15),
-            (48, 16),
-            (52, 17),
-            (56, 18),
-            (60, 19),
-        ],
-    );
+    put_inner(rt, &mut pages, 2, 4, BRANCHES);
+    put_inner(rt, &mut pages, 3, 12, OTHER_BRANCHES);
     for leaf in 0..16u8 {
         let first = 4 * leaf;
         let keys = [first, first + 1, first + 2, first + 3];
         put_leaf(rt, &mut pages, leaf as usize + 4, &keys);
     }
-    Ok(pages)
+    pages
 }
 
 // Why a walk over these gives up.
@@ -151,44 +159,50 @@ fn fault_of_three_levels(
     walk_tree(alloc, pages, &tree(rt, 1, 2, count), &mut [false; 20]).err()
 }
 
+// A byte of an inner node that is changed, the separator that is told then, and what is wrong.
+const DISORDERS: [(usize, usize, u8, u32, &str); 3] = [
+    (3, 20, 31, 0, "a separator below the one above it"),
+    (
+        2,
+        20 + 262 * 6,
+        32,
+        6,
+        "a separator not below the one above it",
+    ),
+    (3, 20 + 262 * 2, 48, 2, "a separator twice"),
+];
+
 #[test]
-fn a_tree_of_three_levels_is_walked(rt: HostRuntime) -> Result<(), Fail> {
-    let mut pages = three_levels(&rt, rt.alloc())?;
+fn a_tree_of_three_levels_is_walked(rt: HostRuntime) {
+    let pages = three_levels(&rt, rt.alloc());
     let mut reached = [false; 20];
-    mark(&mut reached, 0)?;
-    let leaves = walk_tree(rt.alloc(), &pages, &tree(&rt, 1, 2, 64), &mut reached)?;
-    assert_equal(
-        &rt,
-        leaves.get(8).copied(),
-        Some(Leaf { page: 12, count: 4 }),
-    );
+    assert_equal(&rt, mark(&mut reached, 0), Ok(()));
+    let tree = tree(&rt, 1, 2, 64);
+    let leaves = walk_tree(rt.alloc(), &pages, &tree, &mut reached).expect(&rt, "the leaves");
+    let ninth = leaves.get(8).copied();
+    assert_equal(&rt, ninth, Some(Leaf { page: 12, count: 4 }));
     assert_that(&rt, all_marked(&reached));
+}
+
+#[test]
+fn each_damage_of_a_tree_of_three_levels_has_its_fault(rt: HostRuntime) {
+    let mut pages = three_levels(&rt, rt.alloc());
     // An inner node that has too little.
     let six = put_byte(&rt, &mut pages, 2, 3, 6);
     let found = fault_of_three_levels(&rt, rt.alloc(), &pages, 60);
     assert_equal(&rt, found, Some(WalkFault::of_page(PageFault::Node, 2)));
     put_byte(&rt, &mut pages, 2, 3, six);
-    for &(n, at, byte, separator, what) in &[
-        (3, 20, 31, 0, "a separator below the one above it"),
-        (
-            2,
-            20 + 262 * 6,
-            32,
-            6,
-            "a separator not below the one above it",
-        ),
-        (3, 20 + 262 * 2, 48, 2, "a separator twice"),
-    ] {
+    for &(n, at, byte, separator, what) in &DISORDERS {
         let was = put_byte(&rt, &mut pages, n, at, byte);
         let found = fault_of_three_levels(&rt, rt.alloc(), &pages, 64);
         let fault = WalkFault::of_entry(PageFault::Order, n as u32, separator);
         assert_equal_for(&rt, what, found, Some(fault));
         put_byte(&rt, &mut pages, n, at, was);
     }
-    Ok(())
 }
 
-// A byte of the two leaves or their root that is changed, the fault that is told then, and what is wrong.
+// A byte of the two leaves or their root that is changed, the fault that is told then, and what is
+// wrong.
 const DAMAGES: [(usize, usize, u8, PageFault, FaultPlace, &str); 13] = [
     (
         1,
@@ -296,7 +310,8 @@ const DAMAGES: [(usize, usize, u8, PageFault, FaultPlace, &str); 13] = [
     ),
 ];
 
-// Where the root is, its levels and entries, and the fault that is told. A root that is not there is told at page 0.
+// Where the root is, its levels and entries, and the fault that is told. A root that is not there is
+// told at page 0.
 const WRONG_ROOTS: [(u32, u8, u64, PageFault, u32); 8] = [
     (1, 1, 7, PageFault::Count, 1),
     (1, 1, 9, PageFault::Count, 1),
@@ -309,66 +324,83 @@ const WRONG_ROOTS: [(u32, u8, u64, PageFault, u32); 8] = [
 ];
 
 #[test]
-fn each_damage_of_a_tree_has_its_fault(rt: HostRuntime) -> Result<(), Fail> {
-    let mut pages = two_leaves(&rt, rt.alloc())?;
+fn each_damage_of_a_tree_has_its_fault(rt: HostRuntime) {
+    let mut pages = two_leaves(&rt, rt.alloc());
+    let tree = tree(&rt, 1, 1, 8);
     for &(n, at, byte, fault, place, what) in &DAMAGES {
         let was = put_byte(&rt, &mut pages, n, at, byte);
-        let found = walk_tree(rt.alloc(), &pages, &tree(&rt, 1, 1, 8), &mut [false; 4]);
+        let found = walk_tree(rt.alloc(), &pages, &tree, &mut [false; 4]);
         assert_equal_for(&rt, what, found.err(), Some(WalkFault::At(fault, place)));
         put_byte(&rt, &mut pages, n, at, was);
     }
+}
+
+#[test]
+fn each_wrong_root_of_a_tree_has_its_fault(rt: HostRuntime) {
+    let pages = two_leaves(&rt, rt.alloc());
     for &(root, levels, count, fault, page) in &WRONG_ROOTS {
         let tree = tree(&rt, root, levels, count);
         let found = walk_tree(rt.alloc(), &pages, &tree, &mut [false; 4]);
         let fault = WalkFault::of_page(fault, page);
         assert_equal_for(&rt, (root, levels, count), found.err(), Some(fault));
     }
-    Ok(())
 }
 
 // Pages 3 and 1 are free, in this order.
+fn two_free(rt: &impl Abort, alloc: Global) -> Vec<[u8; 4096]> {
+    let mut pages = new_pages(rt, alloc, 3, 0).pages;
+    put_byte(rt, &mut pages, 3, 0, b'F');
+    put_byte(rt, &mut pages, 3, 7, 1);
+    put_byte(rt, &mut pages, 1, 0, b'F');
+    pages
+}
+
+// The chain is longer, or shorter, than it is told to be; or its first page is none, is not free, or
+// is not there.
+const WRONG_CHAINS: [(u32, u32, u32); 6] = [
+    (3, 1, 3),
+    (3, 3, 1),
+    (3, u32::MAX, 1),
+    (0, 1, 0),
+    (2, 1, 2),
+    (4, 1, 0),
+];
+
 #[test]
-fn the_free_pages_are_walked(rt: HostRuntime) -> Result<(), Fail> {
+fn the_free_pages_are_walked(rt: HostRuntime) {
     walks_part_the_file();
-    let mut pages = new_pages(rt.alloc(), 3, 0)?.pages;
-    put_byte(&rt, &mut pages, 3, 0, b'F');
-    put_byte(&rt, &mut pages, 3, 7, 1);
-    put_byte(&rt, &mut pages, 1, 0, b'F');
+    let pages = two_free(&rt, rt.alloc());
     let mut reached = [false; 4];
-    walk_free(&pages, 3, 2, &mut reached)?;
+    assert_equal(&rt, walk_free(&pages, 3, 2, &mut reached), Ok(()));
     assert_equal(&rt, reached, [false, true, false, true]);
-    assert_equal(
-        &rt,
-        walk_free(&pages, 3, 2, &mut reached),
-        Err(WalkFault::of_page(PageFault::Shared, 3)),
-    );
-    walk_free(&pages, 0, 0, &mut reached)?;
-    // The chain is longer, or shorter, than it is told to be; or its first page is none, is not free, or is not there.
-    for &(first, count, page) in &[
-        (3, 1, 3),
-        (3, 3, 1),
-        (3, u32::MAX, 1),
-        (0, 1, 0),
-        (2, 1, 2),
-        (4, 1, 0),
-    ] {
+    let again = walk_free(&pages, 3, 2, &mut reached);
+    assert_equal(&rt, again, Err(WalkFault::of_page(PageFault::Shared, 3)));
+    assert_equal(&rt, walk_free(&pages, 0, 0, &mut reached), Ok(()));
+    for &(first, count, page) in &WRONG_CHAINS {
         let found = walk_free(&pages, first, count, &mut [false; 4]);
         let fault = WalkFault::of_page(PageFault::Chain, page);
         assert_equal_for(&rt, (first, count), found, Err(fault));
     }
-    for &(n, at, byte, fault, page, what) in &[
-        (3, 7, 3, PageFault::Shared, 3, "a page that leads to itself"),
-        (3, 7, 2, PageFault::Chain, 2, "a page that is not free"),
-        (1, 1, 1, PageFault::Chain, 1, "a byte that should be zero"),
-        (1, 7, 4, PageFault::Chain, 1, "a chain that does not end"),
-        (3, 7, 4, PageFault::Chain, 3, "a page that is not there"),
-        (3, 7, 0, PageFault::Chain, 3, "a chain that ends too early"),
-    ] {
+}
+
+// A byte of the free pages that is changed, the fault that is told then, and what is wrong.
+const FREE_DAMAGES: [(usize, usize, u8, PageFault, u32, &str); 6] = [
+    (3, 7, 3, PageFault::Shared, 3, "a page that leads to itself"),
+    (3, 7, 2, PageFault::Chain, 2, "a page that is not free"),
+    (1, 1, 1, PageFault::Chain, 1, "a byte that should be zero"),
+    (1, 7, 4, PageFault::Chain, 1, "a chain that does not end"),
+    (3, 7, 4, PageFault::Chain, 3, "a page that is not there"),
+    (3, 7, 0, PageFault::Chain, 3, "a chain that ends too early"),
+];
+
+#[test]
+fn each_damage_of_the_free_pages_has_its_fault(rt: HostRuntime) {
+    let mut pages = two_free(&rt, rt.alloc());
+    for &(n, at, byte, fault, page, what) in &FREE_DAMAGES {
         let was = put_byte(&rt, &mut pages, n, at, byte);
         let found = walk_free(&pages, 3, 2, &mut [false; 4]);
         let fault = WalkFault::of_page(fault, page);
         assert_equal_for(&rt, what, found, Err(fault));
         put_byte(&rt, &mut pages, n, at, was);
     }
-    Ok(())
 }
