@@ -6,7 +6,6 @@ use crate::checks::assert_equal_for;
 use arrayvec::ArrayVec;
 use record_layout::{KeyKind, KeyPart, Schema};
 use std::process::Abort;
-use std::test::Fail;
 
 /// A record of 1 to 300 bytes.
 pub type Record = ArrayVec<u8, 300>;
@@ -74,7 +73,7 @@ fn draws_parts(draw: &mut Draw, least: u16) -> ArrayVec<KeyPart, 4> {
 }
 
 /// The schema of records of 1 to 300 bytes, of one length or of several, with one to four keys.
-pub fn draws_schema(rt: &impl Abort, draw: &mut Draw) -> Result<Schema, Fail> {
+pub fn draws_schema(rt: &impl Abort, draw: &mut Draw) -> Schema {
     let least = draw.between(1, 300);
     let greatest = match draw.below(2) {
         0 => least,
@@ -83,7 +82,7 @@ pub fn draws_schema(rt: &impl Abort, draw: &mut Draw) -> Result<Schema, Fail> {
     let parts = draws_parts(draw, least);
     let schema = Schema::from_parts(least, greatest, parts.as_slice());
     assert_equal_for(rt, (least, greatest), schema.is_some(), true);
-    Ok(schema.ok_or(io_state::Fault::Memory)?)
+    schema.expect(rt, "a schema")
 }
 
 /// A record of one of twenty letters, with another letter in each duplicates key, and some bytes changed.

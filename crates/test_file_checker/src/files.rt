@@ -3,7 +3,7 @@
 ghost use Rattle.memory_shelf.specs.MemShelves.{mem_state_of};
 ghost use Rattle.shelf_file.specs.Standing.{IsReady};
 
-use crate::checks::{assert_equal_for, assert_that};
+use crate::checks::assert_equal_for;
 use byteorder::{BigEndian, ByteOrder};
 use indexed_file::Added;
 use io_state::{FileName, Key};
@@ -14,7 +14,6 @@ use shelf_file::ShelfFile;
 use std::alloc::Global;
 use std::num::NonZeroUsize;
 use std::process::Abort;
-use std::test::Fail;
 
 /// The length of a record, which has three keys of 60 bytes.
 const LENGTH: u16 = 200;
@@ -56,32 +55,24 @@ fn record(n: u32) -> [u8; 200] {
     record
 }
 
-pub fn name() -> FileName {
-    let mut name = FileName::new();
-    name.push_str("FILE");
-    name
+pub fn name(rt: &impl Abort) -> FileName {
+    FileName::from("FILE").expect(rt, "a name")
 }
 
 /// Adds the record of a number.
-fn adds<S: Shelf>(rt: &impl Abort, held: &mut ShelfFile, shelf: &mut S, n: u32) -> Result<(), Fail>
+fn adds<S: Shelf>(rt: &impl Abort, held: &mut ShelfFile, shelf: &mut S, n: u32)
     requires { IsReady held.old (S.state shelf.old) }
     ensures { IsReady held.new (S.state shelf.new) }
 {
     let schema = held.parts().schema();
     assert!(rt; schema.least() == LENGTH);
     assert!(rt; schema.greatest() == LENGTH);
-    let added = held.add(shelf, &record(n))?;
+    let added = held.add(shelf, &record(n)).expect(rt, "an answer");
     assert_equal_for(rt, n, added == Added::Clash, false);
-    Ok(())
 }
 
 /// Removes the record of a number.
-fn removes<S: Shelf>(
-    rt: &impl Abort,
-    held: &mut ShelfFile,
-    shelf: &mut S,
-    n: u32,
-) -> Result<(), Fail>
+fn removes<S: Shelf>(rt: &impl Abort, held: &mut ShelfFile, shelf: &mut S, n: u32)
     requires { IsReady held.old (S.state shelf.old) }
     ensures { IsReady held.new (S.state shelf.new) }
 {
@@ -89,40 +80,32 @@ fn removes<S: Shelf>(
     BigEndian::write_u32(&mut value[NUMBER..], n);
     let mut key = Key::new();
     let _ = key.try_extend_from_slice(&value);
-    assert_equal_for(rt, n, held.remove(shelf, &key)?, true);
-    Ok(())
+    let is_removed = held.remove(shelf, &key).expect(rt, "an answer");
+    assert_equal_for(rt, n, is_removed, true);
 }
 
 /// Adds records of so many numbers, in no order, and removes those of the first ones.
-fn fills<S: Shelf>(
-    rt: &impl Abort,
-    held: &mut ShelfFile,
-    shelf: &mut S,
-    count: u32,
-    removed: u32,
-) -> Result<(), Fail>
+fn fills<S: Shelf>(rt: &impl Abort, held: &mut ShelfFile, shelf: &mut S, count: u32, removed: u32)
     requires { IsReady held.old (S.state shelf.old) }
     ensures { IsReady held.new (S.state shelf.new) }
 {
     for i in 0..count {
-        adds(rt, held, shelf, i.wrapping_mul(1231) % count)?;
+        adds(rt, held, shelf, i.wrapping_mul(1231) % count);
     }
     for n in 0..removed {
-        removes(rt, held, shelf, n)?;
+        removes(rt, held, shelf, n);
     }
-    Ok(())
 }
 
 /// The bytes of the file of a shelf.
-pub fn bytes_of<S: Shelf>(alloc: Global, shelf: &mut S) -> Result<Vec<u8>, Fail> {
-    shelf.attach(&[name()])?;
-    if !shelf.exists(0)? {
-        return Ok(Vec::new(alloc));
-    }
-    let size = shelf.size(0)?;
-    let mut bytes = vec![in alloc; 0; size as usize]?;
-    shelf.read_at(0, 0, &mut bytes)?;
-    Ok(bytes)
+pub fn bytes_of<S: Shelf>(rt: &impl Abort, alloc: Global, shelf: &mut S) -> Vec<u8> {
+    shelf.attach(&[name(rt)]).expect(rt, "attached");
+    let is_there = shelf.exists(0).expect(rt, "an answer");
+    assert!(rt; is_there);
+    let size = shelf.size(0).expect(rt, "a size");
+    let mut bytes = vec![in alloc; 0; size as usize].expect(rt, "memory");
+    shelf.read_at(0, 0, &mut bytes).expect(rt, "the bytes");
+    bytes
 }
 
 /// Makes a file on a shelf, with records of so many numbers but for the first ones, which are removed, and
@@ -134,23 +117,22 @@ fn makes(
     schema: &Schema,
     count: u32,
     removed: u32,
-) -> Result<(), Fail> {
+) {
     let frames = NonZeroUsize::new(4096).unwrap_or(NonZeroUsize::MIN);
-    shelf.attach(&[name()])?;
-    let mut held = ShelfFile::create(alloc, shelf, 0, frames, 100_000, schema)?;
-    fills(rt, &mut held, shelf, count, removed)?;
-    held.close(shelf)?;
-    Ok(())
+    shelf.attach(&[name(rt)]).expect(rt, "attached");
+    let mut held = ShelfFile::create(alloc, shelf, 0, frames, 100_000, schema).expect(
+        rt,
+        "a new file",
+    );
+    fills(rt, &mut held, shelf, count, removed);
+    held.close(shelf).expect(rt, "closed");
 }
 
 /// The bytes of a file that was closed with records of so many numbers, but for the first ones, which were
 /// removed.
-pub fn made(rt: &impl Abort, alloc: Global, count: u32, removed: u32) -> Result<Vec<u8>, Fail> {
-    let schema = Schema::from_parts(LENGTH, LENGTH, &KEYS);
-    assert_that(rt, schema.is_some());
+pub fn made(rt: &impl Abort, alloc: Global, count: u32, removed: u32) -> Vec<u8> {
+    let schema = Schema::from_parts(LENGTH, LENGTH, &KEYS).expect(rt, "a schema");
     let mut shelf = MemShelf::new(alloc);
-    if let Some(schema) = schema {
-        makes(rt, alloc, &mut shelf, &schema, count, removed)?;
-    }
-    bytes_of(alloc, &mut shelf)
+    makes(rt, alloc, &mut shelf, &schema, count, removed);
+    bytes_of(rt, alloc, &mut shelf)
 }

@@ -8,7 +8,6 @@ use page_bytes::PAGE_SIZE;
 use page_marks::FaultPlace;
 use std::alloc::Global;
 use std::process::Abort;
-use std::test::Fail;
 
 fn check(alloc: Global, bytes: &[u8]) -> Result<Verdict, CheckFault> {
     let mut reader = bytes;
@@ -23,40 +22,45 @@ fn sound(records: u32, bytes: &[u8]) -> Verdict {
     }
 }
 
+/// A file with so many records, of which some are removed, is sound, and has so many left.
+fn is_sound(rt: &impl Abort, alloc: Global, count: u32, removed: u32, left: u32) {
+    let bytes = made(rt, alloc, count, removed);
+    let found = check(alloc, &bytes);
+    assert_equal_for(rt, (count, removed), found, Ok(sound(left, &bytes)));
+}
+
 // A body that always finds a file unsound, or always wants memory, fails here.
 #[test]
-fn files_that_were_closed_are_sound(rt: HostRuntime) -> Result<(), Fail> {
+fn files_that_were_closed_are_sound(rt: HostRuntime) {
     let alloc = rt.alloc();
     for &count in &[0, 1, 2, 18, 19, 20, 400, 2000] {
-        let bytes = made(&rt, alloc, count, 0)?;
-        let found = check(alloc, &bytes);
-        assert_equal_for(&rt, count, found, Ok(sound(count, &bytes)));
+        is_sound(&rt, alloc, count, 0, count);
     }
-    Ok(())
 }
 
 // Pages and slots are free then, and trees are lower.
 #[test]
-fn a_file_that_shrank_is_sound(rt: HostRuntime) -> Result<(), Fail> {
+fn a_file_that_shrank_is_sound(rt: HostRuntime) {
     let alloc = rt.alloc();
     for &(removed, left) in &[(1, 399), (200, 200), (399, 1), (400, 0)] {
-        let bytes = made(&rt, alloc, 400, removed)?;
-        let found = check(alloc, &bytes);
-        assert_equal_for(&rt, removed, found, Ok(sound(left, &bytes)));
+        is_sound(&rt, alloc, 400, removed, left);
     }
-    Ok(())
+}
+
+/// So many pages of a file are not all.
+fn is_short(rt: &impl Abort, alloc: Global, bytes: &[u8], pages: usize) {
+    let end = PAGE_SIZE.saturating_mul(pages).min(bytes.len());
+    let found = check(alloc, &bytes[..end]);
+    assert_equal_for(rt, pages, found, Ok(Verdict::Unsound(Reason::Short)));
 }
 
 #[test]
-fn each_part_of_a_file_is_short(rt: HostRuntime) -> Result<(), Fail> {
+fn each_part_of_a_file_is_short(rt: HostRuntime) {
     let alloc = rt.alloc();
-    let bytes = made(&rt, alloc, 2000, 0)?;
+    let bytes = made(&rt, alloc, 2000, 0);
     for page in 0..bytes.len() / PAGE_SIZE {
-        let end = PAGE_SIZE.saturating_mul(page).min(bytes.len());
-        let found = check(alloc, &bytes[..end]);
-        assert_equal_for(&rt, page, found, Ok(Verdict::Unsound(Reason::Short)));
+        is_short(&rt, alloc, bytes.as_slice(), page);
     }
-    Ok(())
 }
 
 /// The number in four bytes.
@@ -79,18 +83,22 @@ fn first_leaf(rt: &impl Abort, bytes: &[u8]) -> usize {
     0
 }
 
-// An entry is a value of 60 bytes and a place of six.
-#[test]
-fn entries_that_are_exchanged_are_out_of_order(rt: HostRuntime) -> Result<(), Fail> {
-    let alloc = rt.alloc();
-    let mut bytes = made(&rt, alloc, 2000, 0)?;
-    let first = first_leaf(&rt, &bytes).saturating_add(16);
+/// Exchanges two entries, of which the first begins there: each is a value of 60 bytes and a place of six.
+fn exchanges(rt: &impl Abort, bytes: &mut [u8], first: usize) {
     for i in 0..66 {
         let left = first.saturating_add(i);
         let right = left.saturating_add(66);
         assert!(rt; right < bytes.len());
         bytes.swap(left, right);
     }
+}
+
+#[test]
+fn entries_that_are_exchanged_are_out_of_order(rt: HostRuntime) {
+    let alloc = rt.alloc();
+    let mut bytes = made(&rt, alloc, 2000, 0);
+    let first = first_leaf(&rt, &bytes).saturating_add(16);
+    exchanges(&rt, bytes.as_mut_slice(), first);
     let unsound = Verdict::Unsound(Reason::Order);
     assert_equal(&rt, check(alloc, &bytes), Ok(unsound));
     let page = u32::try_from(first / PAGE_SIZE).unwrap_or(0);
@@ -98,5 +106,4 @@ fn entries_that_are_exchanged_are_out_of_order(rt: HostRuntime) -> Result<(), Fa
     let mut reader = bytes.as_slice();
     let found = examine_file(alloc, &mut reader);
     assert_equal(&rt, found, Ok(Finding::Unsound(Reason::Order, place)));
-    Ok(())
 }

@@ -1,21 +1,21 @@
 //! A second reader of files: whether bytes stand for records, by the tables of the format alone. It shares
 //! nothing with the checker.
+//!
+//! What it finds in a file it knows by where it begins.
 
 mod first_page;
 mod heap;
 mod numbers;
-mod refusal;
 mod rows;
 mod tree;
 
 use first_page::{FirstPage, KeyRow, read_first_page};
-use heap::{Heap, read_heap};
-use numbers::{PAGE, are_zero, number, page, part, take};
-pub use refusal::Refusal;
-use refusal::holds;
+use heap::Heap;
+use numbers::{are_zero, number, page_start, take};
 use rows::{Row, alternates_are, read_rows};
 use std::alloc::Global;
-use tree::{Tree, entries};
+use std::process::Abort;
+use tree::{Tree, read_entries};
 
 /// How many records and pages bytes stand for.
 #[derive(Clone, Copy, Debug, PartialEq, Eq)]
@@ -24,14 +24,18 @@ pub struct Standing {
     pub pages: u64,
 }
 
-/// How many records and pages the bytes stand for. `Broken` where they do not stand.
-pub fn read(alloc: Global, bytes: &[u8]) -> Result<Standing, Refusal> {
-    let first = read_first_page(bytes)?;
-    let bytes = part(bytes, 0, (first.pages as usize).saturating_mul(PAGE))?;
-    let mut taken = vec![in alloc; false; first.pages as usize]?;
-    parts_stand(alloc, bytes, &first, taken.as_mut_slice())?;
-    holds(taken.iter().all(|is_taken| *is_taken))?;
-    Ok(Standing {
+/// How many records and pages the bytes stand for; none where they do not stand.
+pub fn read(rt: &impl Abort, alloc: Global, bytes: &[u8]) -> Option<Standing> {
+    let first = read_first_page(bytes);
+    if !first.stands(bytes) {
+        return None;
+    }
+    let mut taken = vec![in alloc; false; first.pages as usize].expect(rt, "memory");
+    let stand = parts_stand(rt, alloc, bytes, &first, taken.as_mut_slice());
+    if !stand || taken.as_slice().contains(&false) {
+        return None;
+    }
+    Some(Standing {
         records: first.records,
         pages: first.pages,
     })
@@ -39,44 +43,36 @@ pub fn read(alloc: Global, bytes: &[u8]) -> Result<Standing, Refusal> {
 
 /// Each part of a file stands, and takes its pages.
 fn parts_stand(
+    rt: &impl Abort,
     alloc: Global,
     bytes: &[u8],
     first: &FirstPage,
     taken: &mut [bool],
-) -> Result<(), Refusal> {
-    let Some((prime, alternates)) = first.keys.as_slice().split_first() else {
-        return Err(Refusal::Broken);
-    };
-    take(taken, 0)?;
-    free_pages(bytes, first, taken)?;
-    let heap = read_heap(alloc, bytes, first, taken)?;
-    let rows = prime_rows(alloc, bytes, first, &heap, *prime, taken)?;
-    alternates_stand(alloc, bytes, rows.as_slice(), *prime, alternates, taken)
-}
-
-/// The records that the prime index leads to.
-fn prime_rows<'a>(
-    alloc: Global,
-    bytes: &'a [u8],
-    first: &FirstPage,
-    heap: &Heap<'a>,
-    prime: KeyRow,
-    taken: &mut [bool],
-) -> Result<Vec<Row<'a>>, Refusal> {
-    let found = entries(alloc, bytes, prime_tree(prime), prime, taken)?;
-    read_rows(alloc, first, heap, found.as_slice(), prime)
+) -> bool {
+    let mut heap = Heap::new(rt, alloc, first, taken.len());
+    let mut rows = Vec::new(alloc);
+    take(taken, 0)
+        && free_pages(bytes, first, taken)
+        && heap.reads(bytes, first, taken)
+        && prime_rows(rt, alloc, bytes, first, &heap, taken, &mut rows)
+        && alternates_stand(rt, alloc, bytes, first, rows.as_slice(), taken)
 }
 
 /// The free pages are as many as are counted.
-fn free_pages(bytes: &[u8], first: &FirstPage, taken: &mut [bool]) -> Result<(), Refusal> {
+fn free_pages(bytes: &[u8], first: &FirstPage, taken: &mut [bool]) -> bool {
     let mut at = first.first_free;
     for _ in 0..first.free {
-        take(taken, at)?;
-        let page = page(bytes, at)?;
-        holds(number(page, 0, 1) == u64::from(b'F') && are_zero(page, 1, 4))?;
-        at = number(page, 4, 4);
+        if !take(taken, at) || !is_free_page(bytes, page_start(at)) {
+            return false;
+        }
+        at = number(bytes, page_start(at).saturating_add(4), 4);
     }
-    holds(at == 0)
+    at == 0
+}
+
+/// Whether a page is a free one.
+fn is_free_page(bytes: &[u8], page: usize) -> bool {
+    number(bytes, page, 1) == u64::from(b'F') && are_zero(bytes, page.saturating_add(1), 3)
 }
 
 /// The tree of the prime key: its entries have a place of six bytes behind the value.
@@ -98,23 +94,57 @@ fn alternate_tree(k: u64, key: KeyRow, prime: KeyRow) -> Tree {
     }
 }
 
-/// The index of each alternate key has an entry of each record.
-fn alternates_stand<'a>(
+/// The records that the prime index leads to.
+fn prime_rows(
+    rt: &impl Abort,
     alloc: Global,
-    bytes: &'a [u8],
-    rows: &[Row<'a>],
-    prime: KeyRow,
-    alternates: &[KeyRow],
+    bytes: &[u8],
+    first: &FirstPage,
+    heap: &Heap,
     taken: &mut [bool],
-) -> Result<(), Refusal> {
-    let mut k = 1u64;
+    rows: &mut Vec<Row>,
+) -> bool {
+    let mut entries = Vec::new(alloc);
+    let tree = prime_tree(first.prime);
+    read_entries(rt, alloc, bytes, tree, first.prime, taken, &mut entries)
+        && read_rows(rt, bytes, first, heap, entries.as_slice(), rows)
+}
+
+/// The index of each alternate key has an entry of each record.
+fn alternates_stand(
+    rt: &impl Abort,
+    alloc: Global,
+    bytes: &[u8],
+    first: &FirstPage,
+    rows: &[Row],
+    taken: &mut [bool],
+) -> bool {
+    let mut k = 0u64;
     let mut stamp = 0usize;
-    for key in alternates {
-        let tree = alternate_tree(k, *key, prime);
-        let found = entries(alloc, bytes, tree, *key, taken)?;
-        alternates_are(rows, found.as_slice(), *key, stamp)?;
+    for key in first.keys.as_slice() {
+        if k > 0 && !alternate_stands(rt, alloc, bytes, first, rows, taken, k, *key, stamp) {
+            return false;
+        }
         k = k.saturating_add(1);
-        stamp = stamp.saturating_add(if key.duplicates { 8 } else { 0 });
+        stamp = stamp.saturating_add(if key.has_duplicates() { 8 } else { 0 });
     }
-    Ok(())
+    true
+}
+
+/// That of key k, whose stamps begin so many bytes behind the first one of a record.
+fn alternate_stands(
+    rt: &impl Abort,
+    alloc: Global,
+    bytes: &[u8],
+    first: &FirstPage,
+    rows: &[Row],
+    taken: &mut [bool],
+    k: u64,
+    key: KeyRow,
+    stamp: usize,
+) -> bool {
+    let mut entries = Vec::new(alloc);
+    let tree = alternate_tree(k, key, first.prime);
+    read_entries(rt, alloc, bytes, tree, key, taken, &mut entries)
+        && alternates_are(bytes, rows, entries.as_slice(), key, first.prime, stamp)
 }

@@ -1,7 +1,6 @@
 //! The first page.
 
-use super::numbers::{PAGE, are_zero, number, part};
-use super::refusal::{Refusal, holds};
+use super::numbers::{PAGE, are_zero, has, number, page_start};
 use arrayvec::ArrayVec;
 
 /// The place of a slot.
@@ -16,7 +15,7 @@ pub struct Place {
 pub struct KeyRow {
     pub offset: usize,
     pub length: usize,
-    pub duplicates: bool,
+    kind: u64,
     pub height: u64,
     pub root: u64,
 }
@@ -33,10 +32,15 @@ pub struct FirstPage {
     pub free_slot: Place,
     pub next_stamp: u64,
     pub records: u64,
+    pub prime: KeyRow,
     pub keys: ArrayVec<KeyRow, 9>,
 }
 
 impl KeyRow {
+    pub fn has_duplicates(self) -> bool {
+        self.kind == 2
+    }
+
     /// Whether it is within records of so many bytes, and its tree begins within so many pages.
     fn is_within(self, least: usize, pages: u64) -> bool {
         1 <= self.length
@@ -48,9 +52,10 @@ impl KeyRow {
     }
 
     /// Whether it begins where no key before it does, and the alternate ones rise by their offset.
-    fn is_behind(self, before: &[KeyRow]) -> bool {
-        for (other, key) in before.iter().enumerate() {
-            if key.offset == self.offset || other > 0 && self.offset < key.offset {
+    fn is_behind(self, before: &[KeyRow], k: usize) -> bool {
+        for j in 0..k.min(before.len()) {
+            let offset = before[j].offset;
+            if offset == self.offset || j > 0 && self.offset < offset {
                 return false;
             }
         }
@@ -67,70 +72,101 @@ impl FirstPage {
             && self.free_slot.page < self.pages
             && (self.keys.len() as u64) < self.pages
     }
+
+    /// Whether records have lengths, and the next stamp may be one.
+    fn has_limits(&self) -> bool {
+        1 <= self.least
+            && self.greatest <= 4000
+            && 1 <= self.next_stamp
+            && self.next_stamp <= 1 << 63
+    }
+
+    /// Whether the row of each key is accepted.
+    fn has_rows(&self, bytes: &[u8]) -> bool {
+        let rows = self.keys.as_slice();
+        for k in 0..rows.len() {
+            let row = rows[k];
+            if !is_row(bytes, k)
+                || !row.is_within(self.least, self.pages)
+                || !row.is_behind(rows, k)
+            {
+                return false;
+            }
+        }
+        true
+    }
+
+    /// Whether it is accepted.
+    pub fn stands(&self, bytes: &[u8]) -> bool {
+        has(bytes, 0, PAGE)
+            && has(bytes, 0, page_start(self.pages))
+            && is_marked(bytes)
+            && self.is_within()
+            && self.has_limits()
+            && has_count(bytes)
+            && self.has_rows(bytes)
+    }
 }
 
-/// The first page of a file, where it is accepted.
-pub fn read_first_page(bytes: &[u8]) -> Result<FirstPage, Refusal> {
-    let page = part(bytes, 0, PAGE)?;
-    let pages = number(page, 12, 4);
-    part(bytes, 0, (pages as usize).saturating_mul(PAGE))?;
-    let (least, greatest) = lengths(page)?;
-    let keys = key_rows(page, least, pages)?;
-    let first = FirstPage {
+/// What the first page of a file says, whether or not it is accepted.
+pub fn read_first_page(bytes: &[u8]) -> FirstPage {
+    let (least, greatest) = lengths(bytes);
+    FirstPage {
         least,
         greatest,
-        pages,
-        first_free: number(page, 16, 4),
-        free: number(page, 20, 4),
-        first_heap: number(page, 24, 4),
+        pages: number(bytes, 12, 4),
+        first_free: number(bytes, 16, 4),
+        free: number(bytes, 20, 4),
+        first_heap: number(bytes, 24, 4),
         free_slot: Place {
-            page: number(page, 28, 4),
-            slot: number(page, 32, 2) as usize,
+            page: number(bytes, 28, 4),
+            slot: number(bytes, 32, 2) as usize,
         },
-        next_stamp: number(page, 40, 8),
-        records: number(page, 48, 8),
-        keys,
-    };
-    holds(is_marked(page) && first.is_within() && is_stamp(first.next_stamp))?;
-    Ok(first)
+        next_stamp: number(bytes, 40, 8),
+        records: number(bytes, 48, 8),
+        prime: key_row(bytes, row_start(0)),
+        keys: key_rows(bytes),
+    }
 }
 
 /// Whether a page has the mark of a first page, and zeros where it has no number.
 fn is_marked(page: &[u8]) -> bool {
     number(page, 0, 8) == u64::from_be_bytes(*b"CCOBIXIF")
-        && are_zero(page, 35, 36)
-        && are_zero(page, 38, 40)
-        && are_zero(page, 56, 64)
+        && are_zero(page, 35, 1)
+        && are_zero(page, 38, 2)
+        && are_zero(page, 56, 8)
 }
 
-/// Whether it may be the next stamp.
-fn is_stamp(next: u64) -> bool {
-    1 <= next && next <= 1 << 63
-}
-
-/// The least and the greatest length of a record.
-fn lengths(page: &[u8]) -> Result<(usize, usize), Refusal> {
+/// The least and the greatest length of a record; 0 where the page has none such.
+fn lengths(page: &[u8]) -> (usize, usize) {
     let greatest = number(page, 10, 2) as usize;
     let least = number(page, 36, 2) as usize;
-    holds(1 <= greatest && greatest <= 4000)?;
     match number(page, 8, 2) {
-        1 if least == 0 => Ok((greatest, greatest)),
-        2 if 1 <= least && least < greatest => Ok((least, greatest)),
-        _ => Err(Refusal::Broken),
+        1 if least == 0 => (greatest, greatest),
+        2 if least < greatest => (least, greatest),
+        _ => (0, 0),
     }
+}
+
+/// How many keys a page says that there are.
+fn key_count(page: &[u8]) -> usize {
+    number(page, 34, 1) as usize
+}
+
+/// Whether there are as many keys as a file can have, and zeros behind their rows.
+fn has_count(page: &[u8]) -> bool {
+    let count = key_count(page);
+    let end = row_start(count);
+    1 <= count && count <= 9 && are_zero(page, end, PAGE.saturating_sub(end))
 }
 
 /// The keys: the prime key first, then the others by rising offset.
-fn key_rows(page: &[u8], least: usize, pages: u64) -> Result<ArrayVec<KeyRow, 9>, Refusal> {
-    let count = number(page, 34, 1) as usize;
-    holds(1 <= count && count <= 9 && are_zero(page, row_start(count), PAGE))?;
+fn key_rows(page: &[u8]) -> ArrayVec<KeyRow, 9> {
     let mut rows: ArrayVec<KeyRow, 9> = ArrayVec::new();
-    for k in 0..count {
-        let row = key_row(part(page, row_start(k), 16)?, k == 0)?;
-        holds(row.is_within(least, pages) && row.is_behind(rows.as_slice()))?;
-        let _ = rows.try_push(row);
+    for k in 0..key_count(page).min(9) {
+        let _ = rows.try_push(key_row(page, row_start(k)));
     }
-    Ok(rows)
+    rows
 }
 
 /// Where the row of key k begins.
@@ -138,16 +174,24 @@ fn row_start(k: usize) -> usize {
     k.saturating_mul(16).saturating_add(64)
 }
 
-/// The key of a row, which is the prime one or an alternate one.
-fn key_row(row: &[u8], is_prime: bool) -> Result<KeyRow, Refusal> {
-    let kind = number(row, 4, 1);
-    holds(kind <= 2 && (kind == 0) == is_prime)?;
-    holds(are_zero(row, 6, 8) && are_zero(row, 12, 16))?;
-    Ok(KeyRow {
-        offset: number(row, 0, 2) as usize,
-        length: number(row, 2, 2) as usize,
-        duplicates: kind == 2,
-        height: number(row, 5, 1),
-        root: number(row, 8, 4),
-    })
+/// Whether the row of key k is that of the prime key or of an alternate one, with zeros where it has no
+/// number.
+fn is_row(page: &[u8], k: usize) -> bool {
+    let row = row_start(k);
+    let kind = number(page, row.saturating_add(4), 1);
+    kind <= 2
+        && (kind == 0) == (k == 0)
+        && are_zero(page, row.saturating_add(6), 2)
+        && are_zero(page, row.saturating_add(12), 4)
+}
+
+/// The key of a row.
+fn key_row(page: &[u8], row: usize) -> KeyRow {
+    KeyRow {
+        offset: number(page, row, 2) as usize,
+        length: number(page, row.saturating_add(2), 2) as usize,
+        kind: number(page, row.saturating_add(4), 1),
+        height: number(page, row.saturating_add(5), 1),
+        root: number(page, row.saturating_add(8), 4),
+    }
 }

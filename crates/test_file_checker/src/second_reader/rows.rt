@@ -2,104 +2,115 @@
 
 use super::first_page::{FirstPage, KeyRow, Place};
 use super::heap::{Heap, Stored};
-use super::numbers::{number, part};
-use super::refusal::{Refusal, holds, push};
-use std::alloc::Global;
+use super::numbers::{are_same, number};
+use std::process::Abort;
 
-/// A record that an entry of the prime index leads to.
+/// A record that an entry of the prime index leads to, and where that entry begins.
 #[derive(Clone, Copy)]
-pub struct Row<'a> {
-    prime: &'a [u8],
-    stored: Stored<'a>,
+pub struct Row {
+    entry: usize,
+    stored: Stored,
 }
 
-/// The value of a key in a record.
-fn value<'a>(record: &'a [u8], key: KeyRow) -> Result<&'a [u8], Refusal> {
-    part(record, key.offset, key.length)
+/// Where the value of a key begins in a record.
+fn value(stored: Stored, key: KeyRow) -> usize {
+    stored.record.saturating_add(key.offset)
+}
+
+/// Whether a record has the prime value of an entry, and its stamps are from 1 to below the next one.
+fn is_row(bytes: &[u8], stored: Stored, entry: usize, first: &FirstPage) -> bool {
+    are_same(bytes, value(stored, first.prime), entry, first.prime.length)
+        && are_stamps(bytes, stored, first.next_stamp)
 }
 
 /// The record that an entry of the prime index leads to.
-fn read_row<'a>(
-    heap: &Heap<'a>,
-    entry: &'a [u8],
-    key: KeyRow,
-    next_stamp: u64,
-) -> Result<Row<'a>, Refusal> {
-    let prime = part(entry, 0, key.length)?;
+fn read_row(bytes: &[u8], heap: &Heap, entry: usize, first: &FirstPage) -> Option<Row> {
+    let at = entry.saturating_add(first.prime.length);
     let place = Place {
-        page: number(entry, key.length, 4),
-        slot: number(entry, key.length.saturating_add(4), 2) as usize,
+        page: number(bytes, at, 4),
+        slot: number(bytes, at.saturating_add(4), 2) as usize,
     };
-    let stored = heap.stored(place)?;
-    holds(value(stored.record, key)? == prime && are_stamps(stored.stamps, next_stamp))?;
-    Ok(Row { prime, stored })
-}
-
-/// The records that the entries of the prime index lead to, which are all.
-pub fn read_rows<'a>(
-    alloc: Global,
-    first: &FirstPage,
-    heap: &Heap<'a>,
-    entries: &[&'a [u8]],
-    key: KeyRow,
-) -> Result<Vec<Row<'a>>, Refusal> {
-    let count = entries.len() as u64;
-    holds(count == first.records && count == heap.used)?;
-    let mut rows = Vec::new(alloc);
-    for entry in entries {
-        push(&mut rows, read_row(heap, entry, key, first.next_stamp)?)?;
+    match heap.stored(bytes, place) {
+        Some(stored) if is_row(bytes, stored, entry, first) => Some(Row { entry, stored }),
+        _ => None,
     }
-    Ok(rows)
 }
 
-/// Whether each stamp is from 1 to below the next one.
-fn are_stamps(stamps: &[u8], next: u64) -> bool {
-    for at in 0..stamps.len() {
-        if at % 8 == 0 {
-            let stamp = number(stamps, at, 8);
-            if stamp < 1 || next <= stamp {
-                return false;
-            }
+/// Puts the records at the end that the entries of the prime index lead to, which are all.
+pub fn read_rows(
+    rt: &impl Abort,
+    bytes: &[u8],
+    first: &FirstPage,
+    heap: &Heap,
+    entries: &[usize],
+    rows: &mut Vec<Row>,
+) -> bool {
+    let count = entries.len() as u64;
+    if count != first.records || count != heap.used {
+        return false;
+    }
+    for &entry in entries {
+        match read_row(bytes, heap, entry, first) {
+            Some(row) => rows.push(row).expect(rt, "memory"),
+            None => return false,
         }
     }
     true
 }
 
-/// The entry of an alternate key is that of its record, whose stamp stands from this byte of the stamps on;
-/// in a unique key it is 0.
-fn is_alternate(rows: &[Row<'_>], entry: &[u8], key: KeyRow, stamp: usize) -> Result<(), Refusal> {
-    let behind = key.length.saturating_add(8);
-    let prime = part(entry, behind, entry.len().saturating_sub(behind))?;
-    let stored = find(rows, prime)?;
-    let has = if key.duplicates {
-        number(stored.stamps, stamp, 8)
+/// Whether each stamp is from 1 to below the next one.
+fn are_stamps(bytes: &[u8], stored: Stored, next: u64) -> bool {
+    let mut at = stored.stamps;
+    for _ in 0..stored.count {
+        let stamp = number(bytes, at, 8);
+        if stamp < 1 || next <= stamp {
+            return false;
+        }
+        at = at.saturating_add(8);
+    }
+    true
+}
+
+/// The entry of an alternate key is that of its record, whose stamp stands so many bytes behind its first
+/// one; in a unique key it is 0.
+fn is_alternate(bytes: &[u8], stored: Stored, entry: usize, key: KeyRow, stamp: usize) -> bool {
+    let has = if key.has_duplicates() {
+        number(bytes, stored.stamps.saturating_add(stamp), 8)
     } else {
         0
     };
-    let found = value(stored.record, key)?;
-    holds(found == part(entry, 0, key.length)? && number(entry, key.length, 8) == has)
+    are_same(bytes, value(stored, key), entry, key.length)
+        && number(bytes, entry.saturating_add(key.length), 8) == has
 }
 
 /// Each entry of an alternate key is that of a record, and there are as many.
 pub fn alternates_are(
-    rows: &[Row<'_>],
-    entries: &[&[u8]],
+    bytes: &[u8],
+    rows: &[Row],
+    entries: &[usize],
     key: KeyRow,
+    prime: KeyRow,
     stamp: usize,
-) -> Result<(), Refusal> {
-    holds(entries.len() == rows.len())?;
-    for entry in entries {
-        is_alternate(rows, entry, key, stamp)?;
+) -> bool {
+    if entries.len() != rows.len() {
+        return false;
     }
-    Ok(())
+    for &entry in entries {
+        let value = entry.saturating_add(key.length).saturating_add(8);
+        match find(bytes, rows, value, prime.length) {
+            Some(stored) if is_alternate(bytes, stored, entry, key, stamp) => {}
+            _ => return false,
+        }
+    }
+    true
 }
 
-/// The record of a prime value.
-fn find<'a>(rows: &[Row<'a>], prime: &[u8]) -> Result<Stored<'a>, Refusal> {
-    let at = rows.partition_point(|row| row.prime.cmp(prime).is_lt());
-    if rows.len() <= at {
-        return Err(Refusal::Broken);
+/// The record of a prime value of so many bytes.
+fn find(bytes: &[u8], rows: &[Row], prime: usize, length: usize) -> Option<Stored> {
+    for row in rows {
+        if are_same(bytes, row.entry, prime, length) {
+            return Some(row.stored);
+        }
     }
-    holds(rows[at].prime == prime)?;
-    Ok(rows[at].stored)
+    None
 }
