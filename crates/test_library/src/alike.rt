@@ -1,29 +1,29 @@
 //! Calls that are given to two libraries, and the answers of both.
 
-ghost use Rattle.std.specs.Prelude.{OnOk};
 ghost use Rattle.indexed_file.specs.Clients.{IsNotOpen};
 ghost use Rattle.test_library.specs.Alike.{AreAlike};
 
 use crate::checks::{assert_equal, assert_equal_for, assert_that};
 use crate::opening::opens_sound;
 use indexed_file::Library;
-use io_state::{Fault, Key, Position, Relation};
+use io_state::{Key, Position, Relation};
 use record_layout::Schema;
 use std::process::Abort;
 
 /// Opens a new file in both.
 pub fn creates<L: Library, M: Library>(
+    rt: &impl Abort,
     library: &mut L,
     other: &mut M,
     u: usize,
     schema: &Schema,
-) -> Result<(), Fault>
+)
     requires one { IsNotOpen (L.shown.world library.old) u }
     requires another { IsNotOpen (M.shown.world other.old) u }
-    ensures { OnOk result (AreAlike (L.shown.world library.new) (M.shown.world other.new) u schema.now) }
+    ensures { AreAlike (L.shown.world library.new) (M.shown.world other.new) u schema.now }
 {
-    unit_calls::creates(library, u, schema)?;
-    unit_calls::creates(other, u, schema)
+    unit_calls::creates(library, u, schema).expect(rt, "a new file");
+    unit_calls::creates(other, u, schema).expect(rt, "another new file");
 }
 
 /// Shuts the file in both, and opens it again.
@@ -33,14 +33,14 @@ pub fn reopens<L: Library, M: Library>(
     other: &mut M,
     u: usize,
     schema: &Schema,
-) -> Result<(), Fault>
+)
     requires { AreAlike (L.shown.world library.old) (M.shown.world other.old) u schema.now }
-    ensures { OnOk result (AreAlike (L.shown.world library.new) (M.shown.world other.new) u schema.now) }
+    ensures { AreAlike (L.shown.world library.new) (M.shown.world other.new) u schema.now }
 {
-    unit_calls::shuts(library, u, schema)?;
-    unit_calls::shuts(other, u, schema)?;
-    opens_sound(rt, library, u, schema)?;
-    opens_sound(rt, other, u, schema)
+    unit_calls::shuts(library, u, schema).expect(rt, "shut");
+    unit_calls::shuts(other, u, schema).expect(rt, "shut");
+    opens_sound(rt, library, u, schema);
+    opens_sound(rt, other, u, schema);
 }
 
 /// Adds a record to both.
@@ -51,14 +51,13 @@ pub fn adds<L: Library, M: Library>(
     u: usize,
     schema: &Schema,
     record: &[u8],
-) -> Result<(), Fault>
+)
     requires { AreAlike (L.shown.world library.old) (M.shown.world other.old) u schema.now }
     ensures { AreAlike (L.shown.world library.new) (M.shown.world other.new) u schema.now }
 {
-    let answer = unit_calls::adds(library, u, schema, record)?;
-    let expected = unit_calls::adds(other, u, schema, record)?;
+    let answer = unit_calls::adds(library, u, schema, record).expect(rt, "an answer");
+    let expected = unit_calls::adds(other, u, schema, record).expect(rt, "another answer");
     assert_equal(rt, answer, expected);
-    Ok(())
 }
 
 /// Replaces a record in both.
@@ -69,14 +68,13 @@ pub fn replaces<L: Library, M: Library>(
     u: usize,
     schema: &Schema,
     record: &[u8],
-) -> Result<(), Fault>
+)
     requires { AreAlike (L.shown.world library.old) (M.shown.world other.old) u schema.now }
     ensures { AreAlike (L.shown.world library.new) (M.shown.world other.new) u schema.now }
 {
-    let answer = unit_calls::replaces(library, u, schema, record)?;
-    let expected = unit_calls::replaces(other, u, schema, record)?;
+    let answer = unit_calls::replaces(library, u, schema, record).expect(rt, "an answer");
+    let expected = unit_calls::replaces(other, u, schema, record).expect(rt, "another answer");
     assert_equal(rt, answer, expected);
-    Ok(())
 }
 
 /// Removes a record from both.
@@ -87,14 +85,13 @@ pub fn removes<L: Library, M: Library>(
     u: usize,
     schema: &Schema,
     prime: &[u8],
-) -> Result<(), Fault>
+)
     requires { AreAlike (L.shown.world library.old) (M.shown.world other.old) u schema.now }
     ensures { AreAlike (L.shown.world library.new) (M.shown.world other.new) u schema.now }
 {
-    let answer = unit_calls::removes(library, u, schema, prime)?;
-    let expected = unit_calls::removes(other, u, schema, prime)?;
+    let answer = unit_calls::removes(library, u, schema, prime).expect(rt, "an answer");
+    let expected = unit_calls::removes(other, u, schema, prime).expect(rt, "another answer");
     assert_equal(rt, answer, expected);
-    Ok(())
 }
 
 /// Reads a record by a value in both.
@@ -106,14 +103,13 @@ pub fn finds<L: Library, M: Library>(
     schema: &Schema,
     k: u8,
     value: &[u8],
-) -> Result<(), Fault>
+)
     requires { AreAlike (L.shown.world library.old) (M.shown.world other.old) u schema.now }
     ensures { AreAlike (L.shown.world library.new) (M.shown.world other.new) u schema.now }
 {
-    let answer = unit_calls::finds(library, u, schema, k, value)?;
-    let expected = unit_calls::finds(other, u, schema, k, value)?;
+    let answer = unit_calls::finds(library, u, schema, k, value).expect(rt, "an answer");
+    let expected = unit_calls::finds(other, u, schema, k, value).expect(rt, "another answer");
     assert_equal_for(rt, k, answer.is_same(&expected), true);
-    Ok(())
 }
 
 /// Reads in both what comes next. It answers the position behind it.
@@ -125,14 +121,14 @@ pub fn goes_on<L: Library, M: Library>(
     schema: &Schema,
     k: u8,
     position: &Position,
-) -> Result<Option<Position>, Fault>
+) -> Option<Position>
     requires { AreAlike (L.shown.world library.old) (M.shown.world other.old) u schema.now }
     ensures { AreAlike (L.shown.world library.new) (M.shown.world other.new) u schema.now }
 {
-    let answer = unit_calls::goes_on(library, u, schema, k, position)?;
-    let expected = unit_calls::goes_on(other, u, schema, k, position)?;
+    let answer = unit_calls::goes_on(library, u, schema, k, position).expect(rt, "an answer");
+    let expected = unit_calls::goes_on(other, u, schema, k, position).expect(rt, "another answer");
     assert_equal_for(rt, k, answer.is_same(&expected), true);
-    Ok(answer.behind())
+    answer.behind()
 }
 
 /// Reads in both all records by a key. It answers how many.
@@ -143,18 +139,18 @@ pub fn reads_all<L: Library, M: Library>(
     u: usize,
     schema: &Schema,
     k: u8,
-) -> Result<u32, Fault>
+) -> u32
     requires { AreAlike (L.shown.world library.old) (M.shown.world other.old) u schema.now }
     ensures { AreAlike (L.shown.world library.new) (M.shown.world other.new) u schema.now }
 {
     let mut position = Position::From(Key::new());
     for count in 0..10_000u32 {
-        match goes_on(rt, library, other, u, schema, k, &position)? {
+        match goes_on(rt, library, other, u, schema, k, &position) {
             Some(behind) => position = behind,
-            None => return Ok(count),
+            None => return count,
         }
     }
-    Ok(10_000)
+    10_000
 }
 
 /// Whether both are the same key, or none.
@@ -166,6 +162,31 @@ pub fn is_same_key(one: &Option<Key>, other: &Option<Key>) -> bool {
     }
 }
 
+/// The first value in both that begins so related to the operand.
+fn seeks_by<L: Library, M: Library>(
+    rt: &impl Abort,
+    library: &mut L,
+    other: &mut M,
+    u: usize,
+    schema: &Schema,
+    k: u8,
+    operand: &[u8],
+    relation: Relation,
+)
+    requires { AreAlike (L.shown.world library.old) (M.shown.world other.old) u schema.now }
+    ensures { AreAlike (L.shown.world library.new) (M.shown.world other.new) u schema.now }
+{
+    let answer = unit_calls::seeks(library, u, schema, k, operand, relation).expect(
+        rt,
+        "an answer",
+    );
+    let expected = unit_calls::seeks(other, u, schema, k, operand, relation).expect(
+        rt,
+        "another answer",
+    );
+    assert_equal_for(rt, k, is_same_key(&answer, &expected), true);
+}
+
 /// The first value in both that begins so related to the operand, by each relation.
 pub fn seeks<L: Library, M: Library>(
     rt: &impl Abort,
@@ -175,16 +196,13 @@ pub fn seeks<L: Library, M: Library>(
     schema: &Schema,
     k: u8,
     operand: &[u8],
-) -> Result<(), Fault>
+)
     requires { AreAlike (L.shown.world library.old) (M.shown.world other.old) u schema.now }
     ensures { AreAlike (L.shown.world library.new) (M.shown.world other.new) u schema.now }
 {
     for &relation in &[Relation::Equal, Relation::Greater, Relation::NotLess] {
-        let answer = unit_calls::seeks(library, u, schema, k, operand, relation)?;
-        let expected = unit_calls::seeks(other, u, schema, k, operand, relation)?;
-        assert_equal_for(rt, k, is_same_key(&answer, &expected), true);
+        seeks_by(rt, library, other, u, schema, k, operand, relation);
     }
-    Ok(())
 }
 
 /// The greatest prime value in both.
@@ -194,12 +212,11 @@ pub fn tops<L: Library, M: Library>(
     other: &mut M,
     u: usize,
     schema: &Schema,
-) -> Result<(), Fault>
+)
     requires { AreAlike (L.shown.world library.old) (M.shown.world other.old) u schema.now }
     ensures { AreAlike (L.shown.world library.new) (M.shown.world other.new) u schema.now }
 {
-    let answer = unit_calls::tops(library, u, schema)?;
-    let expected = unit_calls::tops(other, u, schema)?;
+    let answer = unit_calls::tops(library, u, schema).expect(rt, "an answer");
+    let expected = unit_calls::tops(other, u, schema).expect(rt, "another answer");
     assert_that(rt, is_same_key(&answer, &expected));
-    Ok(())
 }

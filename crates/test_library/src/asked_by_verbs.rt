@@ -5,13 +5,12 @@ ghost use Rattle.test_library.specs.Ready.{IsReadyConnector};
 use crate::checks::{assert_equal, assert_equal_for};
 use crate::performing::{begins, performs};
 use indexed_file::Library;
-use io_state::{Access, Fault, FileStatement, OpenMode, Status};
+use io_state::{Access, FileStatement, OpenMode, Status};
 use memory_shelf::{FuseShelf, Kind, MemShelf};
 use page_store::Shelf;
 use shelf_library::ShelfLibrary;
 use std::alloc::Global;
 use std::process::Abort;
-use std::test::Fail;
 use unit_calls::programs::{Step, changed, in_sequence, read_by_key, written};
 use verbs::Connector;
 
@@ -63,52 +62,75 @@ fn runs<S: Shelf + Drop>(
     pages
 }
 
-/// Runs programs over a new file with so many frames: its shelf reads no more pages than are asked for, and
-/// three for each OPEN. It answers the shelf.
-fn reads_no_more(
+/// Runs the programs of dynamic access, and answers the shelf and the pages.
+fn runs_dynamic<S: Shelf + Drop>(
     rt: &impl Abort,
     alloc: Global,
+    shelf: S,
     frames: usize,
-) -> Result<FuseShelf<MemShelf>, Fault> {
-    let fuse = FuseShelf::new(MemShelf::new(alloc), Kind::Reads, 0, false, false);
-    let (mut connector, mut library) = begins(alloc, fuse, frames, Access::Dynamic)?;
-    let mut pages = runs(rt, &mut connector, &mut library, written().as_slice());
-    let more = runs(rt, &mut connector, &mut library, read_by_key().as_slice());
+) -> (S, u64) {
+    let (mut connector, mut library) = begins(rt, alloc, shelf, frames, Access::Dynamic);
+    let mut pages = runs(rt, &mut connector, &mut library, &written());
+    let more = runs(rt, &mut connector, &mut library, &read_by_key());
     pages = pages.saturating_add(more);
-    let more = runs(rt, &mut connector, &mut library, changed().as_slice());
-    pages = pages.saturating_add(more);
-    let shelf = library.into_shelf();
-    let (mut connector, mut library) = begins(alloc, shelf, frames, Access::Sequential)?;
-    let more = runs(rt, &mut connector, &mut library, in_sequence().as_slice());
-    pages = pages.saturating_add(more);
-    let shelf = library.into_shelf();
-    let reads = shelf.calls(Kind::Reads);
-    assert_equal_for(rt, (reads, pages), reads <= pages, true);
-    Ok(shelf)
+    let more = runs(rt, &mut connector, &mut library, &changed());
+    (library.into_shelf(), pages.saturating_add(more))
 }
 
-/// OPEN INPUT and one READ by the prime key make few reads, by the height of its tree: the READ asks for a
-/// page of each level, and for the record's. A WRITE is refused then, and asks for no page.
-fn reads_one(
+/// Runs that of sequential access over the file that they left.
+fn runs_sequential<S: Shelf + Drop>(
     rt: &impl Abort,
     alloc: Global,
-    shelf: FuseShelf<MemShelf>,
+    shelf: S,
     frames: usize,
-) -> Result<(), Fault> {
-    let before = shelf.calls(Kind::Reads);
-    let (mut connector, mut library) = begins(alloc, shelf, frames, Access::Random)?;
+) -> (S, u64) {
+    let (mut connector, mut library) = begins(rt, alloc, shelf, frames, Access::Sequential);
+    let pages = runs(rt, &mut connector, &mut library, &in_sequence());
+    (library.into_shelf(), pages)
+}
+
+/// Runs programs over a new file with so many frames: its shelf reads no more pages than are asked for, and
+/// three for each OPEN. It answers the shelf.
+fn reads_no_more(rt: &impl Abort, alloc: Global, frames: usize) -> FuseShelf<MemShelf> {
+    let fuse = FuseShelf::new(MemShelf::new(alloc), Kind::Reads, 0, false, false);
+    let (shelf, pages) = runs_dynamic(rt, alloc, fuse, frames);
+    let (shelf, more) = runs_sequential(rt, alloc, shelf, frames);
+    let pages = pages.saturating_add(more);
+    let reads = shelf.calls(Kind::Reads);
+    assert_equal_for(rt, (reads, pages), reads <= pages, true);
+    shelf
+}
+
+/// OPEN INPUT and one READ by the prime key; a WRITE is refused then, and asks for no page. It answers the
+/// pages that the READ asked for.
+fn opens_and_reads<S: Shelf + Drop>(
+    rt: &impl Abort,
+    connector: &mut Connector,
+    library: &mut ShelfLibrary<S>,
+) -> u64
+    requires { IsReadyConnector connector.old (⟦<ShelfLibrary<S> as Library>⟧.shown.world library.old) }
+{
     let mut area = [0; 240];
     area[116..120].copy_from_slice(&10_199u32.to_be_bytes());
     let open = FileStatement::Open(OpenMode::Input);
-    let (opened, _) = performs(rt, &mut connector, &mut library, &open, 0, &mut area);
+    let (opened, _) = performs(rt, connector, library, &open, 0, &mut area);
     assert_equal(rt, opened, Status::Successful);
     let read = FileStatement::Read { key: 0 };
-    let (found, to_read) = performs(rt, &mut connector, &mut library, &read, 0, &mut area);
+    let (found, to_read) = performs(rt, connector, library, &read, 0, &mut area);
     assert_equal(rt, found, Status::Successful);
     let write = FileStatement::Write;
-    let (refused, asked) = performs(rt, &mut connector, &mut library, &write, 0, &mut area);
+    let (refused, asked) = performs(rt, connector, library, &write, 0, &mut area);
     assert_equal(rt, refused, Status::NotOpenForWriting);
     assert_equal(rt, asked, 0);
+    to_read
+}
+
+/// They make few reads, by the height of the key's tree: the READ asks for a page of each level, and for the
+/// record's.
+fn reads_one(rt: &impl Abort, alloc: Global, shelf: FuseShelf<MemShelf>, frames: usize) {
+    let before = shelf.calls(Kind::Reads);
+    let (mut connector, mut library) = begins(rt, alloc, shelf, frames, Access::Random);
+    let to_read = opens_and_reads(rt, &mut connector, &mut library);
     let height = u64::from(library.height(0, 0));
     assert_equal(rt, height, 3);
     assert_equal(rt, to_read, height + 1);
@@ -117,18 +139,17 @@ fn reads_one(
         .calls(Kind::Reads)
         .saturating_sub(before);
     assert_equal_for(rt, (reads, height), reads <= 5 * height + 4, true);
-    Ok(())
 }
 
 // Each page that is asked for, and is not the one before, is read off the shelf.
 #[test]
-fn verbs_ask_for_few_pages_with_one_frame(rt: HostRuntime) -> Result<(), Fail> {
-    let shelf = reads_no_more(&rt, rt.alloc(), 1)?;
-    Ok(reads_one(&rt, rt.alloc(), shelf, 1)?)
+fn verbs_ask_for_few_pages_with_one_frame(rt: HostRuntime) {
+    let shelf = reads_no_more(&rt, rt.alloc(), 1);
+    reads_one(&rt, rt.alloc(), shelf, 1);
 }
 
 #[test]
-fn verbs_ask_for_few_pages_with_64_frames(rt: HostRuntime) -> Result<(), Fail> {
-    let shelf = reads_no_more(&rt, rt.alloc(), 64)?;
-    Ok(reads_one(&rt, rt.alloc(), shelf, 64)?)
+fn verbs_ask_for_few_pages_with_64_frames(rt: HostRuntime) {
+    let shelf = reads_no_more(&rt, rt.alloc(), 64);
+    reads_one(&rt, rt.alloc(), shelf, 64);
 }

@@ -1,18 +1,17 @@
 //! Files that are damaged behind a first page that is accepted: each call asks for no more pages, and makes
 //! no more calls of the shelf, than over a sound file of the heights that the first page tells.
 
-ghost use Rattle.indexed_file.specs.Clients.{IsOpenWith};
+ghost use Rattle.indexed_file.specs.Clients.{IsOpenWith, IsNotOpen};
 
 use crate::bounds::asked_at_most;
 use crate::checks::{assert_equal, assert_equal_for, assert_that};
 use crate::opening::opens_sound;
 use indexed_file::Library;
-use io_state::{Fault, Key, Position, Relation};
+use io_state::{Key, Position, Relation};
 use memory_shelf::{FuseShelf, Kind, MemShelf};
 use record_layout::Schema;
 use std::alloc::Global;
 use std::process::Abort;
-use std::test::Fail;
 use unit_calls::{
     HasTrees, adds_numbers, bytes_of, creates, finds, goes_on, key_of, library_over,
     most_to_change, most_to_read, most_to_seek, put, puts, record_of, removes, replaces, restarts,
@@ -67,41 +66,58 @@ const DAMAGES: [(&str, &[Edit]); 8] = [
 const CALLS: u8 = 10;
 
 /// A file of three records, one of which was removed.
-fn fills<L: Library>(rt: &impl Abort, library: &mut L, schema: &Schema) -> Result<(), Fault>
+fn fills<L: Library>(rt: &impl Abort, library: &mut L, schema: &Schema)
     requires { IsOpenWith (L.shown.world library.old) 0 schema.now }
     ensures { IsOpenWith (L.shown.world library.new) 0 schema.now }
 {
-    adds_numbers(library, 0, schema, &[1, 1])?;
-    adds_numbers(library, 0, schema, &[2, 1])?;
-    adds_numbers(library, 0, schema, &[3, 2])?;
-    let number = key_of(schema, 0, 2)?;
-    let removed = removes(library, 0, schema, number.as_slice())?;
+    adds_numbers(library, 0, schema, &[1, 1]).expect(rt, "an answer");
+    adds_numbers(library, 0, schema, &[2, 1]).expect(rt, "an answer");
+    adds_numbers(library, 0, schema, &[3, 2]).expect(rt, "an answer");
+    let number = key_of(schema, 0, 2).expect(rt, "a key");
+    let removed = removes(library, 0, schema, number.as_slice()).expect(rt, "an answer");
     assert_that(rt, removed);
-    Ok(())
 }
 
 /// The bytes of such a file, and a page of zeros.
-fn made(rt: &impl Abort, alloc: Global, schema: &Schema) -> Result<Vec<u8>, Fail> {
-    let mut library = library_over(alloc, MemShelf::new(alloc), 100, 64)?;
-    creates(&mut library, 0, schema)?;
-    fills(rt, &mut library, schema)?;
-    shuts(&mut library, 0, schema)?;
+fn made(rt: &impl Abort, alloc: Global, schema: &Schema) -> Vec<u8> {
+    let mut library = library_over(alloc, MemShelf::new(alloc), 100, 64).expect(rt, "a library");
+    creates(&mut library, 0, schema).expect(rt, "a new file");
+    fills(rt, &mut library, schema);
+    shuts(&mut library, 0, schema).expect(rt, "shut");
     let mut shelf = library.into_shelf();
-    let mut bytes = bytes_of(alloc, &mut shelf)?;
-    bytes.extend_from_slice(&[0; 4096])?;
+    let mut bytes = bytes_of(alloc, &mut shelf).expect(rt, "its bytes");
+    bytes.extend_from_slice(&[0; 4096]).expect(rt, "memory");
     assert_equal(rt, bytes.len(), 5 * 4096);
-    Ok(bytes)
+    bytes
 }
 
 /// Makes a call of one kind, and answers the most pages that it may ask for. What it says of the file is not
 /// looked at.
-fn makes<L: Library + HasTrees>(library: &mut L, schema: &Schema, call: u8) -> Result<u64, Fault>
+fn makes<L: Library + HasTrees>(rt: &impl Abort, library: &mut L, schema: &Schema, call: u8) -> u64
     requires { IsOpenWith (L.shown.world library.old) 0 schema.now }
     ensures { IsOpenWith (L.shown.world library.new) 0 schema.now }
 {
     let k = call % 2;
-    let value = key_of(schema, k, 1)?;
-    Ok(match call / 2 {
+    match call / 2 {
+        0..3 => reads(rt, library, schema, k, call / 2),
+        3 => adds_or_removes(rt, library, schema, k),
+        _ => replaces_or_tops(library, schema, k),
+    }
+}
+
+/// Reads by a key, by its value or what comes next, or seeks the value.
+fn reads<L: Library + HasTrees>(
+    rt: &impl Abort,
+    library: &mut L,
+    schema: &Schema,
+    k: u8,
+    kind: u8,
+) -> u64
+    requires { IsOpenWith (L.shown.world library.old) 0 schema.now }
+    ensures { IsOpenWith (L.shown.world library.new) 0 schema.now }
+{
+    let value = key_of(schema, k, 1).expect(rt, "a key");
+    match kind {
         0 => {
             let most = most_to_read(library, k);
             let _ = finds(library, 0, schema, k, value.as_slice());
@@ -112,22 +128,21 @@ fn makes<L: Library + HasTrees>(library: &mut L, schema: &Schema, call: u8) -> R
             let _ = goes_on(library, 0, schema, k, &Position::From(Key::new()));
             most
         }
-        2 => {
+        _ => {
             let most = most_to_seek(library, k);
             let _ = seeks(library, 0, schema, k, value.as_slice(), Relation::Equal);
             most
         }
-        3 => adds_or_removes(library, schema, k)?,
-        _ => replaces_or_tops(library, schema, k),
-    })
+    }
 }
 
 /// Adds a record, or removes one.
 fn adds_or_removes<L: Library + HasTrees>(
+    rt: &impl Abort,
     library: &mut L,
     schema: &Schema,
     k: u8,
-) -> Result<u64, Fault>
+) -> u64
     requires { IsOpenWith (L.shown.world library.old) 0 schema.now }
     ensures { IsOpenWith (L.shown.world library.new) 0 schema.now }
 {
@@ -135,10 +150,10 @@ fn adds_or_removes<L: Library + HasTrees>(
     if k == 0 {
         let _ = adds_numbers(library, 0, schema, &[5, 1]);
     } else {
-        let number = key_of(schema, 0, 1)?;
+        let number = key_of(schema, 0, 1).expect(rt, "a key");
         let _ = removes(library, 0, schema, number.as_slice());
     }
-    Ok(most)
+    most
 }
 
 /// Replaces a record, or looks for the greatest number.
@@ -158,24 +173,29 @@ fn replaces_or_tops<L: Library + HasTrees>(library: &mut L, schema: &Schema, k: 
     }
 }
 
+/// Opens the file and makes a call. It answers the pages that the call asked for.
+fn opens_and_makes<L: Library + HasTrees>(
+    rt: &impl Abort,
+    library: &mut L,
+    schema: &Schema,
+    call: u8,
+) -> u64
+    requires { IsNotOpen (L.shown.world library.old) 0 }
+{
+    opens_sound(rt, library, 0, schema);
+    restarts(library, 0, schema);
+    let most = makes(rt, library, schema, call);
+    asked_at_most(rt, library, schema, most)
+}
+
 /// Opens a file of these bytes and makes a call. It asks for as many pages at most as over a sound file, and
 /// each of them is read at most once, and written at most once.
-fn is_bounded(
-    rt: &impl Abort,
-    alloc: Global,
-    schema: &Schema,
-    bytes: &[u8],
-    call: u8,
-    what: &str,
-) -> Result<(), Fail> {
+fn is_bounded(rt: &impl Abort, alloc: Global, schema: &Schema, bytes: &[u8], call: u8, what: &str) {
     let mut shelf = MemShelf::new(alloc);
-    puts(&mut shelf, bytes)?;
+    puts(&mut shelf, bytes).expect(rt, "a file");
     let fuse = FuseShelf::new(shelf, Kind::Reads, 0, false, false);
-    let mut library = library_over(alloc, fuse, 100, 1)?;
-    opens_sound(rt, &mut library, 0, schema)?;
-    restarts(&mut library, 0, schema);
-    let most = makes(&mut library, schema, call)?;
-    let pages = asked_at_most(rt, &mut library, schema, most);
+    let mut library = library_over(alloc, fuse, 100, 1).expect(rt, "a library");
+    let pages = opens_and_makes(rt, &mut library, schema, call);
     let shelf = library.into_shelf();
     let reads = shelf.calls(Kind::Reads);
     let writes = shelf.calls(Kind::Writes);
@@ -184,22 +204,24 @@ fn is_bounded(
     assert_equal_for(rt, (what, call, reads), is_read_once, true);
     let is_written_once = writes <= pages.saturating_add(1);
     assert_equal_for(rt, (what, call, writes), is_written_once, true);
-    Ok(())
+}
+
+/// Each call over a file with these edits.
+fn are_bounded(rt: &impl Abort, alloc: Global, schema: &Schema, edits: &[Edit], what: &str) {
+    let mut bytes = made(rt, alloc, schema);
+    for (at, new) in edits {
+        put(&mut bytes, *at, new);
+    }
+    for call in 0..CALLS {
+        is_bounded(rt, alloc, schema, &bytes, call, what);
+    }
 }
 
 // No loop goes on where pages or slots lead to themselves: what a call asks for is told by the heights alone.
 #[test]
-fn damage_takes_no_more_calls_of_the_shelf(rt: HostRuntime) -> Result<(), Fail> {
-    let alloc = rt.alloc();
-    let schema = two_long_keys()?;
+fn damage_takes_no_more_calls_of_the_shelf(rt: HostRuntime) {
+    let schema = two_long_keys().expect(&rt, "a schema");
     for &(what, edits) in &DAMAGES {
-        let mut bytes = made(&rt, alloc, &schema)?;
-        for (at, new) in edits {
-            put(&mut bytes, *at, new);
-        }
-        for call in 0..CALLS {
-            is_bounded(&rt, alloc, &schema, &bytes, call, what)?;
-        }
+        are_bounded(&rt, rt.alloc(), &schema, edits, what);
     }
-    Ok(())
 }

@@ -1,13 +1,13 @@
 //! Verbs on one file, and the pages that they ask for.
 
-ghost use Rattle.std.specs.Prelude.{◌≡◌, IfOk, length};
+ghost use Rattle.std.specs.Prelude.{◌≡◌, length};
 ghost use Rattle.record_layout.specs.Schema.{Schema as Keys};
 ghost use Rattle.verbs.specs.Fits.{HasOperands};
 ghost use Rattle.test_library.specs.Ready.{IsReadyConnector};
 
 use crate::checks::assert_equal_for;
 use indexed_file::Library;
-use io_state::{Access, Fault, FileName, FileStatement, Status};
+use io_state::{Access, FileName, FileStatement, Status};
 use page_store::Shelf;
 use shelf_library::ShelfLibrary;
 use std::alloc::Global;
@@ -22,21 +22,22 @@ const LENGTH: u16 = 240;
 /// A connector that is closed, and a library over a shelf, whose units are forgotten, with the name of its
 /// file.
 pub fn begins<S: Shelf + Drop>(
+    rt: &impl Abort,
     alloc: Global,
     shelf: S,
     frames: usize,
     access: Access,
-) -> Result<(Connector, ShelfLibrary<S>), Fault>
-    ensures { IfOk result (λ r. IsReadyConnector r.0 (⟦<ShelfLibrary<S> as Library>⟧.shown.world r.1)) }
+) -> (Connector, ShelfLibrary<S>)
+    ensures { IsReadyConnector result.0 (⟦<ShelfLibrary<S> as Library>⟧.shown.world result.1) }
 {
     let mut shelf = shelf;
-    shelf.attach(&[])?;
+    shelf.attach(&[]).expect(rt, "attached");
     let frames = NonZeroUsize::new(frames).unwrap_or(NonZeroUsize::MIN);
     let mut library = ShelfLibrary::new(alloc, shelf, 4000, frames);
-    let mut name = FileName::new();
-    name.push_str("FILE");
-    library.attach(&[name])?;
-    Ok((Connector::new(access, false, two_long_keys()?), library))
+    let name = FileName::from("FILE").expect(rt, "a name");
+    library.attach(&[name]).expect(rt, "attached");
+    let schema = two_long_keys().expect(rt, "a schema");
+    (Connector::new(access, false, schema), library)
 }
 
 /// The key of a READ or START is one of two.
