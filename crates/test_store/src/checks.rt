@@ -1,6 +1,7 @@
 //! Comparisons that tell both values where they differ.
 
 use std::fmt::Debug;
+use std::io;
 use std::process::Abort;
 
 // A macro that asserts is proved anew at each place where it stands. A call of one of these is not.
@@ -20,4 +21,12 @@ pub fn assert_equal_for<W: Debug + Drop, T: PartialEq + Debug + Drop>(
     right: T,
 ) {
     assert_eq!(rt; left, right, "{what:?}");
+}
+
+/// A file was read, and these are its bytes.
+pub fn has_bytes(rt: &impl Abort, found: io::Result<Vec<u8>>, bytes: &[u8]) {
+    match found {
+        Ok(found) => assert_equal(rt, found.as_slice(), bytes),
+        Err(_) => assert_that(rt, false),
+    }
 }

@@ -2,15 +2,15 @@
 ghost use Rattle.std.specs.Prelude.{◌≡◌, ◌<◌, ◌^◌, ◌-◌, ℕ, IsTrue};
 ghost use Rattle.page_store.specs.ShelfState.{HasUnit, unit_file};
 ghost use Rattle.page_store.specs.Pages.{HoldsPages};
+ghost use Rattle.memory_shelf.specs.MemShelves.{mem_state_of};
 
 use crate::checks::{assert_equal, assert_equal_for};
-use crate::shelves::{name, new_shelf};
+use crate::shelves::{attach, below, new_shelf};
 use io_state::Fault;
 use memory_shelf::{FuseShelf, Image, Kind, MemShelf};
 use page_store::{Shelf, Store};
 use std::alloc::Global;
 use std::process::Abort;
-use std::test::Fail;
 
 /// What a file is found to be after a stop.
 #[derive(Clone, Copy, Debug, PartialEq, Eq)]
@@ -91,6 +91,40 @@ pub fn begin<S: Shelf>(shelf: &mut S, unit: usize) -> Result<(), Fault>
     Ok(())
 }
 
+// Reads the pages of a file that was made from this byte.
+fn find_pages<S: Shelf>(shelf: &mut S, store: Store, byte: u8) -> Result<Found, Fault>
+    requires unit { HasUnit (S.state shelf.old) store.unit }
+    requires pages { IsTrue (S.state shelf.old).is_honest
+        → HoldsPages store.pages (unit_file (S.state shelf.old) store.unit) }
+    ensures unit { HasUnit (S.state shelf.new) store.unit }
+{
+    let mut page = [0; 4096];
+    for n in 0..store.pages {
+        store.read_page(shelf, n, &mut page)?;
+        let want = [byte_of(byte, n); 4096];
+        if page[1..] != want[1..] {
+            return Ok(Found::Mixed);
+        }
+    }
+    Ok(Found::Closed(byte, store.pages))
+}
+
+// Reads a file that has a page.
+fn find_gate<S: Shelf>(shelf: &mut S, store: Store) -> Result<Found, Fault>
+    requires unit { HasUnit (S.state shelf.old) store.unit }
+    requires pages { IsTrue (S.state shelf.old).is_honest
+        → HoldsPages store.pages (unit_file (S.state shelf.old) store.unit) }
+    requires some { 0 < store.pages }
+    ensures unit { HasUnit (S.state shelf.new) store.unit }
+{
+    let mut page = [0; 4096];
+    store.read_page(shelf, 0, &mut page)?;
+    if page[0] != b'C' {
+        return Ok(Found::Refused);
+    }
+    find_pages(shelf, store, page[1])
+}
+
 pub fn find<S: Shelf>(shelf: &mut S) -> Result<Found, Fault>
     requires unit { HasUnit (S.state shelf.old) 0 }
     ensures unit { HasUnit (S.state shelf.new) 0 }
@@ -102,41 +136,45 @@ pub fn find<S: Shelf>(shelf: &mut S) -> Result<Found, Fault>
     if store.pages == 0 {
         return Ok(Found::Refused);
     }
-    let mut page = [0; 4096];
-    store.read_page(shelf, 0, &mut page)?;
-    if page[0] != b'C' {
-        return Ok(Found::Refused);
-    }
-    let byte = page[1];
-    for n in 0..store.pages {
-        store.read_page(shelf, n, &mut page)?;
-        let want = [byte_of(byte, n); 4096];
-        if page[1..] != want[1..] {
-            return Ok(Found::Mixed);
-        }
-    }
-    Ok(Found::Closed(byte, store.pages))
+    find_gate(shelf, store)
 }
 
 #[test]
-fn a_hundred_pages_are_read_as_written(rt: HostRuntime) -> Result<(), Fail> {
-    let mut shelf = new_shelf(rt.alloc())?;
-    make(&mut shelf, 100, 7)?;
+fn a_hundred_pages_are_read_as_written(rt: HostRuntime) {
+    let mut shelf = new_shelf(&rt, rt.alloc());
+    assert_equal(&rt, make(&mut shelf, 100, 7), Ok(()));
     assert_equal(&rt, find(&mut shelf), Ok(Found::Closed(7, 100)));
     assert_equal(&rt, shelf.faults(), 0);
-    Ok(())
 }
 
 /// How a call of a shelf fails: after it was made or before, and once or for good.
 pub const WAYS: [(bool, bool); 4] = [(false, false), (false, true), (true, false), (true, true)];
 
-// The n-th call of a kind fails, of a program that makes a file of so many pages and reads it back: the file is closed whole, or refused. Whether a call failed.
+// A call failed of a program that makes a file and reads it back: whether it was made, what it found,
+// and what is found later.
+fn is_whole_or_refused(
+    rt: &impl Abort,
+    fuse: (Kind, u64, bool, bool),
+    count: u32,
+    made: bool,
+    found: Result<Found, Fault>,
+    left: Found,
+) {
+    if made {
+        assert_equal_for(rt, fuse, left, Found::Closed(7, count));
+        assert_equal_for(rt, fuse, found.is_err(), true);
+    }
+    assert_equal_for(rt, fuse, left == Found::Mixed, false);
+}
+
+// The n-th call of a kind fails, of a program that makes a file of so many pages and reads it back: the
+// file is closed whole, or refused. Whether a call failed.
 pub fn fails_at<S: Shelf + Drop>(
     rt: &impl Abort,
     inner: S,
     fuse: (Kind, u64, bool, bool),
     count: u32,
-) -> Result<bool, Fault>
+) -> bool
     requires unit { HasUnit (S.state inner) 0 }
     requires count { count < 2 ^ 32 - 1 }
 {
@@ -149,106 +187,147 @@ pub fn fails_at<S: Shelf + Drop>(
     if !failed {
         assert_equal_for(rt, fuse, made, true);
         assert_equal_for(rt, fuse, found, Ok(Found::Closed(7, count)));
-        return Ok(false);
+        return false;
     }
-    let mut inner = shelf.into_inner();
-    inner.attach(&[name()])?;
-    let left = find(&mut inner)?;
-    if made {
-        assert_equal_for(rt, fuse, left, Found::Closed(7, count));
-        assert_equal_for(rt, fuse, found.is_err(), true);
+    let mut inner = below(rt, shelf);
+    let left = find(&mut inner).expect(rt, "no call fails");
+    is_whole_or_refused(rt, fuse, count, made, found, left);
+    true
+}
+
+// Each of the calls of a kind fails in turn.
+fn each_call_fails(rt: &impl Abort, alloc: Global, kind: Kind, after: bool, for_good: bool) {
+    for at in 1..200 {
+        let inner = new_shelf(rt, alloc);
+        if !fails_at(rt, inner, (kind, at, after, for_good), 100) {
+            break;
+        }
     }
-    assert_equal_for(rt, fuse, left == Found::Mixed, false);
-    Ok(true)
 }
 
 #[test]
-fn a_file_is_closed_only_if_no_call_failed(rt: HostRuntime) -> Result<(), Fail> {
+fn a_file_is_closed_only_if_no_call_failed(rt: HostRuntime) {
     for &kind in &[Kind::Reads, Kind::Writes, Kind::Syncs, Kind::Changes] {
         for &(after, for_good) in &WAYS {
-            for at in 1..200 {
-                let inner = new_shelf(rt.alloc())?;
-                if !fails_at(&rt, inner, (kind, at, after, for_good), 100)? {
-                    break;
-                }
-            }
+            each_call_fails(&rt, rt.alloc(), kind, after, for_good);
         }
     }
-    Ok(())
 }
 
-// Whether each crash image holds the new file or, where it was not done, may be refused or what was found at the start.
-fn holds_new(alloc: Global, shelf: &MemShelf, start: Found, done: bool) -> Result<bool, Fault> {
-    for &image in &[
-        Image::AsRead,
-        Image::Synced,
-        Image::Filled(0),
-        Image::Filled(b'C'),
-    ] {
-        let mut left = shelf.crash(alloc, image)?;
-        left.attach(&[name()])?;
-        let found = find(&mut left)?;
+const IMAGES: [Image; 4] = [
+    Image::AsRead,
+    Image::Synced,
+    Image::Filled(0),
+    Image::Filled(b'C'),
+];
+
+// What a crash image holds.
+fn found_after(rt: &impl Abort, alloc: Global, shelf: &MemShelf, image: Image) -> Found {
+    let mut left = shelf.crash(alloc, image).expect(rt, "memory");
+    attach(rt, &mut left);
+    find(&mut left).expect(rt, "no call fails")
+}
+
+// Whether each crash image holds the new file or, where it was not done, may be refused or what was
+// found at the start.
+fn holds_new(rt: &impl Abort, alloc: Global, shelf: &MemShelf, start: Found, done: bool) -> bool {
+    for &image in &IMAGES {
+        let found = found_after(rt, alloc, shelf, image);
         let expected = found == Found::Closed(50, 2)
             || !done && (found == Found::Refused || found == start);
         if !expected {
-            return Ok(false);
+            return false;
         }
     }
-    Ok(true)
+    true
 }
 
-// A file is made anew over none, over an empty one, over a closed one and over one whose change was stopped.
+// A shelf with an empty file.
+fn with_empty_file(rt: &impl Abort, alloc: Global) -> MemShelf
+    ensures unit { HasUnit (mem_state_of result) 0 }
+{
+    let mut shelf = new_shelf(rt, alloc);
+    shelf.create(0).expect(rt, "an empty file");
+    assert_equal(rt, shelf.sync(0), Ok(()));
+    shelf
+}
+
+// A shelf with a closed file of two pages.
+fn with_file(rt: &impl Abort, alloc: Global) -> MemShelf
+    ensures unit { HasUnit (mem_state_of result) 0 }
+{
+    let mut shelf = new_shelf(rt, alloc);
+    assert_equal(rt, make(&mut shelf, 2, 10), Ok(()));
+    shelf
+}
+
+// What a shelf has before a file is made anew: none, an empty one, or a closed one.
+fn with_start(rt: &impl Abort, alloc: Global, start: u32) -> MemShelf
+    ensures unit { HasUnit (mem_state_of result) 0 }
+{
+    match start {
+        0 => new_shelf(rt, alloc),
+        1 => with_empty_file(rt, alloc),
+        _ => with_file(rt, alloc),
+    }
+}
+
+// The change of a closed file is begun, and stopped.
+fn begin_at(rt: &impl Abort, shelf: &mut MemShelf, start: u32)
+    requires unit { HasUnit (mem_state_of shelf.old) 0 }
+    ensures unit { HasUnit (mem_state_of shelf.new) 0 }
+{
+    if start == 3 {
+        assert_equal(rt, begin(shelf, 0), Ok(()));
+    }
+}
+
+// A file is made anew, and stopped at the n-th change. Whether it was done.
+fn stops_making(rt: &impl Abort, alloc: Global, start: u32, after: bool, at: u64) -> bool {
+    let mut shelf = with_start(rt, alloc, start);
+    let found = find(&mut shelf).expect(rt, "no call fails");
+    begin_at(rt, &mut shelf, start);
+    let mut fuse = FuseShelf::new(shelf, Kind::Changes, at, after, true);
+    let done = make(&mut fuse, 2, 50).is_ok();
+    assert_equal(rt, done, fuse.faults() == 0);
+    let holds = holds_new(rt, alloc, &fuse.into_inner(), found, done);
+    assert_equal_for(rt, (start, at), holds, true);
+    done
+}
+
+// A file is made anew over none, over an empty one, over a closed one and over one whose change was
+// stopped.
 #[test]
-fn a_stop_inside_make_leaves_no_file_a_refused_one_the_old_or_the_new(
-    rt: HostRuntime,
-) -> Result<(), Fail> {
+fn a_stop_inside_make_leaves_no_file_a_refused_one_the_old_or_the_new(rt: HostRuntime) {
     for start in 0..4 {
         for &after in &[false, true] {
             for at in 1..30 {
-                let mut shelf = new_shelf(rt.alloc())?;
-                if start == 1 {
-                    shelf.create(0)?;
-                    shelf.sync(0)?;
-                }
-                if start >= 2 {
-                    make(&mut shelf, 2, 10)?;
-                }
-                let found = find(&mut shelf)?;
-                if start == 3 {
-                    begin(&mut shelf, 0)?;
-                }
-                let mut fuse = FuseShelf::new(shelf, Kind::Changes, at, after, true);
-                let done = make(&mut fuse, 2, 50).is_ok();
-                let stopped = fuse.faults() > 0;
-                assert_equal(&rt, done, !stopped);
-                let holds = holds_new(rt.alloc(), &fuse.into_inner(), found, done)?;
-                assert_equal_for(&rt, (start, at), holds, true);
-                if done {
+                if stops_making(&rt, rt.alloc(), start, after, at) {
                     break;
                 }
             }
         }
     }
-    Ok(())
+}
+
+// A file is changed, and stopped at the n-th change. Whether it was done.
+fn stops_changing(rt: &impl Abort, alloc: Global, after: bool, at: u64) -> bool {
+    let shelf = with_file(rt, alloc);
+    let mut fuse = FuseShelf::new(shelf, Kind::Changes, at, after, true);
+    let done = change(&mut fuse, 2, 50).is_ok();
+    assert_equal(rt, done, fuse.faults() == 0);
+    let holds = holds_new(rt, alloc, &fuse.into_inner(), Found::Closed(10, 2), done);
+    assert_equal_for(rt, at, holds, true);
+    done
 }
 
 #[test]
-fn a_stop_inside_a_change_leaves_the_old_file_a_refused_one_or_the_new(
-    rt: HostRuntime,
-) -> Result<(), Fail> {
+fn a_stop_inside_a_change_leaves_the_old_file_a_refused_one_or_the_new(rt: HostRuntime) {
     for &after in &[false, true] {
         for at in 1..30 {
-            let mut shelf = new_shelf(rt.alloc())?;
-            make(&mut shelf, 2, 10)?;
-            let mut fuse = FuseShelf::new(shelf, Kind::Changes, at, after, true);
-            let done = change(&mut fuse, 2, 50).is_ok();
-            assert_equal(&rt, done, fuse.faults() == 0);
-            let holds = holds_new(rt.alloc(), &fuse.into_inner(), Found::Closed(10, 2), done)?;
-            assert_equal_for(&rt, at, holds, true);
-            if done {
+            if stops_changing(&rt, rt.alloc(), after, at) {
                 break;
             }
         }
     }
-    Ok(())
 }

@@ -1,11 +1,10 @@
 //! Files that two runs have open at once, that may only be read, or that a system has no locks for.
-ghost use Rattle.std.specs.Prelude.{IfOk, OnOk};
 ghost use Rattle.page_store.specs.ShelfState.{HasUnit};
 
-use crate::checks::{assert_equal, assert_equal_for, assert_that};
+use crate::checks::{assert_equal, assert_equal_for, assert_that, has_bytes};
 use crate::files::{Found, begin, change, find, make};
-use crate::refusing_system::{Change, Refusals, Refusing};
-use crate::shelves::{name, name_of};
+use crate::refusing_system::{Change, Refusals};
+use crate::shelves::{attach, name, name_of};
 use folder_shelf::{EmptyDisk, FolderShelf};
 use io_state::{Fault, FileName};
 use page_store::{Shelf, Store};
@@ -15,7 +14,6 @@ use std::io::{self, ErrorKind};
 use std::os::unix::fs::FileExt;
 use std::process::Abort;
 use std::rt::Files;
-use std::test::Fail;
 use system_files::LockFile;
 
 /// What a run does with a file of three pages.
@@ -48,24 +46,53 @@ const WRITTEN_WITH_2: Answer = Ok(Some(Found::Closed(2, 3)));
 
 const WRITTEN_WITH_3: Answer = Ok(Some(Found::Closed(3, 3)));
 
+// What is answered to a call that finds nothing.
+fn done(outcome: Result<(), Fault>) -> Answer {
+    match outcome {
+        Ok(()) => DONE,
+        Err(fault) => Err(fault),
+    }
+}
+
+fn found(outcome: Result<Found, Fault>) -> Answer {
+    match outcome {
+        Ok(found) => Ok(Some(found)),
+        Err(fault) => Err(fault),
+    }
+}
+
+// A run lets its files go, and attaches this one.
+fn attach_one<S: Shelf>(run: &mut S, name: FileName) -> Result<(), Fault>
+    requires unit { HasUnit (S.state run.old) 0 }
+    ensures unit { HasUnit (S.state run.new) 0 }
+{
+    run.attach(&[name])?;
+    Ok(())
+}
+
+// A run attaches the file by both of its names, and opens the gate by the second.
+fn begin_by_link<S: Shelf>(run: &mut S) -> Result<(), Fault>
+    requires unit { HasUnit (S.state run.old) 0 }
+    ensures unit { HasUnit (S.state run.new) 0 }
+{
+    run.attach(&[name(), second_name()])?;
+    begin(run, 1)
+}
+
 // What a run that does so is answered.
 fn answer_to<S: Shelf>(run: &mut S, act: Act) -> Answer
     requires unit { HasUnit (S.state run.old) 0 }
     ensures unit { HasUnit (S.state run.new) 0 }
 {
     match act {
-        Act::Attach => run.attach(&[name()])?,
-        Act::Find => return Ok(Some(find(run)?)),
-        Act::Make(byte) => make(run, 3, byte)?,
-        Act::Change(byte) => change(run, 3, byte)?,
-        Act::Begin => begin(run, 0)?,
-        Act::BeginByLink => {
-            run.attach(&[name(), second_name()])?;
-            begin(run, 1)?;
-        }
-        Act::AttachOther => run.attach(&[second_name()])?,
+        Act::Attach => done(attach_one(run, name())),
+        Act::Find => found(find(run)),
+        Act::Make(byte) => done(make(run, 3, byte)),
+        Act::Change(byte) => done(change(run, 3, byte)),
+        Act::Begin => done(begin(run, 0)),
+        Act::BeginByLink => done(begin_by_link(run)),
+        Act::AttachOther => done(attach_one(run, second_name())),
     }
-    DONE
 }
 
 // Each step of a run, beside what it is answered.
@@ -109,17 +136,19 @@ fn perform_both<S: Shelf>(
 
 // A run over the files of a folder, which has the file attached.
 fn run_over<R: Files + Drop>(
+    test: &impl Abort,
     rt: R,
     alloc: Global,
     folder: &str,
-) -> Result<FolderShelf<R, EmptyDisk>, Fail>
+) -> FolderShelf<R, EmptyDisk>
 where
     R::File: FileExt + LockFile,
-    ensures unit { IfOk result (λ run. HasUnit (⟦<FolderShelf<R, EmptyDisk> as Shelf>⟧.state run) 0) }
+    ensures unit { HasUnit (⟦<FolderShelf<R, EmptyDisk> as Shelf>⟧.state result) 0 }
 {
-    let mut run = FolderShelf::new(rt, alloc, folder.to_string(alloc)?);
-    run.attach(&[name()])?;
-    Ok(run)
+    let path = folder.to_string(alloc).expect(test, "memory");
+    let mut run = FolderShelf::new(rt, alloc, path);
+    attach(test, &mut run);
+    run
 }
 
 // Each step of a run over the files of a folder, with these refusals, beside what it is answered.
@@ -129,26 +158,17 @@ fn perform_over(
     refusals: &Refusals,
     folder: &str,
     steps: &[(Act, Answer)],
-) -> Result<(), Fail> {
-    let mut run = run_over(refusals.over(rt), rt.alloc(), folder)?;
+) {
+    let mut run = run_over(test, refusals.over(rt), rt.alloc(), folder);
     perform(test, &mut run, steps);
-    Ok(())
 }
 
 // Makes a folder of this name, with a file of three pages in it.
-fn make_file(rt: HostRuntime, folder: &str) -> Result<(), Fail> {
+fn make_file(test: &impl Abort, rt: HostRuntime, folder: &str) {
     let _ = fs::remove_dir_all(&rt, folder);
-    fs::create_dir(&rt, folder)?;
-    let mut run = run_over(rt, rt.alloc(), folder)?;
-    Ok(make(&mut run, 3, 1)?)
-}
-
-// A file was read, and these are its bytes.
-fn has_bytes(rt: &impl Abort, found: io::Result<Vec<u8>>, bytes: &[u8]) {
-    match found {
-        Ok(found) => assert_equal(rt, found.as_slice(), bytes),
-        Err(_) => assert_that(rt, false),
-    }
+    fs::create_dir(&rt, folder).expect(test, "a folder");
+    let mut run = run_over(test, rt, rt.alloc(), folder);
+    assert_equal(test, make(&mut run, 3, 1), Ok(()));
 }
 
 // A file was read before, and has the same bytes now.
@@ -160,9 +180,9 @@ fn has_same_bytes(rt: &impl Abort, found: io::Result<Vec<u8>>, before: &io::Resu
 }
 
 // Makes such a folder without its file.
-fn make_folder(rt: HostRuntime, folder: &str, file: &str) -> Result<(), Fail> {
-    make_file(rt, folder)?;
-    Ok(fs::remove_file(&rt, file)?)
+fn make_folder(test: &impl Abort, rt: HostRuntime, folder: &str, file: &str) {
+    make_file(test, rt, folder);
+    fs::remove_file(&rt, file).expect(test, "no file");
 }
 
 fn second_name() -> FileName {
@@ -172,39 +192,32 @@ fn second_name() -> FileName {
 const NEITHER_READ_NOR_MADE: [(Act, Answer); 2] = [(Act::Find, REFUSED), (Act::Make(2), REFUSED)];
 
 // The first run makes a file, which the second finds once it is made and let go.
-fn is_read_once_it_is_let_go<S: Shelf>(
-    rt: &impl Abort,
-    first: &mut S,
-    second: &mut S,
-) -> Result<(), Fault>
+fn is_read_once_it_is_let_go<S: Shelf>(rt: &impl Abort, first: &mut S, second: &mut S)
     requires first { HasUnit (S.state first.old) 0 }
     requires second { HasUnit (S.state second.old) 0 }
 {
-    let store = Store::make(first, 0)?;
+    let store = Store::make(first, 0).expect(rt, "a file");
     perform(rt, second, &NEITHER_READ_NOR_MADE);
-    store.finish(first)?;
+    assert_equal(rt, store.finish(first), Ok(()));
     assert_equal(rt, find(second), Err(Fault::Device));
-    lets_go(rt, first, second, Found::Refused)
+    lets_go(rt, first, second, Found::Refused);
 }
 
 // A run lets its files go, and another finds this.
-fn lets_go<S: Shelf>(rt: &impl Abort, run: &mut S, other: &mut S, found: Found) -> Result<(), Fault>
+fn lets_go<S: Shelf>(rt: &impl Abort, run: &mut S, other: &mut S, found: Found)
     requires other { HasUnit (S.state other.old) 0 }
 {
-    run.attach(&[])?;
+    assert_equal(rt, run.attach(&[]), Ok(()));
     assert_equal(rt, find(other), Ok(found));
-    Ok(())
 }
 
 #[test]
-fn a_file_that_is_made_is_read_by_no_other_run(rt: HostRuntime) -> Result<(), Fail> {
-    make_folder(rt, "made_and_read", "made_and_read/CUST")?;
-    let mut first = run_over(rt, rt.alloc(), "made_and_read")?;
-    let mut second = run_over(rt, rt.alloc(), "made_and_read")?;
-    let made = is_read_once_it_is_let_go(&rt, &mut first, &mut second);
-    assert_equal(&rt, made, Ok(()));
+fn a_file_that_is_made_is_read_by_no_other_run(rt: HostRuntime) {
+    make_folder(&rt, rt, "made_and_read", "made_and_read/CUST");
+    let mut first = run_over(&rt, rt, rt.alloc(), "made_and_read");
+    let mut second = run_over(&rt, rt, rt.alloc(), "made_and_read");
+    is_read_once_it_is_let_go(&rt, &mut first, &mut second);
     has_bytes(&rt, fs::read(&rt, "made_and_read/CUST"), b"C");
-    Ok(())
 }
 
 const READ_BY_BOTH: [(Run, Act, Answer); 4] = [
@@ -224,18 +237,16 @@ const CHANGED_BY_THE_SECOND: [(Run, Act, Answer); 4] = [
 ];
 
 #[test]
-fn a_file_that_another_run_has_read_is_not_changed(rt: HostRuntime) -> Result<(), Fail> {
-    make_file(rt, "read_and_changed")?;
+fn a_file_that_another_run_has_read_is_not_changed(rt: HostRuntime) {
+    make_file(&rt, rt, "read_and_changed");
     let before = fs::read(&rt, "read_and_changed/CUST");
-    let mut first = run_over(rt, rt.alloc(), "read_and_changed")?;
-    let mut second = run_over(rt, rt.alloc(), "read_and_changed")?;
+    let mut first = run_over(&rt, rt, rt.alloc(), "read_and_changed");
+    let mut second = run_over(&rt, rt, rt.alloc(), "read_and_changed");
     perform_both(&rt, &mut first, &mut second, &READ_BY_BOTH);
     let after = fs::read(&rt, "read_and_changed/CUST");
     has_same_bytes(&rt, after, &before);
     perform_both(&rt, &mut first, &mut second, &CHANGED_BY_THE_SECOND);
-    let done = lets_go(&rt, &mut second, &mut first, Found::Closed(2, 3));
-    assert_equal(&rt, done, Ok(()));
-    Ok(())
+    lets_go(&rt, &mut second, &mut first, Found::Closed(2, 3));
 }
 
 const TWO_CHANGES: [(Run, Act, Answer); 6] = [
@@ -248,14 +259,13 @@ const TWO_CHANGES: [(Run, Act, Answer); 6] = [
 ];
 
 #[test]
-fn of_two_changes_at_once_one_is_made_and_one_refused(rt: HostRuntime) -> Result<(), Fail> {
-    make_file(rt, "two_changes")?;
-    let mut first = run_over(rt, rt.alloc(), "two_changes")?;
-    let mut second = run_over(rt, rt.alloc(), "two_changes")?;
+fn of_two_changes_at_once_one_is_made_and_one_refused(rt: HostRuntime) {
+    make_file(&rt, rt, "two_changes");
+    let mut first = run_over(&rt, rt, rt.alloc(), "two_changes");
+    let mut second = run_over(&rt, rt, rt.alloc(), "two_changes");
     perform_both(&rt, &mut first, &mut second, &TWO_CHANGES);
     assert_equal(&rt, (first.faults(), second.faults()), (3, 0));
     assert_equal(&rt, find(&mut second), Ok(Found::Closed(2, 3)));
-    Ok(())
 }
 
 const BEGUN_AND_FOUND: [(Act, Answer); 2] = [(Act::BeginByLink, DONE), (Act::Find, REFUSED)];
@@ -264,15 +274,14 @@ const BEGUN_AND_FOUND: [(Act, Answer); 2] = [(Act::BeginByLink, DONE), (Act::Fin
 const BEGUN_AND_MADE: [(Act, Answer); 2] = [(Act::BeginByLink, DONE), (Act::Make(2), REFUSED)];
 
 #[test]
-fn two_names_of_one_file_are_two_that_have_it_open(rt: HostRuntime) -> Result<(), Fail> {
-    make_file(rt, "two_names")?;
-    fs::hard_link(&rt, "two_names/CUST", "two_names/LINK")?;
-    let mut run = run_over(rt, rt.alloc(), "two_names")?;
+fn two_names_of_one_file_are_two_that_have_it_open(rt: HostRuntime) {
+    make_file(&rt, rt, "two_names");
+    fs::hard_link(&rt, "two_names/CUST", "two_names/LINK").expect(&rt, "a link");
+    let mut run = run_over(&rt, rt, rt.alloc(), "two_names");
     perform(&rt, &mut run, &BEGUN_AND_FOUND);
     let before = fs::read(&rt, "two_names/CUST");
     perform(&rt, &mut run, &BEGUN_AND_MADE);
     has_same_bytes(&rt, fs::read(&rt, "two_names/CUST"), &before);
-    Ok(())
 }
 
 const ONLY_READ: [(Act, Answer); 4] = [
@@ -298,16 +307,15 @@ const NOT_WRITTEN: [(ErrorKind, &[(Act, Answer)]); 4] = [
 ];
 
 #[test]
-fn a_file_that_may_only_be_read_is_read_whole_and_not_changed(rt: HostRuntime) -> Result<(), Fail> {
-    make_file(rt, "only_read")?;
+fn a_file_that_may_only_be_read_is_read_whole_and_not_changed(rt: HostRuntime) {
+    make_file(&rt, rt, "only_read");
     let before = fs::read(&rt, "only_read/CUST");
     let refusals = Refusals::none();
     for &(reason, steps) in &NOT_WRITTEN {
         refusals.writing.set(Some(reason));
-        perform_over(&rt, rt, &refusals, "only_read", steps)?;
+        perform_over(&rt, rt, &refusals, "only_read", steps);
         has_same_bytes(&rt, fs::read(&rt, "only_read/CUST"), &before);
     }
-    Ok(())
 }
 
 fn set(bytes: &mut [u8], at: usize, byte: u8) {
@@ -317,14 +325,14 @@ fn set(bytes: &mut [u8], at: usize, byte: u8) {
 }
 
 // The bytes of a file whose change is begun, where this happens meanwhile.
-fn changed(mut bytes: Vec<u8>, meanwhile: Change) -> Result<Vec<u8>, Fail> {
+fn changed(test: &impl Abort, mut bytes: Vec<u8>, meanwhile: Change) -> Vec<u8> {
     match meanwhile {
         Change::Nothing => set(&mut bytes, 0, b'D'),
         Change::Page => set(&mut bytes, 9, 0),
-        Change::Length => bytes.push(0)?,
+        Change::Length => bytes.push(0).expect(test, "memory"),
         Change::Times => {}
     }
-    Ok(bytes)
+    bytes
 }
 
 // What happens between two locks, what who changes the file then is answered, and what others find.
@@ -352,15 +360,29 @@ fn begin_after<S: Shelf>(
 }
 
 // Another run finds this, and lets it go.
-fn another_finds(
+fn another_finds(test: &impl Abort, rt: HostRuntime, meanwhile: Change, found: Found) {
+    let mut other = run_over(test, rt, rt.alloc(), "between_two_locks");
+    assert_equal_for(test, meanwhile, find(&mut other), Ok(found));
+}
+
+// A run begins to change a file that another run has meanwhile, and answers whether it may. The bytes
+// that are left are those of the change meanwhile.
+fn begins_meanwhile<S: Shelf>(
     test: &impl Abort,
     rt: HostRuntime,
+    run: &mut S,
+    refusals: &Refusals,
     meanwhile: Change,
-    found: Found,
-) -> Result<(), Fail> {
-    let mut other = run_over(rt, rt.alloc(), "between_two_locks")?;
-    assert_equal_for(test, meanwhile, find(&mut other), Ok(found));
-    Ok(())
+    answer: Answer,
+)
+    requires unit { HasUnit (S.state run.old) 0 }
+    ensures unit { HasUnit (S.state run.new) 0 }
+{
+    let before = fs::read(&rt, "between_two_locks/CUST").expect(test, "the file");
+    let expected = changed(test, before, meanwhile);
+    begin_after(test, run, refusals, meanwhile, answer);
+    let left = fs::read(&rt, "between_two_locks/CUST");
+    has_bytes(test, left, expected.as_slice());
 }
 
 // Another run has the file, and lets it go, while the shared lock is made exclusive.
@@ -370,46 +392,35 @@ fn changes_between_two_locks(
     meanwhile: Change,
     answer: Answer,
     found: Found,
-) -> Result<(), Fail> {
-    make_file(rt, "between_two_locks")?;
-    let expected = changed(fs::read(&rt, "between_two_locks/CUST")?, meanwhile)?;
+) {
+    make_file(test, rt, "between_two_locks");
     let refusals = Refusals::none();
-    let mut run = run_over(refusals.over(rt), rt.alloc(), "between_two_locks")?;
-    begin_after(test, &mut run, &refusals, meanwhile, answer);
-    let left = fs::read(&rt, "between_two_locks/CUST");
-    has_bytes(test, left, expected.as_slice());
+    let mut run = run_over(test, refusals.over(rt), rt.alloc(), "between_two_locks");
+    begins_meanwhile(test, rt, &mut run, &refusals, meanwhile, answer);
     // What reads the file anew may change it.
     if answer == REFUSED {
-        another_finds(test, rt, meanwhile, found)?;
-        perform(
-            test,
-            &mut run,
-            &[(Act::Find, Ok(Some(found))), (Act::Begin, DONE)],
-        );
+        another_finds(test, rt, meanwhile, found);
+        assert_equal_for(test, meanwhile, find(&mut run), Ok(found));
+        assert_equal_for(test, meanwhile, begin(&mut run, 0), Ok(()));
     }
-    Ok(())
 }
 
 #[test]
-fn a_file_that_was_changed_between_two_locks_is_not_changed_again(
-    rt: HostRuntime,
-) -> Result<(), Fail> {
+fn a_file_that_was_changed_between_two_locks_is_not_changed_again(rt: HostRuntime) {
     for &(meanwhile, answer, found) in &MEANWHILE {
-        changes_between_two_locks(&rt, rt, meanwhile, answer, found)?;
+        changes_between_two_locks(&rt, rt, meanwhile, answer, found);
     }
-    Ok(())
 }
 
 const NOT_MADE: [(Act, Answer); 1] = [(Act::Make(2), REFUSED)];
 
 #[test]
-fn a_file_that_another_run_had_first_is_not_made(rt: HostRuntime) -> Result<(), Fail> {
-    make_folder(rt, "had_first", "had_first/CUST")?;
+fn a_file_that_another_run_had_first_is_not_made(rt: HostRuntime) {
+    make_folder(&rt, rt, "had_first", "had_first/CUST");
     let refusals = Refusals::none();
     refusals.change.set(Change::Length);
-    perform_over(&rt, rt, &refusals, "had_first", &NOT_MADE)?;
+    perform_over(&rt, rt, &refusals, "had_first", &NOT_MADE);
     has_bytes(&rt, fs::read(&rt, "had_first/CUST"), b"\0");
-    Ok(())
 }
 
 const WITHOUT_LOCKS: [(Run, Act, Answer); 3] = [
@@ -425,16 +436,15 @@ const MADE_AGAIN: [(Act, Answer); 3] = [
 ];
 
 #[test]
-fn a_system_without_locks_is_as_if_each_was_had(rt: HostRuntime) -> Result<(), Fail> {
-    make_file(rt, "no_locks")?;
+fn a_system_without_locks_is_as_if_each_was_had(rt: HostRuntime) {
+    make_file(&rt, rt, "no_locks");
     let refusals = Refusals::none();
     refusals.locks.set(true);
-    let mut first = run_over(refusals.over(rt), rt.alloc(), "no_locks")?;
-    let mut second = run_over(refusals.over(rt), rt.alloc(), "no_locks")?;
+    let mut first = run_over(&rt, refusals.over(rt), rt.alloc(), "no_locks");
+    let mut second = run_over(&rt, refusals.over(rt), rt.alloc(), "no_locks");
     perform_both(&rt, &mut first, &mut second, &WITHOUT_LOCKS);
     assert_that(&rt, fs::remove_file(&rt, "no_locks/CUST").is_ok());
     perform(&rt, &mut first, &MADE_AGAIN);
-    Ok(())
 }
 
 // Neither by the same file nor by another one.
@@ -448,23 +458,20 @@ const NEVER_MADE: [(Act, Answer); 3] = [
 const MADE_LATER: [(Act, Answer); 2] = [(Act::Make(2), DONE), (Act::Find, WRITTEN_WITH_2)];
 
 // The next sync of the folder fails: a run makes no file in it any more.
-fn folder_is_not_synced(
-    test: &impl Abort,
-    rt: HostRuntime,
-    refusals: &Refusals,
-) -> Result<(), Fail> {
-    let mut run = run_over(refusals.over(rt), rt.alloc(), "folder_sync")?;
+fn folder_is_not_synced<S: Shelf>(rt: &impl Abort, run: &mut S, refusals: &Refusals)
+    requires unit { HasUnit (S.state run.old) 0 }
+{
     refusals.folder_sync.set(true);
-    perform(test, &mut run, &NOT_MADE);
-    assert_that(test, !refusals.folder_sync.get());
-    perform(test, &mut run, &NEVER_MADE);
-    Ok(())
+    perform(rt, run, &NOT_MADE);
+    assert_that(rt, !refusals.folder_sync.get());
+    perform(rt, run, &NEVER_MADE);
 }
 
 #[test]
-fn a_sync_of_the_folder_that_failed_stays_failed(rt: HostRuntime) -> Result<(), Fail> {
-    make_folder(rt, "folder_sync", "folder_sync/CUST")?;
+fn a_sync_of_the_folder_that_failed_stays_failed(rt: HostRuntime) {
+    make_folder(&rt, rt, "folder_sync", "folder_sync/CUST");
     let refusals = Refusals::none();
-    folder_is_not_synced(&rt, rt, &refusals)?;
-    perform_over(&rt, rt, &refusals, "folder_sync", &MADE_LATER)
+    let mut run = run_over(&rt, refusals.over(rt), rt.alloc(), "folder_sync");
+    folder_is_not_synced(&rt, &mut run, &refusals);
+    perform_over(&rt, rt, &refusals, "folder_sync", &MADE_LATER);
 }

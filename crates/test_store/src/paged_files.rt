@@ -1,11 +1,12 @@
 //! Pages taken, written, given back and read again, over a shelf in memory that may fail.
-ghost use Rattle.std.specs.Prelude.{◌≡◌, IfOk, IfSome, true};
-ghost use Rattle.page_store.specs.ShelfState.{HasUnit};
-ghost use Rattle.page_alloc.specs.PagedFile.{IsOpenOver};
+ghost use Rattle.std.specs.Prelude.{◌≡◌, ◌<◌, IfOk, IfSome, IsTrue, true};
+ghost use Rattle.page_store.specs.ShelfState.{HasUnit, unit_file};
+ghost use Rattle.page_store.specs.Pages.{HoldsPages};
+ghost use Rattle.page_alloc.specs.PagedFile.{IsOpenOver, is_begun};
 
 use crate::checks::{assert_equal, assert_equal_for};
 use crate::files::WAYS;
-use crate::shelves::{name, new_shelf};
+use crate::shelves::{below, new_shelf};
 use io_state::Fault;
 use memory_shelf::{FuseShelf, Kind, MemShelf};
 use page_alloc::{FilePages, PagedFile, Pager};
@@ -14,7 +15,6 @@ use pages::Pages;
 use std::alloc::Global;
 use std::num::NonZeroUsize;
 use std::process::Abort;
-use std::test::Fail;
 
 /// What a file is found to be.
 #[derive(Clone, Copy, Debug, PartialEq, Eq)]
@@ -25,24 +25,12 @@ enum Found {
     Closed(u32, u32),
 }
 
-// Writes the number of a page at both of its ends.
-fn mark<P: Pages>(pages: &mut P, n: u32) -> Result<(), Fault>
-    requires ready { P.shown.IsReady pages.old }
-    requires open { P.shown.CanChange pages.old }
-    ensures goes { P.shown.Writes pages.old pages.new }
-{
-    let page = pages.page_mut(n)?;
+// A page with its number at both of its ends.
+fn marked(n: u32) -> [u8; 4096] {
+    let mut page = [0; 4096];
     page[0] = (n % 251) as u8;
     page[4095] = (n % 251) as u8;
-    Ok(())
-}
-
-fn is_marked<P: Pages>(pages: &mut P, n: u32) -> Result<bool, Fault>
-    requires ready { P.shown.IsReady pages.old }
-    ensures goes { P.shown.Writes pages.old pages.new }
-{
-    let page = pages.page(n)?;
-    Ok(page[0] == (n % 251) as u8 && page[4095] == (n % 251) as u8)
+    page
 }
 
 // Takes pages and marks them. So many of them have the next number.
@@ -54,7 +42,7 @@ fn fill<P: Pages>(pages: &mut P, count: u32) -> Result<u32, Fault>
     let mut right = 0u32;
     for n in 0..count {
         let taken = pages.take()?;
-        mark(pages, taken)?;
+        pages::store(pages, taken, &marked(taken))?;
         if taken == n.wrapping_add(1) {
             right = right.wrapping_add(1);
         }
@@ -62,18 +50,24 @@ fn fill<P: Pages>(pages: &mut P, count: u32) -> Result<u32, Fault>
     Ok(right)
 }
 
-// How many of the first pages are marked.
-fn count_marked<P: Pages>(pages: &mut P, count: u32) -> Result<u32, Fault>
+// How many of the first pages are marked, or else are pages of zeros.
+fn count_pages<P: Pages>(pages: &mut P, count: u32, are_marked: bool) -> Result<u32, Fault>
     requires ready { P.shown.IsReady pages.old }
     ensures goes { P.shown.Writes pages.old pages.new }
 {
+    let mut page = [0; 4096];
     let mut right = 0u32;
     for n in 0..count {
-        if is_marked(pages, n.wrapping_add(1))? {
+        pages::copy(pages, n.wrapping_add(1), &mut page)?;
+        if page == expected(n.wrapping_add(1), are_marked) {
             right = right.wrapping_add(1);
         }
     }
     Ok(right)
+}
+
+fn expected(n: u32, is_marked: bool) -> [u8; 4096] {
+    if is_marked { marked(n) } else { [0; 4096] }
 }
 
 // Makes the file with so many marked pages, and closes it.
@@ -100,6 +94,29 @@ fn make<S: Shelf>(
     Ok(right)
 }
 
+// The file of a store that has a page, where it is closed.
+fn reopen_store<S: Shelf>(
+    alloc: Global,
+    shelf: &mut S,
+    store: Store,
+    frames: NonZeroUsize,
+) -> Result<Option<PagedFile>, Fault>
+    requires unit { HasUnit (S.state shelf.old) store.unit }
+    requires pages { IsTrue (S.state shelf.old).is_honest
+        → HoldsPages store.pages (unit_file (S.state shelf.old) store.unit) }
+    requires some { 0 < store.pages }
+    ensures unit { HasUnit (S.state shelf.new) store.unit }
+    ensures ready { IfOk result (λ found. IfSome found (λ file. IsOpenOver file (S.state shelf.new))) }
+{
+    let mut header = [0; 4096];
+    store.read_page(shelf, 0, &mut header)?;
+    let pager = Pager::load(&header, 1000);
+    if header[0] != b'C' || pager.count() == 0 || pager.count() > store.pages {
+        return Ok(None);
+    }
+    Ok(Some(PagedFile::open(alloc, store, frames, pager)?))
+}
+
 // A file that is there, with one frame for each page looked at.
 fn reopen<S: Shelf>(
     alloc: Global,
@@ -117,13 +134,7 @@ fn reopen<S: Shelf>(
     if store.pages == 0 {
         return Ok(None);
     }
-    let mut header = [0; 4096];
-    store.read_page(shelf, 0, &mut header)?;
-    let pager = Pager::load(&header, 1000);
-    if header[0] != b'C' || pager.count() == 0 || pager.count() > store.pages {
-        return Ok(None);
-    }
-    Ok(Some(PagedFile::open(alloc, store, frames, pager)?))
+    reopen_store(alloc, shelf, store, frames)
 }
 
 fn find<S: Shelf>(alloc: Global, shelf: &mut S, frames: NonZeroUsize) -> Result<Found, Fault>
@@ -133,15 +144,16 @@ fn find<S: Shelf>(alloc: Global, shelf: &mut S, frames: NonZeroUsize) -> Result<
     let Some(mut file) = reopen(alloc, shelf, frames)? else {
         return Ok(Found::Refused);
     };
-    let count = file.pager().count();
-    let right = count_marked(
+    let count = file.pager().count().saturating_sub(1);
+    let right = count_pages(
         &mut FilePages {
             file: &mut file,
             shelf,
         },
-        count - 1,
+        count,
+        true,
     )?;
-    Ok(Found::Closed(right, count - 1))
+    Ok(Found::Closed(right, count))
 }
 
 fn frames(count: usize) -> NonZeroUsize {
@@ -149,20 +161,18 @@ fn frames(count: usize) -> NonZeroUsize {
 }
 
 #[test]
-fn a_hundred_pages_are_read_as_written_with_any_number_of_frames(
-    rt: HostRuntime,
-) -> Result<(), Fail> {
+fn a_hundred_pages_are_read_as_written_with_any_number_of_frames(rt: HostRuntime) {
     for &count in &[1, 2, 64, 4096] {
-        let mut shelf = new_shelf(rt.alloc())?;
+        let mut shelf = new_shelf(&rt, rt.alloc());
         let made = make(rt.alloc(), &mut shelf, frames(count), 100);
         assert_equal_for(&rt, count, made, Ok(100));
         let found = find(rt.alloc(), &mut shelf, frames(count));
         assert_equal_for(&rt, count, found, Ok(Found::Closed(100, 100)));
     }
-    Ok(())
 }
 
-// The n-th call of a kind fails, in a program that makes a file of so many pages. Whether it has so many calls.
+// The n-th call of a kind fails, in a program that makes a file of so many pages. Whether it has so
+// many calls.
 fn fails_at(
     rt: &impl Abort,
     alloc: Global,
@@ -171,68 +181,68 @@ fn fails_at(
     held: usize,
     pages: u32,
     at: u64,
-) -> Result<bool, Fail> {
-    let inner = new_shelf(alloc)?;
-    let mut shelf = FuseShelf::new(inner, kind, at, way.0, way.1);
+) -> bool {
+    let mut shelf = FuseShelf::new(new_shelf(rt, alloc), kind, at, way.0, way.1);
     let made = make(alloc, &mut shelf, frames(held), pages);
     let failed = shelf.faults() > 0;
-    let mut inner = shelf.into_inner();
-    inner.attach(&[name()])?;
-    let found = find(alloc, &mut inner, frames(held))?;
+    let mut inner = below(rt, shelf);
+    let found = find(alloc, &mut inner, frames(held)).expect(rt, "no call fails");
     if made.is_ok() {
         assert_equal_for(rt, (kind, at, held), found, Found::Closed(pages, pages));
     } else {
         let holds = found == Found::Refused || found == Found::Closed(pages, pages);
         assert_equal_for(rt, (kind, at, held), failed && holds, true);
     }
-    Ok(failed)
+    failed
 }
 
+// Each call of a kind fails in turn, as far as there are so many. How many there are.
+fn each_call_fails(
+    rt: &impl Abort,
+    alloc: Global,
+    kind: Kind,
+    way: (bool, bool),
+    held: usize,
+    pages: u32,
+    most: u64,
+) -> u64 {
+    for at in 1..most {
+        if !fails_at(rt, alloc, kind, way, held, pages, at) {
+            return at - 1;
+        }
+    }
+    most
+}
+
+const KINDS: [Kind; 3] = [Kind::Reads, Kind::Writes, Kind::Syncs];
+
 #[test]
-fn a_file_is_closed_whole_or_refused_whichever_call_failed(rt: HostRuntime) -> Result<(), Fail> {
+fn a_file_is_closed_whole_or_refused_whichever_call_failed(rt: HostRuntime) {
     for &held in &[1, 3, 64] {
-        for &kind in &[Kind::Reads, Kind::Writes, Kind::Syncs] {
+        for &kind in &KINDS {
             for &way in &WAYS {
-                for at in 1..200 {
-                    if !fails_at(&rt, rt.alloc(), kind, way, held, 8, at)? {
-                        break;
-                    }
-                }
+                each_call_fails(&rt, rt.alloc(), kind, way, held, 8, 200);
             }
         }
     }
-    Ok(())
 }
 
 #[test]
 fn a_file_of_a_hundred_pages_is_closed_whole_or_refused_whichever_call_failed_once(
     rt: HostRuntime,
-) -> Result<(), Fail> {
+) {
     for &held in &[1, 64] {
-        for &kind in &[Kind::Reads, Kind::Writes, Kind::Syncs] {
-            let mut calls = 0u64;
-            for at in 1..1000 {
-                if !fails_at(&rt, rt.alloc(), kind, (false, false), held, 100, at)? {
-                    break;
-                }
-                calls = at;
-            }
+        for &kind in &KINDS {
+            let calls = each_call_fails(&rt, rt.alloc(), kind, (false, false), held, 100, 1000);
             assert_equal_for(&rt, (kind, held), calls < 999, true);
         }
     }
-    Ok(())
 }
 
 // The n-th read fails, where a closed file of eight pages is read back. Whether it has so many reads.
-fn read_fails_at(
-    rt: &impl Abort,
-    alloc: Global,
-    way: (bool, bool),
-    held: usize,
-    at: u64,
-) -> Result<bool, Fail> {
-    let mut inner = new_shelf(alloc)?;
-    make(alloc, &mut inner, frames(held), 8)?;
+fn read_fails_at(rt: &impl Abort, alloc: Global, way: (bool, bool), held: usize, at: u64) -> bool {
+    let mut inner = new_shelf(rt, alloc);
+    assert_equal(rt, make(alloc, &mut inner, frames(held), 8), Ok(8));
     let mut shelf = FuseShelf::new(inner, Kind::Reads, at, way.0, way.1);
     let found = find(alloc, &mut shelf, frames(held));
     let failed = shelf.faults() > 0;
@@ -240,77 +250,106 @@ fn read_fails_at(
         Ok(found) => assert_equal_for(rt, (at, held), found, Found::Closed(8, 8)),
         Err(_) => assert_equal_for(rt, (at, held), failed, true),
     }
-    let mut inner = shelf.into_inner();
-    inner.attach(&[name()])?;
+    let mut inner = below(rt, shelf);
     let found = find(alloc, &mut inner, frames(held));
     assert_equal(rt, found, Ok(Found::Closed(8, 8)));
-    Ok(failed)
+    failed
+}
+
+// Each read fails in turn.
+fn each_read_fails(rt: &impl Abort, alloc: Global, way: (bool, bool), held: usize) {
+    for at in 1..200 {
+        if !read_fails_at(rt, alloc, way, held, at) {
+            break;
+        }
+    }
 }
 
 #[test]
-fn pages_are_read_as_written_or_not_at_all_whichever_read_failed(
-    rt: HostRuntime,
-) -> Result<(), Fail> {
+fn pages_are_read_as_written_or_not_at_all_whichever_read_failed(rt: HostRuntime) {
     for &held in &[1, 3, 64] {
         for &way in &WAYS {
-            for at in 1..200 {
-                if !read_fails_at(&rt, rt.alloc(), way, held, at)? {
-                    break;
+            each_read_fails(&rt, rt.alloc(), way, held);
+        }
+    }
+}
+
+// Takes so many pages, or as many as are left: how many, how many of them have the next number, and
+// why no more.
+fn take_pages<P: Pages>(pages: &mut P, count: u32) -> (u32, u32, Option<Fault>)
+    requires ready { P.shown.IsReady pages.old }
+    requires open { P.shown.CanChange pages.old }
+    ensures goes { P.shown.Writes pages.old pages.new }
+{
+    let mut right = 0u32;
+    for n in 0..count {
+        match pages.take() {
+            Ok(taken) => {
+                if taken == n.wrapping_add(1) {
+                    right = right.wrapping_add(1);
                 }
             }
+            Err(fault) => return (n, right, Some(fault)),
         }
     }
-    Ok(())
+    (count, right, None)
 }
 
-// Takes a page, if one is left.
-fn take_one<P: Pages>(pages: &mut P) -> Result<bool, Fault>
+// A new file of at most so many pages, whose header is full of this byte.
+fn created<S: Shelf>(
+    rt: &impl Abort,
+    alloc: Global,
+    shelf: &mut S,
+    held: usize,
+    limit: u32,
+    byte: u8,
+) -> PagedFile
+    requires unit { HasUnit (S.state shelf.old) 0 }
+    ensures ready { IsOpenOver result (S.state shelf.new) }
+    ensures begun { is_begun result ≡ true }
+{
+    PagedFile::create(alloc, shelf, 0, frames(held), limit, &[byte; 4096]).expect(rt, "a file")
+}
+
+// Two pages are given back and taken again.
+fn give_and_take<P: Pages>(rt: &impl Abort, pages: &mut P)
     requires ready { P.shown.IsReady pages.old }
     requires open { P.shown.CanChange pages.old }
     ensures goes { P.shown.Writes pages.old pages.new }
 {
-    match pages.take() {
-        Ok(_) => Ok(true),
-        Err(Fault::Full) => Ok(false),
-        Err(fault) => Err(fault),
-    }
+    let given = (pages.give(7), pages.give(9));
+    assert_equal(rt, given, (Ok(()), Ok(())));
+    assert_equal(rt, pages.pages_left(), 2);
+    // The page given back last is taken first.
+    assert_equal(rt, (pages.take(), pages.take()), (Ok(9), Ok(7)));
 }
 
-// Takes pages until none is left.
-fn take_all<P: Pages>(pages: &mut P) -> Result<u32, Fault>
+// Of sixteen pages twelve are left behind three and the header.
+fn twelve_are_left<P: Pages>(rt: &impl Abort, pages: &mut P)
     requires ready { P.shown.IsReady pages.old }
     requires open { P.shown.CanChange pages.old }
     ensures goes { P.shown.Writes pages.old pages.new }
 {
-    for taken in 0..100u32 {
-        if !take_one(pages)? {
-            return Ok(taken);
-        }
-    }
-    Ok(100)
+    assert_equal(rt, fill(pages, 3), Ok(3));
+    assert_equal(rt, pages.pages_left(), 12);
+    assert_equal(rt, take_pages(pages, 100), (12, 0, Some(Fault::Full)));
 }
 
 #[test]
-fn a_limit_of_sixteen_leaves_twelve_pages_behind_four(rt: HostRuntime) -> Result<(), Fail> {
-    let mut shelf = new_shelf(rt.alloc())?;
-    let mut file = PagedFile::create(rt.alloc(), &mut shelf, 0, frames(2), 16, &[9; 4096])?;
+fn a_limit_of_sixteen_leaves_twelve_pages_behind_four(rt: HostRuntime) {
+    let mut shelf = new_shelf(&rt, rt.alloc());
+    let mut file = created(&rt, rt.alloc(), &mut shelf, 2, 16, 9);
     let mut pages = FilePages {
         file: &mut file,
         shelf: &mut shelf,
     };
-    assert_equal(&rt, fill(&mut pages, 3), Ok(3));
-    assert_equal(&rt, pages.pages_left(), 12);
-    assert_equal(&rt, take_all(&mut pages), Ok(12));
-    pages.give(7)?;
-    pages.give(9)?;
-    assert_equal(&rt, pages.pages_left(), 2);
-    // The page given back last is taken first.
-    assert_equal(&rt, (pages.take(), pages.take()), (Ok(9), Ok(7)));
-    assert_equal(&rt, take_all(&mut pages), Ok(0));
+    twelve_are_left(&rt, &mut pages);
+    give_and_take(&rt, &mut pages);
+    assert_equal(&rt, take_pages(&mut pages, 100), (0, 0, Some(Fault::Full)));
     let mut header = [0; 4096];
-    file.cache().read_header(&mut shelf, &mut header)?;
+    let read = file.cache().read_header(&mut shelf, &mut header);
+    assert_equal(&rt, read, Ok(()));
     assert_equal(&rt, (header[0], header[1], header[4095]), (b'D', 9, 9));
-    Ok(())
 }
 
 // Ten rounds over the first eight pages, each lent for writing.
@@ -320,117 +359,126 @@ fn change_often<P: Pages>(pages: &mut P) -> Result<(), Fault>
     ensures goes { P.shown.Writes pages.old pages.new }
 {
     for n in 0..80u32 {
-        mark(pages, n % 8 + 1)?;
+        pages::store(pages, n % 8 + 1, &marked(n % 8 + 1))?;
     }
     Ok(())
 }
 
+// A file that is there, whose gate is open.
+fn begun<S: Shelf>(rt: &impl Abort, alloc: Global, shelf: &mut S, held: usize) -> PagedFile
+    requires unit { HasUnit (S.state shelf.old) 0 }
+    ensures ready { IsOpenOver result (S.state shelf.new) }
+    ensures begun { is_begun result ≡ true }
+{
+    let found = reopen(alloc, shelf, frames(held)).expect(rt, "no call fails");
+    let mut file = found.expect(rt, "a file that is closed");
+    file.begin(shelf).expect(rt, "an open gate");
+    file
+}
+
+// A file of eight pages is closed again, which writes them, the header and the gate.
+fn is_written_when_it_is_closed(
+    rt: &impl Abort,
+    file: &mut PagedFile,
+    shelf: &mut FuseShelf<MemShelf>,
+)
+    requires ready { IsOpenOver file.old (⟦<FuseShelf<MemShelf> as Shelf>⟧.state shelf.old) }
+{
+    let writes = shelf.calls(Kind::Writes);
+    assert_equal(rt, file.close(shelf, &[0; 4096]), Ok(()));
+    assert_equal(rt, shelf.calls(Kind::Writes).wrapping_sub(writes), 10);
+    file.restart_count();
+    assert_equal(rt, file.cache().asked(), 0);
+}
+
 #[test]
-fn a_page_is_read_once_while_it_is_held_and_written_when_the_file_is_closed(
-    rt: HostRuntime,
-) -> Result<(), Fail> {
-    let inner = new_shelf(rt.alloc())?;
+fn a_page_is_read_once_while_it_is_held_and_written_when_the_file_is_closed(rt: HostRuntime) {
+    let inner = new_shelf(&rt, rt.alloc());
     let mut shelf = FuseShelf::new(inner, Kind::Reads, 0, false, false);
-    make(rt.alloc(), &mut shelf, frames(8), 8)?;
-    let Some(mut file) = reopen(rt.alloc(), &mut shelf, frames(8))? else {
-        return Ok(());
-    };
-    file.begin(&mut shelf)?;
+    assert_equal(&rt, make(rt.alloc(), &mut shelf, frames(8), 8), Ok(8));
+    let mut file = begun(&rt, rt.alloc(), &mut shelf, 8);
     let (reads, writes) = (shelf.calls(Kind::Reads), shelf.calls(Kind::Writes));
-    change_often(&mut FilePages {
+    let changed = change_often(&mut FilePages {
         file: &mut file,
         shelf: &mut shelf,
-    })?;
+    });
+    assert_equal(&rt, changed, Ok(()));
     assert_equal(&rt, shelf.calls(Kind::Reads).wrapping_sub(reads), 8);
     assert_equal(&rt, shelf.calls(Kind::Writes), writes);
-    assert_equal(
-        &rt,
-        (file.cache().asked(), file.cache().held_pages()),
-        (80, 8),
+    let asked = (file.cache().asked(), file.cache().held_pages());
+    assert_equal(&rt, asked, (80, 8));
+    is_written_when_it_is_closed(&rt, &mut file, &mut shelf);
+}
+
+// A file whose header counts no page but itself, and behind which eight marked pages lie.
+fn make_uncounted<S: Shelf>(rt: &impl Abort, alloc: Global, shelf: &mut S)
+    requires unit { HasUnit (S.state shelf.old) 0 }
+    ensures unit { HasUnit (S.state shelf.new) 0 }
+{
+    let mut file = created(rt, alloc, shelf, 8, 1000, 0);
+    let filled = fill(
+        &mut FilePages {
+            file: &mut file,
+            shelf: &mut *shelf,
+        },
+        8,
     );
-    file.close(&mut shelf, &[0; 4096])?;
-    // Eight pages, the header and the gate.
-    assert_equal(&rt, shelf.calls(Kind::Writes).wrapping_sub(writes), 10);
-    file.restart_count();
-    assert_equal(&rt, file.cache().asked(), 0);
-    Ok(())
+    assert_equal(rt, filled, Ok(8));
+    let mut header = [0; 4096];
+    Pager::fresh(1000).save(&mut header);
+    assert_equal(rt, file.close(shelf, &header), Ok(()));
 }
 
-// Whether each of the first pages is one of zeros.
-fn all_zeros<P: Pages>(pages: &mut P, count: u32) -> Result<bool, Fault>
-    requires ready { P.shown.IsReady pages.old }
-    ensures goes { P.shown.Writes pages.old pages.new }
+// The first eight pages of a file are pages of zeros.
+fn are_zeros<S: Shelf>(rt: &impl Abort, file: &mut PagedFile, shelf: &mut S, held: usize)
+    requires ready { IsOpenOver file.old (S.state shelf.old) }
 {
-    for n in 0..count {
-        if pages.page(n.wrapping_add(1))?.iter().any(|byte| *byte != 0) {
-            return Ok(false);
-        }
-    }
-    Ok(true)
+    let zeros = count_pages(&mut FilePages { file, shelf }, 8, false);
+    assert_equal_for(rt, held, zeros, Ok(8));
 }
 
-// Takes so many pages. So many of them have the next number.
-fn take_next<P: Pages>(pages: &mut P, count: u32) -> Result<u32, Fault>
-    requires ready { P.shown.IsReady pages.old }
-    requires open { P.shown.CanChange pages.old }
-    ensures goes { P.shown.Writes pages.old pages.new }
+// Eight pages inside a file are taken without a read, and are pages of zeros.
+fn are_taken_without_a_read(
+    rt: &impl Abort,
+    alloc: Global,
+    shelf: &mut FuseShelf<MemShelf>,
+    held: usize,
+)
+    requires unit { HasUnit (⟦<FuseShelf<MemShelf> as Shelf>⟧.state shelf.old) 0 }
 {
-    let mut right = 0u32;
-    for n in 0..count {
-        let taken = pages.take()?;
-        if taken == n.wrapping_add(1) {
-            right = right.wrapping_add(1);
-        }
-    }
-    Ok(right)
+    let mut file = begun(rt, alloc, shelf, held);
+    let reads = shelf.calls(Kind::Reads);
+    let taken = take_pages(
+        &mut FilePages {
+            file: &mut file,
+            shelf: &mut *shelf,
+        },
+        8,
+    );
+    assert_equal(rt, taken, (8, 8, None));
+    assert_equal(rt, shelf.calls(Kind::Reads), reads);
+    assert_equal(rt, file.cache().asked(), 8);
+    are_zeros(rt, &mut file, shelf, held);
 }
 
-// The header counts no page but itself, and eight marked pages lie behind it.
 #[test]
-fn a_page_inside_the_file_is_taken_without_a_read(rt: HostRuntime) -> Result<(), Fail> {
+fn a_page_inside_the_file_is_taken_without_a_read(rt: HostRuntime) {
     for &held in &[1, 3, 8] {
-        let inner = new_shelf(rt.alloc())?;
+        let inner = new_shelf(&rt, rt.alloc());
         let mut shelf = FuseShelf::new(inner, Kind::Reads, 0, false, false);
-        let mut file = PagedFile::create(rt.alloc(), &mut shelf, 0, frames(8), 1000, &[0; 4096])?;
-        let mut pages = FilePages {
-            file: &mut file,
-            shelf: &mut shelf,
-        };
-        assert_equal(&rt, fill(&mut pages, 8), Ok(8));
-        let mut header = [0; 4096];
-        Pager::fresh(1000).save(&mut header);
-        file.close(&mut shelf, &header)?;
-        let Some(mut file) = reopen(rt.alloc(), &mut shelf, frames(held))? else {
-            return Err(Fault::Damage.into());
-        };
-        file.begin(&mut shelf)?;
-        let reads = shelf.calls(Kind::Reads);
-        let mut pages = FilePages {
-            file: &mut file,
-            shelf: &mut shelf,
-        };
-        assert_equal(&rt, take_next(&mut pages, 8), Ok(8));
-        assert_equal(&rt, shelf.calls(Kind::Reads), reads);
-        assert_equal(&rt, file.cache().asked(), 8);
-        let mut pages = FilePages {
-            file: &mut file,
-            shelf: &mut shelf,
-        };
-        let zeros = all_zeros(&mut pages, 8);
-        assert_equal_for(&rt, held, zeros, Ok(true));
+        make_uncounted(&rt, rt.alloc(), &mut shelf);
+        are_taken_without_a_read(&rt, rt.alloc(), &mut shelf, held);
     }
-    Ok(())
 }
 
 #[test]
-fn the_gate_is_opened_through_the_pages(rt: HostRuntime) -> Result<(), Fail> {
-    let mut shelf = new_shelf(rt.alloc())?;
-    let mut file = PagedFile::create(rt.alloc(), &mut shelf, 0, frames(2), 16, &[9; 4096])?;
+fn the_gate_is_opened_through_the_pages(rt: HostRuntime) {
+    let mut shelf = new_shelf(&rt, rt.alloc());
+    let mut file = created(&rt, rt.alloc(), &mut shelf, 2, 16, 9);
     let mut pages = FilePages {
         file: &mut file,
         shelf: &mut shelf,
     };
-    pages.begin()?;
+    assert_equal(&rt, pages.begin(), Ok(()));
     assert_equal(&rt, pages.pages_left(), 15);
-    Ok(())
 }

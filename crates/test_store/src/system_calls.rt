@@ -1,12 +1,12 @@
 //! Calls of the system that are interrupted, that move a part of the bytes, or that fail.
 
 use crate::checks::{assert_equal, assert_equal_for, assert_that};
-use io_state::Fault;
+use std::alloc::Global;
 use std::cell::Cell;
 use std::fs::{self, Metadata, OpenFile, TryLockError};
 use std::io;
 use std::os::unix::fs::FileExt;
-use std::test::Fail;
+use std::process::Abort;
 use system_files::{KeptFile, KeptFolder, LockFile};
 
 /// A file of which each call is interrupted so many times, and then moves at most three bytes.
@@ -89,7 +89,8 @@ impl OpenFile for Interrupted {
     }
 }
 
-/// A file all bytes of which are one byte, and of which no times are known. Who asks for the exclusive lock finds it with another length or byte.
+/// A file all bytes of which are one byte, and of which no times are known. Who asks for the exclusive
+/// lock finds it with another length or byte.
 #[derive(Drop)]
 struct Changing {
     length: Cell<u64>,
@@ -144,23 +145,25 @@ impl OpenFile for Changing {
 }
 
 // Each alone is seen: past the first page a length, and inside it a byte.
+fn is_held_as(rt: &impl Abort, then: (u64, u8), is_held: bool, written: usize) {
+    let file = Changing {
+        length: Cell::new(9000),
+        byte: Cell::new(7),
+        then,
+    };
+    let mut file = KeptFile::opened(file, true).expect(rt, "a file that is kept");
+    assert_equal_for(rt, then, file.hold(), is_held);
+    assert_equal_for(rt, then, file.write(0, &[0; 10]), written);
+    // Read anew, it is the file that it was found to be.
+    assert_equal(rt, file.measure(), Some(then.0));
+    assert_that(rt, file.hold());
+}
+
 #[test]
-fn a_file_with_another_length_or_first_page_is_not_held(rt: HostRuntime) -> Result<(), Fail> {
-    for &(then, is_held) in &[((9000, 7), true), ((9001, 7), false), ((9000, 8), false)] {
-        let file = Changing {
-            length: Cell::new(9000),
-            byte: Cell::new(7),
-            then,
-        };
-        let mut file = KeptFile::opened(file, true).ok_or(Fault::Device)?;
-        assert_equal_for(&rt, then, file.hold(), is_held);
-        let written = if is_held { 10 } else { 0 };
-        assert_equal_for(&rt, then, file.write(0, &[0; 10]), written);
-        // Read anew, it is the file that it was found to be.
-        assert_equal(&rt, file.measure(), Some(then.0));
-        assert_that(&rt, file.hold());
-    }
-    Ok(())
+fn a_file_with_another_length_or_first_page_is_not_held(rt: HostRuntime) {
+    is_held_as(&rt, (9000, 7), true, 10);
+    is_held_as(&rt, (9001, 7), false, 0);
+    is_held_as(&rt, (9000, 8), false, 0);
 }
 
 // What is answered where ten bytes are read and written, and a file is synced, measured and shared.
@@ -186,54 +189,69 @@ fn a_thousand_interrupted_calls_in_a_row_are_a_fault(rt: HostRuntime) {
     assert_that(&rt, KeptFile::made(Interrupted::new(1000, false)).is_none());
 }
 
-fn opened(file: Interrupted) -> Result<KeptFile<Interrupted>, Fault> {
-    KeptFile::opened(file, true).ok_or(Fault::Device)
+// A file of which each call is interrupted so many times, and whether its first sync fails.
+fn opened(rt: &impl Abort, times: u64, fails: bool) -> KeptFile<Interrupted> {
+    KeptFile::opened(Interrupted::new(times, fails), true).expect(rt, "a file that is kept")
 }
 
 #[test]
-fn a_file_is_written_only_while_it_is_held(rt: HostRuntime) -> Result<(), Fail> {
-    let mut file = opened(Interrupted::new(999, false))?;
+fn a_file_is_written_only_while_it_is_held(rt: HostRuntime) {
+    let mut file = opened(&rt, 999, false);
     assert_equal(&rt, file.measure(), Some(7));
     assert_equal(&rt, file.write(0, &[0; 10]), 0);
     assert_that(&rt, file.hold());
     assert_equal(&rt, file.write(0, &[0; 10]), 10);
-    // One that may only be read is never held.
-    let mut file = KeptFile::opened(Interrupted::new(0, false), false).ok_or(Fault::Device)?;
+}
+
+#[test]
+fn a_file_that_may_only_be_read_is_never_held(rt: HostRuntime) {
+    let file = KeptFile::opened(Interrupted::new(0, false), false);
+    let mut file = file.expect(&rt, "a file that is kept");
     assert_that(&rt, !file.hold());
     assert_equal(&rt, file.write(0, &[0; 10]), 0);
     assert_equal(&rt, file.measure(), Some(7));
-    Ok(())
+}
+
+fn folder_of(rt: &impl Abort, alloc: Global, path: &str) -> KeptFolder {
+    KeptFolder::new(path.to_string(alloc).expect(rt, "memory"))
 }
 
 #[test]
-fn a_file_whose_sync_failed_is_not_synced_again(rt: HostRuntime) -> Result<(), Fail> {
-    let mut folder = KeptFolder::new(".".to_string(rt.alloc())?);
-    let mut file = opened(Interrupted::new(0, true))?;
+fn a_file_whose_sync_failed_is_not_synced_again(rt: HostRuntime) {
+    let mut folder = folder_of(&rt, rt.alloc(), ".");
+    let mut file = opened(&rt, 0, true);
     assert_that(&rt, !file.sync(&rt, &mut folder));
     assert_that(&rt, !file.sync(&rt, &mut folder));
-    let mut file = opened(Interrupted::new(0, false))?;
+    let mut file = opened(&rt, 0, false);
     assert_that(&rt, file.sync(&rt, &mut folder));
-    Ok(())
+}
+
+// A file that was synced while its folder was there, and one that is synced while it is not.
+fn are_synced_while_it_is_away(
+    test: &impl Abort,
+    rt: HostRuntime,
+    folder: &mut KeptFolder,
+    before: &mut KeptFile<Interrupted>,
+    after: &mut KeptFile<Interrupted>,
+) {
+    assert_that(test, before.sync(&rt, folder));
+    fs::rename(&rt, "moved", "moved_away").expect(test, "another name");
+    assert_that(test, !after.sync(&rt, folder));
+    fs::rename(&rt, "moved_away", "moved").expect(test, "another name");
+    assert_that(test, !after.sync(&rt, folder));
 }
 
 #[test]
-fn a_folder_whose_sync_failed_is_not_synced_again(rt: HostRuntime) -> Result<(), Fail> {
+fn a_folder_whose_sync_failed_is_not_synced_again(rt: HostRuntime) {
     let _ = fs::remove_dir(&rt, "moved_away");
     let _ = fs::remove_dir(&rt, "moved");
-    fs::create_dir(&rt, "moved")?;
-    let mut folder = KeptFolder::new("moved".to_string(rt.alloc())?);
-    let mut before = opened(Interrupted::new(0, false))?;
-    let mut after = opened(Interrupted::new(0, false))?;
-    assert_that(&rt, before.sync(&rt, &mut folder));
-    fs::rename(&rt, "moved", "moved_away")?;
-    assert_that(&rt, !after.sync(&rt, &mut folder));
-    fs::rename(&rt, "moved_away", "moved")?;
-    assert_that(&rt, !after.sync(&rt, &mut folder));
-    assert_that(
-        &rt,
-        !opened(Interrupted::new(0, false))?.sync(&rt, &mut folder),
-    );
+    fs::create_dir(&rt, "moved").expect(&rt, "a folder");
+    let mut folder = folder_of(&rt, rt.alloc(), "moved");
+    let mut before = opened(&rt, 0, false);
+    let mut after = opened(&rt, 0, false);
+    are_synced_while_it_is_away(&rt, rt, &mut folder, &mut before, &mut after);
+    let mut third = opened(&rt, 0, false);
+    assert_that(&rt, !third.sync(&rt, &mut folder));
     // The name of this one was on the disk before.
     assert_that(&rt, before.sync(&rt, &mut folder));
-    Ok(())
 }

@@ -5,7 +5,7 @@ use Rattle.memory_shelf.specs.MemShelves.{mem_state_of}
 use Rattle.test_store.proofs.shelves.new_shelf.Goals as goal
 
 pub returns-clause-absent : goal.returns-clause-absent
-returns-clause-absent c =
-    let name = unit_name (mem_state_of c.attach.new.self) 0 in
-    let file = ap (λ (s : ShelfState). s.file) c.in_ok-attach.ensures.attached ∙ ap (λ (s : ShelfState). s.file) c.new-shelf.ensures in
+returns-clause-absent g c =
+    let name = unit_name (mem_state_of c.attach.new.shelf) 0 in
+    let file = c.attach.ensures.file ∙ ap (λ (s : ShelfState). s.file) c.new-shelf.ensures in
     ap (λ (f : List ℕ → DeviceFile). (f name).seen) file

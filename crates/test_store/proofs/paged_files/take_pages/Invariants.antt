@@ -1,4 +1,4 @@
-use Rattle.test_store.proofs.paged_files.all_zeros.Given as goal
+use Rattle.test_store.proofs.paged_files.take_pages.Given as goal
 
 abbrev pub invariant-loop-n : goal.invariant-loop-n
 invariant-loop-n g l = g.P.Pages.shown.Writes l.initial.pages l.pages

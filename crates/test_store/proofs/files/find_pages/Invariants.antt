@@ -1,7 +1,7 @@
 use Rattle.std.proofs.Common.{IsTrue}
 use Rattle.page_store.specs.ShelfState.{HasUnit, unit_file}
 use Rattle.page_store.specs.Pages.{HoldsPages}
-use Rattle.test_store.proofs.files.find.Given as goal
+use Rattle.test_store.proofs.files.find_pages.Given as goal
 
 abbrev pub invariant-loop-n : goal.invariant-loop-n
 invariant-loop-n g l = record {

@@ -1,4 +1,0 @@
-use Rattle.test_store.proofs.paged_files.take_next.Given as goal
-
-abbrev pub invariant-loop-n : goal.invariant-loop-n
-invariant-loop-n g l = g.P.Pages.shown.Writes l.initial.pages l.pages
