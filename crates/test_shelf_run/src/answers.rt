@@ -204,7 +204,10 @@ fn after_open(state: State, verb: Verb, status: &str) -> Option<State> {
 
 /// The status of an answer.
 fn status_of(answer: &str) -> &str {
-    answer.split_once(" ").map_or(answer, |(status, _)| status)
+    match answer.split_once(" ") {
+        Some((status, _)) => status,
+        None => answer,
+    }
 }
 
 /// After a statement that the mode permits, where it may be the fault's.

@@ -4,18 +4,24 @@ use deck_runner::{RunEnd, RunFault};
 
 /// A line without the record that it delivers.
 fn head(line: &str) -> &str {
-    line.split_once(" [").map_or(line, |(head, _)| head)
+    match line.split_once(" [") {
+        Some((head, _)) => head,
+        None => line,
+    }
 }
 
-/// Whether a line has no status of want of room, of a fault or of a connector that has failed; 91 may stand
-/// at an OPEN.
+// How a line ends that has a status of want of room, of a fault or of a connector that has failed.
+const MARRED: [&str; 4] = [" 24", " 30", " 90", " 92"];
+
+/// Whether a line ends with no such status; 91 may stand at an OPEN.
 fn is_clean(line: &str) -> bool {
     let line = head(line);
-    let is_marred = line.ends_with(" 24")
-        || line.ends_with(" 30")
-        || line.ends_with(" 90")
-        || line.ends_with(" 92");
-    !is_marred && (line.starts_with("OPEN ") || !line.ends_with(" 91"))
+    for status in &MARRED {
+        if line.ends_with(*status) {
+            return false;
+        }
+    }
+    line.starts_with("OPEN ") || !line.ends_with(" 91")
 }
 
 /// Whether the end tells how many lines a transcript has, and whether all are clean.

@@ -1,14 +1,14 @@
 //! A worked deck over a device whose calls fail in turn.
 
 use crate::answers::Fault;
+use crate::decks::{deck_of, transcript_of};
 use crate::ends::tells;
 use crate::left::{Crash, is_allowed};
-use crate::running::run_to_end;
-use memory_shelf::{FuseShelf, Image, Kind, MemShelf};
+use crate::running::{copy_of, run_to_end};
+use memory_shelf::{FuseShelf, Kind, MemShelf};
 use std::alloc::Global;
 use std::process::Abort;
-use std::test::Fail;
-use worked_decks::{Worked, deck_of, transcript_of};
+use worked_decks::Worked;
 
 /// How a device fails.
 #[derive(Clone, Copy, Debug)]
@@ -28,34 +28,36 @@ fn holds_of(rt: &impl Abort, failing: Failing, at: u64, transcript: &str, what: 
 
 /// A shelf with these files, of which this call fails.
 fn failing_at(
+    rt: &impl Abort,
     alloc: Global,
     before: &MemShelf,
     failing: Failing,
     at: u64,
-) -> Result<FuseShelf<MemShelf>, Fail> {
-    let copy = before.crash(alloc, Image::AsRead)?;
-    Ok(FuseShelf::new(copy, failing.kind, at, failing.after, failing.for_good))
+) -> FuseShelf<MemShelf> {
+    let copy = copy_of(rt, alloc, before);
+    FuseShelf::new(copy, failing.kind, at, failing.after, failing.for_good)
 }
 
 /// Whether each of these files is left as a run with this transcript may leave it.
 fn are_allowed(
+    rt: &impl Abort,
     alloc: Global,
     files: &[Worked],
     transcript: &str,
     for_good: bool,
     shelf: &MemShelf,
     crashes: &[Crash],
-) -> Result<bool, Fail> {
+) -> bool {
     let fault = Fault {
         answer: "30",
         again: for_good,
     };
     for worked in files {
-        if !is_allowed(alloc, worked, transcript, fault, shelf, crashes)? {
-            return Ok(false);
+        if !is_allowed(rt, alloc, worked, transcript, fault, shelf, crashes) {
+            return false;
         }
     }
-    Ok(true)
+    true
 }
 
 /// A deck with its transcript, over files of a shelf.
@@ -68,6 +70,36 @@ struct Run<'a> {
     frames: usize,
 }
 
+/// The run whose call of this number failed has the worked lines where there was no such call, and each of
+/// its files is as it may be. It answers whether there was none.
+fn ends_rightly(
+    rt: &impl Abort,
+    alloc: Global,
+    run: Run,
+    failing: Failing,
+    at: u64,
+    crashes: &[Crash],
+    fuse: FuseShelf<MemShelf>,
+    transcript: &str,
+) -> bool {
+    let is_last = fuse.calls(failing.kind) < at;
+    let is_so = (transcript == run.expected) == is_last;
+    let what = "the worked lines where no call fails";
+    holds_of(rt, failing, at, transcript, what, is_so);
+    let shelf = fuse.into_inner();
+    let again = failing.for_good;
+    let allowed = are_allowed(rt, alloc, run.files, transcript, again, &shelf, crashes);
+    holds_of(
+        rt,
+        failing,
+        at,
+        transcript,
+        "the files are as they may be",
+        allowed,
+    );
+    is_last
+}
+
 /// Runs a deck where this call fails, and answers whether there was no such call.
 fn fails_at(
     rt: &impl Abort,
@@ -76,9 +108,9 @@ fn fails_at(
     failing: Failing,
     at: u64,
     crashes: &[Crash],
-) -> Result<bool, Fail> {
-    let fuse = failing_at(alloc, run.before, failing, at)?;
-    let (fuse, transcript, end) = run_to_end(alloc, fuse, run.deck, run.frames)?;
+) -> bool {
+    let fuse = failing_at(rt, alloc, run.before, failing, at);
+    let (fuse, transcript, end) = run_to_end(rt, alloc, fuse, run.deck, run.frames);
     let told = tells(&end, &transcript);
     holds_of(
         rt,
@@ -88,34 +120,7 @@ fn fails_at(
         "the end tells the lines",
         told,
     );
-    let is_last = fuse.calls(failing.kind) < at;
-    let is_so = (transcript.as_str() == run.expected) == is_last;
-    holds_of(
-        rt,
-        failing,
-        at,
-        &transcript,
-        "the worked lines where no call fails",
-        is_so,
-    );
-    let shelf = fuse.into_inner();
-    let allowed = are_allowed(
-        alloc,
-        run.files,
-        &transcript,
-        failing.for_good,
-        &shelf,
-        crashes,
-    )?;
-    holds_of(
-        rt,
-        failing,
-        at,
-        &transcript,
-        "the files are as they may be",
-        allowed,
-    );
-    Ok(is_last)
+    ends_rightly(rt, alloc, run, failing, at, crashes, fuse, &transcript)
 }
 
 /// Runs a deck, as each of its files meets it, over the files of a shelf again and again, and each time the
@@ -129,12 +134,12 @@ pub fn fails_in_turn(
     frames: usize,
     failing: Failing,
     crashes: &[Crash],
-) -> Result<(), Fail> {
-    let [first, ..] = files else {
-        return Ok(());
+) {
+    let Some(first) = files.first() else {
+        return;
     };
-    let deck = deck_of(alloc, first.heading, first.steps)?;
-    let expected = transcript_of(alloc, first.steps)?;
+    let deck = deck_of(rt, alloc, first.heading, first.steps);
+    let expected = transcript_of(rt, alloc, first.steps);
     let run = Run {
         files,
         deck: &deck,
@@ -143,10 +148,9 @@ pub fn fails_in_turn(
         frames,
     };
     for at in 1..1000 {
-        if fails_at(rt, alloc, run, failing, at, crashes)? {
-            return Ok(());
+        if fails_at(rt, alloc, run, failing, at, crashes) {
+            return;
         }
     }
     assert!(rt; false, "a run of 1000 calls");
-    Ok(())
 }

@@ -103,7 +103,22 @@ fn parts<'a>(line: &'a str, file: &str) -> Option<(&'a str, &'a str)> {
 
 /// Whether some line of these delivers this record.
 fn delivers(steps: &[Step], record: &str) -> bool {
-    steps.iter().any(|(_, line)| line.ends_with(record))
+    for (_, line) in steps {
+        if line.ends_with(record) {
+            return true;
+        }
+    }
+    false
+}
+
+/// Whether some of these do.
+fn is_delivered(reads: &[&[Step]], record: &str) -> bool {
+    for steps in reads {
+        if delivers(steps, record) {
+            return true;
+        }
+    }
+    false
 }
 
 /// Whether the record of an answer, if it has one, is one that the file has in the deck, before it or after
@@ -113,8 +128,8 @@ fn is_of_file(worked: &Worked, answer: &str) -> bool {
         None => true,
         Some((_, record)) => {
             delivers(worked.steps, record)
-                || worked.reads.iter().any(|steps| delivers(steps, record))
-                || worked.astray.iter().any(|steps| delivers(steps, record))
+                || is_delivered(worked.reads, record)
+                || is_delivered(worked.astray, record)
         }
     }
 }
@@ -134,20 +149,48 @@ fn line_of<'a>(worked: &Worked, line: &'a str, found: &'a str) -> Option<Line<'a
     }
 }
 
+/// Whether a statement of the deck has a line of the file: STOP RUN has none where the file is closed.
+fn has_line(worked: &Worked, so_far: Judged, statement: &str, line: &str) -> bool {
+    let is_closed = so_far.connector.state == State::Closed;
+    line.contains(worked.file) && !(is_closed && statement == "STOP RUN.")
+}
+
+/// The place of the next statement that has a line of the file, from this one on; behind the last where none
+/// has.
+fn next_place(worked: &Worked, so_far: Judged, from: usize) -> usize {
+    for (place, (statement, line)) in worked.steps.iter().enumerate() {
+        if place >= from && has_line(worked, so_far, statement, line) {
+            return place;
+        }
+    }
+    worked.steps.len()
+}
+
+/// What the lines say with the next one, beside the worked line of this place.
+fn with_next(
+    worked: &Worked,
+    so_far: Judged,
+    place: usize,
+    next: &str,
+    fault: Fault,
+) -> Option<Judged> {
+    let (_, line) = worked.steps.get(place)?;
+    let line = line_of(worked, line, next)?;
+    so_far.with(!worked.before.is_empty(), line, fault)
+}
+
 /// What a transcript of the deck says of the file; none where it has a line of it that it may not have.
 pub fn judge(worked: &Worked, transcript: &str, fault: Fault) -> Option<Judged> {
-    let mut rest = transcript.lines().filter(|line| line.contains(worked.file));
     let mut so_far = NOTHING;
-    for (statement, line) in worked.steps {
-        let is_closed_by_then = *statement == "STOP RUN."
-            && so_far.connector.state == State::Closed;
-        if !line.contains(worked.file) || is_closed_by_then {
-            continue;
+    let mut from = 0;
+    for next in transcript.lines() {
+        if next.contains(worked.file) {
+            let place = next_place(worked, so_far, from);
+            so_far = with_next(worked, so_far, place, next, fault)?;
+            from = place.saturating_add(1);
         }
-        let line = line_of(worked, line, rest.next()?)?;
-        so_far = so_far.with(!worked.before.is_empty(), line, fault)?;
     }
-    if rest.next().is_some() {
+    if next_place(worked, so_far, from) < worked.steps.len() {
         return None;
     }
     Some(so_far)

@@ -16,6 +16,8 @@ mod checks;
 #[cfg(test)]
 mod crashes;
 #[cfg(test)]
+mod decks;
+#[cfg(test)]
 mod ends;
 #[cfg(test)]
 mod failing;
@@ -35,6 +37,8 @@ mod refusals;
 mod running;
 #[cfg(test)]
 mod transcripts;
+#[cfg(test)]
+mod two_thousand;
 #[cfg(test)]
 mod unchanged;
 #[cfg(test)]

@@ -1,7 +1,5 @@
 //! A deck and its transcript as steps.
 
-use std::alloc::{AllocError, Global};
-
 /// A statement, or several, beside the line that it gives in the transcript, if it gives one.
 pub type Step = (&'static str, &'static str);
 
@@ -30,26 +28,4 @@ pub struct Worked {
 #[derive(Clone, Copy)]
 pub struct Runs {
     pub decks: &'static [(&'static str, &'static [Step])],
-}
-
-/// The deck of a heading and these statements.
-pub fn deck_of(alloc: Global, heading: &str, steps: &[Step]) -> Result<String, AllocError> {
-    let mut deck = String::from_str(alloc, heading)?;
-    for (statement, _) in steps {
-        deck.push_str(statement)?;
-        deck.push_str("\n")?;
-    }
-    Ok(deck)
-}
-
-/// Their lines.
-pub fn transcript_of(alloc: Global, steps: &[Step]) -> Result<String, AllocError> {
-    let mut lines = String::new(alloc);
-    for (_, line) in steps {
-        if !line.is_empty() {
-            lines.push_str(line)?;
-            lines.push_str("\n")?;
-        }
-    }
-    Ok(lines)
 }

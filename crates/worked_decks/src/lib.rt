@@ -11,14 +11,13 @@ mod payroll;
 mod plain_customers;
 mod runs;
 mod two_files;
-mod two_thousand;
 mod wide;
 
 pub use customers::{
     A_CLASH, A_NEW_TWIN, CUSTOMERS, READ_THAT_FAILS, REFUSED_BY_KEY, REPLACED,
     REPLACED_WHERE_REFUSED, WRITE_THAT_FAILS,
 };
-pub use decks::{Runs, Step, Worked, deck_of, transcript_of};
+pub use decks::{Runs, Step, Worked};
 pub use one_city::{A_DUPLICATE_REWRITTEN, DUPLICATES_IN_ORDER};
 pub use payroll::PAYROLL;
 pub use plain_customers::{ONE_IS_READ, REFUSED, REFUSED_IN_ORDER, WRITTEN_AND_READ_BACK};
@@ -28,5 +27,4 @@ pub use runs::{
     LOW_AND_HIGH_VALUES, ONE_LENGTH, ORDER_OF_WRITING, STARTED_BY_A_LETTER, STARTED_PAST_THE_END,
 };
 pub use two_files::SIDE_BY_SIDE;
-pub use two_thousand::{deck_of_two_thousand, lines_of_two_thousand};
 pub use wide::{FILLED_UP, WIDE};
