@@ -10,7 +10,6 @@ use std::cell::Cell;
 use std::io::{self, Read};
 use std::process::Abort;
 use std::rt::Clock;
-use std::test::Fail;
 use std::time::Duration;
 
 /// What is told of progress.
@@ -102,51 +101,48 @@ fn answers<P: Progress>(
     text: &str,
     answer: &str,
     progress: &mut P,
-) -> Result<(), Fail> {
+) {
     let shelf = MemShelf::new(alloc);
-    let (_, told) = loads_with(alloc, shelf, Load::New, text, progress)?;
+    let (_, told) = loads_with(rt, alloc, shelf, Load::New, text, progress);
     assert_equal(rt, told.as_str(), answer);
-    Ok(())
 }
 
 #[test]
-fn a_load_tells_how_far_it_is(rt: HostRuntime) -> Result<(), Fail> {
+fn a_load_tells_how_far_it_is(rt: HostRuntime) {
     let mut progress = Noted::new(rt.alloc());
-    answers(&rt, rt.alloc(), THREE, "loaded 3\n", &mut progress)?;
-    assert_that(
-        &rt,
-        progress.is(&[Told::At(9, 27), Told::At(18, 27), Told::At(27, 27)]),
-    );
-    Ok(())
+    answers(&rt, rt.alloc(), THREE, "loaded 3\n", &mut progress);
+    let told = &[Told::At(9, 27), Told::At(18, 27), Told::At(27, 27)];
+    assert_that(&rt, progress.is(told));
 }
 
 #[test]
-fn a_load_that_is_refused_tells_of_no_more(rt: HostRuntime) -> Result<(), Fail> {
+fn a_load_that_is_refused_tells_of_no_more(rt: HostRuntime) {
     let mut progress = Noted::new(rt.alloc());
     let text = "[0001AA]\n[0001BB]\n[0003CC]\n";
-    answers(&rt, rt.alloc(), text, "line 2: status 22\n", &mut progress)?;
+    answers(&rt, rt.alloc(), text, "line 2: status 22\n", &mut progress);
     assert_that(&rt, progress.is(&[Told::At(9, 27)]));
-    Ok(())
+}
+
+/// Reads the next part, of at most 20 bytes.
+fn read_part(rt: &impl Abort, reader: &mut impl Read, bytes: &mut Vec<u8>) {
+    let mut part = [0; 20];
+    let n = reader.read(&mut part).expect(rt, "a part");
+    bytes.extend_from_slice(&part[..n]).expect(rt, "memory");
 }
 
 #[test]
-fn a_reader_gives_its_bytes_and_tells_how_many_came(rt: HostRuntime) -> Result<(), Fail> {
+fn a_reader_gives_its_bytes_and_tells_how_many_came(rt: HostRuntime) {
     let mut progress = Noted::new(rt.alloc());
     let mut bytes = Vec::new(rt.alloc());
     {
         let mut reader = ProgressReader::new(THREE.as_bytes(), 27, &mut progress);
-        let mut part = [0; 20];
-        'more: for _ in 0..3 {
-            let n = reader.read(&mut part)?;
-            bytes.extend_from_slice(&part[..n])?;
-        }
+        read_part(&rt, &mut reader, &mut bytes);
+        read_part(&rt, &mut reader, &mut bytes);
+        read_part(&rt, &mut reader, &mut bytes);
     }
     assert_equal(&rt, bytes.as_slice(), THREE.as_bytes());
-    assert_that(
-        &rt,
-        progress.is(&[Told::At(20, 27), Told::At(27, 27), Told::At(27, 27)]),
-    );
-    Ok(())
+    let told = &[Told::At(20, 27), Told::At(27, 27), Told::At(27, 27)];
+    assert_that(&rt, progress.is(told));
 }
 
 /// So many bytes of 27 are done after so many milliseconds.
@@ -155,34 +151,33 @@ fn at(clock: &SetClock, line: &mut impl Progress, done: u64, milliseconds: u64) 
     line.at(done, 27);
 }
 
+/// Room for what is written.
+fn room(rt: &impl Abort, alloc: Global) -> Vec<u8> {
+    Vec::with_capacity(alloc, 1000).expect(rt, "memory")
+}
+
 /// What a terminal, or another writer, was given of a load of 27 bytes, whose parts of 9 bytes were done
 /// after so many milliseconds.
-fn shown(alloc: Global, is_terminal: bool, times: [u64; 3]) -> Result<Vec<u8>, Fail> {
+fn shown(rt: &impl Abort, alloc: Global, is_terminal: bool, times: [u64; 3]) -> Vec<u8> {
     let clock = SetClock::new();
-    let mut out = Vec::with_capacity(alloc, 1000)?;
+    let mut out = room(rt, alloc);
     {
         let mut line = TerminalLine::new(&clock, &mut out, is_terminal);
-        at(&clock, &mut line, 9, times[0]);
-        at(&clock, &mut line, 18, times[1]);
-        at(&clock, &mut line, 27, times[2]);
+        let [first, second, third] = times;
+        at(&clock, &mut line, 9, first);
+        at(&clock, &mut line, 18, second);
+        at(&clock, &mut line, 27, third);
         line.wipe();
         line.wipe();
     }
-    Ok(out)
+    out
 }
 
 /// It was given these lines, one after another.
-fn shows(
-    rt: &impl Abort,
-    alloc: Global,
-    is_terminal: bool,
-    times: [u64; 3],
-    lines: &[&[u8]],
-) -> Result<(), Fail> {
-    let expected = lines.concat(alloc)?;
-    let found = shown(alloc, is_terminal, times)?;
+fn shows(rt: &impl Abort, alloc: Global, is_terminal: bool, times: [u64; 3], lines: &[&[u8]]) {
+    let expected = lines.concat(alloc).expect(rt, "memory");
+    let found = shown(rt, alloc, is_terminal, times);
     assert_equal(rt, found.as_slice(), expected.as_slice());
-    Ok(())
 }
 
 const SECOND: &[u8] = b"cobix: 18 of 27 bytes\r";
@@ -192,32 +187,27 @@ const THIRD: &[u8] = b"cobix: 27 of 27 bytes\r";
 const WIPED: &[u8] = b"                     \r";
 
 #[test]
-fn the_line_is_written_after_two_seconds(rt: HostRuntime) -> Result<(), Fail> {
-    shows(&rt, rt.alloc(), true, [0, 1000, 1999], &[])?;
-    shows(&rt, rt.alloc(), true, [0, 1999, 2000], &[THIRD, WIPED])
+fn the_line_is_written_after_two_seconds(rt: HostRuntime) {
+    shows(&rt, rt.alloc(), true, [0, 1000, 1999], &[]);
+    shows(&rt, rt.alloc(), true, [0, 1999, 2000], &[THIRD, WIPED]);
 }
 
 #[test]
-fn the_line_is_written_twice_a_second_at_most(rt: HostRuntime) -> Result<(), Fail> {
-    shows(&rt, rt.alloc(), true, [0, 2000, 2499], &[SECOND, WIPED])?;
-    shows(
-        &rt,
-        rt.alloc(),
-        true,
-        [0, 2000, 2500],
-        &[SECOND, THIRD, WIPED],
-    )
+fn the_line_is_written_twice_a_second_at_most(rt: HostRuntime) {
+    shows(&rt, rt.alloc(), true, [0, 2000, 2499], &[SECOND, WIPED]);
+    let lines = &[SECOND, THIRD, WIPED];
+    shows(&rt, rt.alloc(), true, [0, 2000, 2500], lines);
 }
 
 #[test]
-fn nothing_is_written_where_there_is_no_terminal(rt: HostRuntime) -> Result<(), Fail> {
-    shows(&rt, rt.alloc(), false, [2000, 4000, 6000], &[])
+fn nothing_is_written_where_there_is_no_terminal(rt: HostRuntime) {
+    shows(&rt, rt.alloc(), false, [2000, 4000, 6000], &[]);
 }
 
 #[test]
-fn nothing_is_written_once_it_is_silenced(rt: HostRuntime) -> Result<(), Fail> {
+fn nothing_is_written_once_it_is_silenced(rt: HostRuntime) {
     let clock = SetClock::new();
-    let mut out: Vec<u8> = Vec::with_capacity(rt.alloc(), 1000)?;
+    let mut out = room(&rt, rt.alloc());
     {
         let mut line = TerminalLine::new(&clock, &mut out, true);
         line.silence();
@@ -225,13 +215,12 @@ fn nothing_is_written_once_it_is_silenced(rt: HostRuntime) -> Result<(), Fail> {
         line.wipe();
     }
     assert_that(&rt, out.is_empty());
-    Ok(())
 }
 
 #[test]
-fn a_clock_that_fails_shows_no_line(rt: HostRuntime) -> Result<(), Fail> {
+fn a_clock_that_fails_shows_no_line(rt: HostRuntime) {
     let clock = SetClock::new();
-    let mut out: Vec<u8> = Vec::with_capacity(rt.alloc(), 1000)?;
+    let mut out = room(&rt, rt.alloc());
     {
         let mut line = TerminalLine::new(&clock, &mut out, true);
         clock.milliseconds.set(None);
@@ -239,7 +228,6 @@ fn a_clock_that_fails_shows_no_line(rt: HostRuntime) -> Result<(), Fail> {
         line.wipe();
     }
     assert_that(&rt, out.is_empty());
-    Ok(())
 }
 
 const MORE: [&[u8]; 3] = [
@@ -249,9 +237,9 @@ const MORE: [&[u8]; 3] = [
 ];
 
 #[test]
-fn more_bytes_than_were_known_are_told_alone(rt: HostRuntime) -> Result<(), Fail> {
+fn more_bytes_than_were_known_are_told_alone(rt: HostRuntime) {
     let clock = SetClock::new();
-    let mut out: Vec<u8> = Vec::with_capacity(rt.alloc(), 1000)?;
+    let mut out = room(&rt, rt.alloc());
     {
         let mut line = TerminalLine::new(&clock, &mut out, true);
         at(&clock, &mut line, 28, 2000);
@@ -259,12 +247,11 @@ fn more_bytes_than_were_known_are_told_alone(rt: HostRuntime) -> Result<(), Fail
         line.at(u64::MAX, u64::MAX);
         line.wipe();
     }
-    let told = MORE.concat(rt.alloc())?;
+    let told = MORE.concat(rt.alloc()).expect(&rt, "memory");
     assert_equal(&rt, out.as_slice(), told.as_slice());
-    Ok(())
 }
 
 #[test]
-fn a_silent_load_is_answered_as_any_other(rt: HostRuntime) -> Result<(), Fail> {
-    answers(&rt, rt.alloc(), THREE, "loaded 3\n", &mut Silent)
+fn a_silent_load_is_answered_as_any_other(rt: HostRuntime) {
+    answers(&rt, rt.alloc(), THREE, "loaded 3\n", &mut Silent);
 }

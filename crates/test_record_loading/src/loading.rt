@@ -1,19 +1,20 @@
 //! Texts that are loaded into a file on a shelf, and its records listed.
 
-use io_state::{Fault, FileName, Key};
+use crate::checks::assert_that;
+use io_state::{FileName, Key};
 use memory_shelf::MemShelf;
 use page_store::Shelf;
 use progress::{Progress, Silent};
 use record_forms::Form;
-use record_layout::{KeyKind, Schema};
+use record_layout::{KeyKind, KeyPart, Schema};
 use record_listing::{Asked, ListEnd, list_records};
 use record_loading::Load;
 use shelf_library::ShelfLibrary;
 use shelf_loading::{ShelfEnd, add_answer, load_on_shelf};
 use std::alloc::Global;
 use std::num::NonZeroUsize;
-use std::test::Fail;
-use unit_calls::{part, schema, two_names};
+use std::process::Abort;
+use unit_calls::{schema, two_names};
 
 /// The name of the file.
 fn name() -> FileName {
@@ -21,48 +22,59 @@ fn name() -> FileName {
     first
 }
 
+const PARTS: [KeyPart; 2] = [
+    KeyPart {
+        offset: 0,
+        length: 4,
+        kind: KeyKind::Prime,
+    },
+    KeyPart {
+        offset: 4,
+        length: 2,
+        kind: KeyKind::Unique,
+    },
+];
+
 /// Records of 6 to 8 bytes: a key of four bytes, and a second one of two, which is unique.
-fn codes() -> Result<Schema, Fault> {
-    schema(
-        6,
-        8,
-        &[part(0, 4, KeyKind::Prime), part(4, 2, KeyKind::Unique)],
-    )
+fn codes(rt: &impl Abort) -> Schema {
+    schema(6, 8, &PARTS).expect(rt, "a schema")
 }
 
 /// The lines that are told of the end of a load, or that the name has a file.
-fn reported(alloc: Global, end: ShelfEnd) -> Result<String, Fail> {
+fn reported(rt: &impl Abort, alloc: Global, end: ShelfEnd) -> String {
     match end {
-        ShelfEnd::IsThere => Ok("is there".to_string(alloc)?),
+        ShelfEnd::IsThere => "is there".to_string(alloc).expect(rt, "memory"),
         ShelfEnd::Loaded(end) => {
             let mut answer = Vec::new(alloc);
-            add_answer(&mut answer, end)?;
-            Ok(String::from_utf8(answer)?)
+            add_answer(&mut answer, end).expect(rt, "memory");
+            String::from_utf8(answer).expect(rt, "a text")
         }
     }
 }
 
 /// What is told of a load over a shelf, whose units are forgotten.
 pub fn loads(
+    rt: &impl Abort,
     alloc: Global,
     shelf: MemShelf,
     load: Load,
     text: &str,
-) -> Result<(MemShelf, String), Fail> {
-    loads_with(alloc, shelf, load, text, &mut Silent)
+) -> (MemShelf, String) {
+    loads_with(rt, alloc, shelf, load, text, &mut Silent)
 }
 
 /// The same, and how far the load is, is told.
 pub fn loads_with<P: Progress>(
+    rt: &impl Abort,
     alloc: Global,
     shelf: MemShelf,
     load: Load,
     text: &str,
     progress: &mut P,
-) -> Result<(MemShelf, String), Fail> {
+) -> (MemShelf, String) {
     let mut shelf = shelf;
-    shelf.attach(&[])?;
-    let schema = codes()?;
+    shelf.attach(&[]).expect(rt, "memory");
+    let schema = codes(rt);
     let (shelf, end) = load_on_shelf(
         alloc,
         shelf,
@@ -75,13 +87,14 @@ pub fn loads_with<P: Progress>(
         NonZeroUsize::MIN,
         progress,
     );
-    Ok((shelf, reported(alloc, end?)?))
+    let told = reported(rt, alloc, end.expect(rt, "memory"));
+    (shelf, told)
 }
 
 /// The lines of the records of the file on a shelf, whose units are forgotten.
-pub fn lists(alloc: Global, shelf: MemShelf) -> Result<String, Fail> {
+pub fn lists(rt: &impl Abort, alloc: Global, shelf: MemShelf) -> String {
     let mut shelf = shelf;
-    shelf.attach(&[])?;
+    shelf.attach(&[]).expect(rt, "memory");
     let mut library = ShelfLibrary::new(alloc, shelf, 100, NonZeroUsize::MIN);
     let asked = Asked {
         key: 0,
@@ -89,9 +102,8 @@ pub fn lists(alloc: Global, shelf: MemShelf) -> Result<String, Fail> {
         to: None,
         first: 100,
     };
-    let mut out: Vec<u8> = Vec::with_capacity(alloc, 1000)?;
-    match list_records(alloc, &mut library, name(), asked, &Form::Text, &mut out)? {
-        ListEnd::Listed => Ok(String::from_utf8(out)?),
-        _ => Ok("not listed".to_string(alloc)?),
-    }
+    let mut out: Vec<u8> = Vec::with_capacity(alloc, 1000).expect(rt, "memory");
+    let end = list_records(alloc, &mut library, name(), asked, &Form::Text, &mut out);
+    assert_that(rt, matches!(end, Ok(ListEnd::Listed)));
+    String::from_utf8(out).expect(rt, "a text")
 }

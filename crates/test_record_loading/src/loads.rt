@@ -6,7 +6,6 @@ use memory_shelf::MemShelf;
 use record_loading::Load;
 use std::alloc::Global;
 use std::process::Abort;
-use std::test::Fail;
 use unit_calls::{bytes_of, puts};
 
 /// A text that is loaded over a shelf is answered so.
@@ -17,35 +16,27 @@ fn answers(
     load: Load,
     text: &str,
     answer: &str,
-) -> Result<MemShelf, Fail> {
-    let (shelf, told) = loads(alloc, shelf, load, text)?;
+) -> MemShelf {
+    let (shelf, told) = loads(rt, alloc, shelf, load, text);
     assert_equal_for(rt, text, told.as_str(), answer);
-    Ok(shelf)
+    shelf
 }
 
 /// The file on a shelf is listed so.
-fn is_listed(rt: &impl Abort, alloc: Global, shelf: MemShelf, list: &str) -> Result<(), Fail> {
-    assert_equal(rt, lists(alloc, shelf)?.as_str(), list);
-    Ok(())
+fn is_listed(rt: &impl Abort, alloc: Global, shelf: MemShelf, list: &str) {
+    assert_equal(rt, lists(rt, alloc, shelf).as_str(), list);
 }
 
 /// A text that is loaded into a new file is answered so, and the file is listed so.
-fn gives(rt: &impl Abort, alloc: Global, text: &str, answer: &str, list: &str) -> Result<(), Fail> {
-    let shelf = MemShelf::new(alloc);
-    let shelf = answers(rt, alloc, shelf, Load::New, text, answer)?;
-    is_listed(rt, alloc, shelf, list)
+fn gives(rt: &impl Abort, alloc: Global, text: &str, answer: &str, list: &str) {
+    let shelf = answers(rt, alloc, MemShelf::new(alloc), Load::New, text, answer);
+    is_listed(rt, alloc, shelf, list);
 }
 
 /// The same of a text of two parts.
-fn gives_of(
-    rt: &impl Abort,
-    alloc: Global,
-    parts: [&str; 2],
-    answer: &str,
-    list: &str,
-) -> Result<(), Fail> {
-    let text = parts.concat(alloc)?;
-    gives(rt, alloc, &text, answer, list)
+fn gives_of(rt: &impl Abort, alloc: Global, parts: [&str; 2], answer: &str, list: &str) {
+    let text = parts.concat(alloc).expect(rt, "memory");
+    gives(rt, alloc, &text, answer, list);
 }
 
 /// Two lines that are loaded and listed in the order of their first key, with bytes that are escaped.
@@ -54,29 +45,25 @@ const TWO: &str = "[0002\\5c\\00]\n[0001]]\\ff]\n";
 const TWO_IN_ORDER: &str = "[0001]]\\ff]\n[0002\\5c\\00]\n";
 
 #[test]
-fn lines_are_loaded_and_listed_as_they_were(rt: HostRuntime) -> Result<(), Fail> {
+fn lines_are_loaded_and_listed_as_they_were(rt: HostRuntime) {
     let alloc = rt.alloc();
-    gives(&rt, alloc, TWO, "loaded 2\n", TWO_IN_ORDER)?;
-    gives(&rt, alloc, TWO_IN_ORDER, "loaded 2\n", TWO_IN_ORDER)?;
-    gives(&rt, alloc, "", "loaded 0\n", "")
+    gives(&rt, alloc, TWO, "loaded 2\n", TWO_IN_ORDER);
+    gives(&rt, alloc, TWO_IN_ORDER, "loaded 2\n", TWO_IN_ORDER);
+    gives(&rt, alloc, "", "loaded 0\n", "");
 }
 
 const BEFORE: &str = "[0002BB]\n[0001AA]\n";
 
 const BEFORE_IN_ORDER: &str = "[0001AA]\n[0002BB]\n";
 
+const REFUSED: [&str; 3] = ["[0001CC]\n[0003DD]\n", "[0003AA]\n", "[0003BBXX]\n"];
+
 #[test]
-fn a_line_whose_record_is_refused_ends_a_load(rt: HostRuntime) -> Result<(), Fail> {
-    for &third in &["[0001CC]\n[0003DD]\n", "[0003AA]\n", "[0003BBXX]\n"] {
-        gives_of(
-            &rt,
-            rt.alloc(),
-            [BEFORE, third],
-            "line 3: status 22\n",
-            BEFORE_IN_ORDER,
-        )?;
+fn a_line_whose_record_is_refused_ends_a_load(rt: HostRuntime) {
+    let answer = "line 3: status 22\n";
+    for &third in &REFUSED {
+        gives_of(&rt, rt.alloc(), [BEFORE, third], answer, BEFORE_IN_ORDER);
     }
-    Ok(())
 }
 
 // Lines that are those of no record.
@@ -97,50 +84,48 @@ const NO_RECORDS: [&str; 13] = [
 ];
 
 #[test]
-fn a_line_of_no_record_ends_a_load(rt: HostRuntime) -> Result<(), Fail> {
+fn a_line_of_no_record_ends_a_load(rt: HostRuntime) {
+    let (first, answer) = ("[0001AA]\n", "line 2: no record of this file\n");
     for &second in &NO_RECORDS {
-        gives_of(
-            &rt,
-            rt.alloc(),
-            ["[0001AA]\n", second],
-            "line 2: no record of this file\n",
-            "[0001AA]\n",
-        )?;
+        gives_of(&rt, rt.alloc(), [first, second], answer, first);
     }
-    Ok(())
+}
+
+/// A shelf with a file of these bytes.
+fn shelf_of(rt: &impl Abort, alloc: Global, bytes: &[u8]) -> MemShelf {
+    let mut shelf = MemShelf::new(alloc);
+    puts(&mut shelf, bytes).expect(rt, "memory");
+    shelf
 }
 
 /// A file of these bytes is not replaced by a new one.
-fn stays(rt: &impl Abort, alloc: Global, bytes: &[u8]) -> Result<(), Fail> {
-    let mut shelf = MemShelf::new(alloc);
-    puts(&mut shelf, bytes)?;
-    let mut shelf = answers(rt, alloc, shelf, Load::New, TWO, "is there")?;
-    assert_equal(rt, bytes_of(alloc, &mut shelf)?.as_slice(), bytes);
-    Ok(())
+fn stays(rt: &impl Abort, alloc: Global, bytes: &[u8]) {
+    let shelf = shelf_of(rt, alloc, bytes);
+    let mut shelf = answers(rt, alloc, shelf, Load::New, TWO, "is there");
+    let left = bytes_of(alloc, &mut shelf).expect(rt, "memory");
+    assert_equal(rt, left.as_slice(), bytes);
 }
 
 #[test]
-fn a_file_that_is_there_is_not_replaced(rt: HostRuntime) -> Result<(), Fail> {
+fn a_file_that_is_there_is_not_replaced(rt: HostRuntime) {
     let alloc = rt.alloc();
     let shelf = MemShelf::new(alloc);
-    let shelf = answers(&rt, alloc, shelf, Load::New, TWO, "loaded 2\n")?;
-    let shelf = answers(&rt, alloc, shelf, Load::New, "[0003AA]\n", "is there")?;
-    is_listed(&rt, alloc, shelf, TWO_IN_ORDER)?;
-    stays(&rt, alloc, b"")?;
-    stays(&rt, alloc, b"no book")
+    let shelf = answers(&rt, alloc, shelf, Load::New, TWO, "loaded 2\n");
+    let shelf = answers(&rt, alloc, shelf, Load::New, "[0003AA]\n", "is there");
+    is_listed(&rt, alloc, shelf, TWO_IN_ORDER);
+    stays(&rt, alloc, b"");
+    stays(&rt, alloc, b"no book");
 }
 
 #[test]
-fn lines_are_loaded_into_a_file(rt: HostRuntime) -> Result<(), Fail> {
+fn lines_are_loaded_into_a_file(rt: HostRuntime) {
     let alloc = rt.alloc();
     let shelf = MemShelf::new(alloc);
-    let shelf = answers(&rt, alloc, shelf, Load::Into, TWO, "open: status 35\n")?;
-    let shelf = answers(&rt, alloc, shelf, Load::New, "[0002BB]\n", "loaded 1\n")?;
+    let shelf = answers(&rt, alloc, shelf, Load::Into, TWO, "open: status 35\n");
+    let shelf = answers(&rt, alloc, shelf, Load::New, "[0002BB]\n", "loaded 1\n");
     let three = "[0003CC]\n[0001AA]\n[0002DD]\n";
-    let shelf = answers(&rt, alloc, shelf, Load::Into, three, "line 3: status 22\n")?;
-    is_listed(&rt, alloc, shelf, "[0001AA]\n[0002BB]\n[0003CC]\n")?;
-    let mut shelf = MemShelf::new(alloc);
-    puts(&mut shelf, b"no book")?;
-    answers(&rt, alloc, shelf, Load::Into, TWO, "open: status 91\n")?;
-    Ok(())
+    let shelf = answers(&rt, alloc, shelf, Load::Into, three, "line 3: status 22\n");
+    is_listed(&rt, alloc, shelf, "[0001AA]\n[0002BB]\n[0003CC]\n");
+    let shelf = shelf_of(&rt, alloc, b"no book");
+    answers(&rt, alloc, shelf, Load::Into, TWO, "open: status 91\n");
 }
