@@ -14,6 +14,8 @@ DIR = files
 PREFIX = /usr/local
 PROGRAM = crates/cobix/out/cobix
 JOBS = 2
+# How many crates the gate proves side by side, each by one process: one a processor, as far as there are four gigabytes for each.
+LANES = $(shell awk -v most=$$(nproc) '/^MemAvailable/ { few = int($$2 / 4000000); print (few < 1 ? 1 : few < most ? few : most) }' /proc/meminfo)
 
 try: | $(DIR)
 	@cd crates/cobix && rt try --data deck=$(abspath $(DECK)) -- run deck --folder $(abspath $(DIR))
@@ -29,7 +31,7 @@ test:
 	edits/run
 	docs/believed
 	share/write --check
-	rt ci
+	RT_JOBS=$(LANES) rt ci
 	cases/run $(PROGRAM)
 	cases/run-out-of-memory $(PROGRAM)
 	docs/check $(PROGRAM)
