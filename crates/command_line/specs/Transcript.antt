@@ -25,9 +25,8 @@ module _ {R D F E : Type 0} {reads : Reads F} {writes : Writes F} {seeks : Seeks
   abbrev pub TellsExactly : {W : Type 0} → (List ℕ → Unseen) → (path : String Global)
       → FolderShelf R D F E reads writes seeks entries disks → (bytes : List ℕ) → (W → Option (List ℕ))
       → (old new : W) → RunEnd → Type 0
-  TellsExactly disk path shelf bytes contents old new end = end.clean ≡ true
-      → OverShelf disk path shelf (λ first last.
-      IsExactRun bytes first last (contents old) (contents new) end)
+  TellsExactly disk path shelf bytes contents old new end = end.clean ≡ true → OverShelf disk path shelf
+      (λ first last. IsExactRun bytes first last (contents old) (contents new) end)
 
   -- the transcript of the deck was written, up to this end
   abbrev pub TellsRun : {W : Type 0} → (List ℕ → Unseen) → (path : String Global)

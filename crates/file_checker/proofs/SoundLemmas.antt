@@ -1,7 +1,7 @@
 -- The bytes of a file, by its first page and the pages behind it.
-use Rattle.std.proofs.Common.{◌≡◌, ℕ, ◌+◌, ◌-◌, ◌*◌, ◌≤◌, ◌<◌, false, ltb, nat_lt, List, [], ◌∷◌, ◌++◌, length, slice_index, Option, Some, None, IsSome, inr, refl, sym, ap, subst, ◌∙◌, append-nil, length-append, arith}
+use Rattle.std.proofs.Common.{◌≡◌, ℕ, ◌+◌, ◌-◌, ◌*◌, ◌≤◌, ◌<◌, ltb, List, [], ◌∷◌, ◌++◌, length, slice_index, Option, Some, None, IsSome, inr, refl, sym, ap, subst, ◌∙◌, append-nil, length-append, arith}
 use Rattle.std.proofs.lemmas.List.{take_at, get_or_append_left}
-use Rattle.std.proofs.lemmas.Bool.{le-ltb, ltb-true, and_parts}
+use Rattle.std.proofs.lemmas.Bool.{ltb-true, and_parts}
 use Rattle.std.specs.Prelude.{Result, Ok, Err, IsErrAnd}
 use Rattle.std.specs.Option.{IfSome}
 use Rattle.std.specs.Io.KnownBytes.{Consumes}
@@ -13,9 +13,9 @@ use Rattle.page_walks.specs.WholeFile.{pages_used_in}
 use Rattle.file_header.specs.declared.header.Header.{Header}
 use Rattle.file_header.specs.Reading.{number_in, numbers_in, header_in, IsFirstPage}
 use Rattle.file_header.proofs.ReadLemmas.{first_numbers, first_read}
-use Rattle.open_file.specs.Stands.{Stands}
-use Rattle.shelf_file.specs.declared.look.Look.TheVariants.{Accepted}
-use Rattle.shelf_file.specs.Named.{look_of, live_in, free_in}
+use Rattle.open_file.specs.Closed.{StandsClosed}
+use Rattle.open_file.proofs.ClosedLemmas.{stands_by}
+use Rattle.shelf_file.specs.ClosedFile.{IsAcceptedBy, live_in, free_in}
 use Rattle.shelf_file.proofs.PagesLemmas.{AreAlike, same_chain, same_live}
 use Rattle.file_checker.specs.declared.verdict.Reason.{Reason}
 use Rattle.file_checker.specs.declared.verdict.Reason.TheVariants.{Short, Gate, Header as NoHeader, Shared, Node, Order, Heap, Index, Lost}
@@ -167,14 +167,8 @@ module _ (bytes first : List ℕ) (header : Header) (page : page_of_bytes bytes 
   }
 
   module _ (list : List (List ℕ)) (pages : AreFirstPages bytes list) (many : length list ≡ header.pages) where
-    pub accepted : look_of (Some bytes) ≡ Accepted header
-    accepted =
-        let some = counted in
-        let enough = pages.enough in
-        let whole : nat_lt (length bytes) 4096 ≡ false = le-ltb (length bytes) 4096 (omega arith) in
-        let all : nat_lt (length bytes) (4096 * header.pages) ≡ false = le-ltb (length bytes) (4096 * header.pages) (rw many at enough) in
-        let read : header_in (page_of_bytes bytes 0) ≡ Some header = ap header_in page ∙ first_read header first is in
-        rw (whole, read, all) refl
+    pub accepted : IsAcceptedBy header bytes
+    accepted = record { first = subst (IsFirstPage header) (sym page) is; whole = let enough = pages.enough in omega (arith, many, enough) }
 
     pub all_pages : HasPages bytes header list
     all_pages = record { accepted = accepted; pages = pages; many = many }
@@ -199,10 +193,9 @@ module _ (bytes first : List ℕ) (header : Header) (page : page_of_bytes bytes 
       pages_are = refl;
       file = found.file;
       stands = record {
-        opened = found.opened;
-        by_header = found.by_header;
-        stands = subst (λ (live : PageMap). Stands found.opened live found.file) (sym live_is) found.stands;
-        sound = subst (λ (free : Option (List ℕ)). IsSome free) chain_is found.sound;
+        free = subst (λ (free : Option (List ℕ)). IsSome free) chain_is found.sound;
+        pages = subst (λ (live : PageMap). StandsClosed header live found.file) (sym live_is)
+            (stands_by header found.opened _ found.file found.by_header.shaped found.by_header.header_is found.stands);
       };
       records_are = found.records_are;
     }

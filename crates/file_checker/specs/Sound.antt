@@ -7,8 +7,7 @@ use Rattle.indexed_file.specs.File.{File}
 use Rattle.page_store.specs.Pages.{page_of_bytes}
 use Rattle.file_header.specs.declared.header.Header.{Header}
 use Rattle.file_header.specs.Reading.{header_in, number_in}
-use Rattle.shelf_file.specs.declared.look.Look.TheVariants.{Accepted}
-use Rattle.shelf_file.specs.Named.{look_of, StandsIn}
+use Rattle.shelf_file.specs.ClosedFile.{IsAcceptedBy, StandsIn}
 use Rattle.file_checker.specs.declared.verdict.Reason.{Reason}
 use Rattle.file_checker.specs.declared.verdict.Reason.TheVariants.{Short, Gate, Header as NoHeader}
 use Rattle.file_checker.specs.declared.verdict.Reason.TheVariants.{Shared, Node, Order, Heap, Index}
@@ -23,7 +22,7 @@ use Rattle.file_checker.specs.Lost.{HasLostPage}
 -- a file of these bytes can be opened, and stands for so many records; its first page counts so many pages
 pub record IsSound (bytes : List ℕ) (records pages : ℕ) : Type 0 where
   pub header : Header
-  pub accepted : look_of (Some bytes) ≡ Accepted header
+  pub accepted : IsAcceptedBy header bytes
   pub pages_are : header.pages ≡ pages
   pub file : File
   pub stands : StandsIn header bytes file
@@ -31,7 +30,7 @@ pub record IsSound (bytes : List ℕ) (records pages : ℕ) : Type 0 where
 
 -- a file of these bytes can be opened
 abbrev pub IsAccepted : List ℕ → Type 0
-IsAccepted bytes = (header : Header) × (look_of (Some bytes) ≡ Accepted header)
+IsAccepted bytes = (header : Header) × IsAcceptedBy header bytes
 
 -- how many pages the first page counts, whether or not it is accepted
 abbrev pub counted_in : List ℕ → ℕ
@@ -44,7 +43,7 @@ pub record IsLong (bytes : List ℕ) : Type 0 where
 
 -- these are all its pages, and it can be opened
 pub record HasPages (bytes : List ℕ) (header : Header) (list : List (List ℕ)) : Type 0 where
-  pub accepted : look_of (Some bytes) ≡ Accepted header
+  pub accepted : IsAcceptedBy header bytes
   pub pages : AreFirstPages bytes list
   pub many : length list ≡ header.pages
 

@@ -2,7 +2,7 @@
 use Rattle.std.specs.Prelude.{◌≡◌, ◌⊎◌, ◌≤◌, ℕ, List, length, Option, Result, Ok, Err}
 use Rattle.record_layout.specs.Schema.{Schema}
 use Rattle.indexed_file.specs.File.{File}
-use Rattle.shelf_file.specs.Shelves.{AreClosed}
+use Rattle.shelf_file.specs.ClosedFile.{AreClosed}
 use Rattle.file_checker.specs.Sound.{IsRight}
 use Rattle.file_checker.specs.declared.verdict.Verdict.TheVariants.{Unsound as IsRefused}
 use Rattle.record_forms.specs.declared.form.Form.{Form}

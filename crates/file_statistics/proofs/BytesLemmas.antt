@@ -1,17 +1,17 @@
 -- The pages in the bytes of a sound file.
-use Rattle.std.proofs.Common.{◌≡◌, ℕ, zero, suc, ◌+◌, ◌*◌, ◌/◌, ◌<◌, ◌≤◌, nat_lt, List, [], length, take, drop, slice_index_or, Option, Some, None, IsSome, refl, ap, sym, ◌∙◌, arith, subst, inl, inr, Result, Ok, Err, IfOk}
-use Rattle.std.proofs.lemmas.Bool.{cases_Bool, ltb-false}
+use Rattle.std.proofs.Common.{◌≡◌, ℕ, zero, suc, ◌+◌, ◌*◌, ◌/◌, ◌<◌, ◌≤◌, List, [], length, take, drop, slice_index_or, Some, IsSome, refl, ap, sym, ◌∙◌, arith, subst, Result, Ok, Err, IfOk}
 use Rattle.std.specs.Simd.{first_chunks}
 use Rattle.page_store.specs.Pages.{page_of_bytes}
 use Rattle.page_alloc.specs.Chain.{chain}
 use Rattle.page_alloc.proofs.ChainLemmas.{in_use}
 use Rattle.file_header.specs.declared.header.Header.{Header}
 use Rattle.file_header.specs.Reading.{header_in}
-use Rattle.shelf_file.specs.declared.look.Look.TheVariants.{Accepted}
-use Rattle.shelf_file.specs.Named.{look_of, look_by, live_in}
+use Rattle.open_file.proofs.ClosedLemmas.{opened_by, is_opened, opened_stands}
+use Rattle.shelf_file.specs.ClosedFile.{live_in}
 use Rattle.page_counts.specs.Levels.{AreShown}
 use Rattle.std.proofs.Math.Nat.{le-div_iff_mul-le}
-use Rattle.shelf_file.proofs.AcceptedLemmas.{accepted_page}
+use Rattle.file_header.specs.Bounds.{IsHeader}
+use Rattle.file_header.proofs.ReadLemmas.{first_read}
 use Rattle.file_checker.specs.Sound.{IsSound}
 use Rattle.indexed_file.specs.File.{File}
 use Rattle.open_file.specs.declared.open_file.OpenFile.{OpenFile}
@@ -28,29 +28,6 @@ chunk_at bytes (suc count) zero inside = refl
 chunk_at bytes (suc count) (suc n) inside =
     let up : 4096 + 4096 * n ≡ 4096 * suc n = omega arith in
     chunk_at (drop 4096 bytes) count n (omega arith) ∙ ap (take 4096) (drop-drop (4096 * n) 4096 bytes ∙ ap (λ (k : ℕ). drop k bytes) up)
-
--- the bytes of a file that is accepted have its pages
-pub record AreLong (bytes : List ℕ) (header : Header) : Type 0 where
-  pub first : 4096 ≤ length bytes
-  pub counted : 4096 * header.pages ≤ length bytes
-
-by_header : (bytes : List ℕ) (there : Option Header) (header : Header) → look_by bytes there ≡ Accepted header → 4096 * header.pages ≤ length bytes
-by_header bytes None header refused = absurd (cc)
-by_header bytes (Some found) header looks = elim (cases_Bool (nat_lt (length bytes) (4096 * found.pages))) [
-  | inl short ↦ let h = rw short at looks in absurd (cc)
-  | inr long ↦ let h : Accepted found ≡ Accepted header = rw long at looks in
-      let same : found ≡ header = cc in
-      subst (λ (h : Header). 4096 * h.pages ≤ length bytes) same (omega (arith, ltb-false (length bytes) (4096 * found.pages) long))
-]
-
-pub are_long : (bytes : List ℕ) (header : Header) → look_of (Some bytes) ≡ Accepted header → AreLong bytes header
-are_long bytes header looks = elim (cases_Bool (nat_lt (length bytes) 4096)) [
-  | inl short ↦ let h = rw short at looks in absurd (cc)
-  | inr whole ↦ record {
-    first = omega (arith, ltb-false (length bytes) 4096 whole);
-    counted = by_header bytes (header_in (page_of_bytes bytes 0)) header (rw whole at looks);
-  }
-]
 
 -- the pages in use are chunks of the bytes
 pub live_shown : (bytes : List ℕ) (header : Header) (list : List (List ℕ)) (count : ℕ) → list ≡ first_chunks 4096 count bytes → length list ≡ count → header.pages ≤ count
@@ -69,32 +46,40 @@ if_ok P Q (Err e) f h = tt
 
 module _ (bytes : List ℕ) (records pages : ℕ) (sound : IsSound bytes records pages) (header : Header) (list : List (List ℕ)) (count : ℕ) (is : list ≡ first_chunks 4096 count bytes)
     (many : length list ≡ count) (counted : count ≡ length bytes / 4096) (first : Some header ≡ header_in (slice_index_or list 0 [])) where
-  long : AreLong bytes sound.header
-  long = are_long bytes sound.header sound.accepted
+  abbrev allowed : IsHeader sound.header
+  allowed = sound.accepted.first.allowed
 
   enough : sound.header.pages ≤ count
   enough =
-      let l = long.counted in
+      let l = sound.accepted.whole in
       let fits : sound.header.pages ≤ length bytes / 4096 = (le-div_iff_mul-le {k = 4096} {x = sound.header.pages} {y = length bytes} (omega arith)).1 (omega (arith, l)) in
       omega (arith, fits, counted)
 
   same : sound.header ≡ header
   same =
-      let l = long.first in
-      let some : 1 ≤ length bytes / 4096 = (le-div_iff_mul-le {k = 4096} {x = 1} {y = length bytes} (omega arith)).1 (omega (arith, l)) in
+      let l = sound.accepted.whole in
+      let c = allowed.within.counted in
+      let some : 1 ≤ length bytes / 4096 = (le-div_iff_mul-le {k = 4096} {x = 1} {y = length bytes} (omega arith)).1 (omega (arith, l, c)) in
       let page : slice_index_or list 0 [] ≡ page_of_bytes bytes 0 = ap (λ (l : List (List ℕ)). slice_index_or l 0 []) is ∙ chunk_at bytes count 0 (omega (arith, some, counted)) in
-      let both : Some sound.header ≡ Some header = sym (accepted_page bytes sound.header sound.accepted) ∙ sym (ap header_in page) ∙ sym first in
+      let both : Some sound.header ≡ Some header = sym (first_read sound.header (page_of_bytes bytes 0) sound.accepted.first) ∙ sym (ap header_in page) ∙ sym first in
       cc
 
-  standing : PagesHoldFile (page_of_bytes bytes) sound.header sound.stands.opened sound.file
-  standing = record { by_header = sound.stands.by_header; stands = sound.stands.stands; sound = sound.stands.sound }
+  abbrev opened : OpenFile
+  opened = opened_by sound.header (live_in sound.header bytes) sound.file allowed sound.stands.pages
+
+  standing : PagesHoldFile (page_of_bytes bytes) sound.header opened sound.file
+  standing = record {
+    by_header = is_opened sound.header (live_in sound.header bytes) sound.file allowed sound.stands.pages;
+    stands = opened_stands sound.header (live_in sound.header bytes) sound.file allowed sound.stands.pages;
+    sound = sound.stands.free;
+  }
 
   shown : AreShown (live_by (page_of_bytes bytes) sound.header) list
   shown = live_shown bytes sound.header list count is many enough
 
   pub has_file : HasFile header list
   has_file = subst (λ (h : Header). HasFile h list) same
-      (record { page = page_of_bytes bytes; opened = sound.stands.opened; file = sound.file; standing = standing; shown = shown })
+      (record { page = page_of_bytes bytes; opened = opened; file = sound.file; standing = standing; shown = shown })
 
   pub text_for : (counts : FileStatistics) (text : List ℕ)
       → ((page : ℕ → List ℕ) (opened : OpenFile) (file : File) → PagesHoldFile page header opened file → AreShown (live_by page header) list → HasStatistics page header file counts)
@@ -107,6 +92,6 @@ module _ (bytes : List ℕ) (records pages : ℕ) (sound : IsSound bytes records
         file = sound.file;
         closed = record { header = sound.header; accepted = sound.accepted; schema_is = refl; stands = sound.stands };
         counts = counts;
-        counted = back (page_of_bytes bytes) sound.stands.opened sound.file standing shown;
+        counted = back (page_of_bytes bytes) opened sound.file standing shown;
         text_is = text_is;
       }

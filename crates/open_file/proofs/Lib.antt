@@ -18,6 +18,7 @@ pub mod ReadLemmas
 pub mod ReadOffLemmas
 pub mod CreatingLemmas
 pub mod HeaderLemmas
+pub mod ClosedLemmas
 pub mod StartLemmas
 pub mod EntryLemmas
 pub mod SeekLemmas

@@ -12,5 +12,6 @@ pub mod Paths
 pub mod Creating
 pub mod Laws
 pub mod Headers
+pub mod Closed
 pub mod Steps
 pub mod Calls

@@ -1,6 +1,6 @@
 -- What a closed file whose first page is accepted reads as.
-use Rattle.std.proofs.Common.{◌≡◌, ℕ, ◌*◌, List, length, nat_lt, inl, inr, Option, Some, None, refl, sym, ap, ◌∙◌}
-use Rattle.std.proofs.lemmas.Bool.{cases_Bool}
+use Rattle.std.proofs.Common.{◌≡◌, ℕ, ◌*◌, List, [], length, nat_lt, inl, inr, Option, Some, None, refl, sym, ap, ◌∙◌, arith}
+use Rattle.std.proofs.lemmas.Bool.{cases_Bool, le-ltb}
 use Rattle.indexed_file.specs.File.{File}
 use Rattle.indexed_file.specs.World.{Closed}
 use Rattle.page_store.specs.DeviceFile.{DeviceFile, content, bytes_or_none}
@@ -8,11 +8,14 @@ use Rattle.page_store.specs.Pages.{page_of_bytes}
 use Rattle.file_header.specs.declared.header.Header.{Header}
 use Rattle.file_header.specs.Reading.{header_in}
 use Rattle.file_header.specs.Bounds.{IsHeader}
-use Rattle.file_header.proofs.ReadLemmas.{read_first}
+use Rattle.file_header.proofs.ReadLemmas.{first_read, read_first}
 use Rattle.shelf_file.specs.declared.look.Look.TheVariants.{Refused, Accepted}
-use Rattle.shelf_file.specs.Named.{look_of, look_by, live_in, named_of, named_by, StandsIn}
+use Rattle.shelf_file.specs.ClosedFile.{IsAcceptedBy, live_in, StandsIn}
+use Rattle.shelf_file.specs.Named.{look_of, look_by, named_of, named_by}
 use Rattle.shelf_file.specs.ReadOff.{file_by}
+use Rattle.open_file.proofs.ClosedLemmas.{opened_by, is_opened, opened_stands}
 use Rattle.open_file.proofs.ReadOffLemmas.{reads_as}
+use Rattle.shelf_file.proofs.LookLemmas.{accepted_pages}
 use Rattle.shelf_file.proofs.ReadOffLemmas.{reads_by_header}
 
 accepted_by : (bytes : List ℕ) (there : Option Header) (header : Header) → look_by bytes there ≡ Accepted header → there ≡ Some header
@@ -35,6 +38,20 @@ accepted_page bytes header is = elim (cases_Bool (nat_lt (length bytes) 4096)) [
 pub accepted_allowed : (bytes : List ℕ) (header : Header) → look_of (Some bytes) ≡ Accepted header → IsHeader header
 accepted_allowed bytes header is = (read_first header (page_of_bytes bytes 0) (accepted_page bytes header is)).allowed
 
+-- a look accepts bytes just where they begin with the first page of a closed file and have all its pages
+pub looks_accepted : (bytes : List ℕ) (header : Header) → IsAcceptedBy header bytes → look_of (Some bytes) ≡ Accepted header
+looks_accepted bytes header is =
+    let found : header_in (page_of_bytes bytes 0) ≡ Some header = first_read header (page_of_bytes bytes 0) is.first in
+    let counted = is.first.allowed.within.counted in
+    let long = is.whole in
+    rw (le-ltb (length bytes) 4096 (omega arith)) (ap (look_by bytes) found ∙ rw (le-ltb (length bytes) (4096 * header.pages) (omega arith)) refl)
+
+pub accepted_looks : (bytes : List ℕ) (header : Header) → look_of (Some bytes) ≡ Accepted header → IsAcceptedBy header bytes
+accepted_looks bytes header is = record {
+  first = read_first header (page_of_bytes bytes 0) (accepted_page bytes header is);
+  whole = let pages = accepted_pages (record { seen = Some bytes; log = [] }) header (accepted_allowed bytes header is) is in let long = pages.long in omega (arith, long);
+}
+
 -- the file is there
 pub accepted_there : (file : DeviceFile) (header : Header) → look_of file.seen ≡ Accepted header → file.seen ≡ Some (content file)
 accepted_there file header is = go file.seen is
@@ -46,8 +63,11 @@ accepted_there file header is = go file.seen is
 -- bytes that are accepted read as the rows that they stand for
 pub reads_back : (header : Header) (bytes : List ℕ) (rows : File) → look_of (Some bytes) ≡ Accepted header → StandsIn header bytes rows → file_by header (live_in header bytes) ≡ rows
 reads_back header bytes rows is stands =
-    sym (reads_by_header stands.opened header (live_in header bytes) (accepted_allowed bytes header is) stands.by_header)
-    ∙ reads_as stands.opened (live_in header bytes) rows stands.stands
+    let live = live_in header bytes in
+    let allowed = accepted_allowed bytes header is in
+    let opened = opened_by header live rows allowed stands.pages in
+    sym (reads_by_header opened header live allowed (is_opened header live rows allowed stands.pages))
+    ∙ reads_as opened live rows (opened_stands header live rows allowed stands.pages)
 
 pub named_by_header : (bytes : List ℕ) (header : Header) → look_of (Some bytes) ≡ Accepted header → named_of (Some bytes) ≡ Closed header.schema (file_by header (live_in header bytes))
 named_by_header bytes header is = ap (named_by bytes) is

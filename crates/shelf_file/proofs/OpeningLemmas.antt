@@ -10,7 +10,7 @@ use Rattle.page_alloc.specs.Joining.{free_pages, pages_counted, first_free_page,
 use Rattle.page_alloc.specs.Steps.{pages_state_of}
 use Rattle.page_alloc.specs.PagedFile.{cache_of, counts_of}
 use Rattle.file_header.specs.declared.header.Header.{Header}
-use Rattle.shelf_file.specs.Named.{free_in, live_in}
+use Rattle.shelf_file.specs.ClosedFile.{free_in, live_in}
 use Rattle.shelf_file.proofs.PagesLemmas.{AreAlike, same_chain, same_live}
 
 module _ (held : PagedFile) (shelf : ShelfState) (unit limit : ℕ) (header : Header)

@@ -13,7 +13,8 @@ use Rattle.file_header.specs.Bounds.{IsHeader}
 use Rattle.shelf_file.specs.declared.look.Look.{Look}
 use Rattle.shelf_file.specs.declared.look.Look.TheVariants.{NoFile, Refused, Accepted}
 use Rattle.shelf_file.specs.declared.shelf_file.ShelfFile.{ShelfFile}
-use Rattle.shelf_file.specs.Named.{look_of, live_in, StandsIn}
+use Rattle.shelf_file.specs.ClosedFile.{live_in, StandsIn, AreClosed}
+use Rattle.shelf_file.specs.Named.{look_of}
 use Rattle.shelf_file.specs.ReadOff.{file_by}
 use Rattle.shelf_file.specs.Standing.{IsReady, StandsFor, file_read_off, room_in}
 use Rattle.page_alloc.specs.PagedFile.{is_begun, times_asked, unit_of_pages}
@@ -53,13 +54,6 @@ pub record IsMade (held : ShelfFile) (unit limit : ℕ) (schema : Schema) (shelf
   pub room : room_in held ≡ room_of_new (Some limit) schema
   pub ready : IsReady held shelf
   pub stands : IsTrue shelf.is_honest → StandsFor held shelf empty_file
-
--- bytes of this schema that stand for this file
-pub record AreClosed (schema : Schema) (file : File) (bytes : List ℕ) : Type 0 where
-  pub header : Header
-  pub accepted : look_of (Some bytes) ≡ Accepted header
-  pub schema_is : header.schema ≡ schema
-  pub stands : StandsIn header bytes file
 
 -- a crash leaves a file that is refused, or one that stands for this file
 abbrev pub ClosedFileOrRefused : Schema → File → Option (List ℕ) → Type 0

@@ -8,6 +8,7 @@ use Rattle.shelf_library.proofs.Terms.{is_begun, Header, StandsIn, look_of, name
 use Rattle.shelf_library.proofs.Terms.{is_broken_file, pages_behind, schema_behind, Accepted, Refused, ShelfFile, ClosesUnitAt}
 use Rattle.shelf_library.proofs.Terms.{IsSoundImage, MayReadAs, EachRead, each_read, ChangesAt, IsTrulyHeld, IsReadyAt, LibraryState}
 use Rattle.shelf_library.proofs.Terms.{held_at, IsTrulyClosed, IsTrulyOpen, Nothing}
+use Rattle.shelf_file.proofs.AcceptedLemmas.{looks_accepted}
 use Rattle.shelf_library.proofs.RefusedLemmas.{refused_look, refused_named}
 use Rattle.shelf_library.proofs.AcceptedLemmas.{closed_named, closed_there}
 
@@ -21,7 +22,7 @@ closing_named c schema rows (inr closed) = inl (ap named_of closed.1 ∙ closed_
 closed_stands : (c : Option (List ℕ)) (header : Header) (schema : Schema) (rows : File) → ClosedFileOrRefused schema rows c → look_of c ≡ Accepted header → StandsIn header (bytes_or_none c) rows
 closed_stands c header schema rows (inl refused) is = let clash : Refused ≡ Accepted header = sym (refused_look c refused) ∙ is in absurd (cc)
 closed_stands c header schema rows (inr closed) is =
-    let accepted : Accepted closed.2.header ≡ Accepted header = sym closed.2.accepted ∙ ap look_of (sym closed.1) ∙ is in
+    let accepted : Accepted closed.2.header ≡ Accepted header = sym (looks_accepted closed.0 closed.2.header closed.2.accepted) ∙ ap look_of (sym closed.1) ∙ is in
     let same : closed.2.header ≡ header = cc in
     let bytes : closed.0 ≡ bytes_or_none c = ap bytes_or_none (sym closed.1) in
     subst (λ b. StandsIn header b rows) bytes (subst (λ (h : Header). StandsIn h closed.0 rows) same closed.2.stands)

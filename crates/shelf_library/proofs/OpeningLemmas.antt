@@ -6,7 +6,7 @@ use Rattle.indexed_file.specs.Room.{PageCounts}
 use Rattle.page_store.specs.ShelfState.{HasUnit}
 use Rattle.shelf_file.specs.Shelves.{IsOpened, HasAccepted}
 use Rattle.shelf_library.specs.Units.{counts_by}
-use Rattle.shelf_library.proofs.Terms.{Fault, Memory, Schema, MayFail, untouched, OpensUnit, Holding, Named, HasOpened, holding_at, is_open}
+use Rattle.shelf_library.proofs.Terms.{Fault, Memory, Schema, MayFail, untouched, OpensUnit, Holding, Named, HasOpened, holding_at, is_open, content}
 use Rattle.shelf_library.proofs.Terms.{name_at, named_at, opened_from, schema_at, schema_in, DeviceFile, KeepsOthers, ShelfState, unit_file}
 use Rattle.shelf_library.proofs.Terms.{unit_name, pages_counted, pages_free, counts_of, Header, look_of, named_of, is_broken_file}
 use Rattle.shelf_library.proofs.Terms.{pages_behind, schema_behind, Accepted, ShelfFile, shown_by, AreUnits, ChangesAt, FitsItsFile}
@@ -16,7 +16,7 @@ use Rattle.shelf_library.proofs.WorldLemmas.{same_open}
 use Rattle.shelf_library.proofs.AsideLemmas.{rests, are_after, held_here, holding_before, holding_after, named_before, named_after}
 use Rattle.shelf_library.proofs.AsideLemmas.{images_aside}
 use Rattle.shelf_library.proofs.UnitLemmas.{keeps_at, images_at}
-use Rattle.shelf_file.proofs.AcceptedLemmas.{accepted_there, accepted_named}
+use Rattle.shelf_file.proofs.AcceptedLemmas.{accepted_looks, accepted_there, accepted_named}
 use Rattle.shelf_library.proofs.OpensLemmas.{nothing_fits, open_fits, open_holding, is_opened, opens_unit}
 
 -- only want of memory keeps a file from being opened
@@ -60,7 +60,7 @@ module _ (u : ℕ) (shelf : ShelfState) (header : Header) (has : HasUnit shelf u
         stands = opened.stands shelf closed.rows is closed.stands;
         closed = λ unchanged. record {
           header = header;
-          accepted = ap look_of (sym (accepted_there (unit_file shelf u) header is)) ∙ is;
+          accepted = accepted_looks (content (unit_file shelf u)) header (ap look_of (sym (accepted_there (unit_file shelf u) header is)) ∙ is);
           schema_is = sym opened.schema_is;
           stands = closed.stands;
         };

@@ -40,8 +40,9 @@ pub use Rattle.open_file.specs.Stands.{Stands}
 pub use Rattle.open_file.specs.declared.open_file.OpenFile.{OpenFile}
 pub use Rattle.shelf_file.proofs.AcceptedLemmas.{reads_back}
 pub use Rattle.shelf_file.specs.Calls.{OnlyReadsFile}
-pub use Rattle.shelf_file.specs.Named.{StandsIn, look_of, named_by, named_of}
-pub use Rattle.shelf_file.specs.Shelves.{AreClosed, ClosedFileOrRefused, Closes}
+pub use Rattle.shelf_file.specs.ClosedFile.{StandsIn, AreClosed}
+pub use Rattle.shelf_file.specs.Named.{look_of, named_by, named_of}
+pub use Rattle.shelf_file.specs.Shelves.{ClosedFileOrRefused, Closes}
 pub use Rattle.shelf_file.specs.Standing.{HasLimits, IsReady, StandsFor, file_read_off, is_broken_file}
 pub use Rattle.shelf_file.specs.Standing.{live_of, pages_behind, parts_of, room_in, schema_behind}
 pub use Rattle.shelf_file.specs.declared.look.Look.{Look}

@@ -9,7 +9,8 @@ use Rattle.page_store.specs.Moments.{Throughout}
 use Rattle.page_store.specs.ShelfState.{ShelfState}
 use Rattle.file_header.specs.declared.header.Header.{Header}
 use Rattle.shelf_file.specs.declared.look.Look.TheVariants.{Accepted}
-use Rattle.shelf_file.specs.Named.{look_of, named_of, StandsIn}
+use Rattle.shelf_file.specs.ClosedFile.{StandsIn}
+use Rattle.shelf_file.specs.Named.{look_of, named_of}
 
 -- there is no file, or its first page is refused, as that of a file whose gate is open; or its gate
 -- is closed, and it stands for rows

@@ -40,11 +40,8 @@ closed_file : (bytes : DeviceFile) (header : Header) → look_of bytes.seen ≡ 
 closed_file bytes header is truly =
     let there = accepted_there bytes header is in
     let back = reads_back header (content bytes) truly.rows (ap look_of (sym there) ∙ is) truly.stands in
-    let schema = truly.stands.by_header.header_is.schema_is in
-    let sound : IsTrue (is_file header.schema truly.rows) =
-    subst (λ (s : Schema). IsTrue (is_file s truly.rows)) schema truly.stands.stands.sound in
     subst (λ (named : Named). IsTrue (is_sound_named named))
-    (sym (accepted_named bytes header is ∙ ap (Closed header.schema) back)) sound
+    (sym (accepted_named bytes header is ∙ ap (Closed header.schema) back)) truly.stands.pages.sound
 
 named_files : (bytes : DeviceFile) → ((header : Header) → look_of bytes.seen ≡ Accepted header
     → IsTrulyClosed bytes header) → IsTrue (is_sound_named (named_of bytes.seen))

@@ -14,8 +14,9 @@ use Rattle.deck_reader.specs.declared.deck.Deck.{Deck}
 use Rattle.file_header.specs.declared.header.Header.{Header}
 use Rattle.shelf_file.specs.declared.look.Look.{Look}
 use Rattle.shelf_file.specs.declared.look.Look.TheVariants.{NoFile, Refused, Accepted}
-use Rattle.shelf_file.specs.Named.{look_of, look_by, named_of, named_by, StandsIn}
-use Rattle.shelf_file.proofs.AcceptedLemmas.{reads_back, named_by_header}
+use Rattle.shelf_file.specs.ClosedFile.{IsAcceptedBy, StandsIn}
+use Rattle.shelf_file.specs.Named.{look_of, look_by, named_of, named_by}
+use Rattle.shelf_file.proofs.AcceptedLemmas.{looks_accepted, accepted_looks, reads_back, named_by_header}
 use Rattle.shelf_library.specs.Truth.{IsShownTruly, IsTrulyClosed}
 use Rattle.shelf_library.specs.Units.{world_of}
 use Rattle.shelf_library.specs.WorldLaws.{named_anywhere}
@@ -55,33 +56,6 @@ shown_truly shelf name none sound = record {
 
 -- ---- what bytes represent
 
-refused_named : (c : Option (List ℕ)) → look_of c ≡ Refused → named_of c ≡ Unsound
-refused_named None is = absurd (cc)
-refused_named (Some bytes) is = ap (named_by bytes) is
-
--- what represents something reads as that
-pub named_is : (c : Option (List ℕ)) (named : Named) → Represents c named → named_of c ≡ named
-named_is c Absent is = ap named_of is
-named_is c (Closed schema file) is =
-    let closed = is.2 in
-    ap named_of is.1 ∙ named_by_header is.0 closed.header closed.accepted
-    ∙ ap (Closed closed.header.schema) (reads_back closed.header is.0 file closed.accepted closed.stands)
-    ∙ ap (λ (schema : Schema). Closed schema file) closed.schema_is
-named_is c Unsound is = refused_named c is
-
--- and is sound
-pub sound_of : (c : Option (List ℕ)) (named : Named) → Represents c named → IsSoundImage c
-sound_of c Absent is = λ header accepted. let e : NoFile ≡ Accepted header = sym (ap look_of is) ∙ accepted in absurd (cc)
-sound_of c (Closed schema file) is = λ header accepted.
-    let closed = is.2 in
-    let e : Accepted closed.header ≡ Accepted header = sym closed.accepted ∙ ap look_of (sym is.1) ∙ accepted in
-    let same : closed.header ≡ header = cc in (
-      file,
-      subst (λ (h : Header). StandsIn h (bytes_or_none c) file) same
-          (subst (λ (bytes : List ℕ). StandsIn closed.header bytes file) (ap bytes_or_none (sym is.1)) closed.stands),
-    )
-sound_of c Unsound is = λ header accepted. let e : Refused ≡ Accepted header = sym is ∙ accepted in absurd (cc)
-
 look_there : (bytes : List ℕ) (header : Option Header) → look_by bytes header ≡ NoFile → ⊥
 look_there bytes None is = absurd (cc)
 look_there bytes (Some header) is =
@@ -95,17 +69,58 @@ file_there bytes is =
     (λ short. let e : Refused ≡ NoFile = rw short at is in absurd (cc))
     (λ long. look_there bytes (header_in (page_of_bytes bytes 0)) (rw long at is))
 
+-- bytes that begin with the first page of no closed file are refused
+refused_by : (bytes : List ℕ) (look : Look) → look_of (Some bytes) ≡ look → ((header : Header) → IsAcceptedBy header bytes → ⊥) → look ≡ Refused
+refused_by bytes NoFile is none = absurd (file_there bytes is)
+refused_by bytes Refused is none = refl
+refused_by bytes (Accepted header) is none = absurd (none header (accepted_looks bytes header is))
+
+refused_look : (c : Option (List ℕ)) → Represents c Unsound → look_of c ≡ Refused
+refused_look c is = ap look_of is.1 ∙ refused_by is.0 (look_of (Some is.0)) refl is.2
+
+refused_named : (c : Option (List ℕ)) → look_of c ≡ Refused → named_of c ≡ Unsound
+refused_named None is = absurd (cc)
+refused_named (Some bytes) is = ap (named_by bytes) is
+
+-- what represents something reads as that
+pub named_is : (c : Option (List ℕ)) (named : Named) → Represents c named → named_of c ≡ named
+named_is c Absent is = ap named_of is
+named_is c (Closed schema file) is =
+    let closed = is.2 in
+    let accepted = looks_accepted is.0 closed.header closed.accepted in
+    ap named_of is.1 ∙ named_by_header is.0 closed.header accepted
+    ∙ ap (Closed closed.header.schema) (reads_back closed.header is.0 file accepted closed.stands)
+    ∙ ap (λ (schema : Schema). Closed schema file) closed.schema_is
+named_is c Unsound is = refused_named c (refused_look c is)
+
+-- and is sound
+pub sound_of : (c : Option (List ℕ)) (named : Named) → Represents c named → IsSoundImage c
+sound_of c Absent is = λ header accepted. let e : NoFile ≡ Accepted header = sym (ap look_of is) ∙ accepted in absurd (cc)
+sound_of c (Closed schema file) is = λ header accepted.
+    let closed = is.2 in
+    let e : Accepted closed.header ≡ Accepted header = sym (looks_accepted is.0 closed.header closed.accepted) ∙ ap look_of (sym is.1) ∙ accepted in
+    let same : closed.header ≡ header = cc in (
+      file,
+      subst (λ (h : Header). StandsIn h (bytes_or_none c) file) same
+          (subst (λ (bytes : List ℕ). StandsIn closed.header bytes file) (ap bytes_or_none (sym is.1)) closed.stands),
+    )
+sound_of c Unsound is = λ header accepted. let e : Refused ≡ Accepted header = sym (refused_look c is) ∙ accepted in absurd (cc)
+
 represents_look : (bytes : List ℕ) (look : Look) → look_of (Some bytes) ≡ look → IsSoundImage (Some bytes) → Represents (Some bytes) (named_by bytes look)
 represents_look bytes NoFile is sound = absurd (file_there bytes is)
-represents_look bytes Refused is sound = is
+represents_look bytes Refused is sound = (
+  bytes,
+  refl,
+  λ header accepted. let e : Refused ≡ Accepted header = sym is ∙ looks_accepted bytes header accepted in absurd (cc),
+)
 represents_look bytes (Accepted header) is sound =
     let rows = sound header is in (
       bytes,
       refl,
       record {
         header = header;
-        accepted = is;
         schema_is = refl;
+        accepted = accepted_looks bytes header is;
         stands = subst (λ (file : File). StandsIn header bytes file) (sym (reads_back header bytes rows.0 is rows.1)) rows.1;
       },
     )

@@ -7,9 +7,9 @@ use Rattle.page_store.specs.Moments.{Throughout}
 use Rattle.page_store.specs.ShelfState.{ShelfState}
 use Rattle.file_control.specs.Described.{file_names}
 use Rattle.deck_reader.specs.declared.deck.Deck.{Deck}
-use Rattle.shelf_file.specs.declared.look.Look.TheVariants.{Refused}
-use Rattle.shelf_file.specs.Named.{look_of, named_of}
-use Rattle.shelf_file.specs.Shelves.{AreClosed}
+use Rattle.file_header.specs.declared.header.Header.{Header}
+use Rattle.shelf_file.specs.ClosedFile.{IsAcceptedBy, AreClosed}
+use Rattle.shelf_file.specs.Named.{named_of}
 use Rattle.shelf_library.specs.Crashes.{IsSoundImage}
 
 -- what a read gives of the file of each name
@@ -20,12 +20,13 @@ abbrev pub reads_of : ShelfState → FileReads
 reads_of shelf name = (shelf.file name).seen
 
 -- what a read gives of a file represents this: there is no file; its gate is closed, and its pages
--- stand for exactly these rows of this schema; or its first page is refused, as that of a file
--- whose gate is open
+-- stand for exactly these rows of this schema; or it is refused: it begins with the first page of no
+-- closed file, as where its gate is open, or has fewer pages than that counts
 abbrev pub Represents : Option (List ℕ) → Named → Type 0
 Represents c Absent = c ≡ None
 Represents c (Closed schema file) = (bytes : List ℕ) × (c ≡ Some bytes) × AreClosed schema file bytes
-Represents c Unsound = look_of c ≡ Refused
+Represents c Unsound =
+    (bytes : List ℕ) × (c ≡ Some bytes) × ((header : Header) → IsAcceptedBy header bytes → ⊥)
 
 -- each of the deck's files represents what its name stands for in this world
 abbrev pub AreIn : World → FileReads → Deck → Type 0

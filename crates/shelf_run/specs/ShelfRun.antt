@@ -76,8 +76,7 @@ abbrev pub IsExactRun : List ℕ → (old new : ShelfState) → (written written
     → RunEnd → Type 0
 IsExactRun bytes old new written written_after end =
     (deck : Deck) × IsDeck bytes deck × (IsTrue new.is_honest → (world : World)
-    → AreIn world (reads_of old) deck
-    → RunsFrom world old new written written_after end deck)
+    → AreIn world (reads_of old) deck → RunsFrom world old new written written_after end deck)
 
 -- nothing has come of a call: every name stands for what it stood for, and what a crash may leave
 -- is as it was

@@ -23,6 +23,5 @@ left_of (first ∷ names) (file ∷ files) before name =
 abbrev pub world_after : World → Deck → World
 world_after world deck = record {
   units = [];
-  elsewhere = left_of (file_names deck.files)
-      (run_from world deck).files (named_in world);
+  elsewhere = left_of (file_names deck.files) (run_from world deck).files (named_in world);
 }

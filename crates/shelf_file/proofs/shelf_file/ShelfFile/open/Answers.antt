@@ -5,7 +5,8 @@ use Rattle.page_alloc.specs.Joining.{pages_counted, pages_free, page_limit}
 use Rattle.open_file.specs.Stands.{Stands}
 use Rattle.open_file.specs.ReadOff.{file_off}
 use Rattle.open_file.proofs.HeaderLemmas.{read_back}
-use Rattle.shelf_file.specs.Named.{live_in}
+use Rattle.open_file.proofs.ClosedLemmas.{opened_by, is_opened, opened_stands}
+use Rattle.shelf_file.specs.ClosedFile.{live_in}
 use Rattle.shelf_file.proofs.LookLemmas.{accepted_pages}
 use Rattle.shelf_file.proofs.OpeningLemmas.{opened_free, opened_live}
 use Rattle.shelf_file.proofs.ReadOffLemmas.{reads_by_header}
@@ -33,14 +34,18 @@ returns c =
         reads = λ shelf accepted.
             ap (file_off opened) (opened_live pages shelf unit c.args.limit header pager held.store (held.pages shelf))
             ∙ reads_by_header opened header (live_in header (content (unit_file shelf unit))) c.requires.header c.from_header.ensures;
-        stands = λ shelf file accepted is. record {
-          stands = subst (λ live. Stands opened live file)
-              (sym (opened_live pages shelf unit c.args.limit header pager held.store (held.pages shelf)))
-              (read_back is.opened opened header (live_in header (content (unit_file shelf unit))) file
-              is.stands is.by_header.shaped is.by_header.header_is c.from_header.ensures);
-          sound = subst (λ free. IsSome free)
-              (sym (opened_free pages shelf unit c.args.limit header pager held.store (held.pages shelf))) is.sound;
-        };
+        stands = λ shelf file accepted is.
+            let live = live_in header (content (unit_file shelf unit)) in
+            let before = opened_by header live file c.requires.header is.pages in
+            let by = is_opened header live file c.requires.header is.pages in
+            record {
+              stands = subst (λ live. Stands opened live file)
+                  (sym (opened_live pages shelf unit c.args.limit header pager held.store (held.pages shelf)))
+                  (read_back before opened header live file (opened_stands header live file c.requires.header is.pages)
+                  by.shaped by.header_is c.from_header.ensures);
+              sound = subst (λ free. IsSome free)
+                  (sym (opened_free pages shelf unit c.args.limit header pager held.store (held.pages shelf))) is.free;
+            };
       };
       counts = (ap pages_counted pager, ap pages_free pager);
       limits = record { limit = ap page_limit pager; cap = held.frames };
