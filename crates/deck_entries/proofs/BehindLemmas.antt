@@ -1,30 +1,23 @@
 -- An entry behind earlier ones is one of eight, and none of those has its file name.
-use Rattle.std.proofs.Common.{◌≡◌, ℕ, ◌<◌, Bool, true, false, cond, List, length, Some, None, refl, sym, ap, subst, ◌∙◌, arith}
+use Rattle.std.proofs.Common.{◌≡◌, ℕ, ◌<◌, Bool, true, false, not, ◌&&◌, cond, List, length, Some, None, refl, sym, ap, subst, ◌∙◌, arith}
 use Rattle.std.specs.Prelude.{nat_lt}
 use Rattle.std.proofs.lemmas.Bool.Decides.{nat_tests}
 use Rattle.std.proofs.lemmas.Option.{same_Some}
+use Rattle.io_state.specs.FileName.{is_file_name}
 use Rattle.deck_entries.specs.FileControlEntry.{Clauses}
 use Rattle.deck_entries.specs.FileControlEntry.{FileControlEntry}
 use Rattle.deck_words.specs.Word.{Word}
-use Rattle.deck_entries.specs.FileControlEntry.{control_entry_of, is_assigned, select_word, new_file_name, select_behind}
+use Rattle.deck_entries.specs.FileControlEntry.{control_entry_of, is_assigned, select_behind}
 use Rattle.deck_words.proofs.TestLemmas.{then_some, map_some}
 
 less : (m n : ℕ) → nat_lt m n ≡ true → m < n
 less m n e = grind (arith, nat_tests)
 
--- the word SELECT stands behind seven entries at most
-room_behind : (earlier : List FileControlEntry) (x : Unit {0}) (words rest : List Word) → (select_word earlier).Spells x words rest → length earlier < 8
-unfolding select_word
-room_behind earlier x words rest s = less (length earlier) 8 (then_some (nat_lt (length earlier) 8) (Some tt) x s.1).0
-
-other_taken : {A : Type 0} (b : Bool) (x y : A) → cond b None (Some x) ≡ Some y → (b ≡ false) × (x ≡ y)
-other_taken true x y e = absurd (cc)
-other_taken false x y e = (refl, same_Some x y e)
-
-file_name_apart : (earlier : List FileControlEntry) (text : List ℕ) (words rest : List Word) → (new_file_name earlier).Spells text words rest → is_assigned earlier text ≡ false
-unfolding new_file_name
-file_name_apart earlier text words rest s =
-    let t = other_taken (is_assigned earlier s.0) s.0 text s.1 in subst (λ name. is_assigned earlier name ≡ false) t.1 t.0
+-- a text that is taken where a name is one and is not assigned is not assigned
+not_taken : (a b : Bool) (x y : List ℕ) → cond (a && not b) (Some x) None ≡ Some y → (b ≡ false) × (x ≡ y)
+not_taken true false x y e = (refl, same_Some x y e)
+not_taken true true x y e = absurd (cc)
+not_taken false b x y e = absurd (cc)
 
 -- an entry has the file name that stands in it
 file_name_of : (parts : Bool × (List ℕ × (List ℕ × Clauses))) (entry : FileControlEntry) → control_entry_of parts ≡ Some entry → parts.1.1.0 ≡ entry.file_name
@@ -46,7 +39,8 @@ is_behind earlier entry words rest s =
     let fourth = third.5 in
     let text = fourth.4.5 in
     let name : s.0.1.1.0 ≡ text.1 = ap (λ parts. parts.1.1.0) (first.3 ∙ second.3) ∙ (ap (λ parts. parts.1.0) third.3 ∙ (ap (λ parts. parts.0) fourth.3 ∙ (fourth.4.3 ∙ text.3))) in
+    let taken = not_taken (is_file_name text.5.0) (is_assigned earlier text.5.0) text.5.0 text.1 text.5.1 in
     record {
-      room = room_behind earlier first.0 words first.2 first.4;
-      apart = subst (λ name. is_assigned earlier name ≡ false) (sym name ∙ file_name_of s.0 entry s.1) (file_name_apart earlier text.1 text.2 _ text.5);
+      room = less (length earlier) 8 (then_some (nat_lt (length earlier) 8) (Some first.4.0) first.0 first.4.1).0;
+      apart = subst (λ name. is_assigned earlier name ≡ false) (taken.1 ∙ (sym name ∙ file_name_of s.0 entry s.1)) taken.0;
     }

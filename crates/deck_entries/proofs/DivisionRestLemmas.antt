@@ -1,15 +1,16 @@
 -- The words behind the divisions are the last words of the deck.
-use Rattle.std.proofs.Common.{◌≡◌, ℕ, ◌≤◌, ◌-◌, List, length, drop, sym, ap, ◌∙◌, arith}
+use Rattle.std.proofs.Common.{◌≡◌, ℕ, ◌≤◌, ◌-◌, List, [], length, drop, sym, ap, ◌∙◌, arith}
 use Rattle.std.proofs.Math.Seq.{drop-append_seam}
 use Rattle.std.proofs.lemmas.List.{length-append, length-drop}
-use Rattle.deck_entries.specs.FileControlEntry.{FileControlEntry}
+use Rattle.deck_entries.specs.FileControlEntry.{FileControlEntry, select_behind}
+use Rattle.deck_words.specs.Rule.{each_behind, where_it_gives}
 use Rattle.deck_words.specs.Word.{Word}
 use Rattle.deck_words.proofs.RestLemmas.{LeavesRest, EndsWith, end_of_end, rest_each, rest_as, steps}
 use Rattle.deck_entries.proofs.EntryRestLemmas.{rest_select_behind}
 use Rattle.deck_words.specs.Operand.{digits}
 use Rattle.deck_entries.specs.declared.divisions.Divisions.{Divisions}
-use Rattle.deck_entries.specs.FileDescription.{count, level, label, up_to, block, fixed, varying, length_clause, record_clause, description_clause, item_name, may_item_name, picture_clause, item, FileDescription, described_name, description_behind, storage_item}
-use Rattle.deck_entries.specs.Divisions.{identification, may_identification, more_entry, entries, file_control_paragraph, more_description, descriptions, file_section, storage_section, data_division, SpellsDivisions}
+use Rattle.deck_entries.specs.FileDescription.{count, length_clause, description_clause, picture_clause, item, FileDescription, description_behind, storage_item, with_one}
+use Rattle.deck_entries.specs.Divisions.{more_entry, file_control_paragraph, more_description, data_division, SpellsDivisions}
 
 -- ---- file control
 
@@ -17,18 +18,18 @@ rest_more_entry : (earlier : List FileControlEntry) → LeavesRest (more_entry e
 unfolding more_entry
 rest_more_entry earlier = rest_as _ _ (rest_select_behind earlier)
 
-rest_entries : LeavesRest entries
-unfolding entries
+rest_entries : LeavesRest (each_behind (λ earlier. where_it_gives (with_one earlier) (select_behind earlier)) [])
+unfolding more_entry
 rest_entries = rest_each more_entry rest_more_entry _
 
 rest_file_control : LeavesRest file_control_paragraph
-unfolding file_control_paragraph may_identification identification
+unfolding file_control_paragraph
 rest_file_control = search (steps, rest_entries) depth 24
 
 -- ---- file descriptions
 
 rest_description_clause : LeavesRest description_clause
-unfolding description_clause label block record_clause length_clause fixed varying up_to count digits
+unfolding description_clause length_clause count digits
 rest_description_clause = search steps depth 24
 
 rest_picture_clause : LeavesRest picture_clause
@@ -36,30 +37,22 @@ unfolding picture_clause
 rest_picture_clause = search steps depth 24
 
 rest_item : LeavesRest item
-unfolding item level item_name may_item_name
+unfolding item
 rest_item = search (steps, rest_picture_clause) depth 24
 
 rest_more_description : (selected : List FileControlEntry) (earlier : List FileDescription) → LeavesRest (more_description selected earlier)
-unfolding more_description description_behind described_name
+unfolding more_description description_behind
 rest_more_description selected earlier = search (steps, rest_description_clause, rest_item) depth 24
 
-rest_descriptions : (selected : List FileControlEntry) → LeavesRest (descriptions selected)
-unfolding descriptions
+rest_descriptions : (selected : List FileControlEntry) → LeavesRest (each_behind (λ earlier. where_it_gives (with_one earlier) (description_behind selected earlier)) [])
+unfolding more_description
 rest_descriptions selected = rest_each (more_description selected) (rest_more_description selected) _
 
 -- ---- data division
 
-rest_file_section : (selected : List FileControlEntry) → LeavesRest (file_section selected)
-unfolding file_section
-rest_file_section selected = search (steps, rest_descriptions) depth 24
-
-rest_storage_section : LeavesRest storage_section
-unfolding storage_section storage_item
-rest_storage_section = search (steps, rest_picture_clause) depth 24
-
 rest_data_division : (selected : List FileControlEntry) → LeavesRest (data_division selected)
-unfolding data_division
-rest_data_division selected = search (steps, rest_file_section, rest_storage_section) depth 24
+unfolding data_division storage_item
+rest_data_division selected = search (steps, rest_descriptions, rest_picture_clause) depth 24
 
 -- ---- both
 

@@ -8,11 +8,12 @@ use Rattle.std.proofs.lemmas.Map.Keys.{IsDistinct-push}
 use Rattle.std.proofs.lemmas.Option.{same_Some}
 use Rattle.deck_entries.specs.FileControlEntry.{FileControlEntry}
 use Rattle.deck_words.specs.Word.{Word}
+use Rattle.deck_words.specs.Rule.{each_behind}
 use Rattle.deck_entries.specs.FileControlEntry.{is_assigned}
 use Rattle.deck_words.proofs.TestLemmas.{neither_true}
 use Rattle.deck_entries.proofs.BehindLemmas.{is_behind}
 use Rattle.deck_words.proofs.TurnLemmas.{kept_by_turns}
-use Rattle.deck_entries.specs.Divisions.{more_entry, entries, file_control_paragraph}
+use Rattle.deck_entries.specs.Divisions.{more_entry, file_control_paragraph}
 
 abbrev pub assigned : List FileControlEntry → List (List ℕ)
 assigned entries = map (λ entry. entry.file_name) entries
@@ -42,12 +43,11 @@ no_entries : AreEntries []
 unfolding IsDistinct
 no_entries = record { few = omega arith; distinct = tt }
 
-all_entries : (all : List FileControlEntry) (words rest : List Word) → entries.Spells all words rest → AreEntries all
-unfolding entries
+all_entries : (all : List FileControlEntry) (words rest : List Word) → (each_behind more_entry []).Spells all words rest → AreEntries all
 all_entries all words rest s = kept_by_turns AreEntries more_entry one_more [] (s.0 ∷ s.1) all words rest no_entries s.2
 
 pub are_entries : (all : List FileControlEntry) (words rest : List Word) → file_control_paragraph.Spells all words rest → AreEntries all
-unfolding file_control_paragraph
+unfolding file_control_paragraph more_entry
 are_entries all words rest s =
     let division = s.5 in
     let section = division.5 in

@@ -15,53 +15,28 @@ use Rattle.deck_entries.specs.FileDescription.{storage_item, with_one}
 abbrev pub division_heading : List ℕ → List ℕ → Rule (Unit {0})
 division_heading first second = the first ▸ the second ▸ period
 
--- IDENTIFICATION DIVISION . PROGRAM-ID . name .
-unfoldable pub identification : Rule (Unit {0})
-identification = division_heading (codes "IDENTIFICATION") (codes "DIVISION") ▸ the
-    (codes "PROGRAM-ID") ▸ period ▸ name ▸ period
-
-unfoldable pub may_identification : Rule (Unit {0})
-may_identification = (λ _. tt) <$> optional identification
-
 -- ---- file control
 
--- the earlier entries, and one more
-unfoldable pub more_entry : List FileControlEntry → Rule (List FileControlEntry)
-more_entry earlier = where_it_gives (with_one earlier) (select_behind earlier)
-
-unfoldable pub entries : Rule (List FileControlEntry)
-entries = each_behind more_entry []
-
--- [IDENTIFICATION ..] ENVIRONMENT DIVISION . INPUT-OUTPUT SECTION . FILE-CONTROL . {select}..
+-- [IDENTIFICATION DIVISION . PROGRAM-ID . name .]
+-- ENVIRONMENT DIVISION . INPUT-OUTPUT SECTION . FILE-CONTROL . {select}..
 unfoldable pub file_control_paragraph : Rule (List FileControlEntry)
 file_control_paragraph =
-    may_identification ▸ division_heading (codes "ENVIRONMENT") (codes "DIVISION")
-    ▸ division_heading (codes "INPUT-OUTPUT")
-    (codes "SECTION")
-    ▸ the (codes "FILE-CONTROL") ▸ period ▸ entries
+    optional (division_heading (codes "IDENTIFICATION") (codes "DIVISION")
+    ▸ the (codes "PROGRAM-ID") ▸ period ▸ name ▸ period)
+    ▸ division_heading (codes "ENVIRONMENT") (codes "DIVISION")
+    ▸ division_heading (codes "INPUT-OUTPUT") (codes "SECTION")
+    ▸ the (codes "FILE-CONTROL") ▸ period
+    ▸ each_behind (λ earlier. where_it_gives (with_one earlier) (select_behind earlier)) []
 
 -- ---- data division
 
--- the earlier descriptions, and one more
-unfoldable pub more_description : List FileControlEntry → List FileDescription → Rule (List FileDescription)
-more_description selected earlier = where_it_gives (with_one earlier) (description_behind selected earlier)
-
-unfoldable pub descriptions : List FileControlEntry → Rule (List FileDescription)
-descriptions selected = each_behind (more_description selected) []
-
--- DATA DIVISION . FILE SECTION . {fd}..
-unfoldable pub file_section : List FileControlEntry → Rule (List FileDescription)
-file_section selected =
-    division_heading (codes "DATA") (codes "DIVISION") ▸ division_heading (codes "FILE")
-    (codes "SECTION") ▸ descriptions selected
-
--- [WORKING-STORAGE SECTION . {77 item}..?]
-unfoldable pub storage_section : Rule (List StorageEntry)
-storage_section = (λ said. unwrap_or said []) <$> optional
-    (division_heading (codes "WORKING-STORAGE") (codes "SECTION") ▸ onto with_one [] storage_item)
-
+-- DATA DIVISION . FILE SECTION . {fd}.. [WORKING-STORAGE SECTION . {77 item}..?]
 unfoldable pub data_division : List FileControlEntry → Rule (List FileDescription × List StorageEntry)
-data_division selected = file_section selected ⊗ storage_section
+data_division selected =
+    (division_heading (codes "DATA") (codes "DIVISION") ▸ division_heading (codes "FILE") (codes "SECTION")
+    ▸ each_behind (λ earlier. where_it_gives (with_one earlier) (description_behind selected earlier)) [])
+    ⊗ ((λ said. unwrap_or said []) <$> optional
+    (division_heading (codes "WORKING-STORAGE") (codes "SECTION") ▸ onto with_one [] storage_item))
 
 -- ---- both
 
@@ -82,3 +57,18 @@ reads_divisions words =
       },
       b.1,
     )) ((data_division a.0).reads a.1)) (file_control_paragraph.reads words)
+
+-- ---- parts of these rules, for the contracts of the functions that read them
+
+-- the earlier entries, and one more
+unfoldable pub more_entry : List FileControlEntry → Rule (List FileControlEntry)
+more_entry earlier = where_it_gives (with_one earlier) (select_behind earlier)
+
+-- the earlier descriptions, and one more
+unfoldable pub more_description : List FileControlEntry → List FileDescription → Rule (List FileDescription)
+more_description selected earlier = where_it_gives (with_one earlier) (description_behind selected earlier)
+
+-- [WORKING-STORAGE SECTION . {77 item}..?]
+unfoldable pub storage_section : Rule (List StorageEntry)
+storage_section = (λ said. unwrap_or said []) <$> optional
+    (division_heading (codes "WORKING-STORAGE") (codes "SECTION") ▸ onto with_one [] storage_item)

@@ -3,7 +3,8 @@ ghost use Rattle.std.specs.Prelude.{◌≡◌};
 ghost use Rattle.deck_words.specs.Class.{begins};
 ghost use Rattle.deck_words.specs.Rule.{onto};
 ghost use Rattle.deck_words.specs.Reading.{Reads};
-ghost use Rattle.deck_entries.specs.FileDescription.{label, block, up_to, record_clause, description_clause};
+ghost use Rattle.deck_entries.specs.FileDescription.{label as label_clause, block as block_clause};
+ghost use Rattle.deck_entries.specs.FileDescription.{record_clause, description_clause};
 ghost use Rattle.deck_entries.specs.FileDescription.{no_clauses, with_clause, added_to};
 
 use crate::record_length::{RecordLength, count, length_clause};
@@ -20,7 +21,7 @@ pub struct Clauses {
 
 #[tactic(auto, unfolding(crate::specs::FileDescription::label), using(deck_words::proofs::RepeatLemmas::never_added))]
 fn label(parser: &mut Parser<'_>, clauses: Clauses) -> Result<Clauses, Refusal>
-    ensures { Reads ((added_to clauses label).reads parser.old) result parser.new }
+    ensures { Reads ((added_to clauses label_clause).reads parser.old) result parser.new }
 {
     if clauses.label {
         return Err(parser.fault(Cause::Twice));
@@ -34,20 +35,9 @@ fn label(parser: &mut Parser<'_>, clauses: Clauses) -> Result<Clauses, Refusal>
     Ok(clauses)
 }
 
-/// TO and a number, if TO is next.
-#[tactic(auto, unfolding(crate::specs::FileDescription::up_to, deck_words::specs::Notation::the))]
-fn up_to(parser: &mut Parser<'_>) -> Result<(), Refusal>
-    ensures { Reads (up_to.reads parser.old) result parser.new }
-{
-    if parser.eat(b"TO") {
-        count(parser)?;
-    }
-    Ok(())
-}
-
-#[tactic(auto, unfolding(crate::specs::FileDescription::block), using(deck_words::proofs::RepeatLemmas::never_added))]
+#[tactic(auto, unfolding(crate::specs::FileDescription::block, deck_words::specs::Notation::the), using(deck_words::proofs::RepeatLemmas::never_added))]
 fn block(parser: &mut Parser<'_>, clauses: Clauses) -> Result<Clauses, Refusal>
-    ensures { Reads ((added_to clauses block).reads parser.old) result parser.new }
+    ensures { Reads ((added_to clauses block_clause).reads parser.old) result parser.new }
 {
     if clauses.block {
         return Err(parser.fault(Cause::Twice));
@@ -55,7 +45,9 @@ fn block(parser: &mut Parser<'_>, clauses: Clauses) -> Result<Clauses, Refusal>
     parser.expect(b"BLOCK")?;
     parser.eat(b"CONTAINS");
     count(parser)?;
-    up_to(parser)?;
+    if parser.eat(b"TO") {
+        count(parser)?;
+    }
     eat_one(parser, b"RECORDS", b"CHARACTERS")?;
     let mut clauses = clauses;
     clauses.block = true;
@@ -76,14 +68,13 @@ fn record_clause(parser: &mut Parser<'_>, clauses: Clauses) -> Result<Clauses, R
 }
 
 /// Whether a clause comes next.
-#[tactic(auto, unfolding(crate::specs::FileDescription::description_clause, crate::specs::FileDescription::label, crate::specs::FileDescription::block, crate::specs::FileDescription::record_clause, deck_words::specs::Notation::the))]
+#[tactic(auto, unfolding(crate::specs::FileDescription::description_clause, deck_words::specs::Notation::the))]
 fn sees_clause(parser: &Parser<'_>) -> bool
     ensures { result ≡ begins description_clause.starts parser.now }
 {
     parser.sees_one_of(&[b"LABEL", b"BLOCK", b"RECORD"])
 }
 
-#[tactic(auto, unfolding(crate::specs::FileDescription::description_clause, crate::specs::FileDescription::label, crate::specs::FileDescription::block, deck_words::specs::Notation::the))]
 fn clause(parser: &mut Parser<'_>, clauses: Clauses) -> Result<Clauses, Refusal>
     ensures { Reads ((added_to clauses description_clause).reads parser.old) result parser.new }
 {

@@ -1,9 +1,10 @@
 //! A file description: FD, its clauses, and the items of the records.
-ghost use Rattle.std.specs.Prelude.{◌≡◌};
+ghost use Rattle.std.specs.Prelude.{◌≡◌, []};
 ghost use Rattle.deck_words.specs.Class.{begins};
+ghost use Rattle.deck_words.specs.Rule.{each_behind};
 ghost use Rattle.deck_words.specs.Reading.{Reads, ReadsAs};
 ghost use Rattle.deck_entries.specs.FileDescription.{is_described, described_name, description_behind};
-ghost use Rattle.deck_entries.specs.Divisions.{more_description, descriptions};
+ghost use Rattle.deck_entries.specs.Divisions.{more_description};
 
 use crate::clauses::{Clauses, read_clauses};
 use crate::entry::Selected;
@@ -121,7 +122,7 @@ fn described_name(
     Ok(name)
 }
 
-#[tactic(auto, unfolding(crate::specs::FileDescription::description_behind))]
+#[tactic(auto, unfolding(crate::specs::FileDescription::description_behind, crate::specs::FileDescription::described_name))]
 fn description(
     parser: &mut Parser<'_>,
     alloc: Global,
@@ -174,13 +175,12 @@ fn sees_description(parser: &Parser<'_>, entries: &[Selected], earlier: &Descrip
 }
 
 /// One description or more, each of an entry that has none yet.
-#[tactic(auto, unfolding(crate::specs::Divisions::descriptions))]
 pub fn read_descriptions(
     parser: &mut Parser<'_>,
     alloc: Global,
     entries: &[Selected],
 ) -> Result<Descriptions, Refusal>
-    ensures { Reads ((descriptions entries.now).reads parser.old) result parser.new }
+    ensures { Reads ((each_behind (more_description entries.now) []).reads parser.old) result parser.new }
 {
     let mut read = one_more(parser, alloc, entries, Descriptions::new(alloc))?;
     'more: while sees_description(parser, entries, &read) {

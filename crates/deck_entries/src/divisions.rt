@@ -1,9 +1,11 @@
 //! The divisions before the procedure.
-ghost use Rattle.std.specs.Prelude.{◌≡◌};
+ghost use Rattle.std.specs.Prelude.{◌≡◌, [], codes};
 ghost use Rattle.deck_words.specs.Class.{begins};
-ghost use Rattle.deck_words.specs.Reading.{Reads};
-ghost use Rattle.deck_entries.specs.Divisions.{identification, may_identification, more_entry, entries};
-ghost use Rattle.deck_entries.specs.Divisions.{file_control_paragraph, file_section, reads_divisions};
+ghost use Rattle.deck_words.specs.Rule.{optional, each_behind};
+ghost use Rattle.deck_words.specs.Notation.{the, name, period, ◌▸◌, eaten};
+ghost use Rattle.deck_words.specs.Reading.{Reads, ReadsAs};
+ghost use Rattle.deck_entries.specs.Divisions.{division_heading, more_entry};
+ghost use Rattle.deck_entries.specs.Divisions.{file_control_paragraph, reads_divisions};
 
 use crate::description_entry::{Descriptions, read_descriptions};
 use crate::entry::Selected;
@@ -63,25 +65,21 @@ impl Entries {
     }
 }
 
-#[tactic(auto, unfolding(crate::specs::Divisions::identification, deck_words::specs::Notation::name))]
-fn identification(parser: &mut Parser<'_>) -> Result<(), Refusal>
-    ensures { Reads (identification.reads parser.old) result parser.new }
-{
-    heading(parser, b"IDENTIFICATION", b"DIVISION")?;
-    parser.expect(b"PROGRAM-ID")?;
-    parser.period()?;
-    parser.name()?;
-    parser.period()
-}
-
-#[tactic(auto, unfolding(crate::specs::Divisions::may_identification, crate::specs::Divisions::identification, deck_words::specs::Notation::the))]
-fn may_identification(parser: &mut Parser<'_>) -> Result<(), Refusal>
-    ensures { Reads (may_identification.reads parser.old) result parser.new }
+/// The identification division, if it comes next: whether it did.
+#[tactic(auto, unfolding(deck_words::specs::Notation::the, deck_words::specs::Notation::name))]
+fn may_identification(parser: &mut Parser<'_>) -> Result<bool, Refusal>
+    ensures { ReadsAs eaten (optional (division_heading (codes "IDENTIFICATION") (codes "DIVISION")
+        ▸ the (codes "PROGRAM-ID") ▸ period ▸ name ▸ period)) parser.old result parser.new }
 {
     if parser.sees(b"IDENTIFICATION") {
-        identification(parser)?;
+        heading(parser, b"IDENTIFICATION", b"DIVISION")?;
+        parser.expect(b"PROGRAM-ID")?;
+        parser.period()?;
+        parser.name()?;
+        parser.period()?;
+        return Ok(true);
     }
-    Ok(())
+    Ok(false)
 }
 
 /// The entries with the next one.
@@ -96,7 +94,7 @@ fn one_more(parser: &mut Parser<'_>, alloc: Global, earlier: Entries) -> Result<
 }
 
 /// Whether an entry comes next.
-#[tactic(auto, unfolding(crate::specs::Divisions::more_entry, crate::specs::FileControlEntry::select_behind, crate::specs::FileControlEntry::select_word, deck_words::specs::Notation::the))]
+#[tactic(auto, unfolding(crate::specs::Divisions::more_entry, crate::specs::FileControlEntry::select_behind, deck_words::specs::Notation::the))]
 fn sees_entry(parser: &Parser<'_>, earlier: &Entries) -> bool
     ensures { result ≡ begins (more_entry earlier.now).starts parser.now }
 {
@@ -104,9 +102,8 @@ fn sees_entry(parser: &Parser<'_>, earlier: &Entries) -> bool
 }
 
 /// One entry or more.
-#[tactic(auto, unfolding(crate::specs::Divisions::entries))]
 fn read_entries(parser: &mut Parser<'_>, alloc: Global) -> Result<Entries, Refusal>
-    ensures { Reads (entries.reads parser.old) result parser.new }
+    ensures { Reads ((each_behind more_entry []).reads parser.old) result parser.new }
 {
     let mut read = one_more(parser, alloc, Entries::new(alloc))?;
     'more: while sees_entry(parser, &read) {
@@ -116,7 +113,7 @@ fn read_entries(parser: &mut Parser<'_>, alloc: Global) -> Result<Entries, Refus
 }
 
 /// The divisions up to the file control entries.
-#[tactic(auto, unfolding(crate::specs::Divisions::file_control_paragraph))]
+#[tactic(auto, unfolding(crate::specs::Divisions::file_control_paragraph, crate::specs::Divisions::more_entry))]
 fn file_control_paragraph(parser: &mut Parser<'_>, alloc: Global) -> Result<Entries, Refusal>
     ensures { Reads (file_control_paragraph.reads parser.old) result parser.new }
 {
@@ -129,27 +126,15 @@ fn file_control_paragraph(parser: &mut Parser<'_>, alloc: Global) -> Result<Entr
     Ok(read)
 }
 
-/// The file descriptions of these entries.
-#[tactic(auto, unfolding(crate::specs::Divisions::file_section))]
-fn file_section(
-    parser: &mut Parser<'_>,
-    alloc: Global,
-    entries: &[Selected],
-) -> Result<Descriptions, Refusal>
-    ensures { Reads ((file_section entries.now).reads parser.old) result parser.new }
-{
-    heading(parser, b"DATA", b"DIVISION")?;
-    heading(parser, b"FILE", b"SECTION")?;
-    read_descriptions(parser, alloc, entries)
-}
-
 /// The divisions before the procedure.
-#[tactic(auto, unfolding(crate::specs::Divisions::data_division))]
+#[tactic(auto, unfolding(crate::specs::Divisions::data_division, crate::specs::Divisions::more_description, crate::specs::Divisions::storage_section))]
 pub fn read_divisions(parser: &mut Parser<'_>, alloc: Global) -> Result<Divisions, Refusal>
     ensures { Reads (reads_divisions parser.old) result parser.new }
 {
     let entries = file_control_paragraph(parser, alloc)?;
-    let descriptions = file_section(parser, alloc, entries.as_slice())?;
+    heading(parser, b"DATA", b"DIVISION")?;
+    heading(parser, b"FILE", b"SECTION")?;
+    let descriptions = read_descriptions(parser, alloc, entries.as_slice())?;
     let storage = storage_section(parser, alloc)?;
     Ok(Divisions {
         entries,

@@ -123,7 +123,7 @@ fn may_picture_clause(parser: &mut Parser<'_>) -> Result<Option<Name>, Refusal>
     Ok(None)
 }
 
-#[tactic(auto, unfolding(crate::specs::FileDescription::item))]
+#[tactic(auto, unfolding(crate::specs::FileDescription::item, crate::specs::FileDescription::level, crate::specs::FileDescription::may_item_name, crate::specs::FileDescription::item_name))]
 fn item(parser: &mut Parser<'_>) -> Result<Item, Refusal>
     ensures { ReadsAs entry_of_item item parser.old result parser.new }
 {
@@ -139,7 +139,7 @@ fn item(parser: &mut Parser<'_>) -> Result<Item, Refusal>
 }
 
 /// Whether an item comes next.
-#[tactic(auto, unfolding(crate::specs::FileDescription::item, crate::specs::FileDescription::level))]
+#[tactic(auto, unfolding(crate::specs::FileDescription::item))]
 fn sees_item(parser: &Parser<'_>) -> bool
     ensures { result ≡ begins item.starts parser.now }
 {

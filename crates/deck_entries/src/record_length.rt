@@ -3,7 +3,7 @@ ghost use Rattle.std.specs.Prelude.{◌≡◌};
 ghost use Rattle.record_layout.specs.Picture.{number};
 ghost use Rattle.record_layout.specs.Reading.{capped_size};
 ghost use Rattle.deck_words.specs.Reading.{Reads};
-ghost use Rattle.deck_entries.specs.FileDescription.{count, fixed, varying, length_clause};
+ghost use Rattle.deck_entries.specs.FileDescription.{count, length_clause};
 
 use deck_words::{Parser, Refusal};
 use io_state::Name;
@@ -67,20 +67,17 @@ pub fn count(parser: &mut Parser<'_>) -> Result<u64, Refusal>
     Ok(number_of(digits.as_str().as_bytes()))
 }
 
-#[tactic(auto, unfolding(crate::specs::FileDescription::fixed))]
-fn fixed(parser: &mut Parser<'_>) -> Result<RecordLength, Refusal>
-    ensures { Reads (fixed.reads parser.old) result parser.new }
+/// What stands behind RECORD.
+#[tactic(auto, unfolding(crate::specs::FileDescription::length_clause, deck_words::specs::Notation::the))]
+pub fn length_clause(parser: &mut Parser<'_>) -> Result<RecordLength, Refusal>
+    ensures { Reads (length_clause.reads parser.old) result parser.new }
 {
-    parser.eat(b"CONTAINS");
-    let length = count(parser)?;
-    parser.eat(b"CHARACTERS");
-    Ok(RecordLength::Fixed(length))
-}
-
-#[tactic(auto, unfolding(crate::specs::FileDescription::varying))]
-fn varying(parser: &mut Parser<'_>) -> Result<RecordLength, Refusal>
-    ensures { Reads (varying.reads parser.old) result parser.new }
-{
+    if !parser.sees_one_of(&[b"IS", b"VARYING"]) {
+        parser.eat(b"CONTAINS");
+        let length = count(parser)?;
+        parser.eat(b"CHARACTERS");
+        return Ok(RecordLength::Fixed(length));
+    }
     parser.eat(b"IS");
     parser.expect(b"VARYING")?;
     parser.eat(b"IN");
@@ -98,16 +95,4 @@ fn varying(parser: &mut Parser<'_>) -> Result<RecordLength, Refusal>
         greatest,
         item,
     }))
-}
-
-/// What stands behind RECORD.
-#[tactic(auto, unfolding(crate::specs::FileDescription::length_clause, crate::specs::FileDescription::varying, deck_words::specs::Notation::the))]
-pub fn length_clause(parser: &mut Parser<'_>) -> Result<RecordLength, Refusal>
-    ensures { Reads (length_clause.reads parser.old) result parser.new }
-{
-    if parser.sees_one_of(&[b"IS", b"VARYING"]) {
-        varying(parser)
-    } else {
-        fixed(parser)
-    }
 }

@@ -6,7 +6,7 @@ ghost use Rattle.deck_words.specs.Reading.{Reads, ReadsAs};
 ghost use Rattle.deck_entries.specs.FileControlEntry.{indexed, mode, access, record_key};
 ghost use Rattle.deck_entries.specs.FileControlEntry.{duplicates, alternate, status, clause};
 ghost use Rattle.deck_entries.specs.FileControlEntry.{no_clauses, with_clause, added_to, select_behind};
-ghost use Rattle.deck_entries.specs.FileControlEntry.{select_word, new_name, file_name, new_file_name};
+ghost use Rattle.deck_entries.specs.FileControlEntry.{select_word, new_name, new_file_name};
 ghost use Rattle.deck_entries.specs.FileControlEntry.{is_selected, is_assigned};
 
 use crate::entry::{Clauses, Selected};
@@ -128,7 +128,7 @@ fn status(parser: &mut Parser<'_>, clauses: Clauses) -> Result<Clauses, Refusal>
 }
 
 /// Whether a clause comes next.
-#[tactic(auto, unfolding(crate::specs::FileControlEntry::clause, crate::specs::FileControlEntry::indexed, crate::specs::FileControlEntry::access, crate::specs::FileControlEntry::record_key, crate::specs::FileControlEntry::alternate, crate::specs::FileControlEntry::status, deck_words::specs::Notation::the))]
+#[tactic(auto, unfolding(crate::specs::FileControlEntry::clause, deck_words::specs::Notation::the))]
 fn sees_clause(parser: &Parser<'_>) -> bool
     ensures { result ≡ begins clause.starts parser.now }
 {
@@ -172,16 +172,6 @@ fn all_clauses(parser: &mut Parser<'_>, alloc: Global) -> Result<Clauses, Refusa
     Ok(clauses)
 }
 
-/// The literal of ASSIGN.
-#[tactic(auto, unfolding(crate::specs::FileControlEntry::file_name))]
-fn file_name(parser: &mut Parser<'_>, alloc: Global) -> Result<FileName, Refusal>
-    ensures { ReadsAs (λ name. name.bytes) file_name parser.old result parser.new }
-{
-    let not_allowed = parser.fault(Cause::NotAllowed);
-    let text = parser.literal(alloc)?;
-    file_name_of(text.as_slice()).ok_or(not_allowed)
-}
-
 #[tactic(auto, unfolding(crate::specs::FileControlEntry::select_word, deck_words::specs::Notation::the))]
 fn select_word(parser: &mut Parser<'_>, earlier: &[Selected]) -> Result<(), Refusal>
     ensures { Reads ((select_word earlier.now).reads parser.old) result parser.new }
@@ -208,6 +198,7 @@ fn new_name(parser: &mut Parser<'_>, earlier: &[Selected]) -> Result<Name, Refus
     }
 }
 
+/// The literal of ASSIGN.
 #[tactic(auto, unfolding(crate::specs::FileControlEntry::new_file_name))]
 fn new_file_name(
     parser: &mut Parser<'_>,
@@ -216,8 +207,10 @@ fn new_file_name(
 ) -> Result<FileName, Refusal>
     ensures { ReadsAs (λ name. name.bytes) (new_file_name earlier.now) parser.old result parser.new }
 {
+    let not_allowed = parser.fault(Cause::NotAllowed);
     let twice = parser.fault(Cause::Twice);
-    let name = file_name(parser, alloc)?;
+    let text = parser.literal(alloc)?;
+    let name = file_name_of(text.as_slice()).ok_or(not_allowed)?;
     if is_assigned_name(earlier, name.as_str().as_bytes()) {
         Err(twice)
     } else {
@@ -226,7 +219,7 @@ fn new_file_name(
 }
 
 /// Takes an entry behind earlier ones of its deck: it has neither the name nor the file name of one of them.
-#[tactic(auto, unfolding(crate::specs::FileControlEntry::select_behind), using(deck_words::proofs::NotationLemmas::there_eaten))]
+#[tactic(auto, unfolding(crate::specs::FileControlEntry::select_behind, crate::specs::FileControlEntry::select_word, crate::specs::FileControlEntry::new_name, crate::specs::FileControlEntry::new_file_name))]
 pub fn select(
     parser: &mut Parser<'_>,
     alloc: Global,

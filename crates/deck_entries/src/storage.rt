@@ -22,11 +22,11 @@ pub struct StorageItem {
 }
 
 impl Model for StorageItem {
-    ghost use Rattle.deck_entries.specs.FileDescription.{StorageEntry, storage_of};
+    ghost use Rattle.deck_entries.specs.FileDescription.{StorageEntry};
 
     ghost Value = { StorageEntry };
 
-    ghost view = { λ item. storage_of (item.name.bytes, item.picture.bytes) };
+    ghost view = { λ item. record { name = item.name.bytes; picture = item.picture.bytes } };
 }
 
 impl StorageItem {

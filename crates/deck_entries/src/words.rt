@@ -1,7 +1,7 @@
 //! Words that stand for one another.
-ghost use Rattle.deck_words.specs.Notation.{the, ◌∣◌};
-ghost use Rattle.deck_words.specs.Reading.{Reads};
-ghost use Rattle.deck_entries.specs.FileDescription.{may_one};
+ghost use Rattle.deck_words.specs.Rule.{optional};
+ghost use Rattle.deck_words.specs.Notation.{the, ◌∣◌, eaten};
+ghost use Rattle.deck_words.specs.Reading.{Reads, ReadsAs};
 ghost use Rattle.deck_entries.specs.Divisions.{division_heading};
 
 use deck_words::{Parser, Refusal};
@@ -19,13 +19,14 @@ pub fn expect_one(parser: &mut Parser<'_>, first: &[u8], second: &[u8]) -> Resul
 
 /// Takes one of two words if it is next.
 #[tactic(auto, unfolding(deck_words::specs::Notation::the))]
-pub fn eat_one(parser: &mut Parser<'_>, first: &[u8], second: &[u8]) -> Result<(), Refusal>
-    ensures { Reads ((may_one first.now second.now).reads parser.old) result parser.new }
+pub fn eat_one(parser: &mut Parser<'_>, first: &[u8], second: &[u8]) -> Result<bool, Refusal>
+    ensures { ReadsAs eaten (optional (the first.now ∣ the second.now)) parser.old result parser.new }
 {
     if parser.sees_one_of(&[first, second]) {
         expect_one(parser, first, second)?;
+        return Ok(true);
     }
-    Ok(())
+    Ok(false)
 }
 
 /// Takes the heading of a division or section.

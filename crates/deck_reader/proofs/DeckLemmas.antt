@@ -12,7 +12,7 @@ use Rattle.procedure_division.specs.Names.{Names, names_of}
 use Rattle.procedure_division.specs.Procedure.{procedure, IsProcedure}
 use Rattle.procedure_division.specs.OnlyAllowed.{HaveOnlyAllowed}
 use Rattle.deck_reader.specs.declared.deck.Deck.{Deck}
-use Rattle.deck_reader.specs.Deck.{names_in, Spells, CanBeRun}
+use Rattle.deck_reader.specs.Deck.{Spells, CanBeRun}
 
 -- what the words behind a description spell, with the names of these files and items
 abbrev pub SpellsBehind : List Word → List Statement → List FileDesc → List LengthItem → ℕ → Type 0
@@ -44,4 +44,4 @@ pub can_be_run : ((words : List Word) (description : Description) → IsDescript
 can_be_run are_described only_allowed words deck s =
     let of_files = subst (λ files. AreDescribed files s.0.items) (sym s.2) (are_described words s.0 s.1) in
     let described = subst (λ items. AreDescribed deck.files items) (sym s.3) of_files in
-    record { described = described; allowed = only_allowed (names_in deck) deck.statements (drop s.0.words words) described s.4 }
+    record { described = described; allowed = only_allowed (names_of deck.files deck.items) deck.statements (drop s.0.words words) described s.4 }

@@ -7,21 +7,18 @@ use Rattle.deck_words.specs.Words.{HasWords}
 use Rattle.file_control.specs.declared.description.Description.{Description}
 use Rattle.file_control.specs.Whole.{IsDescription}
 use Rattle.file_control.specs.Described.{AreDescribed}
-use Rattle.procedure_division.specs.Names.{Names, names_of}
+use Rattle.procedure_division.specs.Names.{names_of}
 use Rattle.procedure_division.specs.Procedure.{procedure}
 use Rattle.procedure_division.specs.Allowed.{IsAllowed}
 use Rattle.deck_reader.specs.declared.deck.Deck.{Deck}
-
--- what the names of a deck's procedure stand for
-abbrev pub names_in : Deck → Names
-names_in deck = names_of deck.files deck.items
 
 -- the words are a description, and behind it, from the word PROCEDURE to the end, a procedure
 abbrev pub Spells : List Word → Deck → Type 0
 Spells words deck =
     (description : Description) × IsDescription words description
     × (deck.files ≡ description.files) × (deck.items ≡ description.items)
-    × (procedure (names_in deck)).Spells deck.statements (drop description.words words) []
+    × (procedure (record { files = deck.files; items = deck.items })).Spells deck.statements
+    (drop description.words words) []
 
 -- the bytes give words, and these spell the deck
 abbrev pub IsDeck : List ℕ → Deck → Type 0
@@ -30,4 +27,4 @@ IsDeck bytes deck = (words : List Word) × HasWords bytes words × Spells words 
 -- what a run can rely on: the files and items are described, and each statement is allowed
 pub record CanBeRun (deck : Deck) : Type 0 where
   pub described : AreDescribed deck.files deck.items
-  pub allowed : All (IsAllowed (names_in deck)) deck.statements
+  pub allowed : All (IsAllowed (names_of deck.files deck.items)) deck.statements

@@ -1,6 +1,8 @@
 -- No word is of two classes that are apart.
 use Rattle.std.proofs.Common.{◌≡◌, ℕ, Bool, true, false, not, ◌&&◌, ◌||◌, inl, inr, List, [], ◌∷◌, ◌++◌, map, Option, Some, None, refl, sym, ap, ◌∙◌, subst, arith}
+use Rattle.std.specs.Prelude.{length, nat_le, codes}
 use Rattle.std.specs.List.{list_all, list_any}
+use Rattle.std.specs.Str.{bytes_eq}
 use Rattle.std.specs.Char.{is_ascii_digit}
 use Rattle.std.proofs.lemmas.Slice.Eq.{bytes_eq-Decides}
 use Rattle.std.proofs.lemmas.List.Folds.{list_any-append}
@@ -8,12 +10,11 @@ use Rattle.std.proofs.lemmas.Option.{same_Some}
 use Rattle.std.proofs.lemmas.Bool.{false≢true}
 use Rattle.std.proofs.lemmas.Bool.Decides.{nat_tests}
 use Rattle.io_state.specs.FileName.{is_capital}
-use Rattle.deck_words.specs.ByteClass.{is_of_name}
-use Rattle.deck_words.specs.Name.{is_number}
-use Rattle.deck_words.specs.Class.{Texts, Only, Names, Numbers, Levels, Pictures, Any, has_text, only_text, has_capitals, lacks_text, differ, are_texts_apart, Class, is_in, begins, are_classes_apart, all_apart}
+use Rattle.deck_words.specs.Name.{is_name, is_number}
+use Rattle.deck_words.specs.Class.{Class, this, names, numbers, levels, pictures, literals, signs, periods, is_in, begins, kind_of, has_text, only_text, has_capitals, lacks_text, differ, are_texts_apart, are_classes_apart, all_apart}
 use Rattle.deck_words.specs.Word.{Word, WordKind, is_same_kind}
 use Rattle.deck_words.specs.Word as kind
-use Rattle.deck_words.proofs.TestLemmas.{both_true, either_true, neither_true, not_is, and_false}
+use Rattle.deck_words.proofs.TestLemmas.{both_true, either_true, neither_true, not_is}
 
 -- a test of mapped values is a test of the values
 pub any_of_map : {A B : Type 0} (p : B → Bool) (f : A → B) (xs : List A) → list_any p (map f xs) ≡ list_any (λ x. p (f x)) xs
@@ -22,17 +23,19 @@ any_of_map p f (x ∷ xs) = ap (λ v. p (f x) || v) (any_of_map p f xs)
 
 -- ---- texts
 
-only_of : (texts : Texts) (only text : List ℕ) → only_text texts ≡ Some only → has_text texts text ≡ true → text ≡ only
-only_of (Only t) only text e i = sym ((bytes_eq-Decides t text).0 i) ∙ same_Some t only e
-only_of Names only text e i = absurd (cc)
-only_of Numbers only text e i = absurd (cc)
-only_of Levels only text e i = absurd (cc)
-only_of Pictures only text e i = absurd (cc)
-only_of Any only text e i = absurd (cc)
+only_of : (class : Class) (only text : List ℕ) → only_text class ≡ Some only → has_text class text ≡ true → text ≡ only
+only_of (this t) only text e i = sym ((bytes_eq-Decides t text).0 i) ∙ same_Some t only e
+only_of names only text e i = absurd (cc)
+only_of numbers only text e i = absurd (cc)
+only_of levels only text e i = absurd (cc)
+only_of pictures only text e i = absurd (cc)
+only_of literals only text e i = absurd (cc)
+only_of (signs t) only text e i = sym ((bytes_eq-Decides t text).0 i) ∙ same_Some t only e
+only_of periods only text e i = absurd (cc)
 
-lacked : (texts : Texts) (only : Option (List ℕ)) (text : List ℕ) → lacks_text texts only ≡ true → ((t : List ℕ) → only ≡ Some t → text ≡ t) → has_text texts text ≡ false
-lacked texts None text e same = absurd (false≢true e)
-lacked texts (Some t) text e same = subst (λ u. has_text texts u ≡ false) (sym (same t refl)) (not_is (has_text texts t) e)
+lacked : (class : Class) (only : Option (List ℕ)) (text : List ℕ) → lacks_text class only ≡ true → ((t : List ℕ) → only ≡ Some t → text ≡ t) → has_text class text ≡ false
+lacked class None text e same = absurd (false≢true e)
+lacked class (Some t) text e same = subst (λ u. has_text class u ≡ false) (sym (same t refl)) (not_is (has_text class t) e)
 
 digit_no_capital : (b : ℕ) → is_ascii_digit b ≡ true → is_capital b ≡ false
 digit_no_capital b e = grind (arith, nat_tests)
@@ -49,13 +52,15 @@ name_has_capital : (any all first last unreserved : Bool) → (any && all && fir
 name_has_capital true all first last unreserved e = refl
 name_has_capital false all first last unreserved e = e
 
-capitals_are : (texts : Texts) (text : List ℕ) (v : Bool) → has_capitals texts ≡ Some v → has_text texts text ≡ true → list_any is_capital text ≡ v
-capitals_are (Only t) text v e i = absurd (cc)
-capitals_are Names text v e i = name_has_capital (list_any is_capital text) (list_all is_of_name text) _ _ _ i ∙ same_Some true v e
-capitals_are Numbers text v e i = number_no_capital text i ∙ same_Some false v e
-capitals_are Levels text v e i = number_no_capital text (both_true (is_number text) _ i).0 ∙ same_Some false v e
-capitals_are Pictures text v e i = absurd (cc)
-capitals_are Any text v e i = absurd (cc)
+capitals_are : (class : Class) (text : List ℕ) (v : Bool) → has_capitals class ≡ Some v → has_text class text ≡ true → list_any is_capital text ≡ v
+capitals_are (this t) text v e i = absurd (cc)
+capitals_are names text v e i = name_has_capital (list_any is_capital text) _ _ _ _ i ∙ same_Some true v e
+capitals_are numbers text v e i = number_no_capital text i ∙ same_Some false v e
+capitals_are levels text v e i = number_no_capital text (both_true (is_number text) _ i).0 ∙ same_Some false v e
+capitals_are pictures text v e i = absurd (cc)
+capitals_are literals text v e i = absurd (cc)
+capitals_are (signs t) text v e i = absurd (cc)
+capitals_are periods text v e i = absurd (cc)
 
 no_difference : (some other : Option Bool) (v : Bool) → ((w : Bool) → some ≡ Some w → v ≡ w) → ((w : Bool) → other ≡ Some w → v ≡ w) → differ some other ≡ true → ⊥
 no_difference None other v p q e = false≢true e
@@ -69,7 +74,7 @@ refuted : (v : Bool) → (v ≡ true → ⊥) → v ≡ false
 refuted true no_truth = absurd (no_truth refl)
 refuted false no_truth = refl
 
-texts_apart : (some others : Texts) (text : List ℕ) → are_texts_apart some others ≡ true → has_text some text ≡ true → has_text others text ≡ false
+texts_apart : (some others : Class) (text : List ℕ) → are_texts_apart some others ≡ true → has_text some text ≡ true → has_text others text ≡ false
 texts_apart some others text e i =
     elim (either_true (lacks_text others (only_text some)) (lacks_text some (only_text others) || differ (has_capitals some) (has_capitals others)) e) [
       | inl p ↦ lacked others (only_text some) text p (λ t q. only_of some t text q i)
@@ -99,19 +104,28 @@ same_kind kind.Period kind.Literal e = absurd (false≢true e)
 same_kind kind.Period kind.Sign e = absurd (false≢true e)
 same_kind kind.Period kind.Period e = refl
 
-other_kind : (k l m : WordKind) → is_same_kind k l ≡ false → is_same_kind k m ≡ true → is_same_kind l m ≡ false
-other_kind k l m e i =
-    refuted (is_same_kind l m) (λ j.
-    let same : m ≡ l = sym (same_kind l m j) in
-    false≢true (sym e ∙ subst (λ n. is_same_kind k n ≡ true) same i))
+parts_in : (class : Class) (word : Word) → is_in class word ≡ true → (is_same_kind (kind_of class) word.kind ≡ true) × (has_text class word.text ≡ true)
+parts_in (this text) word i = both_true _ (bytes_eq text word.text) i
+parts_in names word i = both_true _ (is_name word.text) i
+parts_in numbers word i = both_true _ (is_number word.text) i
+parts_in levels word i = both_true _ (is_number word.text && nat_le (length word.text) 2) i
+parts_in pictures word i = both_true _ (not (bytes_eq (codes "IS") word.text)) i
+parts_in literals word i = (i, refl)
+parts_in (signs text) word i = both_true _ (bytes_eq text word.text) i
+parts_in periods word i = (i, refl)
+
+one_kind : (k l m : WordKind) → is_same_kind k m ≡ true → is_same_kind l m ≡ true → is_same_kind k l ≡ true
+one_kind k l m e i = subst (λ n. is_same_kind k n ≡ true) (sym (same_kind l m i)) e
 
 apart_in : (class other : Class) (word : Word) → are_classes_apart class other ≡ true → is_in class word ≡ true → is_in other word ≡ false
 apart_in class other word e i =
-    let p = both_true (is_same_kind class.kind word.kind) (has_text class.texts word.text) i in
-    elim (either_true (not (is_same_kind class.kind other.kind)) (are_texts_apart class.texts other.texts) e) [
-      | inl q ↦ ap (λ v. v && has_text other.texts word.text) (other_kind class.kind other.kind word.kind (not_is _ q) p.0)
-      | inr q ↦ ap (λ v. is_same_kind other.kind word.kind && v) (texts_apart class.texts other.texts word.text q p.1) ∙ and_false _
-    ]
+    refuted (is_in other word) (λ j.
+    let p = parts_in class word i in
+    let q = parts_in other word j in
+    elim (either_true (not (is_same_kind (kind_of class) (kind_of other))) (are_texts_apart class other) e) [
+      | inl k ↦ false≢true (sym (not_is _ k) ∙ one_kind (kind_of class) (kind_of other) word.kind p.0 q.0)
+      | inr k ↦ false≢true (sym (texts_apart class other word.text k p.1) ∙ q.1)
+    ])
 
 one_apart : (class : Class) (others : List Class) (word : Word) → list_all (are_classes_apart class) others ≡ true → is_in class word ≡ true → list_any (λ other. is_in other word) others ≡ false
 one_apart class [] word e i = refl

@@ -1,14 +1,17 @@
 -- The text that is cut out between two marks is the one that stands there.
-use Rattle.std.proofs.Common.{◌≡◌, ℕ, ◌+◌, length, Bool, true, false, cond, eqb, List, [], ◌∷◌, ◌++◌, Option, Some, None, refl, sym, ap, ◌∙◌, subst, arith, append_assoc}
+use Rattle.std.proofs.Common.{◌≡◌, ℕ, ◌+◌, length, Bool, true, false, cond, eqb, List, [], ◌∷◌, ◌++◌, Option, Some, None, refl, sym, ap, ◌∙◌, subst, arith}
+use Rattle.std.specs.Prelude.{flat_map}
 use Rattle.std.specs.List.{list_all}
-use Rattle.std.specs.Option.{option_map}
 use Rattle.std.proofs.lemmas.Option.{cond_some, some_pair_parts}
 use Rattle.std.proofs.lemmas.Bool.{eqb-true}
 use Rattle.std.proofs.lemmas.Bool.Decides.{nat_tests}
 use Rattle.deck_words.specs.ByteClass.{is_mark, is_of_literal}
-use Rattle.deck_words.specs.Words.{doubled}
 use Rattle.deck_words.specs.Literal.{with_first, cut_literal}
 use Rattle.deck_words.proofs.TestLemmas.{both_true, both_are}
+
+-- the text as it stands between two marks: a mark in it is doubled
+abbrev pub doubled : ℕ → List ℕ → List ℕ
+doubled mark text = flat_map (λ byte. cond (eqb byte mark) (mark ∷ mark ∷ []) (byte ∷ [])) text
 
 -- a text of which a front is known
 abbrev pub with_front : List ℕ → Option (List ℕ × List ℕ) → Option (List ℕ × List ℕ)
@@ -45,7 +48,7 @@ cut_complete mark [] rest fits follows = cut_end mark rest follows
 cut_complete mark (b ∷ text) rest fits follows =
     let p = both_true (is_of_literal b) (list_all is_of_literal text) fits in
     let again = cut_complete mark text rest p.1 follows in
-    elim (eqb b mark) as (λ v. eqb b mark ≡ v → cut_literal mark (cond v (mark ∷ mark ∷ doubled mark text) (b ∷ doubled mark text) ++ mark ∷ rest) ≡ Some (b ∷ text, rest)) [
+    elim (eqb b mark) as (λ v. eqb b mark ≡ v → cut_literal mark ((cond v (mark ∷ mark ∷ []) (b ∷ []) ++ doubled mark text) ++ mark ∷ rest) ≡ Some (b ∷ text, rest)) [
       | true ↦ λ e. let is_mark_byte : b ≡ mark = eqb-true b mark e in cut_twice mark (doubled mark text ++ mark ∷ rest) ∙ ap (with_first mark) again ∙ ap (λ (x : ℕ). Some (x ∷ text, rest)) (sym is_mark_byte)
       | false ↦ λ e. cut_plain mark b (doubled mark text ++ mark ∷ rest) e p.0 ∙ ap (with_first b) again
     ] refl

@@ -5,12 +5,12 @@ use Rattle.std.specs.Prelude.{slice_index, drop, MatchOption}
 use Rattle.std.proofs.lemmas.Option.{same_Some}
 use Rattle.deck_words.specs.ByteClass.{capital}
 use Rattle.deck_words.specs.Word.{Word, word_of, Plain, Sign, Period}
-use Rattle.deck_words.specs.Words.{Piece, Space, Quoted, Run, is_sign, is_plain_text, written_piece, GivesWords, line_after, body_words, run_words, Rest, rest_of, HasWords}
-use Rattle.deck_words.specs.Front.{Next, piece_at}
+use Rattle.deck_words.specs.Words.{Piece, Space, Quoted, Run, written_piece, GivesWords, body_words, run_words, HasWords}
+use Rattle.deck_words.specs.Front.{Rest, rest_of, is_plain_text, Next, piece_at}
 use Rattle.deck_words.specs.Remaining.{with_more, words_within, words_from}
 use Rattle.deck_words.proofs.TestLemmas.{map_some}
-use Rattle.deck_words.proofs.FrontLemmas.{piece_sound, none_at_end}
-use Rattle.deck_words.proofs.CutLemmas.{SoFar, start, step, done}
+use Rattle.deck_words.proofs.FrontLemmas.{line_after, lines_of, piece_sound, none_at_end}
+use Rattle.deck_words.proofs.CutLemmas.{SoFar, step, done}
 
 -- ---- what a piece takes
 
@@ -32,7 +32,7 @@ one_of_three false v w first second words n some e = one_of_two v w first second
 body_few : (line : ℕ) (body : List ℕ) (words : List Word) → body_words line body ≡ Some words → Few words (length body)
 body_few line [] words e = subst (λ ws. Few ws 0) (same_Some {A = List Word} [] words e) (omega arith)
 body_few line (b ∷ body) words e =
-    one_of_three (eqb (length (b ∷ body)) 0) (is_sign (b ∷ body)) (is_plain_text (b ∷ body)) (word_of line Sign (b ∷ body)) (word_of line Plain (map capital (b ∷ body))) words (length (b ∷ body)) (omega arith) e
+    one_of_three (eqb (length (b ∷ body)) 0) _ (is_plain_text (b ∷ body)) (word_of line Sign (b ∷ body)) (word_of line Plain (map capital (b ∷ body))) words (length (b ∷ body)) (omega arith) e
 
 run_few_by : (v w : Bool) (line : ℕ) (run : List ℕ) (words : List Word) → 0 < length run → cond v (option_map (λ (ws : List Word). ws ++ word_of line Period (46 ∷ []) ∷ []) (body_words line (take (length run - 1) run))) (cond w (body_words line (take (length run - 1) run)) (body_words line run)) ≡ Some words → Few words (length run)
 run_few_by true w line run words some e =
@@ -60,7 +60,7 @@ line_by false line = omega arith
 
 paid : (line : ℕ) (piece : Piece) (after : List ℕ) (words : List Word) → GivesWords line piece after words → IsPaid line (written_piece piece) words (line_after line piece)
 paid line (Space byte) after words g = record { some = omega arith; few = rw g.1 (omega arith); lines = line_by _ line }
-paid line (Quoted mark text) after words g = record { some = omega arith; few = rw g.3 (omega arith); lines = omega arith }
+paid line (Quoted mark text) after words g = record { some = omega arith; few = rw g.5 (omega arith); lines = omega arith }
 paid line (Run run) after words g = record { some = g.0; few = run_few line run words g.0 g.3; lines = omega arith }
 
 pub record Takes (rest : Rest) (next : Next) : Type 0 where
@@ -76,7 +76,7 @@ takes rest next e =
     record {
       fewer = omega (arith, total, p.some);
       few = omega (arith, total, p.few);
-      lines = omega (arith, total, p.lines, front.line);
+      lines = omega (arith, total, p.lines, front.line, lines_of rest.line front.piece next.1.bytes next.0 front.gives);
     }
 
 -- ---- a piece more

@@ -6,7 +6,7 @@ use Rattle.std.specs.Option.{option_map}
 use Rattle.std.proofs.lemmas.Bool.{false≢true}
 use Rattle.deck_words.specs.Word.{Word}
 use Rattle.deck_words.specs.Class.{begins, all_apart}
-use Rattle.deck_words.specs.Rule.{Rule, many, where_it_gives, reads_many_from, SpellsMany, onto, some_onto, added_in_turn, reads_onto_from}
+use Rattle.deck_words.specs.Rule.{Rule, where_it_gives, SpellsTurns, onto, some_onto, reads_onto_from, many, reads_many_from, SpellsMany}
 use Rattle.deck_words.proofs.TestLemmas.{both_true, not_is, bind_some, bind_is, bind_same, map_some, none_mapped}
 use Rattle.deck_words.proofs.ClassLemmas.{begins_apart, neither_begins}
 use Rattle.deck_words.proofs.RuleLemmas.{Lawful}
@@ -66,8 +66,46 @@ module _ {A : Type 0} (p : Rule A) (lawful_p : Lawful p) where
 
 -- ---- any number of times, each value added to what there is
 
+-- what there is after these values, where each can be added
+abbrev added_in_turn : {A S : Type 0} → (S → A → Option S) → S → List A → Option S
+added_in_turn add s [] = Some s
+added_in_turn add s (x ∷ xs) = option_and_then (λ t. added_in_turn add t xs) (add s x)
+
+-- the words spell values that are added in turn
+abbrev AddsOnto : {A S : Type 0} → (S → A → Option S) → Rule A → S → S → List Word → List Word → Type 0
+AddsOnto add p s t words rest = (xs : _) × (added_in_turn add s xs ≡ Some t) × SpellsMany p xs words rest
+
+abbrev AddsSome : {A S : Type 0} → (S → A → Option S) → Rule A → S → S → List Word → List Word → Type 0
+AddsSome add p s t words rest = (x : _) × (xs : _) × (added_in_turn add s (x ∷ xs) ≡ Some t) × SpellsMany p (x ∷ xs) words rest
+
+module _ {A S : Type 0} (add : S → A → Option S) (p : Rule A) where
+  adds_turns : (s t : S) (xs : List A) (words rest : List Word) → added_in_turn add s xs ≡ Some t → SpellsMany p xs words rest → (onto add s p).Spells t words rest
+  adds_turns s t [] words rest e m = ([], (same_Some s t e, m))
+  adds_turns s t (x ∷ xs) words rest e m =
+      let b = bind_some (λ u. added_in_turn add u xs) (add s x) t e in
+      let more = adds_turns b.0 t xs m.0 rest b.2 m.2 in
+      (b.0 ∷ more.0, (m.0, (x, b.1, m.1), more.1))
+
+  turns_add : (s t : S) (us : List S) (words rest : List Word) → SpellsTurns (λ u. where_it_gives (add u) p) s us t words rest → AddsOnto add p s t words rest
+  turns_add s t [] words rest h = ([], ap (λ (v : S). Some v) h.0, h.1)
+  turns_add s t (u ∷ us) words rest h =
+      let more = turns_add u t us h.0 rest h.2 in
+      (h.1.0 ∷ more.0, bind_is (λ v. added_in_turn add v more.0) (add s h.1.0) u (Some t) h.1.1 more.1, (h.0, h.1.2, more.2))
+
+  adds_some : (s t : S) (words rest : List Word) → AddsSome add p s t words rest → (some_onto add s p).Spells t words rest
+  adds_some s t words rest m =
+      let b = bind_some (λ u. added_in_turn add u m.1) (add s m.0) t m.2 in
+      let more = adds_turns b.0 t m.1 m.3.0 rest b.2 m.3.2 in
+      (b.0, more.0, (m.3.0, (m.0, b.1, m.3.1), more.1))
+
+  some_adds : (s t : S) (words rest : List Word) → (some_onto add s p).Spells t words rest → AddsSome add p s t words rest
+  some_adds s t words rest k =
+      let h = k.2 in
+      let more = turns_add k.0 t k.1 h.0 rest h.2 in
+      (h.1.0, more.0, bind_is (λ v. added_in_turn add v more.0) (add s h.1.0) k.0 (Some t) h.1.1 more.1, (h.0, h.1.2, more.2))
+
 module _ {A S : Type 0} (add : S → A → Option S) (p : Rule A) (lawful_p : Lawful p) where
-  onto_sound_by : (b : Bool) (turns : ℕ) → ((s t : S) (words rest : List Word) → reads_onto_from add p turns s words ≡ Some (t, rest) → (onto add s p).Spells t words rest) → (s t : S) (words rest : List Word) → cond b (option_and_then {U = S × List Word} (λ a. option_and_then (λ u. reads_onto_from add p turns u a.1) (add s a.0)) (p.reads words)) (Some (s, words)) ≡ Some (t, rest) → (onto add s p).Spells t words rest
+  onto_sound_by : (b : Bool) (turns : ℕ) → ((s t : S) (words rest : List Word) → reads_onto_from add p turns s words ≡ Some (t, rest) → AddsOnto add p s t words rest) → (s t : S) (words rest : List Word) → cond b (option_and_then {U = S × List Word} (λ a. option_and_then (λ u. reads_onto_from add p turns u a.1) (add s a.0)) (p.reads words)) (Some (s, words)) ≡ Some (t, rest) → AddsOnto add p s t words rest
   onto_sound_by true turns again s t words rest e =
       let a = bind_some (λ a. option_and_then (λ u. reads_onto_from add p turns u a.1) (add s a.0)) (p.reads words) (t, rest) e in
       let b = bind_some (λ u. reads_onto_from add p turns u a.0.1) (add s a.0.0) (t, rest) a.2 in
@@ -75,7 +113,7 @@ module _ {A S : Type 0} (add : S → A → Option S) (p : Rule A) (lawful_p : La
       (a.0.0 ∷ more.0, bind_is (λ u. added_in_turn add u more.0) (add s a.0.0) b.0 (Some t) b.1 more.1, (a.0.1, lawful_p.sound a.0.0 words a.0.1 a.1, more.2))
   onto_sound_by false turns again s t words rest e = let k = some_pair_parts {A = S} s t words rest e in ([], ap (λ (v : S). Some v) k.0, k.1)
 
-  onto_sound : (turns : ℕ) (s t : S) (words rest : List Word) → reads_onto_from add p turns s words ≡ Some (t, rest) → (onto add s p).Spells t words rest
+  onto_sound : (turns : ℕ) (s t : S) (words rest : List Word) → reads_onto_from add p turns s words ≡ Some (t, rest) → AddsOnto add p s t words rest
   onto_sound zero s t words rest e = let k = some_pair_parts {A = S} s t words rest e in ([], ap (λ (v : S). Some v) k.0, k.1)
   onto_sound (suc turns) s t words rest e = onto_sound_by (begins p.starts words) turns (onto_sound turns) s t words rest e
 
@@ -102,19 +140,19 @@ module _ {A S : Type 0} (add : S → A → Option S) (p : Rule A) (lawful_p : La
 
   pub lawful_onto : (s : S) → Lawful (onto add s p)
   lawful_onto s = record {
-    sound = λ t words rest e. onto_sound (length words) s t words rest e;
-    complete = λ fit t words rest m no. onto_complete fit (length words) s t m.0 words rest (omega arith) m.1 m.2 no;
-    first = λ fit t words rest m. many_first p lawful_p fit m.0 words rest m.2;
+    sound = λ t words rest e. let m = onto_sound (length words) s t words rest e in adds_turns add p s t m.0 words rest m.1 m.2;
+    complete = λ fit t words rest k no. let m = turns_add add p s t k.0 words rest k.1 in onto_complete fit (length words) s t m.0 words rest (omega arith) m.1 m.2 no;
+    first = λ fit t words rest k. let m = turns_add add p s t k.0 words rest k.1 in many_first p lawful_p fit m.0 words rest m.2;
   }
 
-  some_sound : (s t : S) (words rest : List Word) → (some_onto add s p).reads words ≡ Some (t, rest) → (some_onto add s p).Spells t words rest
+  some_sound : (s t : S) (words rest : List Word) → (some_onto add s p).reads words ≡ Some (t, rest) → AddsSome add p s t words rest
   some_sound s t words rest e =
       let a = bind_some (λ a. option_and_then (λ u. reads_onto_from add p (length a.1) u a.1) (add s a.0)) (p.reads words) (t, rest) e in
       let b = bind_some (λ u. reads_onto_from add p (length a.0.1) u a.0.1) (add s a.0.0) (t, rest) a.2 in
       let more = onto_sound (length a.0.1) b.0 t a.0.1 rest b.2 in
       (a.0.0, more.0, bind_is (λ u. added_in_turn add u more.0) (add s a.0.0) b.0 (Some t) b.1 more.1, (a.0.1, lawful_p.sound a.0.0 words a.0.1 a.1, more.2))
 
-  some_complete : (many p).is_fit ≡ true → (s t : S) (words rest : List Word) → (some_onto add s p).Spells t words rest → begins (p.starts ++ p.goes_on) rest ≡ false → (some_onto add s p).reads words ≡ Some (t, rest)
+  some_complete : (many p).is_fit ≡ true → (s t : S) (words rest : List Word) → AddsSome add p s t words rest → begins (p.starts ++ p.goes_on) rest ≡ false → (some_onto add s p).reads words ≡ Some (t, rest)
   some_complete fit s t words rest m no_more =
       let fits = many_fit p lawful_p fit in
       let spelled = m.3 in
@@ -126,7 +164,7 @@ module _ {A S : Type 0} (add : S → A → Option S) (p : Rule A) (lawful_p : La
       let b = bind_some (λ u. added_in_turn add u m.1) (add s m.0) t m.2 in
       rw (lawful_p.complete fits.0 m.0 words spelled.0 spelled.1 stops, b.1, onto_complete fit (length spelled.0) b.0 t m.1 spelled.0 rest (omega arith) b.2 spelled.2 no_more)
 
-  some_first : (many p).is_fit ≡ true → (s t : S) (words rest : List Word) → (some_onto add s p).Spells t words rest → ((begins p.starts words ≡ true) × (length rest < length words)) ⊎ ((false ≡ true) × (words ≡ rest))
+  some_first : (many p).is_fit ≡ true → (s t : S) (words rest : List Word) → AddsSome add p s t words rest → ((begins p.starts words ≡ true) × (length rest < length words)) ⊎ ((false ≡ true) × (words ≡ rest))
   some_first fit s t words rest m =
       elim (lawful_p.first (many_fit p lawful_p fit).0 m.0 words m.3.0 m.3.1) [
         | inl h ↦ inl (h.0, elim (many_first p lawful_p fit m.1 m.3.0 rest m.3.2) [ inl k ↦ omega (arith, h.1, k.1) | inr k ↦ subst (λ ws. length ws < length words) k.1 h.1 ])
@@ -135,9 +173,9 @@ module _ {A S : Type 0} (add : S → A → Option S) (p : Rule A) (lawful_p : La
 
   pub lawful_some : (s : S) → Lawful (some_onto add s p)
   lawful_some s = record {
-    sound = λ t words rest e. some_sound s t words rest e;
-    complete = λ fit t words rest m no. some_complete fit s t words rest m no;
-    first = λ fit t words rest m. some_first fit s t words rest m;
+    sound = λ t words rest e. adds_some add p s t words rest (some_sound s t words rest e);
+    complete = λ fit t words rest m no. some_complete fit s t words rest (some_adds add p s t words rest m) no;
+    first = λ fit t words rest m. some_first fit s t words rest (some_adds add p s t words rest m);
   }
 
   -- what is read takes a word at least

@@ -2,8 +2,8 @@
 use Rattle.std.proofs.Common.{◌≡◌, ℕ, List, [], ◌∷◌, ◌++◌, Option, Some, None, sym, ap, ◌∙◌, inl, inr, append_assoc}
 use Rattle.deck_words.specs.Word.{Word}
 use Rattle.deck_words.specs.Class.{Class, this, names, literals, periods}
-use Rattle.deck_words.specs.Rule.{Rule, one, in_turn, optional, either, many, SpellsMany, onto, some_onto, SpellsTurns, each_behind, where_it_gives}
-use Rattle.deck_words.specs.Notation.{the, name, literal, period}
+use Rattle.deck_words.specs.Rule.{Rule, one, in_turn, optional, onto, some_onto, SpellsTurns, each_behind, where_it_gives}
+use Rattle.deck_words.specs.Notation.{the, name, literal, period, ◌∣◌}
 
 abbrev pub EndsWith : List Word → List Word → Type 0
 EndsWith words rest = (front : List Word) × (words ≡ front ++ rest)
@@ -34,18 +34,11 @@ rest_of_optional p h (Some x) words rest s = h.ends x words rest s
 pub rest_optional : {A : Type 0} (p : Rule A) → LeavesRest p → LeavesRest (optional p)
 rest_optional p h = record { ends = rest_of_optional p h }
 
-pub rest_either : {A : Type 0} (p q : Rule A) → LeavesRest p → LeavesRest q → LeavesRest (either p q)
+pub rest_either : {A : Type 0} (p q : Rule A) → LeavesRest p → LeavesRest q → LeavesRest (p ∣ q)
 rest_either p q h k = record { ends = λ x words rest s. elim s [ inl s ↦ h.ends x words rest s | inr s ↦ k.ends x words rest s ] }
 
-rest_of_many : {A : Type 0} (p : Rule A) → LeavesRest p → (xs : List A) (words rest : List Word) → SpellsMany p xs words rest → EndsWith words rest
-rest_of_many p h [] words rest s = nothing_taken words rest s
-rest_of_many p h (x ∷ xs) words rest s = end_of_end words s.0 rest (h.ends x words s.0 s.1) (rest_of_many p h xs s.0 rest s.2)
-
-pub rest_onto : {A S : Type 0} (add : S → A → Option S) (s : S) (p : Rule A) → LeavesRest p → LeavesRest (onto add s p)
-rest_onto add s p h = record { ends = λ t words rest k. rest_of_many p h k.0 words rest k.2 }
-
-pub rest_some : {A S : Type 0} (add : S → A → Option S) (s : S) (p : Rule A) → LeavesRest p → LeavesRest (some_onto add s p)
-rest_some add s p h = record { ends = λ t words rest k. rest_of_many p h (k.0 ∷ k.1) words rest k.3 }
+pub rest_as : {A B : Type 0} (f : A → Option B) (p : Rule A) → LeavesRest p → LeavesRest (where_it_gives f p)
+rest_as f p h = record { ends = λ y words rest s. h.ends s.0 words rest s.2 }
 
 rest_of_turns : {S : Type 0} (next : S → Rule S) → ((s : S) → LeavesRest (next s)) → (s : S) (us : List S) (t : S) (words rest : List Word) → SpellsTurns next s us t words rest → EndsWith words rest
 rest_of_turns next h s [] t words rest k = nothing_taken words rest k.1
@@ -54,8 +47,11 @@ rest_of_turns next h s (u ∷ us) t words rest k = end_of_end words k.0 rest ((h
 pub rest_each : {S : Type 0} (next : S → Rule S) → ((s : S) → LeavesRest (next s)) → (s : S) → LeavesRest (each_behind next s)
 rest_each next h s = record { ends = λ t words rest k. rest_of_turns next h s (k.0 ∷ k.1) t words rest k.2 }
 
-pub rest_as : {A B : Type 0} (f : A → Option B) (p : Rule A) → LeavesRest p → LeavesRest (where_it_gives f p)
-rest_as f p h = record { ends = λ y words rest s. h.ends s.0 words rest s.2 }
+pub rest_onto : {A S : Type 0} (add : S → A → Option S) (s : S) (p : Rule A) → LeavesRest p → LeavesRest (onto add s p)
+rest_onto add s p h = record { ends = λ t words rest k. rest_of_turns (λ u. where_it_gives (add u) p) (λ u. rest_as (add u) p h) s k.0 t words rest k.1 }
+
+pub rest_some : {A S : Type 0} (add : S → A → Option S) (s : S) (p : Rule A) → LeavesRest p → LeavesRest (some_onto add s p)
+rest_some add s p h = record { ends = λ t words rest k. rest_of_turns (λ u. where_it_gives (add u) p) (λ u. rest_as (add u) p h) s (k.0 ∷ k.1) t words rest k.2 }
 
 -- ---- one word
 

@@ -5,7 +5,8 @@ use Rattle.std.specs.Option.{option_map}
 use Rattle.std.proofs.lemmas.Bool.{false≢true}
 use Rattle.deck_words.specs.Word.{Word}
 use Rattle.deck_words.specs.Class.{Class, is_in, begins, all_apart}
-use Rattle.deck_words.specs.Rule.{Rule, one, in_turn, optional, either, where_it_gives}
+use Rattle.deck_words.specs.Rule.{Rule, one, in_turn, optional, where_it_gives}
+use Rattle.deck_words.specs.Notation.{◌∣◌}
 use Rattle.deck_words.proofs.TestLemmas.{both_true, not_is, or_true, bind_some, map_some}
 use Rattle.deck_words.proofs.ClassLemmas.{begins_apart, begins-append, neither_begins, nothing_begins}
 
@@ -110,11 +111,11 @@ module _ {A : Type 0} (p : Rule A) (lawful_p : Lawful p) where
 -- ---- one of two rules
 
 module _ {A : Type 0} (p q : Rule A) (lawful_p : Lawful p) (lawful_q : Lawful q) where
-  either_sound_by : (b : Bool) (x : A) (words rest : List Word) → cond b (p.reads words) (q.reads words) ≡ Some (x, rest) → (either p q).Spells x words rest
+  either_sound_by : (b : Bool) (x : A) (words rest : List Word) → cond b (p.reads words) (q.reads words) ≡ Some (x, rest) → (p ∣ q).Spells x words rest
   either_sound_by true x words rest e = inl (lawful_p.sound x words rest e)
   either_sound_by false x words rest e = inr (lawful_q.sound x words rest e)
 
-  either_fit : (either p q).is_fit ≡ true → (p.is_fit ≡ true) × (q.is_fit ≡ true) × (p.may_be_empty ≡ false) × (q.may_be_empty ≡ false) × (all_apart q.starts p.starts ≡ true)
+  either_fit : (p ∣ q).is_fit ≡ true → (p.is_fit ≡ true) × (q.is_fit ≡ true) × (p.may_be_empty ≡ false) × (q.may_be_empty ≡ false) × (all_apart q.starts p.starts ≡ true)
   either_fit fit =
       let a = both_true p.is_fit (q.is_fit && (not p.may_be_empty && (not q.may_be_empty && all_apart q.starts p.starts))) fit in
       let b = both_true q.is_fit (not p.may_be_empty && (not q.may_be_empty && all_apart q.starts p.starts)) a.1 in
@@ -122,7 +123,7 @@ module _ {A : Type 0} (p q : Rule A) (lawful_p : Lawful p) (lawful_q : Lawful q)
       let d = both_true (not q.may_be_empty) (all_apart q.starts p.starts) c.1 in
       (a.0, b.0, not_is p.may_be_empty c.0, not_is q.may_be_empty d.0, d.1)
 
-  either_complete : (either p q).is_fit ≡ true → (x : A) (words rest : List Word) → (either p q).Spells x words rest → begins (p.goes_on ++ q.goes_on) rest ≡ false → (either p q).reads words ≡ Some (x, rest)
+  either_complete : (p ∣ q).is_fit ≡ true → (x : A) (words rest : List Word) → (p ∣ q).Spells x words rest → begins (p.goes_on ++ q.goes_on) rest ≡ false → (p ∣ q).reads words ≡ Some (x, rest)
   either_complete fit x words rest s no_more =
       let fits = either_fit fit in
       let no = neither_begins p.goes_on q.goes_on rest no_more in
@@ -137,7 +138,7 @@ module _ {A : Type 0} (p q : Rule A) (lawful_p : Lawful p) (lawful_q : Lawful q)
         ]
       ]
 
-  either_first : (either p q).is_fit ≡ true → (x : A) (words rest : List Word) → (either p q).Spells x words rest → ((begins (p.starts ++ q.starts) words ≡ true) × (length rest < length words)) ⊎ ((q.may_be_empty ≡ true) × (words ≡ rest))
+  either_first : (p ∣ q).is_fit ≡ true → (x : A) (words rest : List Word) → (p ∣ q).Spells x words rest → ((begins (p.starts ++ q.starts) words ≡ true) × (length rest < length words)) ⊎ ((q.may_be_empty ≡ true) × (words ≡ rest))
   either_first fit x words rest s =
       let fits = either_fit fit in
       elim s [
@@ -151,7 +152,7 @@ module _ {A : Type 0} (p q : Rule A) (lawful_p : Lawful p) (lawful_q : Lawful q)
         ]
       ]
 
-  pub lawful_either : Lawful (either p q)
+  pub lawful_either : Lawful (p ∣ q)
   lawful_either = record { sound = λ x words rest e. either_sound_by (begins p.starts words) x words rest e; complete = either_complete; first = either_first }
 
 -- ---- the value that a function gives for a rule's

@@ -3,14 +3,18 @@ use Rattle.std.proofs.Common.{◌≡◌, ℕ, zero, suc, ◌+◌, ◌<◌, true,
 use Rattle.std.proofs.Math.Numerals.{one-add}
 use Rattle.std.specs.List.{list_all, prefix_len}
 use Rattle.deck_words.specs.Word.{Word}
-use Rattle.deck_words.specs.ByteClass.{is_of_run}
-use Rattle.deck_words.specs.Words.{EndsRun, run_words, rest_of}
-use Rattle.deck_words.specs.Front.{ends_run, run_at}
+use Rattle.deck_words.specs.ByteClass.{is_space, is_of_run}
+use Rattle.deck_words.specs.Words.{run_words}
+use Rattle.deck_words.specs.Front.{ends_run, run_at, rest_of}
 use Rattle.deck_words.proofs.TestLemmas.{both_true, both_are}
+
+-- white space or the end comes after a run
+abbrev pub EndsRun : List ℕ → Type 0
+EndsRun rest = list_all is_space (take 1 rest) ≡ true
 
 prefix_len-append : (run rest : List ℕ) → list_all is_of_run run ≡ true → EndsRun rest → prefix_len is_of_run (run ++ rest) ≡ length run
 prefix_len-append [] [] fits ends = refl
-prefix_len-append [] (b ∷ rest) fits ends = rw ends
+prefix_len-append [] (b ∷ rest) fits ends = rw (both_true (is_space b) true ends).0
 prefix_len-append (b ∷ run) rest fits ends =
     let p = both_true (is_of_run b) (list_all is_of_run run) fits in rw (p.0, prefix_len-append run rest p.1 ends) (omega arith)
 
@@ -39,12 +43,12 @@ pub run_is_there : (b : ℕ) (bytes : List ℕ) → is_of_run b ≡ true → 0 <
 run_is_there b bytes i = rw (i, one-add) (omega arith)
 
 pub ends_run_so : (rest : List ℕ) → ends_run rest ≡ true → EndsRun rest
-ends_run_so [] e = tt
-ends_run_so (b ∷ rest) e = e
+ends_run_so [] e = refl
+ends_run_so (b ∷ rest) e = both_are (is_space b) true e refl
 
 so_ends_run : (rest : List ℕ) → EndsRun rest → ends_run rest ≡ true
 so_ends_run [] e = refl
-so_ends_run (b ∷ rest) e = e
+so_ends_run (b ∷ rest) e = (both_true (is_space b) true e).0
 
 pub run_complete : (line : ℕ) (run rest : List ℕ) (new : List Word) → list_all is_of_run run ≡ true → EndsRun rest → run_words line run ≡ Some new → run_at line (run ++ rest) ≡ Some (new, rest_of line rest)
 run_complete line run rest new fits ends e =

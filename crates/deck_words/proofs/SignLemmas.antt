@@ -3,7 +3,7 @@ use Rattle.std.proofs.Common.{◌≡◌, ℕ, Bool, true, false, List, Some, Non
 use Rattle.std.specs.Prelude.{codes}
 use Rattle.std.specs.Str.{bytes_eq}
 use Rattle.std.proofs.lemmas.Slice.Eq.{bytes_eq-Decides}
-use Rattle.deck_words.specs.Words.{sign_in}
+use Rattle.deck_words.specs.Front.{sign_in}
 
 -- what a text is compared with by a call
 pub compared : (text other compared_with : List ℕ) (answer : Bool) → compared_with ≡ other → answer ≡ bytes_eq text compared_with → (v : Bool) → answer ≡ v → bytes_eq text other ≡ v

@@ -19,10 +19,6 @@ pub either_true : (a b : Bool) → (a || b) ≡ true → (a ≡ true) ⊎ (b ≡
 either_true true b e = inl refl
 either_true false b e = inr e
 
-pub and_false : (a : Bool) → (a && false) ≡ false
-and_false true = refl
-and_false false = refl
-
 pub or_true : (a : Bool) → (a || true) ≡ true
 or_true true = refl
 or_true false = refl

@@ -1,7 +1,6 @@
 -- The classes of a deck's bytes.
 use Rattle.std.specs.Prelude.{ℕ, ◌-◌, ◌==◌, Bool, not, ◌&&◌, ◌||◌, if◌then◌else◌}
-use Rattle.std.specs.Char.{is_ascii_digit}
-use Rattle.io_state.specs.FileName.{is_capital, is_small}
+use Rattle.io_state.specs.FileName.{is_small, is_letter_or_digit}
 
 -- white space: space, tab, line feed and carriage return
 abbrev pub is_space : ℕ → Bool
@@ -21,12 +20,7 @@ is_of_literal byte = not (byte == 10) && not (byte == 13)
 
 -- a byte of a plain word: a letter, a digit, a hyphen or a parenthesis
 abbrev pub is_of_word : ℕ → Bool
-is_of_word byte = is_capital byte || is_small byte || is_ascii_digit byte || byte == 45 || byte == 40
-    || byte == 41
-
--- a byte of a name: a capital, a digit or a hyphen
-abbrev pub is_of_name : ℕ → Bool
-is_of_name byte = is_capital byte || is_ascii_digit byte || byte == 45
+is_of_word byte = is_letter_or_digit byte || byte == 45 || byte == 40 || byte == 41
 
 -- the byte, or the capital of a small letter
 abbrev pub capital : ℕ → ℕ

@@ -4,50 +4,80 @@ use Rattle.std.specs.Prelude.{Some, None, codes}
 use Rattle.std.specs.List.{list_all, list_any}
 use Rattle.std.specs.Str.{bytes_eq}
 use Rattle.deck_words.specs.Name.{is_name, is_number}
-use Rattle.deck_words.specs.Word.{Word, WordKind, is_same_kind}
+use Rattle.deck_words.specs.Word.{Word, WordKind, word_of, is_same_kind}
 use Rattle.deck_words.specs.Word as kind
 
--- ---- texts
+-- ---- words
 
--- one text alone, names, numbers, level numbers, pictures, or any text
-pub data Texts : Type 0 where
-  Only : List ℕ → Texts
-  Names : Texts
-  Numbers : Texts
-  Levels : Texts
-  Pictures : Texts
-  Any : Texts
+-- this word, or names, numbers, level numbers, pictures, literals, this sign, or periods
+pub data Class : Type 0 where
+  this : List ℕ → Class
+  names : Class
+  numbers : Class
+  levels : Class
+  pictures : Class
+  literals : Class
+  signs : List ℕ → Class
+  periods : Class
 
--- a level is a number of one or two digits, and a picture is any text but IS
-abbrev pub has_text : Texts → List ℕ → Bool
-has_text (Only text) other = bytes_eq text other
-has_text Names text = is_name text
-has_text Numbers text = is_number text
-has_text Levels text = is_number text && nat_le (length text) 2
-has_text Pictures text = not (bytes_eq (codes "IS") text)
-has_text Any text = true
+-- a level is a number of one or two digits, and a picture is any plain word but IS
+abbrev pub is_in : Class → Word → Bool
+is_in (this text) word = is_same_kind kind.Plain word.kind && bytes_eq text word.text
+is_in names word = is_same_kind kind.Plain word.kind && is_name word.text
+is_in numbers word = is_same_kind kind.Plain word.kind && is_number word.text
+is_in levels word = is_same_kind kind.Plain word.kind && (is_number word.text && nat_le (length word.text) 2)
+is_in pictures word = is_same_kind kind.Plain word.kind && not (bytes_eq (codes "IS") word.text)
+is_in literals word = is_same_kind kind.Literal word.kind
+is_in (signs text) word = is_same_kind kind.Sign word.kind && bytes_eq text word.text
+is_in periods word = is_same_kind kind.Period word.kind
 
--- the only text
-abbrev pub only_text : Texts → Option (List ℕ)
-only_text (Only text) = Some text
-only_text Names = None
-only_text Numbers = None
-only_text Levels = None
-only_text Pictures = None
-only_text Any = None
+-- whether there is a next word, of one of these classes
+abbrev pub begins : List Class → List Word → Bool
+begins classes [] = false
+begins classes (word ∷ words) = list_any (λ class. is_in class word) classes
 
--- whether all of them have a capital letter, or none of them has
-abbrev pub has_capitals : Texts → Option Bool
-has_capitals (Only text) = None
-has_capitals Names = Some true
-has_capitals Numbers = Some false
-has_capitals Levels = Some false
-has_capitals Pictures = None
-has_capitals Any = None
+-- ---- classes that are apart
 
-abbrev pub lacks_text : Texts → Option (List ℕ) → Bool
-lacks_text texts None = false
-lacks_text texts (Some text) = not (has_text texts text)
+-- the kind of its words
+abbrev pub kind_of : Class → WordKind
+kind_of (this text) = kind.Plain
+kind_of names = kind.Plain
+kind_of numbers = kind.Plain
+kind_of levels = kind.Plain
+kind_of pictures = kind.Plain
+kind_of literals = kind.Literal
+kind_of (signs text) = kind.Sign
+kind_of periods = kind.Period
+
+-- whether a word of its kind with this text is of the class
+abbrev pub has_text : Class → List ℕ → Bool
+has_text class text = is_in class (word_of 0 (kind_of class) text)
+
+-- the only text that its words have
+abbrev pub only_text : Class → Option (List ℕ)
+only_text (this text) = Some text
+only_text names = None
+only_text numbers = None
+only_text levels = None
+only_text pictures = None
+only_text literals = None
+only_text (signs text) = Some text
+only_text periods = None
+
+-- whether all texts of its words have a capital letter, or none of them has
+abbrev pub has_capitals : Class → Option Bool
+has_capitals (this text) = None
+has_capitals names = Some true
+has_capitals numbers = Some false
+has_capitals levels = Some false
+has_capitals pictures = None
+has_capitals literals = None
+has_capitals (signs text) = None
+has_capitals periods = None
+
+abbrev pub lacks_text : Class → Option (List ℕ) → Bool
+lacks_text class None = false
+lacks_text class (Some text) = not (has_text class text)
 
 abbrev pub differ : Option Bool → Option Bool → Bool
 differ None other = false
@@ -56,55 +86,16 @@ differ (Some true) (Some other) = not other
 differ (Some false) None = false
 differ (Some false) (Some other) = other
 
--- no text is both of these: one is a text that the other lacks, or one has capitals and the other none
-abbrev pub are_texts_apart : Texts → Texts → Bool
-are_texts_apart some others =
-    lacks_text others (only_text some) || (lacks_text some (only_text others)
-    || differ (has_capitals some) (has_capitals others))
-
--- ---- words
-
--- words of a kind, with these texts
-pub record Class : Type 0 where
-  pub kind : WordKind
-  pub texts : Texts
-
-abbrev pub this : List ℕ → Class
-this text = record { kind = kind.Plain; texts = Only text }
-
-abbrev pub names : Class
-names = record { kind = kind.Plain; texts = Names }
-
-abbrev pub numbers : Class
-numbers = record { kind = kind.Plain; texts = Numbers }
-
-abbrev pub levels : Class
-levels = record { kind = kind.Plain; texts = Levels }
-
-abbrev pub pictures : Class
-pictures = record { kind = kind.Plain; texts = Pictures }
-
-abbrev pub literals : Class
-literals = record { kind = kind.Literal; texts = Any }
-
-abbrev pub signs : List ℕ → Class
-signs text = record { kind = kind.Sign; texts = Only text }
-
-abbrev pub periods : Class
-periods = record { kind = kind.Period; texts = Any }
-
-abbrev pub is_in : Class → Word → Bool
-is_in class word = is_same_kind class.kind word.kind && has_text class.texts word.text
-
--- whether there is a next word, of one of these classes
-abbrev pub begins : List Class → List Word → Bool
-begins classes [] = false
-begins classes (word ∷ words) = list_any (λ class. is_in class word) classes
+-- no text is of words of both: one is a text that the other lacks, or one has capitals and the other none
+abbrev pub are_texts_apart : Class → Class → Bool
+are_texts_apart class other =
+    lacks_text other (only_text class) || (lacks_text class (only_text other)
+    || differ (has_capitals class) (has_capitals other))
 
 -- whether no word is of both classes
 abbrev pub are_classes_apart : Class → Class → Bool
-are_classes_apart class other = not (is_same_kind class.kind other.kind)
-    || are_texts_apart class.texts other.texts
+are_classes_apart class other = not (is_same_kind (kind_of class) (kind_of other))
+    || are_texts_apart class other
 
 abbrev pub all_apart : List Class → List Class → Bool
 all_apart some others = list_all (λ class. list_all (are_classes_apart class) others) some

@@ -1,12 +1,30 @@
 -- The piece at the front of what is left of a deck, as it is found from the front.
 use Rattle.std.specs.Prelude.{ℕ, ◌+◌, ◌==◌, Bool, true, ◌&&◌, ◌||◌, if◌then◌else◌, List, [], ◌∷◌, length}
-use Rattle.std.specs.Prelude.{take, drop, nat_le, nat_lt, Option, Some, None, option_map}
-use Rattle.std.specs.List.{prefix_len}
-use Rattle.deck_words.specs.ByteClass.{is_space, is_mark, is_of_run}
+use Rattle.std.specs.Prelude.{take, drop, nat_le, nat_lt, Option, Some, None, option_map, codes}
+use Rattle.std.specs.List.{list_all, list_any, prefix_len}
+use Rattle.std.specs.Str.{bytes_eq}
+use Rattle.deck_words.specs.ByteClass.{is_space, is_mark, is_of_run, is_of_word}
 use Rattle.deck_words.specs.Literal.{cut_literal}
-use Rattle.deck_words.specs.Words.{run_words, Rest, rest_of}
+use Rattle.deck_words.specs.Words.{run_words}
 use Rattle.deck_words.specs.Word.{Word, word_of}
 use Rattle.deck_words.specs.Word.{Literal}
+
+-- what is left of a deck: bytes, and the line of the first one
+pub record Rest : Type 0 where
+  pub line : ℕ
+  pub bytes : List ℕ
+
+abbrev pub rest_of : ℕ → List ℕ → Rest
+rest_of line bytes = record { line = line; bytes = bytes }
+
+-- the text, if it is a sign
+abbrev pub sign_in : List ℕ → Option (List ℕ)
+sign_in text =
+    if list_any (bytes_eq text) (codes "=" ∷ codes ">" ∷ codes ">=" ∷ codes "<" ∷ []) then Some text else None
+
+-- at most 30 letters, digits, hyphens and parentheses
+abbrev pub is_plain_text : List ℕ → Bool
+is_plain_text text = nat_le (length text) 30 && list_all is_of_word text
 
 abbrev pub ends_literal : List ℕ → Bool
 ends_literal [] = true

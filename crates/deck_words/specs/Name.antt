@@ -8,43 +8,32 @@ use Rattle.std.specs.Char.{is_ascii_digit}
 use Rattle.std.specs.List.{list_all, list_any}
 use Rattle.std.specs.Str.{bytes_eq}
 use Rattle.io_state.specs.FileName.{is_capital}
-use Rattle.deck_words.specs.ByteClass.{is_of_name}
 
--- the words of the divisions before the procedure, and of its heading
-abbrev pub description_words : List (List ℕ)
-description_words =
+-- a text that no name may be: the words of the divisions, and those that the procedure alone has
+unfoldable pub is_reserved : List ℕ → Bool
+is_reserved text = list_any (λ word. bytes_eq word text) (
     codes "ACCESS" ∷ codes "ALTERNATE" ∷ codes "ARE" ∷ codes "ASSIGN" ∷ codes "BLOCK" ∷ codes "CHARACTERS" ∷
     codes "CONTAINS" ∷ codes "DATA" ∷ codes "DEPENDING" ∷ codes "DIVISION" ∷ codes "DUPLICATES" ∷
-    codes "DYNAMIC" ∷
-    codes "ENVIRONMENT" ∷ codes "FD" ∷ codes "FILE" ∷ codes "FILE-CONTROL" ∷ codes "FILLER" ∷ codes "FROM" ∷
-    codes "IDENTIFICATION" ∷ codes "IN" ∷ codes "INDEXED" ∷ codes "INPUT-OUTPUT" ∷ codes "IS" ∷ codes "KEY" ∷
-    codes "LABEL" ∷ codes "MODE" ∷ codes "OMITTED" ∷ codes "ON" ∷ codes "OPTIONAL" ∷ codes "ORGANIZATION" ∷
-    codes "PIC" ∷ codes "PICTURE" ∷ codes "PROCEDURE" ∷ codes "PROGRAM-ID" ∷ codes "RANDOM" ∷ codes "RECORD" ∷
-    codes "RECORDS" ∷ codes "SECTION" ∷ codes "SELECT" ∷ codes "SEQUENTIAL" ∷ codes "SIZE" ∷
-    codes "STANDARD" ∷
-    codes "STATUS" ∷ codes "TO" ∷ codes "VARYING" ∷ codes "WITH" ∷ codes "WORKING-STORAGE" ∷ []
-
--- the words that the procedure alone has
-abbrev pub procedure_words : List (List ℕ)
-procedure_words =
-    codes "CLOSE" ∷ codes "DELETE" ∷ codes "EQUAL" ∷ codes "EXTEND" ∷ codes "GREATER" ∷ codes "HIGH-VALUE" ∷
+    codes "DYNAMIC" ∷ codes "ENVIRONMENT" ∷ codes "FD" ∷ codes "FILE" ∷ codes "FILE-CONTROL" ∷
+    codes "FILLER" ∷ codes "FROM" ∷ codes "IDENTIFICATION" ∷ codes "IN" ∷ codes "INDEXED" ∷
+    codes "INPUT-OUTPUT" ∷ codes "IS" ∷ codes "KEY" ∷ codes "LABEL" ∷ codes "MODE" ∷ codes "OMITTED" ∷
+    codes "ON" ∷ codes "OPTIONAL" ∷ codes "ORGANIZATION" ∷ codes "PIC" ∷ codes "PICTURE" ∷
+    codes "PROCEDURE" ∷ codes "PROGRAM-ID" ∷ codes "RANDOM" ∷ codes "RECORD" ∷ codes "RECORDS" ∷
+    codes "SECTION" ∷ codes "SELECT" ∷ codes "SEQUENTIAL" ∷ codes "SIZE" ∷ codes "STANDARD" ∷
+    codes "STATUS" ∷ codes "TO" ∷ codes "VARYING" ∷ codes "WITH" ∷ codes "WORKING-STORAGE" ∷ codes "CLOSE" ∷
+    codes "DELETE" ∷ codes "EQUAL" ∷ codes "EXTEND" ∷ codes "GREATER" ∷ codes "HIGH-VALUE" ∷
     codes "HIGH-VALUES" ∷ codes "I-O" ∷ codes "INPUT" ∷ codes "LESS" ∷ codes "LOCK" ∷ codes "LOW-VALUE" ∷
     codes "LOW-VALUES" ∷ codes "MOVE" ∷ codes "NEXT" ∷ codes "NOT" ∷ codes "OPEN" ∷ codes "OR" ∷
-    codes "OUTPUT" ∷
-    codes "READ" ∷ codes "REWRITE" ∷ codes "RUN" ∷ codes "SPACE" ∷ codes "SPACES" ∷ codes "START" ∷
-    codes "STOP" ∷
-    codes "THAN" ∷ codes "WRITE" ∷ codes "ZERO" ∷ codes "ZEROES" ∷ codes "ZEROS" ∷ []
-
--- a text that no name may be
-unfoldable pub is_reserved : List ℕ → Bool
-is_reserved text = list_any (λ word. bytes_eq word text) description_words
-    || list_any (λ word. bytes_eq word text) procedure_words
+    codes "OUTPUT" ∷ codes "READ" ∷ codes "REWRITE" ∷ codes "RUN" ∷ codes "SPACE" ∷ codes "SPACES" ∷
+    codes "START" ∷ codes "STOP" ∷ codes "THAN" ∷ codes "WRITE" ∷ codes "ZERO" ∷ codes "ZEROES" ∷
+    codes "ZEROS" ∷ [])
 
 -- capitals, digits and hyphens, at least one capital, no hyphen first or last, and no reserved word
 abbrev pub is_name : List ℕ → Bool
 is_name text =
-    list_any is_capital text && list_all is_of_name text && not (slice_index text 0 == 45)
-    && not (slice_index text (length text - 1) == 45) && not (is_reserved text)
+    list_any is_capital text && list_all (λ byte. is_capital byte || is_ascii_digit byte || byte == 45) text
+    && not (slice_index text 0 == 45) && not (slice_index text (length text - 1) == 45)
+    && not (is_reserved text)
 
 -- digits alone
 abbrev pub is_number : List ℕ → Bool

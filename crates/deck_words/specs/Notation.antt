@@ -1,7 +1,8 @@
 -- How rules are written: as in the grammar's own notation.
-use Rattle.std.specs.Prelude.{ℕ, Bool, true, false, List, Option, Some, None}
-use Rattle.deck_words.specs.Class.{this, names, literals, periods}
-use Rattle.deck_words.specs.Rule.{Rule, one, in_turn, optional, either, where_it_gives}
+use Rattle.std.specs.Prelude.{ℕ, Bool, true, false, not, ◌&&◌, ◌⊎◌, if◌then◌else◌, List, ◌++◌, Option, Some}
+use Rattle.std.specs.Prelude.{None, is_some}
+use Rattle.deck_words.specs.Class.{this, names, literals, periods, begins, all_apart}
+use Rattle.deck_words.specs.Rule.{Rule, one, in_turn, optional, where_it_gives}
 
 -- this word
 unfoldable pub the : List ℕ → Rule (Unit {0})
@@ -34,7 +35,15 @@ p ⊗ q = in_turn (λ x y. (x, y)) p q
 -- one of the two
 infixr 5 ◌∣◌
 abbrev pub ◌∣◌ : {A : Type 0} → Rule A → Rule A → Rule A
-p ∣ q = either p q
+p ∣ q = record {
+  Spells = λ x words rest. p.Spells x words rest ⊎ q.Spells x words rest;
+  reads = λ words. if begins p.starts words then p.reads words else q.reads words;
+  starts = p.starts ++ q.starts;
+  goes_on = p.goes_on ++ q.goes_on;
+  may_be_empty = q.may_be_empty;
+  is_fit = p.is_fit && (q.is_fit && (not p.may_be_empty
+      && (not q.may_be_empty && all_apart q.starts p.starts)));
+}
 
 -- what a function makes of a rule's value
 infixr 4 ◌<$>◌
@@ -43,8 +52,7 @@ f <$> p = where_it_gives (λ x. Some (f x)) p
 
 -- whether it is there
 abbrev pub is_word_there : Option (Unit {0}) → Bool
-is_word_there None = false
-is_word_there (Some _) = true
+is_word_there there = is_some there
 
 -- what was read of a word that may be left out
 abbrev pub eaten : Bool → Option (Unit {0})

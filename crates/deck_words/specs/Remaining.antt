@@ -2,8 +2,7 @@
 use Rattle.std.specs.Prelude.{◌≡◌, ◌+◌, ◌<◌, ◌≤◌, ℕ, zero, suc, Bool, if◌then◌else◌, List, [], ◌∷◌, ◌++◌}
 use Rattle.std.specs.Prelude.{length, Option, Some, None, MatchOption, codes}
 use Rattle.deck_words.specs.Word.{Word, word_of, Period}
-use Rattle.deck_words.specs.Words.{Rest}
-use Rattle.deck_words.specs.Front.{Next, piece_at}
+use Rattle.deck_words.specs.Front.{Next, piece_at, Rest}
 
 abbrev pub period_of : ℕ → Word
 period_of line = word_of line Period (codes ".")

@@ -1,7 +1,8 @@
 -- Rules of a grammar: which words spell a value, and how the words are read. `Spells` is the
 -- grammar; `reads` looks one word ahead, and `is_fit` says that this is enough.
-use Rattle.std.specs.Prelude.{◌≡◌, ℕ, zero, suc, Bool, true, false, not, ◌&&◌, ◌⊎◌, if◌then◌else◌, List, []}
+use Rattle.std.specs.Prelude.{◌≡◌, ℕ, zero, suc, Bool, true, false, not, ◌&&◌, if◌then◌else◌, List, []}
 use Rattle.std.specs.Prelude.{◌∷◌, ◌++◌, length, Option, Some, None, option_and_then, option_map, IsTrue}
+use Rattle.std.specs.Prelude.{MatchOption}
 use Rattle.deck_words.specs.Class.{Class, is_in, begins, all_apart}
 use Rattle.deck_words.specs.Word.{Word}
 
@@ -52,13 +53,9 @@ in_turn f p q = record {
 
 -- ---- a rule that may be left out
 
-abbrev pub SpellsOptional : {A : Type 0} → Rule A → Option A → List Word → List Word → Type 0
-SpellsOptional p None words rest = words ≡ rest
-SpellsOptional p (Some x) words rest = p.Spells x words rest
-
 abbrev pub optional : {A : Type 0} → Rule A → Rule (Option A)
 optional p = record {
-  Spells = SpellsOptional p;
+  Spells = λ x words rest. MatchOption x (words ≡ rest) (λ value. p.Spells value words rest);
   reads = λ words. if begins p.starts words
       then option_map (λ a. (Some a.0, a.1)) (p.reads words) else Some (None, words);
   starts = p.starts;
@@ -67,80 +64,17 @@ optional p = record {
   is_fit = p.is_fit && not p.may_be_empty;
 }
 
--- ---- one of two rules
+-- ---- a rule whose value passes a test, and another value for it
 
-abbrev pub either : {A : Type 0} → Rule A → Rule A → Rule A
-either p q = record {
-  Spells = λ x words rest. p.Spells x words rest ⊎ q.Spells x words rest;
-  reads = λ words. if begins p.starts words then p.reads words else q.reads words;
-  starts = p.starts ++ q.starts;
-  goes_on = p.goes_on ++ q.goes_on;
-  may_be_empty = q.may_be_empty;
-  is_fit = p.is_fit && (q.is_fit && (not p.may_be_empty
-      && (not q.may_be_empty && all_apart q.starts p.starts)));
-}
-
--- ---- any number of times
-
-abbrev pub SpellsMany : {A : Type 0} → Rule A → List A → List Word → List Word → Type 0
-SpellsMany p [] words rest = words ≡ rest
-SpellsMany p (x ∷ xs) words rest = (middle : List Word) × p.Spells x words middle
-    × SpellsMany p xs middle rest
-
-abbrev pub reads_many_from : {A : Type 0} → Rule A → ℕ → List Word → Option (List A × List Word)
-reads_many_from p zero words = Some ([], words)
-reads_many_from p (suc turns) words = if begins p.starts words then option_and_then
-    (λ a. option_map (λ b. (a.0 ∷ b.0, b.1)) (reads_many_from p turns a.1)) (p.reads words) else Some (
-      [],
-      words,
-    )
-
-abbrev pub many : {A : Type 0} → Rule A → Rule (List A)
-many p = record {
-  Spells = SpellsMany p;
-  reads = λ words. reads_many_from p (length words) words;
+-- the value that a function gives for that of a rule, where it gives one
+abbrev pub where_it_gives : {A B : Type 0} → (A → Option B) → Rule A → Rule B
+where_it_gives f p = record {
+  Spells = λ y words rest. (x : _) × (f x ≡ Some y) × p.Spells x words rest;
+  reads = λ words. option_and_then (λ a. option_map (λ y. (y, a.1)) (f a.0)) (p.reads words);
   starts = p.starts;
-  goes_on = p.starts ++ p.goes_on;
-  may_be_empty = true;
-  is_fit = p.is_fit && (not p.may_be_empty && all_apart p.starts p.goes_on);
-}
-
--- ---- any number of times, each value added to what there is
-
--- what there is after these values, where each can be added
-abbrev pub added_in_turn : {A S : Type 0} → (S → A → Option S) → S → List A → Option S
-added_in_turn add s [] = Some s
-added_in_turn add s (x ∷ xs) = option_and_then (λ t. added_in_turn add t xs) (add s x)
-
-abbrev pub reads_onto_from : {A S : Type 0} → (S → A → Option S) → Rule A → ℕ → S → List Word
-    → Option (S × List Word)
-reads_onto_from add p zero s words = Some (s, words)
-reads_onto_from add p (suc turns) s words = if begins p.starts words then option_and_then
-    (λ a. option_and_then (λ t. reads_onto_from add p turns t a.1) (add s a.0)) (p.reads words) else Some
-    (s, words)
-
-abbrev pub onto : {A S : Type 0} → (S → A → Option S) → S → Rule A → Rule S
-onto add s p = record {
-  Spells = λ t words rest. (xs : _) × (added_in_turn add s xs ≡ Some t) × SpellsMany p xs words rest;
-  reads = λ words. reads_onto_from add p (length words) s words;
-  starts = p.starts;
-  goes_on = p.starts ++ p.goes_on;
-  may_be_empty = true;
-  is_fit = p.is_fit && (not p.may_be_empty && all_apart p.starts p.goes_on);
-}
-
--- ---- once or more, each value added to what there is
-
-abbrev pub some_onto : {A S : Type 0} → (S → A → Option S) → S → Rule A → Rule S
-some_onto add s p = record {
-  Spells = λ t words rest. (x : _) × (xs : _) × (added_in_turn add s (x ∷ xs) ≡ Some t)
-      × SpellsMany p (x ∷ xs) words rest;
-  reads = λ words. option_and_then (λ a.
-      option_and_then (λ t. reads_onto_from add p (length a.1) t a.1) (add s a.0)) (p.reads words);
-  starts = p.starts;
-  goes_on = p.starts ++ p.goes_on;
-  may_be_empty = false;
-  is_fit = p.is_fit && (not p.may_be_empty && all_apart p.starts p.goes_on);
+  goes_on = p.goes_on;
+  may_be_empty = p.may_be_empty;
+  is_fit = p.is_fit;
 }
 
 -- ---- one rule after another, each chosen by the value of the one before
@@ -168,15 +102,59 @@ each_behind next s = record {
   is_fit = (next s).is_fit && (not (next s).may_be_empty && all_apart (next s).starts (next s).goes_on);
 }
 
--- ---- a rule whose value passes a test, and another value for it
+-- ---- any number of times, each value added to what there is
 
--- the value that a function gives for that of a rule, where it gives one
-abbrev pub where_it_gives : {A B : Type 0} → (A → Option B) → Rule A → Rule B
-where_it_gives f p = record {
-  Spells = λ y words rest. (x : _) × (f x ≡ Some y) × p.Spells x words rest;
-  reads = λ words. option_and_then (λ a. option_map (λ y. (y, a.1)) (f a.0)) (p.reads words);
+abbrev pub reads_onto_from : {A S : Type 0} → (S → A → Option S) → Rule A → ℕ → S → List Word
+    → Option (S × List Word)
+reads_onto_from add p zero s words = Some (s, words)
+reads_onto_from add p (suc turns) s words = if begins p.starts words then option_and_then
+    (λ a. option_and_then (λ t. reads_onto_from add p turns t a.1) (add s a.0)) (p.reads words) else Some
+    (s, words)
+
+abbrev pub onto : {A S : Type 0} → (S → A → Option S) → S → Rule A → Rule S
+onto add s p = record {
+  Spells = λ t words rest. (us : _) × SpellsTurns (λ u. where_it_gives (add u) p) s us t words rest;
+  reads = λ words. reads_onto_from add p (length words) s words;
   starts = p.starts;
-  goes_on = p.goes_on;
-  may_be_empty = p.may_be_empty;
-  is_fit = p.is_fit;
+  goes_on = p.starts ++ p.goes_on;
+  may_be_empty = true;
+  is_fit = p.is_fit && (not p.may_be_empty && all_apart p.starts p.goes_on);
+}
+
+-- ---- once or more, each value added to what there is
+
+abbrev pub some_onto : {A S : Type 0} → (S → A → Option S) → S → Rule A → Rule S
+some_onto add s p = record {
+  Spells = (each_behind (λ u. where_it_gives (add u) p) s).Spells;
+  reads = λ words. option_and_then (λ a.
+      option_and_then (λ t. reads_onto_from add p (length a.1) t a.1) (add s a.0)) (p.reads words);
+  starts = p.starts;
+  goes_on = p.starts ++ p.goes_on;
+  may_be_empty = false;
+  is_fit = p.is_fit && (not p.may_be_empty && all_apart p.starts p.goes_on);
+}
+
+-- ---- any number of times
+
+abbrev pub SpellsMany : {A : Type 0} → Rule A → List A → List Word → List Word → Type 0
+SpellsMany p [] words rest = words ≡ rest
+SpellsMany p (x ∷ xs) words rest = (middle : List Word) × p.Spells x words middle
+    × SpellsMany p xs middle rest
+
+abbrev pub reads_many_from : {A : Type 0} → Rule A → ℕ → List Word → Option (List A × List Word)
+reads_many_from p zero words = Some ([], words)
+reads_many_from p (suc turns) words = if begins p.starts words then option_and_then
+    (λ a. option_map (λ b. (a.0 ∷ b.0, b.1)) (reads_many_from p turns a.1)) (p.reads words) else Some (
+      [],
+      words,
+    )
+
+abbrev pub many : {A : Type 0} → Rule A → Rule (List A)
+many p = record {
+  Spells = SpellsMany p;
+  reads = λ words. reads_many_from p (length words) words;
+  starts = p.starts;
+  goes_on = p.starts ++ p.goes_on;
+  may_be_empty = true;
+  is_fit = p.is_fit && (not p.may_be_empty && all_apart p.starts p.goes_on);
 }

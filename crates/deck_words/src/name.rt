@@ -1,14 +1,14 @@
 //! Names, numbers and reserved words.
-ghost use Rattle.std.specs.Prelude.{◌≡◌};
+ghost use Rattle.std.specs.Prelude.{◌≡◌, ◌==◌, ◌||◌};
 ghost use Rattle.std.specs.Char.{is_ascii_digit};
 ghost use Rattle.std.specs.List.{list_all, list_any};
 ghost use Rattle.std.specs.Str.{bytes_eq};
 ghost use Rattle.io_state.specs.FileName.{is_capital};
-ghost use Rattle.deck_words.specs.ByteClass.{is_of_name};
 ghost use Rattle.deck_words.specs.Name.{is_reserved, is_name, is_number};
 
-/// The reserved words of the divisions before the procedure, and its heading.
-pub const DESCRIPTION_WORDS: [&[u8]; 47] = [
+/// The reserved words: of the divisions before the procedure and its heading, and behind them those
+/// that the procedure alone has.
+pub const RESERVED_WORDS: [&[u8]; 78] = [
     b"ACCESS",
     b"ALTERNATE",
     b"ARE",
@@ -56,10 +56,6 @@ pub const DESCRIPTION_WORDS: [&[u8]; 47] = [
     b"VARYING",
     b"WITH",
     b"WORKING-STORAGE",
-];
-
-/// The reserved words that the procedure alone has.
-pub const PROCEDURE_WORDS: [&[u8]; 31] = [
     b"CLOSE",
     b"DELETE",
     b"EQUAL",
@@ -104,7 +100,7 @@ fn is_in(table: &[&[u8]], text: &[u8]) -> bool
 fn is_reserved_text(text: &[u8]) -> bool
     ensures { result ≡ is_reserved text.now }
 {
-    is_in(&DESCRIPTION_WORDS, text) || is_in(&PROCEDURE_WORDS, text)
+    is_in(&RESERVED_WORDS, text)
 }
 
 fn has_letter(text: &[u8]) -> bool
@@ -114,7 +110,7 @@ fn has_letter(text: &[u8]) -> bool
 }
 
 fn has_name_bytes(text: &[u8]) -> bool
-    ensures { result ≡ list_all is_of_name text.now }
+    ensures { result ≡ list_all (λ byte. is_capital byte || is_ascii_digit byte || byte == 45) text.now }
 {
     text.iter().all(|byte| byte.is_ascii_uppercase() || byte.is_ascii_digit() || *byte == b'-')
 }

@@ -1,7 +1,6 @@
 //! A piece of a deck: a byte of white space, a literal or a run.
 ghost use Rattle.std.specs.Prelude.{◌≡◌, ◌^◌, ◌<◌};
-ghost use Rattle.deck_words.specs.Words.{rest_of};
-ghost use Rattle.deck_words.specs.Front.{piece_at};
+ghost use Rattle.deck_words.specs.Front.{piece_at, rest_of};
 
 use crate::byte_class::{is_mark_byte, is_space_byte};
 use crate::literal::literal_piece;
@@ -20,8 +19,7 @@ pub struct Piece<'a> {
 }
 
 impl<'a> Model for Piece<'a> {
-    ghost use Rattle.deck_words.specs.Front.{Next};
-    ghost use Rattle.deck_words.specs.Words.{rest_of};
+    ghost use Rattle.deck_words.specs.Front.{Next, rest_of};
     ghost use Rattle.deck_words.specs.Remaining.{found};
 
     ghost Value = { Next };

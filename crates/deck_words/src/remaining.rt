@@ -1,6 +1,6 @@
 //! The words that are still to come at a place of a deck.
 ghost use Rattle.std.specs.Prelude.{◌≡◌, ◌+◌, ◌^◌, ◌<◌, ◌≤◌, [], ◌∷◌, ◌++◌, length, drop, MatchOption};
-ghost use Rattle.deck_words.specs.Words.{rest_of};
+ghost use Rattle.deck_words.specs.Front.{rest_of};
 ghost use Rattle.deck_words.specs.Remaining.{words_from, GivesFirstWords};
 
 use crate::piece::{Piece, front_piece};
@@ -21,7 +21,7 @@ pub struct Words<'a> {
 impl<'a> Model for Words<'a> {
     ghost use Rattle.std.specs.Prelude.{◌≡◌, ◌+◌, ◌≤◌, List, length};
     ghost use Rattle.deck_words.specs.Word.{Word};
-    ghost use Rattle.deck_words.specs.Words.{rest_of};
+    ghost use Rattle.deck_words.specs.Front.{rest_of};
     ghost use Rattle.deck_words.specs.Remaining.{words_at};
 
     ghost Value = { List Word };

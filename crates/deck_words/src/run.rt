@@ -3,8 +3,8 @@ ghost use Rattle.std.specs.Prelude.{◌≡◌, ◌<◌, ◌≤◌, false, length
 ghost use Rattle.std.specs.List.{list_all, prefix_len};
 ghost use Rattle.deck_words.specs.ByteClass.{is_of_run, is_of_word};
 ghost use Rattle.deck_words.specs.Word.{sign_text};
-ghost use Rattle.deck_words.specs.Words.{sign_in, is_plain_text, body_words, run_words};
-ghost use Rattle.deck_words.specs.Front.{run_at, ends_run};
+ghost use Rattle.deck_words.specs.Words.{body_words, run_words};
+ghost use Rattle.deck_words.specs.Front.{sign_in, is_plain_text, run_at, ends_run};
 ghost use Rattle.deck_words.specs.Remaining.{found};
 
 use crate::byte_class::{is_run_byte, is_space_byte, is_word_byte};

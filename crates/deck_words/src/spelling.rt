@@ -1,6 +1,6 @@
 //! A word as it is spelled in a deck.
 ghost use Rattle.std.specs.Prelude.{◌≡◌};
-ghost use Rattle.deck_words.specs.Words.{is_plain_text};
+ghost use Rattle.deck_words.specs.Front.{is_plain_text};
 
 use crate::literal::Quoted;
 use crate::text::capitals_of;
@@ -16,7 +16,7 @@ pub struct PlainBytes<'a> {
 impl<'a> Model for PlainBytes<'a> {
     ghost use Rattle.std.specs.Prelude.{◌≡◌, true, ℕ, List, map};
     ghost use Rattle.deck_words.specs.ByteClass.{capital};
-    ghost use Rattle.deck_words.specs.Words.{is_plain_text};
+    ghost use Rattle.deck_words.specs.Front.{is_plain_text};
 
     ghost Value = { List ℕ };
 

@@ -20,7 +20,7 @@ is_described : (names : List (List ℕ)) (storage : List StorageEntry) (entry : 
 is_described names storage entry description file is = record {
   layout = is_record description.items file.layout is.layout;
   schema = is.schema;
-  greatest = is.keys.4;
+  greatest = is.keys.greatest;
   item = place_within storage description.lengths file.depends_on is.depends_on;
 }
 

@@ -1,12 +1,18 @@
 -- Files and 77-level items are made one by one.
-use Rattle.std.proofs.Common.{◌≡◌, ℕ, false, List, [], ◌∷◌, ◌++◌, Some, refl, sym, subst, ◌∙◌, append_assoc, length, arith}
+use Rattle.std.proofs.Common.{◌≡◌, ℕ, false, List, [], ◌∷◌, ◌++◌, Option, Some, refl, sym, subst, ◌∙◌, append_assoc, length, arith}
 use Rattle.std.proofs.lemmas.Option.{same_Some}
 use Rattle.std.proofs.lemmas.List.{append-nil}
+use Rattle.std.specs.List.{find}
+use Rattle.std.specs.Str.{bytes_eq}
 use Rattle.deck_entries.specs.FileControlEntry.{FileControlEntry}
 use Rattle.deck_entries.specs.FileDescription.{FileDescription, StorageEntry}
-use Rattle.file_control.specs.Description.{FileDesc, LengthItem, HasDigits, IsFile, AreFiles, AreItems, description_of_file, has_name, with_names}
+use Rattle.file_control.specs.Description.{FileDesc, LengthItem, HasDigits, IsFile, AreFiles, AreItems, has_name, with_names}
 
 -- ---- files
+
+-- the description of a file
+abbrev pub description_of_file : List FileDescription → List ℕ → Option FileDescription
+description_of_file descriptions name = find (λ description. bytes_eq description.name name) descriptions
 
 -- these files are made, and the entries that are left stand behind them
 pub record FilesSoFar (descriptions : List FileDescription) (storage : List StorageEntry) (before names : List (List ℕ)) (entries rest : List FileControlEntry) (files : List FileDesc) : Type 0 where

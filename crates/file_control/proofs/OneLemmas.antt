@@ -9,6 +9,7 @@ use Rattle.record_layout.specs.declared.fault.SchemaFault.{SchemaFault}
 use Rattle.record_layout.specs.Layout.{Placed, length_of}
 use Rattle.record_layout.specs.Schema.{Schema, IsSchema, AreKeys}
 use Rattle.record_layout.specs.SchemaFault.{KeyClause, HasKeys, GivesSchema, keys_given}
+use Rattle.record_layout.proofs.NamedKeysLemmas.{gives_keys}
 use Rattle.deck_entries.specs.FileControlEntry.{FileControlEntry}
 use Rattle.deck_words.specs.Word.{Word}
 use Rattle.file_control.specs.declared.description.Description.{Description}
@@ -100,8 +101,8 @@ one_file names storage entry description a b first second =
     let layout = one_layout description.items a.layout b.layout first.layout second.layout in
     let least = same_Some a.schema.least b.schema.least (sym first.least ∙ (ap (λ (l : List Placed). least_length description.lengths (length_of l)) layout ∙ second.least)) in
     let clauses = entry.alternate_keys in
-    let keys = subst (λ n. GivesSchema b.layout n entry.record_key clauses a.schema) least (subst (λ l. GivesSchema l a.schema.least entry.record_key clauses a.schema) layout first.keys) in
-    let schema = one_schema b.layout b.schema.least entry.record_key clauses a.schema b.schema first.schema second.schema keys second.keys in
+    let keys = subst (λ n. GivesSchema b.layout n entry.record_key clauses a.schema) least (subst (λ l. GivesSchema l a.schema.least entry.record_key clauses a.schema) layout (gives_keys a.layout entry.record_key clauses a.schema first.schema first.keys)) in
+    let schema = one_schema b.layout b.schema.least entry.record_key clauses a.schema b.schema first.schema second.schema keys (gives_keys b.layout entry.record_key clauses b.schema second.schema second.keys) in
     let name = first.name ∙ sym second.name in
     let file = first.file_name ∙ sym second.file_name in
     let access = first.access ∙ sym second.access in

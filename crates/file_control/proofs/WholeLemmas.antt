@@ -10,31 +10,31 @@ use Rattle.deck_words.specs.Operand.{digits}
 use Rattle.deck_words.specs.Notation.{the, name, literal, period}
 use Rattle.deck_entries.specs.FileControlEntry.{FileControlEntry}
 use Rattle.deck_words.specs.Word.{Word}
-use Rattle.deck_entries.specs.FileControlEntry.{indexed, mode, access, record_key, duplicates, alternate, status, clause, file_name, select_word, new_name, new_file_name, select_behind}
+use Rattle.deck_entries.specs.FileControlEntry.{mode, clause, select_behind}
 use Rattle.deck_words.proofs.TestLemmas.{bind_some, bind_is, map_some}
 use Rattle.deck_words.proofs.ClassLemmas.{begins_apart}
 use Rattle.deck_entries.specs.declared.divisions.Divisions.{Divisions}
-use Rattle.deck_entries.specs.FileDescription.{count, level, label, up_to, block, fixed, varying, length_clause, record_clause, description_clause, item_name, may_item_name, picture_clause, item, FileDescription, StorageEntry, described_name, description_behind, storage_item}
-use Rattle.deck_entries.specs.Divisions.{identification, may_identification, more_entry, entries, file_control_paragraph, more_description, descriptions, file_section, storage_section, data_division, SpellsDivisions, reads_divisions}
+use Rattle.deck_entries.specs.FileDescription.{count, length_clause, description_clause, picture_clause, item, FileDescription, StorageEntry, description_behind, storage_item}
+use Rattle.deck_entries.specs.Divisions.{file_control_paragraph, data_division, SpellsDivisions, reads_divisions}
 use Rattle.file_control.specs.declared.description.Description.{Description}
 use Rattle.file_control.specs.Description.{FileDesc, LengthItem}
 use Rattle.file_control.specs.Whole.{Describe, IsDescription}
 use Rattle.deck_entries.proofs.DivisionLemmas.{lawful_file_control, file_control_is_fit, lawful_data_division, data_division_is_fit}
 
 control_goes_on : all_apart (this (codes "DATA") ∷ []) file_control_paragraph.goes_on ≡ true
-unfolding file_control_paragraph may_identification identification entries more_entry select_behind select_word new_name new_file_name clause indexed mode access record_key duplicates alternate status file_name the name literal period is_reserved
+unfolding file_control_paragraph select_behind clause mode the name literal period is_reserved
 control_goes_on = refl
 
 data_starts : (selected : List FileControlEntry) → (data_division selected).starts ≡ this (codes "DATA") ∷ []
-unfolding data_division file_section the
+unfolding data_division the
 data_starts selected = refl
 
 data_some : (selected : List FileControlEntry) → (data_division selected).may_be_empty ≡ false
-unfolding data_division file_section storage_section the
+unfolding data_division the
 data_some selected = refl
 
 data_goes_on : (selected : List FileControlEntry) → all_apart (this (codes "PROCEDURE") ∷ []) (data_division selected).goes_on ≡ true
-unfolding data_division file_section storage_section storage_item descriptions more_description description_behind described_name description_clause label block record_clause length_clause fixed varying up_to count digits item item_name may_item_name picture_clause level the name period is_reserved
+unfolding data_division storage_item description_behind description_clause length_clause count digits item picture_clause the name period is_reserved
 data_goes_on selected = refl
 
 pub reads_sound : (divisions : Divisions) (words rest : List Word) → reads_divisions words ≡ Some (divisions, rest) → SpellsDivisions divisions words rest

@@ -3,15 +3,17 @@
 -- and RECORD clause. That data names are unique in a deck, and that a 77-level item is one of
 -- digits, is ours.
 use Rattle.std.specs.Prelude.{◌≡◌, ℕ, ◌≤◌, ◌==◌, Bool, true, false, not, ◌&&◌, List, [], ◌∷◌, ◌++◌, nat_le}
-use Rattle.std.specs.Prelude.{nat_lt, slice_get, position, if◌then◌else◌, Option, Some, None}
+use Rattle.std.specs.Prelude.{nat_lt, slice_get, position, filter_map, if◌then◌else◌, Option, Some, None}
+use Rattle.std.specs.Prelude.{option_and_then}
 use Rattle.std.specs.List.{list_all, list_any, find}
+use Rattle.std.specs.Option.{option_map_or}
 use Rattle.std.specs.Str.{bytes_eq}
 use Rattle.io_state.specs.declared.modes.Access.{Access}
 use Rattle.record_layout.specs.declared.picture.Picture.{Picture}
 use Rattle.record_layout.specs.Picture.{IsPicture}
 use Rattle.record_layout.specs.Layout.{Entry, Placed, IsLayout, length_of}
 use Rattle.record_layout.specs.Schema.{Schema, IsSchema}
-use Rattle.record_layout.specs.SchemaFault.{GivesSchema}
+use Rattle.record_layout.specs.SchemaFault.{HasNamedKeys, GivesSchema}
 use Rattle.deck_words.specs.Fault.{IsFault}
 use Rattle.deck_words.specs.declared.fault.Refusal.{Refusal}
 use Rattle.deck_entries.specs.FileControlEntry.{FileControlEntry}
@@ -24,22 +26,9 @@ use Rattle.deck_entries.specs.FileDescription.{FileDescription, StorageEntry}
 abbrev pub has_name : List (List ℕ) → List ℕ → Bool
 has_name names name = list_any (λ other. bytes_eq other name) names
 
--- a name that is not there yet; FILLER is none
-abbrev pub is_new : List (List ℕ) → Option (List ℕ) → Bool
-is_new names None = true
-is_new names (Some name) = not (has_name names name)
-
-abbrev pub are_new : List (List ℕ) → List Entry → Bool
-are_new names items = list_all (λ item. is_new names item.name) items
-
--- the names, with the name that is said, if any
-abbrev pub with_name : List (List ℕ) → Option (List ℕ) → List (List ℕ)
-with_name names None = names
-with_name names (Some name) = names ++ name ∷ []
-
+-- the names, with those of the items
 abbrev pub with_names : List (List ℕ) → List Entry → List (List ℕ)
-with_names names [] = names
-with_names names (item ∷ items) = with_names (with_name names item.name) items
+with_names names items = names ++ filter_map (λ item. item.name) items
 
 -- ---- 77-level items
 
@@ -82,15 +71,12 @@ least_length (Some (Varying lengths)) greatest =
 abbrev pub digit_count : ℕ → ℕ
 digit_count n = if nat_lt n 10 then 1 else if nat_lt n 100 then 2 else if nat_lt n 1000 then 3 else 4
 
--- the item has digits enough for the length
-abbrev pub HasDigitsFor : StorageEntry → ℕ → Type 0
-HasDigitsFor entry greatest = (digits : ℕ) × HasDigits entry.picture digits × (digit_count greatest ≤ digits)
-
 -- the item of this name is the entry of this place, and has digits enough for the length
 abbrev pub IsLengthItem : List StorageEntry → List ℕ → ℕ → ℕ → Type 0
 IsLengthItem storage name greatest place =
     (position (λ entry. bytes_eq entry.name name) storage ≡ Some place)
-    × ((entry : StorageEntry) × (slice_get storage place ≡ Some entry) × HasDigitsFor entry greatest)
+    × ((entry : StorageEntry) × (slice_get storage place ≡ Some entry)
+    × ((digits : ℕ) × HasDigits entry.picture digits × (digit_count greatest ≤ digits)))
 
 -- the place of the item that the length of a record depends on
 abbrev pub DependsOn : List StorageEntry → Option RecordLength → Option ℕ → Type 0
@@ -113,11 +99,6 @@ pub record FileDesc : Type 0 where
   pub schema : Schema
   pub depends_on : Option ℕ
 
--- the name of the record, which is the first item
-abbrev pub record_name : List Entry → Option (List ℕ)
-record_name [] = None
-record_name (item ∷ items) = item.name
-
 -- the file of an entry and of the items of its record, with this layout and schema
 abbrev pub described_by : FileControlEntry → List Entry → List Placed → Schema → Option ℕ → FileDesc
 described_by entry items layout schema depends_on = record {
@@ -125,7 +106,7 @@ described_by entry items layout schema depends_on = record {
   file = entry.file_name;
   access = entry.access;
   optional = entry.optional;
-  entry = record_name items;
+  entry = option_and_then (λ item. item.name) (slice_get items 0);
   layout = layout;
   schema = schema;
   depends_on = depends_on;
@@ -135,33 +116,33 @@ described_by entry items layout schema depends_on = record {
 abbrev pub GivesKeys : List Placed → ℕ → FileControlEntry → Schema → Type 0
 GivesKeys layout least entry schema = GivesSchema layout least entry.record_key entry.alternate_keys schema
 
--- the file of an entry and a description, behind these data names of earlier files
+-- the file of an entry and a description, behind these data names of earlier files: its record is the
+-- first item, and no item has one of these names
 pub record IsFile (names : List (List ℕ)) (storage : List StorageEntry) (entry : FileControlEntry)
     (description : FileDescription) (file : FileDesc) : Type 0 where
   pub name : file.name ≡ entry.name
   pub file_name : file.file ≡ entry.file_name
   pub access : file.access ≡ entry.access
   pub optional : file.optional ≡ entry.optional
-  pub record_entry : file.entry ≡ record_name description.items
+  pub record_entry : file.entry ≡ option_and_then (λ item. item.name) (slice_get description.items 0)
   pub layout : IsLayout description.items file.layout
   pub least : least_length description.lengths (length_of file.layout) ≡ Some file.schema.least
-  pub new : are_new names description.items ≡ true
+  pub new : list_all (λ item. option_map_or (λ name. not (has_name names name)) item.name true)
+      description.items ≡ true
   pub depends_on : DependsOn storage description.lengths file.depends_on
-  pub keys : GivesSchema file.layout file.schema.least entry.record_key entry.alternate_keys file.schema
+  pub keys : HasNamedKeys file.layout entry.record_key entry.alternate_keys file.schema
   pub schema : IsSchema file.schema
 
-abbrev pub description_of_file : List FileDescription → List ℕ → Option FileDescription
-description_of_file descriptions name = find (λ description. bytes_eq description.name name) descriptions
-
--- the files of these entries, behind these data names, and all data names then
+-- the files of these entries, each by its description, behind these data names, and all data names then
 abbrev pub AreFiles : List FileDescription → List StorageEntry → List (List ℕ) → List FileControlEntry
     → List FileDesc → List (List ℕ) → Type 0
 AreFiles descriptions storage names [] files after = (files ≡ []) × (after ≡ names)
 AreFiles descriptions storage names (entry ∷ entries) [] after = ⊥
 AreFiles descriptions storage names (entry ∷ entries) (file ∷ files) after =
-    (description : FileDescription) × (description_of_file descriptions entry.name ≡ Some description)
+    (description : FileDescription)
+    × (find (λ description. bytes_eq description.name entry.name) descriptions ≡ Some description)
     × IsFile names storage entry description file × AreFiles descriptions storage
-    (with_names names description.items) entries files after
+    (names ++ filter_map (λ item. item.name) description.items) entries files after
 
 -- they are refused, but for want of memory, only where there are no such files
 abbrev pub AreNoFiles : List FileDescription → List StorageEntry → List (List ℕ) → List FileControlEntry

@@ -23,10 +23,12 @@ abbrev pub DescribeNone : Divisions → Refusal → Type 0
 DescribeNone divisions refusal = IsFault refusal → (files : List FileDesc) (items : List LengthItem)
     → Describe divisions files items → ⊥
 
--- the words up to the word PROCEDURE, so many of them, are divisions that describe these files and items
+-- the words up to the word PROCEDURE, so many of them, are divisions that describe these files and
+-- items: the files of the entries, and behind their data names the items
 abbrev pub IsDescription : List Word → Description → Type 0
 IsDescription words description =
     (divisions : Divisions) × (description.words ≤ length words)
     × SpellsDivisions divisions words (drop description.words words)
     × (begins (this (codes "PROCEDURE") ∷ []) (drop description.words words) ≡ true)
-    × Describe divisions description.files description.items
+    × ((names : List (List ℕ)) × AreFiles divisions.descriptions divisions.storage [] divisions.entries
+    description.files names × AreItems names divisions.storage description.items)

@@ -2,7 +2,7 @@
 ghost use Rattle.std.specs.Prelude.{◌≡◌, map, option_map};
 ghost use Rattle.std.specs.List.{list_all};
 ghost use Rattle.record_layout.specs.Layout.{entry_of_item};
-ghost use Rattle.file_control.specs.Description.{is_new, are_new};
+ghost use Rattle.file_control.specs.Checks.{is_new, are_new};
 
 use io_state::Name;
 use record_layout::Item;
@@ -30,9 +30,10 @@ impl<'a> Model for DataNames<'a> {
 }
 
 impl<'a> DataNames<'a> {
-    ghost use Rattle.std.specs.Prelude.{◌≡◌, [], ◌∷◌, ◌++◌, map, option_map, OnOk};
+    ghost use Rattle.std.specs.Prelude.{◌≡◌, [], ◌∷◌, ◌++◌, map, option_map, option_to_list, OnOk};
     ghost use Rattle.record_layout.specs.Layout.{entry_of_item};
-    ghost use Rattle.file_control.specs.Description.{has_name, is_new, with_name, with_names};
+    ghost use Rattle.file_control.specs.Checks.{is_new};
+    ghost use Rattle.file_control.specs.Description.{has_name, with_names};
 
     pub fn new(alloc: Global) -> Self
         ensures { result ≡ [] }
@@ -65,7 +66,7 @@ impl<'a> DataNames<'a> {
     }
 
     fn add(&mut self, name: &'a Option<Name>) -> Result<(), AllocError>
-        ensures { OnOk result (self.new ≡ with_name self.old (option_map (λ n. n.bytes) name.now)) }
+        ensures { OnOk result (self.new ≡ self.old ++ option_to_list (option_map (λ n. n.bytes) name.now)) }
     {
         match name {
             Some(name) => self.push(name),

@@ -1,14 +1,14 @@
 //! A file, as its entry and its description describe it.
 ghost use Rattle.std.specs.Prelude.{◌≡◌, ◌≤◌, ◌≢◌, ℕ, false, List, Option, map, option_map, OnErr, IfOk};
-ghost use Rattle.std.specs.Prelude.{IfErr};
+ghost use Rattle.std.specs.Prelude.{IfErr, option_and_then, slice_get};
 ghost use Rattle.record_layout.specs.Layout.{Placed as PlacedItem, entry_of_item, IsLayout, length_of};
 ghost use Rattle.record_layout.specs.Schema.{Schema as Keys, IsSchema};
 ghost use Rattle.record_layout.specs.SchemaFault.{GivesSchema};
 ghost use Rattle.record_layout.specs.declared.fault.LayoutFault.{LayoutFault};
 ghost use Rattle.deck_words.specs.Fault.{IsFault, HasNoneIfRefused, GivesOrRefuses};
-ghost use Rattle.file_control.specs.Description.{FileDesc as File, record_name, described_by, GivesKeys};
-ghost use Rattle.file_control.specs.Description.{least_length, DependsOn, IsFile, are_new};
-ghost use Rattle.file_control.specs.Checks.{are_keys_named};
+ghost use Rattle.file_control.specs.Description.{FileDesc as File, described_by, GivesKeys};
+ghost use Rattle.file_control.specs.Description.{least_length, DependsOn, IsFile};
+ghost use Rattle.file_control.specs.Checks.{are_keys_named, are_new};
 ghost use Rattle.file_control.specs.FieldPlaces.{AreFields};
 
 use crate::data_names::{DataNames, are_new};
@@ -206,7 +206,8 @@ fn schema_of(
 
 /// The name of the record, which is the first item.
 fn record_name(items: &[Item]) -> Option<Name>
-    ensures { option_map (λ name. name.bytes) result ≡ record_name (map entry_of_item items.now) }
+    ensures { option_map (λ name. name.bytes) result
+        ≡ option_and_then (λ item. item.name) (slice_get (map entry_of_item items.now) 0) }
 {
     match items.first() {
         Some(item) => item.name,

@@ -1,8 +1,8 @@
 //! The files of a deck, and its 77-level items.
-ghost use Rattle.std.specs.Prelude.{◌≡◌, ℕ, List, [], ◌∷◌, option_map, OnOk, IfOk, IfErr};
+ghost use Rattle.std.specs.Prelude.{◌≡◌, ℕ, List, [], ◌∷◌, option_map, find, OnOk, IfOk, IfErr};
 ghost use Rattle.std.specs.Str.{bytes_eq};
 ghost use Rattle.deck_words.specs.Fault.{HasNoneIfRefused, GivesOrRefuses};
-ghost use Rattle.file_control.specs.Description.{FileDesc as File, LengthItem as Digits, description_of_file};
+ghost use Rattle.file_control.specs.Description.{FileDesc as File, LengthItem as Digits};
 ghost use Rattle.file_control.specs.Description.{AreFiles, AreNoFiles, AreItems, HaveDigits};
 
 use crate::data_names::DataNames;
@@ -119,7 +119,8 @@ fn is_of(description: &Described, name: &[u8]) -> bool
 
 /// The description of a file.
 fn described_as<'a>(descriptions: &'a [Described], name: &[u8]) -> Option<&'a Described>
-    ensures { option_map (λ d. d.now) result ≡ description_of_file descriptions.now name.now }
+    ensures { option_map (λ d. d.now) result
+        ≡ find (λ description. bytes_eq description.name name.now) descriptions.now }
 {
     descriptions
         .iter()

@@ -1,7 +1,8 @@
 //! The 77-level items.
 ghost use Rattle.std.specs.Prelude.{◌≡◌, ℕ, IfSome, IfNone, IfOk, IfErr, IsTrue, IsFalse, position};
 ghost use Rattle.std.specs.Str.{bytes_eq};
-ghost use Rattle.file_control.specs.Description.{HasDigits, digit_count, HasDigitsFor, IsLengthItem};
+ghost use Rattle.file_control.specs.Checks.{HasDigitsFor};
+ghost use Rattle.file_control.specs.Description.{HasDigits, digit_count, IsLengthItem};
 
 use deck_entries::StorageItem;
 use deck_words::Cause;

@@ -1,5 +1,5 @@
 -- The name of a file in its folder. All of this is ours.
-use Rattle.std.specs.Prelude.{ℕ, ◌==◌, Bool, false, ◌&&◌, ◌||◌, List, [], ◌∷◌, length, nat_le}
+use Rattle.std.specs.Prelude.{ℕ, ◌==◌, Bool, ◌&&◌, ◌||◌, List, length, nat_le, slice_index}
 use Rattle.std.specs.Char.{is_ascii_digit}
 use Rattle.std.specs.List.{list_all}
 
@@ -12,13 +12,8 @@ is_small byte = nat_le 97 byte && nat_le byte 122
 abbrev pub is_letter_or_digit : ℕ → Bool
 is_letter_or_digit byte = is_capital byte || is_small byte || is_ascii_digit byte
 
-abbrev pub is_of_file_name : ℕ → Bool
-is_of_file_name byte = is_letter_or_digit byte || byte == 46 || byte == 45 || byte == 95
-
-abbrev pub begins_file_name : List ℕ → Bool
-begins_file_name [] = false
-begins_file_name (byte ∷ text) = is_letter_or_digit byte
-
 -- 1 to 64 letters, digits, points, hyphens and underscores, the first a letter or digit
 abbrev pub is_file_name : List ℕ → Bool
-is_file_name text = nat_le (length text) 64 && begins_file_name text && list_all is_of_file_name text
+is_file_name text =
+    nat_le (length text) 64 && is_letter_or_digit (slice_index text 0)
+    && list_all (λ byte. is_letter_or_digit byte || byte == 46 || byte == 45 || byte == 95) text

@@ -1,7 +1,7 @@
 //! The name of a file in its folder.
-ghost use Rattle.std.specs.Prelude.{◌≡◌, true, Some, None, option_map, if◌then◌else◌};
+ghost use Rattle.std.specs.Prelude.{◌≡◌, ◌==◌, ◌||◌, true, Some, None, option_map, if◌then◌else◌};
 ghost use Rattle.std.specs.List.{list_all};
-ghost use Rattle.io_state.specs.FileName.{is_letter_or_digit, is_of_file_name, is_file_name};
+ghost use Rattle.io_state.specs.FileName.{is_letter_or_digit, is_file_name};
 
 use crate::FileName;
 
@@ -15,7 +15,8 @@ fn is_letter_or_digit_byte(byte: u8) -> bool
 }
 
 fn has_file_name_bytes(text: &[u8]) -> bool
-    ensures { result ≡ list_all is_of_file_name text.now }
+    ensures { result
+        ≡ list_all (λ byte. is_letter_or_digit byte || byte == 46 || byte == 45 || byte == 95) text.now }
 {
     text.iter().all(|byte| is_letter_or_digit_byte(*byte) || matches!(*byte, b'.' | b'-' | b'_'))
 }

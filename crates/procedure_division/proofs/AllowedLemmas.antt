@@ -1,11 +1,11 @@
 -- The statements of a procedure are allowed.
 use Rattle.std.proofs.Common.{◌≡◌, ℕ, cond, ◌+◌, ◌<◌, ◌≤◌, ◌==◌, Bool, true, false, not, ◌&&◌, ◌||◌, List, [], ◌∷◌, length, Option, Some, None, refl, sym, ap, ◌∙◌, subst, arith}
-use Rattle.std.specs.Prelude.{codes, nat_le, bytes_eq, is_some, slice_get, option_and_then, All, IsFalse}
+use Rattle.std.specs.Prelude.{codes, nat_le, bytes_eq, is_some, position, slice_get, option_and_then, All, IsFalse}
 use Rattle.std.specs.Option.{option_map, option_map_or}
 use Rattle.std.proofs.lemmas.Bool.{false≢true}
 use Rattle.std.proofs.lemmas.Option.{get_or_from_slice_get, slice_get_within, same_Some}
 use Rattle.deck_words.specs.Rule.{Rule, optional, onto, where_it_gives}
-use Rattle.deck_words.specs.Notation.{the, name, period, may, is_word_there, ◌▸◌, ◌◂◌, ◌⊗◌, ◌∣◌}
+use Rattle.deck_words.specs.Notation.{the, name, period, may, is_word_there, ◌▸◌, ◌◂◌, ◌⊗◌, ◌∣◌, ◌<$>◌}
 use Rattle.deck_words.proofs.TestLemmas.{both_true, bind_some, map_some, then_some, not_is}
 use Rattle.io_state.specs.declared.modes.Access.{Access}
 use Rattle.io_state.specs.declared.modes.Access.TheVariants.{Sequential, Random, Dynamic}
@@ -22,32 +22,50 @@ use Rattle.record_layout.specs.declared.area.Source.TheVariants.{Fill}
 use Rattle.record_layout.specs.declared.area.Figure.TheVariants.{Zero}
 use Rattle.io_state.specs.declared.modes.Relation.{Relation}
 use Rattle.std.proofs.lemmas.Bool.Decides.{nat_tests}
-use Rattle.io_state.specs.declared.statement.FileStatement.TheVariants.{Open, Close, Write, Rewrite, Delete}
+use Rattle.io_state.specs.declared.statement.FileStatement.{FileStatement}
+use Rattle.io_state.specs.declared.statement.FileStatement.TheVariants.{Open, Close, ReadNext, Read, Write, Rewrite, Delete}
 use Rattle.procedure_division.specs.declared.statement.Statement.{Statement}
 use Rattle.procedure_division.specs.declared.statement.Statement.TheVariants.{Perform, Move, MoveLength, StopRun}
 use Rattle.file_control.specs.Description.{FileDesc}
 use Rattle.file_control.specs.Described.{IsDescribedFile, AreDescribed}
 use Rattle.procedure_division.specs.Allowed.{IsAllowedOn, IsAllowed}
 use Rattle.procedure_division.specs.Following.{followed, where_allowed}
-use Rattle.procedure_division.specs.Names.{Names, place_of_file, record_of, item_in, holder_of, item_named, length_item_of, access_at, prime_length, key_by_item, led_key_of}
-use Rattle.procedure_division.specs.Procedure.{statement, sentence, paragraph, paragraph_or_sentence, procedure}
-use Rattle.procedure_division.specs.StatementRules.{joined_statements, some_of, one_statement, file, record_named, name_to_open, opening, open_statement, lock, file_to_close, close_statement, next, key, key_phrase, read_by, read_operand, read_phrases, read_statement, relation, file_to_start, led_key, start_by, start_phrase, start_operand, start_statement, source, moved_to, receiver, receivers, move_statement, write_statement, rewrite_statement, delete_statement, stop_statement}
+use Rattle.procedure_division.specs.Names.{Names, item_in, item_named, access_at}
+use Rattle.procedure_division.specs.Procedure.{statement, procedure}
+use Rattle.procedure_division.specs.StatementRules.{joined_statements, some_of, one_statement, file, open_statement, close_statement, key, read_operand, read_statement, relation, led_key, start_by, start_statement, source, receiver, move_statement}
+use Rattle.procedure_division.specs.Parts.{record_named, name_to_open, opening, file_to_close, paragraph_or_sentence}
+use Rattle.procedure_division.proofs.ProcedureLemmas.{next, read_phrases, file_to_start, start_operand, moved_to, receivers, write_statement, rewrite_statement, delete_statement, stop_statement, paragraph, sentence}
 use Rattle.procedure_division.proofs.GivesLemmas.{Gives, gives_second, gives_first, gives_pair, gives_either, gives_as, gives_followed, IfThere, gives_optional, joined_all, gives_some, found, all_at, one_all, field_found, keys_there}
 use Rattle.procedure_division.proofs.SourceLemmas.{HasDigits, gives_source, taken_is_number}
 
--- the OPEN of the file of this name, where its access mode permits the open mode
-abbrev file_to_open : Names → OpenMode → List ℕ → Option (List Statement)
-file_to_open names mode name =
-    option_and_then (λ u. cond (may_open (access_at names u) mode) (Some (one_statement u (Open mode))) None) (place_of_file names name)
+-- by this key, or by the prime key where no KEY phrase stands
+abbrev read_by : Bool → Option ℕ → FileStatement
+read_by sequential k = option_map_or (λ k. Read k) k (cond sequential ReadNext (Read 0))
+
+-- the place of the 77-level item of this name
+abbrev length_item_of : Names → List ℕ → Option ℕ
+length_item_of names name = position (λ item. bytes_eq item.name name) names.items
+
+-- the length of the file's prime key
+abbrev prime_length : Names → ℕ → ℕ
+prime_length names u = option_map_or (λ file. (key_at file.schema 0).length) (slice_get names.files u) 0
+
+-- the key of the file that the item is
+abbrev key_by_item : Names → ℕ → Field → Option ℕ
+key_by_item names u field = option_and_then (λ file. key_of_field file.schema field) (slice_get names.files u)
+
+-- the key of the file that begins with the item, and the item's length
+abbrev led_key_of : Names → ℕ → Field → Option (ℕ × ℕ)
+led_key_of names u field =
+    option_and_then (λ file. option_map {U = ℕ × ℕ} (λ k. (k, field.length)) (key_led_by file.schema field)) (slice_get names.files u)
+
+-- [[WITH] LOCK]
+abbrev lock : Rule Bool
+lock = is_word_there <$> optional (may (codes "WITH") ▸ the (codes "LOCK"))
 
 -- the key that the file's item of this name is
 abbrev key_named : Names → ℕ → List ℕ → Option ℕ
 key_named names u name = option_and_then (key_by_item names u) (item_in names u name)
-
--- the file of this name, unless its access is random
-abbrev file_to_start_named : Names → List ℕ → Option ℕ
-file_to_start_named names name =
-    option_and_then (λ u. cond (is_random (access_at names u)) None (Some u)) (place_of_file names name)
 
 -- the key that the file's item of this name leads, and the item's length
 abbrev led_key_named : Names → ℕ → List ℕ → Option (ℕ × ℕ)
@@ -64,11 +82,11 @@ IsFileOf names u = (known : FileDesc) × (slice_get names.files u ≡ Some known
 
 pub gives_file : (names : Names) → Gives (IsFileOf names) (file names)
 unfolding file
-gives_file names = gives_as (λ _. Unit {0}) (IsFileOf names) (place_of_file names) name (λ _ _ _ _. tt) (λ text u _ e. let f = found (λ known. bytes_eq known.name text) names.files u e in (f.0, f.1))
+gives_file names = gives_as (λ _. Unit {0}) (IsFileOf names) (λ text. position (λ known. bytes_eq known.name text) names.files) name (λ _ _ _ _. tt) (λ text u _ e. let f = found (λ known. bytes_eq known.name text) names.files u e in (f.0, f.1))
 
 pub gives_record_name : (names : Names) → Gives (IsFileOf names) (record_named names)
 unfolding record_named
-gives_record_name names = gives_as (λ _. Unit {0}) (IsFileOf names) (record_of names) name (λ _ _ _ _. tt) (λ text u _ e. let f = found (λ known. is_named text known.entry) names.files u e in (f.0, f.1))
+gives_record_name names = gives_as (λ _. Unit {0}) (IsFileOf names) (λ text. position (λ known. is_named text known.entry) names.files) name (λ _ _ _ _. tt) (λ text u _ e. let f = found (λ known. is_named text known.entry) names.files u e in (f.0, f.1))
 
 -- a rule whose value is one statement
 gives_one : {A : Type 0} (names : Names) (P : A → Type 0) (g : A → Statement) (p : Rule A) → Gives P p → ((x : A) → P x → IsAllowed names (g x)) → Gives (All (IsAllowed names)) (where_it_gives (λ x. Some (g x ∷ [])) p)
@@ -80,17 +98,16 @@ access_is names u known e = ap (λ o. option_map_or (λ file. file.access) o Seq
 
 -- ---- OPEN and CLOSE
 
-open_allowed : (names : Names) (mode : OpenMode) (text : List ℕ) (statements : List Statement) → file_to_open names mode text ≡ Some statements → All (IsAllowed names) statements
-open_allowed names mode text statements e =
-    let a = bind_some (λ u. cond (may_open (access_at names u) mode) (Some (one_statement u (Open mode))) None) (place_of_file names text) statements e in
-    let t = then_some (may_open (access_at names a.0) mode) (Some (one_statement a.0 (Open mode))) statements a.2 in
-    let f = found (λ known. bytes_eq known.name text) names.files a.0 a.1 in
-    subst (All (IsAllowed names)) (same_Some (one_statement a.0 (Open mode)) statements t.1)
-    (one_all (IsAllowed names) (Perform a.0 (Open mode)) (f.0, f.1, subst (λ access. may_open access mode ≡ true) (access_is names a.0 f.0 f.1) t.0))
+open_allowed : (names : Names) (mode : OpenMode) (u : ℕ) (statements : List Statement) → IsFileOf names u → cond (may_open (access_at names u) mode) (Some (one_statement u (Open mode))) None ≡ Some statements → All (IsAllowed names) statements
+open_allowed names mode u statements f e =
+    let t = then_some (may_open (access_at names u) mode) (Some (one_statement u (Open mode))) statements e in
+    subst (All (IsAllowed names)) (same_Some (one_statement u (Open mode)) statements t.1)
+    (one_all (IsAllowed names) (Perform u (Open mode)) (f.0, f.1, subst (λ access. may_open access mode ≡ true) (access_is names u f.0 f.1) t.0))
 
 pub gives_opened : (names : Names) (mode : OpenMode) → Gives (All (IsAllowed names)) (name_to_open names mode)
 unfolding name_to_open
-gives_opened names mode = gives_as (λ _. Unit {0}) (All (IsAllowed names)) (file_to_open names mode) name (λ _ _ _ _. tt) (λ text statements _ e. open_allowed names mode text statements e)
+gives_opened names mode =
+    gives_as (IsFileOf names) (All (IsAllowed names)) (λ u. cond (may_open (access_at names u) mode) (Some (one_statement u (Open mode))) None) (file names) (gives_file names) (open_allowed names mode)
 
 opened_all : (names : Names) (text : List ℕ) (mode : OpenMode) → Gives (All (IsAllowed names)) (the text ▸ some_of (name_to_open names mode))
 opened_all names text mode =
@@ -109,7 +126,7 @@ gives_opening names =
     (gives_either P update extend (opened_all names (codes "I-O") InputOutput) (opened_all names (codes "EXTEND") Extend)))
 
 pub gives_open : (names : Names) → Gives (All (IsAllowed names)) (open_statement names)
-unfolding open_statement
+unfolding open_statement opening name_to_open
 gives_open names =
     gives_second (All (IsAllowed names)) (the (codes "OPEN")) (some_of (opening names)) (gives_some (IsAllowed names) (opening names) (gives_opening names))
 
@@ -120,33 +137,29 @@ gives_closed names =
     (gives_pair (IsFileOf names) (λ _. Unit {0}) (file names) lock (gives_file names) (λ _ _ _ _. tt)) (λ c p. (p.0.0, p.0.1, tt))
 
 pub gives_close : (names : Names) → Gives (All (IsAllowed names)) (close_statement names)
-unfolding close_statement
+unfolding close_statement file_to_close
 gives_close names =
     gives_second (All (IsAllowed names)) (the (codes "CLOSE")) (some_of (file_to_close names)) (gives_some (IsAllowed names) (file_to_close names) (gives_closed names))
 
 -- ---- WRITE, REWRITE, DELETE and STOP
 
 pub gives_write : (names : Names) → Gives (All (IsAllowed names)) (write_statement names)
-unfolding write_statement
 gives_write names =
     gives_one names (IsFileOf names) (λ u. Perform u Write) (the (codes "WRITE") ▸ record_named names)
     (gives_second (IsFileOf names) (the (codes "WRITE")) (record_named names) (gives_record_name names)) (λ u p. (p.0, p.1, tt))
 
 pub gives_rewrite : (names : Names) → Gives (All (IsAllowed names)) (rewrite_statement names)
-unfolding rewrite_statement
 gives_rewrite names =
     gives_one names (IsFileOf names) (λ u. Perform u Rewrite) (the (codes "REWRITE") ▸ record_named names)
     (gives_second (IsFileOf names) (the (codes "REWRITE")) (record_named names) (gives_record_name names)) (λ u p. (p.0, p.1, tt))
 
 pub gives_delete : (names : Names) → Gives (All (IsAllowed names)) (delete_statement names)
-unfolding delete_statement
 gives_delete names =
     gives_one names (IsFileOf names) (λ u. Perform u Delete) (the (codes "DELETE") ▸ file names ◂ may (codes "RECORD"))
     (gives_second (IsFileOf names) (the (codes "DELETE")) (file names ◂ may (codes "RECORD"))
     (gives_first (IsFileOf names) (file names) (may (codes "RECORD")) (gives_file names))) (λ u p. (p.0, p.1, tt))
 
 pub gives_stop : (names : Names) → Gives (All (IsAllowed names)) stop_statement
-unfolding stop_statement
 gives_stop names = gives_one names (λ _. Unit {0}) (λ _. StopRun) (the (codes "STOP") ▸ the (codes "RUN")) (λ _ _ _ _. tt) (λ _ _. tt)
 
 -- ---- READ
@@ -164,7 +177,6 @@ way_of Dynamic None h = refl
 way_of Dynamic (Some _) h = refl
 
 pub gives_next : (access : Access) → Gives (IsWay access) (next access)
-unfolding next
 gives_next access =
     let word = where_allowed (not (is_random access)) (the (codes "NEXT")) in
     gives_as (IfThere (λ _. not (is_random access) ≡ true)) (IsWay access) (λ n. Some (is_sequential access || is_word_there n)) (optional word)
@@ -187,8 +199,11 @@ module _ (names : Names) (u : ℕ) (known : FileDesc) (at : slice_get names.file
       let f = found (λ part. (part.offset == a.0.offset) && (part.length == a.0.length)) known.schema.keys k (sym (key_of_is a.0) ∙ a.2) in
       slice_get_within known.schema.keys k f.0 f.1)
 
-  pub gives_key_phrase : (sequential : Bool) → Gives (IfThere (λ k. (sequential ≡ false) × (k < length known.schema.keys))) (key_phrase names u sequential)
-  unfolding key_phrase
+  -- [KEY [IS] name], where the READ is not sequential
+  abbrev key_phrase : Bool → Rule (Option ℕ)
+  key_phrase sequential = optional (where_allowed (not sequential) (the (codes "KEY")) ▸ may (codes "IS") ▸ key names u)
+
+  pub gives_key_phrase : (sequential : Bool) → Gives (IfThere (λ k. (sequential ≡ false) × (k < length known.schema.keys))) (key_phrase sequential)
   gives_key_phrase sequential =
       let Q = λ (k : ℕ). (sequential ≡ false) × (k < length known.schema.keys) in
       let word = where_allowed (not sequential) (the (codes "KEY")) in
@@ -208,12 +223,11 @@ module _ (names : Names) (u : ℕ) (known : FileDesc) (at : slice_get names.file
   unfolding read_operand
   gives_read_operand keys sequential way =
       let Q = IfThere (λ (k : ℕ). (sequential ≡ false) × (k < length known.schema.keys)) in
-      gives_one names Q (λ k. Perform u (read_by sequential k)) (may (codes "RECORD") ▸ key_phrase names u sequential)
-      (gives_second Q (may (codes "RECORD")) (key_phrase names u sequential) (gives_key_phrase sequential))
+      gives_one names Q (λ k. Perform u (read_by sequential k)) (may (codes "RECORD") ▸ key_phrase sequential)
+      (gives_second Q (may (codes "RECORD")) (key_phrase sequential) (gives_key_phrase sequential))
       (λ k h. (known, at, read_allowed keys sequential k way h))
 
   pub gives_read_phrases : AreKeys known.schema.keys → Gives (All (IsAllowed names)) (read_phrases names u)
-  unfolding read_phrases
   gives_read_phrases keys =
       gives_followed (IsWay (access_at names u)) (All (IsAllowed names)) false (next (access_at names u)) (read_operand names u) (gives_next (access_at names u))
       (λ sequential way. gives_read_operand keys sequential (subst (λ access. IsWay access sequential) (access_is names u known at) way))
@@ -235,13 +249,10 @@ not_random true u v e = absurd (cc)
 not_random false u v e = (refl, same_Some u v e)
 
 pub gives_file_to_start : (names : Names) → Gives (λ u. (known : FileDesc) × (slice_get names.files u ≡ Some known) × IsFalse (is_random known.access)) (file_to_start names)
-unfolding file_to_start
 gives_file_to_start names =
-    gives_as (λ _. Unit {0}) (λ u. (known : FileDesc) × (slice_get names.files u ≡ Some known) × IsFalse (is_random known.access)) (file_to_start_named names) name (λ _ _ _ _. tt) (λ text v _ e.
-    let a = bind_some (λ u. cond (is_random (access_at names u)) None (Some u)) (place_of_file names text) v e in
-    let b = not_random (is_random (access_at names a.0)) a.0 v a.2 in
-    let f = found (λ known. bytes_eq known.name text) names.files a.0 a.1 in
-    (f.0, subst (λ u. slice_get names.files u ≡ Some f.0) b.1 f.1, subst (λ access. is_random access ≡ false) (access_is names a.0 f.0 f.1) b.0))
+    gives_as (IsFileOf names) (λ u. (known : FileDesc) × (slice_get names.files u ≡ Some known) × IsFalse (is_random known.access)) (λ u. cond (is_random (access_at names u)) None (Some u)) (file names) (gives_file names) (λ u v f e.
+    let b = not_random (is_random (access_at names u)) u v e in
+    (f.0, subst (λ u. slice_get names.files u ≡ Some f.0) b.1 f.1, subst (λ access. is_random access ≡ false) (access_is names u f.0 f.1) b.0))
 
 at_most : (a b : ℕ) → nat_le a b ≡ true → a ≤ b
 at_most a b e = grind (arith, nat_tests)
@@ -274,8 +285,11 @@ module _ (names : Names) (u : ℕ) (known : FileDesc) (at : slice_get names.file
   unfolding led_key
   gives_led_key described = gives_as (λ _. Unit {0}) (λ led. IsLed known led.0 led.1) (led_key_named names u) name (λ _ _ _ _. tt) (λ text led _ e. led_of described text led e)
 
-  pub gives_start_phrase : IsRecord known.layout → Gives (IfThere (λ operand. IsLed known operand.1.0 operand.1.1)) (start_phrase names u)
-  unfolding start_phrase
+  -- [KEY [IS] relation name]
+  abbrev start_phrase : Rule (Option (Relation × (ℕ × ℕ)))
+  start_phrase = optional (the (codes "KEY") ▸ may (codes "IS") ▸ relation ⊗ led_key names u)
+
+  pub gives_start_phrase : IsRecord known.layout → Gives (IfThere (λ operand. IsLed known operand.1.0 operand.1.1)) start_phrase
   gives_start_phrase described =
       let Q = λ (operand : Relation × (ℕ × ℕ)). IsLed known operand.1.0 operand.1.1 in
       let pair = relation ⊗ led_key names u in
@@ -294,9 +308,8 @@ module _ (names : Names) (u : ℕ) (known : FileDesc) (at : slice_get names.file
   start_allowed described way (Some operand) h = (way, h.0, h.1, h.2)
 
   pub gives_start_operand : IsRecord known.layout → IsSchema known.schema → IsFalse (is_random known.access) → Gives (All (IsAllowed names)) (start_operand names u)
-  unfolding start_operand
   gives_start_operand record_is schema_is way =
-      gives_one names (IfThere (λ operand. IsLed known operand.1.0 operand.1.1)) (λ operand. Perform u (start_by names u operand)) (start_phrase names u) (gives_start_phrase record_is)
+      gives_one names (IfThere (λ operand. IsLed known operand.1.0 operand.1.1)) (λ operand. Perform u (start_by names u operand)) start_phrase (gives_start_phrase record_is)
       (λ operand h. (known, at, start_allowed schema_is way operand h))
 
 pub gives_start : (names : Names) → AreDescribed names.files names.items → Gives (All (IsAllowed names)) (start_statement names)
@@ -311,7 +324,7 @@ gives_start names described =
 move_allowed : (names : Names) → AreDescribed names.files names.items → (sent : Source (List ℕ)) → HasDigits sent → (text : List ℕ) (item : Option (ℕ × Field)) (place : Option ℕ) (statements : List Statement) → item_named names text ≡ item → length_item_of names text ≡ place → moved_to sent item place ≡ Some statements → All (IsAllowed names) statements
 move_allowed names described sent numeral text (Some item) place statements e p m =
     let t = then_some (is_taken_by item.1.numeric sent) (Some (Move item.0 item.1 sent ∷ [])) statements m in
-    let a = bind_some (λ u. option_map {U = ℕ × Field} (λ field. (u, field)) (item_in names u text)) (holder_of names text) item e in
+    let a = bind_some (λ u. option_map {U = ℕ × Field} (λ field. (u, field)) (item_in names u text)) (position (λ known. is_some (field_of known.layout text)) names.files) item e in
     let b = map_some (λ field. (a.0, field)) (item_in names a.0 text) item a.2 in
     let f = found (λ known. is_some (field_of known.layout text)) names.files a.0 a.1 in
     let d = all_at (IsDescribedFile (length names.items)) names.files a.0 f.0 described.files_are f.1 in
@@ -332,7 +345,6 @@ gives_receiver names described sent numeral =
     (λ text statements _ e. move_allowed names described sent numeral text (item_named names text) (length_item_of names text) statements refl refl e)
 
 pub gives_receivers : (names : Names) → AreDescribed names.files names.items → (sent : Source (List ℕ)) → HasDigits sent → Gives (All (IsAllowed names)) (receivers names sent)
-unfolding receivers
 gives_receivers names described sent numeral =
     gives_second (All (IsAllowed names)) (the (codes "TO")) (some_of (receiver names sent)) (gives_some (IsAllowed names) (receiver names sent) (gives_receiver names described sent numeral))
 
@@ -345,7 +357,7 @@ gives_move names described =
 -- ---- the procedure
 
 pub gives_statement : (names : Names) → AreDescribed names.files names.items → Gives (All (IsAllowed names)) (statement names)
-unfolding statement
+unfolding statement record_named
 gives_statement names described =
     let P = All (IsAllowed names) in
     let last = stop_statement in
@@ -366,7 +378,6 @@ gives_statement names described =
     (gives_either P (move_statement names) last (gives_move names described) (gives_stop names))))))))
 
 pub gives_sentence : (names : Names) → AreDescribed names.files names.items → Gives (All (IsAllowed names)) (sentence names)
-unfolding sentence
 gives_sentence names described =
     gives_first (All (IsAllowed names)) (some_of (statement names)) period (gives_some (IsAllowed names) (statement names) (gives_statement names described))
 
@@ -374,7 +385,6 @@ nothing_all : (P : Statement → Type 0) → All P []
 nothing_all P = λ i d within. absurd (omega (arith, within))
 
 pub gives_paragraph : (names : Names) → Gives (All (IsAllowed names)) paragraph
-unfolding paragraph
 gives_paragraph names =
     gives_as (λ _. Unit {0}) (All (IsAllowed names)) (λ _. Some []) (name ▸ period) (λ _ _ _ _. tt)
     (λ _ statements _ e. subst (All (IsAllowed names)) (same_Some {A = List Statement} [] statements e) (nothing_all (IsAllowed names)))
@@ -386,11 +396,11 @@ gives_turn names described =
 
 -- every statement of a procedure is allowed
 pub all_allowed : (names : Names) → AreDescribed names.files names.items → Gives (All (IsAllowed names)) (procedure names)
-unfolding procedure
+unfolding procedure paragraph_or_sentence
 all_allowed names described =
     let P = All (IsAllowed names) in
     let turns = onto joined_statements [] (paragraph_or_sentence names) in
     gives_second P (the (codes "PROCEDURE")) (the (codes "DIVISION") ▸ period ▸ turns)
     (gives_second P (the (codes "DIVISION")) (period ▸ turns)
     (gives_second P period turns (λ statements words rest s.
-    joined_all (IsAllowed names) (paragraph_or_sentence names) (gives_turn names described) [] statements s.0 words rest (nothing_all (IsAllowed names)) s.1 s.2)))
+    joined_all (IsAllowed names) (paragraph_or_sentence names) (gives_turn names described) [] statements s.0 words rest (nothing_all (IsAllowed names)) s.1)))

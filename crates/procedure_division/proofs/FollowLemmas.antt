@@ -5,8 +5,8 @@ use Rattle.deck_words.specs.Class.{Class, begins, all_apart}
 use Rattle.deck_words.specs.Rule.{Rule}
 use Rattle.deck_words.proofs.TestLemmas.{both_true, or_true, bind_some}
 use Rattle.deck_words.proofs.ClassLemmas.{begins_apart, begins-append, neither_begins}
-use Rattle.deck_words.proofs.RuleLemmas.{Lawful, lawful_as}
-use Rattle.procedure_division.specs.Following.{followed, where_allowed}
+use Rattle.deck_words.proofs.RuleLemmas.{Lawful}
+use Rattle.procedure_division.specs.Following.{followed}
 
 -- the rules look ahead in the same way
 pub record AreAlike {B : Type 0} (r s : Rule B) : Type 0 where

@@ -6,7 +6,7 @@ use Rattle.std.proofs.lemmas.List.Elements.{All-append}
 use Rattle.std.proofs.lemmas.List.Quantifiers.{position-Some}
 use Rattle.std.proofs.lemmas.Option.{slice_get-get_or, get_or_from_slice_get, slice_get_within, same_Some}
 use Rattle.deck_words.specs.Word.{Word}
-use Rattle.deck_words.specs.Rule.{Rule, optional, where_it_gives, SpellsMany, added_in_turn}
+use Rattle.deck_words.specs.Rule.{Rule, optional, where_it_gives, SpellsTurns}
 use Rattle.deck_words.specs.Notation.{◌▸◌, ◌◂◌, ◌⊗◌, ◌∣◌}
 use Rattle.record_layout.specs.declared.item.Field.{Field}
 use Rattle.record_layout.specs.declared.schema.KeyPart.{KeyPart}
@@ -48,15 +48,13 @@ gives_optional P p h None words rest s = tt
 gives_optional P p h (Some x) words rest s = h x words rest s
 
 module _ (P : Statement → Type 0) (p : Rule (List Statement)) (h : Gives (All P) p) where
-  pub joined_all : (before after : List Statement) (xs : List (List Statement)) (words rest : List Word) → All P before → added_in_turn joined_statements before xs ≡ Some after → SpellsMany p xs words rest → All P after
-  joined_all before after [] words rest all e s = subst (All P) (same before after e) all where
-    same : (a b : List Statement) → ◌≡◌ {A = Option (List Statement)} (Some a) (Some b) → a ≡ b
-    same a b e = cc
-  joined_all before after (x ∷ xs) words rest all e s =
-      joined_all (before ++ x) after xs s.0 rest (All-append P before x all (h x words s.0 s.1)) e s.2
+  pub joined_all : (before after : List Statement) (us : List (List Statement)) (words rest : List Word) → All P before → SpellsTurns (λ u. where_it_gives (joined_statements u) p) before us after words rest → All P after
+  joined_all before after [] words rest all s = subst (All P) s.0 all
+  joined_all before after (u ∷ us) words rest all s =
+      joined_all u after us s.0 rest (subst (All P) (same_Some (before ++ s.1.0) u s.1.1) (All-append P before s.1.0 all (h s.1.0 words s.0 s.1.2))) s.2
 
   pub gives_some : Gives (All P) (some_of p)
-  gives_some after words rest s = joined_all [] after (s.0 ∷ s.1) words rest (λ i d within. absurd (omega (arith, within))) s.2 s.3
+  gives_some after words rest s = joined_all [] after (s.0 ∷ s.1) words rest (λ i d within. absurd (omega (arith, within))) s.2
 
 -- ---- places
 

@@ -49,6 +49,11 @@ module _ (p : Rule (List Statement)) where
   pub some_behind : (before : List Statement) (words : List Word) → (behind_statements before (some_of p)).reads words ≡ (some_onto joined_statements before p).reads words
   some_behind before words = some_behind_by before (p.reads words)
 
+-- what is not there is refused
+pub refused : {A : Type 0} (read : Option A) (refusal : Refusal) → read ≡ None → Refuses read refusal
+refused read Memory e = tt
+refused read (Fault line cause) e = e
+
 -- ---- a rule behind a first one
 
 pub nothing_behind : (before : List Statement) → before ++ [] ≡ before

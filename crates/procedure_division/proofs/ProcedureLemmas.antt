@@ -1,8 +1,15 @@
 -- The procedure is read as it is spelled: one word of look-ahead is enough.
-use Rattle.std.proofs.Common.{◌≡◌, ◌||◌, ℕ, Bool, true, false, refl, List, [], ◌∷◌}
-use Rattle.std.specs.Prelude.{codes}
+use Rattle.std.proofs.Common.{◌≡◌, ◌||◌, ℕ, Bool, true, false, not, cond, refl, List, [], ◌∷◌, Option, Some, None}
+use Rattle.std.specs.Prelude.{codes, option_and_then}
+use Rattle.std.specs.Option.{option_map_or}
 use Rattle.io_state.specs.declared.modes.OpenMode.{OpenMode}
 use Rattle.io_state.specs.declared.modes.Access.{Access}
+use Rattle.io_state.specs.Permission.{is_sequential, is_random}
+use Rattle.io_state.specs.declared.statement.FileStatement.TheVariants.{Write, Rewrite, Delete}
+use Rattle.procedure_division.specs.declared.statement.Statement.{Statement}
+use Rattle.procedure_division.specs.declared.statement.Statement.TheVariants.{Move, MoveLength, StopRun}
+use Rattle.record_layout.specs.declared.item.Field.{Field}
+use Rattle.record_layout.specs.Area.{is_taken_by}
 use Rattle.record_layout.specs.declared.area.Source.{Source}
 use Rattle.record_layout.specs.declared.area.Source.TheVariants.{Fill}
 use Rattle.record_layout.specs.declared.area.Figure.TheVariants.{Zero}
@@ -10,8 +17,8 @@ use Rattle.deck_words.specs.Name.{is_reserved}
 use Rattle.deck_words.specs.Class as class
 use Rattle.deck_words.specs.Class.{begins}
 use Rattle.deck_words.specs.Word.{Word}
-use Rattle.deck_words.specs.Rule.{many}
-use Rattle.deck_words.specs.Notation.{the, name, literal, period}
+use Rattle.deck_words.specs.Rule.{Rule, many, optional, where_it_gives}
+use Rattle.deck_words.specs.Notation.{the, name, literal, period, may, is_word_there, ◌▸◌, ◌◂◌, ◌⊗◌, ◌<$>◌}
 use Rattle.deck_words.specs.Operand.{sign, digits}
 use Rattle.deck_words.proofs.ClassLemmas.{begins-append, begins_apart}
 use Rattle.deck_words.proofs.RuleLemmas.{Lawful, lawful_turn, lawful_optional, lawful_either, lawful_as}
@@ -19,11 +26,61 @@ use Rattle.deck_words.proofs.RepeatLemmas.{lawful_onto, lawful_some}
 use Rattle.deck_words.proofs.NotationLemmas.{lawful_the, lawful_name, lawful_literal, lawful_period}
 use Rattle.deck_words.proofs.OperandLemmas.{lawful_sign, lawful_digits}
 use Rattle.procedure_division.specs.Names.{Names, access_at}
-use Rattle.procedure_division.specs.StatementRules.{file, record_named, name_to_open, opening, open_statement, lock, file_to_close, close_statement, next, key, key_phrase, read_operand, read_phrases, read_statement, greater, not_less, relation, file_to_start, led_key, start_phrase, start_operand, start_statement, write_statement, rewrite_statement, delete_statement, figure, source, receiver, receivers, move_statement, stop_statement}
-use Rattle.procedure_division.specs.Procedure.{statement, sentence, paragraph, paragraph_or_sentence, procedure}
+use Rattle.procedure_division.specs.Following.{followed, where_allowed}
+use Rattle.procedure_division.specs.StatementRules.{some_of, one_statement, file, open_statement, close_statement, key, read_operand, read_statement, relation, led_key, start_by, start_statement, figure, source, receiver, move_statement}
+use Rattle.procedure_division.specs.Parts.{record_named, name_to_open, opening, file_to_close, paragraph_or_sentence}
+use Rattle.procedure_division.specs.Procedure.{statement, procedure}
 use Rattle.procedure_division.proofs.FollowLemmas.{AreAlike, lawful_followed}
 
 pub ruleset steps = (lawful_the, lawful_name, lawful_literal, lawful_period, lawful_sign, lawful_digits, lawful_turn, lawful_optional, lawful_either, lawful_onto, lawful_some, lawful_as)
+
+-- ---- parts of rules
+
+-- [NEXT]
+abbrev pub next : Access → Rule Bool
+next access = (λ n. is_sequential access || is_word_there n) <$> optional (where_allowed (not (is_random access)) (the (codes "NEXT")))
+
+-- [NEXT] [RECORD] [KEY [IS] name]
+abbrev pub read_phrases : Names → ℕ → Rule (List Statement)
+read_phrases names u = followed false (next (access_at names u)) (read_operand names u)
+
+-- the name of a file that START is for
+abbrev pub file_to_start : Names → Rule ℕ
+file_to_start names = where_it_gives (λ u. cond (is_random (access_at names u)) None (Some u)) (file names)
+
+-- [KEY [IS] relation name]
+abbrev pub start_operand : Names → ℕ → Rule (List Statement)
+start_operand names u = (λ operand. one_statement u (start_by names u operand)) <$> optional (the (codes "KEY") ▸ may (codes "IS") ▸ relation ⊗ led_key names u)
+
+-- the MOVE to an item of a file, or else to a length item
+abbrev pub moved_to : Source (List ℕ) → Option (ℕ × Field) → Option ℕ → Option (List Statement)
+moved_to sent item place =
+    option_map_or (λ item. cond (is_taken_by item.1.numeric sent) (Some (Move item.0 item.1 sent ∷ [])) None) item
+    (option_and_then (λ i. cond (is_taken_by true sent) (Some (MoveLength i sent ∷ [])) None) place)
+
+-- TO {name}..
+abbrev pub receivers : Names → Source (List ℕ) → Rule (List Statement)
+receivers names sent = the (codes "TO") ▸ some_of (receiver names sent)
+
+abbrev pub write_statement : Names → Rule (List Statement)
+write_statement names = (λ u. one_statement u Write) <$> the (codes "WRITE") ▸ record_named names
+
+abbrev pub rewrite_statement : Names → Rule (List Statement)
+rewrite_statement names = (λ u. one_statement u Rewrite) <$> the (codes "REWRITE") ▸ record_named names
+
+abbrev pub delete_statement : Names → Rule (List Statement)
+delete_statement names = (λ u. one_statement u Delete) <$> the (codes "DELETE") ▸ file names ◂ may (codes "RECORD")
+
+abbrev pub stop_statement : Rule (List Statement)
+stop_statement = (λ _. StopRun ∷ []) <$> the (codes "STOP") ▸ the (codes "RUN")
+
+-- name .
+abbrev pub paragraph : Rule (List Statement)
+paragraph = (λ _. []) <$> name ▸ period
+
+-- {statement}.. .
+abbrev pub sentence : Names → Rule (List Statement)
+sentence names = some_of (statement names) ◂ period
 
 -- ---- files
 
@@ -31,15 +88,11 @@ pub lawful_file : (names : Names) → Lawful (file names)
 unfolding file
 lawful_file names = search steps depth 12
 
-pub lawful_record_name : (names : Names) → Lawful (record_named names)
-unfolding record_named
-lawful_record_name names = search steps depth 12
-
 -- ---- OPEN and CLOSE
 
 pub lawful_opened : (names : Names) (mode : OpenMode) → Lawful (name_to_open names mode)
 unfolding name_to_open
-lawful_opened names mode = search steps depth 12
+lawful_opened names mode = search (steps, lawful_file) depth 12
 
 pub lawful_opening : (names : Names) → Lawful (opening names)
 unfolding opening
@@ -47,49 +100,39 @@ lawful_opening names = search (steps, lawful_opened) depth 16
 
 pub lawful_open : (names : Names) → Lawful (open_statement names)
 unfolding open_statement
-lawful_open names = search (steps, lawful_opening) depth 12
-
-pub lawful_lock : Lawful lock
-unfolding lock
-lawful_lock = search steps depth 12
+lawful_open names = search (steps, lawful_file) depth 24
 
 pub lawful_closed : (names : Names) → Lawful (file_to_close names)
 unfolding file_to_close
-lawful_closed names = search (steps, lawful_file, lawful_lock) depth 12
+lawful_closed names = search (steps, lawful_file) depth 16
 
 pub lawful_close : (names : Names) → Lawful (close_statement names)
 unfolding close_statement
-lawful_close names = search (steps, lawful_closed) depth 12
+lawful_close names = search (steps, lawful_file) depth 20
 
 -- ---- READ
 
 pub lawful_next : (access : Access) → Lawful (next access)
-unfolding next
 lawful_next access = search steps depth 12
 
 pub lawful_key : (names : Names) (u : ℕ) → Lawful (key names u)
 unfolding key
 lawful_key names u = search steps depth 12
 
-pub lawful_key_phrase : (names : Names) (u : ℕ) (sequential : Bool) → Lawful (key_phrase names u sequential)
-unfolding key_phrase
-lawful_key_phrase names u sequential = search (steps, lawful_key) depth 16
-
 pub lawful_read_operand : (names : Names) (u : ℕ) (sequential : Bool) → Lawful (read_operand names u sequential)
 unfolding read_operand
-lawful_read_operand names u sequential = search (steps, lawful_key_phrase) depth 12
+lawful_read_operand names u sequential = search (steps, lawful_key) depth 20
 
 pub read_operands_alike : (names : Names) (u : ℕ) (sequential : Bool) → AreAlike (read_operand names u sequential) (read_operand names u false)
-unfolding read_operand key_phrase key
+unfolding read_operand key
 read_operands_alike names u sequential = record { starts = refl; goes_on = refl; may_be_empty = refl; is_fit = refl }
 
 pub lawful_read_phrases : (names : Names) (u : ℕ) → Lawful (read_phrases names u)
-unfolding read_phrases
 lawful_read_phrases names u =
     lawful_followed false (next (access_at names u)) (read_operand names u) (lawful_next (access_at names u)) (lawful_read_operand names u) (read_operands_alike names u)
 
 pub read_phrases_alike : (names : Names) (u : ℕ) → AreAlike (read_phrases names u) (read_phrases names 0)
-unfolding read_phrases next read_operand key_phrase key
+unfolding read_operand key
 read_phrases_alike names u = record { starts = refl; goes_on = refl; may_be_empty = refl; is_fit = refl }
 
 pub lawful_read : (names : Names) → Lawful (read_statement names)
@@ -99,36 +142,22 @@ lawful_read names =
 
 -- ---- START
 
-pub lawful_greater : Lawful greater
-unfolding greater
-lawful_greater = search steps depth 16
-
-pub lawful_not_less : Lawful not_less
-unfolding not_less
-lawful_not_less = search steps depth 16
-
 pub lawful_relation : Lawful relation
 unfolding relation
-lawful_relation = search (steps, lawful_greater, lawful_not_less) depth 16
+lawful_relation = search steps depth 24
 
 pub lawful_file_to_start : (names : Names) → Lawful (file_to_start names)
-unfolding file_to_start
-lawful_file_to_start names = search steps depth 12
+lawful_file_to_start names = search (steps, lawful_file) depth 12
 
 pub lawful_led_key : (names : Names) (u : ℕ) → Lawful (led_key names u)
 unfolding led_key
 lawful_led_key names u = search steps depth 12
 
-pub lawful_start_phrase : (names : Names) (u : ℕ) → Lawful (start_phrase names u)
-unfolding start_phrase
-lawful_start_phrase names u = search (steps, lawful_relation, lawful_led_key) depth 16
-
 pub lawful_start_operand : (names : Names) (u : ℕ) → Lawful (start_operand names u)
-unfolding start_operand
-lawful_start_operand names u = search (steps, lawful_start_phrase) depth 12
+lawful_start_operand names u = search (steps, lawful_relation, lawful_led_key) depth 20
 
 pub start_operands_alike : (names : Names) (u : ℕ) → AreAlike (start_operand names u) (start_operand names 0)
-unfolding start_operand start_phrase led_key
+unfolding led_key
 start_operands_alike names u = record { starts = refl; goes_on = refl; may_be_empty = refl; is_fit = refl }
 
 pub lawful_start : (names : Names) → Lawful (start_statement names)
@@ -138,16 +167,7 @@ lawful_start names =
 
 -- ---- WRITE, REWRITE and DELETE
 
-pub lawful_write : (names : Names) → Lawful (write_statement names)
-unfolding write_statement
-lawful_write names = search (steps, lawful_record_name) depth 12
-
-pub lawful_rewrite : (names : Names) → Lawful (rewrite_statement names)
-unfolding rewrite_statement
-lawful_rewrite names = search (steps, lawful_record_name) depth 12
-
 pub lawful_delete : (names : Names) → Lawful (delete_statement names)
-unfolding delete_statement
 lawful_delete names = search (steps, lawful_file) depth 12
 
 -- ---- MOVE
@@ -165,11 +185,10 @@ unfolding receiver
 lawful_receiver names sent = search steps depth 12
 
 pub lawful_receivers : (names : Names) (sent : Source (List ℕ)) → Lawful (receivers names sent)
-unfolding receivers
 lawful_receivers names sent = search (steps, lawful_receiver) depth 12
 
 pub receivers_alike : (names : Names) (sent : Source (List ℕ)) → AreAlike (receivers names sent) (receivers names (Fill Zero))
-unfolding receivers receiver
+unfolding receiver
 receivers_alike names sent = record { starts = refl; goes_on = refl; may_be_empty = refl; is_fit = refl }
 
 pub lawful_move : (names : Names) → Lawful (move_statement names)
@@ -180,7 +199,6 @@ lawful_move names =
 -- ---- STOP
 
 pub lawful_stop : Lawful stop_statement
-unfolding stop_statement
 lawful_stop = search steps depth 12
 
 -- ---- the procedure
@@ -188,14 +206,12 @@ lawful_stop = search steps depth 12
 pub lawful_statement : (names : Names) → Lawful (statement names)
 unfolding statement
 lawful_statement names =
-    search (steps, lawful_open, lawful_close, lawful_read, lawful_start, lawful_write, lawful_rewrite, lawful_delete, lawful_move, lawful_stop) depth 16
+    search (steps, lawful_open, lawful_close, lawful_read, lawful_start, lawful_delete, lawful_move, lawful_stop) depth 24
 
 pub lawful_sentence : (names : Names) → Lawful (sentence names)
-unfolding sentence
 lawful_sentence names = search (steps, lawful_statement) depth 12
 
 pub lawful_paragraph : Lawful paragraph
-unfolding paragraph
 lawful_paragraph = search steps depth 12
 
 pub lawful_paragraph_or_sentence : (names : Names) → Lawful (paragraph_or_sentence names)
@@ -204,32 +220,32 @@ lawful_paragraph_or_sentence names = search (steps, lawful_paragraph, lawful_sen
 
 pub lawful_procedure : (names : Names) → Lawful (procedure names)
 unfolding procedure
-lawful_procedure names = search (steps, lawful_paragraph_or_sentence) depth 12
+lawful_procedure names = search (steps, lawful_statement) depth 20
 
 -- ---- one word of look-ahead
 
 pub procedure_is_fit : (names : Names) → (procedure names).is_fit ≡ true
-unfolding procedure paragraph_or_sentence paragraph sentence statement open_statement opening name_to_open close_statement file_to_close lock file record_named read_statement read_phrases next read_operand key_phrase key start_statement file_to_start start_operand start_phrase relation greater not_less led_key write_statement rewrite_statement delete_statement move_statement source figure receivers receiver stop_statement the name literal period sign digits is_reserved
+unfolding procedure statement open_statement close_statement file read_statement read_operand key start_statement relation led_key move_statement source figure receiver the name literal period sign digits is_reserved
 procedure_is_fit names = refl
 
 pub sentences_are_fit : (names : Names) → (many (paragraph_or_sentence names)).is_fit ≡ true
-unfolding paragraph_or_sentence paragraph sentence statement open_statement opening name_to_open close_statement file_to_close lock file record_named read_statement read_phrases next read_operand key_phrase key start_statement file_to_start start_operand start_phrase relation greater not_less led_key write_statement rewrite_statement delete_statement move_statement source figure receivers receiver stop_statement the name literal period sign digits is_reserved
+unfolding paragraph_or_sentence statement open_statement close_statement file read_statement read_operand key start_statement relation led_key move_statement source figure receiver the name literal period sign digits is_reserved
 sentences_are_fit names = refl
 
 pub statements_are_fit : (names : Names) → (many (statement names)).is_fit ≡ true
-unfolding statement open_statement opening name_to_open close_statement file_to_close lock file record_named read_statement read_phrases next read_operand key_phrase key start_statement file_to_start start_operand start_phrase relation greater not_less led_key write_statement rewrite_statement delete_statement move_statement source figure receivers receiver stop_statement the name literal sign digits is_reserved
+unfolding statement open_statement close_statement file read_statement read_operand key start_statement relation led_key move_statement source figure receiver the name literal sign digits is_reserved
 statements_are_fit names = refl
 
 pub openings_are_fit : (names : Names) → (many (opening names)).is_fit ≡ true
-unfolding opening name_to_open the name is_reserved
+unfolding opening name_to_open file the name is_reserved
 openings_are_fit names = refl
 
 pub opened_are_fit : (names : Names) (mode : OpenMode) → (many (name_to_open names mode)).is_fit ≡ true
-unfolding name_to_open name
+unfolding name_to_open file name
 opened_are_fit names mode = refl
 
 pub closed_are_fit : (names : Names) → (many (file_to_close names)).is_fit ≡ true
-unfolding file_to_close file lock the name is_reserved
+unfolding file_to_close file the name is_reserved
 closed_are_fit names = refl
 
 pub receivers_are_fit : (names : Names) (sent : Source (List ℕ)) → (many (receiver names sent)).is_fit ≡ true
@@ -239,7 +255,7 @@ receivers_are_fit names sent = refl
 -- ---- how repeated rules begin
 
 pub opened_starts : (names : Names) (mode : OpenMode) (words : List Word) → begins (name_to_open names mode).starts words ≡ begins (class.names ∷ []) words
-unfolding name_to_open name
+unfolding name_to_open file name
 opened_starts names mode words = refl
 
 pub closed_starts : (names : Names) (words : List Word) → begins (file_to_close names).starts words ≡ begins (class.names ∷ []) words
@@ -267,15 +283,15 @@ unfolding start_statement the
 start_starts names words = refl
 
 pub write_starts : (names : Names) (words : List Word) → begins (write_statement names).starts words ≡ begins (class.this (codes "WRITE") ∷ []) words
-unfolding write_statement the
+unfolding the
 write_starts names words = refl
 
 pub rewrite_starts : (names : Names) (words : List Word) → begins (rewrite_statement names).starts words ≡ begins (class.this (codes "REWRITE") ∷ []) words
-unfolding rewrite_statement the
+unfolding the
 rewrite_starts names words = refl
 
 pub delete_starts : (names : Names) (words : List Word) → begins (delete_statement names).starts words ≡ begins (class.this (codes "DELETE") ∷ []) words
-unfolding delete_statement the
+unfolding the
 delete_starts names words = refl
 
 pub move_starts : (names : Names) (words : List Word) → begins (move_statement names).starts words ≡ begins (class.this (codes "MOVE") ∷ []) words
@@ -283,14 +299,14 @@ unfolding move_statement the
 move_starts names words = refl
 
 pub paragraph_starts : (words : List Word) → begins paragraph.starts words ≡ begins (class.names ∷ []) words
-unfolding paragraph name
+unfolding name
 paragraph_starts words = refl
 
 pub sentences_start : (names : Names) (words : List Word) → begins (paragraph_or_sentence names).starts words ≡ (begins (class.names ∷ []) words || begins (statement names).starts words)
-unfolding paragraph_or_sentence paragraph sentence name
+unfolding paragraph_or_sentence name
 sentences_start names words = begins-append (class.names ∷ []) (statement names).starts words
 
 -- a word that begins a statement is no name
 pub no_name_begins : (known : Names) (words : List Word) → begins (statement known).starts words ≡ true → begins (class.names ∷ []) words ≡ false
-unfolding statement open_statement close_statement read_statement start_statement write_statement rewrite_statement delete_statement move_statement stop_statement the is_reserved
+unfolding statement open_statement close_statement read_statement start_statement move_statement the is_reserved
 no_name_begins known words e = begins_apart (statement known).starts (class.names ∷ []) words refl e

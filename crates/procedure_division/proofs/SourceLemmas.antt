@@ -17,7 +17,7 @@ use Rattle.record_layout.specs.Area.{is_taken_by}
 use Rattle.record_layout.specs.declared.area.Source.{Source}
 use Rattle.record_layout.specs.declared.area.Source.TheVariants.{Text, Digits, Fill}
 use Rattle.procedure_division.specs.Allowed.{is_numeric}
-use Rattle.procedure_division.specs.StatementRules.{figure, sent_by_literal, source}
+use Rattle.procedure_division.specs.StatementRules.{figure, source}
 use Rattle.procedure_division.proofs.GivesLemmas.{Gives, gives_either, gives_as}
 
 -- digits alone
@@ -40,6 +40,10 @@ unfolding digits
 gives_digits =
     gives_as IsNumeral IsNumeral (λ text. cond (nat_le (length text) 18) (Some text) None) (one numbers) digits_of_number
     (λ text number h e. subst IsNumeral (same_Some text number (then_some (nat_le (length text) 18) (Some text) number e).1) h)
+
+-- a literal of digits alone is moved as a number is
+abbrev sent_by_literal : List ℕ → Source (List ℕ)
+sent_by_literal text = cond (list_all is_ascii_digit text) (Digits text) (Text text)
 
 literal_digits : (text : List ℕ) (b : Bool) → list_all is_ascii_digit text ≡ b → HasDigits (cond b (Digits text) (Text text))
 literal_digits text true e = e

@@ -1,5 +1,5 @@
 -- Rules that depend on the value of the rule before them.
-use Rattle.std.specs.Prelude.{Bool, ◌&&◌, if◌then◌else◌, List, ◌++◌, Option, Some, None, option_and_then}
+use Rattle.std.specs.Prelude.{Bool, ◌&&◌, if◌then◌else◌, List, ◌++◌, Some, None, option_and_then}
 use Rattle.deck_words.specs.Class.{all_apart}
 use Rattle.deck_words.specs.Rule.{Rule, where_it_gives}
 use Rattle.deck_words.specs.Word.{Word}

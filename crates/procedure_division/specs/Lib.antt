@@ -3,5 +3,6 @@ pub mod Places
 pub mod Following
 pub mod StatementRules
 pub mod Procedure
+pub mod Parts
 pub mod Allowed
 pub mod OnlyAllowed

@@ -1,13 +1,12 @@
 -- What the procedure knows of the deck's descriptions, and what its names stand for. Data names are
 -- unique in a deck.
-use Rattle.std.specs.Prelude.{ℕ, List, bytes_eq, position, slice_get, Option, is_some, option_map}
+use Rattle.std.specs.Prelude.{ℕ, List, position, slice_get, Option, is_some, option_map}
 use Rattle.std.specs.Prelude.{option_and_then}
 use Rattle.std.specs.Option.{option_map_or}
 use Rattle.io_state.specs.declared.modes.Access.{Access}
 use Rattle.io_state.specs.declared.modes.Access.TheVariants.{Sequential}
 use Rattle.record_layout.specs.declared.item.Field.{Field}
-use Rattle.record_layout.specs.Layout.{is_named, field_of}
-use Rattle.record_layout.specs.Schema.{key_at, key_of_field, key_led_by}
+use Rattle.record_layout.specs.Layout.{field_of}
 use Rattle.file_control.specs.Description.{FileDesc, LengthItem}
 
 -- the files in the order of their SELECT entries, and the 77-level items in the order of theirs
@@ -20,47 +19,17 @@ names_of files items = record { files = files; items = items }
 
 -- ---- names
 
--- the place of the file of this name
-abbrev pub place_of_file : Names → List ℕ → Option ℕ
-place_of_file names name = position (λ file. bytes_eq file.name name) names.files
-
--- the place of the file whose record has this name
-abbrev pub record_of : Names → List ℕ → Option ℕ
-record_of names name = position (λ file. is_named name file.entry) names.files
-
 -- the item of this name in the record of the file of a place; the record itself is one
 abbrev pub item_in : Names → ℕ → List ℕ → Option Field
 item_in names u name = option_and_then (λ file. field_of file.layout name) (slice_get names.files u)
 
--- the place of the file whose record has an item of this name
-abbrev pub holder_of : Names → List ℕ → Option ℕ
-holder_of names name = position (λ file. is_some (field_of file.layout name)) names.files
-
--- the same, and the item
+-- the place of the file whose record has an item of this name, and the item
 abbrev pub item_named : Names → List ℕ → Option (ℕ × Field)
 item_named names name =
     option_and_then (λ u. option_map {U = ℕ × Field} (λ field. (u, field)) (item_in names u name))
-    (holder_of names name)
-
--- the place of the 77-level item of this name
-abbrev pub length_item_of : Names → List ℕ → Option ℕ
-length_item_of names name = position (λ item. bytes_eq item.name name) names.items
+    (position (λ file. is_some (field_of file.layout name)) names.files)
 
 -- ---- the file of a place
 
 abbrev pub access_at : Names → ℕ → Access
 access_at names u = option_map_or (λ file. file.access) (slice_get names.files u) Sequential
-
--- the length of its prime key
-abbrev pub prime_length : Names → ℕ → ℕ
-prime_length names u = option_map_or (λ file. (key_at file.schema 0).length) (slice_get names.files u) 0
-
--- the key of the file that the item is
-abbrev pub key_by_item : Names → ℕ → Field → Option ℕ
-key_by_item names u field = option_and_then (λ file. key_of_field file.schema field) (slice_get names.files u)
-
--- the key of the file that begins with the item, and the item's length
-abbrev pub led_key_of : Names → ℕ → Field → Option (ℕ × ℕ)
-led_key_of names u field =
-    option_and_then (λ file. option_map {U = ℕ × ℕ} (λ k. (k, field.length))
-    (key_led_by file.schema field)) (slice_get names.files u)

@@ -1,7 +1,10 @@
 //! The CLOSE statement.
+ghost use Rattle.std.specs.Prelude.{Some, codes};
 ghost use Rattle.deck_words.specs.Reading.{Reads};
-ghost use Rattle.procedure_division.specs.StatementRules.{AddsStatements, some_of, lock, file_to_close};
-ghost use Rattle.procedure_division.specs.StatementRules.{close_statement};
+ghost use Rattle.deck_words.specs.Notation.{the, may, is_word_there, ◌▸◌};
+ghost use Rattle.deck_words.specs.Rule.{optional, where_it_gives};
+ghost use Rattle.procedure_division.specs.StatementRules.{AddsStatements, some_of, close_statement};
+ghost use Rattle.procedure_division.specs.Parts.{file_to_close};
 
 use crate::file_name::file;
 use crate::names::Names;
@@ -11,9 +14,10 @@ use deck_words::{Parser, Refusal};
 use io_state::FileStatement;
 
 /// Whether a file is closed WITH LOCK.
-#[tactic(auto, unfolding(crate::specs::StatementRules::lock, deck_words::specs::Notation::the))]
+#[tactic(auto, unfolding(deck_words::specs::Notation::the))]
 fn lock(parser: &mut Parser<'_>) -> Result<bool, Refusal>
-    ensures { Reads (lock.reads parser.old) result parser.new }
+    ensures { Reads ((where_it_gives (λ there. Some (is_word_there there)) (optional (may (codes "WITH")
+        ▸ the (codes "LOCK")))).reads parser.old) result parser.new }
 {
     if parser.sees(b"WITH") || parser.sees(b"LOCK") {
         parser.eat(b"WITH");
@@ -25,7 +29,7 @@ fn lock(parser: &mut Parser<'_>) -> Result<bool, Refusal>
 }
 
 /// A file that is closed.
-#[tactic(auto, unfolding(crate::specs::StatementRules::file_to_close))]
+#[tactic(auto, unfolding(crate::specs::Parts::file_to_close))]
 fn closed(
     parser: &mut Parser<'_>,
     names: &Names<'_>,
@@ -56,7 +60,7 @@ fn all_closed(
     Ok(statements)
 }
 
-#[tactic(auto, unfolding(crate::specs::StatementRules::close_statement), using(crate::proofs::JoinLemmas::second_behind))]
+#[tactic(auto, unfolding(crate::specs::StatementRules::close_statement, crate::specs::Parts::file_to_close), using(crate::proofs::JoinLemmas::second_behind))]
 pub fn close_statement(
     parser: &mut Parser<'_>,
     names: &Names<'_>,

@@ -6,7 +6,8 @@ ghost use Rattle.deck_words.specs.Reading.{Reads};
 ghost use Rattle.deck_words.specs.Rule.{onto};
 ghost use Rattle.procedure_division.specs.Names.{Names};
 ghost use Rattle.procedure_division.specs.StatementRules.{joined_statements};
-ghost use Rattle.procedure_division.specs.Procedure.{paragraph_or_sentence, procedure, IsProcedure};
+ghost use Rattle.procedure_division.specs.Procedure.{procedure, IsProcedure};
+ghost use Rattle.procedure_division.specs.Parts.{paragraph_or_sentence};
 ghost use Rattle.procedure_division.specs.OnlyAllowed.{HaveOnlyAllowed};
 
 use crate::names::Names;
@@ -36,7 +37,7 @@ fn all_sentences(
     Ok(statements)
 }
 
-#[tactic(auto, unfolding(crate::specs::Procedure::procedure))]
+#[tactic(auto, unfolding(crate::specs::Procedure::procedure, crate::specs::Parts::paragraph_or_sentence))]
 fn procedure_division(
     alloc: Global,
     parser: &mut Parser<'_>,

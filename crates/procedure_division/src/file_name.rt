@@ -1,6 +1,7 @@
 //! Names of files and of their records.
 ghost use Rattle.deck_words.specs.Reading.{Reads};
-ghost use Rattle.procedure_division.specs.StatementRules.{file, record_named};
+ghost use Rattle.procedure_division.specs.StatementRules.{file};
+ghost use Rattle.procedure_division.specs.Parts.{record_named};
 
 use crate::names::Names;
 use deck_words::{Cause, Parser, Refusal};
@@ -19,7 +20,7 @@ pub fn file(parser: &mut Parser<'_>, names: &Names<'_>) -> Result<usize, Refusal
 }
 
 /// The name of a file's record.
-#[tactic(auto, unfolding(crate::specs::StatementRules::record_named))]
+#[tactic(auto, unfolding(crate::specs::Parts::record_named))]
 pub fn record_name(parser: &mut Parser<'_>, names: &Names<'_>) -> Result<usize, Refusal>
     ensures { Reads ((record_named names.now).reads parser.old) result parser.new }
 {

@@ -5,7 +5,7 @@
 //! where it stands.
 //!
 //! Read statement for what a deck may say, specs/Names for what the names stand for, and
-//! specs/StatementRules for the grammar.
+//! specs/Procedure and specs/StatementRules for the grammar.
 #![tactic(auto)]
 
 mod closing;

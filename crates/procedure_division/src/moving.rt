@@ -1,12 +1,13 @@
 //! The MOVE statement.
-ghost use Rattle.std.specs.Prelude.{◌≡◌, true, IfOk};
+ghost use Rattle.std.specs.Prelude.{◌≡◌, true, IfOk, if◌then◌else◌, codes};
 ghost use Rattle.std.specs.List.{list_all};
 ghost use Rattle.std.specs.Char.{is_ascii_digit};
 ghost use Rattle.record_layout.specs.Area.{is_taken_by, sent};
+ghost use Rattle.record_layout.specs.declared.area.Source.TheVariants.{Text, Digits};
+ghost use Rattle.deck_words.specs.Notation.{the, ◌▸◌};
 ghost use Rattle.deck_words.specs.Reading.{Reads};
 ghost use Rattle.procedure_division.specs.StatementRules.{AddsStatements, some_of, figure, source};
-ghost use Rattle.procedure_division.specs.StatementRules.{sent_by_literal};
-ghost use Rattle.procedure_division.specs.StatementRules.{receiver, receivers, move_statement};
+ghost use Rattle.procedure_division.specs.StatementRules.{receiver, move_statement};
 
 use crate::names::Names;
 use crate::statement::Statement;
@@ -44,7 +45,7 @@ fn are_digits(text: &[u8]) -> bool
 
 /// What a literal sends.
 fn sent_by_literal(text: Bytes) -> Source<Bytes>
-    ensures { result ≡ sent_by_literal text }
+    ensures { result ≡ (if list_all is_ascii_digit text then Digits text else Text text) }
 {
     if are_digits(text.as_slice()) {
         Source::Digits(text)
@@ -141,7 +142,7 @@ fn all_receivers(
     Ok(statements)
 }
 
-#[tactic(auto, unfolding(crate::specs::StatementRules::receivers), using(crate::proofs::JoinLemmas::second_behind))]
+#[tactic(auto, using(crate::proofs::JoinLemmas::second_behind))]
 fn receivers(
     alloc: Global,
     parser: &mut Parser<'_>,
@@ -149,7 +150,8 @@ fn receivers(
     source: &Source<&[u8]>,
     statements: StatementList,
 ) -> Result<StatementList, Refusal>
-    ensures { AddsStatements (receivers names.now (sent source.now)) statements parser.old result parser.new }
+    ensures { AddsStatements (the (codes "TO") ▸ some_of (receiver names.now (sent source.now))) statements
+        parser.old result parser.new }
 {
     parser.expect(b"TO")?;
     all_receivers(alloc, parser, names, source, statements)

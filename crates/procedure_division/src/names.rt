@@ -1,12 +1,10 @@
 //! What the procedure knows of the deck's descriptions.
-ghost use Rattle.std.specs.Prelude.{◌≡◌, ℕ, List, is_some, Some, None, if◌then◌else◌, OnOk, IfOk};
+ghost use Rattle.std.specs.Prelude.{◌≡◌, ℕ, List, position, slice_get, is_some, option_map};
+ghost use Rattle.std.specs.Prelude.{option_and_then, Some, None, if◌then◌else◌, OnOk, IfOk};
 ghost use Rattle.record_layout.specs.Layout.{is_named, field_of};
-ghost use Rattle.record_layout.specs.Schema.{key_at};
-ghost use Rattle.procedure_division.specs.Names.{names_of, place_of_file, record_of};
-ghost use Rattle.procedure_division.specs.Names.{item_in, holder_of, item_named};
-ghost use Rattle.procedure_division.specs.Names.{length_item_of, access_at, prime_length, key_by_item};
-ghost use Rattle.procedure_division.specs.Names.{led_key_of};
-ghost use Rattle.std.specs.Option.{option_or};
+ghost use Rattle.record_layout.specs.Schema.{key_at, key_of_field, key_led_by};
+ghost use Rattle.procedure_division.specs.Names.{names_of, item_in, item_named, access_at};
+ghost use Rattle.std.specs.Option.{option_map_or, option_or};
 ghost use Rattle.procedure_division.specs.Places.{place_of_name, AddsPlace, ArePlaces};
 ghost use Rattle.std.specs.Prelude.{bytes_eq};
 
@@ -116,14 +114,14 @@ impl<'a> Names<'a> {
 
     /// The file of a name.
     pub fn file(&self, name: &str) -> Option<usize>
-        ensures { result ≡ place_of_file self.now name.now }
+        ensures { result ≡ position (λ file. bytes_eq file.name name.now) self.now.files }
     {
         self.files.iter().position(|file| is_named(file, name))
     }
 
     /// The file whose record has this name.
     pub fn record(&self, name: &str) -> Option<usize>
-        ensures { result ≡ record_of self.now name.now }
+        ensures { result ≡ position (λ file. is_named name.now file.entry) self.now.files }
     {
         self.files.iter().position(|file| has_record(file, name))
     }
@@ -137,7 +135,7 @@ impl<'a> Names<'a> {
 
     /// The file whose record has an item of this name.
     fn holder(&self, name: &Name) -> Option<usize>
-        ensures { result ≡ holder_of self.now name.now.bytes }
+        ensures { result ≡ position (λ file. is_some (field_of file.layout name.now.bytes)) self.now.files }
     {
         self.files.iter().position(|file| has_item(file, name))
     }
@@ -153,7 +151,7 @@ impl<'a> Names<'a> {
 
     /// The 77-level item of a name.
     pub fn length_item(&self, name: &str) -> Option<usize>
-        ensures { result ≡ length_item_of self.now name.now }
+        ensures { result ≡ position (λ item. bytes_eq item.name name.now) self.now.items }
     {
         self.item_places.get(name).copied()
     }
@@ -170,7 +168,8 @@ impl<'a> Names<'a> {
 
     /// The length of a file's prime key.
     pub fn prime_length(&self, file: usize) -> u16
-        ensures { result ≡ prime_length self.now file }
+        ensures { result ≡ option_map_or (λ file. (key_at file.schema 0).length) (slice_get self.now.files
+            file) 0 }
     {
         match self.files.get(file) {
             Some(file) => prime_length_of(file),
@@ -180,14 +179,18 @@ impl<'a> Names<'a> {
 
     /// The key of a file that an item is.
     pub fn key(&self, file: usize, field: Field) -> Option<u8>
-        ensures { result ≡ key_by_item self.now file field }
+        ensures { result ≡ option_and_then (λ file. key_of_field file.schema field) (slice_get self.now.files
+            file) }
     {
         self.files.get(file)?.schema.key_of(field)
     }
 
     /// The key of a file that begins with an item, and the item's length.
     pub fn led_key(&self, file: usize, field: Field) -> Option<(u8, u16)>
-        ensures { result ≡ led_key_of self.now file field }
+        ensures { result ≡ option_and_then {U = ℕ × ℕ} (λ file. option_map {U = ℕ × ℕ} (λ k. (
+          k,
+          field.length,
+        )) (key_led_by file.schema field)) (slice_get self.now.files file) }
     {
         self.files.get(file)?.schema.partial(field)
     }

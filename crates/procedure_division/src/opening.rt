@@ -2,9 +2,10 @@
 ghost use Rattle.std.specs.Prelude.{◌≡◌};
 ghost use Rattle.deck_words.specs.Class.{begins};
 ghost use Rattle.procedure_division.specs.Names.{Names};
-ghost use Rattle.procedure_division.specs.StatementRules.{AddsStatements, some_of};
-ghost use Rattle.procedure_division.specs.StatementRules.{name_to_open, opening, open_statement};
+ghost use Rattle.procedure_division.specs.StatementRules.{AddsStatements, some_of, open_statement};
+ghost use Rattle.procedure_division.specs.Parts.{name_to_open, opening};
 
+use crate::file_name::file;
 use crate::names::Names;
 use crate::statement::Statement;
 use crate::statement_list::StatementList;
@@ -12,7 +13,7 @@ use deck_words::{Cause, Parser, Refusal};
 use io_state::{FileStatement, OpenMode, Verb, permits};
 
 /// A file that is opened in a mode.
-#[tactic(auto, unfolding(crate::specs::StatementRules::name_to_open))]
+#[tactic(auto, unfolding(crate::specs::Parts::name_to_open))]
 fn opened(
     parser: &mut Parser<'_>,
     names: &Names<'_>,
@@ -21,12 +22,8 @@ fn opened(
 ) -> Result<StatementList, Refusal>
     ensures { AddsStatements (name_to_open names.now mode) statements parser.old result parser.new }
 {
-    let unknown = parser.fault(Cause::Unknown);
     let not_allowed = parser.fault(Cause::NotAllowed);
-    let name = parser.name()?;
-    let Some(file) = names.file(name.as_str()) else {
-        return Err(unknown);
-    };
+    let file = file(parser, names)?;
     if !permits(names.access(file), mode, Verb::Open) {
         return Err(not_allowed);
     }
@@ -53,7 +50,7 @@ fn all_opened(
 }
 
 /// A mode, and the files that are opened in it.
-#[tactic(auto, unfolding(crate::specs::StatementRules::opening, deck_words::specs::Notation::the), using(crate::proofs::JoinLemmas::second_behind))]
+#[tactic(auto, unfolding(crate::specs::Parts::opening, deck_words::specs::Notation::the), using(crate::proofs::JoinLemmas::second_behind))]
 fn opening(
     parser: &mut Parser<'_>,
     names: &Names<'_>,
@@ -75,7 +72,7 @@ fn opening(
 }
 
 /// Whether a mode is next.
-#[tactic(auto, unfolding(crate::specs::StatementRules::opening, deck_words::specs::Notation::the))]
+#[tactic(auto, unfolding(crate::specs::Parts::opening, deck_words::specs::Notation::the))]
 fn sees_mode(parser: &Parser<'_>) -> bool
     ensures { (known : Names) → result ≡ begins (opening known).starts parser.now }
 {
@@ -97,7 +94,7 @@ fn all_openings(
     Ok(statements)
 }
 
-#[tactic(auto, unfolding(crate::specs::StatementRules::open_statement), using(crate::proofs::JoinLemmas::second_behind))]
+#[tactic(auto, unfolding(crate::specs::StatementRules::open_statement, crate::specs::Parts::name_to_open, crate::specs::Parts::opening), using(crate::proofs::JoinLemmas::second_behind))]
 pub fn open_statement(
     parser: &mut Parser<'_>,
     names: &Names<'_>,

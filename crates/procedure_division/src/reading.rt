@@ -1,8 +1,14 @@
 //! The READ statement.
-ghost use Rattle.std.specs.Prelude.{◌≡◌};
+ghost use Rattle.std.specs.Prelude.{◌≡◌, not, ◌||◌, Some, codes, if◌then◌else◌};
+ghost use Rattle.std.specs.Option.{option_map_or};
+ghost use Rattle.io_state.specs.Permission.{is_sequential, is_random};
+ghost use Rattle.io_state.specs.declared.statement.FileStatement.TheVariants.{Read, ReadNext};
+ghost use Rattle.deck_words.specs.Notation.{the, may, is_word_there, ◌▸◌};
 ghost use Rattle.deck_words.specs.Reading.{Reads};
-ghost use Rattle.procedure_division.specs.StatementRules.{AddsStatements, next, key, key_phrase, read_by};
-ghost use Rattle.procedure_division.specs.StatementRules.{read_operand, read_phrases, read_statement};
+ghost use Rattle.deck_words.specs.Rule.{optional, where_it_gives};
+ghost use Rattle.procedure_division.specs.Following.{where_allowed};
+ghost use Rattle.procedure_division.specs.StatementRules.{AddsStatements, key, read_operand};
+ghost use Rattle.procedure_division.specs.StatementRules.{read_statement};
 
 use crate::file_name::file;
 use crate::names::Names;
@@ -12,9 +18,9 @@ use deck_words::{Cause, Parser, Refusal};
 use io_state::{Access, FileStatement};
 
 /// Whether the READ is sequential: NEXT says so, and in sequential access it always is.
-#[tactic(auto, unfolding(crate::specs::StatementRules::next))]
 fn next(parser: &mut Parser<'_>, access: Access) -> Result<bool, Refusal>
-    ensures { Reads ((next access).reads parser.old) result parser.new }
+    ensures { Reads ((where_it_gives (λ n. Some (is_sequential access || is_word_there n)) (optional
+        (where_allowed (not (is_random access)) (the (codes "NEXT"))))).reads parser.old) result parser.new }
 {
     let not_allowed = parser.fault(Cause::NotAllowed);
     if !parser.eat(b"NEXT") {
@@ -44,7 +50,7 @@ fn key(parser: &mut Parser<'_>, names: &Names<'_>, file: usize) -> Result<u8, Re
 }
 
 fn read_by(sequential: bool, key: Option<u8>) -> FileStatement
-    ensures { result ≡ read_by sequential key }
+    ensures { result ≡ option_map_or (λ k. Read k) key (if sequential then ReadNext else Read 0) }
 {
     match key {
         Some(key) => FileStatement::Read { key },
@@ -54,14 +60,15 @@ fn read_by(sequential: bool, key: Option<u8>) -> FileStatement
 }
 
 /// The key that KEY says, which a sequential READ may not have.
-#[tactic(auto, unfolding(crate::specs::StatementRules::key_phrase, deck_words::specs::Notation::the))]
+#[tactic(auto, unfolding(deck_words::specs::Notation::the))]
 fn key_phrase(
     parser: &mut Parser<'_>,
     names: &Names<'_>,
     file: usize,
     sequential: bool,
 ) -> Result<Option<u8>, Refusal>
-    ensures { Reads ((key_phrase names.now file sequential).reads parser.old) result parser.new }
+    ensures { Reads ((optional (where_allowed (not sequential) (the (codes "KEY")) ▸ may (codes "IS")
+        ▸ key names.now file)).reads parser.old) result parser.new }
 {
     let not_allowed = parser.fault(Cause::NotAllowed);
     if !parser.eat(b"KEY") {
@@ -94,20 +101,6 @@ fn read_operand(
     })?)
 }
 
-/// The phrases behind the file's name.
-#[tactic(auto, unfolding(crate::specs::StatementRules::read_phrases), using(crate::proofs::JoinLemmas::follower_behind))]
-fn read_phrases(
-    parser: &mut Parser<'_>,
-    names: &Names<'_>,
-    file: usize,
-    statements: StatementList,
-) -> Result<StatementList, Refusal>
-    ensures { AddsStatements (read_phrases names.now file) statements parser.old result parser.new }
-{
-    let sequential = next(parser, names.access(file))?;
-    read_operand(parser, names, file, sequential, statements)
-}
-
 #[tactic(auto, unfolding(crate::specs::StatementRules::read_statement), using(crate::proofs::JoinLemmas::follower_behind, crate::proofs::JoinLemmas::second_behind))]
 pub fn read_statement(
     parser: &mut Parser<'_>,
@@ -118,5 +111,6 @@ pub fn read_statement(
 {
     parser.expect(b"READ")?;
     let file = file(parser, names)?;
-    read_phrases(parser, names, file, statements)
+    let sequential = next(parser, names.access(file))?;
+    read_operand(parser, names, file, sequential, statements)
 }

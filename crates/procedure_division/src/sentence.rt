@@ -1,11 +1,14 @@
 //! Statements, sentences and paragraphs.
-ghost use Rattle.std.specs.Prelude.{◌≡◌, [], ◌∷◌};
+ghost use Rattle.std.specs.Prelude.{◌≡◌, Some, [], ◌∷◌, codes};
 ghost use Rattle.deck_words.specs.Class.{begins, names};
+ghost use Rattle.deck_words.specs.Notation.{the, name, period, ◌▸◌, ◌◂◌};
 ghost use Rattle.deck_words.specs.Reading.{Reads};
-ghost use Rattle.deck_words.specs.Scanning.{map_result};
+ghost use Rattle.deck_words.specs.Rule.{where_it_gives};
 ghost use Rattle.procedure_division.specs.Names.{Names};
-ghost use Rattle.procedure_division.specs.StatementRules.{AddsStatements, some_of, stop_statement};
-ghost use Rattle.procedure_division.specs.Procedure.{statement, sentence, paragraph, paragraph_or_sentence};
+ghost use Rattle.procedure_division.specs.StatementRules.{AddsStatements, some_of};
+ghost use Rattle.procedure_division.specs.declared.statement.Statement.TheVariants.{StopRun};
+ghost use Rattle.procedure_division.specs.Procedure.{statement};
+ghost use Rattle.procedure_division.specs.Parts.{paragraph_or_sentence};
 
 use crate::closing::close_statement;
 use crate::moving::move_statement;
@@ -19,12 +22,12 @@ use crate::writing::{delete_statement, rewrite_statement, write_statement};
 use deck_words::{Parser, Refusal};
 use std::alloc::Global;
 
-#[tactic(auto, unfolding(crate::specs::StatementRules::stop_statement))]
 fn stop_statement(
     parser: &mut Parser<'_>,
     statements: StatementList,
 ) -> Result<StatementList, Refusal>
-    ensures { AddsStatements stop_statement statements parser.old result parser.new }
+    ensures { AddsStatements (where_it_gives (λ _. Some (StopRun ∷ [])) (the (codes "STOP") ▸ the (codes
+        "RUN"))) statements parser.old result parser.new }
 {
     parser.expect(b"STOP")?;
     parser.expect(b"RUN")?;
@@ -32,7 +35,7 @@ fn stop_statement(
 }
 
 /// Whether a statement is next.
-#[tactic(auto, unfolding(crate::specs::Procedure::statement, crate::specs::StatementRules::open_statement, crate::specs::StatementRules::close_statement, crate::specs::StatementRules::read_statement, crate::specs::StatementRules::start_statement, crate::specs::StatementRules::write_statement, crate::specs::StatementRules::rewrite_statement, crate::specs::StatementRules::delete_statement, crate::specs::StatementRules::move_statement, crate::specs::StatementRules::stop_statement, deck_words::specs::Notation::the))]
+#[tactic(auto, unfolding(crate::specs::Procedure::statement, crate::specs::StatementRules::open_statement, crate::specs::StatementRules::close_statement, crate::specs::StatementRules::read_statement, crate::specs::StatementRules::start_statement, crate::specs::StatementRules::move_statement, deck_words::specs::Notation::the))]
 fn sees_statement(parser: &Parser<'_>) -> bool
     ensures { (known : Names) → result ≡ begins (statement known).starts parser.now }
 {
@@ -92,14 +95,14 @@ fn all_statements(
     Ok(statements)
 }
 
-#[tactic(auto, unfolding(crate::specs::Procedure::sentence))]
 fn sentence(
     alloc: Global,
     parser: &mut Parser<'_>,
     names: &Names<'_>,
     statements: StatementList,
 ) -> Result<StatementList, Refusal>
-    ensures { AddsStatements (sentence names.now) statements parser.old result parser.new }
+    ensures { AddsStatements (some_of (statement names.now) ◂ period) statements parser.old result
+        parser.new }
 {
     let statements = all_statements(alloc, parser, names, statements)?;
     parser.period()?;
@@ -107,9 +110,8 @@ fn sentence(
 }
 
 /// A paragraph's name, which has no effect.
-#[tactic(auto, unfolding(crate::specs::Procedure::paragraph))]
 fn paragraph(parser: &mut Parser<'_>) -> Result<(), Refusal>
-    ensures { Reads (paragraph.reads parser.old) (map_result (λ _. []) result) parser.new }
+    ensures { Reads ((name ▸ period).reads parser.old) result parser.new }
 {
     parser.name()?;
     parser.period()?;
@@ -123,7 +125,7 @@ fn sees_paragraph(parser: &Parser<'_>) -> bool
     !sees_statement(parser) && parser.sees_name()
 }
 
-#[tactic(auto, unfolding(crate::specs::Procedure::paragraph_or_sentence), using(crate::proofs::ProcedureLemmas::paragraph_starts, crate::proofs::JoinLemmas::nothing_behind))]
+#[tactic(auto, unfolding(crate::specs::Parts::paragraph_or_sentence), using(crate::proofs::ProcedureLemmas::paragraph_starts, crate::proofs::JoinLemmas::nothing_behind))]
 pub fn paragraph_or_sentence(
     alloc: Global,
     parser: &mut Parser<'_>,
@@ -140,7 +142,7 @@ pub fn paragraph_or_sentence(
 }
 
 /// Whether a paragraph or a sentence is next.
-#[tactic(auto, unfolding(crate::specs::Procedure::paragraph_or_sentence, crate::specs::Procedure::paragraph, crate::specs::Procedure::sentence, deck_words::specs::Notation::name))]
+#[tactic(auto, unfolding(crate::specs::Parts::paragraph_or_sentence, deck_words::specs::Notation::name))]
 pub fn sees_sentence(parser: &Parser<'_>) -> bool
     ensures { (known : Names) → result ≡ begins (paragraph_or_sentence known).starts parser.now }
 {

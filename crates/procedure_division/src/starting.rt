@@ -1,11 +1,17 @@
 //! The START statement.
-ghost use Rattle.std.specs.Prelude.{◌≡◌};
+ghost use Rattle.std.specs.Prelude.{◌≡◌, Some, None, is_some, codes, if◌then◌else◌};
+ghost use Rattle.io_state.specs.Permission.{is_random};
+ghost use Rattle.io_state.specs.declared.modes.Relation.TheVariants.{Greater, NotLess};
+ghost use Rattle.deck_words.specs.Notation.{the, may, ◌▸◌, ◌◂◌, ◌⊗◌, ◌∣◌};
+ghost use Rattle.deck_words.specs.Operand.{sign};
 ghost use Rattle.deck_words.specs.Reading.{Reads};
-ghost use Rattle.procedure_division.specs.StatementRules.{AddsStatements, greater, not_less, relation};
-ghost use Rattle.procedure_division.specs.StatementRules.{file_to_start, led_key};
-ghost use Rattle.procedure_division.specs.StatementRules.{start_by, start_phrase, start_operand};
+ghost use Rattle.deck_words.specs.Rule.{optional, where_it_gives};
+ghost use Rattle.procedure_division.specs.Names.{access_at};
+ghost use Rattle.procedure_division.specs.StatementRules.{AddsStatements, one_statement, file};
+ghost use Rattle.procedure_division.specs.StatementRules.{relation, led_key, start_by};
 ghost use Rattle.procedure_division.specs.StatementRules.{start_statement};
 
+use crate::file_name::file;
 use crate::names::Names;
 use crate::statement::Statement;
 use crate::statement_list::StatementList;
@@ -13,16 +19,12 @@ use deck_words::{Cause, Parser, Refusal};
 use io_state::{Access, FileStatement, Relation};
 
 /// The name of a file that START is for: its access is not random.
-#[tactic(auto, unfolding(crate::specs::StatementRules::file_to_start))]
 fn file_to_start(parser: &mut Parser<'_>, names: &Names<'_>) -> Result<usize, Refusal>
-    ensures { Reads ((file_to_start names.now).reads parser.old) result parser.new }
+    ensures { Reads ((where_it_gives (λ u. if is_random (access_at names.now u) then None else Some u) (file
+        names.now)).reads parser.old) result parser.new }
 {
-    let unknown = parser.fault(Cause::Unknown);
     let not_allowed = parser.fault(Cause::NotAllowed);
-    let name = parser.name()?;
-    let Some(file) = names.file(name.as_str()) else {
-        return Err(unknown);
-    };
+    let file = file(parser, names)?;
     if names.access(file) == Access::Random {
         return Err(not_allowed);
     }
@@ -47,9 +49,11 @@ fn led_key(parser: &mut Parser<'_>, names: &Names<'_>, file: usize) -> Result<(u
 }
 
 /// GREATER, or GREATER OR EQUAL.
-#[tactic(auto, unfolding(crate::specs::StatementRules::greater, deck_words::specs::Notation::the))]
+#[tactic(auto, unfolding(deck_words::specs::Notation::the))]
 fn greater(parser: &mut Parser<'_>) -> Result<Relation, Refusal>
-    ensures { Reads (greater.reads parser.old) result parser.new }
+    ensures { Reads ((where_it_gives (λ or_equal. Some (if is_some or_equal then NotLess else Greater))
+        (the (codes "GREATER") ▸ may (codes "THAN") ▸ optional (the (codes "OR") ▸ the (codes "EQUAL")
+        ▸ may (codes "TO")))).reads parser.old) result parser.new }
 {
     parser.expect(b"GREATER")?;
     parser.eat(b"THAN");
@@ -63,20 +67,20 @@ fn greater(parser: &mut Parser<'_>) -> Result<Relation, Refusal>
 }
 
 /// NOT LESS.
-#[tactic(auto, unfolding(crate::specs::StatementRules::not_less, deck_words::specs::Notation::the))]
-fn not_less(parser: &mut Parser<'_>) -> Result<Relation, Refusal>
-    ensures { Reads (not_less.reads parser.old) result parser.new }
+#[tactic(auto, unfolding(deck_words::specs::Notation::the))]
+fn not_less(parser: &mut Parser<'_>) -> Result<(), Refusal>
+    ensures { Reads ((the (codes "NOT") ▸ ((the (codes "LESS") ◂ may (codes "THAN")) ∣ sign (codes
+        "<"))).reads parser.old) result parser.new }
 {
     parser.expect(b"NOT")?;
     if parser.eat(b"LESS") {
         parser.eat(b"THAN");
-        return Ok(Relation::NotLess);
+        return Ok(());
     }
-    parser.expect_sign(b"<")?;
-    Ok(Relation::NotLess)
+    parser.expect_sign(b"<")
 }
 
-#[tactic(auto, unfolding(crate::specs::StatementRules::relation, crate::specs::StatementRules::greater, crate::specs::StatementRules::not_less, deck_words::specs::Notation::the, deck_words::specs::Operand::sign))]
+#[tactic(auto, unfolding(crate::specs::StatementRules::relation, deck_words::specs::Notation::the, deck_words::specs::Operand::sign))]
 fn relation(parser: &mut Parser<'_>) -> Result<Relation, Refusal>
     ensures { Reads (relation.reads parser.old) result parser.new }
 {
@@ -94,20 +98,22 @@ fn relation(parser: &mut Parser<'_>) -> Result<Relation, Refusal>
         return Ok(Relation::Greater);
     }
     if parser.sees(b"NOT") {
-        return not_less(parser);
+        not_less(parser)?;
+        return Ok(Relation::NotLess);
     }
     parser.expect_sign(b">=")?;
     Ok(Relation::NotLess)
 }
 
 /// What KEY says: a relation, a key, and how much of it.
-#[tactic(auto, unfolding(crate::specs::StatementRules::start_phrase, deck_words::specs::Notation::the))]
+#[tactic(auto, unfolding(deck_words::specs::Notation::the))]
 fn start_phrase(
     parser: &mut Parser<'_>,
     names: &Names<'_>,
     file: usize,
 ) -> Result<Option<(Relation, (u8, u16))>, Refusal>
-    ensures { Reads ((start_phrase names.now file).reads parser.old) result parser.new }
+    ensures { Reads ((optional (the (codes "KEY") ▸ may (codes "IS") ▸ relation ⊗ led_key names.now
+        file)).reads parser.old) result parser.new }
 {
     if !parser.eat(b"KEY") {
         return Ok(None);
@@ -136,14 +142,15 @@ fn start_by(names: &Names<'_>, file: usize, operand: Option<(Relation, (u8, u16)
 }
 
 /// The phrase behind the file's name.
-#[tactic(auto, unfolding(crate::specs::StatementRules::start_operand))]
 fn start_operand(
     parser: &mut Parser<'_>,
     names: &Names<'_>,
     file: usize,
     statements: StatementList,
 ) -> Result<StatementList, Refusal>
-    ensures { AddsStatements (start_operand names.now file) statements parser.old result parser.new }
+    ensures { AddsStatements (where_it_gives (λ operand. Some (one_statement file (start_by names.now file
+        operand))) (optional (the (codes "KEY") ▸ may (codes "IS") ▸ relation ⊗ led_key names.now file)))
+        statements parser.old result parser.new }
 {
     let operand = start_phrase(parser, names, file)?;
     Ok(statements.with(Statement::Perform {

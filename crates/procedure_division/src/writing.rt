@@ -1,6 +1,10 @@
 //! The WRITE, REWRITE and DELETE statements.
-ghost use Rattle.procedure_division.specs.StatementRules.{AddsStatements, write_statement, rewrite_statement};
-ghost use Rattle.procedure_division.specs.StatementRules.{delete_statement};
+ghost use Rattle.std.specs.Prelude.{Some, codes};
+ghost use Rattle.io_state.specs.declared.statement.FileStatement.TheVariants.{Write, Rewrite, Delete};
+ghost use Rattle.deck_words.specs.Notation.{the, may, ◌▸◌, ◌◂◌};
+ghost use Rattle.deck_words.specs.Rule.{where_it_gives};
+ghost use Rattle.procedure_division.specs.StatementRules.{AddsStatements, one_statement, file};
+ghost use Rattle.procedure_division.specs.Parts.{record_named};
 
 use crate::file_name::{file, record_name};
 use crate::names::Names;
@@ -9,13 +13,13 @@ use crate::statement_list::StatementList;
 use deck_words::{Parser, Refusal};
 use io_state::FileStatement;
 
-#[tactic(auto, unfolding(crate::specs::StatementRules::write_statement))]
 pub fn write_statement(
     parser: &mut Parser<'_>,
     names: &Names<'_>,
     statements: StatementList,
 ) -> Result<StatementList, Refusal>
-    ensures { AddsStatements (write_statement names.now) statements parser.old result parser.new }
+    ensures { AddsStatements (where_it_gives (λ u. Some (one_statement u Write)) (the (codes "WRITE")
+        ▸ record_named names.now)) statements parser.old result parser.new }
 {
     parser.expect(b"WRITE")?;
     let file = record_name(parser, names)?;
@@ -25,13 +29,13 @@ pub fn write_statement(
     })?)
 }
 
-#[tactic(auto, unfolding(crate::specs::StatementRules::rewrite_statement))]
 pub fn rewrite_statement(
     parser: &mut Parser<'_>,
     names: &Names<'_>,
     statements: StatementList,
 ) -> Result<StatementList, Refusal>
-    ensures { AddsStatements (rewrite_statement names.now) statements parser.old result parser.new }
+    ensures { AddsStatements (where_it_gives (λ u. Some (one_statement u Rewrite)) (the (codes "REWRITE")
+        ▸ record_named names.now)) statements parser.old result parser.new }
 {
     parser.expect(b"REWRITE")?;
     let file = record_name(parser, names)?;
@@ -41,13 +45,13 @@ pub fn rewrite_statement(
     })?)
 }
 
-#[tactic(auto, unfolding(crate::specs::StatementRules::delete_statement))]
 pub fn delete_statement(
     parser: &mut Parser<'_>,
     names: &Names<'_>,
     statements: StatementList,
 ) -> Result<StatementList, Refusal>
-    ensures { AddsStatements (delete_statement names.now) statements parser.old result parser.new }
+    ensures { AddsStatements (where_it_gives (λ u. Some (one_statement u Delete)) (the (codes "DELETE") ▸ file
+        names.now ◂ may (codes "RECORD"))) statements parser.old result parser.new }
 {
     parser.expect(b"DELETE")?;
     let file = file(parser, names)?;

@@ -53,7 +53,7 @@ not_begun (key ∷ keys) field e zero d h = λ same. false≢true (sym (neither 
 not_begun (key ∷ keys) field e (suc k) d h = not_begun keys field (neither (eqb key.offset field.offset) (begins_one keys field) e).1 k d (omega (arith, h))
 
 -- a test that did not give its fault
-passed : {A : Type 0} (b : Bool) (fault : SchemaFault) (next : Result A SchemaFault) (x : A) → cond b (Err fault) next ≡ Ok x → (b ≡ false) × (next ≡ Ok x)
+pub passed : {A : Type 0} (b : Bool) (fault : SchemaFault) (next : Result A SchemaFault) (x : A) → cond b (Err fault) next ≡ Ok x → (b ≡ false) × (next ≡ Ok x)
 passed true fault next x e = absurd (cc)
 passed false fault next x e = (refl, e)
 
@@ -69,7 +69,7 @@ pub record IsTaken (least : ℕ) (keys : List KeyPart) (kind : KeyKind) (found :
   pub within : field.offset + field.length ≤ least
   pub is : record { offset = field.offset; length = field.length; kind = kind } ≡ key
 
-taken : (least : ℕ) (keys : List KeyPart) (kind : KeyKind) (found : Option Field) (key : KeyPart) → key_of_item least keys kind found ≡ Ok key → IsTaken least keys kind found key
+pub taken : (least : ℕ) (keys : List KeyPart) (kind : KeyKind) (found : Option Field) (key : KeyPart) → key_of_item least keys kind found ≡ Ok key → IsTaken least keys kind found key
 taken least keys kind None key e = absurd (cc)
 taken least keys kind (Some field) key e =
     let short = passed (ltb 250 field.length) _ _ key e in
@@ -104,7 +104,7 @@ one_more layout least keys kind name key is so new =
 
 -- ---- all keys
 
-then_key : (given : Result KeyPart SchemaFault) (follows : KeyPart → Result (List KeyPart) SchemaFault) (all : List KeyPart) → where_a_key given follows ≡ Ok all → (key : KeyPart) × (given ≡ Ok key) × (follows key ≡ Ok all)
+pub then_key : (given : Result KeyPart SchemaFault) (follows : KeyPart → Result (List KeyPart) SchemaFault) (all : List KeyPart) → where_a_key given follows ≡ Ok all → (key : KeyPart) × (given ≡ Ok key) × (follows key ≡ Ok all)
 then_key (Err fault) follows all e = absurd (cc)
 then_key (Ok key) follows all e = (key, refl, e)
 
@@ -188,7 +188,7 @@ none_as_prime key keys apart = λ k d within same.
     let there : k < length (map offset_of keys) = subst (λ n. k < n) (sym (length-map keys offset_of)) within in
     apart 0 (suc k) d.offset (omega arith) (omega (arith, there)) (sym (get_or-map offset_of keys k d ∙ same))
 
-moved_apart : (keys moved : List KeyPart) → IsPermutation keys moved → AllPairs (λ a b. a ≢ b) (map offset_of keys) → AllPairs (λ a b. a ≢ b) (map offset_of moved)
+pub moved_apart : (keys moved : List KeyPart) → IsPermutation keys moved → AllPairs (λ a b. a ≢ b) (map offset_of keys) → AllPairs (λ a b. a ≢ b) (map offset_of moved)
 moved_apart keys moved permutation apart =
     AllPairs-from_IsDistinct Decides-eqb (map offset_of moved)
     (IsDistinct-IsPermutation eqb eqb_comm (map offset_of keys) (map offset_of moved) (IsPermutation-map offset_of keys moved permutation) (IsDistinct-from_AllPairs Decides-eqb (map offset_of keys) apart))

@@ -1,14 +1,10 @@
 -- The items of a layout, one by one.
-use Rattle.std.proofs.Common.{◌≡◌, ℕ, ◌+◌, ◌<◌, ◌≤◌, cond, List, [], ◌∷◌, length, take, drop, map, get_or, Some, replicate, sym, ap, subst, ◌∙◌}
-use Rattle.std.proofs.lemmas.List.{at_drop_more, map_more, length-map}
+use Rattle.std.proofs.Common.{◌≡◌, ℕ, ◌+◌, ◌<◌, ◌≤◌, List, length, map, get_or, sym, ap, subst, ◌∙◌}
+use Rattle.std.proofs.lemmas.List.{length-map}
 use Rattle.std.proofs.lemmas.List.Elements.{All-get_or}
-use Rattle.std.proofs.lemmas.List.Sums.{fold-append}
 use Rattle.std.proofs.Math.ListN.{get_or-map}
 use Rattle.record_layout.specs.declared.item.Placed.{Placed as Declared}
-use Rattle.record_layout.specs.declared.area.Source.TheVariants.{Fill}
-use Rattle.record_layout.specs.declared.area.Figure.TheVariants.{Zero}
-use Rattle.record_layout.specs.Layout.{Placed, item_of, field_of, is_named, length_of, IsRecord}
-use Rattle.record_layout.specs.Area.{moved, blank_area}
+use Rattle.record_layout.specs.Layout.{Placed, item_of, length_of, IsRecord}
 
 -- an item has a character or more within its record
 pub item_within : (items : List Declared) (i : ℕ) (item : Declared) → IsRecord (map item_of items) → i < length items → item ≡ get_or items i item → (1 ≤ item.field.length) × (item.field.offset + item.field.length ≤ length_of (map item_of items))

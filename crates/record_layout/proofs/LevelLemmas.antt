@@ -1,13 +1,11 @@
 -- What stands before an item, the nearest first.
-use Rattle.std.proofs.Common.{◌≡◌, ℕ, ◌+◌, ◌<◌, Bool, true, false, ◌||◌, List, [], ◌∷◌, length, take, map, reverse, get_or, Some, refl, ap, ◌∙◌, inl, inr, ◌⊎◌}
-use Rattle.std.specs.List.{list_any}
+use Rattle.std.proofs.Common.{◌≡◌, ℕ, ◌+◌, ◌<◌, List, [], ◌∷◌, length, take, map, reverse, get_or, Some, refl, ap, ◌∙◌, inl, inr, ◌⊎◌}
 use Rattle.std.proofs.lemmas.List.{map_more, reverse-append}
-use Rattle.std.proofs.lemmas.List.Folds.{list_any-append}
 use Rattle.record_layout.specs.declared.item.Item.{Item}
 use Rattle.record_layout.specs.declared.fault.LayoutFault.{LayoutFault}
 use Rattle.record_layout.specs.declared.fault.LayoutFault.TheVariants.{BadPicture, BadLevel, TooLong, DuplicateName, Empty, Memory}
 use Rattle.record_layout.specs.Picture.{IsTooLong, IsBad}
-use Rattle.record_layout.specs.Layout.{Entry, entry_of_item}
+use Rattle.record_layout.specs.Layout.{entry_of_item}
 use Rattle.record_layout.specs.LayoutFault.{HasPictureFault}
 
 -- one item more stands first

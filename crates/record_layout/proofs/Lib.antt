@@ -4,6 +4,7 @@ pub mod AreaLemmas
 pub mod SchemaLemmas
 pub mod LayoutLemmas
 pub mod KeysLemmas
+pub mod NamedKeysLemmas
 pub mod StructureLemmas
 pub mod RecordLemmas
 pub mod PlacingLemmas

@@ -11,10 +11,11 @@ use Rattle.record_layout.specs.declared.fault.LayoutFault.{LayoutFault}
 use Rattle.record_layout.specs.declared.fault.LayoutFault.TheVariants.{BadPicture, BadLevel, TooLong, DuplicateName, Empty, Memory}
 use Rattle.record_layout.specs.declared.picture.Picture.{Picture}
 use Rattle.record_layout.specs.Picture.{Means, IsPicture}
-use Rattle.record_layout.specs.Layout.{Entry, Placed, Structure, written_items, width, is_nothing, IsWellFormed, is_one, is_named, is_name_of, AreNamedApart, IsLayout}
+use Rattle.record_layout.specs.Layout.{Entry, Placed, Structure, written_items, width, is_nothing, IsWellFormed, is_one, is_named, is_name_of, IsLayout}
 use Rattle.record_layout.specs.Layout.Structure.{Nothing, Elementary, Group}
 use Rattle.record_layout.specs.LayoutFault.{is_behind_empty, is_open_level, is_level_fit, is_unfinished, HasPictureFault, IsFaultOf, IsFirstFault}
 use Rattle.record_layout.proofs.PictureLemmas.{kind_of, one_size}
+use Rattle.record_layout.proofs.RecordLemmas.{AreNamedApart, apart_by_names}
 
 -- ---- pictures
 
@@ -252,4 +253,4 @@ of_structure (Group name inner members (Group n i m a)) fault one sound names sh
 
 pub no_fault : (entries : List Entry) (layout : List Placed) (fault : LayoutFault) → IsLayout entries layout → IsFirstFault [] 0 entries fault → ⊥
 no_fault entries layout fault is h =
-    of_structure is.structure fault is.one is.sound (subst AreNamedApart is.entries_are is.names) is.short (subst (λ es. IsFirstFault [] 0 es fault) is.entries_are h)
+    of_structure is.structure fault is.one is.sound (subst AreNamedApart is.entries_are (apart_by_names entries is.names)) is.short (subst (λ es. IsFirstFault [] 0 es fault) is.entries_are h)

@@ -10,8 +10,8 @@ use Rattle.std.proofs.lemmas.Grind.{common_steps}
 use Rattle.std.proofs.lemmas.Bool.{false≢true, eqb-true, ltb-true}
 use Rattle.std.proofs.lemmas.Bool.Decides.{nat_tests}
 use Rattle.record_layout.specs.declared.picture.Picture.{Picture}
-use Rattle.record_layout.specs.Picture.{is_symbol, number, IsGroup, AreGroups, Means, IsPicture}
-use Rattle.record_layout.specs.Reading.{behind_close, size_at, behind_symbol, group_at, capped_size, IsCappedCut}
+use Rattle.record_layout.specs.Picture.{number, IsGroup, AreGroups, Means, IsPicture}
+use Rattle.record_layout.specs.Reading.{behind_close, size_at, behind_symbol, is_symbol, group_at, capped_size, IsCappedCut}
 
 both_true : (a b : Bool) → (a && b) ≡ true → (a ≡ true) × (b ≡ true)
 both_true true b e = (refl, e)

@@ -1,5 +1,5 @@
 -- Places that are given entry by entry, and lengths that are given group by group.
-use Rattle.std.proofs.Common.{◌≡◌, ℕ, ◌+◌, ◌<◌, ◌≤◌, Bool, true, false, not, ◌&&◌, cond, ltb, List, [], ◌∷◌, ◌++◌, length, take, drop, map, reverse, get_or, set, option_map, Option, Some, None, refl, sym, ap, subst, ◌∙◌, inl, inr, arith, append_assoc}
+use Rattle.std.proofs.Common.{◌≡◌, ℕ, ◌+◌, ◌<◌, ◌≤◌, Bool, true, false, not, ◌&&◌, cond, List, [], ◌∷◌, ◌++◌, length, take, drop, map, reverse, get_or, set, option_map, Option, Some, None, refl, sym, ap, subst, ◌∙◌, inl, inr, arith, append_assoc}
 use Rattle.arrayvec.specs.ArrayString.{ArrayString as Text}
 use Rattle.std.specs.Prelude.{is_none, is_some, IsTrue, IsFalse, MatchBool}
 use Rattle.std.specs.List.{sum_by}

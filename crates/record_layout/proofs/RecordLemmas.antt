@@ -1,13 +1,14 @@
 -- The own places of entries, with the lengths of the groups, are a layout.
-use Rattle.std.proofs.Common.{◌≡◌, ℕ, ◌+◌, ◌<◌, ◌≤◌, Bool, true, false, ◌||◌, cond, ltb, List, [], ◌∷◌, ◌++◌, length, map, Option, Some, None, refl, sym, ap, subst, ◌∙◌, arith, append_assoc}
-use Rattle.std.specs.Prelude.{is_none, IsFalse, bytes_eq}
-use Rattle.std.specs.List.{AllByRecursion as ByRecursion}
+use Rattle.std.proofs.Common.{◌≡◌, ℕ, zero, suc, ◌+◌, ◌<◌, ◌≤◌, Bool, true, false, ◌||◌, cond, ltb, List, [], ◌∷◌, ◌++◌, length, map, get_or, Option, Some, None, refl, sym, ap, subst, ◌∙◌, arith, append_assoc}
+use Rattle.std.specs.Prelude.{is_none, is_some, IsNone, IsFalse, bytes_eq}
+use Rattle.std.specs.List.{AllPairs, AllByRecursion as ByRecursion}
 use Rattle.std.proofs.lemmas.Bool.{false≢true}
 use Rattle.std.proofs.lemmas.Bool.Decides.{nat_tests, Decides-eqb}
 use Rattle.std.proofs.lemmas.Cmp.{nat_list_eq_equiv}
+use Rattle.std.proofs.lemmas.Slice.Eq.{bytes_eq-Decides}
 use Rattle.std.proofs.lemmas.List.{append-nil}
 use Rattle.std.proofs.lemmas.List.Elements.{All-from_recursion}
-use Rattle.record_layout.specs.Layout.{Entry, Placed, Structure, width, placed, places, is_nothing, IsWellFormed, is_one, is_named, is_name_of, AreNamedApart, IsLayout, IsRecord, length_of}
+use Rattle.record_layout.specs.Layout.{Entry, Placed, Structure, width, placed, places, is_nothing, IsWellFormed, is_one, is_named, is_name_of, IsLayout, IsRecord, length_of}
 use Rattle.record_layout.specs.Layout.Structure.{Nothing, Elementary, Group}
 use Rattle.record_layout.specs.LayoutFault.{is_level_fit}
 use Rattle.record_layout.specs.Placing.{PlacedEntry, place_of, ArePlaced, HavePlaces, members_length, with_length, with_group_lengths}
@@ -212,10 +213,50 @@ unnamed_after : (entry : Entry) (before : List Entry) (total : ℕ) (items : Lis
 unnamed_after entry before total items None is stands h = refl
 unnamed_after entry before total items (Some name) is stands h = none_named entry name before total items is stands h
 
+-- no entry has the name of one behind it
+abbrev pub AreNamedApart : List Entry → Type 0
+AreNamedApart [] = Unit {0}
+AreNamedApart (entry ∷ after) = IsFalse (is_name_of after entry.name) × AreNamedApart after
+
 named_apart : (before : List Entry) (total : ℕ) (items : List PlacedEntry) → ArePlaced before total items → AreNamedApart (map (λ item. item.entry) items)
 named_apart before total [] h = tt
 named_apart before total (item ∷ items) h =
     (unnamed_after item.entry (item.entry ∷ before) (total + item.field.length) items item.entry.name refl (stands_first item.entry before) h.2, named_apart (item.entry ∷ before) (total + item.field.length) items h.2)
+
+unnamed : (after : List Entry) (name : Option (List ℕ)) → is_name_of after name ≡ false → (j : ℕ) (d : Entry) → j < length after → name ≡ (get_or after j d).name → is_some name ≡ false
+unnamed after None h j d within same = refl
+unnamed [] (Some name) h j d within same = absurd (omega (arith, within))
+unnamed (first ∷ after) (Some name) h zero d within same =
+    let named : is_named name first.name ≡ true = subst (λ o. is_named name o ≡ true) same ((bytes_eq-Decides name name).1 refl) in
+    absurd (false≢true (sym (nor (is_named name first.name) _ h).0 ∙ named))
+unnamed (first ∷ after) (Some name) h (suc j) d within same = unnamed after (Some name) (nor (is_named name first.name) _ h).1 j d (omega (arith, within)) same
+
+-- two entries of one name have none
+own_names : (entries : List Entry) → AreNamedApart entries → (i j : ℕ) (d : Entry) → i < j → j < length entries → (get_or entries i d).name ≡ (get_or entries j d).name → is_some (get_or entries i d).name ≡ false
+own_names [] h i j d before within = absurd (omega (arith, within))
+own_names (entry ∷ after) h zero zero d before within = absurd (omega (arith, before))
+own_names (entry ∷ after) h zero (suc j) d before within = unnamed after entry.name h.0 j d (omega (arith, within))
+own_names (entry ∷ after) h (suc i) zero d before within = absurd (omega (arith, before))
+own_names (entry ∷ after) h (suc i) (suc j) d before within = own_names after h.1 i j d (omega (arith, before)) (omega (arith, within))
+
+not_named : (after : List Entry) (name : Option (List ℕ)) → ((j : ℕ) (d : Entry) → j < length after → name ≡ (get_or after j d).name → is_some name ≡ false) → is_name_of after name ≡ false
+not_named after None h = refl
+not_named [] (Some name) h = refl
+not_named (first ∷ after) (Some name) h =
+    neither (is_named name first.name) _ (other first.name (h 0 first (omega arith))) (not_named after (Some name) (λ j d within. h (suc j) d (omega (arith, within))))
+  where
+    by_test : (own : List ℕ) (b : Bool) → bytes_eq own name ≡ b → (Some name ≡ Some own → true ≡ false) → b ≡ false
+    by_test own true e k = k (ap Some (sym ((bytes_eq-Decides own name).0 e)))
+    by_test own false e k = refl
+
+    other : (has : Option (List ℕ)) → (Some name ≡ has → true ≡ false) → is_named name has ≡ false
+    other None k = refl
+    other (Some own) k = by_test own (bytes_eq own name) refl k
+
+pub apart_by_names : (entries : List Entry) → AllPairs (λ a b. a.name ≡ b.name → IsNone a.name) entries → AreNamedApart entries
+apart_by_names [] h = tt
+apart_by_names (entry ∷ after) h =
+    (not_named after entry.name (λ j d within. h 0 (suc j) d (omega arith) (omega (arith, within))), apart_by_names after (λ i j d before within. h (suc i) (suc j) d (omega (arith, before)) (omega (arith, within))))
 
 -- ---- the layout
 
@@ -234,7 +275,7 @@ laid_items (item ∷ items) h =
       one = one_item r.structure [] some (subst (λ xs. AreDeeper 1 (tail_of xs)) own_is behind_first);
       entries_are = ap (map (λ (placed : PlacedEntry). placed.entry)) (own_is ∙ append-nil own) ∙ entries_written 0 1 r.structure;
       sound = r.sound;
-      names = named_apart [] 0 (item ∷ items) h;
+      names = own_names (map (λ placed. placed.entry) (item ∷ items)) (named_apart [] 0 (item ∷ items) h);
       short = omega (arith, r.short);
       layout_is = ap lengthened own_is ∙ (lengthened_places 0 1 r.structure [] r.sound tt ∙ append-nil (places 0 r.structure));
     }

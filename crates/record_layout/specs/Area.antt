@@ -18,27 +18,19 @@ character_of Zero = 48
 character_of Low = 0
 character_of High = 255
 
--- left-justified, with spaces on the right, and the excess cut on the right
-abbrev pub to_the_left : ℕ → List ℕ → List ℕ
-to_the_left n bytes = take n (bytes ++ replicate n 32)
-
--- right-justified, with zeros on the left, and the excess cut on the left
-abbrev pub to_the_right : ℕ → List ℕ → List ℕ
-to_the_right n digits = drop (length digits) (replicate n 48 ++ digits)
-
 -- ours: a numeric item takes digits and ZERO alone; any other item, a group among them, takes anything
 abbrev pub is_taken_by : Bool → Source (List ℕ) → Bool
-is_taken_by numeric (Text bytes) = not numeric
 is_taken_by numeric (Digits digits) = true
 is_taken_by numeric (Fill Zero) = true
-is_taken_by numeric (Fill Space) = not numeric
-is_taken_by numeric (Fill Low) = not numeric
-is_taken_by numeric (Fill High) = not numeric
+is_taken_by numeric _ = not numeric
 
--- what an item of n characters holds after a MOVE
+-- what an item of n characters holds after a MOVE: a text is left-justified, with spaces on the right
+-- and its excess cut there, and so are digits, but in a numeric item they are right-justified, with
+-- zeros on the left and their excess cut there
 abbrev pub fitted : Bool → ℕ → Source (List ℕ) → List ℕ
-fitted numeric n (Text bytes) = to_the_left n bytes
-fitted numeric n (Digits digits) = if numeric then to_the_right n digits else to_the_left n digits
+fitted numeric n (Text bytes) = take n (bytes ++ replicate n 32)
+fitted numeric n (Digits digits) =
+    if numeric then drop (length digits) (replicate n 48 ++ digits) else take n (digits ++ replicate n 32)
 fitted numeric n (Fill figure) = replicate n (character_of figure)
 
 -- the area after a MOVE to an item: the item's bytes are new, and all others stay

@@ -2,7 +2,7 @@
 -- ANSI X3.23-1985, Nucleus module, data description entry, level-number: an item without a picture
 -- is a group, of the items of one greater level number that follow it.
 use Rattle.std.specs.Prelude.{◌≡◌, ℕ, ◌+◌, ◌<◌, ◌≤◌, Bool, true, false, List, [], ◌∷◌, ◌++◌, bytes_eq, Option}
-use Rattle.std.specs.Prelude.{Some, None, option_map, IsTrue, IsFalse, All, if◌then◌else◌}
+use Rattle.std.specs.Prelude.{Some, None, option_map, IsNone, IsTrue, IsFalse, All, AllPairs, if◌then◌else◌}
 use Rattle.std.specs.List.{list_any}
 use Rattle.record_layout.specs.declared.item.Item.{Item}
 use Rattle.record_layout.specs.declared.item.Field.{Field}
@@ -58,6 +58,7 @@ width Nothing = 0
 width (Elementary name text picture after) = picture.length + width after
 width (Group name inner members after) = width members + width after
 
+-- one item with its place
 abbrev pub placed : Option (List ℕ) → ℕ → ℕ → Bool → Placed
 placed name offset length numeric = record {
   name = name;
@@ -68,10 +69,15 @@ placed name offset length numeric = record {
 abbrev pub places : ℕ → Structure → List Placed
 places offset Nothing = []
 places offset (Elementary name text picture after) =
-    placed name offset picture.length picture.numeric ∷ places (offset + picture.length) after
+    record {
+      name = name;
+      field = record { offset = offset; length = picture.length; numeric = picture.numeric };
+    } ∷ places (offset + picture.length) after
 places offset (Group name inner members after) =
-    placed name offset (width members) false ∷ places offset members
-    ++ places (offset + width members) after
+    record {
+      name = name;
+      field = record { offset = offset; length = width members; numeric = false };
+    } ∷ places offset members ++ places (offset + width members) after
 
 abbrev pub is_nothing : Structure → Bool
 is_nothing Nothing = true
@@ -104,21 +110,16 @@ abbrev pub is_name_of : List Entry → Option (List ℕ) → Bool
 is_name_of entries None = false
 is_name_of entries (Some name) = list_any (λ entry. is_named name entry.name) entries
 
--- no two entries have one name
-abbrev pub AreNamedApart : List Entry → Type 0
-AreNamedApart [] = Unit {0}
-AreNamedApart (entry ∷ after) = IsFalse (is_name_of after entry.name) × AreNamedApart after
-
 -- ---- a layout
 
--- the entries are a record, an item of level 01 of at most 4,000 characters, and these are the
--- places of its items
+-- the entries are a record, an item of level 01 of at most 4,000 characters, of which no two have one
+-- name, and these are the places of its items
 pub record IsLayout (entries : List Entry) (layout : List Placed) : Type 0 where
   pub structure : Structure
   pub one : IsTrue (is_one structure)
   pub entries_are : entries ≡ written_items 1 structure
   pub sound : IsWellFormed 1 structure
-  pub names : AreNamedApart entries
+  pub names : AllPairs (λ a b. a.name ≡ b.name → IsNone a.name) entries
   pub short : width structure ≤ 4000
   pub layout_is : layout ≡ places 0 structure
 

@@ -1,11 +1,11 @@
 -- How a picture is read: a group at a time.
-use Rattle.std.specs.Prelude.{◌≡◌, ℕ, ◌==◌, Bool, if◌then◌else◌, List, [], ◌∷◌, take, drop, min, nat_lt}
+use Rattle.std.specs.Prelude.{◌≡◌, ℕ, ◌==◌, Bool, ◌||◌, if◌then◌else◌, List, [], ◌∷◌, take, drop, min, nat_lt}
 use Rattle.std.specs.Prelude.{Option, Some, None}
 use Rattle.std.specs.Option.{option_map}
 use Rattle.std.specs.Borrow.{Bor}
 use Rattle.std.specs.List.{prefix_len}
 use Rattle.std.specs.Char.{is_ascii_digit}
-use Rattle.record_layout.specs.Picture.{is_symbol, number}
+use Rattle.record_layout.specs.Picture.{number}
 
 -- the rest behind a closing parenthesis, where one comes next
 abbrev pub behind_close : List ℕ → Option (List ℕ)
@@ -22,6 +22,10 @@ size_at bytes =
 abbrev pub behind_symbol : List ℕ → Option (ℕ × List ℕ)
 behind_symbol [] = Some (1, [])
 behind_symbol (b ∷ rest) = if b == 40 then size_at rest else Some (1, b ∷ rest)
+
+-- the symbol of a numeric item is 9, that of any other X, in either case of letter
+abbrev pub is_symbol : Bool → ℕ → Bool
+is_symbol numeric byte = if numeric then byte == 57 else byte == 88 || byte == 120
 
 abbrev pub group_at : Bool → List ℕ → Option (ℕ × List ℕ)
 group_at numeric [] = None

@@ -2,7 +2,7 @@
 -- ANSI X3.23-1985, Indexed I-O module, FILE-CONTROL entry: RECORD KEY and ALTERNATE RECORD KEY clauses.
 use Rattle.std.specs.Prelude.{◌≡◌, ◌≢◌, ℕ, ◌+◌, ◌<◌, ◌≤◌, ◌==◌, Bool, true, false, ◌&&◌, List, []}
 use Rattle.std.specs.Prelude.{◌∷◌, length, take, drop, nat_le, slice_index_or, Option, position, IfSome, All}
-use Rattle.std.specs.Prelude.{AllPairs}
+use Rattle.std.specs.Prelude.{AllPairs, if◌then◌else◌}
 use Rattle.std.specs.Cmp.Lexicographic.{pointwise}
 use Rattle.record_layout.specs.declared.item.Field.{Field}
 use Rattle.record_layout.specs.declared.schema.KeyKind.{KeyKind}
@@ -21,26 +21,30 @@ schema_of_fields least greatest keys = record { least = least; greatest = greate
 
 -- the kind of an alternate key, by whether its clause says WITH DUPLICATES
 abbrev pub alternate_kind : Bool → KeyKind
-alternate_kind true = Duplicates
-alternate_kind false = Unique
+alternate_kind duplicates = if duplicates then Duplicates else Unique
+
+-- the kinds are the same
+abbrev pub same_kind : KeyKind → KeyKind → Bool
+same_kind Prime Prime = true
+same_kind Unique Unique = true
+same_kind Duplicates Duplicates = true
+same_kind _ _ = false
 
 -- whether keys of this kind may have duplicates
 abbrev pub is_duplicates : KeyKind → Bool
-is_duplicates Prime = false
-is_duplicates Unique = false
-is_duplicates Duplicates = true
+is_duplicates kind = same_kind kind Duplicates
 
 -- whether the key may have duplicates
 abbrev pub has_duplicates : KeyPart → Bool
-has_duplicates part = is_duplicates part.kind
+has_duplicates part = same_kind part.kind Duplicates
 
 -- the part of a key that a schema does not have: no bytes
 abbrev pub no_key : KeyPart
 no_key = record { offset = 0; length = 0; kind = Prime }
 
--- key k
+-- key k; a key that the schema does not have is no bytes
 abbrev pub key_at : Schema → ℕ → KeyPart
-key_at schema k = slice_index_or schema.keys k no_key
+key_at schema k = slice_index_or schema.keys k (record { offset = 0; length = 0; kind = Prime })
 
 -- the bytes of a part of a record
 abbrev pub part_of : KeyPart → List ℕ → List ℕ
@@ -77,20 +81,15 @@ pub record IsSchema (schema : Schema) : Type 0 where
   pub whole : All (IsKey schema.least) schema.keys
   pub keys : AreKeys schema.keys
 
--- the kinds are the same
-abbrev pub same_kind : KeyKind → KeyKind → Bool
-same_kind Prime Prime = true
-same_kind Unique Unique = true
-same_kind Duplicates Duplicates = true
-same_kind _ _ = false
-
 -- the parts are the same bytes of a record, and keys of the same kind
 abbrev pub same_part : KeyPart → KeyPart → Bool
 same_part a b = (a.offset == b.offset) && (a.length == b.length) && same_kind a.kind b.kind
 
--- the lengths and all keys are the same
+-- the lengths are the same, and all keys: the same bytes of a record, of the same kinds
 abbrev pub same_schema : Schema → Schema → Bool
-same_schema a b = (a.least == b.least) && (a.greatest == b.greatest) && pointwise same_part a.keys b.keys
+same_schema a b = (a.least == b.least) && (a.greatest == b.greatest) && pointwise (λ key other.
+    (key.offset == other.offset) && (key.length == other.length) && same_kind key.kind other.kind)
+    a.keys b.keys
 
 -- the key that is the item's very bytes: an item with a key's offset and length counts as that key (ours)
 abbrev pub key_of_field : Schema → Field → Option ℕ

@@ -4,8 +4,8 @@
 -- ANSI X3.23-1985, Indexed I-O module, FILE-CONTROL entry: the leftmost character of no key is that
 -- of another; RECORD clause: each key is within the least record length. The limits of 250
 -- characters and 8 alternate keys are ours.
-use Rattle.std.specs.Prelude.{◌≡◌, ℕ, ◌+◌, ◌==◌, Bool, List, [], ◌∷◌, ◌++◌, length, nat_lt, Option}
-use Rattle.std.specs.Prelude.{Some, None, Result, Ok, Err, IsPermutation, if◌then◌else◌}
+use Rattle.std.specs.Prelude.{◌≡◌, ℕ, ◌+◌, ◌==◌, Bool, List, [], ◌∷◌, ◌++◌, length, map, nat_lt, Option}
+use Rattle.std.specs.Prelude.{Some, None, option_map, Result, Ok, Err, IsPermutation, if◌then◌else◌}
 use Rattle.std.specs.List.{list_any}
 use Rattle.arrayvec.specs.ArrayString.{ArrayString as Text}
 use Rattle.arrayvec.specs.ArrayVec.{ArrayVec}
@@ -14,7 +14,7 @@ use Rattle.record_layout.specs.declared.fault.SchemaFault.TheVariants.{NoSuchFie
 use Rattle.record_layout.specs.declared.fault.SchemaFault.TheVariants.{TooManyKeys, KeyPastLeast}
 use Rattle.record_layout.specs.declared.item.Field.{Field}
 use Rattle.record_layout.specs.declared.schema.KeyKind.{KeyKind}
-use Rattle.record_layout.specs.declared.schema.KeyKind.TheVariants.{Prime}
+use Rattle.record_layout.specs.declared.schema.KeyKind.TheVariants.{Prime, Unique, Duplicates}
 use Rattle.record_layout.specs.declared.schema.KeyPart.{KeyPart}
 use Rattle.record_layout.specs.Layout.{Placed, field_of, length_of}
 use Rattle.record_layout.specs.Schema.{Schema, alternate_kind}
@@ -27,6 +27,27 @@ pub record KeyClause : Type 0 where
 -- an alternate key as it is given
 abbrev pub clause_of : Text × Bool → KeyClause
 clause_of alternate = record { name = alternate.0.bytes; duplicates = alternate.1 }
+
+-- the item of this name, as a key of this kind
+abbrev pub item_as_key : List Placed → List ℕ → KeyKind → Option KeyPart
+item_as_key layout name kind = option_map
+    (λ field. record { offset = field.offset; length = field.length; kind = kind }) (field_of layout name)
+
+-- the schema is one of this record, and its keys are the items that the clauses name: the prime key
+-- first, and then the alternates, sorted as each schema has them
+pub record HasNamedKeys (layout : List Placed) (prime : List ℕ) (alternates : List KeyClause)
+    (schema : Schema) : Type 0 where
+  pub greatest : schema.greatest ≡ length_of layout
+  pub first : KeyPart
+  pub others : List KeyPart
+  pub sorted : List KeyPart
+  pub prime_is : item_as_key layout prime Prime ≡ Some first
+  pub others_are : map (λ clause. item_as_key layout clause.name
+      (if clause.duplicates then Duplicates else Unique)) alternates ≡ map Some others
+  pub order : IsPermutation others sorted
+  pub keys : schema.keys ≡ first ∷ sorted
+
+-- ---- the first fault of the clauses, where they have one
 
 -- whether a key begins with the item's leftmost character
 abbrev pub begins_one : List KeyPart → Field → Bool

@@ -1,6 +1,6 @@
 //! The record area, and MOVE.
-ghost use Rattle.std.specs.Prelude.{◌≡◌, ◌+◌, ◌≤◌, length, IsTrue};
-ghost use Rattle.record_layout.specs.Area.{character_of, to_the_left, to_the_right, is_taken_by, moved, sent};
+ghost use Rattle.std.specs.Prelude.{◌≡◌, ◌+◌, ◌≤◌, ◌++◌, length, take, drop, replicate, IsTrue};
+ghost use Rattle.record_layout.specs.Area.{character_of, is_taken_by, moved, sent};
 
 use crate::Bytes;
 use crate::item::Field;
@@ -64,7 +64,7 @@ pub fn put(area: &mut [u8], field: Field, source: &Source<&[u8]>)
 
 /// Writes the text from the left on: spaces follow it, or its excess is cut on the right.
 fn justify_left(item: &mut [u8], text: &[u8])
-    ensures { item.new ≡ to_the_left (length item.old) text.now }
+    ensures { item.new ≡ take (length item.old) (text.now ++ replicate (length item.old) 32) }
 {
     let taken = text.len().min(item.len());
     let (front, rest) = item.split_at_mut(taken);
@@ -74,7 +74,7 @@ fn justify_left(item: &mut [u8], text: &[u8])
 
 /// Writes the digits up to the right end: zeros stand before them, or their excess is cut on the left.
 fn justify_right(item: &mut [u8], digits: &[u8])
-    ensures { item.new ≡ to_the_right (length item.old) digits.now }
+    ensures { item.new ≡ drop (length digits.now) (replicate (length item.old) 48 ++ digits.now) }
 {
     let taken = digits.len().min(item.len());
     let (front, rest) = item.split_at_mut(item.len() - taken);

@@ -3,9 +3,9 @@ ghost use Rattle.std.specs.Prelude.{◌≡◌, ◌<◌, ◌≤◌, ℕ, length, 
 ghost use Rattle.std.specs.Prelude.{List, slice_index, ◌==◌};
 ghost use Rattle.std.specs.List.{prefix_len};
 ghost use Rattle.std.specs.Char.{is_ascii_digit};
-ghost use Rattle.record_layout.specs.Picture.{is_symbol, number, Means, IsPicture, IsTooLong, IsBad};
+ghost use Rattle.record_layout.specs.Picture.{number, Means, IsPicture, IsTooLong, IsBad};
 ghost use Rattle.record_layout.specs.declared.picture.Picture.{Picture};
-ghost use Rattle.record_layout.specs.Reading.{group_at, size_at, capped_size, IsCappedCut};
+ghost use Rattle.record_layout.specs.Reading.{is_symbol, group_at, size_at, capped_size, IsCappedCut};
 
 use crate::LayoutFault;
 

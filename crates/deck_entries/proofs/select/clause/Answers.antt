@@ -7,7 +7,7 @@ use Rattle.deck_words.specs.Notation.{the, ◌∣◌}
 use Rattle.deck_words.specs.Reading.{Reads}
 use Rattle.deck_words.specs.Word.{Word}
 use Rattle.deck_words.specs.declared.fault.Refusal.{Refusal}
-use Rattle.deck_entries.specs.FileControlEntry.{Clause, Clauses, indexed, access, record_key, alternate, status, clause, with_clause, added_to}
+use Rattle.deck_entries.specs.FileControlEntry.{Clause, Clauses, indexed, access, record_key, duplicates, alternate, status, clause, with_clause, added_to}
 use Rattle.deck_entries.proofs.select.clause.Goals as goal
 
 -- the words begin the first rule, which is read
@@ -55,7 +55,7 @@ from_access = access ∣ from_record_key
 -- which one is read where the words do not begin those before
 past_indexed : (words : List Word) → begins (this (codes "ORGANIZATION") ∷ this (codes "INDEXED") ∷ []) words ≡ false
     → clause.reads words ≡ (from_access).reads words
-unfolding clause
+unfolding clause indexed access record_key alternate duplicates status
 past_indexed words e1 = other indexed from_access words (indexed_starts words ∙ e1)
 
 past_access : (words : List Word) → begins (this (codes "ORGANIZATION") ∷ this (codes "INDEXED") ∷ []) words ≡ false → begins (this (codes "ACCESS") ∷ []) words ≡ false
@@ -71,7 +71,7 @@ past_alternate : (words : List Word) → begins (this (codes "ORGANIZATION") ∷
 past_alternate words e1 e2 e3 e4 = past_record_key words e1 e2 e3 ∙ other alternate status words (alternate_starts words ∙ e4)
 
 pub returns-then-sees_one_of : goal.returns-then-sees_one_of
-unfolding clause
+unfolding clause indexed access record_key alternate duplicates status
 returns-then-sees_one_of c =
     let words = c.args.parser.now in
     added clause indexed c.args.clauses words c.indexed.result c.indexed.new.parser (first indexed from_access words (indexed_starts words ∙ (sym c.sees_one_of.ensures ∙ c.if-sees_one_of.true))) c.indexed.ensures

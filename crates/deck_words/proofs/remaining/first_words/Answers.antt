@@ -1,7 +1,6 @@
 use Rattle.std.proofs.Common.{◌≡◌, ◌∙◌, ◌<◌, Some, length, ap, sym, arith}
 use Rattle.std.proofs.lemmas.Bool.Decides.{nat_tests}
-use Rattle.deck_words.specs.Words.{rest_of}
-use Rattle.deck_words.specs.Front.{Next, piece_at}
+use Rattle.deck_words.specs.Front.{Next, piece_at, rest_of}
 use Rattle.deck_words.specs.Remaining.{words_from}
 use Rattle.deck_words.proofs.RemainingLemmas.{takes, next_words, no_words, at_end, without_words}
 use Rattle.deck_words.proofs.remaining.first_words.Goals as goal

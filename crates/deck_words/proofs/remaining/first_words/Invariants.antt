@@ -1,5 +1,5 @@
 use Rattle.std.proofs.Common.{◌≡◌, ◌+◌, ◌≤◌, length}
-use Rattle.deck_words.specs.Words.{rest_of}
+use Rattle.deck_words.specs.Front.{rest_of}
 use Rattle.deck_words.specs.Remaining.{words_from}
 use Rattle.deck_words.proofs.remaining.first_words.Given as goal
 

@@ -1,7 +1,7 @@
 use Rattle.std.proofs.Common.{◌≡◌, ◌∙◌, ◌+◌, ◌<◌, Some, length, ap, sym, subst, arith}
 use Rattle.std.proofs.lemmas.Bool.Decides.{nat_tests}
-use Rattle.deck_words.specs.Words.{rest_of, HasWords}
-use Rattle.deck_words.specs.Front.{Next, piece_at}
+use Rattle.deck_words.specs.Words.{HasWords}
+use Rattle.deck_words.specs.Front.{Next, piece_at, rest_of}
 use Rattle.deck_words.proofs.CutLemmas.{refused}
 use Rattle.deck_words.proofs.RemainingLemmas.{takes, Counted, counted_step, counted_done}
 use Rattle.deck_words.proofs.scanner.scan.Goals as goal

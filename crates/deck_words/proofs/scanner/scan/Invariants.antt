@@ -1,5 +1,5 @@
 use Rattle.std.proofs.Common.{length}
-use Rattle.deck_words.specs.Words.{rest_of}
+use Rattle.deck_words.specs.Front.{rest_of}
 use Rattle.deck_words.proofs.RemainingLemmas.{Counted}
 use Rattle.deck_words.proofs.scanner.scan.Given as goal
 

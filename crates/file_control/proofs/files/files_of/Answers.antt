@@ -1,9 +1,9 @@
-use Rattle.std.proofs.Common.{◌∙◌, sym, subst, ap, List, [], ◌∷◌, ◌++◌}
+use Rattle.std.proofs.Common.{◌≡◌, ◌∙◌, sym, subst, ap, Option, Some, None, List, [], ◌∷◌, ◌++◌}
 use Rattle.std.proofs.lemmas.Option.{same_Some}
 use Rattle.std.proofs.lemmas.Result.{err_from_is_err_and}
 use Rattle.deck_entries.specs.FileDescription.{FileDescription}
-use Rattle.file_control.specs.Description.{FileDesc, IsFile, description_of_file, with_names}
-use Rattle.file_control.proofs.FilesLemmas.{FilesSoFar, step, refused, all_files}
+use Rattle.file_control.specs.Description.{FileDesc, IsFile, with_names}
+use Rattle.file_control.proofs.FilesLemmas.{FilesSoFar, description_of_file, step, refused, all_files}
 use Rattle.file_control.proofs.files.files_of.Goals as goal
 
 pub returns-in_err-next-clause-none : goal.returns-in_err-next-clause-none
@@ -24,3 +24,13 @@ more-preserved c =
 
 pub returns-clause-files : goal.returns-clause-files
 returns-clause-files c = all_files c.args.descriptions.now c.args.storage.now c.args.names.now c.more.names c.args.entries.now c.more.rest.now c.more.files c.more.invariant c.in_default.ensures.cases
+
+none_some : (o : Option FileDescription) (description : FileDescription) → o ≡ None → o ≡ Some description → ⊥
+none_some o description e f = let k = sym e ∙ f in cc
+
+pub returns-in_default-described_as-clause-none : goal.returns-in_default-described_as-clause-none
+returns-in_default-described_as-clause-none c =
+    let none : description_of_file c.args.descriptions.now c.in-Some.selected.now.name ≡ None = ap (description_of_file c.args.descriptions.now) (sym c.name.ensures) ∙ sym c.in_default-described_as.ensures in
+    λ f all after h.
+    refused c.args.descriptions.now c.args.storage.now c.args.names.now c.args.entries.now c.more.names c.in-Some.selected.now c.more.rest.now c.in-Some.after.now c.more.files c.more.invariant c.in-Some.ensures.cases.0
+    (λ description e made is. none_some _ description none e) all after h

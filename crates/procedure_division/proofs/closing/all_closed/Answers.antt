@@ -1,6 +1,6 @@
 use Rattle.std.proofs.Common.{◌∙◌, sym}
 use Rattle.std.proofs.lemmas.Result.{err_from_is_err_and}
-use Rattle.procedure_division.specs.StatementRules.{file_to_close}
+use Rattle.procedure_division.specs.Parts.{file_to_close}
 use Rattle.procedure_division.proofs.JoinLemmas.{begun, further, shorter, not_further, finished}
 use Rattle.procedure_division.proofs.ProcedureLemmas.{lawful_closed, closed_are_fit, closed_starts}
 use Rattle.procedure_division.proofs.closing.all_closed.Goals as goal

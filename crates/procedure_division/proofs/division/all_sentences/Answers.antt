@@ -1,6 +1,6 @@
 use Rattle.std.proofs.Common.{◌∙◌, sym}
 use Rattle.std.proofs.lemmas.Result.{err_from_is_err_and}
-use Rattle.procedure_division.specs.Procedure.{paragraph_or_sentence}
+use Rattle.procedure_division.specs.Parts.{paragraph_or_sentence}
 use Rattle.procedure_division.proofs.JoinLemmas.{further, shorter, not_further, finished}
 use Rattle.procedure_division.proofs.ProcedureLemmas.{lawful_paragraph_or_sentence, sentences_are_fit}
 use Rattle.procedure_division.proofs.division.all_sentences.Goals as goal

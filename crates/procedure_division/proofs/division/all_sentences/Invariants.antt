@@ -1,6 +1,6 @@
 use Rattle.std.proofs.Common.{◌≡◌, [], length}
 use Rattle.deck_words.specs.Rule.{onto}
-use Rattle.procedure_division.specs.Procedure.{paragraph_or_sentence}
+use Rattle.procedure_division.specs.Parts.{paragraph_or_sentence}
 use Rattle.procedure_division.specs.StatementRules.{joined_statements}
 use Rattle.procedure_division.proofs.division.all_sentences.Given as goal
 

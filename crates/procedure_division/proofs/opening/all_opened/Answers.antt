@@ -1,6 +1,6 @@
 use Rattle.std.proofs.Common.{◌∙◌, sym}
 use Rattle.std.proofs.lemmas.Result.{err_from_is_err_and}
-use Rattle.procedure_division.specs.StatementRules.{name_to_open}
+use Rattle.procedure_division.specs.Parts.{name_to_open}
 use Rattle.procedure_division.proofs.JoinLemmas.{begun, further, shorter, not_further, finished}
 use Rattle.procedure_division.proofs.ProcedureLemmas.{lawful_opened, opened_are_fit, opened_starts}
 use Rattle.procedure_division.proofs.opening.all_opened.Goals as goal

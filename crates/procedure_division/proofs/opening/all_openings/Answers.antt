@@ -1,6 +1,6 @@
 use Rattle.std.proofs.Common.{◌∙◌, sym}
 use Rattle.std.proofs.lemmas.Result.{err_from_is_err_and}
-use Rattle.procedure_division.specs.StatementRules.{opening}
+use Rattle.procedure_division.specs.Parts.{opening}
 use Rattle.procedure_division.proofs.JoinLemmas.{begun, further, shorter, not_further, finished}
 use Rattle.procedure_division.proofs.ProcedureLemmas.{lawful_opening, openings_are_fit}
 use Rattle.procedure_division.proofs.opening.all_openings.Goals as goal

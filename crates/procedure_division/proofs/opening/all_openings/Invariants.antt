@@ -1,6 +1,6 @@
 use Rattle.std.proofs.Common.{◌≡◌, length}
 use Rattle.deck_words.specs.Rule.{onto}
-use Rattle.procedure_division.specs.StatementRules.{opening}
+use Rattle.procedure_division.specs.Parts.{opening}
 use Rattle.procedure_division.specs.StatementRules.{joined_statements, behind_statements, some_of}
 use Rattle.procedure_division.proofs.opening.all_openings.Given as goal
 

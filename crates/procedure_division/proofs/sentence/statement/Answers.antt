@@ -9,9 +9,10 @@ use Rattle.deck_words.specs.Word.{Word}
 use Rattle.deck_words.specs.declared.fault.Refusal.{Refusal}
 use Rattle.procedure_division.specs.declared.statement.Statement.{Statement}
 use Rattle.procedure_division.specs.Names.{Names}
-use Rattle.procedure_division.specs.StatementRules.{AddsStatements, joined_statements, open_statement, close_statement, read_statement, start_statement, write_statement, rewrite_statement, delete_statement, move_statement, stop_statement}
+use Rattle.procedure_division.specs.StatementRules.{AddsStatements, joined_statements, open_statement, close_statement, read_statement, start_statement, move_statement}
+use Rattle.procedure_division.specs.Parts.{record_named}
 use Rattle.procedure_division.specs.Procedure.{statement}
-use Rattle.procedure_division.proofs.ProcedureLemmas.{open_starts, close_starts, read_starts, start_starts, write_starts, rewrite_starts, delete_starts, move_starts}
+use Rattle.procedure_division.proofs.ProcedureLemmas.{write_statement, rewrite_statement, delete_statement, stop_statement, open_starts, close_starts, read_starts, start_starts, write_starts, rewrite_starts, delete_starts, move_starts}
 use Rattle.procedure_division.proofs.sentence.statement.Goals as goal
 
 -- the words begin the first rule, which is read
@@ -53,7 +54,7 @@ from_close names = close_statement names ∣ from_read names
 -- which one is read where the words do not begin those before
 past_open : (names : Names) (words : List Word) → begins (this (codes "OPEN") ∷ []) words ≡ false
     → (statement names).reads words ≡ (from_close names).reads words
-unfolding statement
+unfolding statement record_named
 past_open names words e1 = other (open_statement names) (from_close names) words (open_starts names words ∙ e1)
 
 past_close : (names : Names) (words : List Word) → begins (this (codes "OPEN") ∷ []) words ≡ false → begins (this (codes "CLOSE") ∷ []) words ≡ false
@@ -85,7 +86,7 @@ past_move : (names : Names) (words : List Word) → begins (this (codes "OPEN") 
 past_move names words e1 e2 e3 e4 e5 e6 e7 e8 = past_delete names words e1 e2 e3 e4 e5 e6 e7 ∙ other (move_statement names) stop_statement words (move_starts names words ∙ e8)
 
 pub returns-then-sees : goal.returns-then-sees
-unfolding statement
+unfolding statement record_named
 returns-then-sees c =
     let names = c.args.names.now in
     let words = c.args.parser.now in
