@@ -4,12 +4,12 @@ use Rattle.std.proofs.lemmas.List.{take_more, take_all, take-append-drop, length
 use Rattle.std.proofs.lemmas.Option.{get_or_from_slice_get}
 use Rattle.indexed_file.specs.World.{World}
 use Rattle.deck_runner.specs.Line.{Line}
-use Rattle.deck_runner.specs.Run.{RunFile, Run, change_at, is_still_open}
+use Rattle.deck_runner.specs.Run.{RunFile, Run, change_at}
 use Rattle.io_state.specs.declared.statement.FileStatement.TheVariants.{Close}
 use Rattle.procedure_division.specs.declared.statement.Statement.{Statement}
 use Rattle.procedure_division.specs.declared.statement.Statement.TheVariants.{Perform}
 use Rattle.indexed_file.specs.Shown.{Shown}
-use Rattle.deck_runner.specs.Steps.{left_by, IsStepOn, close_of, close_at, closes_from}
+use Rattle.deck_runner.specs.Steps.{left_by, IsStepOn, is_still_open, close_of, close_at, closes_from}
 use Rattle.deck_runner.specs.Stretches.{Point, IsStretch, AreStretches, AreStretchesInPart, ClosesAt, ClosesAtInPart, ClosesFiles, ClosesInPart}
 use Rattle.deck_runner.specs.Running.{Running, run_files}
 use Rattle.deck_runner.proofs.StepLemmas.{no_steps, steps_then, one_step}

@@ -1,15 +1,15 @@
 -- The lines before the first unclean one are the definition's.
-use Rattle.std.proofs.Common.{◌≡◌, ℕ, suc, Bool, true, false, ◌⊎◌, List, [], ◌∷◌, ◌++◌, length, flat_map, slice_get, Option, Some, None, refl, sym, ap, ◌∙◌, append_assoc, append-nil, subst, inl, inr, if◌then◌else◌}
+use Rattle.std.proofs.Common.{◌≡◌, ℕ, suc, Bool, true, false, ◌⊎◌, List, [], ◌∷◌, ◌++◌, length, map, filter, cond, slice_get, Option, Some, None, refl, sym, ap, ◌∙◌, append_assoc, append-nil, subst, inl, inr, if◌then◌else◌}
 use Rattle.std.specs.List.{list_all}
 use Rattle.io_state.specs.declared.statement.FileStatement.TheVariants.{Close}
 use Rattle.procedure_division.specs.declared.statement.Statement.{Statement}
-use Rattle.procedure_division.specs.declared.statement.Statement.TheVariants.{Perform}
+use Rattle.procedure_division.specs.declared.statement.Statement.TheVariants.{Perform, StopRun}
 use Rattle.indexed_file.specs.Shown.{Shown}
 use Rattle.deck_runner.specs.Line.{Line, is_clean}
-use Rattle.deck_runner.specs.Run.{RunFile, LengthValue, Run, performed, items_after, line_of, lines_on, after_statement, lines_of, lines_until_stop, run_at_stop, is_stop, is_still_open, closing_lines, lines_of_run}
-use Rattle.deck_runner.specs.Steps.{IsStepOn, IsStep, AreSteps, until_stop, closes_from}
+use Rattle.deck_runner.specs.Run.{RunFile, LengthValue, Run, performed, line_of, after_statement, lines_of_run}
+use Rattle.deck_runner.specs.Steps.{IsStepOn, IsStep, AreSteps, until_stop, is_still_open, closes_from}
 use Rattle.deck_runner.specs.Stretches.{CleanFrontsAreExact}
-use Rattle.deck_runner.proofs.RunLaws.{clean_first, clean_rest, clean_one, clean_until_stop, get_behind, change_behind, length_behind, close_keeps_items, of, steps_of}
+use Rattle.deck_runner.proofs.RunLaws.{lines_of, lines_until_stop, run_at_stop, run_lines, lines_on, items_after, closing_lines, clean_first, clean_rest, clean_one, clean_until_stop, get_behind, change_behind, length_behind, close_keeps_items, of, steps_of}
 
 -- ---- the lines of statements one after another
 
@@ -27,26 +27,22 @@ lines_through_both (statement ∷ first) rest run =
     rw (lines_through_both first rest (after_statement statement run))
     (sym (append_assoc (lines_of statement run) (lines_through first (after_statement statement run)) (lines_through rest (run_through first (after_statement statement run)))))
 
-stopping : (statement : Statement) (others : List Statement) (lines : List Line) (run : Run) (stops : Bool) → lines_through others (after_statement statement run) ≡ lines
-    → lines_through (if stops then [] else statement ∷ others) run ≡ (if stops then [] else lines_of statement run ++ lines)
-stopping statement others lines run true is = refl
-stopping statement others lines run false is = ap (λ (l : List Line). lines_of statement run ++ l) is
-
 lines_to_stop : (statements : List Statement) (run : Run) → lines_through (until_stop statements) run ≡ lines_until_stop statements run
 lines_to_stop [] run = refl
+lines_to_stop (StopRun ∷ rest) run = refl
 lines_to_stop (statement ∷ rest) run =
-    stopping statement (until_stop rest) (lines_until_stop rest (after_statement statement run)) run (is_stop statement) (lines_to_stop rest (after_statement statement run))
+    ap (λ (l : List Line). lines_of statement run ++ l) (lines_to_stop rest (after_statement statement run))
 
 -- the lines of the closes
 abbrev AreLinesOfCloses : List LengthValue → List RunFile → Type 0
-AreLinesOfCloses items files = (before : List RunFile) → lines_through (closes_from (length before) files) (of (before ++ files) items) ≡ flat_map (closing_lines items) files
+AreLinesOfCloses items files = (before : List RunFile) → lines_through (closes_from (length before) files) (of (before ++ files) items) ≡ closing_lines items files
 
 closes_in : (items : List LengthValue) (file : RunFile) (files : List RunFile) → AreLinesOfCloses items files → (before : List RunFile) (open_still : Bool)
     → lines_through ((if open_still then Perform (length before) (Close false) ∷ [] else []) ++ closes_from (suc (length before)) files) (of (before ++ file ∷ files) items)
-    ≡ (if open_still then line_of (Close false) items file ∷ [] else []) ++ flat_map (closing_lines items) files
+    ≡ map (line_of (Close false) items) (cond open_still (file ∷ filter is_still_open files) (filter is_still_open files))
 closes_in items file files more before false =
-    subst (λ (n : ℕ). lines_through (closes_from n files) (of (before ++ file ∷ files) items) ≡ flat_map (closing_lines items) files) (length_behind before file)
-    (subst (λ (l : List RunFile). lines_through (closes_from (length (before ++ file ∷ [])) files) (of l items) ≡ flat_map (closing_lines items) files) (append_assoc before (file ∷ []) files)
+    subst (λ (n : ℕ). lines_through (closes_from n files) (of (before ++ file ∷ files) items) ≡ closing_lines items files) (length_behind before file)
+    (subst (λ (l : List RunFile). lines_through (closes_from (length (before ++ file ∷ [])) files) (of l items) ≡ closing_lines items files) (append_assoc before (file ∷ []) files)
     (more (before ++ file ∷ [])))
 closes_in items file files more before true =
     let closed_file = performed (Close false) items file in
@@ -56,11 +52,11 @@ closes_in items file files more before true =
       files = change_behind (performed (Close false) items) before file files i;
       items = (ap (λ (o : Option RunFile). items_after (Close false) items o) (get_behind before file files) ∙ close_keeps_items items file) i;
     } in
-    let rest : lines_through (closes_from (suc (length before)) files) (of ((before ++ closed_file ∷ []) ++ files) items) ≡ flat_map (closing_lines items) files =
-    subst (λ (n : ℕ). lines_through (closes_from n files) (of ((before ++ closed_file ∷ []) ++ files) items) ≡ flat_map (closing_lines items) files) (length_behind before closed_file)
+    let rest : lines_through (closes_from (suc (length before)) files) (of ((before ++ closed_file ∷ []) ++ files) items) ≡ closing_lines items files =
+    subst (λ (n : ℕ). lines_through (closes_from n files) (of ((before ++ closed_file ∷ []) ++ files) items) ≡ closing_lines items files) (length_behind before closed_file)
     (more (before ++ closed_file ∷ [])) in
     let first : lines_of (Perform (length before) (Close false)) here ≡ line_of (Close false) items file ∷ [] = ap (λ (o : Option RunFile). lines_on (Close false) items o) (get_behind before file files) in
-    let others : lines_through (closes_from (suc (length before)) files) (after_statement (Perform (length before) (Close false)) here) ≡ flat_map (closing_lines items) files =
+    let others : lines_through (closes_from (suc (length before)) files) (after_statement (Perform (length before) (Close false)) here) ≡ closing_lines items files =
     ap (λ (r : Run). lines_through (closes_from (suc (length before)) files) r) next ∙ rest in
     λ i. first i ++ others i
 
@@ -135,7 +131,7 @@ front_of (statement ∷ others) run front rest next steps clean =
 
 -- the lines of the closes behind the statements
 abbrev closing : Run → List Line
-closing stopped = flat_map (closing_lines stopped.items) stopped.files
+closing stopped = closing_lines stopped.items stopped.files
 
 -- the statements up to STOP RUN, and some of the closes behind them
 front_of_both : (statements : List Statement) (run stopped next : Run) (first others front rest : List Line) (done left : List Statement)
@@ -146,7 +142,7 @@ front_of_both statements run stopped next first others front rest done left step
       | inl h ↦
           let begun = front_of (until_stop statements) run front h.0 stopped (rw h.1 at steps) clean in
           let lines : lines_until_stop statements run ≡ front ++ begun.0 = sym (lines_to_stop statements run) ∙ begun.1 in
-          (begun.0 ++ closing (run_at_stop statements run), ap (λ (l : List Line). l ++ closing (run_at_stop statements run)) lines ∙ append_assoc front begun.0 (closing (run_at_stop statements run)))
+          (begun.0 ++ closing (run_at_stop statements run), run_lines statements run ∙ ap (λ (l : List Line). l ++ closing (run_at_stop statements run)) lines ∙ append_assoc front begun.0 (closing (run_at_stop statements run)))
       | inr h ↦
           let both = rw h.1 at clean in
           let exact = clean_until_stop statements run first stopped steps (clean_first first h.0 both) in
@@ -154,8 +150,9 @@ front_of_both statements run stopped next first others front rest done left step
           let all : lines_through (closes_from 0 stopped.files) stopped ≡ h.0 ++ (begun.0 ++ lines_through left (run_through done stopped)) =
           rw closes (lines_through_both done left stopped ∙ ap (λ (l : List Line). l ++ lines_through left (run_through done stopped)) begun.1 ∙ append_assoc h.0 begun.0 (lines_through left (run_through done stopped))) in
           let lines : closing stopped ≡ h.0 ++ (begun.0 ++ lines_through left (run_through done stopped)) = sym (lines_of_closes stopped.items stopped.files []) ∙ all in
-          begins_then front first h.0 (lines_until_stop statements run) (closing (run_at_stop statements run)) h.1 exact.0
-          (subst (λ (r : Run). Begins h.0 (closing r)) exact.1 (begun.0 ++ lines_through left (run_through done stopped), lines))
+          subst (λ (l : List Line). Begins front l) (sym (run_lines statements run))
+          (begins_then front first h.0 (lines_until_stop statements run) (closing (run_at_stop statements run)) h.1 exact.0
+          (subst (λ (r : Run). Begins h.0 (closing r)) exact.1 (begun.0 ++ lines_through left (run_through done stopped), lines)))
     ]
 
 front_in_part : (statements done left : List Statement) (run next : Run) (front rest : List Line) → until_stop statements ≡ done ++ left → AreSteps done run (front ++ rest) next → list_all is_clean front ≡ true
@@ -167,7 +164,7 @@ front_in_part statements done left run next front rest is steps clean =
     let lines : lines_until_stop statements run ≡ front ++ more =
     sym (lines_to_stop statements run) ∙ ap (λ (l : List Statement). lines_through l run) is ∙ lines_through_both done left run
     ∙ ap (λ (l : List Line). l ++ lines_through left (run_through done run)) begun.1 ∙ append_assoc front begun.0 (lines_through left (run_through done run)) in
-    (more ++ last, ap (λ (l : List Line). l ++ last) lines ∙ append_assoc front more last)
+    (more ++ last, run_lines statements run ∙ ap (λ (l : List Line). l ++ last) lines ∙ append_assoc front more last)
 
 pub clean_fronts_are_exact : {S : Type 0} (library : Shown S) → CleanFrontsAreExact library
 clean_fronts_are_exact library statements run front rest next (inl p) clean =

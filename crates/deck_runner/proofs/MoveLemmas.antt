@@ -1,11 +1,12 @@
 -- MOVE, which no fault mars.
-use Rattle.std.proofs.Common.{◌≡◌, ℕ, ◌+◌, List, [], length, slice_get, slice_set, Some, refl, sym, ap, ◌∙◌, arith}
+use Rattle.std.proofs.Common.{◌≡◌, ℕ, ◌+◌, true, List, [], length, slice_get, slice_set, Some, refl, sym, ap, ◌∙◌, arith}
 use Rattle.record_layout.specs.declared.item.Field.{Field}
 use Rattle.record_layout.specs.declared.area.Source.{Source}
-use Rattle.record_layout.specs.Area.{moved}
+use Rattle.record_layout.specs.Picture.{number}
+use Rattle.record_layout.specs.Area.{moved, fitted}
 use Rattle.indexed_file.specs.World.{World}
 use Rattle.procedure_division.specs.declared.statement.Statement.TheVariants.{Move, MoveLength}
-use Rattle.deck_runner.specs.Run.{RunFile, LengthValue, after_move, after_move_length}
+use Rattle.deck_runner.specs.Run.{RunFile, LengthValue}
 use Rattle.deck_runner.specs.Steps.{IsStep}
 use Rattle.verbs.specs.Held.{state_of}
 use Rattle.deck_runner.specs.declared.running_deck.RunningDeck.{RunningDeck}
@@ -86,11 +87,11 @@ move_step world files items u file field source get =
     let place : 0 + u ≡ u = omega arith in
     let here : slice_get (run_files world 0 files) u ≡ Some (run_file world u file) = rw place at (run_get world 0 u files file get) in
     let changed = rw place at (run_set world world 0 u files file next get (λ v other. refl) refl refl) in
-    let alike = change_alike u (λ (f : RunFile). let x : RunFile = record f { state = state_of next.held world u next.area } in x) (after_move field source) (run_files world 0 files) (run_file world u file) here refl in
+    let alike = change_alike u (λ (f : RunFile). let x : RunFile = record f { state = state_of next.held world u next.area } in x) (λ f. record f { state = record f.state { area = moved field source f.state.area } }) (run_files world 0 files) (run_file world u file) here refl in
     (refl, (λ i. record { files = (changed ∙ alike) i; items = items }))
 
 pub length_step : (world : World) (files : List Running) (items : List LengthValue) (i : ℕ) (item : LengthValue) (source : Source (List ℕ))
     → slice_get items i ≡ Some item
-    → IsStep (MoveLength i source) (run_of world files items) [] (run_of world files (slice_set items i (after_move_length source item)))
+    → IsStep (MoveLength i source) (run_of world files items) [] (run_of world files (slice_set items i (record item { value = number (fitted true item.digits source) })))
 length_step world files items i item source get =
-    (refl, ap (λ (l : List LengthValue). run_of world files l) (sym (change_is_set items i (after_move_length source) item get)))
+    (refl, ap (λ (l : List LengthValue). run_of world files l) (sym (change_is_set items i (λ x. record x { value = number (fitted true x.digits source) }) item get)))

@@ -2,6 +2,9 @@
 use Rattle.std.proofs.Common.{◌≡◌, ℕ, zero, suc, Bool, true, false, List, [], ◌∷◌, ◌++◌, All, map, slice_get, Option, Some, None, IsTrue, bytes_eq, if◌then◌else◌, refl, sym, ap, ◌∙◌, subst, inl, inr, append_assoc}
 use Rattle.std.proofs.lemmas.List.Elements.{All-nil, All-cons, All-head, All-tail}
 use Rattle.std.proofs.lemmas.Slice.Eq.{bytes_eq-Decides}
+use Rattle.record_layout.specs.declared.item.Field.{Field}
+use Rattle.record_layout.specs.declared.area.Source.{Source}
+use Rattle.record_layout.specs.Area.{moved}
 use Rattle.indexed_file.specs.Images.{Trace, untouched, Stays, LibraryMayLeave, ImagesGo}
 use Rattle.indexed_file.specs.Moments.{JoinsStretches, EndsNow}
 use Rattle.indexed_file.specs.File.{Row, File}
@@ -22,7 +25,8 @@ use Rattle.procedure_division.specs.declared.statement.Statement.{Statement}
 use Rattle.procedure_division.specs.declared.statement.Statement.TheVariants.{Perform, Move, MoveLength, StopRun}
 use Rattle.deck_runner.specs.Line.{Line}
 use Rattle.deck_runner.specs.Reads.{only_reads, IsOfReading, FilesStay, ReadsChangeNoFile}
-use Rattle.deck_runner.specs.Run.{RunFile, Run, change_at, record_length, after_move}
+use Rattle.deck_runner.specs.Run.{RunFile, Run, change_at}
+use Rattle.deck_runner.specs.Running.{length_for}
 use Rattle.deck_runner.specs.Steps.{line_by, left_by, IsStepOn, IsStep, until_stop}
 use Rattle.deck_runner.specs.Stretches.{Point, IsStretch, AreStretches, name_by, trace_on, trace_by}
 use Rattle.deck_runner.proofs.FrontLemmas.{cut, few}
@@ -127,11 +131,15 @@ quiet_on statement u None run lines next is step all =
 quiet_on statement u (Some file) run lines next is step all =
     let outcome = step.0 in
     let reads : IsTrue (only_reads statement) = All-head IsOfReading (line_by statement file outcome) [] (subst (All IsOfReading) step.2 all) in
-    let same = step_same statement (record_length run.items file file.depends_on) file.state outcome reads step.1 in (
+    let same = step_same statement (length_for run.items file.state.connector.schema file.depends_on) file.state outcome reads step.1 in (
       ap (λ (r : Run). map named_of r.files) step.3 ∙ change_keeps named_of u (left_by outcome) run.files file is same.named,
       ap (λ (r : Run). map rows_of r.files) step.3 ∙ change_keeps rows_of u (left_by outcome) run.files file is same.rows,
       no_trace statement (Some file) lines reads,
     )
+
+-- a file after a MOVE to its record
+abbrev after_move : Field → Source (List ℕ) → RunFile → RunFile
+after_move field source file = record file { state = record file.state { area = moved field source file.state.area } }
 
 quiet : (statement : Statement) (run : Run) (lines : List Line) (next : Run) → IsStep statement run lines next → All IsOfReading lines → IsQuiet statement run lines next
 quiet (Perform u statement) run lines next step all =

@@ -1,6 +1,7 @@
 -- A run of steps whose lines are all clean is the definition's.
-use Rattle.std.proofs.Common.{◌≡◌, ℕ, zero, suc, Bool, true, false, not, ◌&&◌, List, [], ◌∷◌, ◌++◌, length, map, flat_map, slice_get, Option, Some, None, refl, sym, ap, ◌∙◌, append_assoc, subst, if◌then◌else◌}
+use Rattle.std.proofs.Common.{◌≡◌, ℕ, zero, suc, Bool, true, false, not, ◌&&◌, List, [], ◌∷◌, ◌++◌, length, map, filter, cond, slice_get, Option, Some, None, refl, sym, ap, ◌∙◌, append_assoc, subst, if◌then◌else◌}
 use Rattle.std.specs.List.{list_all}
+use Rattle.std.specs.Option.{option_map_or}
 use Rattle.std.proofs.lemmas.List.Folds.{list_all-append}
 use Rattle.verbs.specs.Connector.{Session, FileState, Outcome, answers}
 use Rattle.io_state.specs.declared.statement.FileStatement.{FileStatement}
@@ -10,10 +11,11 @@ use Rattle.verbs.specs.Faults.{is_unclean}
 use Rattle.verbs.specs.Checks.{check, unless_refused}
 use Rattle.verbs.specs.Opening.{ended, closed, close_in}
 use Rattle.procedure_division.specs.declared.statement.Statement.{Statement}
-use Rattle.procedure_division.specs.declared.statement.Statement.TheVariants.{Perform}
+use Rattle.procedure_division.specs.declared.statement.Statement.TheVariants.{Perform, StopRun}
 use Rattle.deck_runner.specs.Line.{Line, is_clean}
-use Rattle.deck_runner.specs.Run.{RunFile, LengthValue, Run, change_at, record_length, outcome_on, performed, items_after_read, line_of, lines_on, items_after, after_statement, lines_of, lines_until_stop, run_at_stop, is_stop, is_still_open, closing_lines, closed_at_end}
-use Rattle.deck_runner.specs.Steps.{line_by, left_by, IsStepOn, IsStep, AreSteps, until_stop, closes_from, IsRun, CleanRunsAreExact}
+use Rattle.deck_runner.specs.Run.{RunFile, LengthValue, Run, change_at, outcome_on, performed, items_after_read, line_of, after_statement, lines_of_run, after_run}
+use Rattle.deck_runner.specs.Steps.{line_by, left_by, IsStepOn, IsStep, AreSteps, until_stop, is_still_open, closes_from, IsRun, CleanRunsAreExact}
+use Rattle.deck_runner.specs.Running.{length_for}
 use Rattle.deck_runner.specs.Stretches.{Point, AreStretches, IsRunOver}
 use Rattle.indexed_file.specs.Shown.{Shown}
 use Rattle.deck_runner.proofs.CleanLemmas.{clean_step}
@@ -48,6 +50,33 @@ change_past (suc u) f (y ∷ xs) e = ap (λ l. y ∷ l) (change_past u f xs e)
 abbrev of_files : Run → List RunFile → Run
 of_files run files = record run { files = files }
 
+-- the lines of a statement
+abbrev pub lines_of : Statement → Run → List Line
+lines_of (Perform u statement) run =
+    option_map_or (λ file. line_of statement run.items file ∷ []) (slice_get run.files u) []
+lines_of _ run = []
+
+-- the lines of the statements up to STOP RUN
+abbrev pub lines_until_stop : List Statement → Run → List Line
+lines_until_stop [] run = []
+lines_until_stop (StopRun ∷ rest) run = []
+lines_until_stop (statement ∷ rest) run =
+    lines_of statement run ++ lines_until_stop rest (after_statement statement run)
+
+-- what they leave
+abbrev pub run_at_stop : List Statement → Run → Run
+run_at_stop [] run = run
+run_at_stop (StopRun ∷ rest) run = run
+run_at_stop (statement ∷ rest) run = run_at_stop rest (after_statement statement run)
+
+-- the lines and the items after a statement on the file of a place, if there is that file
+abbrev pub lines_on : FileStatement → List LengthValue → Option RunFile → List Line
+lines_on statement items file = option_map_or (λ f. line_of statement items f ∷ []) file []
+
+abbrev pub items_after : FileStatement → List LengthValue → Option RunFile → List LengthValue
+items_after statement items file =
+    option_map_or (λ f. items_after_read f.depends_on (outcome_on statement items f).delivered items) file items
+
 -- a clean step on a file
 clean_on : (statement : FileStatement) (u : ℕ) (file : Option RunFile) (run : Run) (lines : List Line) (next : Run)
     → slice_get run.files u ≡ file → IsStepOn statement u file run lines next → list_all is_clean lines ≡ true
@@ -57,7 +86,7 @@ clean_on statement u None run lines next is step clean =
 clean_on statement u (Some file) run lines next is step clean =
     let outcome = step.0 in
     let one : (not (is_unclean statement outcome.status) && true) ≡ true = rw step.2 at clean in
-    let exact : outcome_on statement run.items file ≡ outcome = clean_step statement (record_length run.items file file.depends_on) file.state outcome (and_left _ true one) step.1 in
+    let exact : outcome_on statement run.items file ≡ outcome = clean_step statement (length_for run.items file.state.connector.schema file.depends_on) file.state outcome (and_left _ true one) step.1 in
     let same : left_by outcome file ≡ performed statement run.items file = ap (λ (o : Outcome). left_by o file) (sym exact) in (
       step.2 ∙ ap (λ (o : Outcome). line_by statement file o ∷ []) (sym exact),
       step.3 ∙ (λ i. record {
@@ -78,21 +107,14 @@ AreExactUntilStop statements =
     (run : Run) → (lines : List Line) → (next : Run) → AreSteps (until_stop statements) run lines next → list_all is_clean lines ≡ true
     → (lines ≡ lines_until_stop statements run) × (next ≡ run_at_stop statements run)
 
-clean_more : (statement : Statement) (rest : List Statement) → AreExactUntilStop rest → (run : Run) (lines : List Line) (next : Run) (stops : Bool)
-    → AreSteps (if stops then [] else statement ∷ until_stop rest) run lines next → list_all is_clean lines ≡ true
-    → (lines ≡ (if stops then [] else lines_of statement run ++ lines_until_stop rest (after_statement statement run)))
-    × (next ≡ (if stops then run else run_at_stop rest (after_statement statement run)))
-clean_more statement rest more run lines next true steps clean = steps
-clean_more statement rest more run lines next false steps clean =
-    let all = rw steps.5 at clean in
-    let one = clean_one statement run steps.0 steps.1 steps.3 (clean_first steps.0 steps.2 all) in
-    let others = more steps.1 steps.2 next steps.4 (clean_rest steps.0 steps.2 all) in
-    (rw (steps.5, one.0, others.0, one.1) refl, rw (others.1, one.1) refl)
-
 pub clean_until_stop : (statements : List Statement) → AreExactUntilStop statements
 clean_until_stop [] run lines next steps clean = steps
+clean_until_stop (StopRun ∷ rest) run lines next steps clean = steps
 clean_until_stop (statement ∷ rest) run lines next steps clean =
-    clean_more statement rest (clean_until_stop rest) run lines next (is_stop statement) steps clean
+    let all = rw steps.5 at clean in
+    let one = clean_one statement run steps.0 steps.1 steps.3 (clean_first steps.0 steps.2 all) in
+    let others = clean_until_stop rest steps.1 steps.2 next steps.4 (clean_rest steps.0 steps.2 all) in
+    (rw (steps.5, one.0, others.0, one.1) refl, rw (others.1, one.1) refl)
 
 -- ---- the closes
 
@@ -129,15 +151,22 @@ length_behind (y ∷ before) x = ap suc (length_behind before x)
 abbrev pub of : List RunFile → List LengthValue → Run
 of files items = record { files = files; items = items }
 
+-- the lines of the closes of the files that are still open, and such a file behind its close
+abbrev pub closing_lines : List LengthValue → List RunFile → List Line
+closing_lines items files = map (line_of (Close false) items) (filter is_still_open files)
+
+abbrev closed_at_end : List LengthValue → RunFile → RunFile
+closed_at_end items file = if is_still_open file then performed (Close false) items file else file
+
 abbrev AreExactCloses : List LengthValue → List RunFile → Type 0
 AreExactCloses items files =
     (before : List RunFile) → (lines : List Line) → (next : Run) → AreSteps (closes_from (length before) files) (of (before ++ files) items) lines next → list_all is_clean lines ≡ true
-    → (lines ≡ flat_map (closing_lines items) files) × (next ≡ of (before ++ map (closed_at_end items) files) items)
+    → (lines ≡ closing_lines items files) × (next ≡ of (before ++ map (closed_at_end items) files) items)
 
 closes_more : (items : List LengthValue) (file : RunFile) (files : List RunFile) → AreExactCloses items files → (before : List RunFile) (lines : List Line) (next : Run) (open_still : Bool)
     → AreSteps ((if open_still then Perform (length before) (Close false) ∷ [] else []) ++ closes_from (suc (length before)) files) (of (before ++ file ∷ files) items) lines next
     → list_all is_clean lines ≡ true
-    → (lines ≡ (if open_still then line_of (Close false) items file ∷ [] else []) ++ flat_map (closing_lines items) files)
+    → (lines ≡ map (line_of (Close false) items) (cond open_still (file ∷ filter is_still_open files) (filter is_still_open files)))
     × (next ≡ of (before ++ (if open_still then performed (Close false) items file else file) ∷ map (closed_at_end items) files) items)
 closes_more items file files more before lines next false steps clean =
     let at_next = subst (λ (n : ℕ). AreSteps (closes_from n files) (of (before ++ file ∷ files) items) lines next) (sym (length_behind before file)) steps in
@@ -172,9 +201,26 @@ pub run_of_stretches : {S : Type 0} (library : Shown S) (statements : List State
 run_of_stretches library statements run lines next p =
     (p.0.run, p.1, p.2, steps_of library (until_stop statements) run p.1 p.0 p.3, steps_of library (closes_from 0 p.0.run.files) p.0 p.2 next p.4, p.5)
 
+-- the lines of a run, and what it leaves
+pub run_lines : (statements : List Statement) (run : Run)
+    → lines_of_run statements run ≡ lines_until_stop statements run ++ closing_lines (run_at_stop statements run).items (run_at_stop statements run).files
+run_lines [] run = refl
+run_lines (StopRun ∷ rest) run = refl
+run_lines (statement ∷ rest) run =
+    let next = after_statement statement run in
+    let stopped = run_at_stop rest next in
+    ap (λ (l : List Line). lines_of statement run ++ l) (run_lines rest next)
+    ∙ sym (append_assoc (lines_of statement run) (lines_until_stop rest next) (closing_lines stopped.items stopped.files))
+
+run_left : (statements : List Statement) (run : Run)
+    → after_run statements run ≡ of (map (closed_at_end (run_at_stop statements run).items) (run_at_stop statements run).files) (run_at_stop statements run).items
+run_left [] run = refl
+run_left (StopRun ∷ rest) run = refl
+run_left (statement ∷ rest) run = run_left rest (after_statement statement run)
+
 pub clean_runs_are_exact : CleanRunsAreExact
 clean_runs_are_exact statements run lines next steps clean =
     let all = rw steps.5 at clean in
     let first = clean_until_stop statements run steps.1 steps.0 steps.3 (clean_first steps.1 steps.2 all) in
     let others = clean_closes steps.0.items steps.0.files [] steps.2 next steps.4 (clean_rest steps.1 steps.2 all) in
-    (rw (steps.5, first.0, others.0, first.1) refl, rw (others.1, first.1) refl)
+    (rw (steps.5, first.0, others.0, first.1) (sym (run_lines statements run)), rw (others.1, first.1) (sym (run_left statements run)))

@@ -7,14 +7,13 @@ use Rattle.indexed_file.specs.World.{World, named_in}
 use Rattle.indexed_file.specs.Images.{Stays}
 use Rattle.indexed_file.specs.Calls.{Keeps}
 use Rattle.indexed_file.specs.Shown.{Shown}
-use Rattle.verbs.specs.Connector.{closed_connector}
 use Rattle.verbs.specs.Held.{held_at_start}
-use Rattle.file_control.specs.Description.{FileDesc, LengthItem}
+use Rattle.file_control.specs.Description.{FileDesc}
 use Rattle.file_control.specs.Described.{file_names}
 use Rattle.deck_reader.specs.declared.deck.Deck.{Deck}
 use Rattle.deck_runner.specs.Line.{Line}
 use Rattle.deck_runner.specs.declared.running_deck.RunningDeck.{RunningDeck}
-use Rattle.deck_runner.specs.Run.{RunFile, LengthValue, Run}
+use Rattle.deck_runner.specs.Run.{RunFile, Run}
 use Rattle.deck_runner.specs.Running.{Running, unit_names}
 use Rattle.deck_runner.specs.Stretches.{Point}
 use Rattle.deck_runner.specs.State.{state, run_in, file_names_in, IsSafeIn, IsTrustedIn, AreLinesOf}
@@ -22,32 +21,31 @@ use Rattle.deck_runner.specs.Conditions.{IsStatementIn}
 
 -- ---- before the first statement
 
--- the record area: zeros in each numeric item, and spaces elsewhere
-abbrev pub area_before : FileDesc → List ℕ
-area_before file = blank_area (length_of file.layout) file.layout
-
--- a file of a deck: its connector is closed and not locked, its record area is blank, and its file
--- name stands for what it stands for in the library
+-- a file of a deck: its connector is closed and not locked, its file name stands for what it stands
+-- for in the library, and its record area has zeros in each numeric item, and spaces elsewhere
 abbrev pub file_before : World → FileDesc → RunFile
 file_before world file = record {
   name = file.name;
   depends_on = file.depends_on;
   state = record {
-    connector = closed_connector file.access file.optional file.schema;
+    connector = record {
+      access = file.access;
+      optional = file.optional;
+      schema = file.schema;
+      locked = false;
+      session = None;
+    };
     named = named_in world file.file;
     file = None;
-    area = area_before file;
+    area = blank_area (length_of file.layout) file.layout;
   };
 }
 
--- a length item of a deck: its value is 0
-abbrev pub item_before : LengthItem → LengthValue
-item_before item = record { digits = item.digits; value = 0 }
-
+-- the files and the length items of a deck: the value of each item is 0
 abbrev pub run_before : World → Deck → Run
 run_before world deck = record {
   files = map (file_before world) deck.files;
-  items = map item_before deck.items;
+  items = map (λ item. record { digits = item.digits; value = 0 }) deck.items;
 }
 
 -- the same file as it stands in memory
@@ -56,7 +54,7 @@ running_before file = record {
   name = file.name;
   depends_on = file.depends_on;
   held = held_at_start file.access file.optional file.schema;
-  area = area_before file;
+  area = blank_area (length_of file.layout) file.layout;
 }
 
 -- ---- what is left

@@ -1,7 +1,7 @@
 -- A run as steps: each statement answers and leaves what it should, or a fault has marred it. All
 -- of this is ours.
-use Rattle.std.specs.Prelude.{◌≡◌, ℕ, suc, true, false, List, [], ◌∷◌, ◌++◌, slice_get, Option, Some, None}
-use Rattle.std.specs.Prelude.{◌⊎◌, if◌then◌else◌}
+use Rattle.std.specs.Prelude.{◌≡◌, ℕ, suc, Bool, true, false, List, [], ◌∷◌, ◌++◌, slice_get, Option, Some}
+use Rattle.std.specs.Prelude.{None, is_some, ◌⊎◌, if◌then◌else◌}
 use Rattle.std.specs.List.{list_all}
 use Rattle.verbs.specs.Connector.{Outcome}
 use Rattle.io_state.specs.declared.statement.FileStatement.{FileStatement}
@@ -11,9 +11,9 @@ use Rattle.procedure_division.specs.declared.statement.Statement.{Statement}
 use Rattle.procedure_division.specs.declared.statement.Statement.TheVariants.{Perform, Move, MoveLength}
 use Rattle.procedure_division.specs.declared.statement.Statement.TheVariants.{StopRun}
 use Rattle.deck_runner.specs.Line.{Line, is_clean}
-use Rattle.deck_runner.specs.Run.{RunFile, Run, change_at, record_length, items_after_read, after_statement}
-use Rattle.deck_runner.specs.Run.{is_stop}
-use Rattle.deck_runner.specs.Run.{is_still_open, lines_of_run, after_run}
+use Rattle.deck_runner.specs.Run.{RunFile, Run, change_at, items_after_read, after_statement, lines_of_run}
+use Rattle.deck_runner.specs.Run.{after_run}
+use Rattle.deck_runner.specs.Running.{length_for}
 
 -- ---- a statement
 
@@ -37,7 +37,8 @@ run_by u depends_on outcome run = record {
 abbrev pub IsStepOn : FileStatement → ℕ → Option RunFile → Run → List Line → Run → Type 0
 IsStepOn statement u None run lines next = (lines ≡ []) × (next ≡ run)
 IsStepOn statement u (Some file) run lines next =
-    (outcome : Outcome) × Step statement (record_length run.items file file.depends_on) file.state outcome
+    (outcome : Outcome)
+    × Step statement (length_for run.items file.state.connector.schema file.depends_on) file.state outcome
     × (lines ≡ line_by statement file outcome ∷ []) × (next ≡ run_by u file.depends_on outcome run)
 
 -- a statement with its lines: a MOVE has none, and no fault mars it
@@ -63,10 +64,17 @@ AreSteps = AreStepsOf IsStep
 
 -- ---- a run
 
+abbrev pub is_stop : Statement → Bool
+is_stop StopRun = true
+is_stop _ = false
+
 -- the statements up to STOP RUN
 abbrev pub until_stop : List Statement → List Statement
 until_stop [] = []
 until_stop (statement ∷ rest) = if is_stop statement then [] else statement ∷ until_stop rest
+
+abbrev pub is_still_open : RunFile → Bool
+is_still_open file = is_some file.state.connector.session
 
 -- the close of the file of a place, if it is still open
 abbrev pub close_of : ℕ → RunFile → List Statement

@@ -17,8 +17,8 @@ use Rattle.procedure_division.specs.declared.statement.Statement.{Statement}
 use Rattle.procedure_division.specs.declared.statement.Statement.TheVariants.{Perform, Move, MoveLength}
 use Rattle.procedure_division.specs.declared.statement.Statement.TheVariants.{StopRun}
 use Rattle.deck_runner.specs.Line.{Line, is_clean}
-use Rattle.deck_runner.specs.Run.{RunFile, Run, record_length, lines_of_run}
-use Rattle.deck_runner.specs.Running.{unit_names}
+use Rattle.deck_runner.specs.Run.{RunFile, Run, lines_of_run}
+use Rattle.deck_runner.specs.Running.{unit_names, length_for}
 use Rattle.deck_runner.specs.Steps.{IsStep, AreStepsOf, IsRunOf, AreStepsInPart, IsRunInPart, close_at}
 use Rattle.deck_runner.specs.Steps.{closes_from}
 
@@ -73,8 +73,8 @@ abbrev pub IsCausedOn : {S : Type 0} → Shown S → ℕ → FileStatement → O
 IsCausedOn library u statement None run lines before after = Unit {0}
 IsCausedOn library u statement (Some file) run [] before after = Unit {0}
 IsCausedOn library u statement (Some file) run (line ∷ lines) before after =
-    LineIsCaused library u statement (record_length run.items file file.depends_on) file.state before after
-    line.status
+    LineIsCaused library u statement (length_for run.items file.state.connector.schema file.depends_on)
+    file.state before after line.status
 
 abbrev pub HasCauses : {S : Type 0} → Shown S → Statement → Run → List Line → (before after : S) → Type 0
 HasCauses library (Perform u statement) run lines before after =

@@ -6,7 +6,7 @@ ghost use Rattle.record_layout.specs.Layout.{length_of};
 ghost use Rattle.file_control.specs.Described.{file_names};
 ghost use Rattle.indexed_file.specs.Calls.{Keeps};
 ghost use Rattle.deck_reader.specs.Deck.{CanBeRun};
-ghost use Rattle.deck_runner.specs.Beginning.{running_before, item_before, IsUntouched, IsBegun};
+ghost use Rattle.deck_runner.specs.Beginning.{running_before, IsUntouched, IsBegun};
 
 use crate::line::LineText;
 use crate::running_deck::RunningDeck;
@@ -63,7 +63,8 @@ fn files_before(alloc: Global, files: &[FileDesc]) -> Result<Vec<RunningFile>, A
 /// The length items of a deck: each has the value 0.
 fn items_before(alloc: Global, items: &[LengthItem]) -> Result<Vec<RunningItem>, AllocError>
     requires { All (λ item. item.digits ≤ 18) items.now }
-    ensures { IfOk result (λ running. running.items ≡ map item_before items.now) }
+    ensures { IfOk result (λ running. running.items ≡ map (λ item.
+        record { digits = item.digits; value = 0 }) items.now) }
 {
     let mut running = Vec::new(alloc);
     for item in items {

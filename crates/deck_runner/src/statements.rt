@@ -1,6 +1,6 @@
 //! The statements of a run.
 ghost use Rattle.std.specs.Prelude.{◌≡◌};
-ghost use Rattle.deck_runner.specs.Run.{is_stop};
+ghost use Rattle.deck_runner.specs.Steps.{is_stop};
 ghost use Rattle.deck_runner.specs.State.{state};
 ghost use Rattle.deck_runner.specs.Parts.{CanRun, RunsPart, VerbOn, OneStatement, UpToStop};
 

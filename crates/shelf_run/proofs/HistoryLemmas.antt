@@ -7,8 +7,8 @@ use Rattle.deck_reader.specs.declared.deck.Deck.{Deck}
 use Rattle.deck_reader.specs.Deck.{IsDeck}
 use Rattle.shelf_run.specs.Files.{reads_of, Represents, AreIn}
 use Rattle.shelf_run.specs.Histories.{Night, IsCleanNight, decks_of, CleanNights, NightsFromNothing, no_files}
-use Rattle.shelf_run.specs.ShelfRun.{RunsFrom}
 use Rattle.shelf_run.specs.WorldAfter.{world_after}
+use Rattle.shelf_run.proofs.WorldLemmas.{RunsFrom}
 
 -- no bytes are two decks
 module _ (one_deck : (bytes : List ℕ) (a b : Deck) → IsDeck bytes a → IsDeck bytes b → a ≡ b) where
@@ -31,12 +31,12 @@ module _ (one_deck : (bytes : List ℕ) (a b : Deck) → IsDeck bytes a → IsDe
       (λ name. subst (λ (c : Option (List ℕ)). Represents c (named_in world name)) (sym (begins name))) (file_names night.deck.files) first in
       let exact = exact_night world night follow.1 as_found in
       let next : (name : List ℕ) → Represents (reads name) (named_in world name) → Represents (reads_of night.new name) (named_in (world_after world night.deck) name) =
-      λ name is. exact.stands name (subst (λ (c : Option (List ℕ)). Represents c (named_in world name)) (sym (begins name)) is) in
+      λ name is. exact.1 name (subst (λ (c : Option (List ℕ)). Represents c (named_in world name)) (sym (begins name)) is) in
       let later = All-weaker (AreIn world reads) (AreIn (world_after world night.deck) (reads_of night.new))
       (λ deck. All-weaker (λ name. Represents (reads name) (named_in world name)) (λ name. Represents (reads_of night.new name) (named_in (world_after world night.deck) name)) next (file_names deck.files))
       (decks_of nights) (All-tail (AreIn world reads) night.deck (decks_of nights) are) in
       let rest = clean_nights (world_after world night.deck) (reads_of night.new) nights follow.2 later in
-      record { transcripts_are = (exact.runs.transcript_is, rest.transcripts_are); files_are = λ name is. rest.files_are name (next name is) }
+      record { transcripts_are = (exact.0.transcript_is, rest.transcripts_are); files_are = λ name is. rest.files_are name (next name is) }
 
   pub from_nothing : NightsFromNothing
   from_nothing reads nights follow none = clean_nights no_files reads nights follow none

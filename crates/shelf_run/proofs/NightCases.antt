@@ -16,7 +16,8 @@ use Rattle.deck_reader.specs.declared.deck.Deck.{Deck}
 use Rattle.deck_runner.proofs.Customers.{cust_id, cust_name}
 use Rattle.deck_runner.proofs.Decks.{key, schema, on, on_file, move}
 use Rattle.deck_runner.specs.NoFalseFile.{Ledger, during, behind}
-use Rattle.deck_runner.specs.Run.{RunFile, Run, after_statement, lines_of}
+use Rattle.deck_runner.specs.Run.{RunFile, Run, after_statement}
+use Rattle.deck_runner.proofs.RunLaws.{lines_of}
 use Rattle.deck_runner.specs.Line.{Line}
 use Rattle.shelf_run.specs.Histories.{no_files, transcripts}
 use Rattle.shelf_run.specs.NightRows.{Watched, watched_before, trace_at}

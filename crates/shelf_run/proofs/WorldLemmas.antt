@@ -1,11 +1,13 @@
 -- A run of the definitions over the files of a shelf, in a world that these represent.
-use Rattle.std.proofs.Common.{◌≡◌, ℕ, ◌<◌, true, List, [], ◌∷◌, length, map, All, Option, None, bytes_eq, refl, sym, ap, subst, ◌∙◌}
+use Rattle.std.proofs.Common.{◌≡◌, ℕ, ◌<◌, true, List, [], ◌∷◌, length, map, All, Option, None, bytes_eq, flat_map, refl, sym, ap, subst, ◌∙◌}
 use Rattle.std.specs.Prelude.{if◌then◌else◌, slice_index_or}
 use Rattle.std.specs.List.{list_any}
 use Rattle.std.specs.Io.KnownBytes.{Appends}
 use Rattle.std.proofs.lemmas.List.Elements.{All-head, All-tail, All-weaker}
 use Rattle.std.proofs.lemmas.List.Folds.{list_any_at}
 use Rattle.std.proofs.lemmas.Slice.Eq.{bytes_eq-Decides}
+use Rattle.record_layout.specs.Area.{blank_area}
+use Rattle.record_layout.specs.Layout.{length_of}
 use Rattle.indexed_file.proofs.TestLemmas.{either}
 use Rattle.indexed_file.specs.World.{World, Named, named_in}
 use Rattle.page_store.specs.ShelfState.{ShelfState}
@@ -14,14 +16,14 @@ use Rattle.file_control.specs.Described.{file_names}
 use Rattle.verbs.specs.Connector.{closed_connector}
 use Rattle.deck_reader.specs.declared.deck.Deck.{Deck}
 use Rattle.deck_runner.specs.declared.run_end.RunEnd.{RunEnd}
-use Rattle.deck_runner.specs.Beginning.{run_before, file_before, item_before, area_before, SameElsewhere, is_elsewhere}
+use Rattle.deck_runner.specs.Beginning.{run_before, file_before, SameElsewhere, is_elsewhere}
 use Rattle.deck_runner.specs.DeckRun.{RunsExactly}
-use Rattle.deck_runner.specs.Run.{RunFile, Run, lines_of_run, transcript, after_run}
+use Rattle.deck_runner.specs.Line.{transcript_line}
+use Rattle.deck_runner.specs.Run.{RunFile, Run, lines_of_run, after_run}
 use Rattle.deck_runner.specs.RunEnd.{end_of}
 use Rattle.shelf_library.specs.Crashes.{IsSoundImage}
 use Rattle.shelf_run.specs.Files.{files_of, reads_of, Represents, AreIn}
-use Rattle.shelf_run.specs.ShelfRun.{RunsFrom}
-use Rattle.shelf_run.specs.WorldAfter.{run_from, left_of, world_after}
+use Rattle.shelf_run.specs.WorldAfter.{left_of, world_after}
 use Rattle.shelf_run.proofs.FilesLemmas.{named_is, sound_of, represents_sound}
 
 -- ---- the start of a run
@@ -31,7 +33,7 @@ named_file : FileDesc → Named → RunFile
 named_file file named = record {
   name = file.name;
   depends_on = file.depends_on;
-  state = record { connector = closed_connector file.access file.optional file.schema; named = named; file = None; area = area_before file };
+  state = record { connector = closed_connector file.access file.optional file.schema; named = named; file = None; area = blank_area (length_of file.layout) file.layout };
 }
 
 same_files : (a b : World) (files : List FileDesc) → All (λ name. named_in a name ≡ named_in b name) (file_names files) → map (file_before a) files ≡ map (file_before b) files
@@ -42,7 +44,7 @@ same_files a b (file ∷ files) same =
     ∙ ap (λ (others : List RunFile). file_before b file ∷ others) (same_files a b files (All-tail (λ name. named_in a name ≡ named_in b name) file.file (file_names files) same))
 
 run_with : Deck → List RunFile → Run
-run_with deck files = record { files = files; items = map item_before deck.items }
+run_with deck files = record { files = files; items = map (λ item. record { digits = item.digits; value = 0 }) deck.items }
 
 -- a deck begins alike in worlds in which its names stand for the same
 same_start : (a b : World) (deck : Deck) → All (λ name. named_in a name ≡ named_in b name) (file_names deck.files) → run_before a deck ≡ run_before b deck
@@ -75,6 +77,16 @@ same_map f g (name ∷ names) same =
 
 -- ---- the run
 
+-- the run of a deck in this world
+abbrev run_from : World → Deck → Run
+run_from world deck = after_run deck.statements (run_before world deck)
+
+-- what an exact run promises in a world that the files of its deck represented
+abbrev pub RunsFrom : World → (old new : ShelfState) → (written written_after : Option (List ℕ)) → RunEnd → Deck → Type 0
+RunsFrom world old new written written_after end deck =
+    RunsExactly written written_after world (world_after world deck) end deck
+    × ((name : List ℕ) → Represents (reads_of old name) (named_in world name) → Represents (reads_of new name) (named_in (world_after world deck) name))
+
 -- the files of a shelf represent a world, and a run goes from what they read as to what they read as after it
 module _
     (world : World) (old new : ShelfState) (written written_after : Option (List ℕ)) (end : RunEnd) (deck : Deck) (are : AreIn world (reads_of old) deck)
@@ -101,14 +113,14 @@ module _
       subst (λ (named : Named). Represents (reads_of new name) named) (sym reads) now
 
   pub runs_from : RunsFrom world old new written written_after end deck
-  runs_from = record {
-    runs = record {
-      transcript_is = subst (λ (run : Run). Appends written written_after (transcript deck.statements run)) start runs.transcript_is;
+  runs_from = (
+    record {
+      transcript_is = subst (λ (run : Run). Appends written written_after (flat_map transcript_line (lines_of_run deck.statements run))) start runs.transcript_is;
       end_is = runs.end_is ∙ ap (λ (run : Run). end_of (lines_of_run deck.statements run)) start;
       leaves =
           same_map (named_in (files_of new)) (named_in (world_after world deck)) (file_names deck.files)
           (λ k d within. left (slice_index_or (file_names deck.files) k d) ∙ rw (among (file_names deck.files) k d within) refl)
           ∙ leaves;
-    };
-    stands = stands;
-  }
+    },
+    stands,
+  )

@@ -1,5 +1,5 @@
 -- Decks that are run one after another, each over the files that the run before it left. All of this is ours.
-use Rattle.std.specs.Prelude.{◌≡◌, ℕ, true, List, [], ◌∷◌, map, Option, None, All, IsTrue}
+use Rattle.std.specs.Prelude.{◌≡◌, ℕ, true, List, [], ◌∷◌, map, flat_map, Option, None, All, IsTrue}
 use Rattle.std.specs.Io.KnownBytes.{Appends}
 use Rattle.indexed_file.specs.World.{World, Absent, named_in}
 use Rattle.page_store.specs.ShelfState.{ShelfState}
@@ -7,7 +7,8 @@ use Rattle.file_control.specs.Described.{file_names}
 use Rattle.deck_reader.specs.declared.deck.Deck.{Deck}
 use Rattle.deck_reader.specs.Deck.{IsDeck}
 use Rattle.deck_runner.specs.Beginning.{run_before}
-use Rattle.deck_runner.specs.Run.{transcript}
+use Rattle.deck_runner.specs.Line.{transcript_line}
+use Rattle.deck_runner.specs.Run.{lines_of_run}
 use Rattle.deck_runner.specs.declared.run_end.RunEnd.{RunEnd}
 use Rattle.shelf_run.specs.Files.{FileReads, reads_of, Represents, AreIn}
 use Rattle.shelf_run.specs.ShelfRun.{IsExactRun}
@@ -22,8 +23,9 @@ no_files = record { units = []; elsewhere = λ name. Absent }
 -- the transcripts of decks, each run in the world that the one before it left
 abbrev pub transcripts : World → List Deck → List (List ℕ)
 transcripts world [] = []
-transcripts world (deck ∷ decks) = transcript deck.statements (run_before world deck) ∷ transcripts
-    (world_after world deck) decks
+transcripts world (deck ∷ decks) =
+    flat_map transcript_line (lines_of_run deck.statements (run_before world deck))
+    ∷ transcripts (world_after world deck) decks
 
 -- the world that the last of them leaves
 abbrev pub world_after_all : World → List Deck → World

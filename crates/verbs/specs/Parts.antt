@@ -20,7 +20,7 @@ use Rattle.verbs.specs.Fits.{is_late_in, knows_late}
 use Rattle.verbs.specs.Full.{TellsRoom}
 use Rattle.verbs.specs.Held.{Held, HasChangeOutcome, state_of, unread, rewritten_as}
 use Rattle.verbs.specs.Marred.{creates}
-use Rattle.verbs.specs.Opening.{created, open_absent, open_named}
+use Rattle.verbs.specs.Opening.{created, open_named}
 use Rattle.verbs.specs.Pages.{AnswersWithin, most_to_write}
 use Rattle.verbs.specs.Performed.{FileInMemory, StaysStanding, Trusted, in_memory}
 use Rattle.verbs.specs.Refusals.{is_early}
@@ -67,7 +67,7 @@ opening_absent mode = record {
   mode = mode;
   creates = λ held. creates mode held.connector.optional Absent;
   IsSo = λ held world u. named_at world u ≡ Absent;
-  should = open_absent mode;
+  should = open_named mode Absent;
 }
 
 abbrev pub opening_sound : OpenMode → Schema → OpenPart
