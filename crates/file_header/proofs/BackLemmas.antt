@@ -1,5 +1,5 @@
 -- What is written of a header is read as it was.
-use Rattle.std.proofs.Common.{◌≡◌, ℕ, suc, ◌+◌, ◌-◌, ◌^◌, ◌<◌, ◌≤◌, ◌==◌, Bool, true, false, if◌then◌else◌, List, [], ◌∷◌, ◌++◌, length, map, min, All, refl, sym, ap, ◌∙◌, arith}
+use Rattle.std.proofs.Common.{◌≡◌, ℕ, suc, ◌-◌, ◌^◌, ◌<◌, ◌≤◌, ◌==◌, Bool, true, false, if◌then◌else◌, List, [], ◌∷◌, ◌++◌, length, map, min, All, codes, drop, replicate, refl, sym, ap, ◌∙◌, arith}
 use Rattle.std.proofs.lemmas.List.{append-nil, append_assoc}
 use Rattle.std.proofs.lemmas.Bool.Decides.{Decides-eqb}
 use Rattle.byteorder.specs.Endian.{big_number, big_bytes}
@@ -9,13 +9,13 @@ use Rattle.page_bytes.proofs.ChunkLemmas.{one_chunk}
 use Rattle.record_layout.specs.declared.schema.KeyKind.{KeyKind}
 use Rattle.record_layout.specs.declared.schema.KeyKind.TheVariants.{Prime, Unique, Duplicates}
 use Rattle.record_layout.specs.declared.schema.KeyPart.{KeyPart}
-use Rattle.record_layout.specs.Schema.{IsKey}
+use Rattle.record_layout.specs.Schema.{IsKey, same_kind}
 use Rattle.file_header.specs.declared.header.Header.{Header}
 use Rattle.file_header.specs.declared.header.TreeNumbers.{TreeNumbers}
 use Rattle.file_header.specs.Bounds.{AreTreeNumbers, IsHeader}
-use Rattle.file_header.specs.FirstPage.{first_bytes, header_bytes, closed_page, kind_byte, key_row_bytes, key_rows_bytes, zeros}
+use Rattle.file_header.specs.FirstPage.{first_bytes, header_bytes, key_row_bytes}
 use Rattle.file_header.specs.Reading.{number_in, greatest_in, least_in, key_count_in, key_rows_in, kind_in, part_in, tree_in, numbers_in}
-use Rattle.file_header.proofs.RowLemmas.{length-row}
+use Rattle.file_header.proofs.RowLemmas.{key_rows_bytes, length-row}
 
 number_back : (n x : ℕ) → x < 256 ^ n → big_number n (big_bytes n x) ≡ x
 number_back n x h = ap (big_number n) (sym (append-nil (big_bytes n x))) ∙ big_number-reads_back n x [] h
@@ -34,7 +34,7 @@ told_small : (b : Bool) (least : ℕ) → least < 256 ^ 2 → (if b then 0 else 
 told_small true least h = omega arith
 told_small false least h = h
 
-kind_back : (kind : KeyKind) → kind_in (kind_byte kind) ≡ kind
+kind_back : (kind : KeyKind) → kind_in (if same_kind kind Prime then 0 else if same_kind kind Unique then 1 else 2) ≡ kind
 kind_back Prime = refl
 kind_back Unique = refl
 kind_back Duplicates = refl
@@ -54,7 +54,7 @@ first_row n part tree rows rest =
 
 parts_back : (least : ℕ) (keys : List KeyPart) (trees : List TreeNumbers) (rest : List ℕ) → length trees ≡ length keys → least ≤ 4000 → All (IsKey least) keys
     → map part_in (chunks 16 (length keys) (key_rows_bytes keys trees ++ rest)) ≡ keys
-unfolding key_rows_bytes chunks
+unfolding chunks
 parts_back least [] trees rest same limit whole = refl
 parts_back least (key ∷ keys) [] rest same limit whole = absurd (omega arith)
 parts_back least (key ∷ keys) (tree ∷ trees) rest same limit whole =
@@ -65,7 +65,7 @@ parts_back least (key ∷ keys) (tree ∷ trees) rest same limit whole =
 
 trees_back : (pages : ℕ) (keys : List KeyPart) (trees : List TreeNumbers) (rest : List ℕ) → length trees ≡ length keys → pages ≤ 256 ^ 4 → All (AreTreeNumbers pages) trees
     → map tree_in (chunks 16 (length keys) (key_rows_bytes keys trees ++ rest)) ≡ trees
-unfolding key_rows_bytes chunks
+unfolding chunks
 trees_back pages [] [] rest same limit whole = refl
 trees_back pages [] (tree ∷ trees) rest same limit whole = absurd (omega arith)
 trees_back pages (key ∷ keys) [] rest same limit whole = absurd (omega arith)
@@ -75,6 +75,10 @@ trees_back pages (key ∷ keys) (tree ∷ trees) rest same limit whole =
     ap (map tree_in) (first_row (length keys) key tree (key_rows_bytes keys trees) rest)
     ∙ λ i. (tree_back key tree (omega (arith, first.within)) i) ∷ (trees_back pages keys trees rest (omega arith) limit later i)
 
+-- the first page of a file that was closed with a header
+abbrev pub closed_page : Header → List ℕ
+closed_page header = codes "C" ++ drop 1 (header_bytes header)
+
 -- the page of a header has its numbers
 pub numbers_back : (header : Header) → IsHeader header → numbers_in (closed_page header) ≡ header
 unfolding numbers_in header_bytes first_bytes
@@ -82,7 +86,7 @@ numbers_back header is =
     let page = closed_page header in
     let schema = header.schema in
     let trees = header.trees.items in
-    let rest = zeros (4096 - length (first_bytes header ++ key_rows_bytes schema.keys trees)) in
+    let rest = replicate (4096 - length (first_bytes header ++ key_rows_bytes schema.keys trees)) 0 in
     let same = schema.least == schema.greatest in
     let under : schema.least < 256 ^ 2 = omega (arith, is.schema.limit, is.schema.ordered) in
     let greatest : greatest_in page ≡ schema.greatest = number_back 2 schema.greatest (omega (arith, is.schema.limit)) in

@@ -4,7 +4,11 @@ use Rattle.std.proofs.lemmas.List.{append-nil, take_at, drop_all}
 use Rattle.std.proofs.lemmas.Slice.{take-put_mid, drop-put_mid}
 use borrow.Rule.Slice.PartMut.{mid_of, put_mid, post_of, Post-is, mid_len, same_len_mid}
 use Rattle.file_header.specs.declared.header.Header.{Header}
-use Rattle.file_header.specs.FirstPage.{filled_page, first_bytes}
+use Rattle.file_header.specs.FirstPage.{first_bytes}
+
+-- all bytes of a page, up to its 4,096th
+abbrev pub filled_page : List ℕ → List ℕ
+filled_page bytes = bytes ++ replicate (4096 - length bytes) 0
 
 -- the page behind two writes
 abbrev begun : List ℕ → List ℕ → List ℕ → ℕ → List ℕ

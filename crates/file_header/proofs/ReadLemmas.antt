@@ -8,10 +8,9 @@ use Rattle.record_layout.specs.Schema.{IsSchema}
 use Rattle.file_header.specs.declared.header.Header.{Header}
 use Rattle.file_header.specs.Bounds.{FitsItsBytes, AreLinksWithin}
 use Rattle.file_header.specs.BoundTests.{is_header}
-use Rattle.file_header.specs.FirstPage.{closed_page}
 use Rattle.file_header.specs.Reading.{numbers_in, header_in, part_in, tree_in, key_rows_in, key_count_in, IsFirstPage}
 use Rattle.file_header.proofs.BoundsLemmas.{is_header-Decides}
-use Rattle.file_header.proofs.BackLemmas.{numbers_back}
+use Rattle.file_header.proofs.BackLemmas.{closed_page, numbers_back}
 
 fails : {P : Type 0} (r : Bool) → Decides r P → (P → ⊥) → r ≡ false
 fails true decides not_so = absurd (not_so (decides.0 refl))

@@ -1,12 +1,16 @@
 -- The rows of the keys: one more read, one more written.
-use Rattle.std.proofs.Common.{◌≡◌, ℕ, ◌+◌, ◌-◌, ◌*◌, ◌<◌, ◌≤◌, List, [], ◌∷◌, ◌++◌, length, map, take, drop, get_or, slice_range, min, length-drop, refl, ap, ◌∙◌, arith}
+use Rattle.std.proofs.Common.{◌≡◌, ℕ, ◌+◌, ◌-◌, ◌*◌, ◌<◌, ◌≤◌, List, [], ◌∷◌, ◌++◌, length, map, take, drop, get_or, slice_range, flat_map, zip, min, length-drop, refl, ap, ◌∙◌, arith}
 use Rattle.std.proofs.lemmas.List.{map-append, drop-drop, append_assoc, drop_more}
 use Rattle.page_bytes.proofs.ChunkLemmas.{chunks-add}
 use Rattle.page_bytes.specs.Chunks.{chunks}
 use Rattle.record_layout.specs.declared.schema.KeyPart.{KeyPart}
 use Rattle.file_header.specs.declared.header.TreeNumbers.{TreeNumbers}
-use Rattle.file_header.specs.FirstPage.{key_row_bytes, key_rows_bytes}
+use Rattle.file_header.specs.FirstPage.{key_row_bytes}
 use Rattle.file_header.specs.Reading.{key_rows_in}
+
+-- the rows of the keys, each with its tree
+abbrev pub key_rows_bytes : List KeyPart → List TreeNumbers → List ℕ
+key_rows_bytes parts trees = flat_map (λ row. key_row_bytes row.0 row.1) (zip parts trees)
 
 one_chunk : (bytes : List ℕ) → chunks 16 1 bytes ≡ take 16 bytes ∷ []
 unfolding chunks
@@ -28,7 +32,6 @@ read_more f page k = ap (map f) (row_more page k) ∙ map-append f (key_rows_in 
 pub write_more : (keys : List KeyPart) (trees : List TreeNumbers) (k : ℕ) (part : KeyPart) (tree : TreeNumbers) (rows : List ℕ)
     → k < length keys → k < length trees
     → (rows ++ key_row_bytes (get_or keys k part) (get_or trees k tree)) ++ key_rows_bytes (drop (k + 1) keys) (drop (k + 1) trees) ≡ rows ++ key_rows_bytes (drop k keys) (drop k trees)
-unfolding key_rows_bytes
 write_more keys trees k part tree rows in_keys in_trees =
     rw (drop_more keys k part in_keys, drop_more trees k tree in_trees) (append_assoc rows _ _)
 
@@ -41,7 +44,6 @@ unfolding key_row_bytes
 length-row part tree = refl
 
 no_rows : (keys : List KeyPart) (trees : List TreeNumbers) → min (length keys) (length trees) ≡ 0 → key_rows_bytes keys trees ≡ []
-unfolding key_rows_bytes
 no_rows [] trees h = refl
 no_rows (key ∷ keys) [] h = refl
 no_rows (key ∷ keys) (tree ∷ trees) h = absurd (omega arith)

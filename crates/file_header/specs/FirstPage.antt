@@ -1,32 +1,21 @@
 -- The bytes of a file's first page, row for row of its table. Numbers are big-endian.
-use Rattle.std.specs.Prelude.{ℕ, ◌-◌, ◌==◌, List, [], ◌∷◌, ◌++◌, length, drop, replicate, codes}
-use Rattle.std.specs.Prelude.{if◌then◌else◌}
+use Rattle.std.specs.Prelude.{ℕ, ◌-◌, ◌==◌, List, [], ◌∷◌, ◌++◌, length, replicate, codes}
+use Rattle.std.specs.Prelude.{flat_map, zip, if◌then◌else◌}
 use Rattle.std.specs.List.{concat}
 use Rattle.byteorder.specs.Endian.{big_bytes}
-use Rattle.record_layout.specs.declared.schema.KeyKind.{KeyKind}
-use Rattle.record_layout.specs.declared.schema.KeyKind.TheVariants.{Prime, Unique, Duplicates}
+use Rattle.record_layout.specs.declared.schema.KeyKind.TheVariants.{Prime, Unique}
 use Rattle.record_layout.specs.declared.schema.KeyPart.{KeyPart}
+use Rattle.record_layout.specs.Schema.{same_kind}
 use Rattle.file_header.specs.declared.header.Header.{Header}
 use Rattle.file_header.specs.declared.header.TreeNumbers.{TreeNumbers}
 
--- bytes that stand for nothing
-abbrev pub zeros : ℕ → List ℕ
-zeros n = replicate n 0
-
--- version 1 where all records have one length, else 2
-abbrev pub version_of : ℕ → ℕ → ℕ
-version_of least greatest = if least == greatest then 1 else 2
-
--- the least length, which version 1 does not tell
-abbrev pub least_told : ℕ → ℕ → ℕ
-least_told least greatest = if least == greatest then 0 else least
-
--- bytes 0 to 63: the gate, the text, and the numbers
+-- bytes 0 to 63: the gate, the text, and the numbers. Where all records have one length, the version is 1,
+-- which does not tell the least length, else 2
 unfoldable pub first_bytes : Header → List ℕ
 first_bytes header = concat (
     codes "D"
     ∷ codes "COBIXIF"
-    ∷ big_bytes 2 (version_of header.schema.least header.schema.greatest)
+    ∷ big_bytes 2 (if header.schema.least == header.schema.greatest then 1 else 2)
     ∷ big_bytes 2 header.schema.greatest
     ∷ big_bytes 4 header.pages
     ∷ big_bytes 4 header.first_free
@@ -35,47 +24,31 @@ first_bytes header = concat (
     ∷ big_bytes 4 header.free_slot_page
     ∷ big_bytes 2 header.free_slot
     ∷ (length header.schema.keys ∷ [])
-    ∷ zeros 1
-    ∷ big_bytes 2 (least_told header.schema.least header.schema.greatest)
-    ∷ zeros 2
+    ∷ replicate 1 0
+    ∷ big_bytes 2 (if header.schema.least == header.schema.greatest then 0 else header.schema.least)
+    ∷ replicate 2 0
     ∷ big_bytes 8 header.next_stamp
     ∷ big_bytes 8 header.records
-    ∷ zeros 8
+    ∷ replicate 8 0
     ∷ [])
 
--- the byte of a kind: 0 the prime key, 1 an alternate key whose values are unique, 2 one with duplicates
-abbrev pub kind_byte : KeyKind → ℕ
-kind_byte Prime = 0
-kind_byte Unique = 1
-kind_byte Duplicates = 2
-
--- the 16 bytes of a key and of its tree
+-- the 16 bytes of a key and of its tree. The byte of its kind is 0 for the prime key, 1 for an alternate key
+-- whose values are unique, 2 for one with duplicates
 unfoldable pub key_row_bytes : KeyPart → TreeNumbers → List ℕ
 key_row_bytes part tree = concat (
     big_bytes 2 part.offset
     ∷ big_bytes 2 part.length
-    ∷ (kind_byte part.kind ∷ [])
+    ∷ ((if same_kind part.kind Prime then 0 else if same_kind part.kind Unique then 1 else 2) ∷ [])
     ∷ (tree.height ∷ [])
-    ∷ zeros 2
+    ∷ replicate 2 0
     ∷ big_bytes 4 tree.root
-    ∷ zeros 4
+    ∷ replicate 4 0
     ∷ [])
 
--- the rows of the keys, each with its tree
-unfoldable pub key_rows_bytes : List KeyPart → List TreeNumbers → List ℕ
-key_rows_bytes [] trees = []
-key_rows_bytes (part ∷ parts) [] = []
-key_rows_bytes (part ∷ parts) (tree ∷ trees) = key_row_bytes part tree ++ key_rows_bytes parts trees
-
--- all bytes of a page, up to its 4,096th
-abbrev pub filled_page : List ℕ → List ℕ
-filled_page bytes = bytes ++ zeros (4096 - length bytes)
-
--- the first page of a file with this header, as it is written: its gate is open
+-- the first page of a file with this header, as it is written: its gate is open, each key stands with its
+-- tree, and then there are zeros
 unfoldable pub header_bytes : Header → List ℕ
-header_bytes header = filled_page
-    (first_bytes header ++ key_rows_bytes header.schema.keys header.trees.items)
-
--- the first page of a file that was closed with this header: its gate is closed
-abbrev pub closed_page : Header → List ℕ
-closed_page header = codes "C" ++ drop 1 (header_bytes header)
+header_bytes header =
+    let rows = flat_map (λ row. key_row_bytes row.0 row.1) (zip header.schema.keys header.trees.items) in
+    let told = first_bytes header ++ rows in
+    told ++ replicate (4096 - length told) 0

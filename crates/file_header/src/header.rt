@@ -33,8 +33,8 @@ pub struct Header {
 }
 
 impl Header {
-    ghost use Rattle.std.specs.Prelude.{◌≡◌, ◌↔◌, IsTrue, IfSome, IsNone};
-    ghost use Rattle.file_header.specs.FirstPage.{header_bytes, closed_page};
+    ghost use Rattle.std.specs.Prelude.{◌≡◌, ◌↔◌, ◌++◌, IsTrue, IfSome, IsNone, codes, drop};
+    ghost use Rattle.file_header.specs.FirstPage.{header_bytes};
     ghost use Rattle.file_header.specs.Reading.{header_in, IsFirstPage};
 
     /// Writes the whole page. Its gate is open: the byte of the gate is the business of whoever
@@ -67,7 +67,7 @@ impl Header {
 
     /// The page is the one that this header writes, with its gate closed.
     fn is_closed_in(&self, page: &[u8; PAGE_SIZE]) -> bool
-        ensures { IsTrue result ↔ (page.now ≡ closed_page self.now) }
+        ensures { IsTrue result ↔ (page.now ≡ codes "C" ++ drop 1 (header_bytes self.now)) }
     {
         let mut closed = *page;
         self.write(&mut closed);

@@ -9,8 +9,10 @@
 //! | 6 to 7 | zero |
 //! | 8 to 11 | root page |
 //! | 12 to 15 | zero |
-ghost use Rattle.std.specs.Prelude.{◌≡◌, ◌≤◌, length, map};
-ghost use Rattle.file_header.specs.FirstPage.{kind_byte, key_row_bytes, key_rows_bytes};
+ghost use Rattle.std.specs.Prelude.{◌≡◌, ◌≤◌, length, map, flat_map, zip, if◌then◌else◌};
+ghost use Rattle.record_layout.specs.declared.schema.KeyKind.TheVariants.{Prime, Unique};
+ghost use Rattle.record_layout.specs.Schema.{same_kind};
+ghost use Rattle.file_header.specs.FirstPage.{key_row_bytes};
 ghost use Rattle.file_header.specs.Reading.{kind_in, part_in, tree_in, key_rows_in};
 
 use crate::header::TreeNumbers;
@@ -38,7 +40,7 @@ const ROW: usize = 16;
 /// The rows of the keys, with their trees.
 pub fn key_rows(keys: &[KeyPart], trees: &[TreeNumbers]) -> ArrayVec<u8, 144>
     requires { length trees.now ≤ 9 }
-    ensures { result.items ≡ key_rows_bytes keys.now trees.now }
+    ensures { result.items ≡ flat_map (λ row. key_row_bytes row.0 row.1) (zip keys.now trees.now) }
 {
     let mut rows = ArrayVec::new();
     for k in 0..keys.len().min(trees.len()) {
@@ -49,7 +51,7 @@ pub fn key_rows(keys: &[KeyPart], trees: &[TreeNumbers]) -> ArrayVec<u8, 144>
 
 /// The byte of a kind.
 fn kind_byte(kind: KeyKind) -> u8
-    ensures { result ≡ kind_byte kind }
+    ensures { result ≡ (if same_kind kind Prime then 0 else if same_kind kind Unique then 1 else 2) }
 {
     match kind {
         KeyKind::Prime => 0,

@@ -18,10 +18,10 @@
 //! | 40 to 47 | next stamp |
 //! | 48 to 55 | number of records |
 //! | 56 to 63 | zero |
-ghost use Rattle.std.specs.Prelude.{◌≡◌, ◌↔◌, IsSome, IfSome};
+ghost use Rattle.std.specs.Prelude.{◌≡◌, ◌↔◌, ◌==◌, IsSome, IfSome, if◌then◌else◌};
 ghost use Rattle.record_layout.specs.Schema.{IsSchema};
 ghost use Rattle.file_header.specs.Bounds.{FitsItsBytes};
-ghost use Rattle.file_header.specs.FirstPage.{first_bytes, version_of, least_told};
+ghost use Rattle.file_header.specs.FirstPage.{first_bytes};
 ghost use Rattle.file_header.specs.Reading.{least_in, greatest_in, numbers_in};
 
 use crate::header::Header;
@@ -91,14 +91,14 @@ pub fn first_bytes(header: &Header) -> [u8; END]
 
 /// Which version of the layout has records of these lengths.
 fn version(least: u16, greatest: u16) -> u16
-    ensures { result ≡ version_of least greatest }
+    ensures { result ≡ (if least == greatest then 1 else 2) }
 {
     if least == greatest { 1 } else { 2 }
 }
 
 /// The least length, where the version has one.
 fn least_told(least: u16, greatest: u16) -> u16
-    ensures { result ≡ least_told least greatest }
+    ensures { result ≡ (if least == greatest then 0 else least) }
 {
     if least == greatest { 0 } else { least }
 }

@@ -8,8 +8,8 @@ use Rattle.page_store.specs.Calls.{ReadsBytes, Created, WrittenAt, WriteFails, S
 use Rattle.page_store.specs.ShelfState.{ShelfState, unit_file, ChangesOnly}
 use Rattle.page_store.proofs.TornLemmas.{part_torn}
 use Rattle.folder_shelf.specs.Events.{Event, folder_path, named, made, read, held, written, flushed, asked}
-use Rattle.folder_shelf.specs.Replay.{Unseen, replay, is_long_enough, left_by_write, folder_state}
-use Rattle.folder_shelf.specs.ReplayLaws.{length_left}
+use Rattle.folder_shelf.specs.Replay.{Unseen, replay, folder_state}
+use Rattle.folder_shelf.specs.ReplayLaws.{is_long_enough, left_by_write, length_left}
 
 pub on_err : {T E : Type 0} (r : Result T E) (P : Type 0) → P → OnErr r P
 on_err (Ok v) P p = tt

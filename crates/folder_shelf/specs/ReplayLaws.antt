@@ -1,6 +1,7 @@
 -- What reads give of an honest folder is one of the images, as a shelf promises.
 use Rattle.std.proofs.Common.{◌≡◌, ◌≤◌, ◌==◌, nat_le, ℕ, List, [], ◌∷◌, ◌++◌, Option, Some, None, true, false}
-use Rattle.std.proofs.Common.{IsTrue, is_some, not, ◌&&◌, ◌||◌, length, bytes_eq, subst, inl, inr, arith}
+use Rattle.std.proofs.Common.{Bool, IsTrue, is_some, not, ◌&&◌, ◌||◌, if◌then◌else◌, length, take, bytes_eq}
+use Rattle.std.proofs.Common.{subst, inl, inr, arith}
 use Rattle.std.proofs.lemmas.Bool.{cases_Bool, and_parts, leb-true}
 use Rattle.std.proofs.lemmas.List.{length-take}
 use Rattle.page_store.specs.DeviceFile.{DeviceFile, wrote, content, overlay}
@@ -11,8 +12,19 @@ use Rattle.page_store.proofs.FileLemmas.{some_bytes}
 use Rattle.page_store.proofs.MadeLemmas.{made_image}
 use Rattle.folder_shelf.specs.Events.{Event, in_folder, named, made, measured, read, held, written, flushed}
 use Rattle.folder_shelf.specs.Events.{looked}
-use Rattle.folder_shelf.specs.Replay.{Unseen, Folder, put_file, now, is_long_enough, left_by_write}
-use Rattle.folder_shelf.specs.Replay.{after_event, replay}
+use Rattle.folder_shelf.specs.Replay.{Unseen, Folder, put_file, after_event, replay}
+
+-- the file that the next call is on
+abbrev now : Folder → DeviceFile
+now m = m.file m.current
+
+-- the file is there and has at least n bytes
+abbrev pub is_long_enough : DeviceFile → ℕ → Bool
+is_long_enough f n = is_some f.seen && nat_le n (length (content f))
+
+-- what now stands where these bytes were to be written, of which n were taken
+abbrev pub left_by_write : ℕ → List ℕ → List ℕ → List ℕ
+left_by_write n bytes torn = if n == length bytes then bytes else take (length bytes) torn
 
 abbrev Sound : DeviceFile → Type 0
 Sound f = Leaves f f.seen

@@ -1,5 +1,5 @@
 -- A new open file: the slots of its heap, and one part after another.
-use Rattle.std.proofs.Common.{◌≡◌, ◌≢◌, ℕ, zero, suc, ◌+◌, ◌-◌, ◌*◌, ◌==◌, ◌≤◌, ◌<◌, List, [], ◌∷◌, ◌++◌, length, drop, map, None, refl, ap}
+use Rattle.std.proofs.Common.{◌≡◌, ◌≢◌, ℕ, zero, suc, ◌+◌, ◌-◌, ◌*◌, ◌==◌, ◌<◌, List, [], ◌∷◌, ◌++◌, length, drop, map, None, refl, ap}
 use Rattle.std.proofs.Common.{sym, ◌∙◌, arith, length-append, lit≤}
 use Rattle.std.specs.Prelude.{count_by, if◌then◌else◌, slice_index_or, IsSome}
 use Rattle.std.proofs.lemmas.Grind.{common_steps}
@@ -31,7 +31,7 @@ use Rattle.open_file.proofs.PartsLemmas.{from_eq, from_ne, no_some, some_none, A
 -- ---- the slots of the heap
 
 -- eight bytes for each key with duplicates
-stamps_counted : (parts : List KeyPart) → 8 * count_by (λ (part : KeyPart). has_duplicates part) parts ≡ stamps_length parts
+pub stamps_counted : (parts : List KeyPart) → 8 * count_by (λ (part : KeyPart). has_duplicates part) parts ≡ stamps_length parts
 stamps_counted [] = refl
 stamps_counted (part ∷ parts) = grind (arith, common_steps, stamps_counted parts)
 

@@ -47,7 +47,7 @@ same_shape a b k w e = λ i. record {
   short = is_prop→PathP (λ j. e j ≤ 508) (λ j. le_prop) a.short b.short i;
 }
 
-same_slots : (a b : SlotShape) → a.stamps ≡ b.stamps → a.least ≡ b.least → a.greatest ≡ b.greatest → a ≡ b
+pub same_slots : (a b : SlotShape) → a.stamps ≡ b.stamps → a.least ≡ b.least → a.greatest ≡ b.greatest → a ≡ b
 same_slots a b s l g = λ i. record {
   stamps = s i;
   least = l i;

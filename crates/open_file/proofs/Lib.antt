@@ -18,6 +18,9 @@ pub mod ReadLemmas
 pub mod ReadOffLemmas
 pub mod CreatingLemmas
 pub mod HeaderLemmas
+pub mod ClosedHeapLemmas
+pub mod ClosedPagesLemmas
+pub mod ClosedTreeLemmas
 pub mod ClosedLemmas
 pub mod StartLemmas
 pub mod EntryLemmas

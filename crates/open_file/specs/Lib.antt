@@ -12,6 +12,8 @@ pub mod Paths
 pub mod Creating
 pub mod Laws
 pub mod Headers
+pub mod ClosedHeap
+pub mod ClosedTree
 pub mod Closed
 pub mod Steps
 pub mod Calls

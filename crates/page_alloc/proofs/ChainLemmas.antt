@@ -1,14 +1,18 @@
 -- The chain of free pages, and the pages in use, where a page in use changes.
-use Rattle.std.proofs.Common.{zero, suc, ◌≡◌, ◌≢◌, inl, inr, ℕ, ◌+◌, ◌-◌, ◌<◌, ◌≤◌, length, arith, ltb, ◌&&◌, ◌||◌, ◌==◌, not, true, false, if◌then◌else◌, nat_eq, List, [], ◌∷◌, Option, Some, None, is_some, IsSome, refl, sym, ◌∙◌, ap, subst}
+use Rattle.std.proofs.Common.{zero, suc, ◌≡◌, ◌≢◌, inl, inr, ℕ, ◌+◌, ◌-◌, ◌<◌, ◌≤◌, length, arith, ltb, ◌&&◌, ◌||◌, ◌==◌, not, true, false, if◌then◌else◌, nat_eq, List, [], ◌∷◌, Option, Some, None, is_some, IsSome, option_and_then, refl, sym, ◌∙◌, ap, subst}
 use Rattle.std.specs.List.{IsDistinct, AllByRecursion}
 use Rattle.std.proofs.lemmas.Map.Steps.{length-le_from_distinct_below}
 use Rattle.std.proofs.lemmas.Bool.{cases_Bool, and_parts, or_parts, eqb-true, eqb-false, ne_eqb, eq-eqb, ltb-true, ltb-false, lt-ltb, le-ltb, and_from, and_right}
 use Rattle.page_alloc.specs.FreePage.{is_free, next_of}
 use Rattle.pages.specs.PageMap.{Writes, Takes, Gives}
-use Rattle.page_alloc.specs.Chain.{is_page, is_among, in_front, chain, used}
+use Rattle.page_alloc.specs.Chain.{is_page, is_among, chain, used}
 
 abbrev Bytes : Type 0
 Bytes = ℕ → List ℕ
+
+-- page n in front of a chain in which it is not
+abbrev in_front : ℕ → Option (List ℕ) → Option (List ℕ)
+in_front n o = option_and_then (λ ns. if is_among n ns then None else Some (n ∷ ns)) o
 
 -- a page in front of a chain
 pub front_parts : (n : ℕ) (o : Option (List ℕ)) (ns : List ℕ) → in_front n o ≡ Some ns → (rest : List ℕ) × (o ≡ Some rest) × (is_among n rest ≡ false) × (ns ≡ n ∷ rest)

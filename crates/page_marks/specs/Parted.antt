@@ -2,7 +2,6 @@
 use Rattle.std.specs.Prelude.{◌≡◌, ◌≢◌, ℕ, List, [], flat_map, None, slice_index_or}
 use Rattle.page_bytes.specs.Each.{Each}
 use Rattle.pages.specs.PageMap.{PageMap}
-use Rattle.pages.specs.Owners.{IsOutside}
 
 -- the pages of part i
 abbrev pub own_at : List (List ℕ) → ℕ → List ℕ
@@ -10,8 +9,9 @@ own_at owns i = slice_index_or owns i []
 
 -- no page belongs to two parts, and each page in use to one
 pub record Parted (pages : PageMap) (owns : List (List ℕ)) : Type 0 where
-  pub apart : (i j : ℕ) → i ≢ j → Each (λ n. IsOutside (own_at owns i) n) (own_at owns j)
-  pub covers : (n : ℕ) → Each (λ own. IsOutside own n) owns → pages n ≡ None
+  pub apart : (i j : ℕ) → i ≢ j
+      → Each (λ n. Each (λ m. n ≢ m) (slice_index_or owns i [])) (slice_index_or owns j [])
+  pub covers : (n : ℕ) → Each (λ own. Each (λ m. n ≢ m) own) owns → pages n ≡ None
 
 -- the pages of all parts, one part after another
 abbrev pub all_of : List (List ℕ) → List ℕ

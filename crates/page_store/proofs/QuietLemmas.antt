@@ -1,10 +1,10 @@
 -- Which calls are quiet.
-use Rattle.std.proofs.Common.{zero, suc, ◌≡◌, ℕ, ◌+◌, ◌<◌, List, [], ◌∷◌, ◌++◌, Option, Some, None, true, false, ◌&&◌, leb, ltb, refl, sym, ◌∙◌, ap, subst, arith, drop, length, slice_index, inl, inr}
+use Rattle.std.proofs.Common.{zero, suc, ◌≡◌, ℕ, ◌+◌, ◌<◌, List, [], ◌∷◌, ◌++◌, Option, Some, None, true, false, ◌&&◌, leb, ltb, refl, ◌∙◌, ap, subst, arith, drop, length, slice_index, inl, inr}
 use Rattle.std.proofs.lemmas.Bool.{cases_Bool, or_from, and_left, lt-leb, both_ways}
 use Rattle.std.proofs.lemmas.List.{get_or-drop, length-drop}
-use Rattle.page_store.specs.DeviceFile.{FileStep, wrote, synced, DeviceFile, bytes_or_none}
-use Rattle.page_store.specs.Images.{Durable, after_step, durable, covered, IsImage, MayLeave, Leaves}
-use Rattle.page_store.proofs.ImageLemmas.{durable_push, only_synced}
+use Rattle.page_store.specs.DeviceFile.{wrote, DeviceFile, bytes_or_none}
+use Rattle.page_store.specs.Images.{Durable, after_step, durable, covered, IsImage, MayLeave}
+use Rattle.page_store.proofs.ImageLemmas.{durable_push}
 use Rattle.page_store.specs.Moments.{Begins, Quiet}
 use Rattle.page_store.proofs.MomentLemmas.{throughout_one, begins_self}
 

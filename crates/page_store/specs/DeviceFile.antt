@@ -1,6 +1,6 @@
 -- A file on a shelf: what reads give, and what has been asked of it since the shelf first met it.
 use Rattle.std.specs.Prelude.{◌≡◌, ℕ, ◌+◌, ◌<◌, ◌≤◌, max, List, [], ◌++◌, length, take, drop, slice_index}
-use Rattle.std.specs.Prelude.{Option, Some, None, IsTrue, is_some}
+use Rattle.std.specs.Prelude.{Option, None, IsTrue, is_some, unwrap_or}
 
 -- what matters to a crash: the file was made, n bytes were written (or tried) at `at`, or it was
 -- synced, and these were its bytes
@@ -20,12 +20,11 @@ abbrev pub absent : DeviceFile
 absent = record { seen = None; log = [] }
 
 abbrev pub bytes_or_none : Option (List ℕ) → List ℕ
-bytes_or_none None = []
-bytes_or_none (Some bytes) = bytes
+bytes_or_none seen = unwrap_or seen []
 
 -- the bytes of a file, none where it is absent
 abbrev pub content : DeviceFile → List ℕ
-content file = bytes_or_none file.seen
+content file = unwrap_or file.seen []
 
 -- the file is there and has at least n bytes
 pub record IsWithin (n : ℕ) (file : DeviceFile) : Type 0 where

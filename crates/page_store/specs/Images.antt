@@ -1,7 +1,8 @@
 -- What a crash may leave of a file.
 use Rattle.std.specs.Prelude.{◌≡◌, ℕ, ◌+◌, ◌<◌, leb, ltb, Bool, true, false, ◌&&◌, ◌||◌, IsTrue, List, []}
-use Rattle.std.specs.Prelude.{◌∷◌, length, slice_index, Option, Some, None, is_some}
-use Rattle.page_store.specs.DeviceFile.{FileStep, created, wrote, synced, DeviceFile, bytes_or_none, content}
+use Rattle.std.specs.Prelude.{◌∷◌, length, slice_index, fold, Option, Some, None, is_some, unwrap_or}
+use Rattle.std.specs.Prelude.{MatchOption}
+use Rattle.page_store.specs.DeviceFile.{FileStep, created, wrote, synced, DeviceFile, content}
 
 -- what a crash cannot touch: the bytes at the last sync, if there was one; whether the file was
 -- made since; the ranges written since
@@ -10,18 +11,19 @@ pub record Durable : Type 0 where
   pub made : Bool
   pub ranges : List (ℕ × ℕ)
 
-abbrev pub nothing : Durable
-nothing = record { base = None; made = false; ranges = [] }
-
 -- after one more step
 abbrev pub after_step : Durable → FileStep → Durable
 after_step d created = record { base = d.base; made = true; ranges = [] }
 after_step d (wrote at n) = record { base = d.base; made = d.made; ranges = (at, n) ∷ d.ranges }
 after_step d (synced bytes) = record { base = Some bytes; made = false; ranges = [] }
 
+-- after more steps
 abbrev pub durable_from : Durable → List FileStep → Durable
-durable_from d [] = d
-durable_from d (s ∷ log) = durable_from (after_step d s) log
+durable_from d log = fold after_step d log
+
+-- before the first step
+abbrev pub nothing : Durable
+nothing = record { base = None; made = false; ranges = [] }
 
 -- after these steps
 abbrev pub durable : List FileStep → Durable
@@ -39,14 +41,17 @@ pub record IsImage (base : List ℕ) (ranges : List (ℕ × ℕ)) (c : List ℕ)
   pub each : (i : ℕ) → i < length c → covered ranges i ≡ false → (i < length base)
       × (slice_index c i ≡ slice_index base i)
 
--- a crash may leave this, or nothing at all where the file was never synced
+-- the images that a crash may leave, of a file of which it cannot touch this
 abbrev pub MayLeave : Durable → Option (List ℕ) → Type 0
-MayLeave d None = d.base ≡ None
-MayLeave d (Some c) = IsTrue (is_some d.base || d.made) × IsImage (bytes_or_none d.base) d.ranges c
+MayLeave d c = MatchOption c (d.base ≡ None)
+    (λ bytes. IsTrue (is_some d.base || d.made) × IsImage (unwrap_or d.base []) d.ranges bytes)
 
--- the images that a crash now may leave
+-- the images that a crash now may leave: nothing at all where the file was never synced
 abbrev pub Leaves : DeviceFile → Option (List ℕ) → Type 0
-Leaves file c = MayLeave (durable file.log) c
+Leaves file c =
+    let d = fold after_step (record { base = None; made = false; ranges = [] }) file.log in
+    MatchOption c (d.base ≡ None)
+    (λ bytes. IsTrue (is_some d.base || d.made) × IsImage (unwrap_or d.base []) d.ranges bytes)
 
 -- a crash now leaves what reads give, and nothing else
 abbrev pub IsSettled : DeviceFile → Type 0

@@ -10,7 +10,7 @@ IsOutside own n = Each (λ m. n ≢ m) own
 -- no page stands twice
 abbrev pub AreApart : List ℕ → Type 0
 AreApart [] = ⊤
-AreApart (n ∷ ns) = IsOutside ns n × AreApart ns
+AreApart (n ∷ ns) = Each (λ m. n ≢ m) ns × AreApart ns
 
 -- Something that had the old pages has the new ones now. A page in use outside it is as it was and
 -- stays outside, and no page is lost.

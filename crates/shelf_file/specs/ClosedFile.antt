@@ -15,17 +15,18 @@ pub record IsAcceptedBy (header : Header) (bytes : List ℕ) : Type 0 where
   pub first : IsFirstPage header (page_of_bytes bytes 0)
   pub whole : 4096 * header.pages ≤ length bytes
 
--- the free pages, where their chain is whole, and the pages in use
+-- the free pages, where their chain is whole
 abbrev pub free_in : Header → List ℕ → Option (List ℕ)
 free_in header bytes = chain (page_of_bytes bytes) header.pages header.first_free header.free
 
+-- the pages in use
 abbrev pub live_in : Header → List ℕ → PageMap
 live_in header bytes = used (page_of_bytes bytes) header.pages (free_in header bytes)
 
--- the pages stand for this file
+-- the free pages stand in a chain, and the pages in use stand for this file
 pub record StandsIn (header : Header) (bytes : List ℕ) (file : File) : Type 0 where
   pub free : IsSome (free_in header bytes)
-  pub pages : StandsClosed header (live_in header bytes) file
+  pub pages : StandsClosed header (used (page_of_bytes bytes) header.pages (free_in header bytes)) file
 
 -- bytes of this schema that stand for this file
 pub record AreClosed (schema : Schema) (file : File) (bytes : List ℕ) : Type 0 where

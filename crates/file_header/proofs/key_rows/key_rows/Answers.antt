@@ -1,7 +1,6 @@
 use Rattle.std.proofs.Common.{◌≡◌, ℕ, ◌+◌, ◌<◌, ◌≤◌, ◌++◌, List, length, length-append, min, drop, sym, ap, ◌∙◌, arith, Result, Ok, Err, OnOk, IsOk}
 use Rattle.std.proofs.lemmas.List.{append-nil}
-use Rattle.file_header.specs.FirstPage.{key_rows_bytes}
-use Rattle.file_header.proofs.RowLemmas.{write_more, length-row, rows_end}
+use Rattle.file_header.proofs.RowLemmas.{key_rows_bytes, write_more, length-row, rows_end}
 use Rattle.file_header.proofs.key_rows.key_rows.Goals as goal
 
 held : {T E : Type 0} (r : Result T E) (P : Type 0) → OnOk r P → IsOk r → P

@@ -1,5 +1,5 @@
 use Rattle.std.proofs.Common.{◌≡◌, ◌++◌, ◌*◌, length, drop}
-use Rattle.file_header.specs.FirstPage.{key_rows_bytes}
+use Rattle.file_header.proofs.RowLemmas.{key_rows_bytes}
 use Rattle.file_header.proofs.key_rows.key_rows.Given as goal
 
 abbrev pub invariant-loop-k : goal.invariant-loop-k

@@ -1,6 +1,6 @@
-use Rattle.std.proofs.Common.{replicate, set, refl, ◌∙◌}
+use Rattle.std.proofs.Common.{◌==◌, if◌then◌else◌, replicate, set, refl, ◌∙◌}
 use borrow.Rule.Slice.PartMut.{put_mid}
-use Rattle.file_header.specs.FirstPage.{first_bytes, version_of, least_told}
+use Rattle.file_header.specs.FirstPage.{first_bytes}
 use Rattle.file_header.proofs.WriteLemmas.{puts, Are64, part, kept, kept_but_one}
 use Rattle.file_header.proofs.numbers.first_bytes.Goals as goal
 
@@ -10,8 +10,8 @@ returns c =
     let header = c.args.header.now in
     let least = c.least-least.ensures.least in
     let greatest = c.greatest-greatest.ensures.greatest in
-    let version = c.version.ensures ∙ λ i. version_of (least i) (greatest i) in
-    let told = c.least_told.ensures ∙ λ i. least_told (least i) (greatest i) in
+    let version = c.version.ensures ∙ λ i. if least i == greatest i then 1 else 2 in
+    let told = c.least_told.ensures ∙ λ i. if least i == greatest i then 0 else least i in
     let bytes = puts 8 2 (λ i. put_mid 1 7 (set (replicate 64 0) 0 68) (c.copy_from_slice.ensures.after i)) version c.write_u16.ensures in
     let bytes = puts 10 2 bytes greatest c.write_u16-2.ensures in
     let bytes = puts 12 4 bytes (λ i. header.pages) c.write_u32.ensures in

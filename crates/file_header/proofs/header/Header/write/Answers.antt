@@ -1,6 +1,7 @@
 use Rattle.std.proofs.Common.{◌≡◌, ◌+◌, ◌++◌, length, ap, ◌∙◌, arith}
-use Rattle.file_header.specs.FirstPage.{header_bytes, first_bytes, key_rows_bytes, filled_page}
-use Rattle.file_header.proofs.PageLemmas.{page_filled, length-first}
+use Rattle.file_header.specs.FirstPage.{header_bytes, first_bytes}
+use Rattle.file_header.proofs.PageLemmas.{filled_page, page_filled, length-first}
+use Rattle.file_header.proofs.RowLemmas.{key_rows_bytes}
 use Rattle.file_header.proofs.header.Header.write.Goals as goal
 
 pub returns : goal.returns
