@@ -8,10 +8,10 @@ use Rattle.page_bytes.specs.Each.{Each}
 use Rattle.pages.specs.PageMap.{PageMap}
 use Rattle.bplus_tree.specs.declared.collapse.Base.{Base}
 use Rattle.node_balance.specs.Fill.{least_entries}
-use Rattle.tree_search.specs.Tree.{TreeOf, page_of, entries_of, pages_of, size_of, IsHalfFull, IsRooted, Bound, IsRow, IsOrdered}
+use Rattle.tree_search.specs.Tree.{TreeOf, page_of, entries_of, pages_of, Bound, IsRow, IsOrdered}
+use Rattle.tree_search.specs.Calls.{size_of, IsHalfFull, IsRooted, IsTree}
 use Rattle.tree_search.specs.Stored.{Holds, IsInnerAt}
 use Rattle.pages.specs.Owners.{IsOutside, AreApart, ChangesPages}
-use Rattle.tree_search.specs.Calls.{IsTree}
 use Rattle.bplus_tree.specs.Collapse.{CollapsesInner, HasCollapsed, Collapses, HasSettledRoot}
 use Rattle.bplus_tree.proofs.PageLemmas.{holds_still}
 use Rattle.tree_search.proofs.AnswerLemmas.{fails}

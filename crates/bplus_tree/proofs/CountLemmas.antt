@@ -6,7 +6,8 @@ use Rattle.page_bytes.specs.Each.{Each}
 use Rattle.tree_node.proofs.LeafLemmas.{leaf_room_some}
 use Rattle.tree_node.proofs.InnerLemmas.{inner_room_some}
 use Rattle.node_balance.specs.Fill.{least_entries}
-use Rattle.tree_search.specs.Tree.{TreeOf, entries_of, size_of, IsHalfFull, Bound, IsRow, IsOrdered}
+use Rattle.tree_search.specs.Tree.{TreeOf, entries_of, Bound, IsRow, IsOrdered}
+use Rattle.tree_search.specs.Calls.{size_of, IsHalfFull}
 use Rattle.bplus_tree.specs.Count.{fewest, HaveManyEntries}
 use Rattle.tree_search.proofs.RowLemmas.{row_length}
 

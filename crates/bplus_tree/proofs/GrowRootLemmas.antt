@@ -8,9 +8,9 @@ use Rattle.tree_node.proofs.OrderLemmas.{Each-weaker}
 use Rattle.pages.specs.PageMap.{PageMap}
 use Rattle.pages.specs.Owners.{IsOutside, ChangesPages}
 use Rattle.node_balance.specs.declared.separator.Separator.{Separator}
-use Rattle.tree_search.specs.Tree.{TreeOf, page_of, entries_of, pages_of, size_of, IsRooted}
+use Rattle.tree_search.specs.Tree.{TreeOf, page_of, entries_of, pages_of}
+use Rattle.tree_search.specs.Calls.{size_of, IsRooted, IsWhole}
 use Rattle.tree_search.specs.Stored.{Holds, IsInnerAt}
-use Rattle.tree_search.specs.Calls.{IsWhole}
 use Rattle.bplus_tree.specs.Subtree.{at_page, from_root}
 use Rattle.bplus_tree.specs.Remove.{Becomes}
 use Rattle.bplus_tree.specs.Grow.{HasRoot, AddsRoot}

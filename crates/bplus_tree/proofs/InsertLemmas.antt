@@ -22,11 +22,11 @@ use Rattle.tree_search.specs.declared.descent.Look.{Look}
 use Rattle.node_balance.specs.declared.separator.Separator.{Separator}
 use Rattle.bplus_tree.specs.declared.insert.Grown.{Grown}
 use Rattle.bplus_tree.specs.declared.insert.Grown.TheVariants.{Present, Added}
-use Rattle.tree_search.specs.Tree.{TreeOf, page_of, entries_of, pages_of, size_of, IsRow, IsOrdered}
+use Rattle.tree_search.specs.Tree.{TreeOf, page_of, entries_of, pages_of, IsRow, IsOrdered}
+use Rattle.tree_search.specs.Calls.{size_of, entry_of}
 use Rattle.tree_search.specs.Stored.{Holds, IsInnerAt}
 use Rattle.bplus_tree.specs.Edits.{with_entry}
 use Rattle.pages.specs.Answer.{IsAnswer}
-use Rattle.tree_search.specs.Calls.{entry_of}
 use Rattle.bplus_tree.specs.Subtree.{at_page, IsSubtree, IsWholeSubtree, IsInBounds}
 use Rattle.tree_search.specs.Descent.{Steps, IsLook}
 use Rattle.bplus_tree.specs.Remove.{Becomes, IsHalfFullWithRoot}

@@ -11,7 +11,8 @@ use Rattle.tree_node.specs.Inner.{separators, children}
 use Rattle.pages.specs.PageMap.{PageMap}
 use Rattle.bplus_tree.specs.declared.rebalance.Pair.{Pair}
 use Rattle.node_balance.specs.Fill.{least_entries}
-use Rattle.tree_search.specs.Tree.{TreeOf, page_of, entries_of, pages_of, pages_below, size_of, IsHalfFull, IsOrdered}
+use Rattle.tree_search.specs.Tree.{TreeOf, page_of, entries_of, pages_of, pages_below, IsOrdered}
+use Rattle.tree_search.specs.Calls.{size_of, IsHalfFull}
 use Rattle.tree_search.specs.Stored.{Holds, IsInnerAt}
 use Rattle.pages.specs.Owners.{AreApart, ChangesPages}
 use Rattle.node_balance.specs.Balance.{IsNode, count_at, Joins, Shares}

@@ -23,12 +23,12 @@ use Rattle.tree_search.specs.declared.descent.Look.{Look}
 use Rattle.bplus_tree.specs.declared.remove.Shrunk.{Shrunk}
 use Rattle.bplus_tree.specs.declared.remove.Shrunk.TheVariants.{Absent, Taken}
 use Rattle.node_balance.specs.Fill.{least_entries}
-use Rattle.tree_search.specs.Tree.{TreeOf, page_of, entries_of, pages_of, size_of, IsRooted, IsRow, IsOrdered}
+use Rattle.tree_search.specs.Tree.{TreeOf, page_of, entries_of, pages_of, IsRow, IsOrdered}
+use Rattle.tree_search.specs.Calls.{size_of, IsRooted, entry_of, IsTree, IsWhole}
 use Rattle.tree_search.specs.Stored.{Holds, IsLeafAt, IsInnerAt}
 use Rattle.pages.specs.Owners.{AreApart, ChangesPages}
 use Rattle.bplus_tree.specs.Edits.{without_key}
 use Rattle.pages.specs.Answer.{IsAnswer}
-use Rattle.tree_search.specs.Calls.{entry_of, IsTree, IsWhole}
 use Rattle.tree_search.specs.Descent.{Steps, IsLook}
 use Rattle.bplus_tree.specs.Subtree.{at_page, Subtree, IsSubtree, IsWholeSubtree}
 use Rattle.bplus_tree.specs.Remove.{Becomes, HasRemovedBelow, Removes, HasTaken, HasTakenIf, TakesBelow, IsTakenIf, HasTakenInPlace}

@@ -11,9 +11,9 @@ use Rattle.tree_node.proofs.InnerLemmas.{length_separators, length_children}
 use Rattle.tree_node.proofs.OrderLemmas.{Each-weaker, less-trans, less_itself, not_less, compared}
 use Rattle.pages.specs.PageMap.{PageMap}
 use Rattle.node_balance.specs.Fill.{least_entries}
-use Rattle.tree_search.specs.Tree.{TreeOf, page_of, entries_of, pages_of, pages_below, size_of, IsHalfFull, Bound, NotBelow, Above, Below, IsRow, IsOrdered}
+use Rattle.tree_search.specs.Tree.{TreeOf, page_of, entries_of, pages_of, pages_below, Bound, NotBelow, Above, Below, IsRow, IsOrdered}
+use Rattle.tree_search.specs.Calls.{size_of, IsHalfFull, IsTree}
 use Rattle.tree_search.specs.Stored.{Holds, IsLeafAt, IsInnerAt}
-use Rattle.tree_search.specs.Calls.{IsTree}
 use Rattle.node_balance.specs.Balance.{LeavesJoined, LeavesShared, InnersJoined, InnersShared, AreJoined, AreShared}
 use Rattle.tree_search.proofs.RowLemmas.{Inside, Each-append, NotBelow-trans, above_not_below, Below-trans, row_split, row_rises}
 use Rattle.tree_search.proofs.RowLemmas.{each_left, each_right, ascends_join}

@@ -4,11 +4,11 @@ use Rattle.io_state.specs.declared.fault.Fault.{Fault}
 use Rattle.tree_node.specs.declared.shape.Shape.{Shape}
 use Rattle.pages.specs.PageMap.{PageMap}
 use Rattle.bplus_tree.specs.declared.collapse.Base.{Base}
-use Rattle.tree_search.specs.Tree.{TreeOf, entries_of, pages_of, IsHalfFull}
+use Rattle.tree_search.specs.Tree.{TreeOf, entries_of, pages_of}
+use Rattle.tree_search.specs.Calls.{IsHalfFull, IsTree, IsWhole}
 use Rattle.pages.specs.Owners.{AreApart, ChangesPages}
 use Rattle.tree_search.specs.Stored.{IsInnerAt}
 use Rattle.pages.specs.Answer.{IsAnswer}
-use Rattle.tree_search.specs.Calls.{IsTree, IsWhole}
 
 -- the child of an inner node without separators
 abbrev pub IsOnly : List (List ℕ) → List ℕ → Option ℕ → Type 0

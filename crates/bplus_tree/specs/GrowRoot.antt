@@ -6,9 +6,9 @@ use Rattle.pages.specs.PageMap.{PageMap}
 use Rattle.pages.specs.Owners.{ChangesPages}
 use Rattle.bplus_tree.specs.declared.collapse.Base.{Base}
 use Rattle.node_balance.specs.declared.separator.Separator.{Separator}
-use Rattle.tree_search.specs.Tree.{TreeOf, entries_of, pages_of, IsRooted}
+use Rattle.tree_search.specs.Tree.{TreeOf, entries_of, pages_of}
+use Rattle.tree_search.specs.Calls.{IsRooted, IsWhole}
 use Rattle.pages.specs.Answer.{IsAnswer}
-use Rattle.tree_search.specs.Calls.{IsWhole}
 use Rattle.bplus_tree.specs.Subtree.{Head, from_root}
 use Rattle.bplus_tree.specs.Insert.{HasGrown}
 

@@ -8,9 +8,9 @@ use Rattle.pages.specs.Owners.{ChangesPages}
 use Rattle.node_balance.specs.declared.separator.Separator.{Separator}
 use Rattle.bplus_tree.specs.declared.insert.Grown.{Grown}
 use Rattle.bplus_tree.specs.declared.insert.Grown.TheVariants.{Present, Added}
-use Rattle.tree_search.specs.Tree.{TreeOf, entries_of, pages_of, size_of, Above, Below}
+use Rattle.tree_search.specs.Tree.{TreeOf, entries_of, pages_of, Above, Below}
+use Rattle.tree_search.specs.Calls.{size_of, entry_of, IsTree}
 use Rattle.pages.specs.Answer.{IsAnswer}
-use Rattle.tree_search.specs.Calls.{entry_of, IsTree}
 use Rattle.bplus_tree.specs.Subtree.{Head, Subtree, IsWholeSubtree, IsInBounds}
 use Rattle.bplus_tree.specs.Edits.{with_entry}
 use Rattle.bplus_tree.specs.Split.{HasWidth}

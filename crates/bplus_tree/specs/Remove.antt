@@ -11,10 +11,10 @@ use Rattle.node_balance.specs.Fill.{least_entries}
 use Rattle.arrayvec.specs.ArrayVec.{ArrayVec}
 use Rattle.tree_node.specs.Leaf.{IsLeaf, leaf_entries}
 use Rattle.tree_node.specs.Order.{Ascends, IsRank}
-use Rattle.tree_search.specs.Tree.{TreeOf, entries_of, pages_of, size_of, IsHalfFull, IsRooted}
+use Rattle.tree_search.specs.Tree.{TreeOf, entries_of, pages_of}
+use Rattle.tree_search.specs.Calls.{size_of, IsHalfFull, IsRooted, entry_of, IsTree}
 use Rattle.tree_search.specs.Stored.{IsLeafAt}
 use Rattle.pages.specs.Answer.{IsAnswer}
-use Rattle.tree_search.specs.Calls.{entry_of, IsTree}
 use Rattle.bplus_tree.specs.Subtree.{Head, at_page, Subtree, IsSubtree, IsWholeSubtree}
 use Rattle.pages.specs.Owners.{AreApart, ChangesPages}
 use Rattle.bplus_tree.specs.Edits.{without_key}

@@ -20,7 +20,7 @@ pub record IsLaid (file : FileDesc) : Type 0 where
   pub greatest : file.schema.greatest ≡ length_of file.layout
 
 is_laid : (names : List (List ℕ)) (storage : List StorageEntry) (entry : FileControlEntry) (description : FileDescription) (file : FileDesc) → IsFile names storage entry description file → IsLaid file
-is_laid names storage entry description file is = record { entries = description.items; laid = is.layout; greatest = is.keys.4 }
+is_laid names storage entry description file is = record { entries = description.items; laid = is.layout; greatest = is.keys.greatest }
 
 some_file : (f file : FileDesc) → IsLaid f → Some f ≡ Some file → IsLaid file
 some_file f file laid is = let same : f ≡ file = cc in subst IsLaid same laid

@@ -7,7 +7,8 @@ use Rattle.deck_words.specs.declared.fault.DeckFault.{DeckFault}
 use Rattle.deck_runner.specs.DeckRun.{IsNoDeck}
 use Rattle.deck_runner.specs.RunEnd.{TellsLines, ToldInPart}
 use Rattle.deck_runner.specs.declared.run_end.RunEnd.{RunEnd}
-use Rattle.shelf_run.specs.ShelfRun.{OnShelf, IsExactRun, Runs, BreaksOff, LeavesFiles, StaysSound}
+use Rattle.shelf_run.specs.ShelfRun.{OnShelf, Runs, BreaksOff, LeavesFiles, StaysSound}
+use Rattle.shelf_run.specs.ExactRun.{IsExactRun}
 use Rattle.command_line.specs.Folder.{OverFolder}
 use Rattle.command_line.specs.Performed.{Begun, Written, CameToEnd, begun, outcome_of}
 use Rattle.command_outcomes.specs.Status.{status_of}

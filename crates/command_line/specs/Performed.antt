@@ -15,7 +15,8 @@ use Rattle.deck_words.specs.declared.fault.DeckFault.{DeckFault}
 use Rattle.deck_runner.specs.DeckRun.{IsNoDeck}
 use Rattle.deck_runner.specs.RunEnd.{TellsLines, ToldInPart}
 use Rattle.deck_runner.specs.declared.run_end.RunEnd.{RunEnd}
-use Rattle.shelf_run.specs.ShelfRun.{OnShelf, IsExactRun, Runs, BreaksOff, LeavesFiles, StaysSound}
+use Rattle.shelf_run.specs.ShelfRun.{OnShelf, Runs, BreaksOff, LeavesFiles, StaysSound}
+use Rattle.shelf_run.specs.ExactRun.{IsExactRun}
 use Rattle.command_words.specs.Asks.{FormText, AskRun, AskCheck, AskServe, AskSchema, AskExplain, AskDeck}
 use Rattle.command_words.specs.Asks.{AskList, AskCobol, AskLoad, AskStat, AskHelp, AskNothing}
 use Rattle.command_words.specs.declared.limits.Limits.{Limits}

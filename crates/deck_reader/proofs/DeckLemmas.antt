@@ -12,7 +12,8 @@ use Rattle.procedure_division.specs.Names.{Names, names_of}
 use Rattle.procedure_division.specs.Procedure.{procedure, IsProcedure}
 use Rattle.procedure_division.specs.OnlyAllowed.{HaveOnlyAllowed}
 use Rattle.deck_reader.specs.declared.deck.Deck.{Deck}
-use Rattle.deck_reader.specs.Deck.{Spells, CanBeRun}
+use Rattle.deck_reader.specs.Deck.{Spells}
+use Rattle.deck_reader.specs.CanBeRun.{CanBeRun}
 
 -- what the words behind a description spell, with the names of these files and items
 abbrev pub SpellsBehind : List Word → List Statement → List FileDesc → List LengthItem → ℕ → Type 0

@@ -1,15 +1,12 @@
 -- A deck: which words spell it, and which bytes are it.
 -- ANSI X3.23-1985, Nucleus module: the divisions of a source program. Its free form, and which
 -- divisions there are, is ours.
-use Rattle.std.specs.Prelude.{◌≡◌, ℕ, List, [], drop, All}
+use Rattle.std.specs.Prelude.{◌≡◌, ℕ, List, [], drop}
 use Rattle.deck_words.specs.Word.{Word}
 use Rattle.deck_words.specs.Words.{HasWords}
 use Rattle.file_control.specs.declared.description.Description.{Description}
 use Rattle.file_control.specs.Whole.{IsDescription}
-use Rattle.file_control.specs.Described.{AreDescribed}
-use Rattle.procedure_division.specs.Names.{names_of}
 use Rattle.procedure_division.specs.Procedure.{procedure}
-use Rattle.procedure_division.specs.Allowed.{IsAllowed}
 use Rattle.deck_reader.specs.declared.deck.Deck.{Deck}
 
 -- the words are a description, and behind it, from the word PROCEDURE to the end, a procedure
@@ -23,8 +20,3 @@ Spells words deck =
 -- the bytes give words, and these spell the deck
 abbrev pub IsDeck : List ℕ → Deck → Type 0
 IsDeck bytes deck = (words : List Word) × HasWords bytes words × Spells words deck
-
--- what a run can rely on: the files and items are described, and each statement is allowed
-pub record CanBeRun (deck : Deck) : Type 0 where
-  pub described : AreDescribed deck.files deck.items
-  pub allowed : All (IsAllowed (names_of deck.files deck.items)) deck.statements

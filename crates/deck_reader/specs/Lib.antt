@@ -1,1 +1,2 @@
 pub mod Deck
+pub mod CanBeRun

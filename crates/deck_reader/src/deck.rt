@@ -6,7 +6,8 @@ ghost use Rattle.deck_words.specs.Word.{Word};
 ghost use Rattle.procedure_division.specs.Names.{names_of};
 ghost use Rattle.procedure_division.specs.Procedure.{IsProcedure};
 ghost use Rattle.deck_reader.specs.declared.deck.Deck.{Deck};
-ghost use Rattle.deck_reader.specs.Deck.{Spells, IsDeck, CanBeRun};
+ghost use Rattle.deck_reader.specs.Deck.{Spells, IsDeck};
+ghost use Rattle.deck_reader.specs.CanBeRun.{CanBeRun};
 
 use deck_words::Refusal;
 use file_control::{

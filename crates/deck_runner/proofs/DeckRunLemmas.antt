@@ -15,8 +15,9 @@ use Rattle.deck_runner.specs.declared.run_end.RunEnd.{RunEnd}
 use Rattle.deck_runner.specs.Run.{Run}
 use Rattle.deck_runner.specs.RunEnd.{end_of, TellsLines}
 use Rattle.deck_runner.specs.Stretches.{IsRunOver}
-use Rattle.deck_runner.specs.Beginning.{run_before, WorldIsLeft, WhereFilesAreTrue, DeckLeads}
-use Rattle.deck_runner.specs.DeckRun.{RunsExactly, IsRefusedDeck}
+use Rattle.deck_runner.specs.ExactRun.{run_before, RunsExactly}
+use Rattle.deck_runner.specs.Beginning.{WorldIsLeft, WhereFilesAreTrue, DeckLeads}
+use Rattle.deck_runner.specs.DeckRun.{IsRefusedDeck}
 use Rattle.deck_runner.proofs.RunLaws.{clean_runs_are_exact, run_of_stretches}
 
 -- a run whose end is clean is the definition's

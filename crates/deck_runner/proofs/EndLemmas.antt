@@ -7,10 +7,10 @@ use Rattle.indexed_file.specs.World.{World, FileUnit, Named, Absent, Shut, name_
 use Rattle.indexed_file.specs.Shown.{Shown}
 use Rattle.deck_runner.specs.Stretches.{Point}
 use Rattle.indexed_file.proofs.TestLemmas.{either}
-use Rattle.file_control.specs.Described.{file_names}
+use Rattle.file_control.specs.Description.{file_names}
 use Rattle.record_layout.specs.Schema.{Schema}
 use Rattle.deck_reader.specs.declared.deck.Deck.{Deck}
-use Rattle.deck_reader.specs.Deck.{CanBeRun}
+use Rattle.deck_reader.specs.CanBeRun.{CanBeRun}
 use Rattle.deck_runner.specs.Line.{Line}
 use Rattle.deck_runner.specs.Run.{RunFile, LengthValue, Run}
 use Rattle.deck_runner.specs.Running.{Running, schema_of, unit_names, run_files, run_of}

@@ -9,7 +9,8 @@ use Rattle.deck_reader.specs.declared.deck.Deck.{Deck}
 use Rattle.deck_runner.specs.Line.{Line}
 use Rattle.deck_runner.specs.Steps.{until_stop, closes_from, AreStepsInPart}
 use Rattle.deck_runner.specs.Stretches.{Point, AreStretches, IsRunOver, AreStretchesInPart, IsBrokenOff}
-use Rattle.deck_runner.specs.Beginning.{run_before, WorldIsLeft, DeckLeads}
+use Rattle.deck_runner.specs.ExactRun.{run_before}
+use Rattle.deck_runner.specs.Beginning.{WorldIsLeft, DeckLeads}
 use Rattle.deck_runner.specs.NoFalseFile.{first_ledger, IsOfLedger, Judged, IsSafeStretch, AreWithinLedgers, IsSafeRun, IsSafeBrokenOff, DeckRuns, RunsWhole, RunsInPart}
 use Rattle.deck_runner.proofs.FalseFileLaws.{no_false_file}
 

@@ -1,5 +1,5 @@
 -- A deck before its first statement, and what its run leaves in a library. All of this is ours.
-use Rattle.std.specs.Prelude.{◌≡◌, ℕ, Bool, false, List, length, map, bytes_eq, None, All, IsTrue}
+use Rattle.std.specs.Prelude.{◌≡◌, ℕ, Bool, false, List, length, map, bytes_eq, All, IsTrue}
 use Rattle.std.specs.List.{list_any}
 use Rattle.record_layout.specs.Area.{blank_area}
 use Rattle.record_layout.specs.Layout.{length_of}
@@ -8,45 +8,18 @@ use Rattle.indexed_file.specs.Images.{Stays}
 use Rattle.indexed_file.specs.Calls.{Keeps}
 use Rattle.indexed_file.specs.Shown.{Shown}
 use Rattle.verbs.specs.Held.{held_at_start}
-use Rattle.file_control.specs.Description.{FileDesc}
-use Rattle.file_control.specs.Described.{file_names}
+use Rattle.file_control.specs.Description.{FileDesc, file_names}
 use Rattle.deck_reader.specs.declared.deck.Deck.{Deck}
 use Rattle.deck_runner.specs.Line.{Line}
 use Rattle.deck_runner.specs.declared.running_deck.RunningDeck.{RunningDeck}
-use Rattle.deck_runner.specs.Run.{RunFile, Run}
+use Rattle.deck_runner.specs.Run.{Run}
 use Rattle.deck_runner.specs.Running.{Running, unit_names}
 use Rattle.deck_runner.specs.Stretches.{Point}
 use Rattle.deck_runner.specs.State.{state, run_in, file_names_in, IsSafeIn, IsTrustedIn, AreLinesOf}
 use Rattle.deck_runner.specs.Conditions.{IsStatementIn}
+use Rattle.deck_runner.specs.ExactRun.{run_before}
 
 -- ---- before the first statement
-
--- a file of a deck: its connector is closed and not locked, its file name stands for what it stands
--- for in the library, and its record area has zeros in each numeric item, and spaces elsewhere
-abbrev pub file_before : World → FileDesc → RunFile
-file_before world file = record {
-  name = file.name;
-  depends_on = file.depends_on;
-  state = record {
-    connector = record {
-      access = file.access;
-      optional = file.optional;
-      schema = file.schema;
-      locked = false;
-      session = None;
-    };
-    named = named_in world file.file;
-    file = None;
-    area = blank_area (length_of file.layout) file.layout;
-  };
-}
-
--- the files and the length items of a deck: the value of each item is 0
-abbrev pub run_before : World → Deck → Run
-run_before world deck = record {
-  files = map (file_before world) deck.files;
-  items = map (λ item. record { digits = item.digits; value = 0 }) deck.items;
-}
 
 -- the same file as it stands in memory
 abbrev pub running_before : FileDesc → Running

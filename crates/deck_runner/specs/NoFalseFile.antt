@@ -15,7 +15,8 @@ use Rattle.deck_reader.specs.declared.deck.Deck.{Deck}
 use Rattle.deck_runner.specs.Steps.{AreStepsOf, IsRunOf, IsRunInPart, closes_from}
 use Rattle.deck_runner.specs.Stretches.{Point, IsStretch, AreStretches, name_by, trace_by}
 use Rattle.deck_runner.specs.State.{AreLinesOf}
-use Rattle.deck_runner.specs.Beginning.{run_before, WorldIsLeft, WhereFilesAreTrue, IsAttached, program_names}
+use Rattle.deck_runner.specs.ExactRun.{run_before}
+use Rattle.deck_runner.specs.Beginning.{WorldIsLeft, WhereFilesAreTrue, IsAttached, program_names}
 
 -- what the images of a name may be: as at the start of the run, until the first CLOSE of a change
 -- has answered 00; and these

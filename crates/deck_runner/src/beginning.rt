@@ -3,9 +3,9 @@
 ghost use Rattle.std.specs.Prelude.{◌≡◌, ◌≤◌, All, IfOk, IfErr, length, map};
 ghost use Rattle.record_layout.specs.Area.{blank_area};
 ghost use Rattle.record_layout.specs.Layout.{length_of};
-ghost use Rattle.file_control.specs.Described.{file_names};
+ghost use Rattle.file_control.specs.Description.{file_names};
 ghost use Rattle.indexed_file.specs.Calls.{Keeps};
-ghost use Rattle.deck_reader.specs.Deck.{CanBeRun};
+ghost use Rattle.deck_reader.specs.CanBeRun.{CanBeRun};
 ghost use Rattle.deck_runner.specs.Beginning.{running_before, IsUntouched, IsBegun};
 
 use crate::line::LineText;

@@ -1,7 +1,7 @@
 //! The run of the bytes of a deck.
 ghost use Rattle.std.specs.Prelude.{IfOk, IfErr};
 ghost use Rattle.indexed_file.specs.Calls.{Keeps};
-ghost use Rattle.deck_reader.specs.Deck.{CanBeRun};
+ghost use Rattle.deck_reader.specs.CanBeRun.{CanBeRun};
 ghost use Rattle.deck_runner.specs.DeckRun.{IsExactIfClean, HasRunWhole, HasRunInPart, HasDoneNothing};
 ghost use Rattle.deck_runner.specs.DeckRun.{IsRefusedDeck, RunsRead};
 

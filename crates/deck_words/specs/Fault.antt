@@ -1,11 +1,12 @@
 -- The faults of a deck, and what is told of them.
-use Rattle.std.specs.Prelude.{◌≡◌, ◌≢◌, ℕ, Result, IfOk, IfErr}
+use Rattle.std.specs.Prelude.{◌≡◌, ◌≢◌, ℕ, Result, IfOk, IfErr, List}
 use Rattle.deck_words.specs.declared.fault.Cause.{Cause}
 use Rattle.deck_words.specs.declared.fault.Cause.TheVariants.{BadWord, Expected, Unknown, Twice, NotAllowed}
 use Rattle.deck_words.specs.declared.fault.Cause.TheVariants.{Limit, Layout}
 use Rattle.deck_words.specs.declared.fault.DeckFault.{DeckFault}
 use Rattle.deck_words.specs.declared.fault.Refusal.{Refusal}
 use Rattle.deck_words.specs.declared.fault.Refusal.TheVariants.{Memory, Fault}
+use Rattle.deck_words.specs.Words.{RefusesWords}
 
 abbrev pub cause_code : Cause → ℕ
 cause_code BadWord = 1
@@ -47,3 +48,7 @@ pub record GivesOrTells {T : Type 0} (Is : T → Type 0) (result : Result T Deck
   pub given : IfOk result Is
   pub none : HasNoneIfTold Is result
   pub told : IfErr result IsTold
+
+-- the fault that is told of a deck without words
+abbrev pub HasFault : List ℕ → DeckFault → Type 0
+HasFault bytes fault = (refusal : Refusal) × (fault ≡ told refusal) × RefusesWords bytes refusal

@@ -1,7 +1,8 @@
 -- That a deck has one reading.
 use Rattle.std.specs.Prelude.{◌≡◌, ◌≢◌, ℕ, List}
 use Rattle.deck_words.specs.Word.{Word}
-use Rattle.deck_words.specs.Words.{HasWords, HasFault}
+use Rattle.deck_words.specs.Words.{HasWords}
+use Rattle.deck_words.specs.Fault.{HasFault}
 use Rattle.deck_words.specs.declared.fault.DeckFault.{DeckFault}
 
 -- of one thing no two values are so

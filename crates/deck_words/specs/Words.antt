@@ -8,14 +8,11 @@ use Rattle.std.specs.List.{list_all, list_any}
 use Rattle.std.specs.Str.{bytes_eq}
 use Rattle.io_state.specs.FileName.{is_small, is_letter_or_digit}
 use Rattle.deck_words.specs.ByteClass.{is_space, is_mark}
-use Rattle.deck_words.specs.Fault.{told}
 use Rattle.deck_words.specs.declared.fault.Cause.TheVariants.{BadWord, Expected, Unknown, Twice, NotAllowed}
 use Rattle.deck_words.specs.declared.fault.Cause.TheVariants.{Limit, Layout}
-use Rattle.deck_words.specs.declared.fault.DeckFault.{DeckFault}
 use Rattle.deck_words.specs.declared.fault.Refusal.{Refusal}
 use Rattle.deck_words.specs.declared.fault.Refusal.TheVariants.{Memory, Fault}
-use Rattle.deck_words.specs.Word.{Word, word_of}
-use Rattle.deck_words.specs.Word.{Plain, Literal, Sign, Period}
+use Rattle.deck_words.specs.Word.{Word, word_of, Plain, Literal, Sign, Period}
 
 -- ---- runs
 
@@ -111,7 +108,3 @@ RefusesWords bytes (Fault line Unknown) = ⊥
 RefusesWords bytes (Fault line Twice) = ⊥
 RefusesWords bytes (Fault line NotAllowed) = ⊥
 RefusesWords bytes (Fault line Layout) = ⊥
-
--- the fault that is told of a deck without words
-abbrev pub HasFault : List ℕ → DeckFault → Type 0
-HasFault bytes fault = (refusal : Refusal) × (fault ≡ told refusal) × RefusesWords bytes refusal

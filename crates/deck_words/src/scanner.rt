@@ -1,6 +1,7 @@
 //! The words of a deck, a piece at a time.
 ghost use Rattle.std.specs.Prelude.{IfOk, IfErr, MatchResult};
-ghost use Rattle.deck_words.specs.Words.{HasWords, RefusesWords, HasFault};
+ghost use Rattle.deck_words.specs.Words.{HasWords, RefusesWords};
+ghost use Rattle.deck_words.specs.Fault.{HasFault};
 ghost use Rattle.deck_words.specs.OneReading.{HaveOneReading};
 
 use crate::fault::{Cause, DeckFault, Refusal};

@@ -6,12 +6,13 @@ use Rattle.std.specs.Prelude.{Result, Ok, Err, IsErrAnd}
 use Rattle.std.specs.Option.{IfSome}
 use Rattle.std.specs.Io.KnownBytes.{Consumes}
 use Rattle.pages.specs.PageMap.{PageMap}
-use Rattle.page_store.specs.Pages.{page_of_bytes}
+use Rattle.page_store.specs.DeviceFile.{page_of_bytes}
 use Rattle.page_alloc.specs.Chain.{chain, used}
 use Rattle.page_walks.specs.FreeWalk.{page_in}
 use Rattle.page_walks.specs.WholeFile.{pages_used_in}
 use Rattle.file_header.specs.declared.header.Header.{Header}
-use Rattle.file_header.specs.Reading.{number_in, numbers_in, header_in, IsFirstPage}
+use Rattle.file_header.specs.Reading.{number_in, numbers_in, header_in}
+use Rattle.file_header.specs.FirstPage.{IsFirstPage}
 use Rattle.file_header.proofs.ReadLemmas.{first_numbers, first_read}
 use Rattle.open_file.specs.Closed.{StandsClosed}
 use Rattle.open_file.proofs.ClosedLemmas.{stands_by}

@@ -4,7 +4,7 @@ use Rattle.std.specs.Prelude.{Option, Some, None, Result, IfOk, IfErr}
 use Rattle.std.specs.Option.{IfSome}
 use Rattle.std.specs.Io.KnownBytes.{Consumes, IsAtEnd}
 use Rattle.indexed_file.specs.File.{File}
-use Rattle.page_store.specs.Pages.{page_of_bytes}
+use Rattle.page_store.specs.DeviceFile.{page_of_bytes}
 use Rattle.file_header.specs.declared.header.Header.{Header}
 use Rattle.file_header.specs.Reading.{header_in, number_in}
 use Rattle.shelf_file.specs.ClosedFile.{IsAcceptedBy, StandsIn}

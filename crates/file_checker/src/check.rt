@@ -1,7 +1,8 @@
 //! The check of a file.
 
 ghost use Rattle.std.specs.Prelude.{◌≡◌, None};
-ghost use Rattle.file_header.specs.Reading.{header_in, IsFirstPage};
+ghost use Rattle.file_header.specs.Reading.{header_in};
+ghost use Rattle.file_header.specs.FirstPage.{IsFirstPage};
 ghost use Rattle.file_checker.specs.Findings.{verdict_of};
 ghost use Rattle.file_checker.specs.Sound.{Examines, ExaminesBehind, RefusesBehind};
 

@@ -1,9 +1,7 @@
 -- What a file's checks say of it.
-use Rattle.std.proofs.Common.{◌≡◌, ℕ, ◌≤◌, Bool, true, false, ◌&&◌, cond, eqb, leb, ltb, List, [], ◌∷◌, ◌++◌, length, Option, Some, None, refl, sym, ◌∙◌, arith}
+use Rattle.std.proofs.Common.{◌≡◌, ℕ, Bool, true, false, cond, ltb, List, [], ◌∷◌, ◌++◌, length, Option, Some, None, refl, sym, ◌∙◌}
 use Rattle.std.specs.Prelude.{Result, Ok, Err}
 use Rattle.std.specs.List.{list_all}
-use Rattle.std.proofs.lemmas.Bool.Decides.{nat_tests}
-use Rattle.std.proofs.lemmas.Option.{same_Some}
 use Rattle.record_layout.specs.declared.fault.SchemaFault.{SchemaFault}
 use Rattle.record_layout.specs.declared.item.Field.{Field}
 use Rattle.record_layout.specs.declared.schema.KeyKind.{KeyKind}
@@ -12,11 +10,8 @@ use Rattle.record_layout.specs.declared.schema.KeyPart.{KeyPart}
 use Rattle.record_layout.specs.Layout.{Entry, Placed, IsLayout, is_name_of, field_of}
 use Rattle.record_layout.specs.SchemaFault.{KeyClause, key_of_item, key_of_clause, where_a_key, keys_behind, GivesSchema}
 use Rattle.record_layout.specs.Schema.{Schema, alternate_kind}
-use Rattle.deck_words.proofs.TestLemmas.{both_are, then_some}
+use Rattle.deck_words.proofs.TestLemmas.{both_are}
 use Rattle.deck_entries.specs.FileControlEntry.{FileControlEntry}
-use Rattle.deck_entries.specs.declared.record_length.RecordLength.{RecordLength}
-use Rattle.deck_entries.specs.declared.record_length.RecordLength.TheVariants.{Fixed, Varying}
-use Rattle.file_control.specs.Description.{least_length}
 use Rattle.file_control.specs.Checks.{are_keys_named}
 use Rattle.file_control.proofs.LayoutLemmas.{no_field}
 

@@ -3,8 +3,7 @@ use Rattle.std.proofs.Common.{◌≡◌, ℕ, List, [], ◌∷◌, length, sym, 
 use Rattle.std.proofs.lemmas.List.{length-map}
 use Rattle.deck_entries.specs.FileControlEntry.{FileControlEntry}
 use Rattle.deck_entries.specs.FileDescription.{FileDescription, StorageEntry}
-use Rattle.file_control.specs.Description.{FileDesc, AreFiles, with_names}
-use Rattle.file_control.specs.Described.{file_names}
+use Rattle.file_control.specs.Description.{FileDesc, AreFiles, with_names, file_names}
 use Rattle.deck_entries.proofs.EntriesLemmas.{assigned}
 
 pub names_kept : (descriptions : List FileDescription) (storage : List StorageEntry) (names : List (List ℕ)) (entries : List FileControlEntry) (files : List FileDesc) (after : List (List ℕ)) → AreFiles descriptions storage names entries files after → file_names files ≡ assigned entries

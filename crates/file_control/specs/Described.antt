@@ -1,9 +1,9 @@
 -- What is true of the files and items of every description: what a run can rely on.
-use Rattle.std.specs.Prelude.{◌≡◌, ◌<◌, ◌≤◌, ℕ, List, length, map, bytes_eq, Option, Some, None, All}
+use Rattle.std.specs.Prelude.{◌≡◌, ◌<◌, ◌≤◌, ℕ, List, length, bytes_eq, Option, Some, None, All}
 use Rattle.std.specs.List.{IsDistinct}
 use Rattle.record_layout.specs.Layout.{length_of, IsRecord}
 use Rattle.record_layout.specs.Schema.{IsSchema}
-use Rattle.file_control.specs.Description.{FileDesc, LengthItem}
+use Rattle.file_control.specs.Description.{FileDesc, LengthItem, file_names}
 
 -- the place of one of so many items, where there is a place
 abbrev pub IsPlaceIn : ℕ → Option ℕ → Type 0
@@ -17,9 +17,6 @@ pub record IsDescribedFile (count : ℕ) (file : FileDesc) : Type 0 where
   pub schema : IsSchema file.schema
   pub greatest : file.schema.greatest ≡ length_of file.layout
   pub item : IsPlaceIn count file.depends_on
-
-abbrev pub file_names : List FileDesc → List (List ℕ)
-file_names files = map (λ file. file.file) files
 
 -- files and items: no two files have one file name, there are eight files at most, and an item has
 -- 18 digits at most

@@ -4,7 +4,7 @@
 -- digits, is ours.
 use Rattle.std.specs.Prelude.{◌≡◌, ℕ, ◌≤◌, ◌==◌, Bool, true, false, not, ◌&&◌, List, [], ◌∷◌, ◌++◌, nat_le}
 use Rattle.std.specs.Prelude.{nat_lt, slice_get, position, filter_map, if◌then◌else◌, Option, Some, None}
-use Rattle.std.specs.Prelude.{option_and_then}
+use Rattle.std.specs.Prelude.{option_and_then, map}
 use Rattle.std.specs.List.{list_all, list_any, find}
 use Rattle.std.specs.Option.{option_map_or}
 use Rattle.std.specs.Str.{bytes_eq}
@@ -14,8 +14,6 @@ use Rattle.record_layout.specs.Picture.{IsPicture}
 use Rattle.record_layout.specs.Layout.{Entry, Placed, IsLayout, length_of}
 use Rattle.record_layout.specs.Schema.{Schema, IsSchema}
 use Rattle.record_layout.specs.SchemaFault.{HasNamedKeys, GivesSchema}
-use Rattle.deck_words.specs.Fault.{IsFault}
-use Rattle.deck_words.specs.declared.fault.Refusal.{Refusal}
 use Rattle.deck_entries.specs.FileControlEntry.{FileControlEntry}
 use Rattle.deck_entries.specs.declared.record_length.RecordLength.{RecordLength}
 use Rattle.deck_entries.specs.declared.record_length.RecordLength.TheVariants.{Fixed, Varying}
@@ -144,8 +142,5 @@ AreFiles descriptions storage names (entry ∷ entries) (file ∷ files) after =
     × IsFile names storage entry description file × AreFiles descriptions storage
     (names ++ filter_map (λ item. item.name) description.items) entries files after
 
--- they are refused, but for want of memory, only where there are no such files
-abbrev pub AreNoFiles : List FileDescription → List StorageEntry → List (List ℕ) → List FileControlEntry
-    → Refusal → Type 0
-AreNoFiles descriptions storage names entries refusal = IsFault refusal → (files : List FileDesc)
-    → (after : List (List ℕ)) → AreFiles descriptions storage names entries files after → ⊥
+abbrev pub file_names : List FileDesc → List (List ℕ)
+file_names files = map (λ file. file.file) files

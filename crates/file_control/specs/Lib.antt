@@ -4,3 +4,4 @@ pub mod FieldPlaces
 pub mod Checks
 pub mod Whole
 pub mod Described
+pub mod NoFiles

@@ -4,8 +4,6 @@
 use Rattle.std.specs.Prelude.{◌≡◌, ◌≤◌, ℕ, true, List, [], ◌∷◌, length, drop, codes}
 use Rattle.deck_words.specs.Class.{this, begins}
 use Rattle.deck_words.specs.Word.{Word}
-use Rattle.deck_words.specs.Fault.{IsFault}
-use Rattle.deck_words.specs.declared.fault.Refusal.{Refusal}
 use Rattle.file_control.specs.declared.description.Description.{Description}
 use Rattle.deck_entries.specs.declared.divisions.Divisions.{Divisions}
 use Rattle.deck_entries.specs.Divisions.{SpellsDivisions}
@@ -17,11 +15,6 @@ Describe divisions files items =
     (names : List (List ℕ)) × AreFiles divisions.descriptions divisions.storage [] divisions.entries files
     names
     × AreItems names divisions.storage items
-
--- they are refused, but for want of memory, only where they describe nothing
-abbrev pub DescribeNone : Divisions → Refusal → Type 0
-DescribeNone divisions refusal = IsFault refusal → (files : List FileDesc) (items : List LengthItem)
-    → Describe divisions files items → ⊥
 
 -- the words up to the word PROCEDURE, so many of them, are divisions that describe these files and
 -- items: the files of the entries, and behind their data names the items

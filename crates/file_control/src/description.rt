@@ -5,7 +5,8 @@ ghost use Rattle.deck_words.specs.OneReading.{Determines};
 ghost use Rattle.deck_words.specs.Word.{Word};
 ghost use Rattle.file_control.specs.declared.description.Description.{Description};
 ghost use Rattle.file_control.specs.Description.{FileDesc as File, LengthItem as Digits};
-ghost use Rattle.file_control.specs.Whole.{Describe, DescribeNone, IsDescription};
+ghost use Rattle.file_control.specs.Whole.{Describe, IsDescription};
+ghost use Rattle.file_control.specs.NoFiles.{DescribeNone};
 ghost use Rattle.file_control.specs.Described.{AreDescribed};
 
 use crate::data_names::DataNames;

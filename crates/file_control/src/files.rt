@@ -3,7 +3,8 @@ ghost use Rattle.std.specs.Prelude.{◌≡◌, ℕ, List, [], ◌∷◌, option_
 ghost use Rattle.std.specs.Str.{bytes_eq};
 ghost use Rattle.deck_words.specs.Fault.{HasNoneIfRefused, GivesOrRefuses};
 ghost use Rattle.file_control.specs.Description.{FileDesc as File, LengthItem as Digits};
-ghost use Rattle.file_control.specs.Description.{AreFiles, AreNoFiles, AreItems, HaveDigits};
+ghost use Rattle.file_control.specs.Description.{AreFiles, AreItems, HaveDigits};
+ghost use Rattle.file_control.specs.NoFiles.{AreNoFiles};
 
 use crate::data_names::DataNames;
 use crate::file::{FileDesc, file};

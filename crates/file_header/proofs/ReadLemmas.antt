@@ -8,7 +8,8 @@ use Rattle.record_layout.specs.Schema.{IsSchema}
 use Rattle.file_header.specs.declared.header.Header.{Header}
 use Rattle.file_header.specs.Bounds.{FitsItsBytes, AreLinksWithin}
 use Rattle.file_header.specs.BoundTests.{is_header}
-use Rattle.file_header.specs.Reading.{numbers_in, header_in, part_in, tree_in, key_rows_in, key_count_in, IsFirstPage}
+use Rattle.file_header.specs.Reading.{numbers_in, header_in, part_in, tree_in, key_rows_in, key_count_in}
+use Rattle.file_header.specs.FirstPage.{IsFirstPage}
 use Rattle.file_header.proofs.BoundsLemmas.{is_header-Decides}
 use Rattle.file_header.proofs.BackLemmas.{closed_page, numbers_back}
 

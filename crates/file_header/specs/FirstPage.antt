@@ -1,6 +1,6 @@
 -- The bytes of a file's first page, row for row of its table. Numbers are big-endian.
-use Rattle.std.specs.Prelude.{ℕ, ◌-◌, ◌==◌, List, [], ◌∷◌, ◌++◌, length, replicate, codes}
-use Rattle.std.specs.Prelude.{flat_map, zip, if◌then◌else◌}
+use Rattle.std.specs.Prelude.{ℕ, ◌-◌, ◌==◌, List, [], ◌∷◌, ◌++◌, length, replicate, codes, flat_map, zip}
+use Rattle.std.specs.Prelude.{if◌then◌else◌, ◌≡◌, drop}
 use Rattle.std.specs.List.{concat}
 use Rattle.byteorder.specs.Endian.{big_bytes}
 use Rattle.record_layout.specs.declared.schema.KeyKind.TheVariants.{Prime, Unique}
@@ -8,6 +8,7 @@ use Rattle.record_layout.specs.declared.schema.KeyPart.{KeyPart}
 use Rattle.record_layout.specs.Schema.{same_kind}
 use Rattle.file_header.specs.declared.header.Header.{Header}
 use Rattle.file_header.specs.declared.header.TreeNumbers.{TreeNumbers}
+use Rattle.file_header.specs.Bounds.{IsHeader}
 
 -- bytes 0 to 63: the gate, the text, and the numbers. Where all records have one length, the version is 1,
 -- which does not tell the least length, else 2
@@ -52,3 +53,8 @@ header_bytes header =
     let rows = flat_map (λ row. key_row_bytes row.0 row.1) (zip header.schema.keys header.trees.items) in
     let told = first_bytes header ++ rows in
     told ++ replicate (4096 - length told) 0
+
+-- the page is the first one of a file that was closed with this header: its gate is closed
+pub record IsFirstPage (header : Header) (page : List ℕ) : Type 0 where
+  pub allowed : IsHeader header
+  pub bytes : page ≡ codes "C" ++ drop 1 (header_bytes header)

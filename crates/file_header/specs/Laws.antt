@@ -1,7 +1,8 @@
 -- Writing and reading are the two ways of one correspondence, of headers and their pages.
 use Rattle.std.specs.Prelude.{◌≡◌, ℕ, List, Some}
 use Rattle.file_header.specs.declared.header.Header.{Header}
-use Rattle.file_header.specs.Reading.{header_in, IsFirstPage}
+use Rattle.file_header.specs.Reading.{header_in}
+use Rattle.file_header.specs.FirstPage.{IsFirstPage}
 
 -- a page that was closed with a header is read as that header
 abbrev pub WrittenHeaderIsRead : Type 0

@@ -1,6 +1,6 @@
 -- The header in a page.
-use Rattle.std.specs.Prelude.{◌≡◌, ℕ, ◌+◌, ◌==◌, ◌&&◌, List, ◌++◌, map, min, drop, codes, slice_index}
-use Rattle.std.specs.Prelude.{slice_range, nat_eq, Option, Some, None, if◌then◌else◌}
+use Rattle.std.specs.Prelude.{ℕ, ◌+◌, ◌==◌, ◌&&◌, List, ◌++◌, map, min, drop, codes, slice_index, slice_range}
+use Rattle.std.specs.Prelude.{nat_eq, Option, Some, None, if◌then◌else◌}
 use Rattle.std.specs.Cmp.Lexicographic.{pointwise}
 use Rattle.byteorder.specs.Endian.{big_number}
 use Rattle.page_bytes.specs.Chunks.{chunks}
@@ -11,13 +11,7 @@ use Rattle.record_layout.specs.Schema.{Schema}
 use Rattle.file_header.specs.declared.header.Header.{Header}
 use Rattle.file_header.specs.declared.header.TreeNumbers.{TreeNumbers}
 use Rattle.file_header.specs.FirstPage.{header_bytes}
-use Rattle.file_header.specs.Bounds.{IsHeader}
 use Rattle.file_header.specs.BoundTests.{is_header}
-
--- the page is the first one of a file that was closed with this header: its gate is closed
-pub record IsFirstPage (header : Header) (page : List ℕ) : Type 0 where
-  pub allowed : IsHeader header
-  pub bytes : page ≡ codes "C" ++ drop 1 (header_bytes header)
 
 -- the number in n bytes from a place on
 abbrev pub number_in : List ℕ → ℕ → ℕ → ℕ

@@ -34,8 +34,8 @@ pub struct Header {
 
 impl Header {
     ghost use Rattle.std.specs.Prelude.{◌≡◌, ◌↔◌, ◌++◌, IsTrue, IfSome, IsNone, codes, drop};
-    ghost use Rattle.file_header.specs.FirstPage.{header_bytes};
-    ghost use Rattle.file_header.specs.Reading.{header_in, IsFirstPage};
+    ghost use Rattle.file_header.specs.FirstPage.{header_bytes, IsFirstPage};
+    ghost use Rattle.file_header.specs.Reading.{header_in};
 
     /// Writes the whole page. Its gate is open: the byte of the gate is the business of whoever
     /// closes the file.

@@ -1,7 +1,7 @@
 -- The pages in the bytes of a sound file.
 use Rattle.std.proofs.Common.{◌≡◌, ℕ, zero, suc, ◌+◌, ◌*◌, ◌/◌, ◌<◌, ◌≤◌, List, [], length, take, drop, slice_index_or, Some, IsSome, refl, ap, sym, ◌∙◌, arith, subst, Result, Ok, Err, IfOk}
 use Rattle.std.specs.Simd.{first_chunks}
-use Rattle.page_store.specs.Pages.{page_of_bytes}
+use Rattle.page_store.specs.DeviceFile.{page_of_bytes}
 use Rattle.page_alloc.specs.Chain.{chain}
 use Rattle.page_alloc.proofs.ChainLemmas.{in_use}
 use Rattle.file_header.specs.declared.header.Header.{Header}

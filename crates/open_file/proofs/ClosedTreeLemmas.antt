@@ -16,9 +16,10 @@ use Rattle.tree_node.specs.Leaf.{leaf_room}
 use Rattle.tree_node.specs.Inner.{inner_room, branches, separators}
 use Rattle.tree_node.specs.Order.{less, Ascends}
 use Rattle.tree_node.proofs.OrderLemmas.{Each-weaker}
-use Rattle.tree_search.specs.Tree.{TreeOf, page_of, entries_of, pages_of, size_of, IsHalfFull, IsRooted, Bound, NotBelow, Above, Below, IsRow, IsOrdered}
+use Rattle.tree_search.specs.Tree.{TreeOf, page_of, entries_of, pages_of, Bound, NotBelow, Above, Below, IsRow, IsOrdered}
+use Rattle.tree_search.specs.Calls.{size_of, IsHalfFull, IsRooted}
 use Rattle.tree_search.specs.Stored.{Holds}
-use Rattle.open_file.specs.ClosedTree.{AreBetween, HoldsNodes}
+use Rattle.open_file.specs.ClosedTree.{AreSeparated, HoldsNodes}
 use Rattle.open_file.proofs.ClosedPagesLemmas.{all_each, each_all, all_pairs, from_pairs}
 
 -- ---- bounds
@@ -133,7 +134,7 @@ module _ (shape : Shape) (pages : PageMap) where
 
   row_held : {X Y : Type 0} (of : X → Y) (P Q : X → Type 0) (B : Bound → Bound → X → Type 0) (C : Bound → Bound → Y → Type 0)
       → ((low high : Bound) (x : X) → P x → Q x → B low high x → C low high (of x))
-      → (low : Bound) (ss : List (List ℕ)) (xs : List X) (high : Bound) → Each P xs → Each Q xs → IsRow B low ss xs high → AreBetween C low ss (map of xs) high
+      → (low : Bound) (ss : List (List ℕ)) (xs : List X) (high : Bound) → Each P xs → Each Q xs → IsRow B low ss xs high → AreSeparated C low ss (map of xs) high
   row_held of P Q B C f low ss [] high p q row = absurd row
   row_held of P Q B C f low [] (x ∷ []) high p q row = f low high x p.0 q.0 row
   row_held of P Q B C f low [] (x ∷ y ∷ xs) high p q row = absurd row
@@ -188,7 +189,7 @@ module _ (shape : Shape) (pages : PageMap) where
         node.leads ∙ sym (children_are h t.2),
         entries_are h t.2,
         ap (λ xs. t.0 ∷ xs) (pages_are h t.2),
-        subst (λ ss. AreBetween (λ low high b. Nodes (λ room. room / 2) low high h b) low ss (map (child h) t.2) high) (sym is) below,
+        subst (λ ss. AreSeparated (λ low high b. Nodes (λ room. room / 2) low high h b) low ss (map (child h) t.2) high) (sym is) below,
       )
 
   -- ---- to a tree
@@ -213,7 +214,7 @@ module _ (shape : Shape) (pages : PageMap) where
     pub ordered : IsRow (IsOrdered shape.width h) low ss trees high
 
   row_holds : (h : ℕ) → ((low high : Bound) (b : Child) → Nodes (λ room. room / 2) low high h b → IsTreeOf (λ room. room / 2) low high h b)
-      → (low : Bound) (ss : List (List ℕ)) (bs : List Child) (high : Bound) → AreBetween (λ low high b. Nodes (λ room. room / 2) low high h b) low ss bs high → AreTreesOf low ss high h bs
+      → (low : Bound) (ss : List (List ℕ)) (bs : List Child) (high : Bound) → AreSeparated (λ low high b. Nodes (λ room. room / 2) low high h b) low ss bs high → AreTreesOf low ss high h bs
   row_holds h f low [] [] high row = absurd row
   row_holds h f low (s ∷ ss) [] high row = absurd row
   row_holds h f low [] (b ∷ []) high row =

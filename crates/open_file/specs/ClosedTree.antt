@@ -11,7 +11,7 @@ use Rattle.tree_node.specs.Order.{less}
 
 -- page n is a node of this kind: it tells its key and how many rows it has, as many as it may have at
 -- least (by how many have room) and at most; these stand from `base` on, and rise by their first bytes
-pub record IsNode (kind key width base size : ℕ) (least : ℕ → ℕ) (pages : PageMap) (n : ℕ) : Type 0 where
+pub record HoldsNode (kind key width base size : ℕ) (least : ℕ → ℕ) (pages : PageMap) (n : ℕ) : Type 0 where
   pub page : List ℕ
   pub there : pages n ≡ Some page
   pub long : length page ≡ 4096
@@ -25,12 +25,12 @@ pub record IsNode (kind key width base size : ℕ) (least : ℕ → ℕ) (pages 
   pub rising : AllPairs (λ x y. less (take width x) (take width y) ≡ true) rows
 
 -- The separators lie between the bounds, and each member, one more than they, between those beside it.
-abbrev pub AreBetween : {X : Type 0} → (Option (List ℕ) → Option (List ℕ) → X → Type 0)
+abbrev pub AreSeparated : {X : Type 0} → (Option (List ℕ) → Option (List ℕ) → X → Type 0)
     → Option (List ℕ) → List (List ℕ) → List X → Option (List ℕ) → Type 0
-AreBetween Between low [] (x ∷ []) high = Between low high x
-AreBetween Between low (s ∷ ss) (x ∷ xs) high = IfSome low (λ l. less l s ≡ true)
-    × IfSome high (λ h. less s h ≡ true) × Between low (Some s) x × AreBetween Between (Some s) ss xs high
-AreBetween Between low _ _ high = ⊥
+AreSeparated Between low [] (x ∷ []) high = Between low high x
+AreSeparated Between low (s ∷ ss) (x ∷ xs) high = IfSome low (λ l. less l s ≡ true)
+    × IfSome high (λ h. less s h ≡ true) × Between low (Some s) x × AreSeparated Between (Some s) ss xs high
+AreSeparated Between low _ _ high = ⊥
 
 -- The node on page n, the leaves so many levels below it, has these entries and these pages under it: a
 -- leaf, 'L', has entries from `low` on, below `high`, and an inner node, 'I', its first child, and then
@@ -38,14 +38,14 @@ AreBetween Between low _ _ high = ⊥
 abbrev pub HoldsNodes : (key width entry : ℕ) → PageMap → (ℕ → ℕ) → (low high : Option (List ℕ))
     → (levels n : ℕ) → (entries : List (List ℕ)) → (own : List ℕ) → Type 0
 HoldsNodes key width entry pages least low high zero n entries own =
-    (node : IsNode 76 key width 16 entry least pages n) × (node.rows ≡ entries) × (n ∷ [] ≡ own)
+    (node : HoldsNode 76 key width 16 entry least pages n) × (node.rows ≡ entries) × (n ∷ [] ≡ own)
     × All (λ e. IfSome low (λ l. less (take width e) l ≡ false)
     × IfSome high (λ h. less (take width e) h ≡ true)) entries
 HoldsNodes key width entry pages least low high (suc levels) n entries own =
-    (node : IsNode 73 key width 20 (width + 4) least pages n) × (below : List (ℕ × List (List ℕ) × List ℕ))
+    (node : HoldsNode 73 key width 20 (width + 4) least pages n) × (below : List (ℕ × List (List ℕ) × List ℕ))
     × (big_number 4 (drop 16 node.page) ∷ map (λ row. big_number 4 (drop width row)) node.rows
     ≡ map (λ b. b.0) below) × (flat_map (λ b. b.1) below ≡ entries) × (n ∷ flat_map (λ b. b.2) below ≡ own)
-    × AreBetween (λ low high b.
+    × AreSeparated (λ low high b.
     HoldsNodes key width entry pages (λ room. room / 2) low high levels b.0 b.1 b.2)
     low (map (take width) node.rows) below high
 

@@ -2,13 +2,12 @@
 use Rattle.std.proofs.Common.{suc, ◌≡◌, ◌⊎◌, inl, inr, ℕ, ◌*◌, ◌≤◌, ltb, List, [], ◌∷◌, ◌++◌, length, take, drop, Option, Some, refl, sym, ◌∙◌, ap, subst, arith, IsTrue}
 use Rattle.std.proofs.lemmas.Bool.{and_parts, ltb-true}
 use Rattle.std.proofs.lemmas.List.{length-drop}
-use Rattle.page_store.specs.DeviceFile.{DeviceFile, content}
+use Rattle.page_store.specs.DeviceFile.{DeviceFile, content, page_of_bytes}
 use Rattle.page_store.specs.Images.{IsSettled}
 use Rattle.page_store.specs.Moments.{Throughout, Quiet}
 use Rattle.page_store.proofs.MomentLemmas.{throughout_weaker, throughout_then, quiet_then}
 use Rattle.page_store.proofs.OpenLemmas.{quiet_open, open_kept, refused_open, all_refused}
 use Rattle.page_store.specs.Gate.{IsRefused, IsOpen, AllOpen, AllRefused, with_gate, ClosedOrRefused, WasOrRefused}
-use Rattle.page_store.specs.Pages.{page_of_bytes}
 use Rattle.page_store.specs.PageFacts.{page_over}
 use Rattle.page_store.specs.ShelfState.{ShelfState, unit_file}
 use Rattle.page_cache.specs.declared.cache.Cache.{Cache}

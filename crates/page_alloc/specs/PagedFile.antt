@@ -1,11 +1,11 @@
 -- A file that is open, and what its making and its closing leave.
 use Rattle.std.specs.Prelude.{◌≡◌, ◌⊎◌, ℕ, ◌*◌, ◌≤◌, if◌then◌else◌, List, [], ◌∷◌, length, drop, true, false}
 use Rattle.std.specs.Prelude.{Bool, IsTrue, Some}
-use Rattle.page_store.specs.DeviceFile.{DeviceFile, content}
+use Rattle.page_store.specs.DeviceFile.{DeviceFile, content, page_of_bytes}
 use Rattle.page_store.specs.Images.{IsSettled}
 use Rattle.page_store.specs.Moments.{Throughout}
 use Rattle.page_store.specs.Gate.{IsClosed, IsRefused, AllOpen, AllRefused, SameOrRefused}
-use Rattle.page_store.specs.Pages.{page_of_bytes, HoldsPages}
+use Rattle.page_store.specs.Pages.{HoldsPages}
 use Rattle.page_store.specs.ShelfState.{ShelfState, HasUnit, unit_file, WhereHonest}
 use Rattle.page_store.specs.declared.store.Store.{Store}
 use Rattle.page_cache.specs.declared.cache.Cache.{Cache}

@@ -3,8 +3,8 @@ use Rattle.std.proofs.Common.{◌-◌, ◌≤◌, zero, suc, ◌≡◌, ◌≢�
 use Rattle.std.specs.Prelude.{MatchResult}
 use Rattle.std.specs.Option.{option_map_or}
 use Rattle.std.proofs.lemmas.Bool.{cases_Bool, and_parts, and_from, ltb-true, ltb-false, lt-ltb, le-ltb, both_ways, and_right}
-use Rattle.page_store.specs.DeviceFile.{DeviceFile, content}
-use Rattle.page_store.specs.Pages.{page_of_bytes, HoldsPages, PageWritten, PageFails}
+use Rattle.page_store.specs.DeviceFile.{DeviceFile, content, page_of_bytes}
+use Rattle.page_store.specs.Pages.{HoldsPages, PageWritten, PageFails}
 use Rattle.page_store.proofs.PageLemmas.{written_is_read, others_read, others_kept}
 use Rattle.io_state.specs.declared.fault.Fault.{Fault}
 use Rattle.page_cache.proofs.WriteLemmas.{over_positive, same_unit}

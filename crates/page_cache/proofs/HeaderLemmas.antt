@@ -3,9 +3,9 @@ use Rattle.std.proofs.Common.{zero, suc, ◌≡◌, ◌⊎◌, inl, inr, ℕ, �
 use Rattle.std.specs.Option.{option_map_or}
 use Rattle.std.proofs.lemmas.Bool.{cases_Bool, and_parts, ltb-true}
 use Rattle.std.proofs.lemmas.List.{length-drop}
-use Rattle.page_store.specs.DeviceFile.{DeviceFile, content, bytes_or_none}
+use Rattle.page_store.specs.DeviceFile.{DeviceFile, content, bytes_or_none, page_of_bytes}
 use Rattle.page_store.specs.Gate.{OnlyGate, with_gate}
-use Rattle.page_store.specs.Pages.{page_of_bytes, HoldsPages, PageWritten, PageFails}
+use Rattle.page_store.specs.Pages.{HoldsPages, PageWritten, PageFails}
 use Rattle.page_store.proofs.PageLemmas.{others_read, others_kept}
 use Rattle.page_store.specs.ShelfState.{ShelfState, HasUnit, unit_file, WhereHonest, KeepsOthers, ChangesOnly}
 use Rattle.page_store.specs.declared.store.Store.{Store}

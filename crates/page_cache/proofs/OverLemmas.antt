@@ -2,8 +2,8 @@
 use Rattle.std.proofs.Common.{◌≡◌, ◌≢◌, inl, inr, ℕ, ltb, ◌&&◌, true, if◌then◌else◌, ◌<◌, length, Option, Some, None, List, [], refl, sym, ◌∙◌, ap, subst, IsTrue, option_map}
 use Rattle.std.specs.Option.{option_map_or}
 use Rattle.std.proofs.lemmas.Bool.{cases_eq, both_ways}
-use Rattle.page_store.specs.DeviceFile.{content}
-use Rattle.page_store.specs.Pages.{page_of_bytes, HoldsPages}
+use Rattle.page_store.specs.DeviceFile.{content, page_of_bytes}
+use Rattle.page_store.specs.Pages.{HoldsPages}
 use Rattle.page_store.specs.ShelfState.{ShelfState, HasUnit, unit_name, unit_file, OnlyAnswers}
 use Rattle.page_cache.specs.declared.frame.Frame.{Frame}
 use Rattle.page_cache.specs.declared.cache.Cache.{Cache}

@@ -10,8 +10,8 @@ use Rattle.std.specs.Cmp.{nat_eq_equiv}
 use Rattle.std.specs.Map.{lookup}
 use Rattle.std.proofs.lemmas.Bool.{cases_Bool, cases_eq, both_ways, eqb-true, ne_eqb}
 use Rattle.lru.specs.LruCache.{LruCache, lru_cache, put_entries}
-use Rattle.page_store.specs.DeviceFile.{content}
-use Rattle.page_store.specs.Pages.{page_of_bytes, HoldsPages}
+use Rattle.page_store.specs.DeviceFile.{content, page_of_bytes}
+use Rattle.page_store.specs.Pages.{HoldsPages}
 use Rattle.page_store.specs.ShelfState.{ShelfState, unit_name, unit_file, OnlyAnswers}
 use Rattle.page_cache.specs.declared.frame.Frame.{Frame}
 use Rattle.page_cache.specs.declared.cache.Cache.{Cache}

@@ -2,7 +2,8 @@
 use Rattle.std.proofs.Common.{◌≡◌, ℕ, refl, sym, ◌∙◌, ap, subst}
 use Rattle.page_store.specs.DeviceFile.{DeviceFile}
 use Rattle.page_store.proofs.MomentLemmas.{quiet_none, quiet_then}
-use Rattle.page_store.specs.ShelfState.{ShelfState, unit_name, unit_file, OnlyAnswers, ChangesOnly, IsQuiet}
+use Rattle.page_store.specs.ShelfState.{ShelfState, unit_name, unit_file, OnlyAnswers, ChangesOnly}
+use Rattle.page_store.specs.Moments.{IsQuiet}
 use Rattle.page_cache.specs.Quietly.{GoesQuietly}
 use Rattle.page_cache.specs.Calls.{KeepsPages}
 use Rattle.page_cache.specs.declared.cache.Cache.{Cache}

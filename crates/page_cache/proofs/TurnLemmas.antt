@@ -8,8 +8,8 @@ use Rattle.lru.specs.LruCache.{promoted, lru_cache}
 use Rattle.lru.proofs.CallerLemmas.{Contains-lookup_entry}
 use Rattle.page_cache.specs.declared.frame.Frame.{Frame}
 use Rattle.std.proofs.lemmas.List.{length-take}
-use Rattle.page_store.specs.DeviceFile.{content}
-use Rattle.page_store.specs.Pages.{page_of_bytes, HoldsPages}
+use Rattle.page_store.specs.DeviceFile.{content, page_of_bytes}
+use Rattle.page_store.specs.Pages.{HoldsPages}
 use Rattle.page_store.specs.ShelfState.{ShelfState, HasUnit, unit_file}
 use Rattle.page_cache.specs.declared.cache.Cache.{Cache}
 use Rattle.page_cache.specs.Cached.{frame_of, is_counted_page, cached_pages_of, IsOver, IsClean}

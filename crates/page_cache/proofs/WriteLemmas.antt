@@ -6,8 +6,8 @@ use Rattle.std.specs.Cmp.{nat_eq_equiv}
 use Rattle.std.proofs.lemmas.Map.Entries.{lookup_from_place}
 use Rattle.std.proofs.lemmas.Bool.{cases_Bool, both_ways, and_parts, ltb-true}
 use Rattle.lru.specs.LruCache.{IsValid, last_entry}
-use Rattle.page_store.specs.DeviceFile.{DeviceFile, content}
-use Rattle.page_store.specs.Pages.{page_of_bytes, HoldsPages, PageWritten, PageFails}
+use Rattle.page_store.specs.DeviceFile.{DeviceFile, content, page_of_bytes}
+use Rattle.page_store.specs.Pages.{HoldsPages, PageWritten, PageFails}
 use Rattle.page_store.specs.PageFacts.{page_over}
 use Rattle.page_store.proofs.PageLemmas.{written_is_read, others_read, others_kept}
 use Rattle.page_store.specs.ShelfState.{ShelfState, HasUnit, unit_file, WhereHonest, ChangesOnly, FaultHasCause}

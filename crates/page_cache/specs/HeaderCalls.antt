@@ -1,11 +1,10 @@
 -- What a page of the file reads, and what changes of the header and the gate leave of the unit's file.
 use Rattle.std.specs.Prelude.{◌≡◌, ℕ, List, IsTrue, Result, OnErr}
 use Rattle.io_state.specs.declared.fault.Fault.{Fault}
-use Rattle.page_store.specs.DeviceFile.{DeviceFile, content}
+use Rattle.page_store.specs.DeviceFile.{DeviceFile, content, page_of_bytes}
 use Rattle.page_store.specs.Images.{IsSettled}
 use Rattle.page_store.specs.Moments.{Throughout}
 use Rattle.page_store.specs.Gate.{AllRefused, with_gate, WasOrRefused, ClosedOrRefused}
-use Rattle.page_store.specs.Pages.{page_of_bytes}
 use Rattle.page_store.specs.PageFacts.{page_over}
 use Rattle.page_store.specs.ShelfState.{ShelfState, unit_file, FileGoes, KeepsOthers, FaultHasCause}
 

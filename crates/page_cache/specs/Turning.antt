@@ -3,8 +3,7 @@ use Rattle.std.specs.Prelude.{◌≡◌, ℕ, ◌+◌, ◌-◌, false, nat_eq, I
 use Rattle.std.specs.Prelude.{Some, None}
 use Rattle.std.specs.Map.{lookup, set_value}
 use Rattle.lru.specs.LruCache.{last_entry, promoted}
-use Rattle.page_store.specs.DeviceFile.{content}
-use Rattle.page_store.specs.Pages.{page_of_bytes}
+use Rattle.page_store.specs.DeviceFile.{content, page_of_bytes}
 use Rattle.page_store.specs.ShelfState.{ShelfState, unit_file}
 use Rattle.page_cache.specs.declared.frame.Frame.{Frame}
 use Rattle.page_cache.specs.declared.cache.Cache.{Cache}

@@ -4,9 +4,9 @@ use Rattle.std.proofs.lemmas.Bool.{cases_Bool, ltb-true, ltb-false}
 use Rattle.std.proofs.lemmas.Grind.{same_number_lists}
 use Rattle.std.proofs.lemmas.List.{get_or-take, get_or-drop, length-take, length-drop}
 use Rattle.std.proofs.Math.Seq.{take-append_seam, drop-append_seam}
-use Rattle.page_store.specs.DeviceFile.{DeviceFile, Torn, overlay, content}
+use Rattle.page_store.specs.DeviceFile.{DeviceFile, Torn, overlay, content, page_of_bytes}
 use Rattle.page_store.proofs.ImageLemmas.{overlay_torn}
-use Rattle.page_store.specs.Pages.{page_of_bytes, offset_of, length_of_part, part_of_page, PageWritten, PageFails, HoldsPages}
+use Rattle.page_store.specs.Pages.{offset_of, length_of_part, part_of_page, PageWritten, PageFails, HoldsPages}
 use Rattle.page_store.specs.PageFacts.{page_over}
 
 -- the bytes in front of others

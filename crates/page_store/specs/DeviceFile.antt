@@ -1,6 +1,6 @@
 -- A file on a shelf: what reads give, and what has been asked of it since the shelf first met it.
 use Rattle.std.specs.Prelude.{◌≡◌, ℕ, ◌+◌, ◌<◌, ◌≤◌, max, List, [], ◌++◌, length, take, drop, slice_index}
-use Rattle.std.specs.Prelude.{Option, None, IsTrue, is_some, unwrap_or}
+use Rattle.std.specs.Prelude.{Option, None, IsTrue, is_some, unwrap_or, ◌*◌}
 
 -- what matters to a crash: the file was made, n bytes were written (or tried) at `at`, or it was
 -- synced, and these were its bytes
@@ -54,3 +54,7 @@ pub record Torn (at n : ℕ) (old new : List ℕ) : Type 0 where
   pub no_longer : length new ≤ max (length old) (at + n)
   pub below : (i : ℕ) → i < length old → i < at → slice_index new i ≡ slice_index old i
   pub above : (i : ℕ) → i < length old → at + n ≤ i → slice_index new i ≡ slice_index old i
+
+-- page n of these bytes
+abbrev pub page_of_bytes : List ℕ → ℕ → List ℕ
+page_of_bytes bytes n = take 4096 (drop (4096 * n) bytes)

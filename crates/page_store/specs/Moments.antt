@@ -2,6 +2,7 @@
 use Rattle.std.specs.Prelude.{◌≡◌, ℕ, List, [], ◌∷◌, ◌++◌, Option, Some, None}
 use Rattle.page_store.specs.DeviceFile.{FileStep, DeviceFile}
 use Rattle.page_store.specs.Images.{Durable, after_step, durable, MayLeave, Leaves}
+use Rattle.page_store.specs.ShelfState.{ShelfState, unit_file}
 
 -- each image at each moment, from this one through these steps, has P
 abbrev pub AtEachMoment : (Option (List ℕ) → Type 0) → Durable → List FileStep → Type 0
@@ -30,3 +31,7 @@ BeginsBefore old c = (d : Option (List ℕ)) × Leaves old d × Begins c d
 -- at each moment each image begins as some image from before
 abbrev pub Quiet : DeviceFile → DeviceFile → Type 0
 Quiet old new = Throughout (BeginsBefore old) old new
+
+-- the file of the unit went quietly
+abbrev pub IsQuiet : ℕ → ShelfState → ShelfState → Type 0
+IsQuiet unit old new = Quiet (unit_file old unit) (unit_file new unit)

@@ -1,7 +1,7 @@
 -- What the layers above use of pages that were written.
 use Rattle.std.specs.Prelude.{◌≡◌, ℕ, zero, suc, ◌<◌, ◌≤◌, List, ◌++◌, length, take, drop}
-use Rattle.page_store.specs.DeviceFile.{DeviceFile, content}
-use Rattle.page_store.specs.Pages.{page_of_bytes, PageWritten, PageFails, HoldsPages}
+use Rattle.page_store.specs.DeviceFile.{DeviceFile, content, page_of_bytes}
+use Rattle.page_store.specs.Pages.{PageWritten, PageFails, HoldsPages}
 
 -- page n of these bytes once this page is written, which leaves the first byte of the file
 abbrev pub page_over : ℕ → List ℕ → List ℕ → List ℕ

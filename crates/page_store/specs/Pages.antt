@@ -1,13 +1,9 @@
 -- The pages of a file.
 use Rattle.std.specs.Prelude.{◌≡◌, ℕ, zero, suc, ◌+◌, ◌-◌, ◌*◌, ◌/◌, ◌^◌, min, max, Bool, IsTrue, List}
-use Rattle.std.specs.Prelude.{length, take, drop}
+use Rattle.std.specs.Prelude.{length, drop}
 use Rattle.page_store.specs.DeviceFile.{DeviceFile, content, IsWithin}
 use Rattle.page_store.specs.Calls.{WrittenAt, WriteFails}
 use Rattle.page_store.specs.declared.store.Store.{Store}
-
--- page n of these bytes
-abbrev pub page_of_bytes : List ℕ → ℕ → List ℕ
-page_of_bytes bytes n = take 4096 (drop (4096 * n) bytes)
 
 -- how many pages these bytes fill, as far as 32 bits can count
 abbrev pub whole_pages : List ℕ → ℕ

@@ -4,7 +4,6 @@ use Rattle.std.specs.Prelude.{get_or, Result, IsErrOf, OnErr}
 use Rattle.io_state.specs.declared.fault.Fault.{Fault}
 use Rattle.io_state.specs.declared.fault.Fault.TheVariants.{Device, Memory}
 use Rattle.page_store.specs.DeviceFile.{DeviceFile}
-use Rattle.page_store.specs.Moments.{Quiet}
 
 pub record ShelfState : Type 0 where
   -- the name of each unit
@@ -54,10 +53,6 @@ pub record KeepsOthers (unit : ℕ) (old new : ShelfState) : Type 0 where
   pub names : new.names ≡ old.names
   pub others : (name : List ℕ) → ¬ (name ≡ unit_name old unit) → new.file name ≡ old.file name
   pub honest : IsTrue new.is_honest → IsTrue old.is_honest
-
--- the file of the unit went quietly
-abbrev pub IsQuiet : ℕ → ShelfState → ShelfState → Type 0
-IsQuiet unit old new = Quiet (unit_file old unit) (unit_file new unit)
 
 -- Device comes only where the count of faults rose, or stands at its greatest value; Memory is the
 -- only other fault

@@ -1,13 +1,13 @@
 -- What the calls on the pages of a unit ensure.
 use Rattle.std.specs.Prelude.{◌≡◌, ℕ, ◌+◌, max, List, IsTrue, Result, IfOk, OnOk, OnErr}
 use Rattle.io_state.specs.declared.fault.Fault.{Fault}
-use Rattle.page_store.specs.DeviceFile.{DeviceFile, content}
+use Rattle.page_store.specs.DeviceFile.{DeviceFile, content, page_of_bytes}
 use Rattle.page_store.specs.Gate.{AllRefused, ClosedOrRefused, SameOrRefused, Opens, with_gate}
 use Rattle.page_store.specs.Images.{IsSettled}
-use Rattle.page_store.specs.Moments.{Throughout}
-use Rattle.page_store.specs.Pages.{page_of_bytes, PageWritten, PageFails, HoldsPages, IsStoreOf}
+use Rattle.page_store.specs.Moments.{Throughout, IsQuiet}
+use Rattle.page_store.specs.Pages.{PageWritten, PageFails, HoldsPages, IsStoreOf}
 use Rattle.page_store.specs.ShelfState.{ShelfState, unit_file, WhereHonest, FileGoes, OnlyAnswers}
-use Rattle.page_store.specs.ShelfState.{ChangesOnly, KeepsOthers, IsQuiet, FaultHasCause}
+use Rattle.page_store.specs.ShelfState.{ChangesOnly, KeepsOthers, FaultHasCause}
 use Rattle.page_store.specs.ShelfCalls.{GoesHonestly, StaysOrRefuses, ChangesUnitFile}
 use Rattle.page_store.specs.declared.store.Store.{Store}
 

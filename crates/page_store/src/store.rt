@@ -1,7 +1,8 @@
 //! The pages of one unit of a shelf.
 ghost use Rattle.std.specs.Prelude.{◌≡◌, ◌+◌, ◌-◌, ◌/◌, ◌^◌, ◌<◌, ◌≤◌, min, OnOk};
 ghost use Rattle.page_store.specs.DeviceFile.{IsWithin, IsThere, IsNoShorter};
-ghost use Rattle.page_store.specs.ShelfState.{HasUnit, IsQuiet};
+ghost use Rattle.page_store.specs.ShelfState.{HasUnit};
+ghost use Rattle.page_store.specs.Moments.{IsQuiet};
 ghost use Rattle.page_store.specs.Pages.{ReachesPage, HoldsPages, offset_of};
 ghost use Rattle.page_store.specs.ShelfCalls.{HasUnitWith, GoesFromHonest, ReopensGate};
 ghost use Rattle.page_store.specs.StoreCalls.{MakesStore, OpensStore, ClosesUnit, ReadsPage, ChangesPage};

@@ -10,7 +10,8 @@ use Rattle.tree_node.specs.declared.shape.Shape.{Shape}
 use Rattle.tree_node.specs.Leaf.{leaf_entries}
 use Rattle.tree_node.specs.Inner.{separators, children}
 use Rattle.node_balance.specs.Fill.{least_entries}
-use Rattle.tree_search.specs.Tree.{TreeOf, page_of, pages_of, entries_of, size_of, Bound, IsRow, IsOrdered, IsHalfFull, IsRooted}
+use Rattle.tree_search.specs.Tree.{TreeOf, page_of, pages_of, entries_of, Bound, IsRow, IsOrdered}
+use Rattle.tree_search.specs.Calls.{size_of, IsHalfFull, IsRooted}
 use Rattle.tree_search.specs.Stored.{Holds}
 use Rattle.page_marks.specs.Marks.{Marks, marked_in}
 use Rattle.page_marks.specs.PageList.{pages_in}

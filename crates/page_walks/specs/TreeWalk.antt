@@ -10,10 +10,10 @@ use Rattle.tree_node.specs.Leaf.{IsLeaf, leaf_entries}
 use Rattle.tree_node.specs.Inner.{IsInner, separators}
 use Rattle.node_balance.specs.Fill.{least_entries}
 use Rattle.bplus_tree.specs.declared.tree.Tree.{Tree}
-use Rattle.tree_search.specs.Tree.{TreeOf, page_of, pages_of, entries_of, size_of, Bound, IsHalfFull}
+use Rattle.tree_search.specs.Tree.{TreeOf, page_of, pages_of, entries_of, Bound}
+use Rattle.tree_search.specs.Calls.{size_of, IsHalfFull, IsTree}
 use Rattle.tree_search.specs.Tree.{IsOrdered}
 use Rattle.tree_search.specs.Stored.{Holds}
-use Rattle.tree_search.specs.Calls.{IsTree}
 use Rattle.bplus_tree.specs.Standing.{TreeStands}
 use Rattle.bplus_tree.specs.Fields.{tree_shape}
 use Rattle.page_marks.specs.Marks.{Marks, marked_in}

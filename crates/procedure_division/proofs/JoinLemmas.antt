@@ -14,7 +14,8 @@ use Rattle.deck_words.proofs.RuleLemmas.{Lawful}
 use Rattle.deck_words.proofs.RepeatLemmas.{first_turn, no_first_turn, next_turn, turn_takes_a_word, refused_turn, no_turn}
 use Rattle.procedure_division.specs.declared.statement.Statement.{Statement}
 use Rattle.procedure_division.specs.Following.{followed}
-use Rattle.procedure_division.specs.StatementRules.{joined_statements, behind_statements, some_of}
+use Rattle.procedure_division.specs.StatementRules.{joined_statements, some_of}
+use Rattle.procedure_division.specs.Reading.{behind_statements}
 
 -- what is read, behind these statements
 abbrev put_behind : List Statement → Option (List Statement × List Word) → Option (List Statement × List Word)

@@ -6,3 +6,4 @@ pub mod Procedure
 pub mod Parts
 pub mod Allowed
 pub mod OnlyAllowed
+pub mod Reading

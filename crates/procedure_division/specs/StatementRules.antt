@@ -2,8 +2,8 @@
 -- X3.23-1985, Indexed I-O module, general formats of the CLOSE, OPEN, READ and START statements;
 -- Nucleus module, that of the MOVE statement. Which phrases there are is ours.
 use Rattle.std.specs.Prelude.{ℕ, Bool, true, false, not, ◌||◌, List, [], ◌∷◌, ◌++◌, if◌then◌else◌, codes}
-use Rattle.std.specs.Prelude.{Option, Some, None, option_and_then, option_map, Result, bytes_eq, position}
-use Rattle.std.specs.Prelude.{is_some, slice_get}
+use Rattle.std.specs.Prelude.{Option, Some, None, option_and_then, option_map, bytes_eq, position, is_some}
+use Rattle.std.specs.Prelude.{slice_get}
 use Rattle.std.specs.List.{list_all}
 use Rattle.std.specs.Option.{option_map_or}
 use Rattle.std.specs.Char.{is_ascii_digit}
@@ -22,9 +22,6 @@ use Rattle.record_layout.specs.Schema.{key_at, key_of_field, key_led_by}
 use Rattle.deck_words.specs.Rule.{Rule, optional, some_onto, where_it_gives}
 use Rattle.deck_words.specs.Notation.{the, name, literal, ◌▸◌, ◌◂◌, ◌⊗◌, ◌∣◌, ◌<$>◌, is_word_there, may}
 use Rattle.deck_words.specs.Operand.{sign, digits}
-use Rattle.deck_words.specs.Reading.{Reads}
-use Rattle.deck_words.specs.declared.fault.Refusal.{Refusal}
-use Rattle.deck_words.specs.Word.{Word}
 use Rattle.io_state.specs.declared.statement.FileStatement.{FileStatement}
 use Rattle.io_state.specs.declared.statement.FileStatement.TheVariants.{Open, Close, ReadNext, Read, Start}
 use Rattle.procedure_division.specs.declared.statement.Statement.{Statement}
@@ -37,15 +34,6 @@ use Rattle.procedure_division.specs.Names.{Names, item_in, item_named, access_at
 -- these statements, and then those
 abbrev pub joined_statements : List Statement → List Statement → Option (List Statement)
 joined_statements before statements = Some (before ++ statements)
-
--- the statements of a rule, behind others
-abbrev pub behind_statements : List Statement → Rule (List Statement) → Rule (List Statement)
-behind_statements before rule = where_it_gives (joined_statements before) rule
-
--- the statements that are read are added to those before
-abbrev pub AddsStatements : Rule (List Statement) → List Statement → List Word
-    → Result (List Statement) Refusal → List Word → Type 0
-AddsStatements rule before words result rest = Reads ((behind_statements before rule).reads words) result rest
 
 -- the statements of a rule, once or more
 abbrev pub some_of : Rule (List Statement) → Rule (List Statement)

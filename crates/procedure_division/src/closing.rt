@@ -3,7 +3,8 @@ ghost use Rattle.std.specs.Prelude.{Some, codes};
 ghost use Rattle.deck_words.specs.Reading.{Reads};
 ghost use Rattle.deck_words.specs.Notation.{the, may, is_word_there, ◌▸◌};
 ghost use Rattle.deck_words.specs.Rule.{optional, where_it_gives};
-ghost use Rattle.procedure_division.specs.StatementRules.{AddsStatements, some_of, close_statement};
+ghost use Rattle.procedure_division.specs.Reading.{AddsStatements};
+ghost use Rattle.procedure_division.specs.StatementRules.{some_of, close_statement};
 ghost use Rattle.procedure_division.specs.Parts.{file_to_close};
 
 use crate::file_name::file;

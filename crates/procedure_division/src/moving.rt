@@ -6,7 +6,8 @@ ghost use Rattle.record_layout.specs.Area.{is_taken_by, sent};
 ghost use Rattle.record_layout.specs.declared.area.Source.TheVariants.{Text, Digits};
 ghost use Rattle.deck_words.specs.Notation.{the, ◌▸◌};
 ghost use Rattle.deck_words.specs.Reading.{Reads};
-ghost use Rattle.procedure_division.specs.StatementRules.{AddsStatements, some_of, figure, source};
+ghost use Rattle.procedure_division.specs.Reading.{AddsStatements};
+ghost use Rattle.procedure_division.specs.StatementRules.{some_of, figure, source};
 ghost use Rattle.procedure_division.specs.StatementRules.{receiver, move_statement};
 
 use crate::names::Names;

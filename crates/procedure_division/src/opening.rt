@@ -2,7 +2,8 @@
 ghost use Rattle.std.specs.Prelude.{◌≡◌};
 ghost use Rattle.deck_words.specs.Class.{begins};
 ghost use Rattle.procedure_division.specs.Names.{Names};
-ghost use Rattle.procedure_division.specs.StatementRules.{AddsStatements, some_of, open_statement};
+ghost use Rattle.procedure_division.specs.Reading.{AddsStatements};
+ghost use Rattle.procedure_division.specs.StatementRules.{some_of, open_statement};
 ghost use Rattle.procedure_division.specs.Parts.{name_to_open, opening};
 
 use crate::file_name::file;

@@ -7,7 +7,8 @@ ghost use Rattle.deck_words.specs.Notation.{the, may, is_word_there, ◌▸◌};
 ghost use Rattle.deck_words.specs.Reading.{Reads};
 ghost use Rattle.deck_words.specs.Rule.{optional, where_it_gives};
 ghost use Rattle.procedure_division.specs.Following.{where_allowed};
-ghost use Rattle.procedure_division.specs.StatementRules.{AddsStatements, key, read_operand};
+ghost use Rattle.procedure_division.specs.Reading.{AddsStatements};
+ghost use Rattle.procedure_division.specs.StatementRules.{key, read_operand};
 ghost use Rattle.procedure_division.specs.StatementRules.{read_statement};
 
 use crate::file_name::file;

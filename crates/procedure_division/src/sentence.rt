@@ -5,7 +5,8 @@ ghost use Rattle.deck_words.specs.Notation.{the, name, period, ◌▸◌, ◌◂
 ghost use Rattle.deck_words.specs.Reading.{Reads};
 ghost use Rattle.deck_words.specs.Rule.{where_it_gives};
 ghost use Rattle.procedure_division.specs.Names.{Names};
-ghost use Rattle.procedure_division.specs.StatementRules.{AddsStatements, some_of};
+ghost use Rattle.procedure_division.specs.Reading.{AddsStatements};
+ghost use Rattle.procedure_division.specs.StatementRules.{some_of};
 ghost use Rattle.procedure_division.specs.declared.statement.Statement.TheVariants.{StopRun};
 ghost use Rattle.procedure_division.specs.Procedure.{statement};
 ghost use Rattle.procedure_division.specs.Parts.{paragraph_or_sentence};

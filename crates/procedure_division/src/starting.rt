@@ -7,7 +7,8 @@ ghost use Rattle.deck_words.specs.Operand.{sign};
 ghost use Rattle.deck_words.specs.Reading.{Reads};
 ghost use Rattle.deck_words.specs.Rule.{optional, where_it_gives};
 ghost use Rattle.procedure_division.specs.Names.{access_at};
-ghost use Rattle.procedure_division.specs.StatementRules.{AddsStatements, one_statement, file};
+ghost use Rattle.procedure_division.specs.Reading.{AddsStatements};
+ghost use Rattle.procedure_division.specs.StatementRules.{one_statement, file};
 ghost use Rattle.procedure_division.specs.StatementRules.{relation, led_key, start_by};
 ghost use Rattle.procedure_division.specs.StatementRules.{start_statement};
 

@@ -3,7 +3,8 @@ ghost use Rattle.std.specs.Prelude.{Some, codes};
 ghost use Rattle.io_state.specs.declared.statement.FileStatement.TheVariants.{Write, Rewrite, Delete};
 ghost use Rattle.deck_words.specs.Notation.{the, may, ◌▸◌, ◌◂◌};
 ghost use Rattle.deck_words.specs.Rule.{where_it_gives};
-ghost use Rattle.procedure_division.specs.StatementRules.{AddsStatements, one_statement, file};
+ghost use Rattle.procedure_division.specs.Reading.{AddsStatements};
+ghost use Rattle.procedure_division.specs.StatementRules.{one_statement, file};
 ghost use Rattle.procedure_division.specs.Parts.{record_named};
 
 use crate::file_name::{file, record_name};

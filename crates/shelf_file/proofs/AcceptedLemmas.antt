@@ -3,8 +3,7 @@ use Rattle.std.proofs.Common.{◌≡◌, ℕ, ◌*◌, List, [], length, nat_lt,
 use Rattle.std.proofs.lemmas.Bool.{cases_Bool, le-ltb}
 use Rattle.indexed_file.specs.File.{File}
 use Rattle.indexed_file.specs.World.{Closed}
-use Rattle.page_store.specs.DeviceFile.{DeviceFile, content, bytes_or_none}
-use Rattle.page_store.specs.Pages.{page_of_bytes}
+use Rattle.page_store.specs.DeviceFile.{DeviceFile, content, bytes_or_none, page_of_bytes}
 use Rattle.file_header.specs.declared.header.Header.{Header}
 use Rattle.file_header.specs.Reading.{header_in}
 use Rattle.file_header.specs.Bounds.{IsHeader}

@@ -4,8 +4,7 @@ use Rattle.std.proofs.lemmas.Bool.{and_parts, and_from, ltb-true, lt-ltb}
 use Rattle.indexed_file.specs.File.{File}
 use Rattle.page_store.specs.Gate.{IsRefused}
 use Rattle.page_store.proofs.MomentLemmas.{throughout_weaker}
-use Rattle.page_store.specs.DeviceFile.{DeviceFile, content}
-use Rattle.page_store.specs.Pages.{page_of_bytes}
+use Rattle.page_store.specs.DeviceFile.{DeviceFile, content, page_of_bytes}
 use Rattle.page_store.specs.ShelfState.{ShelfState}
 use Rattle.page_cache.specs.Cached.{store_of, cached_pages_of}
 use Rattle.page_alloc.specs.Chain.{chain, used}

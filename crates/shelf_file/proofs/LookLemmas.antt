@@ -1,8 +1,8 @@
 -- What a look finds, from what the shelf answers.
 use Rattle.std.proofs.Common.{◌≡◌, ℕ, ◌≤◌, ◌*◌, Bool, true, false, List, length, take, drop, nat_lt, inl, inr, Option, Some, None, is_some, refl, ap, ◌∙◌, subst, arith}
 use Rattle.std.proofs.lemmas.Bool.{le-ltb, ltb-false, cases_Bool}
-use Rattle.page_store.specs.DeviceFile.{DeviceFile, bytes_or_none}
-use Rattle.page_store.specs.Pages.{page_of_bytes, HoldsPages}
+use Rattle.page_store.specs.DeviceFile.{DeviceFile, bytes_or_none, page_of_bytes}
+use Rattle.page_store.specs.Pages.{HoldsPages}
 use Rattle.page_store.specs.ShelfState.{ShelfState, OnlyAnswers, unit_file}
 use Rattle.file_header.specs.declared.header.Header.{Header}
 use Rattle.file_header.specs.Reading.{header_in}

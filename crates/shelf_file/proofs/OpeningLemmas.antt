@@ -1,7 +1,6 @@
 -- The pages of a file that was opened by its header are those of the file.
 use Rattle.std.proofs.Common.{◌≡◌, ℕ, ltb, ◌&&◌, true, [], if◌then◌else◌, ◌∙◌, ap}
-use Rattle.page_store.specs.DeviceFile.{content}
-use Rattle.page_store.specs.Pages.{page_of_bytes}
+use Rattle.page_store.specs.DeviceFile.{content, page_of_bytes}
 use Rattle.page_store.specs.ShelfState.{ShelfState, unit_file}
 use Rattle.page_cache.specs.Cached.{store_of, cached_pages_of, is_counted_page}
 use Rattle.page_alloc.specs.declared.paged_file.PagedFile.{PagedFile}

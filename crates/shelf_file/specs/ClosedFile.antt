@@ -3,10 +3,10 @@ use Rattle.std.specs.Prelude.{◌≡◌, ℕ, ◌*◌, ◌≤◌, List, length, 
 use Rattle.record_layout.specs.Schema.{Schema}
 use Rattle.indexed_file.specs.File.{File}
 use Rattle.pages.specs.PageMap.{PageMap}
-use Rattle.page_store.specs.Pages.{page_of_bytes}
+use Rattle.page_store.specs.DeviceFile.{page_of_bytes}
 use Rattle.page_alloc.specs.Chain.{chain, used}
 use Rattle.file_header.specs.declared.header.Header.{Header}
-use Rattle.file_header.specs.Reading.{IsFirstPage}
+use Rattle.file_header.specs.FirstPage.{IsFirstPage}
 use Rattle.open_file.specs.Closed.{StandsClosed}
 
 -- the first page is that of a file which was closed with this header, and all pages that it counts

@@ -1,7 +1,7 @@
 -- What a look finds of the bytes of a file, and what they read as.
 use Rattle.std.specs.Prelude.{ℕ, ◌*◌, List, length, nat_lt, Option, None, Some, if◌then◌else◌}
 use Rattle.indexed_file.specs.World.{Named, Absent, Closed, Unsound}
-use Rattle.page_store.specs.Pages.{page_of_bytes}
+use Rattle.page_store.specs.DeviceFile.{page_of_bytes}
 use Rattle.file_header.specs.declared.header.Header.{Header}
 use Rattle.file_header.specs.Reading.{header_in}
 use Rattle.shelf_file.specs.ClosedFile.{live_in}

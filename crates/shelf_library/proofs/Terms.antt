@@ -23,11 +23,10 @@ pub use Rattle.indexed_file.specs.declared.answer.Seen.{Seen}
 pub use Rattle.page_store.proofs.MomentLemmas.{throughout_none, throughout_weaker}
 pub use Rattle.page_store.proofs.OpenLemmas.{refused_open}
 pub use Rattle.page_store.proofs.ShelfLemmas.{same_place}
-pub use Rattle.page_store.specs.DeviceFile.{DeviceFile, bytes_or_none, content}
+pub use Rattle.page_store.specs.DeviceFile.{DeviceFile, bytes_or_none, content, page_of_bytes}
 pub use Rattle.page_store.specs.Gate.{AllOpen, SameOrRefused, WasOrRefused}
 pub use Rattle.page_store.specs.Images.{Leaves}
 pub use Rattle.page_store.specs.Moments.{Throughout}
-pub use Rattle.page_store.specs.Pages.{page_of_bytes}
 pub use Rattle.page_store.specs.ShelfState.{KeepsOthers, ShelfState, unit_file, unit_name}
 pub use Rattle.page_store.specs.declared.shelf.Shelf.{Ghosts}
 pub use Rattle.page_alloc.specs.Joining.{FaultsRose, pages_counted, pages_free}

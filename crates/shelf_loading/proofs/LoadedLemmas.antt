@@ -10,7 +10,8 @@ use Rattle.shelf_library.specs.Truth.{IsShownTruly}
 use Rattle.shelf_library.specs.Units.{world_of}
 use Rattle.shelf_library.specs.WorldLaws.{named_anywhere}
 use Rattle.shelf_library.specs.Crashes.{IsSoundImage}
-use Rattle.shelf_run.specs.Files.{files_of, reads_of, Represents}
+use Rattle.shelf_run.specs.Soundness.{files_of}
+use Rattle.shelf_run.specs.Files.{reads_of, Represents}
 use Rattle.shelf_run.specs.ShelfRun.{shown_of_state}
 use Rattle.shelf_run.proofs.FilesLemmas.{world_at_first, named_is, sound_of, shown_truly, represents_sound}
 use Rattle.shelf_run.proofs.RunLemmas.{stays_sound}

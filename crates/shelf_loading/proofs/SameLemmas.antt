@@ -10,7 +10,7 @@ use Rattle.page_store.proofs.MomentLemmas.{throughout_none}
 use Rattle.shelf_file.specs.Named.{named_of}
 use Rattle.shelf_library.specs.Crashes.{IsSoundImage, MayReadAs}
 use Rattle.shelf_library.specs.MomentLaws.{EachRead}
-use Rattle.shelf_run.specs.Files.{AllSound}
+use Rattle.shelf_run.specs.Soundness.{AllSound}
 use Rattle.shelf_run.specs.ShelfRun.{LeavesFiles}
 use Rattle.record_loading.specs.Loading.{Listing}
 use Rattle.record_loading.specs.declared.end.Load.TheVariants.{New}

@@ -8,7 +8,8 @@ use Rattle.record_layout.specs.Schema.{Schema}
 use Rattle.indexed_file.specs.World.{Named, Absent, named_in}
 use Rattle.page_store.specs.ShelfState.{ShelfState}
 use Rattle.verbs.specs.Connector.{FileState, closed_connector}
-use Rattle.shelf_run.specs.Files.{files_of, reads_of, Represents, AllSound, AreSoundThroughout}
+use Rattle.shelf_run.specs.Soundness.{files_of, AllSound, AreSoundThroughout}
+use Rattle.shelf_run.specs.Files.{reads_of, Represents}
 use Rattle.shelf_run.specs.ShelfRun.{LeavesFiles, StaysSound}
 use Rattle.record_loading.specs.Loading.{Listing, Loads, mode_of}
 use Rattle.record_loading.specs.declared.end.Load.{Load}

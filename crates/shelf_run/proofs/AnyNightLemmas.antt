@@ -4,13 +4,14 @@ use Rattle.std.proofs.lemmas.List.Elements.{All-nil, All-cons, All-head, All-tai
 use Rattle.page_store.specs.Moments.{Throughout}
 use Rattle.page_store.specs.ShelfState.{ShelfState}
 use Rattle.page_store.proofs.MomentLemmas.{throughout_none}
-use Rattle.file_control.specs.Described.{file_names}
+use Rattle.file_control.specs.Description.{file_names}
 use Rattle.deck_reader.specs.declared.deck.Deck.{Deck}
 use Rattle.deck_reader.specs.Deck.{IsDeck}
 use Rattle.shelf_file.specs.Named.{named_of}
 use Rattle.shelf_library.specs.MomentLaws.{found_such}
 use Rattle.shelf_library.specs.Crashes.{IsSoundImage}
-use Rattle.shelf_run.specs.Files.{reads_of, AllSound, AreImagesSound, AreSoundThroughout}
+use Rattle.shelf_run.specs.Files.{reads_of}
+use Rattle.shelf_run.specs.Soundness.{AllSound, AreImagesSound, AreSoundThroughout}
 use Rattle.shelf_run.specs.ShelfRun.{LeavesFiles}
 use Rattle.shelf_run.specs.AnyNights.{AnyNight, NightHasEnded, WasBrokenOff, IsNight, FollowAnyhow, StartsSound, AnyNights}
 use Rattle.shelf_run.proofs.FilesLemmas.{represents_sound}

@@ -6,10 +6,9 @@ use Rattle.indexed_file.specs.World.{Named, Absent, Closed, Unsound, named_in}
 use Rattle.indexed_file.proofs.TestLemmas.{either}
 use Rattle.record_layout.specs.Schema.{Schema}
 use Rattle.file_header.specs.Reading.{header_in}
-use Rattle.page_store.specs.Pages.{page_of_bytes}
-use Rattle.page_store.specs.DeviceFile.{DeviceFile, bytes_or_none}
+use Rattle.page_store.specs.DeviceFile.{page_of_bytes, DeviceFile, bytes_or_none}
 use Rattle.page_store.specs.ShelfState.{ShelfState}
-use Rattle.file_control.specs.Described.{file_names}
+use Rattle.file_control.specs.Description.{file_names}
 use Rattle.deck_reader.specs.declared.deck.Deck.{Deck}
 use Rattle.file_header.specs.declared.header.Header.{Header}
 use Rattle.shelf_file.specs.declared.look.Look.{Look}
@@ -22,7 +21,8 @@ use Rattle.shelf_library.specs.Units.{world_of}
 use Rattle.shelf_library.specs.WorldLaws.{named_anywhere}
 use Rattle.shelf_library.specs.declared.held.Held.{Held}
 use Rattle.shelf_library.specs.Crashes.{IsSoundImage}
-use Rattle.shelf_run.specs.Files.{files_of, Represents}
+use Rattle.shelf_run.specs.Soundness.{files_of}
+use Rattle.shelf_run.specs.Files.{Represents}
 
 -- ---- what names stand for
 

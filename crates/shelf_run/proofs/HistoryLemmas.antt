@@ -2,12 +2,12 @@
 use Rattle.std.proofs.Common.{◌≡◌, ℕ, List, [], ◌∷◌, Option, sym, subst}
 use Rattle.std.proofs.lemmas.List.Elements.{All-head, All-tail, All-weaker}
 use Rattle.indexed_file.specs.World.{World, named_in}
-use Rattle.file_control.specs.Described.{file_names}
+use Rattle.file_control.specs.Description.{file_names}
 use Rattle.deck_reader.specs.declared.deck.Deck.{Deck}
 use Rattle.deck_reader.specs.Deck.{IsDeck}
 use Rattle.shelf_run.specs.Files.{reads_of, Represents, AreIn}
 use Rattle.shelf_run.specs.Histories.{Night, IsCleanNight, decks_of, CleanNights, NightsFromNothing, no_files}
-use Rattle.shelf_run.specs.WorldAfter.{world_after}
+use Rattle.shelf_run.specs.ExactRun.{world_after}
 use Rattle.shelf_run.proofs.WorldLemmas.{RunsFrom}
 
 -- no bytes are two decks

@@ -21,7 +21,7 @@ use Rattle.deck_runner.proofs.RunLaws.{lines_of}
 use Rattle.deck_runner.specs.Line.{Line}
 use Rattle.shelf_run.specs.Histories.{no_files, transcripts}
 use Rattle.shelf_run.specs.NightRows.{Watched, watched_before, trace_at}
-use Rattle.shelf_run.specs.WorldAfter.{world_after}
+use Rattle.shelf_run.specs.ExactRun.{world_after}
 
 abbrev layout : List Placed
 layout =

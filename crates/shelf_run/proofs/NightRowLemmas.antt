@@ -9,7 +9,7 @@ use Rattle.indexed_file.proofs.ImageLemmas.{each_weaker, each_then}
 use Rattle.page_store.specs.Images.{Leaves}
 use Rattle.page_store.specs.ShelfState.{ShelfState}
 use Rattle.page_store.proofs.MomentLemmas.{throughout_none}
-use Rattle.file_control.specs.Described.{file_names}
+use Rattle.file_control.specs.Description.{file_names}
 use Rattle.procedure_division.specs.declared.statement.Statement.{Statement}
 use Rattle.procedure_division.specs.declared.statement.Statement.TheVariants.{Perform, Move, MoveLength, StopRun}
 use Rattle.deck_reader.specs.declared.deck.Deck.{Deck}

@@ -4,10 +4,11 @@ use Rattle.std.proofs.lemmas.List.Elements.{All-head, All-tail, All-weaker}
 use Rattle.indexed_file.specs.World.{World, Named, named_in}
 use Rattle.indexed_file.proofs.ImageLemmas.{each_now}
 use Rattle.page_store.specs.ShelfState.{ShelfState}
-use Rattle.file_control.specs.Described.{file_names}
+use Rattle.file_control.specs.Description.{file_names}
 use Rattle.deck_reader.specs.declared.deck.Deck.{Deck}
 use Rattle.deck_reader.specs.Deck.{IsDeck}
-use Rattle.deck_runner.specs.Beginning.{run_before, IsAttached}
+use Rattle.deck_runner.specs.ExactRun.{run_before}
+use Rattle.deck_runner.specs.Beginning.{IsAttached}
 use Rattle.deck_runner.specs.Line.{Line}
 use Rattle.deck_runner.specs.NoFalseFile.{Judged, first_ledger, IsOfLedger, AreWithinLedgers, RunsWhole, RunsInPart}
 use Rattle.deck_runner.proofs.FalseFileRuns.{begun_stands}
@@ -16,7 +17,8 @@ use Rattle.shelf_library.specs.MomentLaws.{joins, ends}
 use Rattle.shelf_library.specs.State.{LibraryState}
 use Rattle.shelf_library.specs.declared.held.Held.{Held}
 use Rattle.shelf_run.specs.AnyNights.{AnyNight, NightHasEnded, WasBrokenOff, CameToNothing}
-use Rattle.shelf_run.specs.Files.{files_of, reads_of, Represents}
+use Rattle.shelf_run.specs.Soundness.{files_of}
+use Rattle.shelf_run.specs.Files.{reads_of, Represents}
 use Rattle.shelf_run.specs.NightRows.{Allowed, MayEndSo, MayBreakOffSo, WasTold, MayBeCutSo, MayBeCutBehind, Ending, Ended, BrokenOff, Nothing, Cut, CutBehind, EndedNight, HasEnding, crash_from, FollowAsEnded, allowed_behind, IsIn, as_in, StartAllowed, NightsByRows}
 use Rattle.shelf_run.specs.NightPoints.{RunsThrough, HasEndedThrough}
 use Rattle.shelf_run.specs.ShelfRun.{shown_of_state, over_shelf}

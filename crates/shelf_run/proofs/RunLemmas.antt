@@ -5,11 +5,12 @@ use Rattle.indexed_file.specs.Calls.{Keeps}
 use Rattle.indexed_file.specs.World.{World, named_in}
 use Rattle.page_store.specs.Images.{Leaves}
 use Rattle.page_store.proofs.MomentLemmas.{throughout_none}
-use Rattle.file_control.specs.Described.{file_names}
+use Rattle.file_control.specs.Description.{file_names}
 use Rattle.deck_reader.specs.declared.deck.Deck.{Deck}
 use Rattle.deck_runner.specs.declared.run_end.RunEnd.{RunEnd}
-use Rattle.deck_runner.specs.Beginning.{SameElsewhere, WhereFilesAreTrue, IsUntouched, run_before}
-use Rattle.deck_runner.specs.DeckRun.{OfDeck, RunsExactly}
+use Rattle.deck_runner.specs.Beginning.{SameElsewhere, WhereFilesAreTrue, IsUntouched}
+use Rattle.deck_runner.specs.ExactRun.{run_before, RunsExactly}
+use Rattle.deck_runner.specs.DeckRun.{OfDeck}
 use Rattle.deck_runner.specs.Line.{Line}
 use Rattle.deck_runner.specs.NoFalseFile.{Judged, DeckRuns, RunsWhole, RunsInPart, IsSafeRun, IsSafeBrokenOff}
 use Rattle.deck_runner.specs.RunEnd.{TellsLines, ToldInPart}
@@ -20,8 +21,10 @@ use Rattle.shelf_library.specs.Units.{world_of}
 use Rattle.shelf_library.specs.WorldLaws.{named_anywhere}
 use Rattle.shelf_library.specs.declared.held.Held.{Held}
 use Rattle.shelf_library.specs.Crashes.{IsSoundImage}
-use Rattle.shelf_run.specs.Files.{files_of, reads_of, Represents, AllSound, AreImagesSound, AreSoundThroughout}
-use Rattle.shelf_run.specs.ShelfRun.{OnShelf, IsExactRun, RunsBy, Runs, BreaksOff, LeavesFiles, StaysSound, shown_of_state, over_shelf}
+use Rattle.shelf_run.specs.Soundness.{files_of, AllSound, AreImagesSound, AreSoundThroughout}
+use Rattle.shelf_run.specs.Files.{reads_of, Represents}
+use Rattle.shelf_run.specs.ShelfRun.{OnShelf, RunsBy, Runs, BreaksOff, LeavesFiles, StaysSound, shown_of_state, over_shelf}
+use Rattle.shelf_run.specs.ExactRun.{IsExactRun}
 use Rattle.shelf_run.proofs.FilesLemmas.{AreSound, world_at_first, named_same, sound_of, sound_if_closed, shown_truly}
 use Rattle.shelf_run.proofs.WorldLemmas.{runs_from}
 use Rattle.shelf_run.proofs.StatesLemmas.{stays, runs_whole, runs_in_part}

@@ -7,7 +7,7 @@ use Rattle.io_state.specs.declared.statement.FileStatement.{FileStatement}
 use Rattle.procedure_division.specs.declared.statement.Statement.{Statement}
 use Rattle.procedure_division.specs.declared.statement.Statement.TheVariants.{Perform, Move, MoveLength, StopRun}
 use Rattle.deck_reader.specs.declared.deck.Deck.{Deck}
-use Rattle.deck_runner.specs.Beginning.{run_before}
+use Rattle.deck_runner.specs.ExactRun.{run_before}
 use Rattle.deck_runner.specs.Line.{Line}
 use Rattle.deck_runner.specs.NoFalseFile.{Judged, first_ledger, IsSafeStretch, IsSafeRun, IsSafeBrokenOff, DeckRuns, RunsWhole, RunsInPart}
 use Rattle.deck_runner.specs.Run.{RunFile, Run}

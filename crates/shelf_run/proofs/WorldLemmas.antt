@@ -11,19 +11,19 @@ use Rattle.record_layout.specs.Layout.{length_of}
 use Rattle.indexed_file.proofs.TestLemmas.{either}
 use Rattle.indexed_file.specs.World.{World, Named, named_in}
 use Rattle.page_store.specs.ShelfState.{ShelfState}
-use Rattle.file_control.specs.Description.{FileDesc}
-use Rattle.file_control.specs.Described.{file_names}
+use Rattle.file_control.specs.Description.{FileDesc, file_names}
 use Rattle.verbs.specs.Connector.{closed_connector}
 use Rattle.deck_reader.specs.declared.deck.Deck.{Deck}
 use Rattle.deck_runner.specs.declared.run_end.RunEnd.{RunEnd}
-use Rattle.deck_runner.specs.Beginning.{run_before, file_before, SameElsewhere, is_elsewhere}
-use Rattle.deck_runner.specs.DeckRun.{RunsExactly}
+use Rattle.deck_runner.specs.ExactRun.{run_before, file_before, RunsExactly}
+use Rattle.deck_runner.specs.Beginning.{SameElsewhere, is_elsewhere}
 use Rattle.deck_runner.specs.Line.{transcript_line}
 use Rattle.deck_runner.specs.Run.{RunFile, Run, lines_of_run, after_run}
 use Rattle.deck_runner.specs.RunEnd.{end_of}
 use Rattle.shelf_library.specs.Crashes.{IsSoundImage}
-use Rattle.shelf_run.specs.Files.{files_of, reads_of, Represents, AreIn}
-use Rattle.shelf_run.specs.WorldAfter.{left_of, world_after}
+use Rattle.shelf_run.specs.Soundness.{files_of}
+use Rattle.shelf_run.specs.Files.{reads_of, Represents, AreIn}
+use Rattle.shelf_run.specs.ExactRun.{left_of, world_after}
 use Rattle.shelf_run.proofs.FilesLemmas.{named_is, sound_of, represents_sound}
 
 -- ---- the start of a run

@@ -8,7 +8,8 @@ use Rattle.deck_reader.specs.Deck.{IsDeck}
 use Rattle.deck_runner.specs.RunEnd.{TellsLines, ToldInPart}
 use Rattle.deck_runner.specs.declared.run_end.RunEnd.{RunEnd}
 use Rattle.shelf_library.specs.Crashes.{MayBeFound}
-use Rattle.shelf_run.specs.Files.{reads_of, Represents, AllSound, AreImagesSound}
+use Rattle.shelf_run.specs.Files.{reads_of, Represents}
+use Rattle.shelf_run.specs.Soundness.{AllSound, AreImagesSound}
 use Rattle.shelf_run.specs.ShelfRun.{OnShelf, Runs, BreaksOff, LeavesFiles}
 
 -- a run of some bytes, with its limits: the shelf before it and after it, how often that had

@@ -3,16 +3,15 @@ use Rattle.std.specs.Prelude.{◌≡◌, ℕ, true, List, [], ◌∷◌, map, fl
 use Rattle.std.specs.Io.KnownBytes.{Appends}
 use Rattle.indexed_file.specs.World.{World, Absent, named_in}
 use Rattle.page_store.specs.ShelfState.{ShelfState}
-use Rattle.file_control.specs.Described.{file_names}
+use Rattle.file_control.specs.Description.{file_names}
 use Rattle.deck_reader.specs.declared.deck.Deck.{Deck}
 use Rattle.deck_reader.specs.Deck.{IsDeck}
-use Rattle.deck_runner.specs.Beginning.{run_before}
+use Rattle.deck_runner.specs.ExactRun.{run_before}
 use Rattle.deck_runner.specs.Line.{transcript_line}
 use Rattle.deck_runner.specs.Run.{lines_of_run}
 use Rattle.deck_runner.specs.declared.run_end.RunEnd.{RunEnd}
 use Rattle.shelf_run.specs.Files.{FileReads, reads_of, Represents, AreIn}
-use Rattle.shelf_run.specs.ShelfRun.{IsExactRun}
-use Rattle.shelf_run.specs.WorldAfter.{world_after}
+use Rattle.shelf_run.specs.ExactRun.{IsExactRun, world_after}
 
 -- ---- what the definitions give
 

@@ -1,10 +1,8 @@
 -- What a run of a deck leaves of a shelf. All of this is ours.
-use Rattle.std.specs.Prelude.{◌≡◌, ◌≢◌, ◌≤◌, ℕ, true, List, [], All, Option, IsTrue}
+use Rattle.std.specs.Prelude.{◌≡◌, ◌≢◌, ◌≤◌, ℕ, true, List, [], Option, IsTrue}
 use Rattle.indexed_file.specs.Images.{Stays}
 use Rattle.indexed_file.specs.Shown.{Shown}
-use Rattle.indexed_file.specs.World.{World, named_in}
 use Rattle.page_store.specs.ShelfState.{ShelfState}
-use Rattle.file_control.specs.Described.{file_names}
 use Rattle.deck_reader.specs.declared.deck.Deck.{Deck}
 use Rattle.deck_reader.specs.Deck.{IsDeck}
 use Rattle.deck_runner.specs.Beginning.{SameElsewhere, SameNames}
@@ -12,15 +10,15 @@ use Rattle.deck_runner.specs.declared.run_end.RunEnd.{RunEnd}
 use Rattle.deck_runner.specs.declared.fault.RunFault.{RunFault}
 use Rattle.deck_runner.specs.declared.fault.RunFault.TheVariants.{Output}
 use Rattle.deck_runner.specs.RunEnd.{TellsLines, ToldInPart}
-use Rattle.deck_runner.specs.DeckRun.{RunsExactly, IsRefusedDeck}
+use Rattle.deck_runner.specs.DeckRun.{IsRefusedDeck}
 use Rattle.deck_runner.specs.Line.{Line}
 use Rattle.deck_runner.specs.NoFalseFile.{RunsWhole, RunsInPart}
 use Rattle.shelf_library.specs.Crashes.{IsSoundImage, moments_on}
 use Rattle.shelf_library.specs.Library.{shown_by}
 use Rattle.shelf_library.specs.State.{LibraryState, AreLimited}
 use Rattle.shelf_library.specs.declared.held.Held.{Held}
-use Rattle.shelf_run.specs.Files.{Represents, files_of, AreImagesSound, AreSoundThroughout}
-use Rattle.shelf_run.specs.WorldAfter.{world_after}
+use Rattle.shelf_run.specs.Soundness.{files_of, AreImagesSound, AreSoundThroughout}
+use Rattle.shelf_run.specs.ExactRun.{IsExactRun}
 
 -- the bytes are a deck, this is so of it, and no name but those of its files is touched
 abbrev pub OnShelf : List ℕ → (old new : ShelfState) → (Deck → Type 0) → Type 0
@@ -60,18 +58,6 @@ Runs = RunsBy (RunsWhole shown_of_state)
 abbrev pub BreaksOff : (limit frames : ℕ) → (old new : ShelfState) → (faults faults_after : ℕ) → Deck
     → List Line → Type 0
 BreaksOff = RunsBy (RunsInPart shown_of_state)
-
--- the deck that the bytes are was run as the definitions say, from each world that its files
--- represented, where the shelf has not lied by then: the transcript, and what is told of it; and each
--- file that represented what its name stands for in that world represents what it stands for after it
-abbrev pub IsExactRun : List ℕ → (old new : ShelfState) → (written written_after : Option (List ℕ))
-    → RunEnd → Type 0
-IsExactRun bytes old new written written_after end =
-    (deck : Deck) × IsDeck bytes deck × (IsTrue new.is_honest → (world : World)
-    → All (λ name. Represents (old.file name).seen (named_in world name)) (file_names deck.files)
-    → RunsExactly written written_after world (world_after world deck) end deck
-    × ((name : List ℕ) → Represents (old.file name).seen (named_in world name)
-    → Represents (new.file name).seen (named_in (world_after world deck) name)))
 
 -- nothing has come of a call: every name stands for what it stood for, and what a crash may leave
 -- is as it was

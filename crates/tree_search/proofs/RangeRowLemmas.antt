@@ -18,9 +18,9 @@ use Rattle.node_balance.specs.Fill.{least_entries}
 use Rattle.tree_search.specs.declared.range.First.{First}
 use Rattle.tree_search.specs.declared.range.Fork.{Fork}
 use Rattle.tree_search.specs.declared.range.Sight.{Sight}
-use Rattle.tree_search.specs.Tree.{TreeOf, page_of, entries_of, size_of, Bound, IsRow, IsOrdered, IsHalfFull}
+use Rattle.tree_search.specs.Tree.{TreeOf, page_of, entries_of, Bound, IsRow, IsOrdered}
+use Rattle.tree_search.specs.Calls.{size_of, IsHalfFull, IsTree}
 use Rattle.tree_search.specs.Stored.{Holds, IsLeafAt, IsInnerAt}
-use Rattle.tree_search.specs.Calls.{IsTree}
 use Rattle.tree_search.specs.Search.{FirstChild, filled}
 use Rattle.tree_search.specs.Range.{is_within, IsFirst, within, Begin, only, IsBeyond, IsSight, Sights, SightsInLeaf, Fronts, FrontsInLeaf, HasFront, IsFork, Forks, Seen, Settled, Open, first_with, told_first, told_seen, alone}
 use Rattle.tree_search.proofs.RowLemmas.{each_left, each_right}

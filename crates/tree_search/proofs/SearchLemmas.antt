@@ -17,10 +17,10 @@ use Rattle.tree_node.proofs.InnerLemmas.{inner_room_some}
 use Rattle.pages.specs.PageMap.{PageMap}
 use Rattle.tree_search.specs.declared.descent.StepDown.{StepDown}
 use Rattle.node_balance.specs.Fill.{least_entries}
-use Rattle.tree_search.specs.Tree.{TreeOf, page_of, entries_of, size_of, IsHalfFull, Bound, IsRow, IsOrdered}
+use Rattle.tree_search.specs.Tree.{TreeOf, page_of, entries_of, Bound, IsRow, IsOrdered}
+use Rattle.tree_search.specs.Calls.{size_of, IsHalfFull, entry_of, first_from, first_after, last_of, IsTree}
 use Rattle.tree_search.specs.Stored.{Holds, IsLeafAt, IsInnerAt}
 use Rattle.pages.specs.Answer.{IsAnswer}
-use Rattle.tree_search.specs.Calls.{entry_of, first_from, first_after, last_of, IsTree}
 use Rattle.tree_search.specs.Descent.{Steps}
 use Rattle.tree_search.specs.Search.{first_of, head_of, IsFound, Finds, FindsFilled, FindsInLeaf, FindsFirstEntry, FirstOfLeaf, FirstChild, FindsLast, LastOfLeaf, LastChild, IsLeafFor, LeadsToLeaf, FillsFromLeaf, filled}
 use Rattle.tree_search.proofs.FindLemmas.{find_behind}

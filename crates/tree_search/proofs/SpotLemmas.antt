@@ -12,7 +12,8 @@ use Rattle.pages.specs.Owners.{IsOutside}
 use Rattle.tree_search.specs.declared.descent.StepDown.{StepDown}
 use Rattle.tree_search.specs.declared.spot.Spot.{Spot}
 use Rattle.node_balance.specs.Fill.{least_entries}
-use Rattle.tree_search.specs.Tree.{TreeOf, page_of, entries_of, pages_of, size_of, IsHalfFull}
+use Rattle.tree_search.specs.Tree.{TreeOf, page_of, entries_of, pages_of}
+use Rattle.tree_search.specs.Calls.{size_of, IsHalfFull}
 use Rattle.tree_search.specs.Stored.{Holds, IsLeafAt, IsInnerAt}
 use Rattle.tree_search.specs.Descent.{Steps}
 use Rattle.tree_search.specs.Search.{first_of, head_of, IsFound, IsPlace, FirstChild}

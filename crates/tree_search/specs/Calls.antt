@@ -1,11 +1,29 @@
 -- What look-ups ensure.
-use Rattle.std.specs.Prelude.{◌≡◌, ℕ, not, List, [], ◌∷◌, Some, None, take, find, bytes_eq, Option}
+use Rattle.std.specs.Prelude.{◌≡◌, ℕ, not, List, [], ◌∷◌, Some, None, take, find, bytes_eq, Option, zero, suc}
+use Rattle.std.specs.Prelude.{◌≤◌, length, ⊤}
 use Rattle.tree_node.specs.declared.shape.Shape.{Shape}
 use Rattle.tree_node.specs.Order.{less}
 use Rattle.pages.specs.PageMap.{PageMap}
-use Rattle.tree_search.specs.Tree.{TreeOf, page_of, pages_of, Bound, IsOrdered, IsHalfFull, IsRooted}
+use Rattle.tree_search.specs.Tree.{TreeOf, page_of, pages_of, Bound, IsOrdered}
 use Rattle.tree_search.specs.Stored.{Holds}
 use Rattle.pages.specs.Owners.{AreApart}
+use Rattle.page_bytes.specs.Each.{Each}
+use Rattle.node_balance.specs.Fill.{least_entries}
+
+-- how many entries the root has, or separators
+abbrev pub size_of : (h : ℕ) → TreeOf h → ℕ
+size_of zero t = length t.1
+size_of (suc h) t = length t.1
+
+-- every node below the root is at least half full
+abbrev pub IsHalfFull : Shape → (h : ℕ) → TreeOf h → Type 0
+IsHalfFull shape zero t = ⊤
+IsHalfFull shape (suc h) t = Each (λ c. (least_entries shape h ≤ size_of h c) × IsHalfFull shape h c) t.2
+
+-- and an inner root has a separator
+abbrev pub IsRooted : (h : ℕ) → TreeOf h → Type 0
+IsRooted zero t = ⊤
+IsRooted (suc h) t = 1 ≤ length t.1
 
 -- the entry of this key, where there is one
 abbrev pub entry_of : ℕ → List ℕ → List (List ℕ) → Option (List ℕ)

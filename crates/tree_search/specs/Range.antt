@@ -16,9 +16,9 @@ use Rattle.tree_search.specs.declared.range.First.{First}
 use Rattle.tree_search.specs.declared.range.Sight.{Sight}
 use Rattle.tree_search.specs.declared.range.Sight.TheVariants.{Answered, Unended}
 use Rattle.tree_search.specs.declared.range.Fork.{Fork}
-use Rattle.tree_search.specs.Tree.{TreeOf, entries_of, size_of, Bound, Below, IsHalfFull}
+use Rattle.tree_search.specs.Tree.{TreeOf, entries_of, Bound, Below}
+use Rattle.tree_search.specs.Calls.{size_of, IsHalfFull, first_after, IsTree}
 use Rattle.tree_search.specs.Stored.{IsLeafAt, IsInnerAt}
-use Rattle.tree_search.specs.Calls.{first_after, IsTree}
 use Rattle.tree_search.specs.Descent.{IsDescentStep}
 use Rattle.tree_search.specs.Search.{filled}
 

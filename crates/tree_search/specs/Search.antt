@@ -6,10 +6,10 @@ use Rattle.io_state.specs.declared.fault.Fault.{Fault}
 use Rattle.tree_node.specs.declared.shape.Shape.{Shape}
 use Rattle.tree_node.specs.Order.{Ascends, IsRank, IsRankAfter}
 use Rattle.pages.specs.PageMap.{PageMap}
-use Rattle.tree_search.specs.Tree.{TreeOf, page_of, entries_of, size_of, Bound, IsHalfFull}
+use Rattle.tree_search.specs.Tree.{TreeOf, page_of, entries_of, Bound}
+use Rattle.tree_search.specs.Calls.{size_of, IsHalfFull, IsTree, entry_of, first_from, first_after, last_of}
 use Rattle.tree_search.specs.Stored.{Holds, IsLeafAt, IsInnerAt, WhereRising}
 use Rattle.pages.specs.Answer.{IsAnswer}
-use Rattle.tree_search.specs.Calls.{IsTree, entry_of, first_from, first_after, last_of}
 
 -- the first entry at a key or behind it; where `past`, the first one behind it
 abbrev pub first_of : Bool → ℕ → List ℕ → List (List ℕ) → Option (List ℕ)

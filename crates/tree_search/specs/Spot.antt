@@ -7,10 +7,10 @@ use Rattle.tree_node.specs.declared.shape.Shape.{Shape}
 use Rattle.pages.specs.PageMap.{PageMap}
 use Rattle.pages.specs.Owners.{IsOutside}
 use Rattle.tree_search.specs.declared.spot.Spot.{Spot}
-use Rattle.tree_search.specs.Tree.{TreeOf, page_of, entries_of, pages_of, size_of, Bound, IsHalfFull}
+use Rattle.tree_search.specs.Tree.{TreeOf, page_of, entries_of, pages_of, Bound}
+use Rattle.tree_search.specs.Calls.{size_of, IsHalfFull, IsTree}
 use Rattle.tree_search.specs.Stored.{Holds, IsLeafAt}
 use Rattle.pages.specs.Answer.{IsAnswer}
-use Rattle.tree_search.specs.Calls.{IsTree}
 
 -- the entry stands in this leaf, where the spot says
 pub record IsInLeaf (leaf : ℕ) (entries : List (List ℕ)) (spot : Spot) (entry : List ℕ) : Type 0 where

@@ -1,10 +1,8 @@
 -- A B+ tree as a value: its pages by their numbers, the entries of its leaves and the separators
 -- between children.
-use Rattle.std.specs.Prelude.{◌≡◌, ℕ, zero, suc, ◌≤◌, List, [], ◌∷◌, length, take, flat_map, Option, Some}
-use Rattle.std.specs.Prelude.{None, true, false, ⊤}
-use Rattle.tree_node.specs.declared.shape.Shape.{Shape}
+use Rattle.std.specs.Prelude.{◌≡◌, ℕ, zero, suc, List, [], ◌∷◌, take, flat_map, Option, Some, None, true}
+use Rattle.std.specs.Prelude.{false, ⊤}
 use Rattle.page_bytes.specs.Each.{Each}
-use Rattle.node_balance.specs.Fill.{least_entries}
 use Rattle.tree_node.specs.Order.{less, Ascends}
 
 -- A tree with `h` levels above its leaves: its page, and in a leaf the entries, else the separators
@@ -31,21 +29,6 @@ pages_of (suc h) t = t.0 ∷ flat_map (pages_of h) t.2
 abbrev pub pages_below : (h : ℕ) → TreeOf h → List ℕ
 pages_below zero t = []
 pages_below (suc h) t = flat_map (pages_of h) t.2
-
--- how many entries the root has, or separators
-abbrev pub size_of : (h : ℕ) → TreeOf h → ℕ
-size_of zero t = length t.1
-size_of (suc h) t = length t.1
-
--- every node below the root is at least half full
-abbrev pub IsHalfFull : Shape → (h : ℕ) → TreeOf h → Type 0
-IsHalfFull shape zero t = ⊤
-IsHalfFull shape (suc h) t = Each (λ c. (least_entries shape h ≤ size_of h c) × IsHalfFull shape h c) t.2
-
--- and an inner root has a separator
-abbrev pub IsRooted : (h : ℕ) → TreeOf h → Type 0
-IsRooted zero t = ⊤
-IsRooted (suc h) t = 1 ≤ length t.1
 
 -- a bound of keys, where there is one
 abbrev pub Bound : Type 0

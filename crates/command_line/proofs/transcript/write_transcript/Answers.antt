@@ -3,7 +3,8 @@ use Rattle.std.proofs.lemmas.Result.{IfOk-at_ok, IfErr-at_err}
 use Rattle.std.specs.NonZero.{non_zero_usize_get}
 use Rattle.deck_runner.specs.RunEnd.{TellsLines, ToldInPart}
 use Rattle.page_store.specs.ShelfState.{ShelfState}
-use Rattle.shelf_run.specs.ShelfRun.{OnShelf, IsExactRun, Runs, BreaksOff}
+use Rattle.shelf_run.specs.ShelfRun.{OnShelf, Runs, BreaksOff}
+use Rattle.shelf_run.specs.ExactRun.{IsExactRun}
 use Rattle.command_line.specs.Folder.{folder_at_first, folder_after}
 use Rattle.command_outcomes.specs.Told.{told_as}
 use Rattle.command_outcomes.proofs.ToldLemmas.{line_refused, no_deck}

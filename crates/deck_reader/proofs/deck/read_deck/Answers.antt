@@ -1,6 +1,7 @@
 use Rattle.std.proofs.Common.{subst}
 use Rattle.std.proofs.lemmas.Result.{err_from_is_err_and, IfOk-weaker, IfErr-weaker}
-use Rattle.deck_reader.specs.Deck.{Spells, CanBeRun}
+use Rattle.deck_reader.specs.Deck.{Spells}
+use Rattle.deck_reader.specs.CanBeRun.{CanBeRun}
 use Rattle.deck_reader.proofs.deck.read_deck.Goals as goal
 
 pub returns-in_err-words-clause-none : goal.returns-in_err-words-clause-none

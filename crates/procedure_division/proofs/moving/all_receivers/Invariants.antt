@@ -1,7 +1,8 @@
 use Rattle.std.proofs.Common.{◌≡◌, length}
 use Rattle.deck_words.specs.Rule.{onto}
 use Rattle.record_layout.specs.Area.{sent}
-use Rattle.procedure_division.specs.StatementRules.{joined_statements, behind_statements, some_of, receiver}
+use Rattle.procedure_division.specs.StatementRules.{joined_statements, some_of, receiver}
+use Rattle.procedure_division.specs.Reading.{behind_statements}
 use Rattle.procedure_division.proofs.moving.all_receivers.Given as goal
 
 -- the reading goes on from the statements so far

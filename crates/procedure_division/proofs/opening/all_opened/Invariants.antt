@@ -1,6 +1,7 @@
 use Rattle.std.proofs.Common.{◌≡◌, length}
 use Rattle.deck_words.specs.Rule.{onto}
-use Rattle.procedure_division.specs.StatementRules.{joined_statements, behind_statements, some_of}
+use Rattle.procedure_division.specs.StatementRules.{joined_statements, some_of}
+use Rattle.procedure_division.specs.Reading.{behind_statements}
 use Rattle.procedure_division.specs.Parts.{name_to_open}
 use Rattle.procedure_division.proofs.opening.all_opened.Given as goal
 

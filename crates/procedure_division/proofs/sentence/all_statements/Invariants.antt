@@ -1,7 +1,8 @@
 use Rattle.std.proofs.Common.{◌≡◌, length}
 use Rattle.deck_words.specs.Rule.{onto}
 use Rattle.procedure_division.specs.Procedure.{statement}
-use Rattle.procedure_division.specs.StatementRules.{joined_statements, behind_statements, some_of}
+use Rattle.procedure_division.specs.StatementRules.{joined_statements, some_of}
+use Rattle.procedure_division.specs.Reading.{behind_statements}
 use Rattle.procedure_division.proofs.sentence.all_statements.Given as goal
 
 -- the reading goes on from the statements so far

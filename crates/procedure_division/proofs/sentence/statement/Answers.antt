@@ -9,7 +9,8 @@ use Rattle.deck_words.specs.Word.{Word}
 use Rattle.deck_words.specs.declared.fault.Refusal.{Refusal}
 use Rattle.procedure_division.specs.declared.statement.Statement.{Statement}
 use Rattle.procedure_division.specs.Names.{Names}
-use Rattle.procedure_division.specs.StatementRules.{AddsStatements, joined_statements, open_statement, close_statement, read_statement, start_statement, move_statement}
+use Rattle.procedure_division.specs.Reading.{AddsStatements}
+use Rattle.procedure_division.specs.StatementRules.{joined_statements, open_statement, close_statement, read_statement, start_statement, move_statement}
 use Rattle.procedure_division.specs.Parts.{record_named}
 use Rattle.procedure_division.specs.Procedure.{statement}
 use Rattle.procedure_division.proofs.ProcedureLemmas.{write_statement, rewrite_statement, delete_statement, stop_statement, open_starts, close_starts, read_starts, start_starts, write_starts, rewrite_starts, delete_starts, move_starts}

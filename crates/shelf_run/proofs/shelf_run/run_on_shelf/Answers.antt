@@ -8,7 +8,8 @@ use Rattle.page_store.specs.Images.{Leaves}
 use Rattle.shelf_library.specs.Library.{shown_by}
 use Rattle.shelf_library.specs.State.{LibraryState, AreLimited}
 use Rattle.shelf_library.specs.declared.library.ShelfLibrary.{ShelfLibrary}
-use Rattle.shelf_run.specs.ShelfRun.{OnShelf, IsExactRun, BreaksOff, LeavesFiles, StaysSound, IsExactOn, HasRunOn, HasBrokenOffOn, IsRefusedOn, shown_of_state}
+use Rattle.shelf_run.specs.ShelfRun.{OnShelf, BreaksOff, LeavesFiles, StaysSound, IsExactOn, HasRunOn, HasBrokenOffOn, IsRefusedOn, shown_of_state}
+use Rattle.shelf_run.specs.ExactRun.{IsExactRun}
 use Rattle.shelf_run.proofs.RunLemmas as run
 use Rattle.shelf_run.proofs.shelf_run.run_on_shelf.Goals as goal
 use Rattle.shelf_run.proofs.shelf_run.run_on_shelf.Given as given

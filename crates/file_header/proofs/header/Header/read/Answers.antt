@@ -1,7 +1,8 @@
 use Rattle.std.proofs.Common.{IsTrue, refl, sym, subst, ◌∙◌}
 use Rattle.std.proofs.lemmas.Bool.{false≢true}
 use Rattle.file_header.specs.declared.header.Header.{Header}
-use Rattle.file_header.specs.Reading.{numbers_in, IsFirstPage}
+use Rattle.file_header.specs.Reading.{numbers_in}
+use Rattle.file_header.specs.FirstPage.{IsFirstPage}
 use Rattle.file_header.proofs.ReadLemmas.{header_in_none, no_first, first_read, accepted}
 use Rattle.file_header.proofs.header.Header.read.Goals as goal
 use Rattle.file_header.proofs.header.Header.read.Goals.{else-is_within-via-then-is_within+else-is_closed_in, else-is_within-via-else-is_within}

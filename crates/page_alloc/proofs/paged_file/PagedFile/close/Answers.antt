@@ -1,6 +1,7 @@
 use Rattle.std.proofs.Common.{◌≡◌, ◌∙◌, sym, subst, IsTrue}
 use Rattle.page_store.proofs.MomentLemmas.{quiet_then}
-use Rattle.page_store.specs.ShelfState.{unit_file, IsQuiet}
+use Rattle.page_store.specs.ShelfState.{unit_file}
+use Rattle.page_store.specs.Moments.{IsQuiet}
 use Rattle.page_cache.specs.Cached.{cached_pages_of, IsOver}
 use Rattle.page_alloc.specs.PagedFile.{unit_of_pages}
 use Rattle.page_alloc.proofs.OpenLemmas.{quiet_closes, all_closes, all_closed}

@@ -1,6 +1,7 @@
 use Rattle.std.proofs.Common.{rules, ◌≡◌, ◌≤◌, ◌∙◌, sym, ap, subst, arith, IsTrue, inr}
 use Rattle.page_store.proofs.OpenLemmas.{opened_open, open_kept, all_refused}
-use Rattle.page_store.specs.ShelfState.{HasUnit, unit_file, IsQuiet}
+use Rattle.page_store.specs.ShelfState.{HasUnit, unit_file}
+use Rattle.page_store.specs.Moments.{IsQuiet}
 use Rattle.page_store.specs.Gate.{AllOpen}
 use Rattle.page_alloc.proofs.OpenLemmas.{made_quietly}
 use Rattle.page_alloc.proofs.JoinLemmas.{at_err_where}

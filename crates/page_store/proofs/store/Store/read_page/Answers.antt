@@ -1,8 +1,7 @@
 use Rattle.std.proofs.Common.{rules, ◌≡◌, ◌∙◌, ◌*◌, ℕ, ap, List, Result, Ok, Err, OnOk, length, take, drop, arith}
-use Rattle.page_store.specs.DeviceFile.{DeviceFile, content}
+use Rattle.page_store.specs.DeviceFile.{DeviceFile, content, page_of_bytes}
 use Rattle.page_store.specs.Calls.{ReadsBytes}
 use Rattle.page_store.specs.ShelfState.{unit_file}
-use Rattle.page_store.specs.Pages.{page_of_bytes}
 use Rattle.page_store.proofs.store.Store.read_page.Goals as goal
 
 -- 4,096 bytes read at a page's place are the page
