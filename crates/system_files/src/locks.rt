@@ -2,16 +2,22 @@
 //! that is closed, and so with the process.
 
 use crate::calls::{MOST_INTERRUPTED, again, is_interrupted};
-use std::fs::{File, TryLockError};
+use std::fs::{self, File, TryLockError};
 use std::io;
+use std::os::unix::fs::MetadataExt;
+use std::rt::Files;
 
-/// A file that can be locked, as `File` is.
+/// An open file that can be locked, and that is known again by its name, as `File` is.
 pub trait LockFile {
     fn try_lock_shared(&self) -> Result<(), TryLockError>;
 
     fn try_lock(&self) -> Result<(), TryLockError>;
 
     fn unlock(&self) -> io::Result<()>;
+
+    /// Whether this path names this very file. It does not where another file is there, a link to
+    /// this one, or nothing. An error: the system does not tell.
+    fn is_named<R: Files>(&self, rt: &R, path: &str) -> io::Result<bool>;
 }
 
 impl LockFile for File {
@@ -25,6 +31,16 @@ impl LockFile for File {
 
     fn unlock(&self) -> io::Result<()> {
         File::unlock(self)
+    }
+
+    fn is_named<R: Files>(&self, rt: &R, path: &str) -> io::Result<bool> {
+        let named = match fs::symlink_metadata(rt, path) {
+            Ok(named) => named,
+            Err(error) if error.kind() == io::ErrorKind::NotFound => return Ok(false),
+            Err(error) => return Err(error),
+        };
+        let opened = File::metadata(self)?;
+        Ok(named.dev() == opened.dev() && named.ino() == opened.ino())
     }
 }
 

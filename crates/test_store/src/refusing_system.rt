@@ -109,6 +109,10 @@ impl<'a> LockFile for RefusingFile<'a> {
     fn unlock(&self) -> io::Result<()> {
         self.file.unlock()
     }
+
+    fn is_named<R: Files>(&self, rt: &R, path: &str) -> io::Result<bool> {
+        self.file.is_named(rt, path)
+    }
 }
 
 impl<'a> FileExt for RefusingFile<'a> {

@@ -7,6 +7,7 @@ use std::fs::{self, Metadata, OpenFile, TryLockError};
 use std::io;
 use std::os::unix::fs::FileExt;
 use std::process::Abort;
+use std::rt::Files;
 use system_files::{KeptFile, KeptFolder, LockFile};
 
 /// A file of which each call is interrupted so many times, and then moves at most three bytes.
@@ -51,6 +52,11 @@ impl LockFile for Interrupted {
 
     fn unlock(&self) -> io::Result<()> {
         self.pass()
+    }
+
+    fn is_named<R: Files>(&self, _rt: &R, _path: &str) -> io::Result<bool> {
+        self.pass()?;
+        Ok(true)
     }
 }
 
@@ -111,6 +117,10 @@ impl LockFile for Changing {
 
     fn unlock(&self) -> io::Result<()> {
         Ok(())
+    }
+
+    fn is_named<R: Files>(&self, _rt: &R, _path: &str) -> io::Result<bool> {
+        Ok(true)
     }
 }
 
