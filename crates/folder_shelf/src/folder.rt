@@ -7,11 +7,12 @@ ghost use Rattle.folder_shelf.specs.Events.{written, flushed, looked};
 ghost use Rattle.folder_shelf.specs.Noting.{NotesCall, NotesNothing};
 
 use crate::record::Record;
+use crate::unit::Unit;
 use io_state::{Fault, FileName};
 use std::alloc::Global;
 use std::os::unix::fs::FileExt;
 use std::rt::Files;
-use system_files::{KeptFile, KeptFolder, LockFile};
+use system_files::{Cause, KeptFile, KeptFolder, LockFile};
 
 /// The files of a folder, each kept open for the calls that follow, and locked: others may read it
 /// too until it is held.
@@ -19,9 +20,8 @@ use system_files::{KeptFile, KeptFolder, LockFile};
 pub(crate) struct Folder<R: Files + Drop> {
     rt: R,
     alloc: Global,
-    folder: KeptFolder,
-    // The file of each unit, once it was reached.
-    open: Vec<Option<KeptFile<R::File>>>,
+    folder: KeptFolder<R::File>,
+    units: Vec<Unit<R::File>>,
     pub(crate) calls: Record,
     ghost noted: { folder_path calls.events ≡ string_bytes folder.path } by { Prim.hlevel props },
 }
@@ -39,7 +39,7 @@ where
             rt,
             alloc,
             folder: KeptFolder::new(path),
-            open: Vec::new(alloc),
+            units: Vec::new(alloc),
             calls,
         }
     }
@@ -48,11 +48,11 @@ where
     pub(crate) fn close(&mut self, units: usize) -> Result<(), Fault>
         ensures { NotesNothing self.old.calls.events self.new.calls.events result }
     {
-        let mut open = Vec::new(self.alloc);
+        let mut closed = Vec::new(self.alloc);
         for _ in 0..units {
-            open.push(None).map_err(|_| Fault::Memory)?;
+            closed.push(Unit::new()).map_err(|_| Fault::Memory)?;
         }
-        self.open = open;
+        self.units = closed;
         Ok(())
     }
 
@@ -70,39 +70,47 @@ where
     fn reach(&mut self, unit: usize, name: &FileName) -> Result<(), Fault>
         ensures { NotesNothing self.old.calls.events self.new.calls.events result }
     {
-        if matches!(self.open.get(unit), Some(Some(_))) {
-            return Ok(());
+        match self.units.get(unit) {
+            Some(it) if it.is_open() => Ok(()),
+            _ => self.open_unit(unit, name),
         }
-        self.open_unit(unit, name)
     }
 
-    // Opens the unit's file, if it can be read. It is apart from `reach`, which each page that is read
-    // or written asks: a call of the system has a path of 4 KiB in its frame, filled at its entry.
+    // Opens the unit's file, if it can be read, and with it the folder. It is apart from `reach`, which
+    // each page that is read or written asks: a call of the system has a path of 4 KiB in its frame,
+    // filled at its entry.
     #[inline(never)]
     fn open_unit(&mut self, unit: usize, name: &FileName) -> Result<(), Fault>
         ensures { NotesNothing self.old.calls.events self.new.calls.events result }
     {
         let path = self.path_of(name)?;
-        if let Some(file) = system_files::open(&self.rt, path.as_str()) {
-            self.keep(unit, file);
-        }
+        let opened = system_files::open(&self.rt, path.as_str());
+        self.keep(unit, opened);
+        // A file is read without it: the first change asks for it again.
+        let _ = self.folder.reach(&self.rt);
         Ok(())
     }
 
-    fn keep(&mut self, unit: usize, file: KeptFile<R::File>)
+    // Keeps a file that was opened or made, or why it was not. Whether it was.
+    fn keep(&mut self, unit: usize, file: Result<KeptFile<R::File>, Cause>) -> bool
         ensures calls { self.new.calls.events ≡ self.old.calls.events }
     {
-        if let Some(open) = self.open.get_mut(unit) {
-            *open = Some(file);
+        match self.units.get_mut(unit) {
+            Some(it) => it.keep(file),
+            None => false,
         }
     }
 
-    /// Whether the file is there, if that was told.
-    pub(crate) fn look(&mut self, name: &FileName) -> Result<Option<bool>, Fault>
+    /// Whether the file is there, if that was told. A file that is kept and has its name no more is
+    /// let go, so that the next call is on the one that has it.
+    pub(crate) fn look(&mut self, unit: usize, name: &FileName) -> Result<Option<bool>, Fault>
         ensures { NotesCall looked name.now.bytes self.old.calls.events self.new.calls.events result }
     {
         let path = self.path_of(name)?;
-        let found = system_files::look(&self.rt, path.as_str());
+        let found = match self.units.get_mut(unit) {
+            Some(it) => it.look(&self.rt, path.as_str()),
+            None => None,
+        };
         self.calls.looked(name, found);
         Ok(found)
     }
@@ -112,13 +120,8 @@ where
         ensures { NotesCall made name.now.bytes self.old.calls.events self.new.calls.events result }
     {
         let path = self.path_of(name)?;
-        let done = match system_files::make(&self.rt, path.as_str()) {
-            Some(file) => {
-                self.keep(unit, file);
-                true
-            }
-            None => false,
-        };
+        let file = system_files::make(&self.rt, path.as_str(), &mut self.folder);
+        let done = self.keep(unit, file);
         self.calls.made(name, done);
         Ok(done)
     }
@@ -128,9 +131,9 @@ where
         ensures { NotesCall measured name.now.bytes self.old.calls.events self.new.calls.events result }
     {
         self.reach(unit, name)?;
-        let size = match self.open.get_mut(unit) {
-            Some(Some(open)) => open.measure(),
-            _ => None,
+        let size = match self.units.get_mut(unit) {
+            Some(it) => it.measure(),
+            None => None,
         };
         self.calls.measured(name, size);
         Ok(size)
@@ -148,9 +151,9 @@ where
             self.old.calls.events self.new.calls.events result }
     {
         self.reach(unit, name)?;
-        let done = match self.open.get_mut(unit) {
-            Some(Some(open)) => open.read(at, bytes),
-            _ => false,
+        let done = match self.units.get_mut(unit) {
+            Some(it) => it.read(at, bytes),
+            None => false,
         };
         self.calls.read(name, done, at, bytes);
         Ok(done)
@@ -162,21 +165,33 @@ where
         ensures { NotesCall held name.now.bytes self.old.calls.events self.new.calls.events result }
     {
         self.reach(unit, name)?;
-        let done = match self.open.get_mut(unit) {
-            Some(Some(open)) => open.hold(),
-            _ => false,
+        let done = match self.units.get(unit) {
+            Some(it) if it.is_held() => true,
+            _ => self.hold_unit(unit, name)?,
         };
         self.calls.held(name, done);
         Ok(done)
+    }
+
+    // Holds a file that was not held. It is apart from `hold` as `open_unit` is from `reach`.
+    #[inline(never)]
+    fn hold_unit(&mut self, unit: usize, name: &FileName) -> Result<bool, Fault>
+        ensures { NotesNothing self.old.calls.events self.new.calls.events result }
+    {
+        let path = self.path_of(name)?;
+        Ok(match self.units.get_mut(unit) {
+            Some(it) => it.hold(&self.rt, path.as_str(), &mut self.folder),
+            None => false,
+        })
     }
 
     /// Writes the bytes into the file that was just held. How many the system took.
     pub(crate) fn write(&mut self, unit: usize, at: u64, bytes: &[u8]) -> usize
         ensures { self.new.calls.events ≡ written at result bytes.now ∷ self.old.calls.events }
     {
-        let taken = match self.open.get(unit) {
-            Some(Some(open)) => open.write(at, bytes),
-            _ => 0,
+        let taken = match self.units.get_mut(unit) {
+            Some(it) => it.write(at, bytes),
+            None => 0,
         };
         self.calls.written(at, taken, bytes);
         taken
@@ -187,17 +202,26 @@ where
         ensures { NotesCall flushed name.now.bytes self.old.calls.events self.new.calls.events result }
     {
         self.reach(unit, name)?;
-        let done = self.sync(unit);
+        let done = self.sync(unit, name)?;
         self.calls.flushed(name, done);
         Ok(done)
     }
 
-    fn sync(&mut self, unit: usize) -> bool
-        ensures calls { self.new.calls.events ≡ self.old.calls.events }
+    fn sync(&mut self, unit: usize, name: &FileName) -> Result<bool, Fault>
+        ensures { NotesNothing self.old.calls.events self.new.calls.events result }
     {
-        match self.open.get_mut(unit) {
-            Some(Some(open)) => open.sync(&self.rt, &mut self.folder),
-            _ => false,
+        let path = self.path_of(name)?;
+        Ok(match self.units.get_mut(unit) {
+            Some(it) => it.sync(&self.rt, path.as_str(), &mut self.folder),
+            None => false,
+        })
+    }
+
+    /// Why a call on the unit's file first failed, if one did.
+    pub(crate) fn cause(&self, unit: usize) -> Option<Cause> {
+        match self.units.get(unit) {
+            Some(it) => it.cause(),
+            None => None,
         }
     }
 }

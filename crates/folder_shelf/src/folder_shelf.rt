@@ -15,7 +15,7 @@ use std::alloc::Global;
 use std::marker::PhantomData;
 use std::os::unix::fs::FileExt;
 use std::rt::Files;
-use system_files::LockFile;
+use system_files::{Cause, LockFile};
 
 /// The files of a folder. Each is kept open until the next `attach`.
 #[derive(Drop)]
@@ -46,6 +46,16 @@ where
             disk: PhantomData,
         }
     }
+
+    /// The names of the units.
+    pub fn units(&self) -> &[FileName] {
+        &self.units
+    }
+
+    /// Why a call on the unit's file first failed, since it was attached.
+    pub fn cause(&self, unit: usize) -> Option<Cause> {
+        self.folder.cause(unit)
+    }
 }
 
 impl<R: Files + Drop, D: Disk> Shelf for FolderShelf<R, D>
@@ -68,7 +78,7 @@ where
 
     fn exists(&mut self, unit: usize) -> Result<bool, Fault> {
         let name = name_of(&self.units, unit);
-        match self.folder.look(name)? {
+        match self.folder.look(unit, name)? {
             Some(there) => Ok(there),
             None => fail(&mut self.faults),
         }

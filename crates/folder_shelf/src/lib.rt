@@ -16,6 +16,7 @@ mod folder;
 mod folder_shelf;
 mod laws;
 mod record;
+mod unit;
 
 pub use disk::{Disk, EmptyDisk};
 pub use folder_shelf::FolderShelf;

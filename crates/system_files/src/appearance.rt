@@ -1,6 +1,7 @@
 //! What tells whether a file was changed.
 
 use crate::calls::{again, read};
+use crate::cause::Cause;
 use page_bytes::PAGE_SIZE;
 use std::fs::{Metadata, OpenFile};
 use std::os::unix::fs::{FileExt, MetadataExt};
@@ -17,14 +18,12 @@ pub(crate) struct Appearance {
 
 impl Appearance {
     /// What a file looks like, if the system tells it.
-    pub(crate) fn of<F: OpenFile + FileExt>(file: &F) -> Option<Appearance> {
-        let found = again(|| file.metadata()).ok()?;
+    pub(crate) fn of<F: OpenFile + FileExt>(file: &F) -> Result<Appearance, Cause> {
+        let found = again(|| file.metadata())?;
         let mut first_page = [0; PAGE_SIZE];
         let there = found.len().min(PAGE_SIZE as u64) as usize;
-        if !read(file, 0, &mut first_page[..there]) {
-            return None;
-        }
-        Some(Appearance {
+        read(file, 0, &mut first_page[..there])?;
+        Ok(Appearance {
             length: found.len(),
             modified: (found.mtime(), found.mtime_nsec()),
             changed: (found.ctime(), found.ctime_nsec()),

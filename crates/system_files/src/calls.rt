@@ -1,7 +1,8 @@
 //! Calls of the system on files, made again where a signal interrupts them.
-ghost use Rattle.std.specs.Prelude.{◌<◌, ◌≤◌, length, IfSome};
+ghost use Rattle.std.specs.Prelude.{◌<◌, ◌≤◌, length, IfOk};
 
-use std::fs::{self, OpenFile, OpenOptions};
+use crate::cause::Cause;
+use std::fs::{self, Metadata, OpenFile};
 use std::io;
 use std::os::unix::fs::FileExt;
 use std::rt::Files;
@@ -15,7 +16,7 @@ pub(crate) fn is_interrupted(error: &io::Error) -> bool {
 }
 
 /// Makes a call again while it is interrupted.
-pub(crate) fn again<T, F: Fn() -> io::Result<T> + Drop>(call: F) -> io::Result<T>
+pub(crate) fn again<T, F: Fn() -> io::Result<T> + Drop>(call: F) -> Result<T, Cause>
     requires { F.IsAlwaysCallable call }
 {
     for _ in 0..MOST_INTERRUPTED {
@@ -23,105 +24,121 @@ pub(crate) fn again<T, F: Fn() -> io::Result<T> + Drop>(call: F) -> io::Result<T
             Ok(answer) => return Ok(answer),
             Err(error) => {
                 if !is_interrupted(&error) {
-                    return Err(error);
+                    return Err(Cause::of(error));
                 }
             }
         }
     }
-    Err(io::ErrorKind::Interrupted.into())
+    Err(Cause::Other(io::ErrorKind::Interrupted))
 }
 
 /// Whether a file of this name is there, if the system tells it. A folder or a link is no file.
-pub fn look<R: Files>(rt: &R, path: &str) -> Option<bool> {
+pub fn look<R: Files>(rt: &R, path: &str) -> Result<bool, Cause> {
     match again(|| fs::symlink_metadata(rt, path)) {
-        Ok(found) => { if found.is_file() { Some(true) } else { None } }
-        Err(error) => {
-            if error.kind() == io::ErrorKind::NotFound {
-                Some(false)
-            } else {
-                None
-            }
+        Ok(found) => {
+            require_file(&found)?;
+            Ok(true)
         }
+        Err(Cause::Other(io::ErrorKind::NotFound)) => Ok(false),
+        Err(cause) => Err(cause),
     }
 }
 
-/// Brings the names in a folder to the disk.
-pub(crate) fn sync_folder<R: Files>(rt: &R, path: &str) -> bool {
-    match again(|| OpenOptions::new().read(true).open(rt, path)) {
-        Ok(folder) => sync(&folder),
-        Err(_) => false,
+/// Refuses what is no file.
+pub(crate) fn require_file(found: &Metadata) -> Result<(), Cause> {
+    if found.is_file() {
+        Ok(())
+    } else if found.is_symlink() {
+        Err(Cause::Link)
+    } else {
+        Err(Cause::NoFile)
     }
 }
 
-/// Brings a file to the disk.
-pub fn sync<F: OpenFile>(file: &F) -> bool {
-    again(|| file.sync_all()).is_ok()
+/// Brings a file or a folder to the disk.
+pub fn sync<F: OpenFile>(file: &F) -> Result<(), Cause> {
+    again(|| file.sync_all())
 }
 
 /// The number of bytes of a file.
-pub fn measure<F: OpenFile>(file: &F) -> Option<u64> {
-    match again(|| file.metadata()) {
-        Ok(found) => Some(found.len()),
-        Err(_) => None,
-    }
+pub fn measure<F: OpenFile>(file: &F) -> Result<u64, Cause> {
+    let found = again(|| file.metadata())?;
+    Ok(found.len())
 }
 
-/// Fills the bytes with those of the file from `at` on. Whether they all came.
-pub fn read<F: FileExt>(file: &F, at: u64, bytes: &mut [u8]) -> bool {
+/// Fills the bytes with those of the file from `at` on, if they all come.
+pub fn read<F: FileExt>(file: &F, at: u64, bytes: &mut [u8]) -> Result<(), Cause> {
     let mut done = 0;
     while done < bytes.len() {
         match read_part(file, at.saturating_add(done as u64), &mut bytes[done..]) {
-            Some(n) => done += n,
-            None => return false,
+            Ok(n) => done += n,
+            Err(cause) => return Err(cause),
         }
     }
-    true
+    Ok(())
 }
 
-fn read_part<F: FileExt>(file: &F, at: u64, bytes: &mut [u8]) -> Option<usize>
-    ensures some { IfSome result (λ n. 0 < n) }
-    ensures within { IfSome result (λ n. n ≤ length bytes.old) }
+fn read_part<F: FileExt>(file: &F, at: u64, bytes: &mut [u8]) -> Result<usize, Cause>
+    ensures some { IfOk result (λ n. 0 < n) }
+    ensures within { IfOk result (λ n. n ≤ length bytes.old) }
 {
     for _ in 0..MOST_INTERRUPTED {
         match file.read_at(bytes, at) {
-            Ok(n) => return if n > 0 { Some(n) } else { None },
+            Ok(0) => return Err(Cause::Other(io::ErrorKind::UnexpectedEof)),
+            Ok(n) => return Ok(n),
             Err(error) => {
                 if !is_interrupted(&error) {
-                    return None;
+                    return Err(Cause::of(error));
                 }
             }
         }
     }
-    None
+    Err(Cause::Other(io::ErrorKind::Interrupted))
 }
 
-/// Writes the bytes from `at` on, in as many parts as the system takes. How many of them it took.
-pub fn write<F: FileExt>(file: &F, at: u64, bytes: &[u8]) -> usize
-    ensures { result ≤ length bytes.now }
+/// How many bytes the system took, and why not all of them.
+#[derive(Clone, Copy)]
+pub struct Written {
+    pub taken: usize,
+    pub failed: Option<Cause>,
+}
+
+/// Writes the bytes from `at` on, in as many parts as the system takes.
+pub fn write<F: FileExt>(file: &F, at: u64, bytes: &[u8]) -> Written
+    ensures { result.taken ≤ length bytes.now }
 {
-    let mut done = 0;
-    while done < bytes.len() {
-        match write_part(file, at.saturating_add(done as u64), &bytes[done..]) {
-            Some(n) => done += n,
-            None => return done,
+    let mut taken = 0;
+    while taken < bytes.len() {
+        match write_part(file, at.saturating_add(taken as u64), &bytes[taken..]) {
+            Ok(n) => taken += n,
+            Err(cause) => {
+                return Written {
+                    taken,
+                    failed: Some(cause),
+                };
+            }
         }
     }
-    done
+    Written {
+        taken,
+        failed: None,
+    }
 }
 
-fn write_part<F: FileExt>(file: &F, at: u64, bytes: &[u8]) -> Option<usize>
-    ensures some { IfSome result (λ n. 0 < n) }
-    ensures within { IfSome result (λ n. n ≤ length bytes.now) }
+fn write_part<F: FileExt>(file: &F, at: u64, bytes: &[u8]) -> Result<usize, Cause>
+    ensures some { IfOk result (λ n. 0 < n) }
+    ensures within { IfOk result (λ n. n ≤ length bytes.now) }
 {
     for _ in 0..MOST_INTERRUPTED {
         match file.write_at(bytes, at) {
-            Ok(n) => return if n > 0 { Some(n) } else { None },
+            Ok(0) => return Err(Cause::Other(io::ErrorKind::WriteZero)),
+            Ok(n) => return Ok(n),
             Err(error) => {
                 if !is_interrupted(&error) {
-                    return None;
+                    return Err(Cause::of(error));
                 }
             }
         }
     }
-    None
+    Err(Cause::Other(io::ErrorKind::Interrupted))
 }

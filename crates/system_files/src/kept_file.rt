@@ -1,8 +1,10 @@
 //! A file that is kept open, and locked.
-ghost use Rattle.std.specs.Prelude.{◌≡◌, ◌≤◌, length};
+ghost use Rattle.std.specs.Prelude.{◌≡◌, ◌<◌, ◌≤◌, ◌⊎◌, length, IsTrue, OnOk};
+ghost use Rattle.system_files.specs.Held.{is_held, IsReady};
 
 use crate::appearance::Appearance;
-use crate::calls::{measure, read, sync, write};
+use crate::calls::{Written, again, measure, read, sync, write};
+use crate::cause::Cause;
 use crate::kept_folder::KeptFolder;
 use crate::locks::{LockFile, claim, release, share};
 use std::fs::OpenFile;
@@ -24,132 +26,205 @@ enum Lock {
 #[derive(Drop)]
 pub struct KeptFile<F: Drop> {
     file: F,
-    // The system opened it for writing too.
-    is_writable: bool,
+    // Why the system opened it for reading alone.
+    only_read: Option<Cause>,
     lock: Lock,
-    // The folder is known to have its name on the disk.
-    is_named: bool,
-    // A sync failed: the system may have dropped what was written, and the next sync may not tell.
-    is_lost: bool,
+    // The folder is to have its name on the disk, and is not known to.
+    is_unnamed: bool,
+    // Why a sync failed: the system may have dropped what was written, and the next sync may not tell.
+    lost: Option<Cause>,
 }
 
 impl<F: OpenFile + FileExt + LockFile + Drop> KeptFile<F> {
-    /// A file that was just opened, with the shared lock, if it was had. Its name may not be on the disk.
-    pub fn opened(file: F, is_writable: bool) -> Option<KeptFile<F>> {
+    /// A file that was there and was just opened, with the shared lock, if it is had.
+    pub fn opened(file: F, only_read: Option<Cause>) -> Result<KeptFile<F>, Cause> {
         let lock = shared(&file)?;
-        Some(KeptFile::locked(file, is_writable, lock))
-    }
-
-    /// A file that was just made, with the exclusive lock, if it was had. Another run may have had
-    /// it first, and gone: then it is not the one that was made.
-    pub fn made(file: F) -> Option<KeptFile<F>> {
-        if claim(&file) && measure(&file) == Some(0) {
-            Some(KeptFile::locked(file, true, Lock::Exclusive))
-        } else {
-            None
-        }
-    }
-
-    fn locked(file: F, is_writable: bool, lock: Lock) -> KeptFile<F> {
-        KeptFile {
+        Ok(KeptFile {
             file,
-            is_writable,
+            only_read,
             lock,
-            is_named: false,
-            is_lost: false,
-        }
+            is_unnamed: false,
+            lost: None,
+        })
     }
 
-    /// Makes the lock exclusive, before the file is changed. Whether it is, and the file still the
-    /// one that this run has read. Where the system gave the lock to another run no lock is left;
-    /// the next look at the file takes the shared one anew.
-    pub fn hold(&mut self) -> bool {
-        let is_had = match &self.lock {
-            Lock::Exclusive => return true,
-            Lock::Nothing => return false,
-            Lock::Shared(_) if !self.is_writable => return false,
-            Lock::Shared(seen) => claim(&self.file) && looks_like(&self.file, seen),
-        };
-        if is_had {
-            self.lock = Lock::Exclusive;
-        } else {
-            release(&self.file);
-            self.lock = Lock::Nothing;
+    /// A file that was just made, with the exclusive lock, if it is had. Another run may have had
+    /// it first, and gone: then it is not the one that was made.
+    pub fn made(file: F) -> Result<KeptFile<F>, Cause> {
+        if !claim(&file) {
+            return Err(Cause::InUse);
         }
-        is_had
+        if measure(&file)? != 0 {
+            return Err(Cause::Changed);
+        }
+        Ok(KeptFile {
+            file,
+            only_read: None,
+            lock: Lock::Exclusive,
+            is_unnamed: true,
+            lost: None,
+        })
     }
 
-    // Whether a lock is had. The shared one is taken anew where it is gone.
-    fn is_locked(&mut self) -> bool {
-        if matches!(self.lock, Lock::Nothing) {
-            match shared(&self.file) {
-                Some(lock) => self.lock = lock,
-                None => return false,
+    /// Whether the file may be changed: its lock is exclusive.
+    pub fn is_held(&self) -> bool
+        ensures { result ≡ is_held self.now }
+    {
+        matches!(self.lock, Lock::Exclusive)
+    }
+
+    /// Whether the path names this file, if the system tells it.
+    pub fn is_named<R: Files>(&self, rt: &R, path: &str) -> Result<bool, Cause> {
+        again(|| self.file.is_named(rt, path))
+    }
+
+    /// Makes the lock exclusive, before the file is changed. The folder is asked for before the
+    /// lock, so that all that a change needs is had before the first byte is written. It is refused
+    /// where the path does not name this file, or the file is not the one that this run has read.
+    /// Where the lock is refused none is left; the next look at the file takes the shared one anew.
+    pub fn hold<R: Files>(
+        &mut self,
+        rt: &R,
+        path: &str,
+        folder: &mut KeptFolder<R::File>,
+    ) -> Result<(), Cause>
+        ensures held { OnOk result (IsTrue (is_held self.new)) }
+        ensures folder { OnOk result (IsTrue (is_held self.old) ⊎ IsReady folder.new) }
+        ensures path { folder.new.path ≡ folder.old.path }
+    {
+        if self.is_held() {
+            return Ok(());
+        }
+        if let Some(cause) = self.only_read {
+            return Err(cause);
+        }
+        folder.reach(rt)?;
+        match self.claimed(rt, path) {
+            Ok(()) => {
+                self.lock = Lock::Exclusive;
+                Ok(())
+            }
+            Err(cause) => {
+                self.let_go();
+                Err(cause)
             }
         }
-        true
+    }
+
+    // Claims the lock of a file that is still what this run has read.
+    fn claimed<R: Files>(&self, rt: &R, path: &str) -> Result<(), Cause> {
+        let Lock::Shared(seen) = &self.lock else {
+            return Err(Cause::InUse);
+        };
+        if !claim(&self.file) {
+            return Err(Cause::InUse);
+        }
+        if Appearance::of(&self.file)? != *seen {
+            return Err(Cause::Changed);
+        }
+        self.require_name(rt, path)
+    }
+
+    fn let_go(&mut self) {
+        release(&self.file);
+        self.lock = Lock::Nothing;
+    }
+
+    // Refuses a path that does not name this file.
+    fn require_name<R: Files>(&self, rt: &R, path: &str) -> Result<(), Cause> {
+        if self.is_named(rt, path)? {
+            Ok(())
+        } else {
+            Err(Cause::Replaced)
+        }
+    }
+
+    // Sees that a lock is had. The shared one is taken anew where it is gone.
+    fn lock(&mut self) -> Result<(), Cause> {
+        if matches!(self.lock, Lock::Nothing) {
+            self.lock = shared(&self.file)?;
+        }
+        Ok(())
     }
 
     /// The number of bytes, if a lock is had and it is told.
-    pub fn measure(&mut self) -> Option<u64> {
-        if self.is_locked() {
-            measure(&self.file)
-        } else {
-            None
-        }
+    pub fn measure(&mut self) -> Result<u64, Cause> {
+        self.lock()?;
+        measure(&self.file)
     }
 
-    /// Fills the bytes with those of the file from `at` on. Whether a lock is had and they all came.
-    pub fn read(&mut self, at: u64, bytes: &mut [u8]) -> bool {
-        self.is_locked() && read(&self.file, at, bytes)
+    /// Fills the bytes with those of the file from `at` on, if a lock is had and they all come.
+    pub fn read(&mut self, at: u64, bytes: &mut [u8]) -> Result<(), Cause> {
+        self.lock()?;
+        read(&self.file, at, bytes)
     }
 
-    /// Writes the bytes from `at` on into a file that is held. How many of them the system took;
-    /// none where it is not held.
-    pub fn write(&self, at: u64, bytes: &[u8]) -> usize
-        ensures { result ≤ length bytes.now }
+    /// Writes the bytes from `at` on into a file that is held. The system takes none of them where
+    /// it is not held.
+    pub fn write(&self, at: u64, bytes: &[u8]) -> Written
+        ensures within { result.taken ≤ length bytes.now }
+        ensures held { 0 < result.taken → IsTrue (is_held self.now) }
     {
-        match self.lock {
-            Lock::Exclusive => write(&self.file, at, bytes),
-            _ => 0,
+        if !self.is_held() {
+            return Written {
+                taken: 0,
+                failed: Some(Cause::InUse),
+            };
         }
+        write(&self.file, at, bytes)
     }
 
-    /// Brings the file to the disk, and its name where that is not known to be there. Whether it
-    /// was done; never again once a sync failed.
-    pub fn sync<R: Files>(&mut self, rt: &R, folder: &mut KeptFolder) -> bool
+    /// Brings the file to the disk, and its name where this run made it. So it does with the name
+    /// of a file that is synced before it is held: the run that made it may have ended before its
+    /// name was there. It fails where the path does not name this file any more, and always once a
+    /// sync failed.
+    pub fn sync<R: Files>(
+        &mut self,
+        rt: &R,
+        path: &str,
+        folder: &mut KeptFolder<R::File>,
+    ) -> Result<(), Cause>
         ensures { folder.new.path ≡ folder.old.path }
     {
-        if self.is_lost || !self.is_locked() {
-            return false;
+        if let Some(cause) = self.lost {
+            return Err(cause);
         }
-        self.is_lost = !sync(&self.file);
-        if !self.is_lost && !self.is_named {
-            self.is_named = folder.sync(rt);
-            self.is_lost = !self.is_named;
+        self.lock()?;
+        self.is_unnamed |= !self.is_held();
+        let done = self.bring_to_disk(rt, path, folder);
+        if let Err(cause) = done {
+            self.lost = Some(cause);
         }
-        !self.is_lost
+        done
+    }
+
+    fn bring_to_disk<R: Files>(
+        &mut self,
+        rt: &R,
+        path: &str,
+        folder: &mut KeptFolder<R::File>,
+    ) -> Result<(), Cause>
+        ensures { folder.new.path ≡ folder.old.path }
+    {
+        sync(&self.file)?;
+        if self.is_unnamed {
+            folder.sync(rt)?;
+            self.is_unnamed = false;
+        }
+        self.require_name(rt, path)
     }
 }
 
 // The shared lock of a file, with how it looks.
-fn shared<F: OpenFile + FileExt + LockFile>(file: &F) -> Option<Lock> {
+fn shared<F: OpenFile + FileExt + LockFile>(file: &F) -> Result<Lock, Cause> {
     if !share(file) {
-        return None;
+        return Err(Cause::InUse);
     }
     match Appearance::of(file) {
-        Some(seen) => Some(Lock::Shared(seen)),
-        None => {
+        Ok(seen) => Ok(Lock::Shared(seen)),
+        Err(cause) => {
             release(file);
-            None
+            Err(cause)
         }
-    }
-}
-
-// Whether a file looks as it was seen.
-fn looks_like<F: OpenFile + FileExt>(file: &F, seen: &Appearance) -> bool {
-    match Appearance::of(file) {
-        Some(now) => now == *seen,
-        None => false,
     }
 }

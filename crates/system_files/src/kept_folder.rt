@@ -1,24 +1,29 @@
-//! A folder whose names are brought to the disk.
-ghost use Rattle.std.specs.Prelude.{◌≡◌, string_bytes};
+//! A folder that is kept open, and whose names are brought to the disk.
+ghost use Rattle.std.specs.Prelude.{◌≡◌, string_bytes, OnOk};
+ghost use Rattle.system_files.specs.Held.{IsReady};
 
-use crate::calls::sync_folder;
+use crate::calls::{again, sync};
+use crate::cause::Cause;
+use std::fs::{OpenFile, OpenOptions};
 use std::rt::Files;
 
-/// The path of a folder, and what is known of its syncs.
+/// The path of a folder, the folder once it was opened, and what is known of its syncs.
 #[derive(Drop)]
-pub struct KeptFolder {
+pub struct KeptFolder<F: Drop> {
     path: String,
-    // A sync failed: the system may have dropped a name, and the next sync may not tell, whoever asks for it.
-    is_lost: bool,
+    file: Option<F>,
+    // Why a sync failed: the system may have dropped a name, and the next sync may not tell, whoever asks for it.
+    lost: Option<Cause>,
 }
 
-impl KeptFolder {
-    pub fn new(path: String) -> KeptFolder
+impl<F: OpenFile + Drop> KeptFolder<F> {
+    pub fn new(path: String) -> KeptFolder<F>
         ensures { result.path ≡ path }
     {
         KeptFolder {
             path,
-            is_lost: false,
+            file: None,
+            lost: None,
         }
     }
 
@@ -28,15 +33,42 @@ impl KeptFolder {
         self.path.as_str()
     }
 
-    /// Brings the names of its files to the disk. Whether it was done; never again once it failed.
-    pub(crate) fn sync<R: Files>(&mut self, rt: &R) -> bool
+    /// Opens the folder, if it is not open, so that the names of its files can be brought to the
+    /// disk. It is refused where the system does, and for good once a sync failed.
+    pub fn reach<R: Files<File = F>>(&mut self, rt: &R) -> Result<(), Cause>
+        ensures ready { OnOk result (IsReady self.new) }
+        ensures path { self.new.path ≡ self.old.path }
+    {
+        if let Some(cause) = self.lost {
+            return Err(cause);
+        }
+        if self.file.is_none() {
+            self.file = Some(opened(rt, self.path.as_str())?);
+        }
+        Ok(())
+    }
+
+    /// Brings the names of its files to the disk; never again once that failed.
+    pub(crate) fn sync<R: Files<File = F>>(&mut self, rt: &R) -> Result<(), Cause>
         ensures { self.new.path ≡ self.old.path }
     {
-        if self.is_lost {
-            return false;
+        self.reach(rt)?;
+        let done = match &self.file {
+            Some(file) => sync(file),
+            None => Err(Cause::Folder),
+        };
+        if let Err(cause) = done {
+            self.lost = Some(cause);
         }
-        let is_done = sync_folder(rt, self.path.as_str());
-        self.is_lost = !is_done;
-        is_done
+        done
+    }
+}
+
+// Opens a folder.
+fn opened<R: Files>(rt: &R, path: &str) -> Result<R::File, Cause> {
+    match again(|| OpenOptions::new().read(true).open(rt, path)) {
+        Ok(folder) => Ok(folder),
+        Err(Cause::Permission) => Err(Cause::Folder),
+        Err(cause) => Err(cause),
     }
 }

@@ -11,12 +11,14 @@
 
 mod appearance;
 mod calls;
+mod cause;
 mod kept_file;
 mod kept_folder;
 mod locks;
 mod opening;
 
-pub use calls::{look, measure, read, sync, write};
+pub use calls::{Written, look, measure, read, sync, write};
+pub use cause::Cause;
 pub use kept_file::KeptFile;
 pub use kept_folder::KeptFolder;
 pub use locks::{LockFile, share};

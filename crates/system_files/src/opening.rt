@@ -1,48 +1,65 @@
 //! Files opened by their names, and locked.
+ghost use Rattle.std.specs.Prelude.{◌≡◌, OnOk};
+ghost use Rattle.system_files.specs.Held.{IsReady};
 
-use crate::calls::again;
+use crate::calls::{again, require_file};
+use crate::cause::Cause;
 use crate::kept_file::KeptFile;
+use crate::kept_folder::KeptFolder;
 use crate::locks::LockFile;
-use std::fs::{self, Metadata, OpenFile, OpenOptions};
-use std::io;
-use std::os::unix::fs::{FileExt, MetadataExt};
+use std::fs::{self, OpenOptions};
+use std::io::ErrorKind;
+use std::os::unix::fs::FileExt;
 use std::rt::Files;
 
-/// Makes a file that is not there, and has it alone. Where another run had it first, it is not
-/// made, and may be there.
-pub fn make<R: Files>(rt: &R, path: &str) -> Option<KeptFile<R::File>>
+/// Makes a file that is not there, and has it alone. It is not made where the folder cannot be
+/// had. Where another run had it first, it is not made by this one, and may be there.
+pub fn make<R: Files>(
+    rt: &R,
+    path: &str,
+    folder: &mut KeptFolder<R::File>,
+) -> Result<KeptFile<R::File>, Cause>
 where
     R::File: FileExt + LockFile,
+    ensures folder { OnOk result (IsReady folder.new) }
+    ensures path { folder.new.path ≡ folder.old.path }
 {
-    let file = open_path(rt, path, true, true).ok()?;
-    KeptFile::made(file)
+    folder.reach(rt)?;
+    match open_path(rt, path, true, true) {
+        Ok(file) => KeptFile::made(file),
+        Err(Cause::Other(ErrorKind::AlreadyExists)) => Err(Cause::InUse),
+        Err(cause) => Err(cause),
+    }
 }
 
 /// Opens what is a file by its own name, and no link, for as long as no other run changes it. Where
 /// the system refuses writing it is opened for reading.
-pub fn open<R: Files>(rt: &R, path: &str) -> Option<KeptFile<R::File>>
+pub fn open<R: Files>(rt: &R, path: &str) -> Result<KeptFile<R::File>, Cause>
 where
     R::File: FileExt + LockFile,
 {
-    let named = again(|| fs::symlink_metadata(rt, path)).ok()?;
-    if !named.is_file() {
-        return None;
-    }
-    let (file, is_writable) = match open_path(rt, path, true, false) {
-        Ok(file) => (file, true),
-        Err(error) if refuses_writing(&error) => (open_path(rt, path, false, false).ok()?, false),
-        Err(_) => return None,
+    let named = again(|| fs::symlink_metadata(rt, path))?;
+    require_file(&named)?;
+    let (file, only_read) = match open_path(rt, path, true, false) {
+        Ok(file) => (file, None),
+        Err(cause) if cause.refuses_writing() => {
+            (open_path(rt, path, false, false)?, Some(cause))
+        }
+        Err(cause) => return Err(cause),
     };
-    // A link may have taken the name since.
-    let opened = again(|| file.metadata()).ok()?;
-    if is_same(&named, &opened) {
-        KeptFile::opened(file, is_writable)
-    } else {
-        None
+    // Another file or a link may have taken the name since.
+    if !again(|| file.is_named(rt, path))? {
+        return Err(Cause::Replaced);
     }
+    KeptFile::opened(file, only_read)
 }
 
-fn open_path<R: Files>(rt: &R, path: &str, is_written: bool, is_new: bool) -> io::Result<R::File> {
+fn open_path<R: Files>(
+    rt: &R,
+    path: &str,
+    is_written: bool,
+    is_new: bool,
+) -> Result<R::File, Cause> {
     again(|| options(is_written, is_new).open(rt, path))
 }
 
@@ -52,13 +69,4 @@ fn options(is_written: bool, is_new: bool) -> OpenOptions {
     options.write(is_written);
     options.create_new(is_new);
     options
-}
-
-fn refuses_writing(error: &io::Error) -> bool {
-    let kind = error.kind();
-    kind == io::ErrorKind::PermissionDenied || kind == io::ErrorKind::ReadOnlyFilesystem
-}
-
-fn is_same(a: &Metadata, b: &Metadata) -> bool {
-    a.dev() == b.dev() && a.ino() == b.ino()
 }

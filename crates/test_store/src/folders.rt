@@ -10,6 +10,7 @@ use page_store::{Shelf, Store};
 use std::fs;
 use std::os::unix::fs::symlink;
 use std::process::Abort;
+use system_files::KeptFolder;
 
 // A shelf over an empty folder of this name.
 fn new_shelf(
@@ -73,6 +74,12 @@ fn a_folder_of_the_name_is_a_fault_of_the_device(rt: HostRuntime) {
     assert_equal(&rt, shelf.faults(), 2);
 }
 
+// No file is made by the name of a link.
+fn is_not_made(test: &impl Abort, rt: HostRuntime, path: &str) {
+    let mut folder = KeptFolder::new("link".to_string(rt.alloc()).expect(test, "memory"));
+    assert_that(test, system_files::make(&rt, path, &mut folder).is_err());
+}
+
 #[test]
 fn a_link_is_not_followed(rt: HostRuntime) {
     let mut shelf = new_shelf(&rt, rt, "link");
@@ -80,9 +87,9 @@ fn a_link_is_not_followed(rt: HostRuntime) {
     symlink(&rt, "../outside_the_folder", "link/CUST").expect(&rt, "a link");
     symlink(&rt, "../nowhere", "link/NONE").expect(&rt, "a link");
     is_no_file(&rt, &mut shelf);
-    assert_that(&rt, system_files::open(&rt, "link/CUST").is_none());
-    assert_that(&rt, system_files::make(&rt, "link/CUST").is_none());
-    assert_that(&rt, system_files::make(&rt, "link/NONE").is_none());
+    assert_that(&rt, system_files::open(&rt, "link/CUST").is_err());
+    is_not_made(&rt, rt, "link/CUST");
+    is_not_made(&rt, rt, "link/NONE");
     let made = fs::exists(&rt, "nowhere").expect(&rt, "an answer");
     assert_that(&rt, !made);
     has_bytes(

@@ -3,12 +3,12 @@
 use crate::checks::{assert_equal, assert_equal_for, assert_that};
 use std::alloc::Global;
 use std::cell::Cell;
-use std::fs::{self, Metadata, OpenFile, TryLockError};
+use std::fs::{File, Metadata, OpenFile, TryLockError};
 use std::io;
 use std::os::unix::fs::FileExt;
 use std::process::Abort;
 use std::rt::Files;
-use system_files::{KeptFile, KeptFolder, LockFile};
+use system_files::{Cause, KeptFile, KeptFolder, LockFile};
 
 /// A file of which each call is interrupted so many times, and then moves at most three bytes.
 #[derive(Drop)]
@@ -155,37 +155,38 @@ impl OpenFile for Changing {
 }
 
 // Each alone is seen: past the first page a length, and inside it a byte.
-fn is_held_as(rt: &impl Abort, then: (u64, u8), is_held: bool, written: usize) {
+fn is_held_as(test: &impl Abort, rt: HostRuntime, then: (u64, u8), is_held: bool, written: usize) {
     let file = Changing {
         length: Cell::new(9000),
         byte: Cell::new(7),
         then,
     };
-    let mut file = KeptFile::opened(file, true).expect(rt, "a file that is kept");
-    assert_equal_for(rt, then, file.hold(), is_held);
-    assert_equal_for(rt, then, file.write(0, &[0; 10]), written);
+    let mut file = kept(test, file);
+    let mut folder = folder_of(test, rt.alloc(), ".");
+    assert_equal_for(test, then, file.hold(&rt, "", &mut folder).is_ok(), is_held);
+    assert_equal_for(test, then, file.write(0, &[0; 10]).taken, written);
     // Read anew, it is the file that it was found to be.
-    assert_equal(rt, file.measure(), Some(then.0));
-    assert_that(rt, file.hold());
+    assert_equal(test, file.measure(), Ok(then.0));
+    assert_that(test, file.hold(&rt, "", &mut folder).is_ok());
 }
 
 #[test]
 fn a_file_with_another_length_or_first_page_is_not_held(rt: HostRuntime) {
-    is_held_as(&rt, (9000, 7), true, 10);
-    is_held_as(&rt, (9001, 7), false, 0);
-    is_held_as(&rt, (9000, 8), false, 0);
+    is_held_as(&rt, rt, (9000, 7), true, 10);
+    is_held_as(&rt, rt, (9001, 7), false, 0);
+    is_held_as(&rt, rt, (9000, 8), false, 0);
 }
 
 // What is answered where ten bytes are read and written, and a file is synced, measured and shared.
 fn answers_of(file: &Interrupted) -> (bool, usize, bool, Option<u64>, bool) {
     let mut bytes = [0; 10];
-    let read = system_files::read(file, 0, &mut bytes);
+    let read = system_files::read(file, 0, &mut bytes).is_ok();
     file.left.set(file.times);
-    let written = system_files::write(file, 0, &bytes);
+    let written = system_files::write(file, 0, &bytes).taken;
     file.left.set(file.times);
-    let synced = system_files::sync(file);
+    let synced = system_files::sync(file).is_ok();
     file.left.set(file.times);
-    let length = system_files::measure(file);
+    let length = system_files::measure(file).ok();
     file.left.set(file.times);
     (read, written, synced, length, system_files::share(file))
 }
@@ -196,72 +197,63 @@ fn a_thousand_interrupted_calls_in_a_row_are_a_fault(rt: HostRuntime) {
     assert_equal(&rt, few, (true, 10, true, Some(7), true));
     let many = answers_of(&Interrupted::new(1000, false));
     assert_equal(&rt, many, (false, 0, false, None, false));
-    assert_that(&rt, KeptFile::made(Interrupted::new(1000, false)).is_none());
+    assert_that(&rt, KeptFile::made(Interrupted::new(1000, false)).is_err());
+}
+
+fn kept<F: OpenFile + FileExt + LockFile + Drop>(test: &impl Abort, file: F) -> KeptFile<F> {
+    match KeptFile::opened(file, None) {
+        Ok(file) => file,
+        Err(_) => panic!(test; "a file that is kept"),
+    }
 }
 
 // A file of which each call is interrupted so many times, and whether its first sync fails.
-fn opened(rt: &impl Abort, times: u64, fails: bool) -> KeptFile<Interrupted> {
-    KeptFile::opened(Interrupted::new(times, fails), true).expect(rt, "a file that is kept")
+fn opened(test: &impl Abort, times: u64, fails: bool) -> KeptFile<Interrupted> {
+    kept(test, Interrupted::new(times, fails))
+}
+
+fn folder_of(test: &impl Abort, alloc: Global, path: &str) -> KeptFolder<File> {
+    KeptFolder::new(path.to_string(alloc).expect(test, "memory"))
 }
 
 #[test]
 fn a_file_is_written_only_while_it_is_held(rt: HostRuntime) {
     let mut file = opened(&rt, 999, false);
-    assert_equal(&rt, file.measure(), Some(7));
-    assert_equal(&rt, file.write(0, &[0; 10]), 0);
-    assert_that(&rt, file.hold());
-    assert_equal(&rt, file.write(0, &[0; 10]), 10);
+    let mut folder = folder_of(&rt, rt.alloc(), ".");
+    assert_equal(&rt, file.measure(), Ok(7));
+    assert_equal(&rt, file.write(0, &[0; 10]).taken, 0);
+    assert_equal(&rt, file.hold(&rt, "", &mut folder), Ok(()));
+    assert_equal(&rt, file.write(0, &[0; 10]).taken, 10);
 }
 
 #[test]
 fn a_file_that_may_only_be_read_is_never_held(rt: HostRuntime) {
-    let file = KeptFile::opened(Interrupted::new(0, false), false);
-    let mut file = file.expect(&rt, "a file that is kept");
-    assert_that(&rt, !file.hold());
-    assert_equal(&rt, file.write(0, &[0; 10]), 0);
-    assert_equal(&rt, file.measure(), Some(7));
+    let file = Interrupted::new(0, false);
+    let mut file = match KeptFile::opened(file, Some(Cause::Permission)) {
+        Ok(file) => file,
+        Err(_) => panic!(rt; "a file that is kept"),
+    };
+    let mut folder = folder_of(&rt, rt.alloc(), ".");
+    assert_equal(&rt, file.hold(&rt, "", &mut folder), Err(Cause::Permission));
+    assert_equal(&rt, file.write(0, &[0; 10]).taken, 0);
+    assert_equal(&rt, file.measure(), Ok(7));
 }
 
-fn folder_of(rt: &impl Abort, alloc: Global, path: &str) -> KeptFolder {
-    KeptFolder::new(path.to_string(alloc).expect(rt, "memory"))
+#[test]
+fn a_file_is_not_held_without_its_folder(rt: HostRuntime) {
+    let mut file = opened(&rt, 0, false);
+    let mut folder = folder_of(&rt, rt.alloc(), "no_such_folder");
+    assert_that(&rt, file.hold(&rt, "", &mut folder).is_err());
+    assert_equal(&rt, file.write(0, &[0; 10]).taken, 0);
+    assert_equal(&rt, file.measure(), Ok(7));
 }
 
 #[test]
 fn a_file_whose_sync_failed_is_not_synced_again(rt: HostRuntime) {
     let mut folder = folder_of(&rt, rt.alloc(), ".");
     let mut file = opened(&rt, 0, true);
-    assert_that(&rt, !file.sync(&rt, &mut folder));
-    assert_that(&rt, !file.sync(&rt, &mut folder));
+    assert_that(&rt, file.sync(&rt, "", &mut folder).is_err());
+    assert_that(&rt, file.sync(&rt, "", &mut folder).is_err());
     let mut file = opened(&rt, 0, false);
-    assert_that(&rt, file.sync(&rt, &mut folder));
-}
-
-// A file that was synced while its folder was there, and one that is synced while it is not.
-fn are_synced_while_it_is_away(
-    test: &impl Abort,
-    rt: HostRuntime,
-    folder: &mut KeptFolder,
-    before: &mut KeptFile<Interrupted>,
-    after: &mut KeptFile<Interrupted>,
-) {
-    assert_that(test, before.sync(&rt, folder));
-    fs::rename(&rt, "moved", "moved_away").expect(test, "another name");
-    assert_that(test, !after.sync(&rt, folder));
-    fs::rename(&rt, "moved_away", "moved").expect(test, "another name");
-    assert_that(test, !after.sync(&rt, folder));
-}
-
-#[test]
-fn a_folder_whose_sync_failed_is_not_synced_again(rt: HostRuntime) {
-    let _ = fs::remove_dir(&rt, "moved_away");
-    let _ = fs::remove_dir(&rt, "moved");
-    fs::create_dir(&rt, "moved").expect(&rt, "a folder");
-    let mut folder = folder_of(&rt, rt.alloc(), "moved");
-    let mut before = opened(&rt, 0, false);
-    let mut after = opened(&rt, 0, false);
-    are_synced_while_it_is_away(&rt, rt, &mut folder, &mut before, &mut after);
-    let mut third = opened(&rt, 0, false);
-    assert_that(&rt, !third.sync(&rt, &mut folder));
-    // The name of this one was on the disk before.
-    assert_that(&rt, before.sync(&rt, &mut folder));
+    assert_equal(&rt, file.sync(&rt, "", &mut folder), Ok(()));
 }
