@@ -1,5 +1,5 @@
 -- When a file may be changed.
-use Rattle.std.specs.Prelude.{Bool, true, false, IsTrue, is_some, is_none, ◌⊎◌}
+use Rattle.std.specs.Prelude.{Bool, true, false, IsTrue, is_some, is_none}
 use Rattle.system_files.specs.declared.kept_file.Lock.{Lock}
 use Rattle.system_files.specs.declared.kept_file.Lock.TheVariants.{Nothing, Shared, Exclusive}
 use Rattle.system_files.specs.declared.kept_file.KeptFile.{KeptFile}
