@@ -1,0 +1,70 @@
+-- What a question is answered, and what that means. All of this is ours.
+use Rattle.std.specs.Prelude.{◌≡◌, ◌≢◌, ◌==◌, ◌-ℤ◌, ℕ, ℤ, pos, int_lt, Bool, List, ◌++◌, length}
+use Rattle.std.specs.Prelude.{Option, Result, Ok, Err, if◌then◌else◌}
+use Rattle.std.specs.Int.{w64, cast_signed}
+use Rattle.std.specs.Io.KnownBytes.{Appends, Consumes}
+use Rattle.std.specs.declared.io.Error.{Error}
+use Rattle.std.specs.declared.io.ErrorKind.TheVariants.{WouldBlock}
+use Rattle.std.specs.IoError.{error_kind}
+use Rattle.std.specs.declared.fs.locks.TryLockError.{TryLockError}
+use Rattle.byteorder.specs.Endian.{little_number}
+use Rattle.asked_system.specs.Questions.{question_bytes}
+use Rattle.asked_system.specs.declared.question.Question.{Question}
+
+-- the number in 8 bytes, the lowest first, as two's complement
+abbrev pub number_in : List ℕ → ℤ
+number_in bytes = cast_signed w64 (little_number 8 bytes)
+
+-- the next 8 bytes of a reader are this number
+abbrev pub GivesNumber : (left left_after : Option (List ℕ)) → ℤ → Type 0
+GivesNumber left left_after number =
+    (bytes : List ℕ) × (length bytes ≡ 8) × Consumes left left_after bytes × (number ≡ number_in bytes)
+
+-- the error of the system that a number below 0 stands for; 5 where there is none so low
+abbrev pub error_code : ℤ → ℤ
+error_code number = if int_lt number (pos 0 -ℤ pos 2147483647) then pos 5 else pos 0 -ℤ number
+
+-- a lock was had where no error came; it is another's where the call would have blocked
+abbrev pub IsLockOutcome : Result ℕ Error → Result (Unit {0}) TryLockError → Type 0
+IsLockOutcome (Ok n) result = result ≡ Ok tt
+IsLockOutcome (Err error) result = (refusal : TryLockError) × (result ≡ Err refusal)
+    × (error_kind error ≡ WouldBlock → refusal ≡ TryLockError.WouldBlock)
+    × (error_kind error ≢ WouldBlock → refusal ≡ TryLockError.Error error)
+
+-- what the two streams have left and hold, before and after
+pub record Streams : Type 0 where
+  pub left : Option (List ℕ)
+  pub left_after : Option (List ℕ)
+  pub written : Option (List ℕ)
+  pub written_after : Option (List ℕ)
+
+abbrev pub streams : (left left_after written written_after : Option (List ℕ)) → Streams
+streams left left_after written written_after = record {
+  left = left;
+  left_after = left_after;
+  written = written;
+  written_after = written_after;
+}
+
+-- the bytes of the question were written, no more and no fewer, and these bytes were read
+abbrev pub Asks : Streams → Question → List ℕ → Type 0
+Asks s question answer =
+    Appends s.written s.written_after (question_bytes question) × Consumes s.left s.left_after answer
+
+-- the question was asked, and this number told
+abbrev pub IsTold : Streams → Question → ℕ → Type 0
+IsTold s question n = (answer : List ℕ) × (length answer ≡ 8) × Asks s question answer
+    × (number_in answer ≡ pos n)
+
+-- it was asked, and no error was told
+abbrev pub IsDone : Streams → Question → Type 0
+IsDone s question = (n : ℕ) × IsTold s question n
+
+-- it was asked, and told is 1, or another number
+abbrev pub IsYesTold : Streams → Question → Bool → Type 0
+IsYesTold s question is_one = (n : ℕ) × IsTold s question n × (is_one ≡ (n == 1))
+
+-- it was asked, and told are so many bytes, and these
+abbrev pub IsToldBytes : Streams → Question → List ℕ → Type 0
+IsToldBytes s question bytes = (number : List ℕ) × (length number ≡ 8)
+    × Asks s question (number ++ bytes) × (number_in number ≡ pos (length bytes))

@@ -1,0 +1,46 @@
+-- A question as bytes, row for row of its table. All of this is ours.
+use Rattle.std.specs.Prelude.{ℕ, List, [], ◌∷◌, ◌++◌, length, flat_map}
+use Rattle.byteorder.specs.Endian.{little_bytes}
+use Rattle.asked_system.specs.declared.question.Opening.{Opening}
+use Rattle.asked_system.specs.declared.question.Opening.TheVariants.{ToRead, ToWrite, New}
+use Rattle.asked_system.specs.declared.question.Question.{Question}
+use Rattle.asked_system.specs.declared.question.Question.TheVariants.{Open, Close, Look, Measure, Read, Write}
+use Rattle.asked_system.specs.declared.question.Question.TheVariants.{Sync, Share, Claim, Release, Names}
+
+-- how a file is opened
+abbrev pub opening_code : Opening → ℕ
+opening_code ToRead = 0
+opening_code ToWrite = 1
+opening_code New = 2
+
+-- what is asked, the file, where or how, and how many
+abbrev pub numbers_of : Question → List ℕ
+numbers_of (Open opening path) = 0 ∷ 0 ∷ opening_code opening ∷ length path.now ∷ []
+numbers_of (Close file) = 1 ∷ file ∷ 0 ∷ 0 ∷ []
+numbers_of (Look path) = 2 ∷ 0 ∷ 0 ∷ length path.now ∷ []
+numbers_of (Measure file) = 3 ∷ file ∷ 0 ∷ 0 ∷ []
+numbers_of (Read file at count) = 4 ∷ file ∷ at ∷ count ∷ []
+numbers_of (Write file at bytes) = 5 ∷ file ∷ at ∷ length bytes.now ∷ []
+numbers_of (Sync file) = 6 ∷ file ∷ 0 ∷ 0 ∷ []
+numbers_of (Share file) = 7 ∷ file ∷ 0 ∷ 0 ∷ []
+numbers_of (Claim file) = 8 ∷ file ∷ 0 ∷ 0 ∷ []
+numbers_of (Release file) = 9 ∷ file ∷ 0 ∷ 0 ∷ []
+numbers_of (Names file path) = 10 ∷ file ∷ 0 ∷ length path.now ∷ []
+
+-- the path, or the bytes that are to be written
+abbrev pub follows : Question → List ℕ
+follows (Open opening path) = path.now
+follows (Close file) = []
+follows (Look path) = path.now
+follows (Measure file) = []
+follows (Read file at count) = []
+follows (Write file at bytes) = bytes.now
+follows (Sync file) = []
+follows (Share file) = []
+follows (Claim file) = []
+follows (Release file) = []
+follows (Names file path) = path.now
+
+-- the whole question
+abbrev pub question_bytes : Question → List ℕ
+question_bytes question = flat_map (little_bytes 8) (numbers_of question) ++ follows question
