@@ -1,5 +1,5 @@
 -- In every session each name stands by its ledger.
-use Rattle.std.proofs.Common.{◌≡◌, ℕ, ◌<◌, List, [], ◌∷◌, slice_set, is_none, nat_lt, Option, Some, None, refl, sym, ap, subst, ◌∙◌, arith}
+use Rattle.std.proofs.Common.{◌≡◌, ℕ, ◌<◌, List, [], ◌∷◌, ◌++◌, slice_set, is_none, nat_lt, Option, Some, None, refl, sym, ap, subst, ◌∙◌, arith}
 use Rattle.std.proofs.lemmas.Bool.{and_parts, ltb-true}
 use Rattle.io_state.specs.declared.status.Status.{Status}
 use Rattle.indexed_file.specs.Moments.{JoinsStretches, EndsNow}
@@ -9,12 +9,13 @@ use Rattle.verbs.specs.Held.{silent}
 use Rattle.request_frames.specs.Answer.{Told, Refuses, Does, Tells}
 use Rattle.request_frames.specs.Request.{Described, Performed, Asked, Describing, Performing, Releasing}
 use Rattle.request_frames.specs.Reading.{request_in}
-use Rattle.file_session.specs.Files.{number_limit, NumberedFile, Files, file_of_number}
+use Rattle.file_session.specs.Files.{number_limit, NumberedFile, Files, file_of_number, no_numbered_files}
 use Rattle.file_session.specs.Steps.{Describes, file_described, PerformsRequest, Releases, close_request}
 use Rattle.serve.specs.Answers.{AnswersRequest}
 use Rattle.serve.specs.Books.{Book, Books, first_book, book_behind, with_book, JudgedFiles, none_judged}
-use Rattle.serve.specs.NoFalseFile.{trace_for_file, BeginsBook, BookGoesOn, BooksGo, ServesSafely, ClosesSafely, NoFalseFileInSession}
+use Rattle.serve.specs.NoFalseFile.{trace_for_file, BeginsBook, BookGoesOn, BooksGo, ServesSafely, ClosesSafely, NoFalseFileInSession, NoFalseFileInCloses, NoFalseFileAfter, NoFalseFileInRequests}
 use Rattle.serve.specs.Serving.{Exchange, Serving, ClosesAllFiles}
+use Rattle.serve.proofs.ServingLemmas.{join}
 use Rattle.serve.proofs.BookLemmas.{described_stands, described_kept, performed_stands, performed_kept}
 use Rattle.serve.proofs.JudgedLemmas.{within_places, put_there, AllKept, stand_now, none_kept, book_of, put_kept}
 
@@ -132,3 +133,27 @@ module _ {S : Type 0} (shown : Shown S) (joins : JoinsStretches shown.moments) (
           closed.1,
           record { serving = first.2; now = stand_now shown last first.3; closed = closed.2; at_end = stand_now shown closed.0 closed.3 },
         )
+
+    -- ---- requests one at a time
+
+    closed_so : (judged : JudgedFiles S) → AllKept shown judged → NoFalseFileInCloses shown judged
+    closed_so judged kept statuses end closing =
+        let closed = closes statuses judged end kept closing in (closed.0, closed.1, closed.2, stand_now shown closed.0 closed.3)
+
+    after : (exchanges : List Exchange) (now : Files S) → Serving shown IsNew no_numbered_files exchanges now → NoFalseFileAfter shown IsNew exchanges now
+    after exchanges now serving =
+        let all = serves exchanges none_judged now (none_kept shown) serving in
+        record { judged = all.0; files = all.1; served = all.2; stands = stand_now shown all.0 all.3; closes = closed_so all.0 all.3 }
+
+    answered_of : (exchanges : List Exchange) (old new : JudgedFiles S) → ServesSafely shown IsNew old exchanges new → Serving shown IsNew old.files exchanges new.files
+    answered_of [] old new same = ap (λ (judged : JudgedFiles S). judged.files) same
+    answered_of (e ∷ rest) old new (between, safely, more) = (between.files, safely.answers, answered_of rest between new more)
+
+    behind_next : (exchanges : List Exchange) (e : Exchange) (old new : Files S) → NoFalseFileAfter shown IsNew exchanges old → AnswersRequest shown IsNew (request_in e.body) old e.told new
+        → NoFalseFileAfter shown IsNew (exchanges ++ e ∷ []) new
+    behind_next exchanges e old new had answers =
+        let before = subst (λ (files : Files S). Serving shown IsNew no_numbered_files exchanges files) had.files (answered_of exchanges none_judged had.judged had.served) in
+        after (exchanges ++ e ∷ []) new (join shown IsNew exchanges (e ∷ []) no_numbered_files old new before (new, answers, refl))
+
+    pub in_requests : NoFalseFileInRequests shown IsNew
+    in_requests = record { first = after [] no_numbered_files refl; next = behind_next }

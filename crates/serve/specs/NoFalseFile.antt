@@ -3,7 +3,7 @@
 -- each moment, each image of a name stands for what the last CLOSE of a change that answered 00
 -- left, or for that of a CLOSE in progress or one that failed since, or is refused; before the
 -- first such CLOSE it may also be as in an image at the description. All of this is ours.
-use Rattle.std.specs.Prelude.{◌≡◌, ℕ, List, [], ◌∷◌, bytes_eq, Option, Some, None, if◌then◌else◌, Result}
+use Rattle.std.specs.Prelude.{◌≡◌, ℕ, List, [], ◌∷◌, ◌++◌, bytes_eq, Option, Some, None, if◌then◌else◌, Result}
 use Rattle.io_state.specs.declared.status.Status.{Status}
 use Rattle.indexed_file.specs.Shown.{Shown}
 use Rattle.indexed_file.specs.Images.{Trace, untouched}
@@ -12,12 +12,12 @@ use Rattle.verbs.specs.Traces.{trace_of}
 use Rattle.request_frames.specs.Answer.{Told, Refuses, Does, Tells}
 use Rattle.request_frames.specs.Request.{Described, Performed, Asked, Describing, Performing, Releasing}
 use Rattle.request_frames.specs.Reading.{request_in}
-use Rattle.file_session.specs.Files.{NumberedFile, file_of_number}
+use Rattle.file_session.specs.Files.{NumberedFile, Files, file_of_number, no_numbered_files}
 use Rattle.file_session.specs.Steps.{AttachesName, file_described, with_bytes, ClosesFirst, close_request}
 use Rattle.serve.specs.Answers.{AnswersRequest}
 use Rattle.serve.specs.Books.{Book, first_book, book_during, book_behind, AllStand, with_book, JudgedFiles}
 use Rattle.serve.specs.Books.{none_judged, BooksStandNow}
-use Rattle.serve.specs.Serving.{Exchange, Streams, Served}
+use Rattle.serve.specs.Serving.{Exchange, Streams, ClosesAllFiles, Served}
 use Rattle.serve.specs.declared.fault.ServeFault.{ServeFault}
 
 -- ---- a request
@@ -119,3 +119,31 @@ NoFalseFileInSession {S} shown IsNew =
     (s : Streams) → (result : Result Unit ServeFault) → (session : Served shown IsNew s result)
     → (last : JudgedFiles S) × (end : JudgedFiles S) × (last.files ≡ session.last) × (end.files ≡ session.end)
     × ServesToEndSafely shown IsNew session.served.exchanges last session.closes end
+
+-- ---- the law for requests that come one at a time, by whatever way
+
+-- however the open files are closed from here on, each name stands by its ledger during each close,
+-- and behind the last one
+abbrev pub NoFalseFileInCloses : {S : Type 0} → Shown S → JudgedFiles S → Type 0
+NoFalseFileInCloses {S} shown judged =
+    (statuses : List Status) → (end : Files S) → ClosesAllFiles shown judged.files statuses end
+    → (closed : JudgedFiles S) × (closed.files ≡ end) × ClosesSafely shown judged statuses closed
+    × BooksStandNow shown closed
+
+-- a session after these requests, from the first one on: each name has stood by its ledger during
+-- each of them and between them, stands by it now, and will while the open files are closed
+pub record NoFalseFileAfter {S : Type 0} (shown : Shown S) (IsNew : S → Type 0)
+    (exchanges : List Exchange) (now : Files S) : Type 0 where
+  pub judged : JudgedFiles S
+  pub files : judged.files ≡ now
+  pub served : ServesSafely shown IsNew none_judged exchanges judged
+  pub stands : BooksStandNow shown judged
+  pub closes : NoFalseFileInCloses shown judged
+
+-- it is so before the first request, and it stays so behind each request that is answered
+pub record NoFalseFileInRequests {S : Type 0} (shown : Shown S) (IsNew : S → Type 0) : Type 0 where
+  pub first : NoFalseFileAfter shown IsNew [] no_numbered_files
+  pub next : (exchanges : List Exchange) → (e : Exchange) → (old new : Files S)
+      → NoFalseFileAfter shown IsNew exchanges old
+      → AnswersRequest shown IsNew (request_in e.body) old e.told new
+      → NoFalseFileAfter shown IsNew (exchanges ++ e ∷ []) new

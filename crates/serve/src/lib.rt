@@ -22,8 +22,9 @@ mod reads;
 mod serving;
 mod whole_session;
 
+pub use answering::answer_request;
 pub use fault::ServeFault;
 pub use input::{InputFailed, Next, read_frame};
 pub use libraries::Libraries;
-pub use serving::serve;
-pub use whole_session::no_false_file;
+pub use serving::{close_all, serve};
+pub use whole_session::{no_false_file, no_false_file_in_requests};

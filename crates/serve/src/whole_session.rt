@@ -1,5 +1,5 @@
 //! A whole session.
-ghost use Rattle.serve.specs.NoFalseFile.{NoFalseFileInSession};
+ghost use Rattle.serve.specs.NoFalseFile.{NoFalseFileInSession, NoFalseFileInRequests};
 
 use crate::libraries::Libraries;
 
@@ -10,4 +10,11 @@ use crate::libraries::Libraries;
 /// file, all have been so since. What one library leaves, and another one finds, is not said.
 pub fn no_false_file<M: Libraries>(_libraries: &M)
     ensures { NoFalseFileInSession M.Library.shown (M.is_new _libraries.now) }
+{}
+
+/// The same of requests that come one at a time, by whatever way: before the first one, and behind
+/// each that is answered as `answer_request` does it, the session has had no false file, and has
+/// none while its open files are closed as by `close_all`.
+pub fn no_false_file_in_requests<M: Libraries>(_libraries: &M)
+    ensures { NoFalseFileInRequests M.Library.shown (M.is_new _libraries.now) }
 {}
