@@ -12,13 +12,13 @@ use Rattle.asked_system.specs.Questions.{question_bytes}
 use Rattle.asked_system.specs.declared.question.Question.{Question}
 
 -- the number in 8 bytes, the lowest first, as two's complement
-abbrev pub number_in : List ℕ → ℤ
-number_in bytes = cast_signed w64 (little_number 8 bytes)
+abbrev pub signed_number : List ℕ → ℤ
+signed_number bytes = cast_signed w64 (little_number 8 bytes)
 
 -- the next 8 bytes of a reader are this number
 abbrev pub GivesNumber : (left left_after : Option (List ℕ)) → ℤ → Type 0
 GivesNumber left left_after number =
-    (bytes : List ℕ) × (length bytes ≡ 8) × Consumes left left_after bytes × (number ≡ number_in bytes)
+    (bytes : List ℕ) × (length bytes ≡ 8) × Consumes left left_after bytes × (number ≡ signed_number bytes)
 
 -- the error of the system that a number below 0 stands for; 5 where there is none so low
 abbrev pub error_code : ℤ → ℤ
@@ -32,14 +32,14 @@ IsLockOutcome (Err error) result = (refusal : TryLockError) × (result ≡ Err r
     × (error_kind error ≢ WouldBlock → refusal ≡ TryLockError.Error error)
 
 -- what the two streams have left and hold, before and after
-pub record Streams : Type 0 where
+pub record BothStreams : Type 0 where
   pub left : Option (List ℕ)
   pub left_after : Option (List ℕ)
   pub written : Option (List ℕ)
   pub written_after : Option (List ℕ)
 
-abbrev pub streams : (left left_after written written_after : Option (List ℕ)) → Streams
-streams left left_after written written_after = record {
+abbrev pub both_streams : (left left_after written written_after : Option (List ℕ)) → BothStreams
+both_streams left left_after written written_after = record {
   left = left;
   left_after = left_after;
   written = written;
@@ -47,24 +47,24 @@ streams left left_after written written_after = record {
 }
 
 -- the bytes of the question were written, no more and no fewer, and these bytes were read
-abbrev pub Asks : Streams → Question → List ℕ → Type 0
+abbrev pub Asks : BothStreams → Question → List ℕ → Type 0
 Asks s question answer =
     Appends s.written s.written_after (question_bytes question) × Consumes s.left s.left_after answer
 
 -- the question was asked, and this number told
-abbrev pub IsTold : Streams → Question → ℕ → Type 0
-IsTold s question n = (answer : List ℕ) × (length answer ≡ 8) × Asks s question answer
-    × (number_in answer ≡ pos n)
+abbrev pub IsNumberTold : BothStreams → Question → ℕ → Type 0
+IsNumberTold s question n = (answer : List ℕ) × (length answer ≡ 8) × Asks s question answer
+    × (signed_number answer ≡ pos n)
 
 -- it was asked, and no error was told
-abbrev pub IsDone : Streams → Question → Type 0
-IsDone s question = (n : ℕ) × IsTold s question n
+abbrev pub IsDone : BothStreams → Question → Type 0
+IsDone s question = (n : ℕ) × IsNumberTold s question n
 
 -- it was asked, and told is 1, or another number
-abbrev pub IsYesTold : Streams → Question → Bool → Type 0
-IsYesTold s question is_one = (n : ℕ) × IsTold s question n × (is_one ≡ (n == 1))
+abbrev pub IsYesTold : BothStreams → Question → Bool → Type 0
+IsYesTold s question is_one = (n : ℕ) × IsNumberTold s question n × (is_one ≡ (n == 1))
 
 -- it was asked, and told are so many bytes, and these
-abbrev pub IsToldBytes : Streams → Question → List ℕ → Type 0
+abbrev pub IsToldBytes : BothStreams → Question → List ℕ → Type 0
 IsToldBytes s question bytes = (number : List ℕ) × (length number ≡ 8)
-    × Asks s question (number ++ bytes) × (number_in number ≡ pos (length bytes))
+    × Asks s question (number ++ bytes) × (signed_number number ≡ pos (length bytes))

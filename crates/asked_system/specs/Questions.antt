@@ -14,18 +14,18 @@ opening_code ToWrite = 1
 opening_code New = 2
 
 -- what is asked, the file, where or how, and how many
-abbrev pub numbers_of : Question → List ℕ
-numbers_of (Open opening path) = 0 ∷ 0 ∷ opening_code opening ∷ length path.now ∷ []
-numbers_of (Close file) = 1 ∷ file ∷ 0 ∷ 0 ∷ []
-numbers_of (Look path) = 2 ∷ 0 ∷ 0 ∷ length path.now ∷ []
-numbers_of (Measure file) = 3 ∷ file ∷ 0 ∷ 0 ∷ []
-numbers_of (Read file at count) = 4 ∷ file ∷ at ∷ count ∷ []
-numbers_of (Write file at bytes) = 5 ∷ file ∷ at ∷ length bytes.now ∷ []
-numbers_of (Sync file) = 6 ∷ file ∷ 0 ∷ 0 ∷ []
-numbers_of (Share file) = 7 ∷ file ∷ 0 ∷ 0 ∷ []
-numbers_of (Claim file) = 8 ∷ file ∷ 0 ∷ 0 ∷ []
-numbers_of (Release file) = 9 ∷ file ∷ 0 ∷ 0 ∷ []
-numbers_of (Names file path) = 10 ∷ file ∷ 0 ∷ length path.now ∷ []
+abbrev pub question_numbers : Question → List ℕ
+question_numbers (Open opening path) = 0 ∷ 0 ∷ opening_code opening ∷ length path.now ∷ []
+question_numbers (Close file) = 1 ∷ file ∷ 0 ∷ 0 ∷ []
+question_numbers (Look path) = 2 ∷ 0 ∷ 0 ∷ length path.now ∷ []
+question_numbers (Measure file) = 3 ∷ file ∷ 0 ∷ 0 ∷ []
+question_numbers (Read file at count) = 4 ∷ file ∷ at ∷ count ∷ []
+question_numbers (Write file at bytes) = 5 ∷ file ∷ at ∷ length bytes.now ∷ []
+question_numbers (Sync file) = 6 ∷ file ∷ 0 ∷ 0 ∷ []
+question_numbers (Share file) = 7 ∷ file ∷ 0 ∷ 0 ∷ []
+question_numbers (Claim file) = 8 ∷ file ∷ 0 ∷ 0 ∷ []
+question_numbers (Release file) = 9 ∷ file ∷ 0 ∷ 0 ∷ []
+question_numbers (Names file path) = 10 ∷ file ∷ 0 ∷ length path.now ∷ []
 
 -- the path, or the bytes that are to be written
 abbrev pub follows : Question → List ℕ
@@ -43,4 +43,4 @@ follows (Names file path) = path.now
 
 -- the whole question
 abbrev pub question_bytes : Question → List ℕ
-question_bytes question = flat_map (little_bytes 8) (numbers_of question) ++ follows question
+question_bytes question = flat_map (little_bytes 8) (question_numbers question) ++ follows question

@@ -1,7 +1,7 @@
 //! Questions asked, and their answers.
 ghost use Rattle.std.specs.Prelude.{◌≡◌, length, take, pos, IfOk, OnOk};
 ghost use Rattle.std.specs.Io.{ReadsAtMost, WritesAtMost};
-ghost use Rattle.asked_system.specs.Answers.{streams, IsTold, IsDone, IsYesTold, IsToldBytes};
+ghost use Rattle.asked_system.specs.Answers.{both_streams, IsNumberTold, IsDone, IsYesTold, IsToldBytes};
 ghost use Rattle.asked_system.specs.declared.question.Question.TheVariants.{Read as ToRead, Write as ToWrite, Names};
 
 use crate::question::{Question, put_question};
@@ -15,7 +15,7 @@ pub fn ask<R: Read, W: Write>(
     output: &mut W,
     question: &Question<'_>,
 ) -> io::Result<u64>
-    ensures { IfOk result (IsTold (streams (R.remaining input.old) (R.remaining input.new)
+    ensures { IfOk result (IsNumberTold (both_streams (R.remaining input.old) (R.remaining input.new)
         (W.contents output.old) (W.contents output.new)) question.now) }
 {
     put_question(output, question)?;
@@ -29,7 +29,7 @@ pub fn ask_for_lock<R: Read, W: Write>(
     output: &mut W,
     question: &Question<'_>,
 ) -> Result<(), TryLockError>
-    ensures { OnOk result (IsDone (streams (R.remaining input.old) (R.remaining input.new)
+    ensures { OnOk result (IsDone (both_streams (R.remaining input.old) (R.remaining input.new)
         (W.contents output.old) (W.contents output.new)) question.now) }
 {
     lock_outcome(ask(input, output, question))
@@ -42,7 +42,7 @@ pub fn ask_for_name<R: Read, W: Write>(
     file: u64,
     path: &str,
 ) -> io::Result<bool>
-    ensures { IfOk result (λ told. IsYesTold (streams (R.remaining input.old) (R.remaining input.new)
+    ensures { IfOk result (λ told. IsYesTold (both_streams (R.remaining input.old) (R.remaining input.new)
         (W.contents output.old) (W.contents output.new)) (Names file path.entry) told) }
 {
     let told = ask(input, output, &Question::Names { file, path })?;
@@ -58,7 +58,7 @@ pub fn ask_to_read<R: Read, W: Write>(
     bytes: &mut [u8],
 ) -> io::Result<usize>
     ensures bound { ReadsAtMost result bytes.new }
-    ensures told { IfOk result (λ n. IsToldBytes (streams (R.remaining input.old) (R.remaining input.new)
+    ensures told { IfOk result (λ n. IsToldBytes (both_streams (R.remaining input.old) (R.remaining input.new)
         (W.contents output.old) (W.contents output.new)) (ToRead file at (length bytes.old))
         (take n bytes.new)) }
 {
@@ -78,7 +78,7 @@ pub fn ask_to_write<R: Read, W: Write>(
     bytes: &[u8],
 ) -> io::Result<usize>
     ensures bound { WritesAtMost result bytes.now }
-    ensures told { IfOk result (IsTold (streams (R.remaining input.old) (R.remaining input.new)
+    ensures told { IfOk result (IsNumberTold (both_streams (R.remaining input.old) (R.remaining input.new)
         (W.contents output.old) (W.contents output.new)) (ToWrite file at bytes.entry)) }
 {
     let told = ask(input, output, &Question::Write { file, at, bytes })?;

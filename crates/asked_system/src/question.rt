@@ -11,7 +11,7 @@
 //! All numbers are little-endian.
 ghost use Rattle.std.specs.Prelude.{◌≡◌, OnOk};
 ghost use Rattle.std.specs.Io.KnownBytes.{Appends};
-ghost use Rattle.asked_system.specs.Questions.{opening_code, numbers_of, follows, question_bytes};
+ghost use Rattle.asked_system.specs.Questions.{opening_code, question_numbers, follows, question_bytes};
 
 use byteorder::{ByteOrder, LittleEndian};
 use std::io::{self, Write};
@@ -66,7 +66,7 @@ pub enum Question<'a> {
 impl<'a> Question<'a> {
     // What is asked, the file, where, and how many.
     fn numbers(&self) -> [u64; 4]
-        ensures { result ≡ numbers_of self.now }
+        ensures { result ≡ question_numbers self.now }
     {
         match *self {
             Question::Open { opening, path } => [0, 0, opening.code(), path.len() as u64],

@@ -39,3 +39,6 @@ impl<T: Drop, A: Allocator> RawBox<T, A> {
         unsafe { Box::from_raw(alloc, at) }
     }
 }
+
+// It may go to another thread if its value and its allocator may.
+unsafe impl<T: Send, A: Allocator + Send> Send for RawBox<T, A> {}
