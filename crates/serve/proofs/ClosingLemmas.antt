@@ -35,3 +35,8 @@ module _ {S : Type 0} (shown : Shown S) where
 
   pub all_closed : (old now : Files S) (made count : ℕ) → made ≡ count → HasClosed shown old now made count → (statuses : List Status) × ClosesAllFiles shown old statuses now
   all_closed old now made count is had = had.finish [] now (no_numbers now.opened (let few = had.left in omega arith), refl)
+
+  -- behind all the closes no file is open
+  pub none_left : (old : Files S) (statuses : List Status) (new : Files S) → ClosesAllFiles shown old statuses new → new.opened ≡ []
+  none_left old [] new (none, same) = ap (λ (f : Files S). f.opened) same ∙ none
+  none_left old (status ∷ rest) new (between, first, more) = none_left between rest new more

@@ -7,3 +7,4 @@ pub mod Serving
 pub mod Answering
 pub mod Books
 pub mod NoFalseFile
+pub mod AnswerRoom

@@ -11,6 +11,7 @@
 //! `specs/Books.antt` and `specs/NoFalseFile.antt` for what a crash may leave.
 #![tactic(auto)]
 
+mod answer_room;
 mod answering;
 mod fault;
 mod frame;
@@ -22,6 +23,7 @@ mod reads;
 mod serving;
 mod whole_session;
 
+pub use answer_room::answer_into;
 pub use answering::answer_request;
 pub use fault::ServeFault;
 pub use input::{InputFailed, Next, read_frame};

@@ -133,7 +133,8 @@ fn answer_all<M: Libraries, R: Read + ReadsAhead, W: Write>(
 
 /// Closes the files that are open, in the order of opening.
 pub fn close_all<L: Library + Drop>(session: &mut Session<L>)
-    ensures { (statuses : List ToldStatus) × ClosesAllFiles L.shown session.old statuses session.new }
+    ensures none_open { session.new.opened ≡ [] }
+    ensures closed { (statuses : List ToldStatus) × ClosesAllFiles L.shown session.old statuses session.new }
 {
     for _ in 0..session.open_count() {
         let _ = session.close_first();

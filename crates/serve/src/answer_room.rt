@@ -1,0 +1,37 @@
+//! The answer to a request, in the room that a caller has for it.
+ghost use Rattle.std.specs.Prelude.{◌≡◌, ◌≤◌, ◌++◌, drop, length};
+ghost use Rattle.serve.specs.AnswerRoom.{AnswersInto};
+
+use crate::answering::answer_request;
+use crate::libraries::Libraries;
+use crate::whole_session::no_false_file_in_requests;
+use file_session::Session;
+use request_frames::AnswerFrame;
+
+/// Puts bytes into the beginning of the room.
+fn put_first(room: &mut [u8], bytes: &[u8])
+    requires room { length bytes.now ≤ length room.old }
+    ensures put { room.new ≡ bytes.now ++ drop (length bytes.now) room.old }
+{
+    room[..bytes.len()].copy_from_slice(bytes);
+}
+
+/// Does what the body of a frame asks for, and puts the frame of the answer into the room, which
+/// is long enough for any. How many bytes the frame has.
+pub fn answer_into<M: Libraries>(
+    libraries: &M,
+    session: &mut Session<M::Library>,
+    body: &[u8],
+    room: &mut [u8],
+) -> usize
+    requires room { 4005 ≤ length room.old }
+    ensures { AnswersInto M.Library.shown (M.is_new libraries.now) body.now
+        session.old session.new room.old room.new result }
+{
+    // Brings the law that an answered request leaves no false file.
+    no_false_file_in_requests(libraries);
+    let mut frame = AnswerFrame::new();
+    answer_request(libraries, session, body, &mut frame);
+    put_first(room, frame.as_slice());
+    frame.len()
+}
