@@ -1,0 +1,64 @@
+//! A session that C holds.
+ghost use Rattle.std.specs.Prelude.{◌≡◌, true, Option, Some, is_some};
+ghost use Rattle.std.specs.contracts.impls.GlobalAllocator.TheImpl.{ghosts};
+ghost use Rattle.cobix_inside.specs.declared.open_session.OpenSession.{OpenSession};
+ghost use Rattle.cobix_inside.specs.contracts.open_session.OpenSession.{the_row as session_row};
+ghost use Rattle.std.specs.Coded.{coded_option};
+ghost use Rattle.cobix_inside.specs.Lending.{lent_owns};
+
+use crate::open_session::OpenSession;
+use raw_box::RawBox;
+use std::alloc::Global;
+use std::marker::Model;
+
+/// A session, or nothing: then the pointer may be any. C sees a pointer, and keeps it as it is.
+#[repr(C)]
+#[derive(Drop)]
+pub struct Handle {
+    at: *mut u8,
+    alloc: Global,
+    pub ghost value: { Option OpenSession } by { coded_option session_row.coded },
+}
+
+impl Model for Handle {
+    ghost also_owns = { λ h. lent_owns (ghosts.dealloc_token h.alloc) session_row h.at h.value };
+}
+
+impl Handle {
+    // The same pointer, of a type that C knows.
+    fn seal(raw: RawBox<OpenSession, Global>) -> Handle
+        ensures { result.value ≡ Some raw.value }
+    {
+        let RawBox { at, alloc } = raw;
+        Handle {
+            at: at as *mut u8,
+            alloc,
+        }
+    }
+
+    fn unseal(self) -> RawBox<OpenSession, Global>
+        requires { is_some self.value ≡ true }
+        ensures { self.value ≡ Some result.value }
+    {
+        let Handle { at, alloc } = self;
+        RawBox {
+            at: at as *mut OpenSession,
+            alloc,
+        }
+    }
+
+    /// Hands a session to C.
+    pub(crate) fn of(value: Box<OpenSession>) -> Handle
+        ensures { result.value ≡ Some value.value }
+    {
+        Handle::seal(RawBox::of(value))
+    }
+
+    /// Takes a session back from C.
+    pub(crate) fn into_box(self) -> Box<OpenSession>
+        requires { is_some self.value ≡ true }
+        ensures { self.value ≡ Some result.value }
+    {
+        self.unseal().into_box()
+    }
+}
