@@ -1,8 +1,8 @@
 -- What a fuse counts, and when it fails a call.
-use Rattle.std.specs.Prelude.{◌≡◌, ◌⊎◌, Result, IsErr, IsErrOf, ℕ, ◌+◌, ◌-◌, ◌^◌, min, Bool, true, false}
+use Rattle.std.specs.Prelude.{◌≡◌, ◌⊎◌, Result, IsErrOf, ℕ, ◌+◌, ◌-◌, ◌^◌, min, Bool, true, false}
 use Rattle.std.specs.Prelude.{◌==◌, ◌&&◌, ◌||◌, if◌then◌else◌}
 use Rattle.io_state.specs.declared.fault.Fault.{Fault}
-use Rattle.io_state.specs.declared.fault.Fault.TheVariants.{Device, Memory}
+use Rattle.io_state.specs.declared.fault.Fault.TheVariants.{Device}
 use Rattle.page_store.specs.ShelfState.{FaultHasCause}
 use Rattle.memory_shelf.specs.declared.fuse.Kind.{Kind}
 use Rattle.memory_shelf.specs.declared.fuse.Kind.TheVariants.{Reads, Writes, Syncs, Changes}
@@ -29,6 +29,7 @@ unused_fuse kind at after for_good = record {
   syncs = 0;
   blown = false;
   refused = 0;
+  unperformed = 0;
 }
 
 -- the fuse counts the calls of its kind
@@ -72,17 +73,20 @@ after_call fuse call = record (counted fuse call) { blown = fuse.blown || (fires
 abbrev pub one_refused : Fuse → Fuse
 one_refused fuse = record fuse { refused = capped fuse.refused 1 }
 
+-- and when the shelf has not performed one that was to fail behind its effect
+abbrev pub one_unperformed : Fuse → Fuse
+one_unperformed fuse = record fuse { unperformed = capped fuse.unperformed 1 }
+
 -- a call on a shelf behind a fuse. One that fails before its effect leaves the shelf as it was. One
--- that fails behind its effect was performed, unless the shelf failed. No other fails unless the
--- shelf does. What the fuse refuses is counted, and nothing else.
+-- that fails behind its effect was performed, or is counted as one that the shelf did not perform.
+-- No other fails unless the shelf does. Each call that the fuse fails answers Device and is counted
+-- as refused, and no other is.
 pub record Fused {S T : Type 0} (call : Call) (faults : S → ℕ) (Effect : Type 0) (old new : Fuse)
     (before after : S) (result : Result T Fault) : Type 0 where
   pub refused : turn_of old call ≡ Fail → IsErrOf result Device × (after ≡ before)
       × (new ≡ one_refused (after_call old call))
-  pub performed : turn_of old call ≡ PerformAndFail → IsErr result
-      × (Effect ⊎ FaultHasCause (faults before) (faults after) result)
-  pub counted : turn_of old call ≡ PerformAndFail
-      → (IsErrOf result Device × (new ≡ one_refused (after_call old call)))
-      ⊎ (IsErrOf result Memory × (new ≡ after_call old call))
+  pub performed : turn_of old call ≡ PerformAndFail → IsErrOf result Device
+      × ((Effect × (new ≡ one_refused (after_call old call)))
+      ⊎ (new ≡ one_refused (one_unperformed (after_call old call))))
   pub passed : turn_of old call ≡ Perform → FaultHasCause (faults before) (faults after) result
       × (new ≡ after_call old call)

@@ -1,7 +1,8 @@
 //! A fuse: it counts calls, and says which of them fail.
-ghost use Rattle.std.specs.Prelude.{◌≡◌, IsErrOf};
-ghost use Rattle.io_state.specs.declared.fault.Fault.TheVariants.{Device, Memory};
+ghost use Rattle.std.specs.Prelude.{◌≡◌, IsErr, IsErrOf, OnOk};
+ghost use Rattle.io_state.specs.declared.fault.Fault.TheVariants.{Device};
 ghost use Rattle.memory_shelf.specs.Fuses.{is_counted, calls_of, turn_of, counted, after_call, one_refused};
+ghost use Rattle.memory_shelf.specs.Fuses.{one_unperformed};
 
 use io_state::Fault;
 
@@ -48,6 +49,7 @@ pub(crate) struct Fuse {
     pub(crate) syncs: u64,
     pub(crate) blown: bool,
     pub(crate) refused: u64,
+    pub(crate) unperformed: u64,
 }
 
 impl Fuse {
@@ -96,15 +98,16 @@ impl Fuse {
         Err(Fault::Device)
     }
 
-    /// Fails a call that was performed. Where it wanted memory, that is what it answers.
+    /// Fails a call behind its effect, and notes where the shelf below has not performed it.
     pub(crate) fn fail_behind(&mut self, done: Result<(), Fault>) -> Result<(), Fault>
-        ensures memory { IsErrOf done Memory → (result ≡ done) × (self.new ≡ self.old) }
-        ensures device { ¬ IsErrOf done Memory → IsErrOf result Device × (self.new ≡ one_refused self.old) }
+        ensures device { IsErrOf result Device }
+        ensures performed { OnOk done (self.new ≡ one_refused self.old) }
+        ensures not { IsErr done → self.new ≡ one_refused (one_unperformed self.old) }
     {
-        match done {
-            Err(Fault::Memory) => done,
-            _ => self.fail(),
+        if done.is_err() {
+            self.unperformed = self.unperformed.saturating_add(1);
         }
+        self.fail()
     }
 
     fn count(&mut self, call: Call)

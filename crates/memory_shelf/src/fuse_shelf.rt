@@ -23,9 +23,8 @@ pub struct FuseShelf<S: Shelf + Drop> {
 
 impl<S: Shelf + Drop> FuseShelf<S> {
     /// The `at`-th call of this kind, counted from 1, answers `Fault::Device`; 0 is none. With
-    /// `after` it is performed first, and answers `Fault::Memory` where it wanted memory. With
-    /// `for_good` every later call but `attach` and `faults` answers `Fault::Device` too, and
-    /// performs nothing.
+    /// `after` it is performed first, whatever the shelf below answers. With `for_good` every later
+    /// call but `attach` and `faults` answers `Fault::Device` too, and performs nothing.
     pub fn new(shelf: S, kind: Kind, at: u64, after: bool, for_good: bool) -> FuseShelf<S>
         ensures shelf { result.inner ≡ shelf }
         ensures fuse { result.fuse ≡ unused_fuse kind at after for_good }
@@ -43,6 +42,7 @@ impl<S: Shelf + Drop> FuseShelf<S> {
                 syncs: 0,
                 blown: false,
                 refused: 0,
+                unperformed: 0,
             },
         }
     }
@@ -52,6 +52,14 @@ impl<S: Shelf + Drop> FuseShelf<S> {
         ensures { result ≡ calls_of self.now.fuse kind }
     {
         self.fuse.calls(kind)
+    }
+
+    /// How many of the calls that failed behind their effect the shelf below did not perform. At its
+    /// greatest value it stays.
+    pub fn unperformed(&self) -> u64
+        ensures { result ≡ self.now.fuse.unperformed }
+    {
+        self.fuse.unperformed
     }
 
     /// The shelf below.
