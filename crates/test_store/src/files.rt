@@ -184,6 +184,7 @@ pub fn fails_at<S: Shelf + Drop>(
     let found = find(&mut shelf);
     let failed = shelf.faults() > 0;
     assert_equal_for(rt, fuse, failed, shelf.calls(kind) >= at);
+    assert_equal_for(rt, fuse, shelf.unperformed(), 0);
     if !failed {
         assert_equal_for(rt, fuse, made, true);
         assert_equal_for(rt, fuse, found, Ok(Found::Closed(7, count)));
@@ -195,21 +196,36 @@ pub fn fails_at<S: Shelf + Drop>(
     true
 }
 
-// Each of the calls of a kind fails in turn.
-fn each_call_fails(rt: &impl Abort, alloc: Global, kind: Kind, after: bool, for_good: bool) {
+// Each of the calls of a kind fails in turn, up to the first number that no call has. How many calls
+// there are.
+fn each_call_fails(rt: &impl Abort, alloc: Global, kind: Kind, after: bool, for_good: bool) -> u64 {
     for at in 1..200 {
         let inner = new_shelf(rt, alloc);
         if !fails_at(rt, inner, (kind, at, after, for_good), 100) {
-            break;
+            return at - 1;
         }
     }
+    200
+}
+
+/// How many calls of each kind make a file of so many pages and read it back. The first page is read
+/// twice, first for its gate. The gate is written before the pages and behind them. The file is synced
+/// when its gate is open, when its pages are written, and when its gate is closed. It is created once.
+pub fn calls_for(pages: u32) -> [(Kind, u64); 4] {
+    [
+        (Kind::Reads, u64::from(pages) + 1),
+        (Kind::Writes, u64::from(pages) + 2),
+        (Kind::Syncs, 3),
+        (Kind::Changes, u64::from(pages) + 6),
+    ]
 }
 
 #[test]
 fn a_file_is_closed_only_if_no_call_failed(rt: HostRuntime) {
-    for &kind in &[Kind::Reads, Kind::Writes, Kind::Syncs, Kind::Changes] {
+    for (kind, expected) in calls_for(100) {
         for &(after, for_good) in &WAYS {
-            each_call_fails(&rt, rt.alloc(), kind, after, for_good);
+            let calls = each_call_fails(&rt, rt.alloc(), kind, after, for_good);
+            assert_equal_for(&rt, (kind, after, for_good), calls, expected);
         }
     }
 }
@@ -295,17 +311,26 @@ fn stops_making(rt: &impl Abort, alloc: Global, start: u32, after: bool, at: u64
     done
 }
 
+// A file is made anew, and stopped at each change in turn. How many changes there are.
+fn stops_making_at_each(rt: &impl Abort, alloc: Global, start: u32, after: bool) -> u64 {
+    for at in 1..30 {
+        if stops_making(rt, alloc, start, after, at) {
+            return at - 1;
+        }
+    }
+    30
+}
+
 // A file is made anew over none, over an empty one, over a closed one and over one whose change was
-// stopped.
+// stopped. Two pages, a sync, the gate and a sync are five changes. Before them the gate is opened: the
+// file is created, or synced where it is empty, and then the gate and a sync; only these two where it is
+// closed; and where it is open already, a sync alone.
 #[test]
 fn a_stop_inside_make_leaves_no_file_a_refused_one_the_old_or_the_new(rt: HostRuntime) {
-    for start in 0..4 {
+    for &(start, changes) in &[(0, 8), (1, 8), (2, 7), (3, 6)] {
         for &after in &[false, true] {
-            for at in 1..30 {
-                if stops_making(&rt, rt.alloc(), start, after, at) {
-                    break;
-                }
-            }
+            let found = stops_making_at_each(&rt, rt.alloc(), start, after);
+            assert_equal_for(&rt, (start, after), found, changes);
         }
     }
 }
@@ -321,13 +346,21 @@ fn stops_changing(rt: &impl Abort, alloc: Global, after: bool, at: u64) -> bool 
     done
 }
 
+// A file is changed, and stopped at each change in turn. How many changes there are.
+fn stops_changing_at_each(rt: &impl Abort, alloc: Global, after: bool) -> u64 {
+    for at in 1..30 {
+        if stops_changing(rt, alloc, after, at) {
+            return at - 1;
+        }
+    }
+    30
+}
+
+// The gate and a sync open it; then come two pages, a sync, the gate and a sync.
 #[test]
 fn a_stop_inside_a_change_leaves_the_old_file_a_refused_one_or_the_new(rt: HostRuntime) {
     for &after in &[false, true] {
-        for at in 1..30 {
-            if stops_changing(&rt, rt.alloc(), after, at) {
-                break;
-            }
-        }
+        let found = stops_changing_at_each(&rt, rt.alloc(), after);
+        assert_equal_for(&rt, after, found, 7);
     }
 }

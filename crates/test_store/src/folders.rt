@@ -1,7 +1,7 @@
 //! Files in a folder of the system, written and read back.
 
-use crate::checks::{assert_equal, assert_that, has_bytes};
-use crate::files::{Found, WAYS, fails_at, find, make};
+use crate::checks::{assert_equal, assert_equal_for, assert_that, has_bytes};
+use crate::files::{Found, WAYS, calls_for, fails_at, find, make};
 use crate::shelves::attach;
 use folder_shelf::{EmptyDisk, FolderShelf};
 use io_state::Fault;
@@ -39,22 +39,31 @@ fn a_hundred_pages_are_read_as_written(rt: HostRuntime) {
     assert_equal(&rt, shelf.faults(), 0);
 }
 
-// Each of the calls of a kind fails in turn.
-fn each_call_fails(test: &impl Abort, rt: HostRuntime, kind: Kind, after: bool, for_good: bool) {
+// Each of the calls of a kind fails in turn, up to the first number that no call has. How many calls
+// there are.
+fn each_call_fails(
+    test: &impl Abort,
+    rt: HostRuntime,
+    kind: Kind,
+    after: bool,
+    for_good: bool,
+) -> u64 {
     for at in 1..20 {
         let mut inner = new_shelf(test, rt, "failing_calls");
         attach(test, &mut inner);
         if !fails_at(test, inner, (kind, at, after, for_good), 5) {
-            break;
+            return at - 1;
         }
     }
+    20
 }
 
 #[test]
 fn a_file_is_closed_only_if_no_call_failed(rt: HostRuntime) {
-    for &kind in &[Kind::Reads, Kind::Writes, Kind::Syncs, Kind::Changes] {
+    for (kind, expected) in calls_for(5) {
         for &(after, for_good) in &WAYS {
-            each_call_fails(&rt, rt, kind, after, for_good);
+            let calls = each_call_fails(&rt, rt, kind, after, for_good);
+            assert_equal_for(&rt, (kind, after, for_good), calls, expected);
         }
     }
 }

@@ -196,7 +196,7 @@ fn fails_at(
     failed
 }
 
-// Each call of a kind fails in turn, as far as there are so many. How many there are.
+// Each call of a kind fails in turn, up to the first number that no call has. How many calls there are.
 fn each_call_fails(
     rt: &impl Abort,
     alloc: Global,
@@ -214,14 +214,24 @@ fn each_call_fails(
     most
 }
 
-const KINDS: [Kind; 3] = [Kind::Reads, Kind::Writes, Kind::Syncs];
+// How many calls of each kind make a file of so many pages. None reads. The gate and the header are
+// written twice, and so is each page: as one of zeros where it is taken, and when it was changed. The
+// file is synced when its gate is open, when its pages are written, and when its gate is closed.
+fn calls_for(pages: u32) -> [(Kind, u64); 3] {
+    [
+        (Kind::Reads, 0),
+        (Kind::Writes, u64::from(pages) * 2 + 4),
+        (Kind::Syncs, 3),
+    ]
+}
 
 #[test]
 fn a_file_is_closed_whole_or_refused_whichever_call_failed(rt: HostRuntime) {
     for &held in &[1, 3, 64] {
-        for &kind in &KINDS {
+        for (kind, expected) in calls_for(8) {
             for &way in &WAYS {
-                each_call_fails(&rt, rt.alloc(), kind, way, held, 8, 200);
+                let calls = each_call_fails(&rt, rt.alloc(), kind, way, held, 8, 200);
+                assert_equal_for(&rt, (kind, held), calls, expected);
             }
         }
     }
@@ -232,9 +242,9 @@ fn a_file_of_a_hundred_pages_is_closed_whole_or_refused_whichever_call_failed_on
     rt: HostRuntime,
 ) {
     for &held in &[1, 64] {
-        for &kind in &KINDS {
+        for (kind, expected) in calls_for(100) {
             let calls = each_call_fails(&rt, rt.alloc(), kind, (false, false), held, 100, 1000);
-            assert_equal_for(&rt, (kind, held), calls < 999, true);
+            assert_equal_for(&rt, (kind, held), calls, expected);
         }
     }
 }
@@ -256,20 +266,22 @@ fn read_fails_at(rt: &impl Abort, alloc: Global, way: (bool, bool), held: usize,
     failed
 }
 
-// Each read fails in turn.
-fn each_read_fails(rt: &impl Abort, alloc: Global, way: (bool, bool), held: usize) {
+// Each read fails in turn, up to the first number that no read has. How many reads there are.
+fn each_read_fails(rt: &impl Abort, alloc: Global, way: (bool, bool), held: usize) -> u64 {
     for at in 1..200 {
         if !read_fails_at(rt, alloc, way, held, at) {
-            break;
+            return at - 1;
         }
     }
+    200
 }
 
 #[test]
 fn pages_are_read_as_written_or_not_at_all_whichever_read_failed(rt: HostRuntime) {
     for &held in &[1, 3, 64] {
         for &way in &WAYS {
-            each_read_fails(&rt, rt.alloc(), way, held);
+            // The header and each of the eight pages, once.
+            assert_equal_for(&rt, held, each_read_fails(&rt, rt.alloc(), way, held), 9);
         }
     }
 }
