@@ -538,19 +538,19 @@ fn a_reader_that_fails_is_a_fault(rt: HostRuntime) -> Result<(), Fail> {
     Ok(())
 }
 
-// What may stand at a place of the file of three keys: one thing, or any byte; in the text of a record and in
-// the next stamp, some.
+// What may stand at a place of the file of three keys: one thing, a byte of a next stamp that is above the
+// stamps that were given, or any byte.
 #[derive(Clone, Copy)]
 enum Freedom {
     None,
-    Some,
+    NextStamp,
     Any,
 }
 
 fn what_may_stand(at: usize) -> Freedom {
     let (page, place) = (at / 4096, at % 4096);
     match (page, place) {
-        (0, 40..48) => Freedom::Some,
+        (0, 40..48) => Freedom::NextStamp,
         (1, 46..4096) | (2, 58..4096) | (3, 64..4096) | (5, 8..4096) => Freedom::Any,
         (4, 16..79) if (place - 16) % 21 >= 19 => Freedom::Any,
         (4, 79..4090) if (place - 16) % 21 >= 7 => Freedom::Any,
@@ -560,12 +560,26 @@ fn what_may_stand(at: usize) -> Freedom {
     }
 }
 
+/// Whether a next stamp may stand: the greatest stamp of the file is 3, and none is above 2^63.
+fn may_be_next(stamp: u64) -> bool {
+    4 <= stamp && stamp <= 1 << 63
+}
+
+/// The next stamp that the header has.
+fn next_stamp(bytes: &[u8]) -> u64 {
+    let mut stamp = 0u64;
+    for &byte in bytes.get(40..48).unwrap_or(&[]) {
+        stamp = stamp.wrapping_mul(256).wrapping_add(u64::from(byte));
+    }
+    stamp
+}
+
 /// Whether a file is found sound where it may be, of which the byte at a place is changed, or stays the same.
 fn stands_rightly(alloc: Global, bytes: &[u8], at: usize, is_same: bool) -> bool {
     let is_sound = check(alloc, bytes) == Ok(SOUND_THREE);
     match what_may_stand(at) {
         Freedom::None => is_sound == is_same,
-        Freedom::Some => true,
+        Freedom::NextStamp => is_sound == may_be_next(next_stamp(bytes)),
         Freedom::Any => is_sound,
     }
 }
