@@ -13,6 +13,7 @@ DECK = examples/payroll.deck
 DIR = files
 PREFIX = /usr/local
 PROGRAM = crates/cobix/out/cobix
+LISTS = crates/decks_over_lists/out/decks_over_lists
 JOBS = 2
 # How many crates the gate proves side by side, each by one process: one a processor, as far as there are four gigabytes for each.
 LANES = $(shell awk -v most=$$(nproc) '/^MemAvailable/ { few = int($$2 / 4000000); print (few < 1 ? 1 : few < most ? few : most) }' /proc/meminfo)
@@ -33,7 +34,7 @@ test:
 	share/write --check
 	RT_JOBS=$(LANES) rt ci
 	cases/run $(PROGRAM)
-	cases/run-out-of-memory $(PROGRAM)
+	cases/run-out-of-memory $(PROGRAM) $(LISTS)
 	docs/check $(PROGRAM)
 
 # Programs that GnuCOBOL compiles, over the program that was built: needs cobc.
