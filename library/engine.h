@@ -1,0 +1,30 @@
+/* A session of the proved library in this process: a request goes in, its answer comes out, both as docs/FRAMES.md has them. */
+#ifndef ENGINE_H
+#define ENGINE_H
+#include <stdbool.h>
+#include <stddef.h>
+#include <stdint.h>
+
+struct engine;
+
+/* The longest body of a request, and the longest answer. */
+enum { ENGINE_REQUEST = 8192, ENGINE_ANSWER = 4005 };
+
+enum { ENGINE_FEWEST_PAGES = 16, ENGINE_PAGES = 1048576, ENGINE_FRAMES = 1024, ENGINE_MOST_FRAMES = 4096 };
+
+/* Begins a session over the folder of this path, which is UTF-8. At least ENGINE_FEWEST_PAGES pages, and 1 to ENGINE_MOST_FRAMES frames.
+   NULL where memory is lacking. */
+struct engine *cobix_engine_begin(const char *folder, uint32_t pages, uint32_t frames);
+
+/* Does what the body of a request asks for, of 1 to ENGINE_REQUEST bytes. Where its answer is until the next call, the two bytes of its
+   length first, and how many bytes it has. One call at a time in a session; it never waits for another process or thread. */
+size_t cobix_engine_ask(struct engine *engine, const uint8_t *body, size_t length, const uint8_t **answer);
+
+/* Closes the files that are open, in the order of opening, and ends the session. In a child of fork() the files are the parent's: then
+   it gives memory back, and no more. */
+void cobix_engine_end(struct engine *engine);
+
+/* Whether this process is a child of the one that began the session. Its descriptors were closed here by fork(). */
+bool cobix_engine_is_parents(const struct engine *engine);
+
+#endif
