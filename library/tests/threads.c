@@ -1,0 +1,133 @@
+/* Threads: sessions side by side, one session passed from thread to thread, and calls that overlap in one session.
+   The last line is "threads: N passed, M failed".    usage: threads FOLDER, which is empty */
+#define _GNU_SOURCE
+#include "check.h"
+#include "cobix.h"
+#include <pthread.h>
+#include <stdio.h>
+#include <string.h>
+
+enum { THREADS = 4, RECORDS = 2000, TURNS = 200 };
+
+static const char *folder;
+static const cobix_key keys[] = {{0, 5, false}, {5, 3, true}};
+
+static cobix *session_of(const char *name, cobix_file **file)
+{
+    cobix *session;
+    cobix_description d = {.name = name, .access = COBIX_DYNAMIC, .least = 8, .greatest = 20, .key_count = 2, .keys = keys};
+    if (cobix_open(folder, &(cobix_limits){.frames = 2}, &session) || cobix_describe(session, &d, file))
+        return NULL;
+    return session;
+}
+
+/* Writes records and reads them back. How many verbs succeeded. */
+static void *works(void *name)
+{
+    cobix_file *file;
+    cobix *session = session_of(name, &file);
+    const void *record;
+    char bytes[21];
+    size_t length;
+    long good = 0;
+    cobix_open_file(file, COBIX_OUTPUT);
+    for (int i = 0; i < RECORDS; i++) {
+        snprintf(bytes, sizeof bytes, "%05d%03d%12s", i * 7919 % RECORDS, i % 50, (char *)name);
+        good += cobix_succeeded(cobix_write(file, bytes, 20));
+    }
+    cobix_close_file(file, false), cobix_open_file(file, COBIX_INPUT);
+    while (cobix_read_next(file, &record, &length) == 0)
+        good += length == 20 && memcmp((const char *)record + 18, (char *)name, 2) == 0;
+    cobix_close(session);
+    return (void *)good;
+}
+
+static void side_by_side(void)
+{
+    pthread_t all[THREADS];
+    static char *const names[THREADS] = {"T0", "T1", "T2", "T3"};
+    for (int i = 0; i < THREADS; i++)
+        CHECK("a thread begins", pthread_create(&all[i], NULL, works, names[i]), 0);
+    for (int i = 0; i < THREADS; i++) {
+        void *good;
+        pthread_join(all[i], &good);
+        CHECK("what it did", (long)good, 2 * RECORDS);
+    }
+}
+
+static cobix_file *shared;
+
+static void *adds_one(void *count)
+{
+    char bytes[9];
+    snprintf(bytes, sizeof bytes, "%05ldAAA", (long)count);
+    return (void *)(long)cobix_succeeded(cobix_write(shared, bytes, 8));
+}
+
+/* Each thread begins where the one before was joined. */
+static void passed_on(void)
+{
+    cobix *session = session_of("ROUND", &shared);
+    long good = 0;
+    CHECK("output", cobix_open_file(shared, COBIX_OUTPUT), 0);
+    for (long i = 0; i < TURNS; i++) {
+        pthread_t thread;
+        void *well;
+        pthread_create(&thread, NULL, adds_one, (void *)i);
+        pthread_join(thread, &well);
+        good += (long)well;
+    }
+    CHECK("written", good, TURNS);
+    CHECK("close", cobix_close_file(shared, false), 0);
+    CHECK("close session", cobix_close(session), 0);
+}
+
+/* Writes its own records, each until the call does not overlap with that of another thread. How many calls did. */
+static void *presses(void *first)
+{
+    char bytes[9];
+    long overlapped = 0;
+    for (long i = 0; i < RECORDS; i++) {
+        snprintf(bytes, sizeof bytes, "%05ldAAA", (long)first + i * THREADS);
+        int status;
+        while ((status = cobix_write(shared, bytes, 8)) == COBIX_MISUSE)
+            overlapped++;
+        if (!cobix_succeeded(status))
+            return (void *)-1L;
+    }
+    return (void *)overlapped;
+}
+
+static void overlapping(void)
+{
+    cobix *session = session_of("PRESSED", &shared);
+    pthread_t all[THREADS];
+    const void *record;
+    size_t length;
+    long count = 0;
+    CHECK("output", cobix_open_file(shared, COBIX_OUTPUT), 0);
+    for (long i = 0; i < THREADS; i++)
+        pthread_create(&all[i], NULL, presses, (void *)i);
+    for (int i = 0; i < THREADS; i++) {
+        void *overlapped;
+        pthread_join(all[i], &overlapped);
+        CHECK("all were written", (long)overlapped >= 0, 1);
+    }
+    CHECK("close", cobix_close_file(shared, false), 0);
+    CHECK("input", cobix_open_file(shared, COBIX_INPUT), 0);
+    while (cobix_read_next(shared, &record, &length) == 0)
+        count++;
+    CHECK("records", count, THREADS * RECORDS);
+    CHECK("close session", cobix_close(session), 0);
+}
+
+int main(int count, char **words)
+{
+    if (count != 2)
+        return 2;
+    folder = words[1];
+    side_by_side();
+    passed_on();
+    overlapping();
+    return told("threads");
+}
