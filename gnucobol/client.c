@@ -1,138 +1,99 @@
-/* The processes `cobix serve`: one for each folder in use, from the first OPEN there to the end of the program. */
+/* The sessions: one for each folder in use, from the first OPEN there to the end of the program; more where a file is open under two
+   SELECTs. Each is performed in this process, or by a process `cobix serve`. */
 #define _GNU_SOURCE
 #include "handler.h"
-#include <errno.h>
-#include <fcntl.h>
-#include <spawn.h>
 #include <stdio.h>
 #include <stdlib.h>
 #include <string.h>
 #include <sys/stat.h>
-#include <sys/wait.h>
 #include <unistd.h>
 
 static struct server *servers;
-static pid_t owner; /* the program; a copy that it makes of itself leaves the processes alone */
+static pid_t owner; /* the program; a copy that it makes of itself leaves the sessions alone */
 
-static void hang_up(struct server *server) { for (int *end = server->ends; *end >= 0; end++) close(*end), *end = -1; }
+/* Starts a session in this process or in one of its own: what COBIX_PROCESS says, or the default. Whether it was had. */
+static bool begin(struct server *server, const char *folder)
+{
+    const char *way = getenv("COBIX_PROCESS");
+    if (!way || !*way)
+        way = HAS_INSIDE ? "inside" : "serve";
+    if (strcmp(way, "inside") == 0)
+        return inside_start(server, folder);
+    if (strcmp(way, "serve") == 0)
+        return process_start(server, folder);
+    fprintf(stderr, "cobix: COBIX_PROCESS is `inside` or `serve`, and not `%s`\n", way);
+    return false;
+}
 
-/* Ends each process, which then closes the files that are open, and waits for it. */
-static void end_all(void)
+/* Where a session has ended by itself no verb reaches it. */
+static bool is_alive(const struct server *server) { return server->engine || server->ends[0] >= 0; }
+
+bool is_ours(pid_t process)
+{
+    const struct server *server = servers;
+    while (server && server->process != process)
+        server = server->next;
+    return server || process == getpid();
+}
+
+void end_sessions(void)
 {
     if (getpid() != owner)
         return;
-    for (struct server *server = servers; server; server = server->next)
-        hang_up(server);
-    while (servers) {
-        struct server *server = servers;
-        int status = 0;
-        while (waitpid(server->process, &status, 0) < 0 && errno == EINTR)
-            continue;
-        if (status)
-            fprintf(stderr, "cobix: the process that closes the files ended with status %d\n",
-                    status >> 8 ? status >> 8 : 128 + (status & 127));
-        servers = server->next;
-        free(server);
+    for (struct server *server = servers; server; server = server->next) {
+        if (server->engine)
+            inside_end(server);
+        process_hang_up(server);
     }
 }
 
-/* The same end, not under the number of standard input, output or error. */
-static int above_standard(int end) { int above = fcntl(end, F_DUPFD_CLOEXEC, 3); close(end); return above; }
-
-/* The process is in a group of its own, so that a key that interrupts the program leaves it the time to close the files. */
-static bool start(struct server *server, const char *folder)
+/* At the end of the program. Processes close the files side by side, and are waited for. */
+static void end_all(void)
 {
-    const char *program = getenv("COBIX"), *frames = getenv("COBIX_FRAMES");
-    const char *words[] = {"cobix", "serve", "--folder", folder, frames ? "--frames" : NULL, frames, NULL};
-    int *ends = memset(server->ends, -1, sizeof server->ends);
-    bool fault = pipe2(ends, O_CLOEXEC) || pipe2(ends + 2, O_CLOEXEC);
-    for (int i = 0; i < ENDS; i++)
-        ends[i] = above_standard(ends[i]);
-    posix_spawn_file_actions_t actions;
-    posix_spawnattr_t attributes;
-    posix_spawn_file_actions_init(&actions);
-    posix_spawnattr_init(&attributes);
-    fault = fault || posix_spawn_file_actions_adddup2(&actions, ends[REQUESTS_OUT], 0) ||
-            posix_spawn_file_actions_adddup2(&actions, ends[ANSWERS_IN], 1) ||
-            posix_spawnattr_setflags(&attributes, POSIX_SPAWN_SETPGROUP) ||
-            posix_spawnp(&server->process, program && *program ? program : "cobix", &actions, &attributes,
-                         (char *const *)(uintptr_t)words, environ);
-    posix_spawnattr_destroy(&attributes);
-    posix_spawn_file_actions_destroy(&actions);
-    close(ends[ANSWERS_IN]), ends[ANSWERS_IN] = -1;
-    if (fault)
-        hang_up(server);
-    return !fault;
+    end_sessions();
+    for (struct server *server = getpid() == owner ? servers : NULL; server; server = server->next) {
+        int status = server->process ? process_wait(server) : 0;
+        if (status)
+            fprintf(stderr, "cobix: the process that closes the files ended with status %d\n", status);
+    }
 }
 
-struct server *server_of(const char *folder)
+static struct server *start(const char *folder, const struct stat *found)
+{
+    struct server *server = calloc(1, sizeof *server);
+    if (!server)
+        return NULL;
+    memset(server->ends, -1, sizeof server->ends);
+    if (!begin(server, folder)) {
+        free(server);
+        return NULL;
+    }
+    server->device = found->st_dev, server->folder = found->st_ino;
+    struct server **end = &servers;
+    while (*end)
+        end = &(*end)->next;
+    return *end = server;
+}
+
+struct server *server_of(const char *folder, struct server *behind)
 {
     struct stat found;
     if (stat(folder, &found) || !S_ISDIR(found.st_mode) || (owner && owner != getpid()))
         return NULL;
-    for (struct server *server = servers; server; server = server->next)
-        if (server->ends[0] >= 0 && server->device == found.st_dev && server->folder == found.st_ino)
+    for (struct server *server = behind ? behind->next : servers; server; server = server->next)
+        if (is_alive(server) && server->device == found.st_dev && server->folder == found.st_ino)
             return server;
     if (!owner && atexit(end_all))
         return NULL;
     owner = getpid();
-    struct server *server = calloc(1, sizeof *server);
-    if (!server || !start(server, folder)) {
-        free(server);
-        return NULL;
-    }
-    server->device = found.st_dev, server->folder = found.st_ino, server->next = servers;
-    return servers = server;
-}
-
-static bool put(int end, const uint8_t *bytes, size_t length)
-{
-    for (ssize_t sent; length; bytes += sent, length -= (size_t)sent) {
-        while ((sent = write(end, bytes, length)) < 0 && errno == EINTR)
-            continue;
-        if (sent <= 0)
-            return false;
-    }
-    return true;
-}
-
-/* Takes so many frames. How many came whole: where it is fewer, or more bytes came, the process is asked no more. */
-static unsigned get(struct server *server, unsigned wanted, uint8_t *frames)
-{
-    unsigned came = 0;
-    size_t had = 0, whole = 0, length = FRAME;
-    while (came < wanted) {
-        ssize_t got = read(server->ends[ANSWERS_OUT], frames + had, ANSWERS - had);
-        if (got < 0 && errno == EINTR)
-            continue;
-        had += got > 0 ? (size_t)got : 0;
-        for (; came < wanted && had >= whole + 2; whole += length, came++)
-            if ((length = 2 + (size_t)two(frames + whole)) < 3 || length > had - whole)
-                break;
-        if (got <= 0 || length < 3 || length > FRAME)
-            break;
-    }
-    if (came < wanted || whole < had)
-        hang_up(server);
-    return came;
+    return start(folder, &found);
 }
 
 size_t exchange(struct server *server, uint8_t *request, size_t length, unsigned most, struct answers *from, const uint8_t **answer)
 {
-    if (owner != getpid())
+    if (owner != getpid() || !is_alive(server))
         return 0;
-    if (from->left == 0) {
-        from->asked = 2 * from->asked >= most ? most : from->asked ? 2 * from->asked : 1;
-        put_two(request, (unsigned)length - 2);
-        for (unsigned i = 1; i < from->asked; i++)
-            memcpy(request + i * length, request, length);
-        if (!put(server->ends[REQUESTS_IN], request, from->asked * length))
-            hang_up(server);
-        from->left = get(server, from->asked, from->bytes), from->next = from->bytes;
-    }
-    if (from->left == 0)
-        return 0;
-    from->left--, *answer = from->next;
-    from->next += 2 + two(*answer);
-    return 2 + (size_t)two(*answer);
+    if (server->engine)
+        return inside_exchange(server, request, length, answer);
+    return process_exchange(server, request, length, most, from, answer);
 }

@@ -5,10 +5,11 @@
 #include <stdlib.h>
 #include <string.h>
 
-enum { KEYS = 9 };
+enum { KEYS = 9, MOST_REFUSED = 100 };
 enum { DESCRIBE = 1, PERFORM = 2, RELEASE = 3 };                             /* kinds of frames */
-enum { NO_SUCH_FILE = 4, NAME_IN_USE = 5, FILE_IS_OPEN = 6, NO_MEMORY = 7 }; /* why a request is refused */
+enum { NO_SUCH_FILE = 4, FILE_IS_OPEN = 6, NO_MEMORY = 7 };                 /* why a request is refused */
 enum { OPEN, CLOSE, READ_NEXT, READ, START, WRITE, REWRITE, DELETE, NO_EFFECT, REFUSED };
+enum { GREATER = 1 }; /* of START */
 
 struct verb {
     int code; /* GnuCOBOL's */
@@ -32,6 +33,8 @@ static const struct verb verbs[] = {
     {0, REFUSED, 0, "a verb"},
 };
 
+enum mode { INPUT, OUTPUT, IO, EXTEND };
+
 /* A file connector. It is described to its process from an OPEN that succeeds to the CLOSE, and for good where that is WITH LOCK. */
 struct connector {
     struct connector *next;
@@ -40,15 +43,17 @@ struct connector {
     cob_file *file;      /* NULL where interpose.c does not tell it */
     struct server *server;
     char path[PATH];
-    bool described, locked, input;
+    bool described, locked;
+    enum mode mode; /* of its last OPEN that succeeded */
     uint8_t number, key_count, place[KEYS]; /* the place in the description of each key of the FCD */
-    unsigned greatest;
+    unsigned greatest, prime; /* lengths: of the longest record, of the prime key */
     struct answers ahead; /* to READ NEXT, while it is open INPUT */
 };
 
 static struct connector *connectors;
 static cob_file *opening;
 static uint8_t request[FRAME];
+static struct { const struct connector *file; const struct verb *verb; unsigned times; } refused; /* in a row, with no other verb between */
 static struct answers one;
 static const uint8_t *answer;
 
@@ -94,6 +99,17 @@ static struct connector *connector_of(FCD3 *fcd)
 
 /* ---- descriptions */
 
+/* Where a key stands and how long it is. Where its clause is NAME = ITEM, GnuCOBOL tells the item by its description of the file
+   alone. */
+static void measure_key(const struct connector *connector, unsigned i, const EXTKEY *part, unsigned *offset, unsigned *length)
+{
+    const cob_file *file = connector->file;
+    const cob_file_key *key = file && file->nkeys > i ? &file->keys[i] : NULL;
+    const cob_field *item = key && key->count_components == 1 ? key->component[0] : NULL;
+    *offset = item ? (unsigned)(item->data - file->record->data) : four(part->pos);
+    *length = item ? (unsigned)item->size : four(part->len);
+}
+
 /* Puts the keys of the FCD, the alternates by rising offset. Where they end, or NULL where cobix cannot have them. */
 static uint8_t *put_keys(struct connector *connector, const FCD3 *fcd, uint8_t *at)
 {
@@ -102,42 +118,58 @@ static uint8_t *put_keys(struct connector *connector, const FCD3 *fcd, uint8_t *
     if (count < 1 || count > KEYS || fcd->colPtr)
         return NULL;
     *at++ = connector->key_count = (uint8_t)count;
-    for (unsigned i = 0, place; i < count; i++) {
+    for (unsigned i = 0, place, offset, length; i < count; i++) {
         const KDB_KEY *key = &block->key[i];
         const EXTKEY *part = (const void *)((const char *)block + two(key->offset));
-        if (two(key->count) != 1 || (key->keyFlags & KEY_SPARSE) || four(part->pos) > 65535 || four(part->len) > 65535)
+        measure_key(connector, i, part, &offset, &length);
+        if (two(key->count) != 1 || (key->keyFlags & KEY_SPARSE) || offset > 65535 || length > 65535)
             return NULL;
-        for (place = i; place > 1 && two(at + 5 * (place - 1)) > four(part->pos); place--)
+        for (place = i; place > 1 && two(at + 5 * (place - 1)) > offset; place--)
             memcpy(at + 5 * place, at + 5 * (place - 1), 5);
         for (unsigned j = 1; j < i; j++)
             connector->place[j] = (uint8_t)(connector->place[j] + (connector->place[j] >= place));
         connector->place[i] = (uint8_t)place;
-        *put_two(put_two(at + 5 * place, four(part->pos)), four(part->len)) = (key->keyFlags & KEY_DUPS) != 0;
+        *put_two(put_two(at + 5 * place, offset), length) = (key->keyFlags & KEY_DUPS) != 0;
+        if (place == 0)
+            connector->prime = length;
     }
     return at + 5 * count;
 }
 
-/* Takes the process for the file's folder, and a number that is free there. */
-static bool take_server(struct connector *connector, size_t folder_length)
+/* The connector of this program that has the file in this session. */
+static const struct connector *holder_in(const struct server *server, const char *path)
+{
+    const struct connector *c = connectors;
+    while (c && !(c->described && c->server == server && strcmp(name_in(c->path), name_in(path)) == 0))
+        c = c->next;
+    return c;
+}
+
+/* Takes a session for the file's folder where no other connector has the file, and a number that is free there. Where several have it,
+   each only reads, and has a session of its own. */
+static bool take_server(struct connector *connector, size_t folder_length, const struct connector **holder)
 {
     char folder[PATH] = ".";
     uint8_t number = 0;
     if (folder_length) /* with its slash, which is all of the root */
         memcpy(folder, connector->path, folder_length), folder[folder_length] = 0;
-    connector->server = server_of(folder);
-    while (connector->server && number < FILES && connector->server->taken[number])
+    struct server *server = server_of(folder, NULL);
+    for (const struct connector *c; server && (c = holder_in(server, connector->path)); server = server_of(folder, server))
+        *holder = !*holder || c->locked || (*holder)->mode == INPUT ? c : *holder;
+    while (server && number < FILES && server->taken[number])
         number++;
-    connector->number = number;
-    return connector->server && number < FILES;
+    connector->server = server, connector->number = number;
+    return server && number < FILES;
 }
 
-/* Whether another connector of this program closed the file WITH LOCK. */
-static bool was_locked(const struct connector *connector)
+/* The status where another SELECT of this program has the file, and not both only read; else NULL. */
+static const char *shared_wrongly(const struct connector *connector, const struct verb *verb, const struct connector *holder)
 {
-    const struct connector *c = connectors;
-    while (c && !(c->locked && c->server == connector->server && strcmp(name_in(c->path), name_in(connector->path)) == 0))
-        c = c->next;
-    return c != NULL;
+    if (!holder || (holder->mode == INPUT && verb->operand == INPUT && !holder->locked))
+        return NULL;
+    if (holder->locked)
+        return "38";
+    return tell_select(verb->name, connector->path, holder->file);
 }
 
 /* Describes the file for an OPEN. The status where that fails, else NULL. */
@@ -151,8 +183,12 @@ static const char *describe(struct connector *connector, const struct verb *verb
         return refuse(connector, verb, "39", "cobix has 1 to 9 keys, none split or suppressed, and no collating sequence");
     if (!*name || strlen(name) > 255 || greatest > 65535)
         return refuse(connector, verb, "39", "cobix has no files of this name or these lengths");
-    if (!take_server(connector, (size_t)(name - connector->path)))
+    const struct connector *holder = NULL;
+    if (!take_server(connector, (size_t)(name - connector->path), &holder))
         return refuse(connector, verb, "30", "the folder is not there, or cobix cannot be started");
+    const char *shared = shared_wrongly(connector, verb, holder);
+    if (shared)
+        return shared;
     uint8_t access = fcd->accessFlags & ACCESS_DYNAMIC ? 2 : fcd->accessFlags & ACCESS_RANDOM ? 1 : 0;
     memcpy(request + 2, (uint8_t[]){DESCRIBE, connector->number, access, (fcd->otherFlags & OTH_OPTIONAL) != 0}, 4);
     end = (uint8_t *)stpcpy((char *)end, name);
@@ -163,8 +199,6 @@ static const char *describe(struct connector *connector, const struct verb *verb
     switch (got > 3 && answer[2] == 0 ? answer[3] : 0) {
     case NO_SUCH_FILE:
         return refuse(connector, verb, "39", "cobix has no files of this name, these lengths or these keys");
-    case NAME_IN_USE:
-        return was_locked(connector) ? "38" : refuse(connector, verb, "30", "this program has it open under another SELECT");
     case NO_MEMORY:
         return "90";
     }
@@ -223,7 +257,7 @@ static void deliver(struct connector *connector, FCD3 *fcd, size_t length)
 static const char *perform(struct connector *connector, const struct verb *verb, FCD3 *fcd)
 {
     static char status[3];
-    struct answers *from = connector->input && verb->verb == READ_NEXT ? &connector->ahead : &one;
+    struct answers *from = connector->mode == INPUT && verb->verb == READ_NEXT ? &connector->ahead : &one;
     if (verb->verb == READ || verb->verb == START || verb->verb == CLOSE)
         connector->ahead.left = connector->ahead.asked = 0;
     size_t got = exchange(connector->server, request, put_verb(connector, verb, fcd), from == &one ? 1 : MOST, from, &answer);
@@ -235,14 +269,46 @@ static const char *perform(struct connector *connector, const struct verb *verb,
     return status;
 }
 
+static const char *change(struct connector *connector, const struct verb *verb, FCD3 *fcd)
+{
+    const char *status = perform(connector, verb, fcd);
+    return strcmp(status, "30") == 0 ? tell_sharing(verb->name, connector->path, false) : status;
+}
+
+/* Takes the position away, by a START that finds no record: the verb that was refused is to have failed. */
+static void lose_position(struct connector *connector)
+{
+    connector->ahead.left = connector->ahead.asked = 0;
+    if (!connector->described || (connector->mode != INPUT && connector->mode != IO))
+        return;
+    memcpy(request + 2, (uint8_t[]){PERFORM, connector->number, START, GREATER, 0}, 5);
+    put_two(put_two(request + 7, connector->prime), 0);
+    memset(request + 11, 0xFF, connector->greatest);
+    exchange(connector->server, request, 11 + connector->greatest, 1, &one, &answer);
+}
+
+/* A verb that is not of this set: it has a line, once in a row. A program that repeats one for ever, since it waits for another status,
+   is stopped. */
+static const char *refuse_verb(struct connector *connector, const struct verb *verb, const char *why)
+{
+    bool again = refused.times && refused.file == connector && refused.verb == verb;
+    lose_position(connector);
+    refused.times = again ? refused.times + 1 : 1, refused.file = connector, refused.verb = verb;
+    if (refused.times == MOST_REFUSED) {
+        fprintf(stderr, "cobix: %s %s: refused %d times in a row: the program is stopped\n", verb->name, connector->path, MOST_REFUSED);
+        cob_stop_run(1);
+    }
+    return again ? "95" : refuse(connector, verb, "95", why);
+}
+
 static const char *open_file(struct connector *connector, const struct verb *verb, FCD3 *fcd)
 {
     bool described = connector->described;
     const char *status = described ? NULL : describe(connector, verb, fcd);
-    if (!status)
-        status = perform(connector, verb, fcd);
+    if (!status && strcmp(status = perform(connector, verb, fcd), "30") == 0)
+        status = tell_sharing(verb->name, connector->path, verb->operand == INPUT || verb->operand == IO);
     if (*status == '0')
-        connector->input = verb->operand == 0;
+        connector->mode = (enum mode)verb->operand;
     if (!described && connector->described && *status != '0')
         release(connector);
     return status;
@@ -265,7 +331,7 @@ static const char *answer_to(struct connector *connector, const struct verb *ver
     if (verb->verb == NO_EFFECT)
         return "00";
     if (verb->verb == REFUSED || back)
-        return refuse(connector, verb, "95", "the COBOL of 1985 does not have it");
+        return refuse_verb(connector, verb, "the COBOL of 1985 does not have it");
     if (verb->verb == OPEN)
         return open_file(connector, verb, fcd);
     if (!connector->described) /* as the proved verbs answer on a file that is not open */
@@ -273,10 +339,10 @@ static const char *answer_to(struct connector *connector, const struct verb *ver
     if (verb->verb == CLOSE)
         return close_file(connector, *verb, fcd);
     if ((verb->verb == READ || verb->verb == START) && two(fcd->refKey) >= connector->key_count)
-        return refuse(connector, verb, "95", "this is no key of the file");
+        return refuse_verb(connector, verb, "this is no key of the file");
     if (fcd->recordMode == REC_MODE_VARIABLE && !connector->file)
-        return refuse(connector, verb, "95", "whether it has DEPENDING ON is not known: set LD_PRELOAD as README says");
-    return perform(connector, verb, fcd);
+        return refuse_verb(connector, verb, "whether it has DEPENDING ON is not known: set LD_PRELOAD as README says");
+    return verb->verb > START ? change(connector, verb, fcd) : perform(connector, verb, fcd);
 }
 
 int cobixfh(unsigned char *opcode, FCD3 *fcd)
@@ -290,6 +356,8 @@ int cobixfh(unsigned char *opcode, FCD3 *fcd)
     if (connector && verb->verb == OPEN && has_area(opening, connector->area))
         connector->file = opening;
     memcpy(fcd->fileStatus, connector ? answer_to(connector, verb, fcd) : "90", 2);
+    if (memcmp(fcd->fileStatus, "95", 2) != 0)
+        refused.times = 0;
     if (connector && verb->verb == CLOSE)
         connector->fcd = NULL; /* GnuCOBOL frees it */
     opening = NULL;
@@ -308,6 +376,8 @@ static struct connector **place_of(const cob_file *file)
         at = &(*at)->next;
     return at;
 }
+
+bool cobixfh_knows(const cob_file *file) { return *place_of(file) != NULL; }
 
 bool cobixfh_has_open(const cob_file *file)
 {

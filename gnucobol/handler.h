@@ -7,6 +7,10 @@
 #include <stdint.h>
 #include <sys/types.h>
 
+#ifndef HAS_INSIDE
+#define HAS_INSIDE 1
+#endif
+
 enum { FRAME = 2 + 8192, MOST = 64, ANSWERS = MOST * 4096, FILES = 64, PATH = 4096 };
 
 static inline unsigned two(const uint8_t *from) { return (unsigned)from[0] << 8 | from[1]; }
@@ -15,18 +19,26 @@ static inline uint8_t *put_two(uint8_t *at, unsigned value) { at[0] = (uint8_t)(
 /* The ends of the pipes of requests and of answers. The process has the first and the last; we keep the first, so that no write is a signal. */
 enum { REQUESTS_OUT, REQUESTS_IN, ANSWERS_OUT, ANSWERS_IN, ENDS };
 
-/* A process `cobix serve`, for one folder. */
+/* A session over one folder: in this process, or in a process `cobix serve`. */
 struct server {
     struct server *next;
     dev_t device;
     ino_t folder;
-    pid_t process;
-    int ends[ENDS];    /* -1 once it has ended */
-    bool taken[FILES]; /* which numbers are those of described files */
+    struct engine *engine; /* NULL where it is another process, or has ended */
+    pid_t process;         /* 0 where it is this one */
+    int ends[ENDS];        /* -1 where it is this one, or has ended */
+    bool taken[FILES];     /* which numbers are those of described files */
 };
 
-/* The process for this folder, started where there is none. NULL where it cannot be had. */
-struct server *server_of(const char *folder);
+/* A session for this folder that stands behind this one in the list, or NULL for the first; started where there is none. NULL where it
+   cannot be had. */
+struct server *server_of(const char *folder, struct server *behind);
+
+/* Whether this process is the program, or one of its sessions. */
+bool is_ours(pid_t process);
+
+/* Ends the sessions in this process, which close the files that are open, and tells those in others that they are to end. */
+void end_sessions(void);
 
 /* Answers that came, whole frames: how many were asked for at the last time, how many were not given out, and the next of them. */
 struct answers {
@@ -34,10 +46,27 @@ struct answers {
     uint8_t *next, bytes[ANSWERS];
 };
 
+/* The two ways. `start` tells whether a session was had. In this process it can be had where the proved library is linked. */
+bool inside_start(struct server *server, const char *folder);
+size_t inside_exchange(struct server *server, uint8_t *request, size_t length, const uint8_t **answer);
+void inside_end(struct server *server);
+bool process_start(struct server *server, const char *folder);
+size_t process_exchange(struct server *server, uint8_t *request, size_t length, unsigned most, struct answers *from,
+                        const uint8_t **answer);
+void process_hang_up(struct server *server);
+int process_wait(const struct server *server); /* its exit status */
+
 /* Gives out the next answer to a request, and how many bytes it has. Where none is left it sends the request and takes its answer: once at
    first, and then twice as often as the last time, up to `most`. 0 where the process has ended or sent what is no frame, which is then
    asked no more. The first two bytes of the request are filled in, and it is repeated behind itself in FRAME bytes. */
 size_t exchange(struct server *server, uint8_t *request, size_t length, unsigned most, struct answers *from, const uint8_t **answer);
+
+/* The status where a verb was answered 30: that of a conflict of sharing, with a line, where another run has the file so that ours cannot
+   read it, or cannot change it. It is 61 where COBIX_STATUS says `gnucobol`, else 30. */
+const char *tell_sharing(const char *verb, const char *path, bool reads);
+
+/* The same status, with a line, where another SELECT of this program has the file. */
+const char *tell_select(const char *verb, const char *path, const cob_file *file);
 
 /* The path of a file, of less than PATH bytes, by GnuCOBOL's rules: what the environment has as DD_NAME, dd_NAME or NAME stands
    for the first part of the name, and a path that does not begin with a slash is below COB_FILE_PATH. Whether there is one. */
@@ -48,6 +77,7 @@ bool path_of(const char *name, size_t length, char *path);
 int cobixfh(unsigned char *opcode, FCD3 *fcd);
 
 void cobixfh_opens(cob_file *file);            /* tells which file the next OPEN is of */
+bool cobixfh_knows(const cob_file *file);      /* whether it had an OPEN by this handler */
 bool cobixfh_has_open(const cob_file *file);   /* whether this handler has it open */
 bool cobixfh_leaves(const cob_file *file);     /* closes and forgets it; whether this handler knew it */
 

@@ -1,0 +1,107 @@
+/* A session in this process, by the proved library. Signals that end the program close the files first: between two verbs at once, and
+   in the midst of one when it is done. What is called for that may be called from a handler of a signal: the library asks the system by
+   asked.c, and has its memory from memory.c. */
+#define _GNU_SOURCE
+#include "../library/engine.h"
+#include "handler.h"
+#include <pthread.h>
+#include <signal.h>
+#include <stdio.h>
+#include <stdlib.h>
+#include <string.h>
+
+static const int ending[] = {SIGINT, SIGTERM, SIGHUP, SIGPIPE, SIGQUIT};
+enum { ENDING = sizeof ending / sizeof *ending };
+
+static struct sigaction behind[ENDING]; /* what libcob, or the program itself, has for them */
+static volatile sig_atomic_t at_work;   /* how many calls of the library are on their way */
+static volatile sig_atomic_t held;      /* a signal that came meanwhile, or 0 */
+
+/* Closes the files, and then does what would have been done with the signal without us. */
+static void end_by(int number)
+{
+    at_work++;
+    end_sessions();
+    for (int i = 0; i < ENDING; i++)
+        if (behind[i].sa_handler != SIG_IGN)
+            sigaction(ending[i], &behind[i], NULL);
+    at_work--;
+    raise(number);
+}
+
+static void on_signal(int number)
+{
+    if (at_work)
+        held = number;
+    else
+        end_by(number);
+}
+
+static void begin_work(void) { at_work++; }
+
+static void end_work(void)
+{
+    at_work--;
+    if (held && !at_work) {
+        int number = held;
+        held = 0;
+        end_by(number);
+    }
+}
+
+/* Once, before the first session. A signal that the program ignores stays ignored. fork() is as a call of the library: the list of
+   sessions is locked meanwhile. */
+static bool catch_signals(void)
+{
+    static bool are_caught;
+    struct sigaction ours = {.sa_handler = on_signal, .sa_flags = SA_RESTART};
+    if (are_caught)
+        return true;
+    sigfillset(&ours.sa_mask);
+    if (pthread_atfork(begin_work, end_work, end_work))
+        return false;
+    for (int i = 0; i < ENDING; i++)
+        if (sigaction(ending[i], NULL, &behind[i]) || (behind[i].sa_handler != SIG_IGN && sigaction(ending[i], &ours, NULL)))
+            return false;
+    return are_caught = true;
+}
+
+/* The pages that are held of each file, by COBIX_FRAMES. 0 where that is no such number. */
+static uint32_t frames(void)
+{
+    const char *text = getenv("COBIX_FRAMES");
+    if (!text)
+        return ENGINE_FRAMES;
+    char *end;
+    unsigned long count = strtoul(text, &end, 10);
+    return *text >= '0' && *text <= '9' && !*end && count <= ENGINE_MOST_FRAMES ? (uint32_t)count : 0;
+}
+
+bool inside_start(struct server *server, const char *folder)
+{
+    char *path = realpath(folder, NULL);
+    if (path && frames() && catch_signals()) {
+        begin_work();
+        server->engine = cobix_engine_begin(path, ENGINE_PAGES, frames());
+        end_work();
+    }
+    free(path);
+    return server->engine != NULL;
+}
+
+size_t inside_exchange(struct server *server, uint8_t *request, size_t length, const uint8_t **answer)
+{
+    begin_work();
+    size_t had = server->engine ? cobix_engine_ask(server->engine, request + 2, length - 2, answer) : 0;
+    end_work();
+    return had >= 3 && had == 2 + (size_t)two(*answer) ? had : 0;
+}
+
+void inside_end(struct server *server)
+{
+    struct engine *engine = server->engine;
+    begin_work();
+    server->engine = NULL;
+    cobix_engine_end(engine);
+    end_work();
+}

@@ -1,0 +1,40 @@
+      *> Waits for a status that does not come.
+       IDENTIFICATION DIVISION.
+       PROGRAM-ID. WAITS.
+       ENVIRONMENT DIVISION.
+       INPUT-OUTPUT SECTION.
+       FILE-CONTROL.
+           SELECT F ASSIGN TO "f.dat" ORGANIZATION IS INDEXED
+               ACCESS MODE IS DYNAMIC RECORD KEY IS F-KEY
+               FILE STATUS IS ST.
+       DATA DIVISION.
+       FILE SECTION.
+       FD F.
+       01 F-RECORD.
+           05 F-KEY PIC X.
+       WORKING-STORAGE SECTION.
+       77 ST PIC XX.
+       77 N PIC 9(4) VALUE 0.
+       77 ENDED PIC 9 VALUE 0.
+       PROCEDURE DIVISION.
+       MAIN-LINE.
+           OPEN OUTPUT F.
+           MOVE "1" TO F-KEY. WRITE F-RECORD.
+           MOVE "2" TO F-KEY. WRITE F-RECORD.
+           MOVE "3" TO F-KEY. WRITE F-RECORD.
+           CLOSE F. OPEN I-O F.
+           READ F NEXT. DISPLAY "READ NEXT " ST " " F-KEY.
+           START F KEY IS LESS THAN F-KEY. DISPLAY "START LESS " ST.
+           READ F NEXT. DISPLAY "READ NEXT " ST.
+           MOVE "2" TO F-KEY.
+           START F KEY IS EQUAL TO F-KEY. DISPLAY "START EQUAL " ST.
+           READ F NEXT. DISPLAY "READ NEXT " ST " " F-KEY.
+           PERFORM 60 TIMES READ F PREVIOUS END-PERFORM.
+           READ F NEXT. DISPLAY "READ NEXT " ST.
+           PERFORM UNTIL ENDED = 1
+               ADD 1 TO N
+               READ F PREVIOUS AT END MOVE 1 TO ENDED END-READ
+               IF N = 99 DISPLAY "READ PREVIOUS " ST END-IF
+               IF N > 100 DISPLAY "NOT STOPPED" STOP RUN END-IF
+           END-PERFORM.
+           STOP RUN.
