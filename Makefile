@@ -2,11 +2,12 @@
 # `make run` proves and builds the program, JOBS crates side by side, and runs a deck;
 # `make test` proves and tests everything,
 # runs the examples, the cases and some of them out of memory, and checks the documents;
+# `make library` proves and builds the library for C and Python (see docs/LIBRARY.md);
 # `make gnucobol` runs COBOL programs over it, where cobc is there;
 # `make bench` measures its verbs beside those of GnuCOBOL, where cobc is there;
 # `make install` puts the program that `make run` or `make test` built into PREFIX/bin, its manual page,
 # its completion for bash and its line for file(1) into PREFIX/share.
-.PHONY: try run test install gnucobol bench
+.PHONY: try run test install library gnucobol bench
 
 SHELL = /bin/bash -o pipefail
 DECK = examples/payroll.deck
@@ -35,10 +36,17 @@ test:
 	RT_JOBS=$(LANES) rt ci
 	cases/run $(PROGRAM)
 	cases/run-out-of-memory $(PROGRAM) $(LISTS)
+	library/build-proved cobix_inside
+	library/test $(PROGRAM)
 	docs/check $(PROGRAM)
 
+# The proved part is a static library, which the gate proves and does not build.
+library:
+	library/build-proved cobix_inside
+	$(MAKE) -C library
+
 # Programs that GnuCOBOL compiles, over the program that was built: needs cobc.
-gnucobol: $(PROGRAM)
+gnucobol: $(PROGRAM) library
 	cases/cobol $(PROGRAM)
 	gnucobol/test $(PROGRAM)
 
