@@ -33,7 +33,7 @@ bool is_ours(pid_t process)
     const struct server *server = servers;
     while (server && server->process != process)
         server = server->next;
-    return server || process == getpid();
+    return server || process == owner || process == getpid();
 }
 
 void end_sessions(void)
@@ -91,9 +91,8 @@ struct server *server_of(const char *folder, struct server *behind)
 
 size_t exchange(struct server *server, uint8_t *request, size_t length, unsigned most, struct answers *from, const uint8_t **answer)
 {
-    if (owner != getpid() || !is_alive(server))
-        return 0;
     if (server->engine)
         return inside_exchange(server, request, length, answer);
-    return process_exchange(server, request, length, most, from, answer);
+    bool is_ours_still = owner == getpid() && is_alive(server);
+    return is_ours_still ? process_exchange(server, request, length, most, from, answer) : 0;
 }

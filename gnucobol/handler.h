@@ -34,7 +34,7 @@ struct server {
    cannot be had. */
 struct server *server_of(const char *folder, struct server *behind);
 
-/* Whether this process is the program, or one of its sessions. */
+/* Whether this process is the program, a copy of it, or one of its sessions. */
 bool is_ours(pid_t process);
 
 /* Ends the sessions in this process, which close the files that are open, and tells those in others that they are to end. */

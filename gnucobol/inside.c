@@ -92,7 +92,8 @@ bool inside_start(struct server *server, const char *folder)
 size_t inside_exchange(struct server *server, uint8_t *request, size_t length, const uint8_t **answer)
 {
     begin_work();
-    size_t had = server->engine ? cobix_engine_ask(server->engine, request + 2, length - 2, answer) : 0;
+    bool is_ours_still = server->engine && !cobix_engine_is_parents(server->engine);
+    size_t had = is_ours_still ? cobix_engine_ask(server->engine, request + 2, length - 2, answer) : 0;
     end_work();
     return had >= 3 && had == 2 + (size_t)two(*answer) ? had : 0;
 }
