@@ -162,14 +162,10 @@ static bool take_server(struct connector *connector, size_t folder_length, const
     return server && number < FILES;
 }
 
-/* The status where another SELECT of this program has the file, and not both only read; else NULL. */
-static const char *shared_wrongly(const struct connector *connector, const struct verb *verb, const struct connector *holder)
+/* Whether another SELECT of this program has the file for good, or has it open and not both only read. */
+static bool is_shared_wrongly(const struct verb *verb, const struct connector *holder)
 {
-    if (!holder || (holder->mode == INPUT && verb->operand == INPUT && !holder->locked))
-        return NULL;
-    if (holder->locked)
-        return "38";
-    return tell_select(verb->name, connector->path, holder->file);
+    return holder && (holder->locked || holder->mode != INPUT || verb->operand != INPUT);
 }
 
 /* Describes the file for an OPEN. The status where that fails, else NULL. */
@@ -186,9 +182,8 @@ static const char *describe(struct connector *connector, const struct verb *verb
     const struct connector *holder = NULL;
     if (!take_server(connector, (size_t)(name - connector->path), &holder))
         return refuse(connector, verb, "30", "the folder is not there, or cobix cannot be started");
-    const char *shared = shared_wrongly(connector, verb, holder);
-    if (shared)
-        return shared;
+    if (is_shared_wrongly(verb, holder))
+        return holder->locked ? "38" : tell_select(verb->name, connector->path, holder->file);
     uint8_t access = fcd->accessFlags & ACCESS_DYNAMIC ? 2 : fcd->accessFlags & ACCESS_RANDOM ? 1 : 0;
     memcpy(request + 2, (uint8_t[]){DESCRIBE, connector->number, access, (fcd->otherFlags & OTH_OPTIONAL) != 0}, 4);
     end = (uint8_t *)stpcpy((char *)end, name);

@@ -16,7 +16,8 @@ enum { FRAME = 2 + 8192, MOST = 64, ANSWERS = MOST * 4096, FILES = 64, PATH = 40
 static inline unsigned two(const uint8_t *from) { return (unsigned)from[0] << 8 | from[1]; }
 static inline uint8_t *put_two(uint8_t *at, unsigned value) { at[0] = (uint8_t)(value >> 8); at[1] = (uint8_t)value; return at + 2; }
 
-/* The ends of the pipes of requests and of answers. The process has the first and the last; we keep the first, so that no write is a signal. */
+/* The ends of the pipes of requests and of answers. The process has the first and the last; we keep the first, so that no write is a
+   signal. */
 enum { REQUESTS_OUT, REQUESTS_IN, ANSWERS_OUT, ANSWERS_IN, ENDS };
 
 /* A session over one folder: in this process, or in a process `cobix serve`. */

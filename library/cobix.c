@@ -148,9 +148,10 @@ int cobix_open(const char *folder, const cobix_limits *limits, cobix **session)
     char *path = path_of(folder);
     if (!path)
         return errno == ENOMEM ? COBIX_NO_MEMORY : COBIX_NO_FOLDER;
+    uint32_t pages = limits->pages ? limits->pages : ENGINE_PAGES, frames = limits->frames ? limits->frames : ENGINE_FRAMES;
     cobix *new = pthread_once(&once, begin) == 0 && closes_at_end ? calloc(1, sizeof *new) : NULL;
     if (new)
-        new->engine = cobix_engine_begin(path, limits->pages ? limits->pages : ENGINE_PAGES, limits->frames ? limits->frames : ENGINE_FRAMES);
+        new->engine = cobix_engine_begin(path, pages, frames);
     free(path);
     if (!new || !new->engine) {
         free(new);

@@ -206,7 +206,8 @@ static void many_files(void)
 /* The path of a folder is UTF-8. */
 static void texts(void)
 {
-    static const char *const good[] = {"m\xC3\xBCller", "\xE2\x82\xAC", "\xF0\x9F\x98\x80"}, *const bad[] = {"m\xFCller", "\xE2\x82", "\xC0\x80"};
+    static const char *const good[] = {"m\xC3\xBCller", "\xE2\x82\xAC", "\xF0\x9F\x98\x80"};
+    static const char *const bad[] = {"m\xFCller", "\xE2\x82", "\xC0\x80"};
     char path[4096];
     cobix *session;
     for (int i = 0; i < 6; i++) {
