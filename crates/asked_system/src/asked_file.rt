@@ -1,11 +1,12 @@
 //! An open file.
 
-use crate::asking::{ask, ask_for_lock, ask_to_read, ask_to_write};
+use crate::asking::{ask, ask_for_lock, ask_for_name, ask_to_read, ask_to_write};
 use crate::question::Question;
 use crate::streams::Streams;
 use std::fs::{Metadata, OpenFile, TryLockError};
 use std::io::{self, ErrorKind, Read, Seek, SeekFrom, Write};
 use std::os::unix::fs::FileExt;
+use std::rt::Files;
 use system_files::LockFile;
 
 /// A file that C has open, by its number. It is closed where it is dropped.
@@ -77,6 +78,14 @@ impl LockFile for AskedFile {
 
     fn unlock(&self) -> io::Result<()> {
         self.done(&Question::Release { file: self.number })
+    }
+
+    fn is_named<R: Files>(&self, _rt: &R, path: &str) -> io::Result<bool> {
+        let Streams {
+            mut input,
+            mut output,
+        } = self.streams;
+        ask_for_name(&mut input, &mut output, self.number, path)
     }
 }
 
