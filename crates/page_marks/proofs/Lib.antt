@@ -1,3 +1,4 @@
 pub mod EachLemmas
 pub mod MarksLemmas
 pub mod PartLemmas
+pub mod RefusedLemmas

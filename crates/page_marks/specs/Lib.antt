@@ -1,4 +1,5 @@
 pub mod Marks
+pub mod Refused
 pub mod PageList
 pub mod Parted
 pub mod PartLaw

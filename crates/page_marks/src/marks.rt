@@ -1,14 +1,18 @@
 //! Which pages were reached.
 
-ghost use Rattle.std.specs.Prelude.{◌≡◌, ℕ, ◌<◌, ◌∷◌, [], true, IsTrue, OnOk, length};
-ghost use Rattle.page_marks.specs.Marks.{Marks, marked_in};
+ghost use Rattle.std.specs.Prelude.{◌≡◌, ℕ, ◌<◌, ◌∷◌, [], true, IsTrue, IfErr, OnOk, length};
+ghost use Rattle.page_marks.specs.Marks.{IsUnmarked, Marks, marked_in};
+ghost use Rattle.page_marks.specs.Refused.{RefusesRightly};
 
+use crate::fault_place::FaultPlace;
 use crate::page_fault::PageFault;
 use crate::walk_fault::WalkFault;
 
 /// Marks a page. Shared, at this page, where it has its mark already, or none can be set.
 pub fn mark(reached: &mut [bool], n: u32) -> Result<(), WalkFault>
     ensures marked { OnOk result (Marks (marked_in reached.old) (marked_in reached.new) (n ∷ [])) }
+    ensures refused { IfErr result (RefusesRightly (IsUnmarked reached.old n)) }
+    ensures told { IfErr result (λ fault. fault ≡ WalkFault.At PageFault.Shared (FaultPlace.Page n)) }
     ensures long { length reached.new ≡ length reached.old }
 {
     let i = n as usize;

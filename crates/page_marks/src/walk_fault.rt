@@ -15,13 +15,19 @@ pub enum WalkFault {
 }
 
 impl WalkFault {
+    ghost use Rattle.std.specs.Prelude.{◌≡◌};
+
     /// A fault of a page.
-    pub fn of_page(fault: PageFault, page: u32) -> WalkFault {
+    pub fn of_page(fault: PageFault, page: u32) -> WalkFault
+        ensures { result ≡ WalkFault.At fault (FaultPlace.Page page) }
+    {
         WalkFault::At(fault, FaultPlace::Page(page))
     }
 
     /// A fault of an entry of a page.
-    pub fn of_entry(fault: PageFault, page: u32, entry: u32) -> WalkFault {
+    pub fn of_entry(fault: PageFault, page: u32, entry: u32) -> WalkFault
+        ensures { result ≡ WalkFault.At fault (FaultPlace.Entry page entry) }
+    {
         WalkFault::At(fault, FaultPlace::Entry { page, entry })
     }
 }
