@@ -36,7 +36,7 @@ trees_stay tree before after entries own same stands = record {
   count = stands.count;
 }
 
-among_outside : (n : ℕ) (ns : List ℕ) → is_among n ns ≡ false → IsOutside ns n
+pub among_outside : (n : ℕ) (ns : List ℕ) → is_among n ns ≡ false → IsOutside ns n
 among_outside n [] out = tt
 among_outside n (m ∷ ms) out = let parts = or_parts (nat_eq n m) (is_among n ms) out in (eqb-false n m parts.0, among_outside n ms parts.1)
 

@@ -1,5 +1,6 @@
 pub mod Order
 pub mod Spots
 pub mod TreeWalk
+pub mod TreeAhead
 pub mod FreeWalk
 pub mod WholeFile

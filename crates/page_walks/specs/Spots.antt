@@ -1,5 +1,5 @@
 -- Where entries of trees stand in a list of pages.
-use Rattle.std.specs.Prelude.{◌<◌, List, [], ◌∷◌, ◌++◌, length, map, flat_map, ℕ, zero, suc, slice_index_or}
+use Rattle.std.specs.Prelude.{◌≡◌, ◌<◌, ◌≤◌, List, [], ◌∷◌, ◌++◌, length, map, flat_map, ℕ, zero, suc, slice_index_or}
 use Rattle.tree_node.specs.declared.shape.Shape.{Shape}
 use Rattle.tree_node.specs.Leaf.{IsLeaf, leaf_entries}
 use Rattle.page_walks.specs.declared.spot.Spot.{Spot}
@@ -23,6 +23,13 @@ pub record IsSpotThere (shape : Shape) (list : List (List ℕ)) (spot : Spot) : 
 abbrev pub spots_below : ℕ → ℕ → List Spot
 spots_below page zero = []
 spots_below page (suc n) = spots_below page n ++ record { page = page; place = n } ∷ []
+
+-- the leaf is one of the pages, and has so many entries, one at least
+pub record IsLeafThere (shape : Shape) (list : List (List ℕ)) (leaf : Leaf) : Type 0 where
+  pub page : leaf.page < length list
+  pub is : IsLeaf shape (slice_index_or list leaf.page [])
+  pub some : 1 ≤ leaf.count
+  pub many : leaf.count ≡ length (leaf_entries shape (slice_index_or list leaf.page []))
 
 -- the places of the entries of these leaves, in order
 abbrev pub spots_in : List Leaf → List Spot

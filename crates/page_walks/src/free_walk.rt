@@ -5,9 +5,10 @@
 //! | 0 to 3 | `F`, and zero |
 //! | 4 to 7 | next free page, 0 at the end of the chain |
 
-ghost use Rattle.std.specs.Prelude.{◌≡◌, IfOk, OnOk};
+ghost use Rattle.std.specs.Prelude.{◌≡◌, IfErr, IfOk, OnOk};
 ghost use Rattle.page_marks.specs.Marks.{marked_in};
-ghost use Rattle.page_walks.specs.FreeWalk.{IsFreePageAt, FreeWalked};
+ghost use Rattle.page_marks.specs.Refused.{RefusesRightly};
+ghost use Rattle.page_walks.specs.FreeWalk.{FreeAhead, FreeWalked, IsFreePage, IsFreePageAt};
 
 use byteorder::{BigEndian, ByteOrder};
 use page_bytes::PAGE_SIZE;
@@ -23,7 +24,8 @@ const NEXT_END: usize = 8;
 
 /// The page behind a free page, to which another page leads.
 fn behind(pages: &[[u8; PAGE_SIZE]], from: u32, n: u32) -> Result<u32, WalkFault>
-    ensures { IfOk result (λ next. IsFreePageAt pages.now n next) }
+    ensures leads { IfOk result (λ next. IsFreePageAt pages.now n next) }
+    ensures refused { IfErr result (RefusesRightly (IsFreePage pages.now n)) }
 {
     if n == 0 || n as usize >= pages.len() {
         return Err(WalkFault::of_page(PageFault::Chain, from));
@@ -47,8 +49,9 @@ pub fn walk_free(
     count: u32,
     reached: &mut [bool],
 ) -> Result<(), WalkFault>
-    ensures { OnOk result (FreeWalked pages.now first count
+    ensures walked { OnOk result (FreeWalked pages.now first count
         (marked_in reached.old) (marked_in reached.new)) }
+    ensures refused { IfErr result (RefusesRightly (FreeAhead pages.now first count reached.old)) }
 {
     let mut from = 0;
     let mut at = first;

@@ -1,6 +1,6 @@
 //! The leaves of a tree.
 
-ghost use Rattle.std.specs.Prelude.{◌≡◌, [], ◌∷◌, ◌++◌, IsTrue, OnOk, length};
+ghost use Rattle.std.specs.Prelude.{◌≡◌, ◌↔◌, [], ◌∷◌, ◌++◌, IsTrue, IfErr, OnOk, length};
 ghost use Rattle.page_walks.specs.Spots.{spots_in};
 
 use page_marks::WalkFault;
@@ -14,14 +14,15 @@ pub struct Leaf {
 
 /// Adds a leaf to a list.
 pub fn push(leaves: &mut Vec<Leaf>, leaf: Leaf) -> Result<(), WalkFault>
-    ensures { OnOk result (leaves.new.items ≡ leaves.old.items ++ leaf ∷ []) }
+    ensures added { OnOk result (leaves.new.items ≡ leaves.old.items ++ leaf ∷ []) }
+    ensures memory { IfErr result (λ fault. fault ≡ WalkFault.Memory) }
 {
     leaves.push(leaf).map_err(|_| WalkFault::Memory)
 }
 
 /// The leaves have so many entries.
 pub fn have_entries(leaves: &[Leaf], count: u64) -> bool
-    ensures { IsTrue result → length (spots_in leaves.now) ≡ count }
+    ensures { IsTrue result ↔ length (spots_in leaves.now) ≡ count }
 {
     let mut left = count;
     for leaf in leaves {

@@ -1,6 +1,6 @@
 //! The order of a node's keys.
 
-ghost use Rattle.std.specs.Prelude.{◌≡◌, IsTrue, OnOk};
+ghost use Rattle.std.specs.Prelude.{◌≡◌, ◌↔◌, IsTrue, OnErr, OnOk};
 ghost use Rattle.std.specs.Option.{option_copied};
 ghost use Rattle.tree_node.specs.Leaf.{IsLeaf, leaf_entries};
 ghost use Rattle.tree_node.specs.Inner.{IsInner, separators};
@@ -20,7 +20,7 @@ fn is_below(a: &[u8], b: &[u8]) -> bool
 
 /// The key is below this one, if there is one.
 fn is_under(key: &[u8], high: Option<&[u8]>) -> bool
-    ensures { IsTrue result → Below (option_copied high.entry) key.now }
+    ensures { IsTrue result ↔ Below (option_copied high.entry) key.now }
 {
     match high {
         Some(high) => is_below(key, high),
@@ -30,7 +30,7 @@ fn is_under(key: &[u8], high: Option<&[u8]>) -> bool
 
 /// The key is above this one, if there is one.
 fn is_over(key: &[u8], low: Option<&[u8]>) -> bool
-    ensures { IsTrue result → Above (option_copied low.entry) key.now }
+    ensures { IsTrue result ↔ Above (option_copied low.entry) key.now }
 {
     match low {
         Some(low) => is_below(low, key),
@@ -40,7 +40,7 @@ fn is_over(key: &[u8], low: Option<&[u8]>) -> bool
 
 /// The key is not below this one, if there is one.
 fn is_from(key: &[u8], low: Option<&[u8]>) -> bool
-    ensures { IsTrue result → NotBelow (option_copied low.entry) key.now }
+    ensures { IsTrue result ↔ NotBelow (option_copied low.entry) key.now }
 {
     match low {
         Some(low) => !is_below(key, low),
@@ -60,6 +60,8 @@ pub fn check_keys(
     requires leaf { IsLeaf shape page.now }
     ensures rises { OnOk result (Ascends shape.width (leaf_entries shape page.now)) }
     ensures inside { OnOk result (AreLeafKeysInside shape page.now low.entry high.entry) }
+    ensures refused { OnErr result (Ascends shape.width (leaf_entries shape page.now)
+        → AreLeafKeysInside shape page.now low.entry high.entry → ⊥) }
 {
     let leaf = LeafView { page, shape };
     let mut above = high;
@@ -93,6 +95,8 @@ pub fn check_separators(
     requires inner { IsInner shape page.now }
     ensures rises { OnOk result (Ascends shape.width (separators shape page.now)) }
     ensures between { OnOk result (AreSeparatorsBetween shape page.now low.entry high.entry) }
+    ensures refused { OnErr result (Ascends shape.width (separators shape page.now)
+        → AreSeparatorsBetween shape page.now low.entry high.entry → ⊥) }
 {
     let node = InnerView { page, shape };
     let mut above = high;

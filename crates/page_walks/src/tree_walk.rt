@@ -1,8 +1,13 @@
 //! A tree over the pages of a file that were read.
 
-ghost use Rattle.std.specs.Prelude.{◌≡◌, ◌<◌, ◌≤◌, IfOk, OnOk, length, slice_index_or, []};
+ghost use Rattle.std.specs.Prelude.{◌≡◌, ◌<◌, min, IfErr, IfOk, OnOk, length, slice_index_or, []};
+ghost use Rattle.page_bytes.specs.Each.{Each};
+ghost use Rattle.bplus_tree.specs.Fields.{tree_shape};
 ghost use Rattle.tree_node.specs.Leaf.{IsLeaf, leaf_room};
 ghost use Rattle.node_balance.specs.Fill.{least_entries};
+ghost use Rattle.page_marks.specs.Refused.{RefusesRightly};
+ghost use Rattle.page_walks.specs.Spots.{IsLeafThere};
+ghost use Rattle.page_walks.specs.TreeAhead.{AwaitsBelow, TreeUnmarked};
 ghost use Rattle.page_walks.specs.TreeWalk.{IsInnerWithin, IsLeafWithin, AddsLeaf, WalksBelow, WalksTree};
 
 use crate::leaf::{Leaf, have_entries, push};
@@ -25,7 +30,8 @@ struct Limits<'a> {
 
 /// Page n is a leaf within the limits, whose keys rise.
 fn check_leaf(page: &[u8; PAGE_SIZE], n: u32, shape: Shape, limits: Limits) -> Result<(), WalkFault>
-    ensures { OnOk result (IsLeafWithin shape page.now limits.entry) }
+    ensures fits { OnOk result (IsLeafWithin shape page.now limits.entry) }
+    ensures refused { IfErr result (RefusesRightly (IsLeafWithin shape page.now limits.entry)) }
 {
     if !is_leaf(page, shape) {
         return Err(WalkFault::of_page(PageFault::Node, n));
@@ -47,7 +53,8 @@ fn check_inner(
     shape: Shape,
     limits: Limits,
 ) -> Result<(), WalkFault>
-    ensures { OnOk result (IsInnerWithin shape page.now limits.entry) }
+    ensures fits { OnOk result (IsInnerWithin shape page.now limits.entry) }
+    ensures refused { IfErr result (RefusesRightly (IsInnerWithin shape page.now limits.entry)) }
 {
     if !is_inner(page, shape) {
         return Err(WalkFault::of_page(PageFault::Node, n));
@@ -75,12 +82,12 @@ fn least_in(shape: Shape, levels: u8) -> usize
 
 /// How many the root must have, with so many levels below it.
 fn least_in_root(levels: u8) -> usize
-    ensures { 1 ≤ levels → 1 ≤ result }
+    ensures { result ≡ min levels 1 }
 {
     levels.min(1) as usize
 }
 
-/// Adds a leaf.
+/// Adds a leaf, where it has entries.
 fn push_leaf(
     pages: &[[u8; PAGE_SIZE]],
     shape: Shape,
@@ -89,10 +96,16 @@ fn push_leaf(
 ) -> Result<(), WalkFault>
     requires page { page < length pages.now }
     requires leaf { IsLeaf shape (slice_index_or pages.now page []) }
-    ensures { OnOk result (AddsLeaf shape pages.now page leaves.old.items leaves.new.items) }
+    ensures adds { OnOk result (AddsLeaf shape pages.now page leaves.old.items leaves.new.items) }
+    ensures there { OnOk result (Each (IsLeafThere shape pages.now) leaves.old.items
+        → Each (IsLeafThere shape pages.now) leaves.new.items) }
+    ensures memory { IfErr result (λ fault. fault ≡ WalkFault.Memory) }
 {
     let bytes = &pages[page as usize];
     let count = LeafView { page: bytes, shape }.count() as u16;
+    if count == 0 {
+        return Ok(());
+    }
     push(leaves, Leaf { page, count })
 }
 
@@ -106,8 +119,12 @@ fn walk_below(
     reached: &mut [bool],
     leaves: &mut Vec<Leaf>,
 ) -> Result<(), WalkFault>
-    ensures { OnOk result (WalksBelow shape pages.now levels page limits.entry
+    ensures walked { OnOk result (WalksBelow shape pages.now levels page limits.entry
         (reached.old, leaves.old.items) (reached.new, leaves.new.items)) }
+    ensures there { OnOk result (Each (IsLeafThere shape pages.now) leaves.old.items
+        → Each (IsLeafThere shape pages.now) leaves.new.items) }
+    ensures refused { IfErr result
+        (RefusesRightly (AwaitsBelow shape pages.now levels page limits.entry reached.old)) }
 {
     if page as usize >= pages.len() {
         return Err(WalkFault::of_page(PageFault::Node, limits.parent));
@@ -161,8 +178,8 @@ fn walk_below(
     )
 }
 
-/// Walks a tree over the pages of a file, as they were read. Answers its leaves, in order, and
-/// marks its pages as reached.
+/// Walks a tree over the pages of a file, as they were read. Answers its leaves that have entries,
+/// in order, and marks its pages as reached.
 ///
 /// Memory; Shared where a page of the tree was reached before; Node, Order or Count where the pages
 /// are no such tree. A root that is not there is told at page 0, a child at its parent, and the
@@ -173,7 +190,11 @@ pub fn walk_tree(
     tree: &Tree,
     reached: &mut [bool],
 ) -> Result<Vec<Leaf>, WalkFault>
-    ensures { IfOk result (λ leaves. WalksTree tree.now pages.now reached.old reached.new leaves.items) }
+    ensures walked { IfOk result
+        (λ leaves. WalksTree tree.now pages.now reached.old reached.new leaves.items) }
+    ensures there { IfOk result
+        (λ leaves. Each (IsLeafThere (tree_shape tree.now) pages.now) leaves.items) }
+    ensures refused { IfErr result (RefusesRightly (TreeUnmarked tree.now pages.now reached.old)) }
 {
     let mut leaves = Vec::new(alloc);
     let limits = Limits {

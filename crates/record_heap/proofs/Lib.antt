@@ -8,3 +8,6 @@ pub mod OrderLemmas
 pub mod WalkLemmas
 pub mod SlotMarkLemmas
 pub mod SlotWalkLemmas
+pub mod PigeonLemmas
+pub mod MarkAheadLemmas
+pub mod HeapAheadLemmas

@@ -8,36 +8,29 @@ use Rattle.std.proofs.lemmas.Option.{slice_get_cases}
 use Rattle.record_heap.specs.declared.shape.Place.{Place}
 use Rattle.record_heap.specs.declared.slot_marks.SlotMarks.{SlotMarks}
 use Rattle.record_heap.specs.Bits.{bit_of}
-use Rattle.record_heap.specs.SlotMarks.{MarkAt, SetsMark, marked_slot}
+use Rattle.record_heap.specs.SlotMarks.{IsSlotOf, MarkAt, SetsMark, marked_slot}
 use Rattle.record_heap.proofs.ChainLemmas.{place_made}
 
 -- a number has one quotient and one rest
-one_rest : (a b r s t : ℕ) → s < r → t < r → a * r + s ≡ b * r + t → (a ≡ b) × (s ≡ t)
+pub one_rest : (a b r s t : ℕ) → s < r → t < r → a * r + s ≡ b * r + t → (a ≡ b) × (s ≡ t)
 one_rest a b r s t low low' same =
     let e : a ≡ b = sym (div-mul-add a r s low) ∙ ap (λ (n : ℕ). n / r) same ∙ div-mul-add b r t low' in
     let m : a * r ≡ b * r = ap (λ (n : ℕ). n * r) e in
     (e, omega (arith, m, same))
 
 -- the same slots have marks
-record IsAlike (old new : SlotMarks) : Type 0 where
+pub record IsAlike (old new : SlotMarks) : Type 0 where
   pub own : new.own.now ≡ old.own.now
   pub positions : new.positions.items ≡ old.positions.items
   pub room : new.room ≡ old.room
 
-alike_itself : (m : SlotMarks) → IsAlike m m
+pub alike_itself : (m : SlotMarks) → IsAlike m m
 alike_itself m = record { own = refl; positions = refl; room = refl }
 
--- a slot that has a mark
-record IsSeen (m : SlotMarks) (p : Place) : Type 0 where
-  pub at : ℕ
-  pub position : slice_get m.positions.items p.page ≡ Some at
-  pub page : slice_get m.own.now at ≡ Some p.page
-  pub slot : p.slot < m.room
-
-told : (m : SlotMarks) (p : Place) (seen : IsSeen m p) → marked_slot m p ≡ bit_of m.marks.words.items (seen.at * m.room + p.slot)
+pub told : (m : SlotMarks) (p : Place) (seen : IsSlotOf m p) → marked_slot m p ≡ bit_of m.marks.words.items (seen.at * m.room + p.slot)
 told m p seen = rw (seen.position, seen.page, eq-eqb p.page p.page refl, lt-ltb p.slot m.room seen.slot) refl
 
-looks : (m : SlotMarks) (p : Place) → IsSeen m p ⊎ ((w : SlotMarks) → IsAlike m w → marked_slot w p ≡ false)
+pub looks : (m : SlotMarks) (p : Place) → IsSlotOf m p ⊎ ((w : SlotMarks) → IsAlike m w → marked_slot w p ≡ false)
 looks m p = elim (slice_get_cases m.positions.items p.page).1 [
   | inr past ↦ inr (λ w alike. rw (position w alike None past.1) refl)
   | inl found ↦ elim (slice_get_cases m.own.now found.0).1 [
@@ -58,7 +51,7 @@ looks m p = elim (slice_get_cases m.positions.items p.page).1 [
     page : (w : SlotMarks) → IsAlike m w → (at : ℕ) (o : Option ℕ) → slice_get m.own.now at ≡ o → slice_get w.own.now at ≡ o
     page w alike at o is = ap (λ (l : List ℕ). slice_get l at) alike.own ∙ is
 
-abbrev still_seen : (m w : SlotMarks) (p : Place) → IsAlike m w → IsSeen m p → IsSeen w p
+abbrev still_seen : (m w : SlotMarks) (p : Place) → IsAlike m w → IsSlotOf m p → IsSlotOf w p
 still_seen m w p alike seen = record {
   at = seen.at;
   position = ap (λ (l : List ℕ). slice_get l p.page) alike.positions ∙ seen.position;
@@ -80,13 +73,13 @@ mark_set m w place to i at own positions room is others = record {
     alike : IsAlike m w
     alike = record { own = own; positions = positions; room = room }
 
-    here : IsSeen m place
+    here : IsSlotOf m place
     here = record { at = at.at; position = at.position; page = at.page; slot = at.slot }
 
-    now : (p : Place) (seen : IsSeen m p) → marked_slot w p ≡ bit_of w.marks.words.items (seen.at * m.room + p.slot)
+    now : (p : Place) (seen : IsSlotOf m p) → marked_slot w p ≡ bit_of w.marks.words.items (seen.at * m.room + p.slot)
     now p seen = told w p (still_seen m w p alike seen) ∙ ap (λ (r : ℕ). bit_of w.marks.words.items (seen.at * r + p.slot)) room
 
-    one_place : (p : Place) (seen : IsSeen m p) → seen.at * m.room + p.slot ≡ i → p ≡ place
+    one_place : (p : Place) (seen : IsSlotOf m p) → seen.at * m.room + p.slot ≡ i → p ≡ place
     one_place p seen e =
         let one = one_rest seen.at at.at m.room p.slot place.slot seen.slot at.slot (e ∙ at.is) in
         let same : Some p.page ≡ Some place.page = sym seen.page ∙ ap (λ (n : ℕ). slice_get m.own.now n) one.0 ∙ at.page in

@@ -30,7 +30,7 @@ one_last : {X : Type 0} (xs : List X) (x y : X) → y ≡ x → IsOneOf (xs ++ x
 one_last [] x y e = inl e
 one_last (z ∷ zs) x y e = inr (one_last zs x y e)
 
-one_before : {X : Type 0} (xs : List X) (x y : X) → IsOneOf (xs ++ x ∷ []) y → IsOneOf xs y ⊎ (y ≡ x)
+pub one_before : {X : Type 0} (xs : List X) (x y : X) → IsOneOf (xs ++ x ∷ []) y → IsOneOf xs y ⊎ (y ≡ x)
 one_before [] x y (inl e) = inr e
 one_before [] x y (inr of) = absurd of
 one_before (z ∷ zs) x y (inl e) = inl (inl e)
@@ -185,7 +185,7 @@ nothing_in true false o one two is = absurd (clash false two refl)
 nothing_in false d o one two is = absurd (clash false one refl)
 
 -- a free slot is not in use
-free_not_used : (shape : Shape) (slot : List ℕ) (next : Place) → behind_in slot ≡ Some next → used_in shape slot ≡ None
+pub free_not_used : (shape : Shape) (slot : List ℕ) (next : Place) → behind_in slot ≡ Some next → used_in shape slot ≡ None
 free_not_used shape slot next is = go (eqb_tells (slice_index slot 0) 0) (eqb_tells (slice_index slot 0) 1)
   where
     go : ((eqb (slice_index slot 0) 0 ≡ true) × (slice_index slot 0 ≡ 0)) ⊎ ((eqb (slice_index slot 0) 0 ≡ false) × (slice_index slot 0 ≢ 0))

@@ -1,5 +1,5 @@
 -- A walk goes one step on, and what it finds at its end.
-use Rattle.std.proofs.Common.{◌≡◌, ◌≢◌, ℕ, ◌≤◌, Bool, true, false, List, [], ◌∷◌, ◌++◌, Option, Some, refl, sym, subst, arith}
+use Rattle.std.proofs.Common.{◌≡◌, ◌≢◌, ℕ, ◌^◌, ◌<◌, ◌≤◌, Bool, true, false, List, [], ◌∷◌, ◌++◌, Option, Some, refl, sym, subst, arith}
 use Rattle.page_bytes.specs.Each.{Each}
 use Rattle.pages.specs.PageMap.{PageMap}
 use Rattle.record_heap.specs.declared.shape.Place.{Place}
@@ -30,12 +30,13 @@ free_path_more behind first (q ∷ qs) p next path at = (path.0, (path.1.0, path
 pub clash : (b : Bool) → b ≡ true → b ≡ false → ⊥
 clash b on off = cc (on, off)
 
-pub pages_more : (pages : PageMap) (first at next : ℕ) (a b c : ℕ → Bool) (own own' : List ℕ) → PagesWalked pages first at a b own → IsHeapAt pages at next → Marks b c (at ∷ []) → at ≢ 0
+pub pages_more : (pages : PageMap) (first at next : ℕ) (a b c : ℕ → Bool) (own own' : List ℕ) → PagesWalked pages first at a b own → IsHeapAt pages at next → Marks b c (at ∷ []) → at ≢ 0 → at < 2 ^ 32
     → own' ≡ own ++ at ∷ [] → PagesWalked pages first next a c own'
-pages_more pages first at next a b c own own' walked here marks some grown =
+pages_more pages first at next a b c own own' walked here marks some low grown =
     subst (PagesWalked pages first next a c) (sym grown) (record {
       path = page_path_more pages first own at next walked.path here;
       some = each_more (λ n. 1 ≤ n) own at walked.some (omega (arith, some));
+      low = each_more (λ n. n < 2 ^ 32) own at walked.low low;
       marks = marks_on a b c own (at ∷ []) walked.marks marks;
     })
 

@@ -1,20 +1,21 @@
 -- What a walk finds of a heap in pages that were read.
-use Rattle.std.specs.Prelude.{◌≡◌, ◌≢◌, ◌⊎◌, ℕ, ◌≤◌, ◌<◌, ◌==◌, ◌&&◌, nat_lt, Bool, true, false, List, []}
-use Rattle.std.specs.Prelude.{◌∷◌, Option, Some, None, Result, IfOk, if◌then◌else◌}
+use Rattle.std.specs.Prelude.{◌≡◌, ◌≢◌, ◌⊎◌, ℕ, ◌≤◌, ◌<◌, ◌^◌, ◌==◌, ◌&&◌, nat_lt, Bool, true, false, List, []}
+use Rattle.std.specs.Prelude.{◌∷◌, Option, Some, None, Result, IfOk, if◌then◌else◌, length}
 use Rattle.std.specs.Global.{Vec}
 use Rattle.page_bytes.specs.Each.{Each}
+use Rattle.pages.specs.Owners.{AreApart}
 use Rattle.pages.specs.PageMap.{PageMap}
 use Rattle.record_heap.specs.declared.shape.Shape.{Shape}
 use Rattle.record_heap.specs.declared.shape.Place.{Place}
 use Rattle.record_heap.specs.declared.heap.Heap.{Heap}
 use Rattle.record_heap.specs.Slot.{room, used_in, behind_in}
 use Rattle.record_heap.specs.Slots.{slot_at}
-use Rattle.record_heap.specs.Chain.{Slots, IsOneOf, AreOnce, KeepsSlots}
-use Rattle.record_heap.specs.Calls.{used_at, behind_at, IsHeapAt}
+use Rattle.record_heap.specs.Chain.{Slots, IsOneOf, IsFreeChain, AreOnce, KeepsSlots}
+use Rattle.record_heap.specs.Calls.{slot_of, used_at, behind_at, IsHeapAt}
 use Rattle.record_heap.specs.declared.slot_marks.SlotMarks.{SlotMarks}
-use Rattle.record_heap.specs.SlotMarks.{marked_slot, SetsMark}
-use Rattle.record_heap.specs.Standing.{HeapStands}
-use Rattle.page_marks.specs.Marks.{Marks, marked_in}
+use Rattle.record_heap.specs.SlotMarks.{HasMark, marked_slot, SetsMark}
+use Rattle.record_heap.specs.Standing.{HeapStands, IsPageChain}
+use Rattle.page_marks.specs.Marks.{IsUnmarked, Marks, marked_in}
 use Rattle.page_marks.specs.PageList.{pages_in}
 
 -- these heap pages lead from the first one to this
@@ -28,6 +29,7 @@ pub record PagesWalked (pages : PageMap) (first at : ℕ) (before after : ℕ �
     (own : List ℕ) : Type 0 where
   pub path : IsPagePath pages first own at
   pub some : Each (λ n. 1 ≤ n) own
+  pub low : Each (λ n. n < 2 ^ 32) own
   pub marks : Marks before after own
 
 abbrev pub is_in_list : List ℕ → ℕ → Bool
@@ -112,6 +114,69 @@ abbrev pub SlotsKept : Heap → PageMap → List ℕ → Type 0
 SlotsKept heap pages own =
     Each (λ n. 1 ≤ n) own → KeepsSlots (room heap.shape) own (used_at heap.shape pages)
     (behind_at heap.shape pages) (slots_of heap.shape pages own) heap.free
+
+-- the heap stands in pages of which none was reached
+pub record HeapAhead (heap : Heap) (list : List (List ℕ)) (reached : List Bool) : Type 0 where
+  pub slots : Slots
+  pub own : List ℕ
+  pub stands : HeapStands heap (pages_in list) slots own
+  pub some : Each (λ n. 1 ≤ n) own
+  pub low : Each (λ n. n < 2 ^ 32) own
+  pub unmarked : Each (IsUnmarked reached) own
+
+-- a chain of heap pages from the first one on, of which none was reached
+pub record ChainAhead (pages : PageMap) (first : ℕ) (reached : List Bool) : Type 0 where
+  pub own : List ℕ
+  pub chain : IsPageChain pages first own
+  pub apart : AreApart own
+  pub some : Each (λ n. 1 ≤ n) own
+  pub low : Each (λ n. n < 2 ^ 32) own
+  pub unmarked : Each (IsUnmarked reached) own
+
+-- the page is a heap page
+abbrev pub IsHeapPageAt : PageMap → ℕ → Type 0
+IsHeapPageAt pages n = (next : ℕ) × (next < 2 ^ 32) × IsHeapAt pages n next
+
+-- the slot is free, or in use
+abbrev pub IsFreeOrUsed : Shape → List ℕ → Type 0
+IsFreeOrUsed shape slot = ((next : Place) × (behind_in slot ≡ Some next))
+    ⊎ ((found : List ℕ) × (used_in shape slot ≡ Some found))
+
+-- each of the first slots of page n, so many, has its mark, and is free or in use
+abbrev pub SlotsAhead : Shape → List ℕ → ℕ → ℕ → SlotMarks → Type 0
+SlotsAhead shape page n count marks = (p : Place) → p.page ≡ n → p.slot < count
+    → HasMark marks p × IsFreeOrUsed shape (slot_at shape page p.slot)
+
+-- so is each slot of these pages, all of which are there
+pub record OwnAhead (shape : Shape) (list : List (List ℕ)) (own : List ℕ) (marks : SlotMarks)
+    : Type 0 where
+  pub there : Each (λ n. n < length list) own
+  pub slots : (p : Place) → IsOneOf own p.page → p.slot < room shape
+      → HasMark marks p × IsFreeOrUsed shape (slot_of shape (pages_in list) p)
+
+-- the slot is free, and marked
+pub record IsMarkedFree (shape : Shape) (list : List (List ℕ)) (marks : SlotMarks) (p : Place)
+    : Type 0 where
+  pub within : p.slot < room shape
+  pub there : p.page < length list
+  pub marked : marked_slot marks p ≡ true
+  pub can : HasMark marks p
+  pub free : IsFreeAt shape (pages_in list) p
+
+-- a chain of free slots from the first one on, all of them marked, no more than there are marks
+pub record FreeSlotsAhead (shape : Shape) (list : List (List ℕ)) (first : Place) (most : ℕ)
+    (marks : SlotMarks) : Type 0 where
+  pub free : List Place
+  pub chain : IsFreeChain (behind_at shape (pages_in list)) first free
+  pub once : AreOnce free
+  pub each : Each (IsMarkedFree shape list marks) free
+  pub few : length free ≤ most
+
+-- the heap stands, and its own pages are these
+pub record OwnStands (heap : Heap) (list : List (List ℕ)) (own : List ℕ) : Type 0 where
+  pub slots : Slots
+  pub stands : HeapStands heap (pages_in list) slots own
+  pub some : Each (λ n. 1 ≤ n) own
 
 -- a walk of a heap, which answers its own pages and marks them
 pub record WalksHeap {E : Type 0} (heap : Heap) (pages : List (List ℕ)) (before after : List Bool)

@@ -1,6 +1,7 @@
 //! Bits, in words of 64.
 
-ghost use Rattle.std.specs.Prelude.{◌≡◌, ◌≢◌, ℕ, ◌<◌, false, IsTrue, IfOk, if◌then◌else◌};
+ghost use Rattle.std.specs.Prelude.{◌≡◌, ◌≢◌, ℕ, ◌*◌, ◌<◌, ◌≤◌, false, IsFalse, IsTrue, IfOk, length};
+ghost use Rattle.std.specs.Prelude.{if◌then◌else◌};
 ghost use Rattle.std.specs.Int.{bit_at};
 ghost use Rattle.record_heap.specs.Bits.{bit_of};
 
@@ -15,7 +16,8 @@ pub struct Bits {
 impl Bits {
     /// At least so many bits, none of them set.
     pub fn none(alloc: Global, count: usize) -> Result<Bits, AllocError>
-        ensures { IfOk result (λ bits. (i : ℕ) → bit_of bits.words.items i ≡ false) }
+        ensures clear { IfOk result (λ bits. (i : ℕ) → bit_of bits.words.items i ≡ false) }
+        ensures many { IfOk result (λ bits. count ≤ 64 * length bits.words.items) }
     {
         Ok(Bits {
             words: vec![in alloc; 0; count.div_ceil(64)]?,
@@ -35,6 +37,8 @@ impl Bits {
     /// Sets bit `i`, or takes it, and answers whether there is such a bit.
     pub fn put(&mut self, i: usize, to: bool) -> bool
         ensures here { IsTrue result → bit_of self.new.words.items i ≡ to }
+        ensures there { IsFalse result → 64 * length self.old.words.items ≤ i }
+        ensures long { length self.new.words.items ≡ length self.old.words.items }
         ensures others { (j : ℕ) → j ≢ i → bit_of self.new.words.items j ≡ bit_of self.old.words.items j }
     {
         if i / 64 >= self.words.len() {

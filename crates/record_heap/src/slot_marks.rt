@@ -1,8 +1,11 @@
 //! Marks on the slots of a heap's own pages.
 
-ghost use Rattle.std.specs.Prelude.{◌≡◌, true, false, IfOk, IfSome, IsTrue};
+ghost use Rattle.std.specs.Prelude.{◌≡◌, ◌↔◌, ℕ, ◌*◌, ◌≤◌, true, false, IfErr, IfOk, IfSome, IsFalse};
+ghost use Rattle.std.specs.Prelude.{IsNone, IsTrue, length};
+ghost use Rattle.record_heap.specs.Bits.{bit_of};
 ghost use Rattle.record_heap.specs.declared.shape.Place.{Place as AnyPlace};
-ghost use Rattle.record_heap.specs.SlotMarks.{MarkAt, SetsMark, marked_slot};
+ghost use Rattle.record_heap.specs.SlotMarks.{AreFor, ArePositions, HasMark, IsSlotOf, MarkAt};
+ghost use Rattle.record_heap.specs.SlotMarks.{SameSlots, SetsMark, marked_slot};
 
 use crate::bits::Bits;
 use crate::shape::Place;
@@ -21,7 +24,10 @@ pub struct SlotMarks<'a> {
 }
 
 /// Where each of these pages stands among them, by its number below `count`.
-fn positions_of(alloc: Global, count: usize, own: &[u32]) -> Result<Vec<u32>, WalkFault> {
+fn positions_of(alloc: Global, count: usize, own: &[u32]) -> Result<Vec<u32>, WalkFault>
+    ensures are { IfOk result (λ positions. ArePositions own.now positions.items) }
+    ensures memory { IfErr result (λ fault. fault ≡ WalkFault.Memory) }
+{
     let mut positions = vec![in alloc; 0; count].map_err(|_| WalkFault::Memory)?;
     for i in 0..own.len() {
         let n = own[i] as usize;
@@ -33,6 +39,15 @@ fn positions_of(alloc: Global, count: usize, own: &[u32]) -> Result<Vec<u32>, Wa
     Ok(positions)
 }
 
+/// At least so many marks, none of them set.
+fn no_marks(alloc: Global, count: usize) -> Result<Bits, WalkFault>
+    ensures clear { IfOk result (λ marks. (i : ℕ) → bit_of marks.words.items i ≡ false) }
+    ensures many { IfOk result (λ marks. count ≤ 64 * length marks.words.items) }
+    ensures memory { IfErr result (λ fault. fault ≡ WalkFault.Memory) }
+{
+    Bits::none(alloc, count).map_err(|_| WalkFault::Memory)
+}
+
 impl<'a> SlotMarks<'a> {
     /// No slot of these pages is marked. They are of a file of `count` pages, and have `room` slots each.
     pub fn none(
@@ -41,14 +56,16 @@ impl<'a> SlotMarks<'a> {
         own: &'a [u32],
         room: u16,
     ) -> Result<SlotMarks<'a>, WalkFault>
-        ensures { IfOk result (λ marks. (p : AnyPlace) → marked_slot marks p ≡ false) }
+        ensures clear { IfOk result (λ marks. (p : AnyPlace) → marked_slot marks p ≡ false) }
+        ensures every { IfOk result (AreFor own.now room) }
+        ensures memory { IfErr result (λ fault. fault ≡ WalkFault.Memory) }
     {
         let positions = positions_of(alloc, count, own)?;
         if own.len() > u32::MAX as usize {
             return Err(WalkFault::Memory);
         }
         let slots = own.len() * usize::from(room);
-        let marks = Bits::none(alloc, slots).map_err(|_| WalkFault::Memory)?;
+        let marks = no_marks(alloc, slots)?;
         Ok(SlotMarks {
             own,
             positions,
@@ -60,7 +77,8 @@ impl<'a> SlotMarks<'a> {
 
     /// Where the mark of a slot stands.
     fn index(&self, place: Place) -> Option<usize>
-        ensures { IfSome result (MarkAt self.now place) }
+        ensures at { IfSome result (MarkAt self.now place) }
+        ensures none { IsNone result → IsSlotOf self.now place → ⊥ }
     {
         let at = *self.positions.get(place.page as usize)?;
         let page = *self.own.get(at as usize)?;
@@ -72,7 +90,7 @@ impl<'a> SlotMarks<'a> {
 
     /// The slot is marked.
     pub fn has(&self, place: Place) -> bool
-        ensures { IsTrue result → marked_slot self.now place ≡ true }
+        ensures { IsTrue result ↔ marked_slot self.now place ≡ true }
     {
         match self.index(place) {
             Some(i) => self.marks.has(i),
@@ -82,7 +100,9 @@ impl<'a> SlotMarks<'a> {
 
     /// Marks a slot, or takes its mark, and answers whether the slot is one of these pages.
     pub fn set(&mut self, place: Place, to: bool) -> bool
-        ensures { IsTrue result → SetsMark place to self.old self.new }
+        ensures set { IsTrue result → SetsMark place to self.old self.new }
+        ensures there { IsFalse result → HasMark self.old place → ⊥ }
+        ensures same { SameSlots self.old self.new }
     {
         match self.index(place) {
             Some(i) => self.marks.put(i, to),
@@ -90,14 +110,29 @@ impl<'a> SlotMarks<'a> {
         }
     }
 
+    /// The first slot of a page that is marked.
+    fn first_of(&self, page: u32) -> Option<Place>
+        ensures is { IfSome result (λ p. marked_slot self.now p ≡ true) }
+        ensures none { IsNone result
+            → (p : AnyPlace) → p.page ≡ page → marked_slot self.now p ≡ false }
+    {
+        for slot in 0..self.room {
+            let place = Place { page, slot };
+            if self.has(place) {
+                return Some(place);
+            }
+        }
+        None
+    }
+
     /// The first slot that is marked, in the order of these pages.
-    pub fn first(&self) -> Option<Place> {
+    pub fn first(&self) -> Option<Place>
+        ensures is { IfSome result (λ p. marked_slot self.now p ≡ true) }
+        ensures none { IsNone result → (p : AnyPlace) → marked_slot self.now p ≡ false }
+    {
         for &page in self.own {
-            for slot in 0..self.room {
-                let place = Place { page, slot };
-                if self.has(place) {
-                    return Some(place);
-                }
+            if let Some(place) = self.first_of(page) {
+                return Some(place);
             }
         }
         None

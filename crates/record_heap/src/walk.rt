@@ -1,12 +1,15 @@
 //! The heap of a file whose pages were read into a list.
 
-ghost use Rattle.std.specs.Prelude.{◌≡◌, false, ◌≤◌, IfOk, OnOk, length};
+ghost use Rattle.std.specs.Prelude.{◌≡◌, false, ◌≤◌, IfErr, IfOk, OnOk, length};
 ghost use Rattle.record_heap.specs.Slot.{room, size};
 ghost use Rattle.record_heap.specs.Calls.{IsHeapAt};
 ghost use Rattle.page_marks.specs.PageList.{pages_in};
+ghost use Rattle.page_marks.specs.Refused.{RefusesRightly};
 ghost use Rattle.record_heap.specs.Walk.{WalksChain, WalksHeap, EmptiesChain, SlotsKept, AreMarked};
 ghost use Rattle.record_heap.specs.Walk.{PageMarked, SlotMarked, TakesMark};
-ghost use Rattle.record_heap.specs.SlotMarks.{marked_slot};
+ghost use Rattle.record_heap.specs.Walk.{ChainAhead, FreeSlotsAhead, HeapAhead, IsFreeOrUsed, IsHeapPageAt};
+ghost use Rattle.record_heap.specs.Walk.{IsMarkedFree, OwnAhead, OwnStands, SlotsAhead};
+ghost use Rattle.record_heap.specs.SlotMarks.{HasMark, SameSlots, marked_slot};
 
 use crate::heap::Heap;
 use crate::shape::{Place, Shape};
@@ -28,7 +31,8 @@ fn place_of(slot: Place) -> FaultPlace {
 
 /// The page behind a heap page, to which another page leads.
 fn page_behind(pages: &[[u8; PAGE_SIZE]], from: u32, n: u32) -> Result<u32, WalkFault>
-    ensures { IfOk result (λ next. IsHeapAt (pages_in pages.now) n next) }
+    ensures leads { IfOk result (λ next. IsHeapAt (pages_in pages.now) n next) }
+    ensures refused { IfErr result (RefusesRightly (IsHeapPageAt (pages_in pages.now) n)) }
 {
     if n as usize >= pages.len() {
         return Err(WalkFault::of_page(PageFault::Chain, from));
@@ -48,7 +52,8 @@ fn walk_pages(
     first: u32,
     reached: &mut [bool],
 ) -> Result<Vec<u32>, WalkFault>
-    ensures { WalksChain pages.now first reached.old reached.new result }
+    ensures walked { WalksChain pages.now first reached.old reached.new result }
+    ensures refused { IfErr result (RefusesRightly (ChainAhead (pages_in pages.now) first reached.old)) }
 {
     let mut own = Vec::new(alloc);
     let mut from = 0;
@@ -82,6 +87,8 @@ fn mark_slot(
 ) -> Result<(), WalkFault>
     requires size { size shape ≤ length bytes.now }
     ensures marked { OnOk result (SlotMarked shape bytes.now place marks.old marks.new) }
+    ensures refused { IfErr result (RefusesRightly (HasMark marks.old place × IsFreeOrUsed shape bytes.now)) }
+    ensures same { SameSlots marks.old marks.new }
 {
     match behind(bytes) {
         Some(_) => {
@@ -107,6 +114,8 @@ fn mark_page(
     marks: &mut SlotMarks,
 ) -> Result<(), WalkFault>
     ensures marked { OnOk result (PageMarked shape page.now n (room shape) marks.old marks.new) }
+    ensures refused { IfErr result (RefusesRightly (SlotsAhead shape page.now n (room shape) marks.old)) }
+    ensures same { SameSlots marks.old marks.new }
 {
     let room = shape.room();
     for i in 0..room {
@@ -128,6 +137,8 @@ fn mark_free(
 ) -> Result<(), WalkFault>
     requires none { (p : Place) → marked_slot marks.old p ≡ false }
     ensures marked { OnOk result (AreMarked shape (pages_in pages.now) own.now marks.new) }
+    ensures refused { IfErr result (RefusesRightly (OwnAhead shape pages.now own.now marks.old)) }
+    ensures same { SameSlots marks.old marks.new }
 {
     for &n in own {
         if n as usize >= pages.len() {
@@ -147,6 +158,8 @@ fn take_mark(
     marks: &mut SlotMarks,
 ) -> Result<Place, WalkFault>
     ensures taken { IfOk result (λ next. TakesMark shape (pages_in pages.now) at next marks.old marks.new) }
+    ensures refused { IfErr result (RefusesRightly (IsMarkedFree shape pages.now marks.old at)) }
+    ensures same { SameSlots marks.old marks.new }
 {
     if at.slot as usize >= shape.room() || at.page as usize >= pages.len() {
         return Err(WalkFault::At(PageFault::Chain, from));
@@ -167,7 +180,10 @@ fn walk_slots(
     first: Place,
     marks: &mut SlotMarks,
 ) -> Result<(), WalkFault>
-    ensures { OnOk result (EmptiesChain shape (pages_in pages.now) first marks.old marks.new) }
+    ensures emptied { OnOk result (EmptiesChain shape (pages_in pages.now) first marks.old marks.new) }
+    ensures refused { IfErr result
+        (RefusesRightly (FreeSlotsAhead shape pages.now first marks.old.slots marks.old)) }
+    ensures same { SameSlots marks.old marks.new }
 {
     let mut from = FaultPlace::Page(0);
     let mut at = first;
@@ -185,14 +201,6 @@ fn walk_slots(
     Ok(())
 }
 
-/// Where the first slot is that has a mark, or page 0.
-fn first_marked(marks: &SlotMarks) -> FaultPlace {
-    match marks.first() {
-        Some(slot) => place_of(slot),
-        None => FaultPlace::Page(0),
-    }
-}
-
 /// Finds each slot of these pages in use, or once in the chain of free slots.
 fn walk_own(
     alloc: Global,
@@ -200,16 +208,20 @@ fn walk_own(
     heap: &Heap,
     own: &[u32],
 ) -> Result<(), WalkFault>
-    ensures { OnOk result (SlotsKept heap.now (pages_in pages.now) own.now) }
+    ensures kept { OnOk result (SlotsKept heap.now (pages_in pages.now) own.now) }
+    ensures refused { IfErr result (RefusesRightly (OwnStands heap.now pages.now own.now)) }
 {
     let room = heap.shape.room() as u16;
     let mut marks = SlotMarks::none(alloc, pages.len(), own, room)?;
     mark_free(pages, heap.shape, own, &mut marks)?;
     walk_slots(pages, heap.shape, heap.free, &mut marks)?;
-    if !marks.are_none() {
-        return Err(WalkFault::At(PageFault::Chain, first_marked(&marks)));
+    if marks.are_none() {
+        return Ok(());
     }
-    Ok(())
+    match marks.first() {
+        Some(slot) => Err(WalkFault::At(PageFault::Chain, place_of(slot))),
+        None => Ok(()),
+    }
 }
 
 /// Walks the heap over the pages of a file, as they were read. Answers its own pages in the order
@@ -225,7 +237,8 @@ pub fn walk_heap(
     heap: &Heap,
     reached: &mut [bool],
 ) -> Result<Vec<u32>, WalkFault>
-    ensures { WalksHeap heap.now pages.now reached.old reached.new result }
+    ensures walked { WalksHeap heap.now pages.now reached.old reached.new result }
+    ensures refused { IfErr result (RefusesRightly (HeapAhead heap.now pages.now reached.old)) }
 {
     let own = walk_pages(alloc, pages, heap.first, reached)?;
     walk_own(alloc, pages, heap, &own)?;

@@ -17,7 +17,7 @@ pub check_rows-requires-clause-rises : goal.check_rows-requires-clause-rises
 check_rows-requires-clause-rises c =
     let index = prime_index_of c.from_header-file.result in
     let rises : Ascends (tree_shape index.tree).width (entries_at (tree_shape index.tree) c.args.pages.now (spots_in c.in_ok-primes.primes.items)) =
-    entries_rise index.tree (pages_in c.args.pages.now) (entries_at (tree_shape index.tree) c.args.pages.now (spots_in c.in_ok-primes.primes.items)) _ (rw c.prime.ensures at c.in_ok-primes.ensures).stands in
+    entries_rise index.tree (pages_in c.args.pages.now) (entries_at (tree_shape index.tree) c.args.pages.now (spots_in c.in_ok-primes.primes.items)) _ (rw c.prime.ensures at c.in_ok-primes.ensures.walked).stands in
     subst (λ (leaves : List Leaf). Ascends index.width (entries_at (tree_shape index.tree) c.args.pages.now (spots_in leaves))) (sym c.deref-2.ensures.value)
     (subst (λ (width : ℕ). Ascends width (entries_at (tree_shape index.tree) c.args.pages.now (spots_in c.in_ok-primes.primes.items))) index.keys rises)
 
@@ -26,7 +26,7 @@ check_alternates-requires-clause-many c j index within is =
     let opened = c.from_header-file.ensures in
     let tree = (prime_index_of c.from_header-file.result).tree in
     opened.counts j index within is ∙ sym opened.header_is.records
-    ∙ sym (ap (λ (primes : List Leaf). length (spots_in primes)) c.deref-3.ensures.value ∙ spots_many tree c.args.pages.now (marked_in c.walk_heap.new.reached) (marked_in c.walk_tree.new.reached) (spots_in c.in_ok-primes.primes.items) (rw c.prime.ensures at c.in_ok-primes.ensures))
+    ∙ sym (ap (λ (primes : List Leaf). length (spots_in primes)) c.deref-3.ensures.value ∙ spots_many tree c.args.pages.now (marked_in c.walk_heap.new.reached) (marked_in c.walk_tree.new.reached) (spots_in c.in_ok-primes.primes.items) (rw c.prime.ensures at c.in_ok-primes.ensures.walked))
 
 pub returns : goal.returns
 returns c =
@@ -43,10 +43,10 @@ returns c =
     record {
       clear = c.requires.clear;
       first = c.in_ok-mark.ensures.marked;
-      free = c.in_ok-walk_free.ensures;
-      heap = rw c.heap.ensures at c.in_ok-own.ensures.stands;
-      heap_marks = c.in_ok-own.ensures.marks;
-      prime = rw c.prime.ensures at c.in_ok-primes.ensures;
+      free = c.in_ok-walk_free.ensures.walked;
+      heap = rw c.heap.ensures at c.in_ok-own.ensures.walked.stands;
+      heap_marks = c.in_ok-own.ensures.walked.marks;
+      prime = rw c.prime.ensures at c.in_ok-primes.ensures.walked;
       rows = rows;
       alternates = alternates;
     } in
@@ -74,10 +74,10 @@ returns-then-is_page_lost c =
     record {
       clear = c.requires.clear;
       first = c.in_ok-mark.ensures.marked;
-      free = c.in_ok-walk_free.ensures;
-      heap = rw c.heap.ensures at c.in_ok-own.ensures.stands;
-      heap_marks = c.in_ok-own.ensures.marks;
-      prime = rw c.prime.ensures at c.in_ok-primes.ensures;
+      free = c.in_ok-walk_free.ensures.walked;
+      heap = rw c.heap.ensures at c.in_ok-own.ensures.walked.stands;
+      heap_marks = c.in_ok-own.ensures.walked.marks;
+      prime = rw c.prime.ensures at c.in_ok-primes.ensures.walked;
       rows = rows;
       alternates = alternates;
     } in

@@ -1,17 +1,36 @@
-use Rattle.std.proofs.Common.{subst}
+use Rattle.std.proofs.Common.{List, ℕ, subst, sym}
 use Rattle.page_marks.specs.PageList.{pages_in}
-use Rattle.record_heap.specs.Walk.{SlotsKept}
+use Rattle.page_marks.specs.Refused.{RefusesRightly}
+use Rattle.page_marks.proofs.RefusedLemmas.{handed_on}
+use Rattle.record_heap.specs.Walk.{ChainAhead, HeapAhead, OwnStands, SlotsKept}
+use Rattle.record_heap.proofs.HeapAheadLemmas.{own_is}
 use Rattle.record_heap.proofs.WalkLemmas.{path_ends}
 use Rattle.record_heap.proofs.walk.walk_heap.Goals as goal
 
-pub returns : goal.returns
-returns c =
-    let w = c.in_ok-own.ensures in
+pub returns-clause-walked : goal.returns-clause-walked
+returns-clause-walked c =
+    let w = c.in_ok-own.ensures.walked in
     record {
       stands = record {
         chain = path_ends (pages_in c.args.pages.now) c.args.heap.now.first c.in_ok-own.own.items w.path;
         apart = w.marks.apart;
-        keeps = subst (SlotsKept c.args.heap.now (pages_in c.args.pages.now)) c.deref.ensures.value c.in_ok-walk_own.ensures w.some;
+        keeps = subst (SlotsKept c.args.heap.now (pages_in c.args.pages.now)) c.deref.ensures.value c.in_ok-walk_own.ensures.kept w.some;
       };
       marks = w.marks;
     }
+
+pub returns-in_err-own-clause-refused : goal.returns-in_err-own-clause-refused
+returns-in_err-own-clause-refused c =
+    handed_on (ChainAhead (pages_in c.args.pages.now) c.args.heap.now.first c.args.reached.now) (HeapAhead c.args.heap.now c.args.pages.now c.args.reached.now) c.from_residual.result _ c.from_residual.ensures.1
+    (λ a. record { own = a.own; chain = a.stands.chain; apart = a.stands.apart; some = a.some; low = a.low; unmarked = a.unmarked }) c.in_err-own.ensures.refused
+
+pub returns-in_err-walk_own-clause-refused : goal.returns-in_err-walk_own-clause-refused
+returns-in_err-walk_own-clause-refused c =
+    let heap = c.args.heap.now in
+    let list = c.args.pages.now in
+    let w = c.in_ok-own.ensures.walked in
+    let own = c.in_ok-own.own.items in
+    handed_on (OwnStands heap list own) (HeapAhead heap list c.args.reached.now) c.from_residual-in_err-walk_own.result _ c.from_residual-in_err-walk_own.ensures.1
+    (λ a. (let same = own_is heap list a.own (record { slots = a.slots; stands = a.stands; some = a.some }) own (path_ends (pages_in list) heap.first own w.path) w.some a.low w.low in
+    subst (OwnStands heap list) (sym same) (record { slots = a.slots; stands = a.stands; some = a.some })))
+    (subst (λ (ns : List ℕ). RefusesRightly (OwnStands heap list ns) c.in_err-walk_own.field-0.0) c.deref.ensures.value c.in_err-walk_own.ensures.refused)
