@@ -141,6 +141,27 @@ def refusals(room):
     room.wants_sound(0)
 
 
+def first_of_several_reasons(room):
+    """A frame that is none of the requests is told so before anything else; then its number, its key and its bytes are looked at."""
+    nine, flag = performs(7, 9), performs(7, CLOSE, operand=2)
+    wants(nine, bytes.fromhex("0009 02 07 09 000000000000"), "a verb 9 on a file of no number")
+    long = ADAMS + " "
+    serves(room, [
+        (nine, refused(1)),
+        (flag, refused(1)),
+        (performs(7, READ, key=2, area=long), refused(3)),
+        (describes(64, "../cust.dat", least=17), refused(3)),
+        (describes(64, "cust.dat", keys=[(0, 4, 2)]), refused(1)),
+        *BEGUN,
+        (performs(0, READ, key=2, area=long), refused(8)),
+        (performs(0, READ, key=0, area=long), refused(1)),
+        (describes(0, "../cust.dat"), refused(3)),
+        (describes(1, "cust.dat", least=17), refused(4)),
+        (frame(3, 64, 0), refused(1)),
+    ])
+    room.wants_sound(0)
+
+
 def varying_records(room):
     described = describes(0, "cust.dat", least=10)
     serves(room, [(described, DONE), BEGUN[1], (writes(0, ADAMS[:12]), told("00")), (writes(0, SMITH[:9]), told("44"))])
@@ -249,6 +270,7 @@ def trials():
     yield "a length past the limit", length_past_the_limit
     yield "frames that are no requests", no_requests
     yield "requests that are refused", refusals
+    yield "requests with several reasons to be refused", first_of_several_reasons
     yield "requests on records of varying length", varying_records
     yield "requests on two files", two_files
     yield "answers on a full device", answers_on_a_full_device
