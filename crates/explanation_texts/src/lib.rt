@@ -5,9 +5,10 @@
 //! text can be put together from nothing else. No line of an explanation is longer than 79
 //! characters.
 //!
-//! Read `statuses`, `faults` and `reasons`.
+//! Read `statuses`, `faults` and `reasons`. `handler_status` is the one status that is not of cobix.
 #![tactic(auto)]
 
 mod faults;
+mod handler;
 mod reasons;
 mod statuses;

@@ -8,7 +8,7 @@ use Rattle.explanations.specs.declared.tables.TheConstants.{STATUSES, FAULTS, RE
 abbrev pub table_of : List (Bor (List ℕ) × Bor (List ℕ)) → Table
 table_of rows = map (λ row. (row.0.now, row.1.now)) rows
 
--- the statuses of verbs
+-- the statuses of verbs, and that of the handler for GnuCOBOL
 abbrev pub status_table : Table
 status_table = map (λ row. (row.0.now, row.1.now)) STATUSES
 
