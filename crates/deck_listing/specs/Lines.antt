@@ -1,5 +1,5 @@
 -- The lines of the list of a deck. Their form is ours.
-use Rattle.std.specs.Prelude.{ℕ, ◌==◌, ◌&&◌, Bool, true, false, List, [], ◌∷◌, ◌++◌, codes, decimal, find}
+use Rattle.std.specs.Prelude.{ℕ, ◌==◌, ◌&&◌, ◌||◌, bytes_eq, Bool, true, false, List, [], ◌∷◌, ◌++◌, codes, decimal, find}
 use Rattle.std.specs.Prelude.{is_some, Option, Some, None, option_and_then, if◌then◌else◌}
 use Rattle.io_state.specs.declared.modes.Access.{Access}
 use Rattle.io_state.specs.declared.modes.Access.TheVariants.{Sequential, Random, Dynamic}
@@ -109,5 +109,15 @@ abbrev pub lineless_verb : Verb → List ℕ
 lineless_verb verb = codes "verb " ++ (decimal verb.number
     ++ (codes " " ++ (listed_verb_text verb.statement ++ (codes " " ++ (verb.file ++ codes "\n")))))
 
+-- a paragraph has the name of a statement that other COBOLs have, and a deck has not
+abbrev pub is_statement_elsewhere : List ℕ → Bool
+is_statement_elsewhere name = bytes_eq name (codes "GOBACK") || bytes_eq name (codes "EXIT")
+    || bytes_eq name (codes "COMMIT") || bytes_eq name (codes "ROLLBACK")
+
+-- so much is said of it
+abbrev pub paragraph_note : List ℕ → List ℕ
+paragraph_note name = if is_statement_elsewhere name then codes ": no statement, it does nothing" else []
+
 abbrev pub paragraph_line : (line : ℕ) (name : List ℕ) → List ℕ
-paragraph_line line name = codes "paragraph " ++ (name ++ (codes " line " ++ (decimal line ++ codes "\n")))
+paragraph_line line name = codes "paragraph " ++ (name ++ (codes " line "
+    ++ (decimal line ++ (paragraph_note name ++ codes "\n"))))

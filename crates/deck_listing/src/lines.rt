@@ -4,7 +4,7 @@ ghost use Rattle.record_layout.specs.Layout.{item_of};
 ghost use Rattle.deck_listing.specs.Lines.{name_or_filler, digits_word, item_line, key_kind, key_line};
 ghost use Rattle.deck_listing.specs.Lines.{access_word, optional_word, lengths_text, heading_with};
 ghost use Rattle.deck_listing.specs.Lines.{listed_verb_text};
-ghost use Rattle.deck_listing.specs.Lines.{verb_line, lineless_verb, paragraph_line};
+ghost use Rattle.deck_listing.specs.Lines.{verb_line, lineless_verb, paragraph_note, paragraph_line};
 
 use crate::verbs::Verb;
 use io_state::{Access, FileStatement, Name, OpenMode};
@@ -153,9 +153,20 @@ pub fn add_lineless_verb(text: &mut String, verb: &Verb) -> Result<(), AllocErro
     writeln!(text, "verb {number} {does} {file}")
 }
 
+/// What is said of a paragraph that has the name of a statement of other COBOLs.
+fn paragraph_note(name: &str) -> &'static str
+    ensures { result.now ≡ paragraph_note name.now }
+{
+    match name {
+        "GOBACK" | "EXIT" | "COMMIT" | "ROLLBACK" => ": no statement, it does nothing",
+        _ => "",
+    }
+}
+
 /// Adds the line of a paragraph.
 pub fn add_paragraph(text: &mut String, line: u64, name: &str) -> Result<(), AllocError>
     ensures { OnOk result (string_bytes text.new ≡ string_bytes text.old ++ paragraph_line line name.now) }
 {
-    writeln!(text, "paragraph {name} line {line}")
+    let note = paragraph_note(name);
+    writeln!(text, "paragraph {name} line {line}{note}")
 }
