@@ -1,6 +1,7 @@
 """What surrounds a run: streams that are closed or full, two runs over one folder, files and folders that may not be written, and devices that are full.
 
 `faults(program)` gives a Trial for each, with what is wrong with it, if anything. Each is performed in a folder of its own.
+Only a trial that tells what the machine lacks for it is skipped: any other error is a fault.
 """
 import fcntl
 import os
@@ -307,7 +308,14 @@ def as_nobody():
 
 
 def unprivileged():
-    return {"preexec_fn": as_nobody} if os.geteuid() == 0 else {}
+    """How a run is started that has no leave beyond that of its files."""
+    if os.geteuid() != 0:
+        return {}
+    try:
+        subprocess.run(["true"], preexec_fn=as_nobody, check=True)
+    except subprocess.SubprocessError:
+        raise Lacking("leave to run as another user") from None
+    return {"preexec_fn": as_nobody}
 
 
 def opened_to_all(room):
@@ -395,51 +403,6 @@ def disk_that_is_full(room):
         subprocess.run(["umount", room.files], check=True)
 
 
-# ---- the check of a folder
-
-
-CHECK_FOLDER = Path(__file__).resolve().parent.parent / "examples" / "check-folder"
-
-
-def checked_folder(room):
-    """The script that checks a folder: the folders within it, files of others, and each exit status."""
-
-    def told(program, folder):
-        ended = room.call([CHECK_FOLDER, program, folder])
-        return ended.returncode, ended.stdout.decode().splitlines(), ended.stderr.decode()
-
-    def lines(checked, unsound, other):
-        return [f"checked {checked}, unsound {unsound}, not of cobix {other}"]
-
-    wants(told(room.program, room.files), (4, lines(0, 0, 0), ""), "an empty folder")
-    (room.files / "note.txt").write_text("COBIXIF")
-    wants(told(room.program, room.files), (4, lines(0, 0, 1), ""), "a folder of others")
-    room.made()
-    within = room.files / "within" / "a folder"
-    within.mkdir(parents=True)
-    copy = within / "a copy.dat"
-    shutil.copy(room.cust, copy)
-    (room.files / "link.dat").symlink_to(room.cust)
-    wants(told(room.program, room.files), (0, lines(2, 0, 1), ""), "two sound files")
-    copy.write_bytes(b"D" + copy.read_bytes()[1:])
-    wants(told(room.program, room.files), (1, [f"{copy}: unsound 2", *lines(2, 1, 1)], ""), "an unsound file")
-    copy.write_bytes(b"D")
-    wants(told(room.program, room.files), (1, [f"{copy}: unsound 1", *lines(2, 1, 1)], ""), "a file whose making was stopped")
-    missing = room.place / "missing"
-    wants(told(room.program, missing), (4, [], f"check-folder: {missing} is no folder\n"), "no folder")
-    wants(told(missing, room.files), (4, [], f"check-folder: {missing} is no program\n"), "no program")
-    wants(room.call([CHECK_FOLDER, room.program]).returncode, 3, "exit status without a folder")
-
-
-def folder_with_a_file_in_use(room):
-    """A file that another run is changing cannot be checked."""
-    room.made()
-    first = Held(room.words(deck("OPEN I-O CUST", *added(11), *READS, "CLOSE CUST")))
-    ended = room.call([CHECK_FOLDER, room.program, room.files])
-    first.lines()
-    wants((ended.returncode, ended.stdout.decode().splitlines()[-1]), (4, "checked 0, unsound 0, not of cobix 0"), "check-folder")
-
-
 # ---- all of them
 
 
@@ -469,8 +432,6 @@ def trials():
     yield "a folder that may only be read", folder_only_read
     yield "a limit on the size of files", limit_on_file_size
     yield "a disk that is full", disk_that_is_full
-    yield "the check of a folder", checked_folder
-    yield "the check of a folder with a file in use", folder_with_a_file_in_use
 
 
 def faults(program, trials=trials):
@@ -479,9 +440,9 @@ def faults(program, trials=trials):
             try:
                 perform(Room(program, place))
                 yield Trial(name), ""
-            except (Wrong, subprocess.TimeoutExpired) as wrong:
+            except Wrong as wrong:
                 yield Trial(name), str(wrong)
             except Lacking as lacking:
                 yield Trial(name, str(lacking)), ""
-            except subprocess.SubprocessError as error:
-                yield Trial(name, f"leave that this machine does not give: {error}"), ""
+            except Exception as error:
+                yield Trial(name), f"{type(error).__name__}: {error}"
