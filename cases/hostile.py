@@ -393,7 +393,7 @@ def served(room, data, name):
     answers, rest = frames_in(ended.stdout)
     wants((len(answers), rest), (requests_in(data), b""), "how many answers there are, and what is behind them")
     for it in answers:
-        wants(bool(re.fullmatch(rb"\0[\1-\x08]|\1|\2\d\d.*", it, re.S)), True, f"whether this is an answer: {it[:20]!r}")
+        wants(bool(re.fullmatch(rb"\x00[\x01-\x08]|\x01|\x02\d\d.*", it, re.S)), True, f"whether this is an answer: {it[:20]!r}")
     files = sorted(place.iterdir())
     told = room.call([room.program, "check", *files]).stdout.decode().splitlines() if files else []
     wants((len(told), all("sound records" in it and "unsound" not in it for it in told)), (len(files), True), f"whether each file is sound: {told!r:.200}")
