@@ -321,7 +321,7 @@ def unprivileged():
 def opened_to_all(room):
     """Lets another user reach the folder, and a copy of the program in it."""
     room.program = shutil.copy(room.program, room.place / "cobix")
-    for it in (room.place, room.files):
+    for it in (room.place, room.files, Path(room.program)):
         it.chmod(0o755)
 
 
