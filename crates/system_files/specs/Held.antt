@@ -16,6 +16,6 @@ abbrev pub is_held : {F : Type 0} → KeptFile F → Bool
 is_held file = is_exclusive file.lock
 
 -- the folder is open, and no sync of it failed
-pub record IsReady {F : Type 0} (folder : KeptFolder F) : Type 0 where
+pub record IsOpenFolder {F : Type 0} (folder : KeptFolder F) : Type 0 where
   pub reached : IsTrue (is_some folder.file)
   pub sound : IsTrue (is_none folder.lost)

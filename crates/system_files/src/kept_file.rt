@@ -1,6 +1,6 @@
 //! A file that is kept open, and locked.
 ghost use Rattle.std.specs.Prelude.{◌≡◌, ◌<◌, ◌≤◌, ◌⊎◌, length, IsTrue, OnOk};
-ghost use Rattle.system_files.specs.Held.{is_held, IsReady};
+ghost use Rattle.system_files.specs.Held.{is_held, IsOpenFolder};
 
 use crate::appearance::Appearance;
 use crate::calls::{Written, again, measure, read, sync, write};
@@ -89,7 +89,7 @@ impl<F: OpenFile + FileExt + LockFile + Drop> KeptFile<F> {
         folder: &mut KeptFolder<R::File>,
     ) -> Result<(), Cause>
         ensures held { OnOk result (IsTrue (is_held self.new)) }
-        ensures folder { OnOk result (IsTrue (is_held self.old) ⊎ IsReady folder.new) }
+        ensures folder { OnOk result (IsTrue (is_held self.old) ⊎ IsOpenFolder folder.new) }
         ensures path { folder.new.path ≡ folder.old.path }
     {
         if self.is_held() {

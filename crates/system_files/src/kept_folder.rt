@@ -1,6 +1,6 @@
 //! A folder that is kept open, and whose names are brought to the disk.
 ghost use Rattle.std.specs.Prelude.{◌≡◌, string_bytes, OnOk};
-ghost use Rattle.system_files.specs.Held.{IsReady};
+ghost use Rattle.system_files.specs.Held.{IsOpenFolder};
 
 use crate::calls::{again, sync};
 use crate::cause::Cause;
@@ -36,7 +36,7 @@ impl<F: OpenFile + Drop> KeptFolder<F> {
     /// Opens the folder, if it is not open, so that the names of its files can be brought to the
     /// disk. It is refused where the system does, and for good once a sync failed.
     pub fn reach<R: Files<File = F>>(&mut self, rt: &R) -> Result<(), Cause>
-        ensures ready { OnOk result (IsReady self.new) }
+        ensures ready { OnOk result (IsOpenFolder self.new) }
         ensures path { self.new.path ≡ self.old.path }
     {
         if let Some(cause) = self.lost {

@@ -1,6 +1,6 @@
 //! Files opened by their names, and locked.
 ghost use Rattle.std.specs.Prelude.{◌≡◌, OnOk};
-ghost use Rattle.system_files.specs.Held.{IsReady};
+ghost use Rattle.system_files.specs.Held.{IsOpenFolder};
 
 use crate::calls::{again, require_file};
 use crate::cause::Cause;
@@ -21,7 +21,7 @@ pub fn make<R: Files>(
 ) -> Result<KeptFile<R::File>, Cause>
 where
     R::File: FileExt + LockFile,
-    ensures folder { OnOk result (IsReady folder.new) }
+    ensures folder { OnOk result (IsOpenFolder folder.new) }
     ensures path { folder.new.path ≡ folder.old.path }
 {
     folder.reach(rt)?;
