@@ -10,21 +10,30 @@ use Rattle.bplus_tree.specs.Standing.{TreeStands}
 use Rattle.bplus_tree.specs.Fields.{tree_shape, tree_levels, tree_count}
 use Rattle.tree_search.proofs.DescentLemmas.{tree_ascends}
 use Rattle.page_marks.specs.Marks.{Marks}
+use Rattle.page_marks.specs.PageList.{pages_in}
 use Rattle.page_marks.specs.Parted.{own_at, all_of}
 use Rattle.page_marks.proofs.MarksLemmas.{marks_on}
 use Rattle.page_marks.proofs.PartLemmas.{low_or_not}
 use Rattle.page_walks.specs.declared.spot.Spot.{Spot}
-use Rattle.page_walks.specs.Spots.{entry_at_spot}
+use Rattle.page_walks.specs.Spots.{entries_at, entry_at_spot}
 use Rattle.page_walks.specs.TreeWalk.{TreeWalked}
 use Rattle.key_index.specs.declared.alt_index.AltIndex.{AltIndex}
-use Rattle.open_file.specs.Fields.{alternates_of}
+use Rattle.open_file.specs.Fields.{alternates_of, prime_index_of}
 use Rattle.open_file.specs.declared.open_file.OpenFile.{OpenFile}
+use Rattle.row_checks.specs.Rows.{EntriesRise}
 use Rattle.file_checker.specs.Parts.{AlternateFound, AlternatesFound}
 
 -- the entries of a tree that stands rise
 pub entries_rise : (tree : Tree) (pages : PageMap) (entries : List (List ℕ)) (own : List ℕ) → TreeStands tree pages entries own → Ascends (tree_shape tree).width entries
 entries_rise tree pages entries own stands =
     subst (Ascends (tree_shape tree).width) stands.has (tree_ascends (tree_shape tree).width (tree_levels tree) None None stands.value stands.whole.stands.ordered)
+
+-- those of the prime index rise by their values
+pub prime_rise : (opened : OpenFile) (list : List (List ℕ)) (before after : ℕ → Bool) (spots : List Spot) → TreeWalked (prime_index_of opened).tree list before after spots → EntriesRise opened list spots
+prime_rise opened list before after spots walked =
+    let index = prime_index_of opened in
+    subst (λ (width : ℕ). Ascends width (entries_at (tree_shape index.tree) list spots)) index.keys
+    (entries_rise index.tree (pages_in list) (entries_at (tree_shape index.tree) list spots) walked.own walked.stands)
 
 -- a tree has as many entries as places were found
 pub spots_many : (tree : Tree) (list : List (List ℕ)) (before after : ℕ → Bool) (spots : List Spot) → TreeWalked tree list before after spots → length spots ≡ tree_count tree

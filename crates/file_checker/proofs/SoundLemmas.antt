@@ -1,5 +1,5 @@
 -- The bytes of a file, by its first page and the pages behind it.
-use Rattle.std.proofs.Common.{◌≡◌, ℕ, ◌+◌, ◌-◌, ◌*◌, ◌≤◌, ◌<◌, ltb, List, [], ◌∷◌, ◌++◌, length, slice_index, Option, Some, None, IsSome, inr, refl, sym, ap, subst, ◌∙◌, append-nil, length-append, arith}
+use Rattle.std.proofs.Common.{◌≡◌, ℕ, ◌+◌, ◌-◌, ◌*◌, ◌≤◌, ◌<◌, ltb, List, [], ◌∷◌, ◌++◌, length, slice_index, Option, Some, None, IsSome, ◌⊎◌, inl, inr, refl, sym, ap, subst, ◌∙◌, append-nil, length-append, arith}
 use Rattle.std.proofs.lemmas.List.{take_at, get_or_append_left}
 use Rattle.std.proofs.lemmas.Bool.{ltb-true, and_parts}
 use Rattle.std.specs.Prelude.{Result, Ok, Err, IsErrAnd}
@@ -15,8 +15,9 @@ use Rattle.file_header.specs.Reading.{number_in, numbers_in, header_in}
 use Rattle.file_header.specs.FirstPage.{IsFirstPage}
 use Rattle.file_header.proofs.ReadLemmas.{first_numbers, first_read}
 use Rattle.open_file.specs.Closed.{StandsClosed}
-use Rattle.open_file.proofs.ClosedLemmas.{stands_by}
-use Rattle.shelf_file.specs.ClosedFile.{IsAcceptedBy, live_in, free_in}
+use Rattle.open_file.proofs.ClosedLemmas.{is_opened, opened_by, opened_stands, stands_by}
+use Rattle.open_file.specs.Stands.{Stands}
+use Rattle.shelf_file.specs.ClosedFile.{IsAcceptedBy, StandsIn, live_in, free_in}
 use Rattle.shelf_file.proofs.PagesLemmas.{AreAlike, same_chain, same_live}
 use Rattle.file_checker.specs.declared.verdict.Reason.{Reason}
 use Rattle.file_checker.specs.declared.verdict.Reason.TheVariants.{Short, Gate, Header as NoHeader, Shared, Node, Order, Heap, Index, Lost}
@@ -27,7 +28,7 @@ use Rattle.file_checker.specs.Later.{IsMetIn}
 use Rattle.file_checker.specs.Parts.{PagesStand}
 use Rattle.file_checker.specs.declared.verdict.CheckFault.{CheckFault}
 use Rattle.file_checker.specs.declared.verdict.CheckFault.TheVariants.{Input, Memory}
-use Rattle.file_checker.specs.Sound.{IsSound, IsLong, HasPages, HasReason, CheckGivesUp, ExaminesBehind, counted_in, asked_in}
+use Rattle.file_checker.specs.Sound.{IsSound, IsUnsound, IsLong, HasPages, HasReason, CheckGivesUp, ExaminesBehind, counted_in, asked_in}
 use Rattle.file_checker.proofs.ReadLemmas.{consumes_on, less_given, pages_long}
 
 -- what holds of the bytes that are known, if they are
@@ -54,6 +55,29 @@ first_is bytes first (Some rest) came long = ap (λ (l : List ℕ). page_of_byte
 pub first_byte : (bytes first : List ℕ) (after : Option (List ℕ)) → Consumes (Some bytes) after first → length first ≡ 4096 → slice_index bytes 0 ≡ slice_index first 0
 first_byte bytes first None came long = absurd came
 first_byte bytes first (Some rest) came long = ap (λ (l : List ℕ). slice_index l 0) came ∙ get_or_append_left first rest 0 0 (omega arith)
+
+-- ---- bytes in which no file stands
+
+-- a sound file has the header of its first page
+pub header_is : (bytes : List ℕ) (records pages : ℕ) (s : IsSound bytes records pages) → header_in (page_of_bytes bytes 0) ≡ Some s.header
+header_is bytes records pages s = first_read s.header (page_of_bytes bytes 0) s.accepted.first
+
+pub unsound_by_header : (bytes : List ℕ) → header_in (page_of_bytes bytes 0) ≡ None → IsUnsound bytes
+unsound_by_header bytes none records pages s = let bad : Some s.header ≡ None = sym (header_is bytes records pages s) ∙ none in cc
+
+pub unsound_by_length : (bytes : List ℕ) → HasReason bytes Short → IsUnsound bytes
+unfolding numbers_in
+unsound_by_length bytes short records pages s = go short
+  where
+    counted : counted_in bytes ≡ s.header.pages
+    counted = ap (λ (h : Header). h.pages) (first_numbers s.header (page_of_bytes bytes 0) s.accepted.first)
+
+    go : (length bytes < 4096) ⊎ (length bytes < 4096 * counted_in bytes) → ⊥
+    go (inl few) = (let whole = s.accepted.whole in let some = s.accepted.first.allowed.within.counted in omega (arith, few, whole, some))
+    go (inr few) =
+        let whole = s.accepted.whole in
+        let less : length bytes < 4096 * s.header.pages = subst (λ (n : ℕ). length bytes < 4096 * n) counted few in
+        omega (arith, less, whole)
 
 -- the bytes behind it
 behind : (bytes first : List ℕ) (after : Option (List ℕ)) → Consumes (Some bytes) after first → length first ≡ 4096
@@ -88,12 +112,17 @@ module _ (bytes first : List ℕ) (after end : Option (List ℕ)) (count : ℕ) 
       subst (λ (n : ℕ). HasGivenLess (Some bytes) end (4096 + 4096 * (n - 1))) (sym told)
       (less_given (Some bytes) after end first (4096 * (count - 1)) (4096 + 4096 * (count - 1)) came less (omega arith))
 
-  pub is_short : HasLess (4096 * (count - 1)) after → HasReason bytes Short
+  pub is_short : HasLess (4096 * (count - 1)) after → HasReason bytes Short × IsUnsound bytes
   is_short less =
       let there = behind bytes first after came long in
       let few : length there.0 < 4096 * (count - 1) = subst (HasLess (4096 * (count - 1))) there.1 less in
       let e = told in let all = there.2 in
-      inr (subst (λ (n : ℕ). length bytes < 4096 * n) (sym e) (omega arith))
+      let short = inr (subst (λ (n : ℕ). length bytes < 4096 * n) (sym e) (omega arith)) in
+      (short, unsound_by_length bytes short)
+
+  -- nothing stands behind a first page that has no header
+  pub no_header : header_in first ≡ None → IsUnsound bytes
+  no_header none = unsound_by_header bytes (ap header_in (first_is bytes first after came long) ∙ none)
 
   pub is_long : HasGiven after end (4096 * (count - 1)) → IsLong bytes
   is_long given =
@@ -133,8 +162,8 @@ shown bytes header list Index all met = (header, all.accepted)
 shown bytes header list Lost all met = (header, list, all, met)
 
 module _ (bytes first : List ℕ) (header : Header) (page : page_of_bytes bytes 0 ≡ first) (is : IsFirstPage header first) where
-  pub too_few : HasLess (4096 * header.pages) (Some bytes) → HasReason bytes Short
-  too_few less = inr (subst (λ (n : ℕ). length bytes < 4096 * n) (sym (counted_is bytes first header page is)) less)
+  pub too_few : HasLess (4096 * header.pages) (Some bytes) → HasReason bytes Short × IsUnsound bytes
+  too_few less = let short = inr (subst (λ (n : ℕ). length bytes < 4096 * n) (sym (counted_is bytes first header page is)) less) in (short, unsound_by_length bytes short)
 
   counted : 1 ≤ header.pages
   counted = let c = is.allowed.within.counted in omega arith
@@ -186,6 +215,25 @@ module _ (bytes first : List ℕ) (header : Header) (page : page_of_bytes bytes 
     chain_is : chain (page_in list) (length list) header.first_free header.free ≡ free_in header bytes
     chain_is = ap (λ (count : ℕ). chain (page_in list) count header.first_free header.free) many
         ∙ sym (same_chain (page_of_bytes bytes) (page_in list) header.pages alike header.first_free header.free)
+
+    -- where a file stands in the bytes, it stands in their pages
+    stand_in_pages : (records count : ℕ) → IsSound bytes records count → PagesStand header list
+    stand_in_pages records count s =
+        let here : Some s.header ≡ Some header = sym (header_is bytes records count s) ∙ ap header_in page ∙ first_read header first is in
+        let same : s.header ≡ header = cc in
+        let t : StandsIn header bytes s.file = subst (λ (h : Header). StandsIn h bytes s.file) same s.stands in
+        record {
+          opened = opened_by header (live_in header bytes) s.file is.allowed t.pages;
+          by_header = is_opened header (live_in header bytes) s.file is.allowed t.pages;
+          file = s.file;
+          stands = subst (λ (live : PageMap). Stands (opened_by header (live_in header bytes) s.file is.allowed t.pages) live s.file) live_is
+              (opened_stands header (live_in header bytes) s.file is.allowed t.pages);
+          sound = subst (λ (free : Option (List ℕ)). IsSome free) (sym chain_is) t.free;
+          records_are = sym t.pages.records;
+        }
+
+    pub unsound_by_pages : (PagesStand header list → ⊥) → IsUnsound bytes
+    unsound_by_pages never records count s = never (stand_in_pages records count s)
 
     pub is_sound : PagesStand header list → IsSound bytes header.records header.pages
     is_sound found = record {

@@ -125,10 +125,10 @@ module _ (header : Header) (list : List (List ℕ)) (opened : OpenFile) (own : L
         let place : suc (suc j) ≡ j + 2 = omega arith in
         subst (λ (k : ℕ). AltStands index live (alt_entries (file_schema opened) k (rows_in opened list primes)) (alternate_pages owns j)) (key_is j index within is)
         (record {
-          tree = subst (λ (entries : List (List ℕ)). TreeStands index.tree live entries (alternate_pages owns j)) (sym at.rows.entries_are)
+          tree = subst (λ (entries : List (List ℕ)). TreeStands index.tree live entries (alternate_pages owns j)) (sym at.rows.entries.entries_are)
               (subst (λ (i : ℕ). TreeStands index.tree live (entries_at (tree_shape index.tree) list at.spots) (own_at owns i)) place
               (tree_there index.tree (suc (suc j)) (entries_at (tree_shape index.tree) list at.spots) at.tree));
-          each = at.rows.each;
+          each = at.rows.entries.each;
         })
 
     parts : Parts (heap_of opened) (prime_index_of opened) (alternates_of opened) live (slots_of (slot_shape (heap_of opened)) (pages_in list) own)

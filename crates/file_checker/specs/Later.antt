@@ -18,6 +18,7 @@ use Rattle.file_checker.specs.declared.stop.Stop.{Stop}
 use Rattle.file_checker.specs.declared.stop.Stop.TheVariants.{Memory, Unsound}
 use Rattle.file_checker.specs.Lost.{HasLostPage}
 use Rattle.file_checker.specs.Parts.{PagesStand}
+use Rattle.file_checker.specs.Ahead.{StopsRightly}
 
 -- the reason by which what is wrong with a page is told
 abbrev pub reason_by_walk : PageFault → Reason
@@ -69,7 +70,8 @@ abbrev pub StopsIn : Header → List (List ℕ) → Stop → Type 0
 StopsIn header list Memory = ⊤
 StopsIn header list (Unsound reason place) = IsMetIn header list reason
 
--- what a check of the pages tells: that they stand, or why it stops
+-- what a check of the pages tells: that they stand, or why it stops, and then they do not stand
 pub record ChecksPages (header : Header) (list : List (List ℕ)) (result : Result Unit Stop) : Type 0 where
   pub stand : OnOk result (PagesStand header list)
   pub stop : IfErr result (StopsIn header list)
+  pub refused : IfErr result (StopsRightly (PagesStand header list))

@@ -2,6 +2,8 @@ pub mod Numbers
 pub mod Bytes
 pub mod Parts
 pub mod Lost
+pub mod Ahead
 pub mod Later
 pub mod Findings
 pub mod Sound
+pub mod Laws

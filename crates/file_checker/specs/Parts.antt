@@ -55,8 +55,9 @@ pub record PagesStand (header : Header) (list : List (List ℕ)) : Type 0 where
   pub sound : IsSome (chain (page_in list) (length list) header.first_free header.free)
   pub records_are : length file.rows ≡ header.records
 
--- this is the header of a file of as many pages as there are marks, and no page is marked
+-- this is the header of a file of so many pages, each with a mark, none of which is set
 pub record MayCheckParts (of : Header) (list : List (List ℕ)) (marks : List Bool) : Type 0 where
   pub header : IsHeader of
   pub clear : (n : ℕ) → marked_in marks n ≡ false
   pub many : length marks ≡ length list
+  pub counted : length list ≡ of.pages

@@ -65,9 +65,15 @@ HasReason bytes Heap = IsAccepted bytes
 HasReason bytes Index = IsAccepted bytes
 HasReason bytes Lost = IsShown bytes HasLostPage
 
+-- the bytes are those of no sound file
+abbrev pub IsUnsound : List ℕ → Type 0
+IsUnsound bytes = (records pages : ℕ) → IsSound bytes records pages → ⊥
+
+-- A verdict that is right: the bytes are those of a sound file, of so many records and pages; or they are
+-- those of none, and this is known by the reason. So of any bytes a verdict of one kind alone is right.
 abbrev pub IsRight : List ℕ → Verdict → Type 0
 IsRight bytes (Sound records pages) = IsSound bytes records pages
-IsRight bytes (Unsound reason) = HasReason bytes reason
+IsRight bytes (Unsound reason) = HasReason bytes reason × IsUnsound bytes
 
 -- how many bytes are asked for: those of the first page, and of the others that it counts
 abbrev pub asked_in : List ℕ → ℕ

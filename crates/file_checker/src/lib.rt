@@ -10,6 +10,7 @@
 
 mod check;
 mod finding;
+mod law;
 mod parts;
 mod reading;
 mod stop;
@@ -17,4 +18,5 @@ mod verdict;
 
 pub use check::{check_file, examine_file};
 pub use finding::Finding;
+pub use law::sound_files_are_told;
 pub use verdict::{CheckFault, Reason, Verdict};

@@ -5,6 +5,7 @@ ghost use Rattle.page_marks.specs.Marks.{marked_in};
 ghost use Rattle.page_walks.specs.Spots.{spots_in};
 ghost use Rattle.file_header.specs.Bounds.{IsHeader};
 ghost use Rattle.open_file.specs.Stands.{IsShaped};
+ghost use Rattle.file_checker.specs.Ahead.{AlternatesAhead, StopsRightly};
 ghost use Rattle.file_checker.specs.Later.{ChecksPages, StopsWalk};
 ghost use Rattle.file_checker.specs.Lost.{HasUnmarked};
 ghost use Rattle.file_checker.specs.Parts.{AllFound, AlternatesCount, MayCheckParts};
@@ -34,6 +35,8 @@ fn check_alternates(
     ensures found { OnOk result
         (AllFound file.now pages.now (spots_in primes.now) reached.old reached.new) }
     ensures stop { IfErr result StopsWalk }
+    ensures refused { IfErr result
+        (StopsRightly (AlternatesAhead file.now pages.now primes.now 0 reached.old)) }
 {
     for &index in file.alternates() {
         let leaves = walk_tree(alloc, pages, &index.tree, reached)?;
@@ -84,7 +87,8 @@ fn check_parts(
 
 /// Checks the pages of a file, all that its header counts.
 pub fn check_pages(alloc: Global, pages: &[[u8; PAGE_SIZE]], header: &Header) -> Result<(), Stop>
-    requires { IsHeader header.now }
+    requires header { IsHeader header.now }
+    requires counted { length pages.now ≡ header.now.pages }
     ensures { ChecksPages header.now pages.now result }
 {
     let mut reached = match vec![in alloc; false; pages.len()] {

@@ -1,5 +1,5 @@
 -- What a library over the bytes of a sound file shows, and what a list of it tells.
-use Rattle.std.proofs.Common.{◌≡◌, ℕ, List, [], Option, Some, Result, Ok, Err, inl, inr, refl, sym, ap, subst, ◌∙◌}
+use Rattle.std.proofs.Common.{◌≡◌, ℕ, List, [], Option, Some, Result, Ok, Err, IfOk, inl, inr, refl, sym, ap, subst, ◌∙◌}
 use Rattle.record_layout.specs.Schema.{Schema}
 use Rattle.indexed_file.specs.File.{File}
 use Rattle.indexed_file.specs.World.{World, Named, Closed, named_in}
@@ -9,7 +9,11 @@ use Rattle.shelf_library.specs.Units.{world_of}
 use Rattle.shelf_library.specs.declared.held.Held.{Held}
 use Rattle.shelf_run.specs.Files.{Represents}
 use Rattle.shelf_run.proofs.FilesLemmas.{world_at_first, shown_truly, named_is, sound_of}
-use Rattle.file_checker.specs.Sound.{IsSound}
+use Rattle.file_checker.specs.Sound.{IsSound, IsRight}
+use Rattle.file_checker.specs.declared.verdict.Reason.{Reason}
+use Rattle.file_checker.specs.declared.verdict.Verdict.{Verdict}
+use Rattle.file_checker.specs.declared.verdict.Verdict.TheVariants.{Unsound}
+use Rattle.file_checker.specs.declared.verdict.CheckFault.{CheckFault}
 use Rattle.record_forms.specs.declared.form.Form.{Form}
 use Rattle.record_listing.specs.declared.asked.Asked.{Asked}
 use Rattle.record_listing.specs.declared.end.ListEnd.{ListEnd}
@@ -65,3 +69,10 @@ meant form shelf held name bytes records pages sound none empty same unnamed ask
     (named shelf held bytes sound.header.schema sound.file closed none empty same) in
     means form bytes asked before behind sound.header.schema sound.file closed result
     (subst (λ (n : Named). EndsNamed form asked n before behind result) stands_for (ends shown))
+
+-- a check that tells this reason is right of the bytes
+pub refused : (bytes : List ℕ) (reason : Reason) (verdict : Verdict) (result : Result Verdict CheckFault)
+    → IfOk result (IsRight bytes) → result ≡ Ok verdict → verdict ≡ Unsound reason
+    → IsRight bytes (Unsound reason)
+refused bytes reason verdict result right is told =
+    subst (IsRight bytes) told (subst (λ result. IfOk result (IsRight bytes)) is right)

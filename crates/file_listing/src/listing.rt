@@ -17,7 +17,7 @@ use std::num::NonZeroUsize;
 const PAGES: u32 = 4_294_967_295;
 
 /// How many pages are held at most.
-const FRAMES: usize = 64;
+const FRAMES: usize = 1024;
 
 /// What became of the list of a file.
 #[derive(Clone, Copy, Debug, PartialEq, Eq)]

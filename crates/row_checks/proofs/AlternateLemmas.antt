@@ -198,8 +198,10 @@ module _ (opened : OpenFile) (list : List (List ℕ)) (primes : List Spot) (inde
       let sorted = (are_sorted lower onward itself decide es (map (entry_of schema k) rows) rise (each_of_row spots all)).are as_many in
       let is : alt_entries schema k rows ≡ es = sym (entries_sorted schema k rows) ∙ sorted in
       record {
-        entries_are = ap (map alt_bytes) is ∙ all_again w index.prime bytes kept;
-        each = subst (Each (IsAltEntry w index.prime)) (sym is) (all_fit w index.prime bytes kept);
+        entries = record {
+          entries_are = ap (map alt_bytes) is ∙ all_again w index.prime bytes kept;
+          each = subst (Each (IsAltEntry w index.prime)) (sym is) (all_fit w index.prime bytes kept);
+        };
         differ = ranks_differ schema k rows (are_untied lower (map (entry_of schema k) rows) (subst (Rises lower) (sym sorted) rise));
       }
 

@@ -7,3 +7,5 @@ pub mod RowLemmas
 pub mod SortedLemmas
 pub mod AlternateLemmas
 pub mod LawLemmas
+pub mod SearchLemmas
+pub mod AheadLemmas

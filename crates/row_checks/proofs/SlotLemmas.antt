@@ -9,7 +9,6 @@ use Rattle.std.proofs.lemmas.Grind.{common_steps}
 use Rattle.page_bytes.proofs.ChunkLemmas.{length-chunks}
 use Rattle.pages.specs.PageMap.{PageMap}
 use Rattle.page_marks.specs.PageList.{pages_in}
-use Rattle.page_marks.specs.Marks.{Marks}
 use Rattle.record_heap.specs.declared.shape.Shape.{Shape}
 use Rattle.record_heap.specs.declared.shape.Place.{Place}
 use Rattle.record_heap.specs.Slot.{room, size, used_in}
@@ -85,12 +84,22 @@ one_of_front (k ∷ ms) m n h =
     next other (inr same) = inr same
 
 -- the pages that were marked one after another
-pub marked_more : (ms : List ℕ) (m : ℕ) (before after : ℕ → Bool) → ((n : ℕ) → before n ≡ true → is_in_list ms n ≡ true) → Marks before after (m ∷ []) → (n : ℕ) → after n ≡ true → is_in_list (ms ++ m ∷ []) n ≡ true
-marked_more ms m before after all marks n on = by_test (eqb_tells n m)
+pub marked_more : (ms : List ℕ) (m : ℕ) (before after : ℕ → Bool) → ((n : ℕ) → before n ≡ true → is_in_list ms n ≡ true) → ((n : ℕ) → n ≢ m → after n ≡ before n) → (n : ℕ) → after n ≡ true
+    → is_in_list (ms ++ m ∷ []) n ≡ true
+marked_more ms m before after all others n on = by_test (eqb_tells n m)
   where
     by_test : ((eqb n m ≡ true) × (n ≡ m)) ⊎ ((eqb n m ≡ false) × (n ≢ m)) → is_in_list (ms ++ m ∷ []) n ≡ true
     by_test (inl here) = one_of_front ms m n (inr here.1)
-    by_test (inr other) = one_of_front ms m n (inl (all n (sym (marks.others n (other.1, tt)) ∙ on)))
+    by_test (inr other) = one_of_front ms m n (inl (all n (sym (others n other.1) ∙ on)))
+
+pub all_marked_more : (count : ℕ) (ms : List ℕ) (m : ℕ) (before after : ℕ → Bool) → ((n : ℕ) → n < count → is_in_list ms n ≡ true → before n ≡ true) → (m < count → after m ≡ true)
+    → ((n : ℕ) → n ≢ m → after n ≡ before n) → (n : ℕ) → n < count → is_in_list (ms ++ m ∷ []) n ≡ true → after n ≡ true
+all_marked_more count ms m before after all here others n within one = by_test (eqb_tells n m) (one_of_more ms m n one)
+  where
+    by_test : ((eqb n m ≡ true) × (n ≡ m)) ⊎ ((eqb n m ≡ false) × (n ≢ m)) → (is_in_list ms n ≡ true) ⊎ (n ≡ m) → after n ≡ true
+    by_test (inl same) one' = ap after same.1 ∙ here (let e = same.1 in omega (arith, e, within))
+    by_test (inr other) (inl old) = others n other.1 ∙ all n within old
+    by_test (inr other) (inr same) = absurd (other.1 same)
 
 -- ---- the slots of these pages
 

@@ -38,16 +38,16 @@ module _ (P : Spot → Type 0) where
           let same : n ≡ k = omega arith in
           subst (λ (at : Leaf). Each P (spots_below at.page at.count)) (get_or_default leaves n none d within ∙ ap (λ (m : ℕ). slice_index_or leaves m d) same) more
 
-one_left : {X : Type 0} (xs ys : List X) (x : X) → IsOneOf xs x → IsOneOf (xs ++ ys) x
+pub one_left : {X : Type 0} (xs ys : List X) (x : X) → IsOneOf xs x → IsOneOf (xs ++ ys) x
 one_left [] ys x one = absurd one
 one_left (y ∷ xs) ys x (inl same) = inl same
 one_left (y ∷ xs) ys x (inr one) = inr (one_left xs ys x one)
 
-one_right : {X : Type 0} (xs ys : List X) (x : X) → IsOneOf ys x → IsOneOf (xs ++ ys) x
+pub one_right : {X : Type 0} (xs ys : List X) (x : X) → IsOneOf ys x → IsOneOf (xs ++ ys) x
 one_right [] ys x one = one
 one_right (y ∷ xs) ys x one = inr (one_right xs ys x one)
 
-one_below : (page n place : ℕ) → place < n → IsOneOf (spots_below page n) (record { page = page; place = place })
+pub one_below : (page n place : ℕ) → place < n → IsOneOf (spots_below page n) (record { page = page; place = place })
 one_below page zero place within = absurd (omega (arith, within))
 one_below page (suc n) place within = by_place (λ less. one_below page n place less) (eqb_tells place n)
   where

@@ -3,7 +3,7 @@ use Rattle.std.proofs.Common.{◌≡◌, ℕ, suc, ◌+◌, ◌-◌, ◌≤◌, 
 use Rattle.std.specs.Prelude.{Bool, IsTrue, slice_index, slice_index_or, zip, nat_le, nat_lt}
 use Rattle.std.specs.List.{list_all}
 use Rattle.std.proofs.lemmas.List.{length-take, length-take-le, take_all, get_or-take}
-use Rattle.std.proofs.lemmas.Bool.{and_from, le-leb, lt-ltb}
+use Rattle.std.proofs.lemmas.Bool.{and_from, and_parts, le-leb, leb-true, lt-ltb, ltb-true}
 use Rattle.byteorder.specs.Endian.{big_number}
 use Rattle.record_layout.specs.declared.schema.KeyPart.{KeyPart}
 use Rattle.record_layout.specs.Schema.{has_duplicates}
@@ -17,10 +17,11 @@ use Rattle.row_checks.proofs.ByteLemmas.{long_many, long_one}
 abbrev pub Fit : ℕ → List KeyPart → List ℕ → Type 0
 Fit next parts bytes = IsTrue (list_all {X = KeyPart × ℕ} (λ p. is_stamp next p.0 p.1) (zip parts (stamps_off parts bytes)))
 
--- where those from part i on, which begin with `rest`, are such, all are
+-- those from part i on, which begin with `rest`, are such where all are, and only there
 pub record FitFront (next : ℕ) (parts : List KeyPart) (bytes : List ℕ) (i : ℕ) (rest : List ℕ) : Type 0 where
   pub long : stamps_length (drop i parts) ≤ length rest
   pub front : Fit next (drop i parts) rest → Fit next parts bytes
+  pub back : Fit next parts bytes → Fit next (drop i parts) rest
 
 -- what is tested of a stamp and those behind it
 abbrev test_of : ℕ → KeyPart × ℕ → Bool
@@ -50,6 +51,23 @@ fit_one next part parts rest one h =
     subst (λ (l : List (KeyPart × ℕ)). IsTrue (list_all (test_of next) l)) (sym (zip_one part parts rest one))
     (and_from (is_stamp next part 0) (list_all (test_of next) (zip parts (stamps_off parts rest))) (stamp_one_fits next part one) h)
 
+unfit_many : (next : ℕ) (part : KeyPart) (parts : List KeyPart) (rest : List ℕ) → has_duplicates part ≡ true → Fit next (part ∷ parts) rest
+    → (is_stamp next part (big_number 8 rest) ≡ true) × Fit next parts (drop 8 rest)
+unfit_many next part parts rest many h =
+    and_parts (is_stamp next part (big_number 8 rest)) (list_all (test_of next) (zip parts (stamps_off parts (drop 8 rest))))
+    (subst (λ (l : List (KeyPart × ℕ)). IsTrue (list_all (test_of next) l)) (zip_many part parts rest many) h)
+
+unfit_one : (next : ℕ) (part : KeyPart) (parts : List KeyPart) (rest : List ℕ) → has_duplicates part ≡ false → Fit next (part ∷ parts) rest → Fit next parts rest
+unfit_one next part parts rest one h =
+    (and_parts (is_stamp next part 0) (list_all (test_of next) (zip parts (stamps_off parts rest)))
+    (subst (λ (l : List (KeyPart × ℕ)). IsTrue (list_all (test_of next) l)) (zip_one part parts rest one) h)).1
+
+-- a stamp of a duplicates key
+stamp_within : (next s : ℕ) (part : KeyPart) → has_duplicates part ≡ true → is_stamp next part s ≡ true → (1 ≤ s) × (s < next)
+stamp_within next s part many is =
+    let both = and_parts (nat_le 1 s) (nat_lt s next) (rw many at is) in
+    (leb-true 1 s both.0, ltb-true s next both.1)
+
 module _ (next : ℕ) (parts : List KeyPart) (bytes : List ℕ) (i : ℕ) (d : KeyPart) (rest : List ℕ) (within : i < length parts) (f : FitFront next parts bytes i rest) where
   long_here : stamps_length (slice_index_or parts i d ∷ drop (i + 1) parts) ≤ length rest
   long_here = subst (λ (ps : List KeyPart). stamps_length ps ≤ length rest) (dropped parts d i within) f.long
@@ -61,13 +79,21 @@ module _ (next : ℕ) (parts : List KeyPart) (bytes : List ℕ) (i : ℕ) (d : K
   front_many many low high = record {
     long = (let l = long_many (slice_index_or parts i d) (drop (i + 1) parts) (length rest) many long_here in rw length-drop (omega (arith, l)));
     front = λ h. f.front (subst (λ (ps : List KeyPart). Fit next ps rest) (sym (dropped parts d i within)) (fit_many next (slice_index_or parts i d) (drop (i + 1) parts) rest many low high h));
+    back = λ h. (unfit_many next (slice_index_or parts i d) (drop (i + 1) parts) rest many (subst (λ (ps : List KeyPart). Fit next ps rest) (dropped parts d i within) (f.back h))).1;
   }
 
   pub front_one : has_duplicates (slice_index_or parts i d) ≡ false → FitFront next parts bytes (i + 1) rest
   front_one one = record {
     long = long_one (slice_index_or parts i d) (drop (i + 1) parts) (length rest) one long_here;
     front = λ h. f.front (subst (λ (ps : List KeyPart). Fit next ps rest) (sym (dropped parts d i within)) (fit_one next (slice_index_or parts i d) (drop (i + 1) parts) rest one h));
+    back = λ h. unfit_one next (slice_index_or parts i d) (drop (i + 1) parts) rest one (subst (λ (ps : List KeyPart). Fit next ps rest) (dropped parts d i within) (f.back h));
   }
+
+  -- where all are such, so is the stamp here
+  pub stamp_here : has_duplicates (slice_index_or parts i d) ≡ true → Fit next parts bytes → (1 ≤ big_number 8 rest) × (big_number 8 rest < next)
+  stamp_here many h =
+      stamp_within next (big_number 8 rest) (slice_index_or parts i d) many
+      (unfit_many next (slice_index_or parts i d) (drop (i + 1) parts) rest many (subst (λ (ps : List KeyPart). Fit next ps rest) (dropped parts d i within) (f.back h))).0
 
 pub front_all : (next : ℕ) (parts : List KeyPart) (bytes : List ℕ) (i : ℕ) (rest : List ℕ) → length parts ≤ i → FitFront next parts bytes i rest → Fit next parts bytes
 front_all next parts bytes i rest end f = f.front (subst (λ (ps : List KeyPart). Fit next ps rest) (sym (all_dropped parts i end)) refl)

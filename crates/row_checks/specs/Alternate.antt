@@ -42,13 +42,17 @@ RanksDiffer schema k [] = ⊤
 RanksDiffer schema k (row ∷ rows) = Each (λ other. IsTrue (is_lt (row_cmp schema k row other))
     ⊎ IsTrue (is_lt (row_cmp schema k other row))) rows × RanksDiffer schema k rows
 
--- the entries at these places are those that the index has of the rows, in the order of their
--- ranks, no two of which are one
-pub record AlternateStands (opened : OpenFile) (list : List (List ℕ)) (primes : List Spot)
+-- the entries at these places are those that the index has of the rows, in the order of their ranks
+pub record HasEntriesOfRows (opened : OpenFile) (list : List (List ℕ)) (primes : List Spot)
     (index : AltIndex) (spots : List Spot) : Type 0 where
   pub entries_are : map alt_bytes
       (alt_entries (file_schema opened) (alt_key index) (rows_in opened list primes))
       ≡ entries_at (tree_shape index.tree) list spots
   pub each : Each (IsAltEntry index.width index.prime)
       (alt_entries (file_schema opened) (alt_key index) (rows_in opened list primes))
+
+-- so, and no two of these ranks are one
+pub record AlternateStands (opened : OpenFile) (list : List (List ℕ)) (primes : List Spot)
+    (index : AltIndex) (spots : List Spot) : Type 0 where
+  pub entries : HasEntriesOfRows opened list primes index spots
   pub differ : RanksDiffer (file_schema opened) (alt_key index) (rows_in opened list primes)

@@ -1,4 +1,6 @@
 pub mod Rows
 pub mod Leading
 pub mod Alternate
+pub mod Search
+pub mod Ahead
 pub mod Laws

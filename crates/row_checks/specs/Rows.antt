@@ -1,5 +1,5 @@
 -- The rows that the prime index of a file leads to.
-use Rattle.std.specs.Prelude.{◌≡◌, Bool, false, List, [], ◌∷◌, map, IsTrue, ⊤, ℕ}
+use Rattle.std.specs.Prelude.{◌≡◌, Bool, false, List, [], ◌∷◌, length, map, IsTrue, ⊤, ℕ}
 use Rattle.std.specs.Ordering.{is_lt}
 use Rattle.page_bytes.specs.Each.{Each}
 use Rattle.tree_node.specs.Order.{Ascends}
@@ -46,13 +46,14 @@ abbrev pub EntriesRise : OpenFile → List (List ℕ) → List Spot → Type 0
 EntriesRise opened list spots = Ascends (prime_index_of opened).width
     (entries_at (tree_shape (prime_index_of opened).tree) list spots)
 
--- the parts of the file are made for its schema, the entries of its prime index rise, and no page is
--- marked
+-- the parts of the file are made for its schema, the entries of its prime index rise, and each page has
+-- a mark, which is not set
 pub record MayCompareRows (opened : OpenFile) (list : List (List ℕ)) (spots : List Spot)
     (marks : List Bool) : Type 0 where
   pub shaped : IsShaped opened
   pub rises : EntriesRise opened list spots
   pub none : (n : ℕ) → marked_in marks n ≡ false
+  pub many : length marks ≡ length list
 
 -- the prime values rise
 abbrev pub PrimesRise : Schema → List Row → Type 0

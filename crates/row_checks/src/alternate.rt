@@ -1,9 +1,12 @@
 //! The entries of an alternate key, and the rows.
 
-ghost use Rattle.std.specs.Prelude.{◌≡◌, OnOk, IsTrue, All, length};
+ghost use Rattle.std.specs.Prelude.{◌≡◌, OnOk, OnErr, IfErr, IsTrue, All, length};
+ghost use Rattle.page_bytes.specs.Each.{Each};
 ghost use Rattle.page_walks.specs.Spots.{spots_in};
 ghost use Rattle.row_checks.specs.Alternate.{IsIndexFor, IsEntryFor, EntriesAscend, AlternateStands};
 ghost use Rattle.row_checks.specs.Leading.{HasRow, IsEntryOf, OfEachEntry};
+ghost use Rattle.row_checks.specs.Ahead.{AlternateAhead, HasItsRow, HasRowAhead, PrimesLead};
+ghost use Rattle.row_checks.specs.Ahead.{RefusesRows};
 
 use crate::entry::{entry, entry_near, place_in};
 use crate::record::stored_at;
@@ -27,7 +30,9 @@ fn is_of_row(
     leader: Spot,
 ) -> bool
     requires { IsEntryFor file.now index entry_bytes.now }
-    ensures { IsTrue result → IsEntryOf file.now pages.now index entry_bytes.now leader }
+    ensures entry { IsTrue result → IsEntryOf file.now pages.now index entry_bytes.now leader }
+    ensures refused { HasItsRow file.now pages.now leader
+        → IsEntryOf file.now pages.now index entry_bytes.now leader → IsTrue result }
 {
     let Some(prime) = entry(pages, file.prime().tree.shape(), leader) else {
         return false;
@@ -51,7 +56,9 @@ fn has_row(
     spot: Spot,
 ) -> bool
     requires { IsIndexFor file.now index }
-    ensures { IsTrue result → HasRow file.now pages.now (spots_in primes.now) index spot }
+    ensures row { IsTrue result → HasRow file.now pages.now (spots_in primes.now) index spot }
+    ensures refused { PrimesLead file.now pages.now primes.now
+        → HasRowAhead file.now pages.now (spots_in primes.now) index spot → IsTrue result }
 {
     let Some(entry) = entry(pages, index.tree.shape(), spot) else {
         return false;
@@ -71,7 +78,10 @@ fn check_leaf(
     leaf: Leaf,
 ) -> Result<(), RowFault>
     requires { IsIndexFor file.now index }
-    ensures { OnOk result (OfEachEntry (HasRow file.now pages.now (spots_in primes.now) index) leaf) }
+    ensures rows { OnOk result
+        (OfEachEntry (HasRow file.now pages.now (spots_in primes.now) index) leaf) }
+    ensures refused { OnErr result (PrimesLead file.now pages.now primes.now
+        → OfEachEntry (HasRowAhead file.now pages.now (spots_in primes.now) index) leaf → ⊥) }
 {
     for place in 0..leaf.count {
         let spot = Spot {
@@ -94,8 +104,10 @@ fn check_leaves(
     leaves: &[Leaf],
 ) -> Result<(), RowFault>
     requires { IsIndexFor file.now index }
-    ensures { OnOk result
+    ensures rows { OnOk result
         (All (OfEachEntry (HasRow file.now pages.now (spots_in primes.now) index)) leaves.now) }
+    ensures refused { OnErr result (PrimesLead file.now pages.now primes.now
+        → Each (HasRowAhead file.now pages.now (spots_in primes.now) index) (spots_in leaves.now) → ⊥) }
 {
     for &leaf in leaves {
         check_leaf(pages, file, primes, index, leaf)?;
@@ -107,7 +119,7 @@ fn check_leaves(
 /// leaves of the prime index and of this one, each in their order, in the pages of the file as they
 /// were read.
 ///
-/// Index at an entry that is that of no row.
+/// Index, where they do not agree, at an entry that is that of no row.
 pub fn check_alternate(
     pages: &[[u8; PAGE_SIZE]],
     file: &OpenFile,
@@ -118,8 +130,10 @@ pub fn check_alternate(
     requires index { IsIndexFor file.now index }
     requires many { length (spots_in leaves.now) ≡ length (spots_in primes.now) }
     requires rises { EntriesAscend index pages.now (spots_in leaves.now) }
-    ensures { OnOk result (AlternateStands file.now pages.now (spots_in primes.now) index
+    ensures stands { OnOk result (AlternateStands file.now pages.now (spots_in primes.now) index
         (spots_in leaves.now)) }
+    ensures refused { IfErr result
+        (RefusesRows (AlternateAhead file.now pages.now primes.now index leaves.now)) }
 {
     check_leaves(pages, file, primes, index, leaves)?;
     Ok(())

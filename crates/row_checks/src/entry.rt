@@ -1,10 +1,12 @@
 //! An entry of an index, in the pages of a file that were read.
 
-ghost use Rattle.std.specs.Prelude.{◌≡◌, ◌+◌, ◌<◌, ◌≤◌, IfSome, length};
+ghost use Rattle.std.specs.Prelude.{◌≡◌, ◌+◌, ◌<◌, ◌≤◌, IfSome, IsSome, length, true, false};
 ghost use Rattle.page_bytes.specs.Each.{Each};
-ghost use Rattle.page_walks.specs.Spots.{entry_at_spot, spots_in};
+ghost use Rattle.page_walks.specs.Spots.{IsSpotThere, entry_at_spot, spots_in};
+ghost use Rattle.tree_node.specs.Order.{less};
 ghost use Rattle.record_heap.specs.Chain.{IsOneOf};
 ghost use Rattle.key_index.specs.Stored.{prime_entry_in};
+ghost use Rattle.row_checks.specs.Search.{EndsBefore, EndsFrom, FindsEntry, FindsKeyInLeaf, IsNear};
 
 use byteorder::{BigEndian, ByteOrder};
 use open_file::OpenFile;
@@ -23,6 +25,7 @@ pub fn entry<'a>(pages: &'a [[u8; PAGE_SIZE]], shape: Shape, spot: Spot) -> Opti
     ensures value { IfSome result (λ entry. entry.now ≡ entry_at_spot shape pages.now spot) }
     ensures long { IfSome result (λ entry. length entry.now ≡ shape.entry) }
     ensures bytes { IfSome result (λ entry. Each (λ b. b < 256) entry.now) }
+    ensures there { IsSpotThere shape pages.now spot → IsSome result }
 {
     let entry = spot.entry(pages, shape)?;
     bytes_fit(entry);
@@ -40,14 +43,24 @@ pub fn place_in(entry: &[u8], width: usize) -> Place
     }
 }
 
+/// The bytes `a` come before the bytes `b`.
+fn is_below(a: &[u8], b: &[u8]) -> bool
+    ensures { result ≡ less a.now b.now }
+{
+    a.cmp(b).is_lt()
+}
+
 /// The last entry of a leaf of the prime index has a value below this one.
-fn ends_before(pages: &[[u8; PAGE_SIZE]], file: &OpenFile, leaf: Leaf, value: &[u8]) -> bool {
+fn ends_before(pages: &[[u8; PAGE_SIZE]], file: &OpenFile, leaf: Leaf, value: &[u8]) -> bool
+    ensures before { result ≡ true → EndsBefore file.now pages.now value.now leaf }
+    ensures from { result ≡ false → EndsFrom file.now pages.now value.now leaf }
+{
     let last = Spot {
         page: leaf.page,
         place: leaf.count.saturating_sub(1),
     };
     match entry(pages, file.prime().tree.shape(), last) {
-        Some(entry) => entry[..file.prime().width as usize].cmp(value).is_lt(),
+        Some(entry) => is_below(&entry[..file.prime().width as usize], value),
         None => false,
     }
 }
@@ -56,8 +69,12 @@ fn ends_before(pages: &[[u8; PAGE_SIZE]], file: &OpenFile, leaf: Leaf, value: &[
 fn entry_in(pages: &[[u8; PAGE_SIZE]], shape: Shape, leaf: Leaf, key: &[u8]) -> Option<Spot>
     ensures page { IfSome result (λ spot. spot.page ≡ leaf.page) }
     ensures place { IfSome result (λ spot. spot.place < leaf.count) }
+    ensures found { FindsKeyInLeaf shape pages.now leaf key.now result }
 {
-    let page = pages.get(leaf.page as usize)?;
+    if leaf.page as usize >= pages.len() {
+        return None;
+    }
+    let page = &pages[leaf.page as usize];
     if !is_leaf(page, shape) {
         return None;
     }
@@ -71,6 +88,23 @@ fn entry_in(pages: &[[u8; PAGE_SIZE]], shape: Shape, leaf: Leaf, key: &[u8]) -> 
     })
 }
 
+/// How many leaves of the prime index end before this value, where they are in order.
+fn leaves_before(pages: &[[u8; PAGE_SIZE]], file: &OpenFile, primes: &[Leaf], value: &[u8]) -> usize
+    ensures { IsNear file.now pages.now primes.now value.now result }
+{
+    let mut low = 0;
+    let mut high = primes.len();
+    'halve: while low < high {
+        let middle = low + (high - low) / 2;
+        if ends_before(pages, file, primes[middle], value) {
+            low = middle + 1;
+        } else {
+            high = middle;
+        }
+    }
+    low
+}
+
 /// An entry of the prime index; where they are in order, the first whose value is not below this one.
 pub fn entry_near(
     pages: &[[u8; PAGE_SIZE]],
@@ -78,9 +112,10 @@ pub fn entry_near(
     primes: &[Leaf],
     value: &[u8],
 ) -> Option<Spot>
-    ensures { IfSome result (λ spot. IsOneOf (spots_in primes.now) spot) }
+    ensures one { IfSome result (λ spot. IsOneOf (spots_in primes.now) spot) }
+    ensures found { FindsEntry file.now pages.now primes.now value.now result }
 {
-    let i = primes.partition_point(|leaf| ends_before(pages, file, *leaf, value));
+    let i = leaves_before(pages, file, primes, value);
     if i == primes.len() {
         return None;
     }

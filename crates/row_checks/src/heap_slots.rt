@@ -1,10 +1,13 @@
 //! The slots of the heap, each of which an entry of the prime index leads to, if it is in use.
 
-ghost use Rattle.std.specs.Prelude.{◌≡◌, IsTrue, OnOk};
-ghost use Rattle.page_walks.specs.Spots.{spots_in};
+ghost use Rattle.std.specs.Prelude.{◌≡◌, IsTrue, OnOk, OnErr};
+ghost use Rattle.page_walks.specs.Spots.{IsSpotThere, spots_in};
 ghost use Rattle.open_file.specs.Stands.{IsShaped};
+ghost use Rattle.open_file.specs.Fields.{prime_index_of};
+ghost use Rattle.bplus_tree.specs.Fields.{tree_shape};
 ghost use Rattle.row_checks.specs.Rows.{place_at};
 ghost use Rattle.row_checks.specs.Leading.{HasEntry, PageHasEntries, PagesHaveEntries};
+ghost use Rattle.row_checks.specs.Ahead.{PrimesLead};
 
 use crate::entry::{entry, entry_near, place_in};
 use crate::record::stored_at;
@@ -18,7 +21,9 @@ use record_heap::Place;
 /// The slot is not in use, or an entry of the prime index leads to it.
 fn has_entry(pages: &[[u8; PAGE_SIZE]], file: &OpenFile, primes: &[Leaf], place: Place) -> bool
     requires { IsShaped file.now }
-    ensures { IsTrue result → HasEntry file.now pages.now (spots_in primes.now) place }
+    ensures entry { IsTrue result → HasEntry file.now pages.now (spots_in primes.now) place }
+    ensures refused { PrimesLead file.now pages.now primes.now
+        → HasEntry file.now pages.now (spots_in primes.now) place → IsTrue result }
 {
     let Some(stored) = stored_at(pages, file, place) else {
         return true;
@@ -31,7 +36,9 @@ fn has_entry(pages: &[[u8; PAGE_SIZE]], file: &OpenFile, primes: &[Leaf], place:
 
 /// The entry of the prime index leads to this place.
 fn leads_to(pages: &[[u8; PAGE_SIZE]], file: &OpenFile, spot: Spot, place: Place) -> bool
-    ensures { IsTrue result → place ≡ place_at file.now pages.now spot }
+    ensures leads { IsTrue result → place ≡ place_at file.now pages.now spot }
+    ensures refused { IsSpotThere (tree_shape (prime_index_of file.now).tree) pages.now spot
+        → place ≡ place_at file.now pages.now spot → IsTrue result }
 {
     match entry(pages, file.prime().tree.shape(), spot) {
         Some(entry) => place_in(entry, file.prime().width as usize) == place,
@@ -47,7 +54,9 @@ fn check_page(
     n: u32,
 ) -> Result<(), RowFault>
     requires { IsShaped file.now }
-    ensures { OnOk result (PageHasEntries file.now pages.now (spots_in primes.now) n) }
+    ensures entries { OnOk result (PageHasEntries file.now pages.now (spots_in primes.now) n) }
+    ensures refused { OnErr result (PrimesLead file.now pages.now primes.now
+        → PageHasEntries file.now pages.now (spots_in primes.now) n → ⊥) }
 {
     for i in 0..file.heap().shape().room() {
         let place = Place {
@@ -69,7 +78,9 @@ pub fn check_slots(
     own: &[u32],
 ) -> Result<(), RowFault>
     requires { IsShaped file.now }
-    ensures { OnOk result (PagesHaveEntries file.now pages.now (spots_in primes.now) own.now) }
+    ensures entries { OnOk result (PagesHaveEntries file.now pages.now (spots_in primes.now) own.now) }
+    ensures refused { OnErr result (PrimesLead file.now pages.now primes.now
+        → PagesHaveEntries file.now pages.now (spots_in primes.now) own.now → ⊥) }
 {
     for &n in own {
         check_page(pages, file, primes, n)?;

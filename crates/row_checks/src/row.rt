@@ -1,6 +1,6 @@
 //! A row: stamps, and the record behind them.
 
-ghost use Rattle.std.specs.Prelude.{◌≡◌, ◌≤◌, drop, length, IsTrue};
+ghost use Rattle.std.specs.Prelude.{◌≡◌, ◌≤◌, ◌↔◌, drop, length, IsTrue};
 ghost use Rattle.record_layout.specs.Schema.{value_of};
 ghost use Rattle.indexed_file.specs.File.{stamp_of};
 ghost use Rattle.open_file.specs.Stored.{stamps_length};
@@ -23,7 +23,7 @@ fn record_of<'a>(file: &OpenFile, stored: &'a [u8]) -> &'a [u8]
 /// Stamps and record are those of a row of the file.
 pub fn is_row(file: &OpenFile, stored: &[u8]) -> bool
     requires { IsStoredRecord file.now stored.now }
-    ensures { IsTrue result → IsStoredRow file.now stored.now }
+    ensures { IsTrue result ↔ IsStoredRow file.now stored.now }
 {
     are_stamps(&file.keys()[1..], stored, file.next_stamp())
 }

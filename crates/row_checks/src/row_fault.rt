@@ -1,6 +1,6 @@
 //! Why a check of rows ends.
 
-use page_marks::{FaultPlace, WalkFault};
+use page_marks::FaultPlace;
 use page_walks::Spot;
 use record_heap::Place;
 use thiserror::Error;
@@ -30,14 +30,5 @@ impl RowFault {
             page: place.page,
             entry: u32::from(place.slot),
         })
-    }
-}
-
-impl From<WalkFault> for RowFault {
-    fn from(fault: WalkFault) -> RowFault {
-        match fault {
-            WalkFault::Memory => RowFault::Memory,
-            WalkFault::At(_, place) => RowFault::Index(place),
-        }
     }
 }

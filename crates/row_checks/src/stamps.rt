@@ -1,6 +1,6 @@
 //! The stamps before a record.
 
-ghost use Rattle.std.specs.Prelude.{◌≡◌, ◌≤◌, ◌<◌, IsTrue, length, slice_index};
+ghost use Rattle.std.specs.Prelude.{◌≡◌, ◌≤◌, ◌<◌, ◌↔◌, IsTrue, length, slice_index};
 ghost use Rattle.open_file.specs.Stored.{stamps_length};
 ghost use Rattle.open_file.specs.ReadOff.{stamps_off};
 ghost use Rattle.row_checks.specs.Leading.{are_stamps_off};
@@ -14,7 +14,7 @@ const STAMP: usize = 8;
 /// Each stamp of a duplicates key is from 1 to below the next one.
 pub fn are_stamps(parts: &[KeyPart], bytes: &[u8], next: u64) -> bool
     requires { stamps_length parts.now ≤ length bytes.now }
-    ensures { IsTrue result → IsTrue (are_stamps_off parts.now next bytes.now) }
+    ensures { IsTrue result ↔ IsTrue (are_stamps_off parts.now next bytes.now) }
 {
     let mut rest = bytes;
     for part in parts {

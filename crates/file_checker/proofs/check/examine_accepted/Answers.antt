@@ -1,11 +1,12 @@
 use Rattle.std.proofs.Common.{rules, ◌≡◌, [], ◌∷◌, Some, refl, sym, subst}
 use Rattle.file_checker.specs.Bytes.{AreRead}
 use Rattle.file_checker.specs.Parts.{PagesStand}
+use Rattle.file_checker.specs.Ahead.{StopsRightly}
 use Rattle.file_checker.specs.Later.{StopsIn}
 use Rattle.file_checker.specs.Sound.{CheckGivesUp, HasPages}
 use Rattle.file_checker.specs.declared.verdict.CheckFault.TheVariants.{Memory}
 use Rattle.file_checker.proofs.ReadLemmas.{first_pages}
-use Rattle.file_checker.proofs.SoundLemmas.{no_verdict, first_is, first_read_alone, too_few, all_pages, is_sound, shown, not_short, gives_up, one_given, all_given, pages_read}
+use Rattle.file_checker.proofs.SoundLemmas.{no_verdict, first_is, first_read_alone, too_few, all_pages, is_sound, shown, not_short, gives_up, one_given, all_given, pages_read, unsound_by_pages}
 use Rattle.file_checker.proofs.check.examine_accepted.Goals as goal
 
 pub returns-then-not-branch : goal.returns-then-not-branch
@@ -46,15 +47,19 @@ returns-in-Err-Unsound g c =
     let items : c.push_page.new.pages.items ≡ c.args.first.now ∷ [] = search rules in
     let many = c.in_ok-read_pages.ensures.many c.if-not-branch.false in
     let met = subst (StopsIn c.args.header.now c.deref.result.now) c.in-Err-Unsound.field-0-is c.in-Err-Unsound.ensures.stop in
+    let never = subst (StopsRightly (PagesStand c.args.header.now c.deref.result.now)) c.in-Err-Unsound.field-0-is c.in-Err-Unsound.ensures.refused in
     record {
       right = λ bytes came.
           let alone = first_read_alone bytes c.args.first.now (g.R.Read.remaining c.args.reader.now) came c.told-first in
           let all = c.in_ok-read_pages.ensures.read c.if-not-branch.false (Some bytes) (subst (AreRead (Some bytes) (g.R.Read.remaining c.args.reader.now)) (sym items) alone) in
-          shown bytes c.args.header.now c.deref.result.now c.in-Err-Unsound.reason
-          (subst (HasPages bytes c.args.header.now) (sym c.deref.ensures.value)
-          (all_pages bytes c.args.first.now c.args.header.now (first_is bytes c.args.first.now (g.R.Read.remaining c.args.reader.now) came c.told-first) c.requires c.read_pages.new.pages.items
-          (first_pages bytes (g.R.Read.remaining c.read_pages.new.reader) c.read_pages.new.pages.items all) many))
-          met;
+          let page = first_is bytes c.args.first.now (g.R.Read.remaining c.args.reader.now) came c.told-first in
+          let pages = first_pages bytes (g.R.Read.remaining c.read_pages.new.reader) c.read_pages.new.pages.items all in (
+            shown bytes c.args.header.now c.deref.result.now c.in-Err-Unsound.reason
+                (subst (HasPages bytes c.args.header.now) (sym c.deref.ensures.value)
+                (all_pages bytes c.args.first.now c.args.header.now page c.requires c.read_pages.new.pages.items pages many)) met,
+            unsound_by_pages bytes c.args.first.now c.args.header.now page c.requires c.read_pages.new.pages.items pages many
+                (λ stand. never (subst (PagesStand c.args.header.now) (sym c.deref.ensures.value) stand)),
+          );
       read = λ bytes came.
           let alone = first_read_alone bytes c.args.first.now (g.R.Read.remaining c.args.reader.now) came c.told-first in
           let all = c.in_ok-read_pages.ensures.read c.if-not-branch.false (Some bytes) (subst (AreRead (Some bytes) (g.R.Read.remaining c.args.reader.now)) (sym items) alone) in

@@ -1,7 +1,7 @@
 use Rattle.std.proofs.Common.{◌*◌, ℕ, refl, ap, sym, subst, ◌∙◌}
 use Rattle.file_checker.specs.Bytes.{HasLess, HasGiven, HasGivenLess}
 use Rattle.file_checker.specs.Sound.{CheckGivesUp}
-use Rattle.file_checker.proofs.SoundLemmas.{no_verdict, is_short, is_long, first_byte, first_is, read_whole, read_less}
+use Rattle.file_checker.proofs.SoundLemmas.{no_verdict, is_short, is_long, no_header, first_byte, first_is, read_whole, read_less}
 use Rattle.file_header.specs.Reading.{header_in}
 use Rattle.file_checker.proofs.check.refusal.Goals as goal
 
@@ -19,8 +19,11 @@ returns-then-first-ne-CLOSED g c =
     let given = subst (λ (n : ℕ). HasGiven (g.R.Read.remaining c.args.reader.now) (g.R.Read.remaining c.skip_pages.new.reader) (4096 * n)) c.saturating_sub.ensures (c.in_ok-skip_pages.ensures.whole c.if-not-branch.false) in
     record {
       right = λ bytes came. (
-        is_long bytes c.args.first.now (g.R.Read.remaining c.args.reader.now) (g.R.Read.remaining c.skip_pages.new.reader) c.read_u32-pages.result came c.told-first c.read_u32-pages.ensures given,
-        (λ closed. c.if-first-ne-CLOSED.true (sym (first_byte bytes c.args.first.now (g.R.Read.remaining c.args.reader.now) came c.told-first) ∙ closed)),
+        (
+          is_long bytes c.args.first.now (g.R.Read.remaining c.args.reader.now) (g.R.Read.remaining c.skip_pages.new.reader) c.read_u32-pages.result came c.told-first c.read_u32-pages.ensures given,
+          (λ closed. c.if-first-ne-CLOSED.true (sym (first_byte bytes c.args.first.now (g.R.Read.remaining c.args.reader.now) came c.told-first) ∙ closed)),
+        ),
+        no_header bytes c.args.first.now (g.R.Read.remaining c.args.reader.now) (g.R.Read.remaining c.skip_pages.new.reader) c.read_u32-pages.result came c.told-first c.read_u32-pages.ensures c.requires,
       );
       read = λ bytes came. record {
         whole = λ other. read_whole bytes c.args.first.now (g.R.Read.remaining c.args.reader.now) (g.R.Read.remaining c.skip_pages.new.reader) c.read_u32-pages.result came c.told-first c.read_u32-pages.ensures given;
@@ -34,9 +37,12 @@ returns g c =
     let given = subst (λ (n : ℕ). HasGiven (g.R.Read.remaining c.args.reader.now) (g.R.Read.remaining c.skip_pages.new.reader) (4096 * n)) c.saturating_sub.ensures (c.in_ok-skip_pages.ensures.whole c.if-not-branch.false) in
     record {
       right = λ bytes came. (
-        is_long bytes c.args.first.now (g.R.Read.remaining c.args.reader.now) (g.R.Read.remaining c.skip_pages.new.reader) c.read_u32-pages.result came c.told-first c.read_u32-pages.ensures given,
-        first_byte bytes c.args.first.now (g.R.Read.remaining c.args.reader.now) came c.told-first ∙ c.if-first-ne-CLOSED.false,
-        ap header_in (first_is bytes c.args.first.now (g.R.Read.remaining c.args.reader.now) came c.told-first) ∙ c.requires,
+        (
+          is_long bytes c.args.first.now (g.R.Read.remaining c.args.reader.now) (g.R.Read.remaining c.skip_pages.new.reader) c.read_u32-pages.result came c.told-first c.read_u32-pages.ensures given,
+          first_byte bytes c.args.first.now (g.R.Read.remaining c.args.reader.now) came c.told-first ∙ c.if-first-ne-CLOSED.false,
+          ap header_in (first_is bytes c.args.first.now (g.R.Read.remaining c.args.reader.now) came c.told-first) ∙ c.requires,
+        ),
+        no_header bytes c.args.first.now (g.R.Read.remaining c.args.reader.now) (g.R.Read.remaining c.skip_pages.new.reader) c.read_u32-pages.result came c.told-first c.read_u32-pages.ensures c.requires,
       );
       read = λ bytes came. record {
         whole = λ other. read_whole bytes c.args.first.now (g.R.Read.remaining c.args.reader.now) (g.R.Read.remaining c.skip_pages.new.reader) c.read_u32-pages.result came c.told-first c.read_u32-pages.ensures given;

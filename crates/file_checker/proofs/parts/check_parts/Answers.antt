@@ -1,25 +1,29 @@
-use Rattle.std.proofs.Common.{◌≡◌, ℕ, ◌<◌, true, List, length, sym, ap, subst, ◌∙◌, arith}
-use Rattle.tree_node.specs.Order.{Ascends}
+use Rattle.std.proofs.Common.{◌≡◌, ℕ, ◌<◌, true, List, length, refl, sym, ap, subst, ◌∙◌, arith}
 use Rattle.page_marks.specs.Marks.{marked_in}
 use Rattle.page_marks.specs.PageList.{pages_in}
 use Rattle.page_walks.specs.declared.leaf.Leaf.{Leaf}
-use Rattle.page_walks.specs.Spots.{entries_at, spots_in}
+use Rattle.page_walks.specs.Spots.{spots_in}
 use Rattle.row_checks.proofs.LawLemmas.{make_a_file}
-use Rattle.row_checks.specs.Rows.{RowsStand}
-use Rattle.bplus_tree.specs.Fields.{tree_shape}
+use Rattle.row_checks.specs.Ahead.{RowsAhead}
+use Rattle.row_checks.specs.Rows.{EntriesRise, RowsStand}
+use Rattle.row_checks.proofs.AheadLemmas.{primes_lead}
+use Rattle.record_heap.specs.Standing.{slot_shape}
+use Rattle.record_heap.specs.Walk.{slots_of}
+use Rattle.file_checker.specs.Ahead.{AlternatesAhead}
 use Rattle.file_checker.specs.Parts.{AlternatesFound}
-use Rattle.file_checker.proofs.AlternateLemmas.{entries_rise, spots_many}
+use Rattle.file_checker.proofs.AlternateLemmas.{prime_rise, spots_many}
+use Rattle.file_checker.proofs.AheadLemmas.{alternates_ahead, free_ahead, heap_ahead, none_lost, prime_ahead, rows_ahead}
+use Rattle.file_checker.proofs.AlternatesAheadLemmas.{checks_by_rows, checks_by_walk, checks_stopped}
 use Rattle.file_checker.proofs.StandLemmas.{Found, pages_stand, leaves_out}
 use Rattle.file_checker.proofs.parts.check_parts.Goals as goal
-use Rattle.open_file.specs.Fields.{alternates_of, prime_index_of}
+use Rattle.open_file.specs.Fields.{alternates_of, heap_of, prime_index_of}
 
 pub check_rows-requires-clause-rises : goal.check_rows-requires-clause-rises
 check_rows-requires-clause-rises c =
-    let index = prime_index_of c.from_header-file.result in
-    let rises : Ascends (tree_shape index.tree).width (entries_at (tree_shape index.tree) c.args.pages.now (spots_in c.in_ok-primes.primes.items)) =
-    entries_rise index.tree (pages_in c.args.pages.now) (entries_at (tree_shape index.tree) c.args.pages.now (spots_in c.in_ok-primes.primes.items)) _ (rw c.prime.ensures at c.in_ok-primes.ensures.walked).stands in
-    subst (λ (leaves : List Leaf). Ascends index.width (entries_at (tree_shape index.tree) c.args.pages.now (spots_in leaves))) (sym c.deref-2.ensures.value)
-    (subst (λ (width : ℕ). Ascends width (entries_at (tree_shape index.tree) c.args.pages.now (spots_in c.in_ok-primes.primes.items))) index.keys rises)
+    let file = c.from_header-file.result in
+    let list = c.args.pages.now in
+    subst (λ (leaves : List Leaf). EntriesRise file list (spots_in leaves)) (sym c.deref-2.ensures.value)
+    (prime_rise file list (marked_in c.walk_heap.new.reached) (marked_in c.walk_tree.new.reached) (spots_in c.in_ok-primes.primes.items) (rw c.prime.ensures at c.in_ok-primes.ensures.walked))
 
 pub check_alternates-requires-clause-many : goal.check_alternates-requires-clause-many
 check_alternates-requires-clause-many c j index within is =
@@ -34,7 +38,7 @@ returns c =
     let list = c.args.pages.now in
     let rows : RowsStand file list c.in_ok-own.own.items (spots_in c.in_ok-primes.primes.items) =
     subst (λ (own : List ℕ). RowsStand file list own (spots_in c.in_ok-primes.primes.items)) c.deref.ensures.value
-    (subst (λ (primes : List Leaf). RowsStand file list c.deref.result.now (spots_in primes)) c.deref-2.ensures.value c.in_ok-check_rows.ensures) in
+    (subst (λ (primes : List Leaf). RowsStand file list c.deref.result.now (spots_in primes)) c.deref-2.ensures.value c.in_ok-check_rows.ensures.stand) in
     let alternates : AlternatesFound file list (spots_in c.in_ok-primes.primes.items) (length (alternates_of file)) (marked_in c.walk_tree.new.reached) (marked_in c.check_alternates.new.reached) =
     subst (λ (primes : List Leaf). AlternatesFound file list (spots_in primes) (length (alternates_of file)) (marked_in c.walk_tree.new.reached) (marked_in c.check_alternates.new.reached)) c.deref-3.ensures.value
     c.in_ok-check_alternates.ensures.found in
@@ -57,7 +61,87 @@ returns c =
       stand = pages_stand c.args.header.now list file c.in_ok-own.own.items (spots_in c.in_ok-primes.primes.items) (marked_in c.args.reached.now) (marked_in c.mark.new.reached) (marked_in c.walk_free.new.reached)
           (marked_in c.walk_heap.new.reached) (marked_in c.walk_tree.new.reached) (marked_in c.check_alternates.new.reached) c.requires.header c.from_header-file.ensures found all make_a_file;
       stop = tt;
+      refused = tt;
     }
+
+pub returns-in_err-mark : goal.returns-in_err-mark
+returns-in_err-mark c =
+    let many = c.requires.many in
+    let counted = c.requires.counted in
+    let some = c.requires.header.within.counted in
+    checks_by_walk c.args.header.now c.args.pages.now _ c.from_residual.result _ c.from_residual.ensures.1 (λ p. (omega (arith, many, counted, some), c.requires.clear 0)) c.in_err-mark.ensures.refused
+
+pub returns-in_err-walk_free : goal.returns-in_err-walk_free
+returns-in_err-walk_free c =
+    let header = c.args.header.now in
+    let list = c.args.pages.now in
+    let file = c.from_header-file.result in
+    let many = c.requires.many in
+    let zero_long : length c.mark.new.reached ≡ length list = (let a = c.mark.auto.reached in omega (arith, a, many)) in
+    checks_by_walk header list _ c.from_residual-in_err-walk_free.result _ c.from_residual-in_err-walk_free.ensures.1
+    (λ p. free_ahead header list (marked_in c.args.reached.now) c.requires.clear c.mark.new.reached zero_long c.in_ok-mark.ensures.marked p.sound) c.in_err-walk_free.ensures.refused
+
+pub returns-in_err-own : goal.returns-in_err-own
+returns-in_err-own c =
+    let header = c.args.header.now in
+    let list = c.args.pages.now in
+    let file = c.from_header-file.result in
+    let many = c.requires.many in
+    let zero_long : length c.mark.new.reached ≡ length list = (let a = c.mark.auto.reached in omega (arith, a, many)) in
+    let start_long : length c.walk_free.new.reached ≡ length list = (let b = c.walk_free.auto.reached in omega (arith, b, zero_long)) in
+    checks_by_walk header list _ c.from_residual-in_err-own.result _ c.from_residual-in_err-own.ensures.1
+    (λ p. heap_ahead header list (marked_in c.args.reached.now) c.requires.clear c.mark.new.reached zero_long c.in_ok-mark.ensures.marked c.walk_free.new.reached start_long c.in_ok-walk_free.ensures.walked c.requires.header c.requires.counted file c.from_header-file.ensures p) (rw c.heap.ensures at c.in_err-own.ensures.refused)
+
+pub returns-in_err-primes : goal.returns-in_err-primes
+returns-in_err-primes c =
+    let header = c.args.header.now in
+    let list = c.args.pages.now in
+    let file = c.from_header-file.result in
+    let many = c.requires.many in
+    let zero_long : length c.mark.new.reached ≡ length list = (let a = c.mark.auto.reached in omega (arith, a, many)) in
+    let start_long : length c.walk_free.new.reached ≡ length list = (let b = c.walk_free.auto.reached in omega (arith, b, zero_long)) in
+    let heap_long : length c.walk_heap.new.reached ≡ length c.walk_free.new.reached = (let d = c.walk_heap.auto.reached in omega (arith, d)) in
+    checks_by_walk header list _ c.from_residual-in_err-primes.result _ c.from_residual-in_err-primes.ensures.1
+    (λ p. prime_ahead header list (marked_in c.args.reached.now) c.requires.clear c.mark.new.reached zero_long c.in_ok-mark.ensures.marked c.walk_free.new.reached start_long c.in_ok-walk_free.ensures.walked c.requires.header c.requires.counted file c.from_header-file.ensures p c.walk_heap.new.reached heap_long c.in_ok-own.own.items
+    (slots_of (slot_shape (heap_of file)) (pages_in list) c.in_ok-own.own.items) (rw c.heap.ensures at c.in_ok-own.ensures.walked.stands) c.in_ok-own.ensures.walked.marks)
+    (rw c.prime.ensures at c.in_err-primes.ensures.refused)
+
+pub returns-in_err-check_rows : goal.returns-in_err-check_rows
+returns-in_err-check_rows c =
+    let header = c.args.header.now in
+    let list = c.args.pages.now in
+    let file = c.from_header-file.result in
+    let many = c.requires.many in
+    let zero_long : length c.mark.new.reached ≡ length list = (let a = c.mark.auto.reached in omega (arith, a, many)) in
+    let start_long : length c.walk_free.new.reached ≡ length list = (let b = c.walk_free.auto.reached in omega (arith, b, zero_long)) in
+    let heap_long : length c.walk_heap.new.reached ≡ length c.walk_free.new.reached = (let d = c.walk_heap.auto.reached in omega (arith, d)) in
+    let prime_long : length c.walk_tree.new.reached ≡ length c.walk_heap.new.reached = (let d = c.walk_tree.auto.reached in omega (arith, d)) in
+    checks_by_rows header list _ c.from_residual-in_err-check_rows.result _ c.from_residual-in_err-check_rows.ensures.1
+    (λ p. subst (λ (own : List ℕ). RowsAhead file list own c.deref-2.result.now) (sym c.deref.ensures.value)
+    (subst (RowsAhead file list c.in_ok-own.own.items) (sym c.deref-2.ensures.value)
+    (rows_ahead header list (marked_in c.args.reached.now) c.requires.clear c.mark.new.reached zero_long c.in_ok-mark.ensures.marked c.walk_free.new.reached start_long c.in_ok-walk_free.ensures.walked c.requires.header c.requires.counted file c.from_header-file.ensures p c.walk_heap.new.reached heap_long c.in_ok-own.own.items
+    (slots_of (slot_shape (heap_of file)) (pages_in list) c.in_ok-own.own.items) (rw c.heap.ensures at c.in_ok-own.ensures.walked.stands) c.in_ok-own.ensures.walked.marks c.walk_tree.new.reached prime_long c.in_ok-primes.primes.items (rw c.prime.ensures at c.in_ok-primes.ensures.walked)
+    refl (rw c.prime.ensures at c.in_ok-primes.ensures.there)))) c.in_err-check_rows.ensures.refused
+
+pub returns-in_err-check_alternates : goal.returns-in_err-check_alternates
+returns-in_err-check_alternates c =
+    let header = c.args.header.now in
+    let list = c.args.pages.now in
+    let file = c.from_header-file.result in
+    let many = c.requires.many in
+    let zero_long : length c.mark.new.reached ≡ length list = (let a = c.mark.auto.reached in omega (arith, a, many)) in
+    let start_long : length c.walk_free.new.reached ≡ length list = (let b = c.walk_free.auto.reached in omega (arith, b, zero_long)) in
+    let heap_long : length c.walk_heap.new.reached ≡ length c.walk_free.new.reached = (let d = c.walk_heap.auto.reached in omega (arith, d)) in
+    let prime_long : length c.walk_tree.new.reached ≡ length c.walk_heap.new.reached = (let d = c.walk_tree.auto.reached in omega (arith, d)) in
+    let rise = prime_rise file list (marked_in c.walk_heap.new.reached) (marked_in c.walk_tree.new.reached) (spots_in c.in_ok-primes.primes.items) (rw c.prime.ensures at c.in_ok-primes.ensures.walked) in
+    checks_stopped header list _ c.from_residual-in_err-check_alternates.result _ c.from_residual-in_err-check_alternates.ensures.1 c.in_err-check_alternates.ensures.stop
+    (λ p. subst (λ (primes : List Leaf). AlternatesAhead file list primes 0 c.walk_tree.new.reached) (sym c.deref-3.ensures.value)
+    (alternates_ahead header list (marked_in c.args.reached.now) c.requires.clear c.mark.new.reached zero_long c.in_ok-mark.ensures.marked c.walk_free.new.reached start_long c.in_ok-walk_free.ensures.walked c.requires.header c.requires.counted file c.from_header-file.ensures p c.walk_heap.new.reached heap_long c.in_ok-own.own.items
+    (slots_of (slot_shape (heap_of file)) (pages_in list) c.in_ok-own.own.items) (rw c.heap.ensures at c.in_ok-own.ensures.walked.stands) c.in_ok-own.ensures.walked.marks c.walk_tree.new.reached prime_long c.in_ok-primes.primes.items (rw c.prime.ensures at c.in_ok-primes.ensures.walked)
+    (primes_lead file list c.in_ok-own.own.items c.in_ok-primes.primes.items rise
+    (rows_ahead header list (marked_in c.args.reached.now) c.requires.clear c.mark.new.reached zero_long c.in_ok-mark.ensures.marked c.walk_free.new.reached start_long c.in_ok-walk_free.ensures.walked c.requires.header c.requires.counted file c.from_header-file.ensures p c.walk_heap.new.reached heap_long c.in_ok-own.own.items
+    (slots_of (slot_shape (heap_of file)) (pages_in list) c.in_ok-own.own.items) (rw c.heap.ensures at c.in_ok-own.ensures.walked.stands) c.in_ok-own.ensures.walked.marks c.walk_tree.new.reached prime_long c.in_ok-primes.primes.items (rw c.prime.ensures at c.in_ok-primes.ensures.walked)
+    refl (rw c.prime.ensures at c.in_ok-primes.ensures.there))))) c.in_err-check_alternates.ensures.refused
 
 pub returns-then-is_page_lost : goal.returns-then-is_page_lost
 returns-then-is_page_lost c =
@@ -65,7 +149,7 @@ returns-then-is_page_lost c =
     let list = c.args.pages.now in
     let rows : RowsStand file list c.in_ok-own.own.items (spots_in c.in_ok-primes.primes.items) =
     subst (λ (own : List ℕ). RowsStand file list own (spots_in c.in_ok-primes.primes.items)) c.deref.ensures.value
-    (subst (λ (primes : List Leaf). RowsStand file list c.deref.result.now (spots_in primes)) c.deref-2.ensures.value c.in_ok-check_rows.ensures) in
+    (subst (λ (primes : List Leaf). RowsStand file list c.deref.result.now (spots_in primes)) c.deref-2.ensures.value c.in_ok-check_rows.ensures.stand) in
     let alternates : AlternatesFound file list (spots_in c.in_ok-primes.primes.items) (length (alternates_of file)) (marked_in c.walk_tree.new.reached) (marked_in c.check_alternates.new.reached) =
     subst (λ (primes : List Leaf). AlternatesFound file list (spots_in primes) (length (alternates_of file)) (marked_in c.walk_tree.new.reached) (marked_in c.check_alternates.new.reached)) c.deref-3.ensures.value
     c.in_ok-check_alternates.ensures.found in
@@ -81,6 +165,11 @@ returns-then-is_page_lost c =
       rows = rows;
       alternates = alternates;
     } in
+    let many = c.requires.many in
+    let zero_long : length c.mark.new.reached ≡ length list = (let a = c.mark.auto.reached in omega (arith, a, many)) in
+    let start_long : length c.walk_free.new.reached ≡ length list = (let b = c.walk_free.auto.reached in omega (arith, b, zero_long)) in
+    let heap_long : length c.walk_heap.new.reached ≡ length c.walk_free.new.reached = (let d = c.walk_heap.auto.reached in omega (arith, d)) in
+    let prime_long : length c.walk_tree.new.reached ≡ length c.walk_heap.new.reached = (let d = c.walk_tree.auto.reached in omega (arith, d)) in
     let lost = c.is_page_lost.ensures.lost c.if-is_page_lost.true in
     let within : lost.0 < length list = (let some = lost.1 in let a = c.mark.auto.reached in let b = c.walk_free.auto.reached in let d = c.walk_heap.auto.reached in let e = c.walk_tree.auto.reached in
     let f = c.check_alternates.auto.reached in let many = c.requires.many in omega arith) in
@@ -91,4 +180,7 @@ returns-then-is_page_lost c =
         leaves_out c.args.header.now list file c.in_ok-own.own.items (spots_in c.in_ok-primes.primes.items) (marked_in c.args.reached.now) (marked_in c.mark.new.reached) (marked_in c.walk_free.new.reached)
             (marked_in c.walk_heap.new.reached) (marked_in c.walk_tree.new.reached) (marked_in c.check_alternates.new.reached) c.requires.header c.from_header-file.ensures found lost.0 within lost.2,
       );
+      refused = λ p. none_lost c.args.header.now list (marked_in c.args.reached.now) c.requires.clear c.mark.new.reached zero_long c.in_ok-mark.ensures.marked c.walk_free.new.reached start_long c.in_ok-walk_free.ensures.walked c.requires.header c.requires.counted file c.from_header-file.ensures p c.walk_heap.new.reached heap_long c.in_ok-own.own.items
+          (slots_of (slot_shape (heap_of file)) (pages_in list) c.in_ok-own.own.items) (rw c.heap.ensures at c.in_ok-own.ensures.walked.stands) c.in_ok-own.ensures.walked.marks c.walk_tree.new.reached prime_long c.in_ok-primes.primes.items (rw c.prime.ensures at c.in_ok-primes.ensures.walked) c.check_alternates.new.reached
+          alternates lost.0 within lost.2;
     }

@@ -1,13 +1,22 @@
 use Rattle.page_walks.specs.Spots.{spots_in}
+use Rattle.row_checks.specs.Ahead.{AlternateAhead}
 use Rattle.row_checks.specs.Leading.{HasRow}
 use Rattle.row_checks.proofs.SpotLemmas.{each_in}
+use Rattle.row_checks.proofs.AheadLemmas.{on_err, refuses_rows, rows_ahead}
 use Rattle.row_checks.proofs.AlternateLemmas.{alternate_stands}
 use Rattle.row_checks.proofs.alternate.check_alternate.Goals as goal
 
-pub returns : goal.returns
-returns c =
+pub returns-in_err-check_leaves-clause-refused : goal.returns-in_err-check_leaves-clause-refused
+returns-in_err-check_leaves-clause-refused c =
+    let Ahead = AlternateAhead c.args.file.now c.args.pages.now c.args.primes.now c.args.index c.args.leaves.now in
+    refuses_rows Ahead c.from_residual.result (on_err (Ahead → ⊥) c.from_residual.result
+    (λ ahead. c.in_err-check_leaves.ensures.refused ahead.primes_lead
+    (rows_ahead c.args.file.now c.args.pages.now c.args.primes.now c.args.index c.args.leaves.now ahead)))
+
+pub returns-clause-stands : goal.returns-clause-stands
+returns-clause-stands c =
     let file = c.args.file.now in
     let list = c.args.pages.now in
     let primes = spots_in c.args.primes.now in
     let spots = spots_in c.args.leaves.now in
-    alternate_stands file list primes c.args.index spots (each_in (HasRow file list primes c.args.index) c.args.leaves.now c.in_ok-check_leaves.ensures) c.requires.many c.requires.rises
+    alternate_stands file list primes c.args.index spots (each_in (HasRow file list primes c.args.index) c.args.leaves.now c.in_ok-check_leaves.ensures.rows) c.requires.many c.requires.rises

@@ -1,9 +1,17 @@
 use Rattle.std.proofs.Common.{refl}
 use Rattle.page_walks.specs.Spots.{spots_in}
+use Rattle.row_checks.specs.Ahead.{HasRowAhead}
 use Rattle.row_checks.specs.Leading.{HasRow}
+use Rattle.row_checks.proofs.AheadLemmas.{never}
+use Rattle.row_checks.proofs.SearchLemmas.{each_place}
 use Rattle.row_checks.proofs.SpotLemmas.{each_below}
 use Rattle.row_checks.proofs.alternate.check_leaf.Goals as goal
 
 pub loop-place-preserved : goal.loop-place-preserved
 loop-place-preserved c =
-    each_below (HasRow c.args.file.now c.args.pages.now (spots_in c.args.primes.now) c.args.index) c.args.leaf.page c.loop-place.place c.loop-place.invariant (c.if-not-has_row.ensures refl)
+    each_below (HasRow c.args.file.now c.args.pages.now (spots_in c.args.primes.now) c.args.index) c.args.leaf.page c.loop-place.place c.loop-place.invariant (c.if-not-has_row.ensures.row refl)
+
+pub returns-then-not-has_row-clause-refused : goal.returns-then-not-has_row-clause-refused
+returns-then-not-has_row-clause-refused c = λ lead all.
+    never (c.if-not-has_row.ensures.refused lead
+    (each_place (HasRowAhead c.args.file.now c.args.pages.now (spots_in c.args.primes.now) c.args.index) c.args.leaf.page c.args.leaf.count c.loop-place.place c.loop-place-test.true all))

@@ -1,6 +1,10 @@
 use Rattle.std.proofs.Common.{arith}
 use Rattle.page_walks.specs.Spots.{spots_in}
+use Rattle.page_bytes.specs.Each.{Each}
+use Rattle.row_checks.specs.Ahead.{HasRowAhead, PrimesLead}
 use Rattle.row_checks.specs.Leading.{HasRow}
+use Rattle.row_checks.proofs.AheadLemmas.{on_err}
+use Rattle.row_checks.proofs.SearchLemmas.{each_of_leaf}
 use Rattle.row_checks.proofs.SpotLemmas.{each_more}
 use Rattle.row_checks.proofs.alternate.check_leaves.Goals as goal
 
@@ -9,7 +13,13 @@ loop-leaf-init c = λ k d below. absurd (omega (arith, below))
 
 pub loop-leaf-preserved : goal.loop-leaf-preserved
 loop-leaf-preserved c =
-    each_more (HasRow c.args.file.now c.args.pages.now (spots_in c.args.primes.now) c.args.index) c.args.leaves.now c.loop-leaf.leaf-index (record { page = 0; count = 0 }) c.loop-leaf-test.true c.loop-leaf.invariant c.in_ok-check_leaf.ensures
+    each_more (HasRow c.args.file.now c.args.pages.now (spots_in c.args.primes.now) c.args.index) c.args.leaves.now c.loop-leaf.leaf-index (record { page = 0; count = 0 }) c.loop-leaf-test.true c.loop-leaf.invariant c.in_ok-check_leaf.ensures.rows
 
-pub returns : goal.returns
-returns c = λ k d within. c.loop-leaf.invariant k d (let end = c.loop-leaf-test.false in omega (arith, end, within))
+pub returns-in_err-check_leaf-clause-refused : goal.returns-in_err-check_leaf-clause-refused
+returns-in_err-check_leaf-clause-refused c =
+    on_err (PrimesLead c.args.file.now c.args.pages.now c.args.primes.now → Each (HasRowAhead c.args.file.now c.args.pages.now (spots_in c.args.primes.now) c.args.index) (spots_in c.args.leaves.now) → ⊥)
+    c.from_residual.result (λ lead all. c.in_err-check_leaf.ensures.refused lead
+    (each_of_leaf (HasRowAhead c.args.file.now c.args.pages.now (spots_in c.args.primes.now) c.args.index) c.args.leaves.now c.loop-leaf.leaf-index (record { page = 0; count = 0 }) c.loop-leaf-test.true all))
+
+pub returns-clause-rows : goal.returns-clause-rows
+returns-clause-rows c = λ k d within. c.loop-leaf.invariant k d (let end = c.loop-leaf-test.false in omega (arith, end, within))

@@ -7,7 +7,9 @@ use Rattle.record_heap.specs.Slot.{room}
 use Rattle.record_heap.specs.Walk.{is_in_list}
 use Rattle.record_heap.specs.Standing.{slot_shape}
 use Rattle.page_walks.specs.Spots.{spots_in}
-use Rattle.row_checks.specs.Leading.{HasEntry}
+use Rattle.row_checks.specs.Ahead.{PrimesLead}
+use Rattle.row_checks.specs.Leading.{HasEntry, PagesHaveEntries}
+use Rattle.row_checks.proofs.AheadLemmas.{in_list_at, on_err, page_has}
 use Rattle.row_checks.proofs.SlotLemmas.{pages_more, own_slot}
 use Rattle.row_checks.proofs.heap_slots.check_slots.Goals as goal
 use Rattle.open_file.specs.Fields.{heap_of}
@@ -24,9 +26,15 @@ loop-n-preserved c =
     let up : k + 1 ≡ suc k = omega arith in
     subst (λ (m : ℕ). (p : Place) → is_in_list (take m own) p.page ≡ true → p.slot < room shape → Has p) (sym up)
     (subst (λ (ms : List ℕ). (p : Place) → is_in_list ms p.page ≡ true → p.slot < room shape → Has p) (sym (take-suc own k 0 c.loop-n-test.true))
-    (pages_more shape Has (take k own) (get_or own k 0) c.loop-n.invariant c.in_ok-check_page.ensures))
+    (pages_more shape Has (take k own) (get_or own k 0) c.loop-n.invariant c.in_ok-check_page.ensures.entries))
 
-pub returns : goal.returns
-returns c = λ p some.
+pub returns-in_err-check_page-clause-refused : goal.returns-in_err-check_page-clause-refused
+returns-in_err-check_page-clause-refused c =
+    on_err (PrimesLead c.args.file.now c.args.pages.now c.args.primes.now → PagesHaveEntries c.args.file.now c.args.pages.now (spots_in c.args.primes.now) c.args.own.now → ⊥) c.from_residual.result
+    (λ lead all. c.in_err-check_page.ensures.refused lead
+    (page_has c.args.file.now c.args.pages.now (spots_in c.args.primes.now) c.args.own.now (get_or c.args.own.now c.loop-n.n-index 0) (in_list_at c.args.own.now c.loop-n.n-index 0 c.loop-n-test.true) all))
+
+pub returns-clause-entries : goal.returns-clause-entries
+returns-clause-entries c = λ p some.
     let own = own_slot (slot_shape (heap_of c.args.file.now)) (pages_in c.args.pages.now) c.args.own.now p some in
     c.loop-n.invariant p (subst (λ (ms : List ℕ). is_in_list ms p.page ≡ true) (sym (take_all c.loop-n.n-index c.args.own.now c.loop-n-test.false)) own.0) own.1 own.2

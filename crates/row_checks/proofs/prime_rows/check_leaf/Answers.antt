@@ -1,8 +1,16 @@
 use Rattle.std.proofs.Common.{refl}
+use Rattle.row_checks.specs.Ahead.{LeadsAhead}
 use Rattle.row_checks.specs.Leading.{LeadsToRow}
+use Rattle.row_checks.proofs.AheadLemmas.{never}
+use Rattle.row_checks.proofs.SearchLemmas.{each_place}
 use Rattle.row_checks.proofs.SpotLemmas.{each_below}
 use Rattle.row_checks.proofs.prime_rows.check_leaf.Goals as goal
 
 pub loop-place-preserved : goal.loop-place-preserved
 loop-place-preserved c =
-    each_below (LeadsToRow c.args.file.now c.args.pages.now c.args.marks.now) c.args.leaf.page c.loop-place.place c.loop-place.invariant (c.if-not-leads_to_row.ensures refl)
+    each_below (LeadsToRow c.args.file.now c.args.pages.now c.args.marks.now) c.args.leaf.page c.loop-place.place c.loop-place.invariant (c.if-not-leads_to_row.ensures.leads refl)
+
+pub returns-then-not-leads_to_row-clause-refused : goal.returns-then-not-leads_to_row-clause-refused
+returns-then-not-leads_to_row-clause-refused c = λ all.
+    never (c.if-not-leads_to_row.ensures.refused
+    (each_place (LeadsAhead c.args.file.now c.args.pages.now c.args.marks.now) c.args.leaf.page c.args.leaf.count c.loop-place.place c.loop-place-test.true all))

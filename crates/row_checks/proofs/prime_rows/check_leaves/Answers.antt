@@ -1,5 +1,10 @@
 use Rattle.std.proofs.Common.{arith}
+use Rattle.page_bytes.specs.Each.{Each}
+use Rattle.page_walks.specs.Spots.{spots_in}
+use Rattle.row_checks.specs.Ahead.{LeadsAhead}
 use Rattle.row_checks.specs.Leading.{LeadsToRow}
+use Rattle.row_checks.proofs.AheadLemmas.{on_err}
+use Rattle.row_checks.proofs.SearchLemmas.{each_of_leaf}
 use Rattle.row_checks.proofs.SpotLemmas.{each_more}
 use Rattle.row_checks.proofs.prime_rows.check_leaves.Goals as goal
 
@@ -8,7 +13,13 @@ loop-leaf-init c = λ k d below. absurd (omega (arith, below))
 
 pub loop-leaf-preserved : goal.loop-leaf-preserved
 loop-leaf-preserved c =
-    each_more (LeadsToRow c.args.file.now c.args.pages.now c.args.marks.now) c.args.primes.now c.loop-leaf.leaf-index (record { page = 0; count = 0 }) c.loop-leaf-test.true c.loop-leaf.invariant c.in_ok-check_leaf.ensures
+    each_more (LeadsToRow c.args.file.now c.args.pages.now c.args.marks.now) c.args.primes.now c.loop-leaf.leaf-index (record { page = 0; count = 0 }) c.loop-leaf-test.true c.loop-leaf.invariant c.in_ok-check_leaf.ensures.lead
 
-pub returns : goal.returns
-returns c = λ k d within. c.loop-leaf.invariant k d (let end = c.loop-leaf-test.false in omega (arith, end, within))
+pub returns-in_err-check_leaf-clause-refused : goal.returns-in_err-check_leaf-clause-refused
+returns-in_err-check_leaf-clause-refused c =
+    on_err (Each (LeadsAhead c.args.file.now c.args.pages.now c.args.marks.now) (spots_in c.args.primes.now) → ⊥) c.from_residual.result
+    (λ all. c.in_err-check_leaf.ensures.refused
+    (each_of_leaf (LeadsAhead c.args.file.now c.args.pages.now c.args.marks.now) c.args.primes.now c.loop-leaf.leaf-index (record { page = 0; count = 0 }) c.loop-leaf-test.true all))
+
+pub returns-clause-lead : goal.returns-clause-lead
+returns-clause-lead c = λ k d within. c.loop-leaf.invariant k d (let end = c.loop-leaf-test.false in omega (arith, end, within))
