@@ -7,6 +7,7 @@ use folder_shelf::{EmptyDisk, FolderShelf};
 use io_state::{Fault, FileName};
 use page_alloc::PagedFile;
 use page_store::Shelf;
+use recorded_system::RecordedSystem;
 use std::num::NonZeroUsize;
 
 /// Its name.
@@ -17,8 +18,11 @@ pub fn file_name() -> FileName {
 }
 
 /// The shelf of a folder.
-pub fn shelf_over(rt: &HostRuntime, folder: String) -> FolderShelf<HostRuntime, EmptyDisk> {
-    FolderShelf::new(*rt, rt.alloc(), folder)
+pub fn shelf_over(
+    rt: &HostRuntime,
+    folder: String,
+) -> FolderShelf<RecordedSystem<HostRuntime>, EmptyDisk> {
+    FolderShelf::new(RecordedSystem::new(*rt, rt.alloc()), folder)
 }
 
 /// A new file on a shelf, with so many of its pages in memory.

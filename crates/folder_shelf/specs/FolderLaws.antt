@@ -1,37 +1,37 @@
--- What a folder may be after calls and their answers, as steps from one folder to the next: what no
--- code can read of a disk is any of these ways.
-use Rattle.std.specs.Prelude.{◌≡◌, ℕ, Bool, true, false, List, [], ◌∷◌}
+-- What the files of a disk may be after calls and their answers, as steps from the one to the next:
+-- what no code can read of a disk is any of these ways.
+use Rattle.std.specs.Prelude.{◌≡◌, ℕ, Bool, true, List, [], ◌∷◌}
 use Rattle.page_store.specs.DeviceFile.{DeviceFile}
-use Rattle.folder_shelf.specs.Events.{Event}
-use Rattle.folder_shelf.specs.Replay.{Unseen, Folder, after_event, replay}
+use Rattle.recorded_system.specs.Calls.{Call}
+use Rattle.folder_shelf.specs.Replay.{Unseen, DiskFiles, after_system_call, replay}
 
 -- a disk on which a file that could not be made is there, or is not, and a write that failed leaves
 -- these bytes
-abbrev pub disk_so : Folder → Bool → List ℕ → Unseen
-disk_so folder came torn = record { first = folder.file; came = λ earlier. came; torn = λ earlier. torn }
+abbrev pub disk_so : DiskFiles → Bool → List ℕ → Unseen
+disk_so files came torn = record { first = files.file; came = λ earlier. came; torn = λ earlier. torn }
 
--- a call with its answer may lead from the one folder to the other
-pub record MayLeadTo (event : Event) (before next : Folder) : Type 0 where
+-- a call after these earlier ones, with its answer, may lead from the one to the other
+pub record MayLeadTo (earlier : List Call) (call : Call) (before next : DiskFiles) : Type 0 where
   pub came : Bool
   pub torn : List ℕ
-  pub is : next ≡ after_event (disk_so before came torn) [] event before
+  pub is : next ≡ after_system_call (disk_so before came torn) earlier call before
 
--- a folder with these files, before the first call
-abbrev pub folder_with : (List ℕ → DeviceFile) → Folder
-folder_with files = record { current = []; is_held = false; file = files; is_honest = true }
+-- these files, before the first call
+abbrev pub files_at_first : (List ℕ → DeviceFile) → DiskFiles
+files_at_first files = record { file = files; is_honest = true }
 
--- calls with their answers, the newest in front, may lead from these files to the folder
-abbrev pub MayEndIn : (List ℕ → DeviceFile) → List Event → Folder → Type 0
-MayEndIn files [] folder = folder ≡ folder_with files
-MayEndIn files (event ∷ earlier) folder =
-    (before : Folder) × MayEndIn files earlier before × MayLeadTo event before folder
+-- calls with their answers, the newest in front, may lead from the one to the other
+abbrev pub MayEndIn : (List ℕ → DeviceFile) → List Call → DiskFiles → Type 0
+MayEndIn first [] files = files ≡ files_at_first first
+MayEndIn first (call ∷ earlier) files =
+    (before : DiskFiles) × MayEndIn first earlier before × MayLeadTo earlier call before files
 
 -- on each disk the calls end in what `replay` says
 abbrev pub each_disk_goes_so : Type 0
-each_disk_goes_so = (disk : Unseen) → (events : List Event) → MayEndIn disk.first events (replay disk events)
+each_disk_goes_so = (disk : Unseen) → (calls : List Call) → MayEndIn disk.first calls (replay disk calls)
 
 -- and in whatever they may end, there is a disk of which `replay` says that
 abbrev pub each_way_has_its_disk : Type 0
-each_way_has_its_disk = (files : List ℕ → DeviceFile) → (events : List Event) → (folder : Folder)
-    → MayEndIn files events folder
-    → (disk : Unseen) × (disk.first ≡ files) × (replay disk events ≡ folder)
+each_way_has_its_disk = (first : List ℕ → DeviceFile) → (calls : List Call) → (files : DiskFiles)
+    → MayEndIn first calls files
+    → (disk : Unseen) × (disk.first ≡ first) × (replay disk calls ≡ files)

@@ -1,5 +1,4 @@
-pub mod Events
-pub mod Noting
+pub mod FailedCalls
 pub mod Replay
 pub mod ReplayLaws
 pub mod FolderLaws

@@ -1,86 +1,100 @@
--- What an honest folder holds after these calls and answers.
+-- What the files of an honest disk hold after calls and their answers.
 use Rattle.std.specs.Prelude.{ℕ, ◌+◌, ◌==◌, nat_le, Bool, true, false, not, ◌&&◌, ◌||◌, if◌then◌else◌, List}
 use Rattle.std.specs.Prelude.{[], ◌∷◌, ◌++◌, length, take, drop, bytes_eq, Some, None, is_some}
 use Rattle.page_store.specs.DeviceFile.{DeviceFile, created, wrote, synced, content}
 use Rattle.page_store.specs.ShelfState.{ShelfState}
-use Rattle.folder_shelf.specs.Events.{Event, folder_path, in_folder, named, made, measured, read, held}
-use Rattle.folder_shelf.specs.Events.{written, flushed, looked}
+use Rattle.recorded_system.specs.Calls.{Call, looked, made, measured, read, held, written, flushed, entered}
+use Rattle.recorded_system.specs.Calls.{asked_of_folder, taken, taken_shared}
+use Rattle.recorded_system.specs.SystemState.{SystemState, file_path}
 
--- what no code can read of a folder on a disk
+-- what no code can read of a disk
 pub record Unseen : Type 0 where
-  -- the file of each name at first
+  -- the file of each path at first
   pub first : List ℕ → DeviceFile
   -- after these calls, the newest in front, a file could not be made: whether it is there
-  pub came : List Event → Bool
+  pub came : List Call → Bool
   -- after these calls a write failed: what it left in its range
-  pub torn : List Event → List ℕ
+  pub torn : List Call → List ℕ
 
--- what a folder holds, and whether it answered so
-pub record Folder : Type 0 where
-  -- the name of the file that the next call is on
-  pub current : List ℕ
-  -- that file is held for changes
-  pub is_held : Bool
+-- the file of each path, and whether each answer was that of the files
+pub record DiskFiles : Type 0 where
   pub file : List ℕ → DeviceFile
-  -- each answer was that of the files
   pub is_honest : Bool
 
--- another file under this name
+-- another file of this path
 abbrev pub put_file : (List ℕ → DeviceFile) → List ℕ → DeviceFile → List ℕ → DeviceFile
-put_file files name f other = if bytes_eq other name then f else files other
+put_file files path f other = if bytes_eq other path then f else files other
+
+-- the last call had the file of this path held for changes
+abbrev pub is_held_before : List ℕ → List Call → Bool
+is_held_before path (held other true ∷ earlier) = bytes_eq path other
+is_held_before path calls = false
 
 -- a call after these earlier ones: what it leaves of its file, and whether its answer, if it has
--- one, was that of the file. Whether a file is held is up to the folder; one that is not may not be
+-- one, was that of the file. Whether a file is held is up to the disk; one that is not may not be
 -- written. A write of which not all bytes were taken leaves what the disk says.
-abbrev pub after_event : Unseen → List Event → Event → Folder → Folder
-after_event disk earlier (in_folder path) m = m
-after_event disk earlier (named name) m = record m { current = name; is_held = false }
-after_event disk earlier (made ok) m =
-    let f = m.file m.current in
+abbrev pub after_system_call : Unseen → List Call → Call → DiskFiles → DiskFiles
+after_system_call disk earlier (looked path None) m = m
+after_system_call disk earlier (looked path (Some there)) m =
+    let is_there = is_some (m.file path).seen in
+    record m { is_honest = m.is_honest && (if there then is_there else not is_there) }
+after_system_call disk earlier (made path ok) m =
+    let f = m.file path in
     let seen = if ok || disk.came earlier then Some [] else f.seen in
-    record m {
-      file = put_file m.file m.current (record { seen = seen; log = f.log ++ created ∷ [] });
+    record {
+      file = put_file m.file path (record { seen = seen; log = f.log ++ created ∷ [] });
       is_honest = m.is_honest && not (is_some f.seen);
     }
-after_event disk earlier (measured None) m = m
-after_event disk earlier (measured (Some size)) m =
-    let f = m.file m.current in
+after_system_call disk earlier (measured path None) m = m
+after_system_call disk earlier (measured path (Some size)) m =
+    let f = m.file path in
     record m { is_honest = m.is_honest && (is_some f.seen && (size == length (content f))) }
-after_event disk earlier (read ok at bytes) m =
-    let f = m.file m.current in
+after_system_call disk earlier (read path ok at bytes) m =
+    let f = m.file path in
     let is_within = is_some f.seen && nat_le (at + length bytes) (length (content f)) in
     let are_these = bytes_eq bytes (take (length bytes) (drop at (content f))) in
     record m { is_honest = m.is_honest && (not ok || (is_within && are_these)) }
-after_event disk earlier (held ok) m = record m { is_held = ok }
-after_event disk earlier (written at n bytes) m =
-    let f = m.file m.current in
+after_system_call disk earlier (held path ok) m = m
+after_system_call disk earlier (written path at n bytes) m =
+    let f = m.file path in
     let left = if n == length bytes then bytes else take (length bytes) (disk.torn earlier) in
     let now = take at (content f) ++ left ++ drop (at + length left) (content f) in
     let log = f.log ++ wrote at (length bytes) ∷ [] in
-    record m {
-      file = put_file m.file m.current (record { seen = Some now; log = log });
-      is_honest = m.is_honest && (m.is_held && (is_some f.seen && nat_le at (length (content f))));
+    record {
+      file = put_file m.file path (record { seen = Some now; log = log });
+      is_honest = m.is_honest
+          && (is_held_before path earlier && (is_some f.seen && nat_le at (length (content f))));
     }
-after_event disk earlier (flushed ok) m =
-    let f = m.file m.current in
+after_system_call disk earlier (flushed path ok) m =
+    let f = m.file path in
     let log = f.log ++ synced (content f) ∷ [] in
     let now : DeviceFile = record { seen = Some (content f); log = log } in
-    record m {
-      file = if ok then put_file m.file m.current now else m.file;
+    record {
+      file = if ok then put_file m.file path now else m.file;
       is_honest = m.is_honest && is_some f.seen;
     }
-after_event disk earlier (looked None) m = m
-after_event disk earlier (looked (Some there)) m =
-    let is_there = is_some (m.file m.current).seen in
-    record m { is_honest = m.is_honest && (if there then is_there else not is_there) }
+-- ours: what is read of a file beside the units changes none, and is not held against them
+after_system_call disk earlier (entered path) m = m
+after_system_call disk earlier (asked_of_folder path told) m = m
+after_system_call disk earlier (taken path most bytes) m = m
+after_system_call disk earlier (taken_shared path most bytes) m = m
 
 -- the newest call is first
-abbrev pub replay : Unseen → List Event → Folder
-replay disk [] = record { current = []; is_held = false; file = disk.first; is_honest = true }
-replay disk (e ∷ earlier) = after_event disk earlier e (replay disk earlier)
+abbrev pub replay : Unseen → List Call → DiskFiles
+replay disk [] = record { file = disk.first; is_honest = true }
+replay disk (call ∷ earlier) = after_system_call disk earlier call (replay disk earlier)
 
--- what a shelf over a folder shows, on a disk that has this in the folder of each path
-abbrev pub folder_state : (List ℕ → Unseen) → List (List ℕ) → List Event → ShelfState
-folder_state disk names events =
-    let folder = replay (disk (folder_path events)) events in
-    record { names = names; file = folder.file; is_honest = folder.is_honest }
+-- what a folder of this path shows after these calls, with units of these names
+abbrev pub folder_after : Unseen → (path : List ℕ) → (names : List (List ℕ)) → List Call
+    → ShelfState
+folder_after disk path names calls =
+    let files = replay disk calls in
+    record {
+      names = names;
+      file = λ name. files.file (file_path path name);
+      is_honest = files.is_honest;
+    }
+
+-- what a shelf over a folder shows on a disk, by what is known of the system
+abbrev pub folder_state : Unseen → SystemState → ShelfState
+folder_state disk system = folder_after disk system.folder system.names system.calls

@@ -10,13 +10,9 @@ use Rattle.page_store.proofs.ImageLemmas.{leaves_written, leaves_synced}
 use Rattle.page_store.proofs.TornLemmas.{part_torn}
 use Rattle.page_store.proofs.FileLemmas.{some_bytes}
 use Rattle.page_store.proofs.MadeLemmas.{made_image}
-use Rattle.folder_shelf.specs.Events.{Event, in_folder, named, made, measured, read, held, written, flushed}
-use Rattle.folder_shelf.specs.Events.{looked}
-use Rattle.folder_shelf.specs.Replay.{Unseen, Folder, put_file, after_event, replay}
-
--- the file that the next call is on
-abbrev now : Folder → DeviceFile
-now m = m.file m.current
+use Rattle.recorded_system.specs.Calls.{Call, looked, made, measured, read, held, written, flushed, entered}
+use Rattle.recorded_system.specs.Calls.{asked_of_folder, taken, taken_shared}
+use Rattle.folder_shelf.specs.Replay.{Unseen, DiskFiles, put_file, is_held_before, after_system_call, replay}
 
 -- the file is there and has at least n bytes
 abbrev pub is_long_enough : DeviceFile → ℕ → Bool
@@ -29,11 +25,11 @@ left_by_write n bytes torn = if n == length bytes then bytes else take (length b
 abbrev Sound : DeviceFile → Type 0
 Sound f = Leaves f f.seen
 
-put_sound : (files : List ℕ → DeviceFile) (name : List ℕ) (f : DeviceFile)
+put_sound : (files : List ℕ → DeviceFile) (path : List ℕ) (f : DeviceFile)
     → ((other : List ℕ) → Sound (files other)) → Sound f → (other : List ℕ)
-    → Sound (put_file files name f other)
-put_sound files name f all one other = elim (cases_Bool
-    (bytes_eq other name)) [ inl e ↦ rw e one | inr e ↦ rw e (all other) ]
+    → Sound (put_file files path f other)
+put_sound files path f all one other = elim (cases_Bool
+    (bytes_eq other path)) [ inl e ↦ rw e one | inr e ↦ rw e (all other) ]
 
 there : (f : DeviceFile) → is_some f.seen ≡ true → Sound f → Leaves f (Some (content f))
 there f some sound = subst (λ (o : Option (List ℕ)). Leaves f o) (some_bytes f.seen some) sound
@@ -58,47 +54,52 @@ written_sound f at n bytes torn fits sound =
     (part_torn (content f) at bytes (left_by_write n bytes torn) (length_left n bytes torn))
     (there f parts.0 sound)
 
-module _ (disk : Unseen) (earlier : List Event) (m : Folder) (all : (name : List ℕ)
-    → Sound (m.file name)) where
-  one_call : (e : Event) → IsTrue (after_event disk earlier e m).is_honest → (name : List ℕ)
-      → Sound ((after_event disk earlier e m).file name)
-  one_call (in_folder path) h = all
-  one_call (named name) h = all
-  one_call (made ok) h =
-      let p = and_parts m.is_honest (not (is_some (now m).seen)) h in
-      put_sound m.file m.current _ all (made_image (now m) (ok || disk.came earlier) p.1 (all m.current))
-  one_call (measured None) h = all
-  one_call (measured (Some size)) h = all
-  one_call (read ok at bytes) h = all
-  one_call (held ok) h = all
-  one_call (written at n bytes) h =
-      let p = and_parts m.is_honest (m.is_held && is_long_enough (now m) at) h in
-      let q = and_parts m.is_held (is_long_enough (now m) at) p.1 in
-      put_sound m.file m.current _ all (written_sound (now m) at n bytes (disk.torn earlier) q.1
-      (all m.current))
-  one_call (flushed true) h = put_sound m.file m.current _ all (leaves_synced (now m).log (content (now m)))
-  one_call (flushed false) h = all
-  one_call (looked None) h = all
-  one_call (looked (Some there)) h = all
+module _ (disk : Unseen) (earlier : List Call) (m : DiskFiles) (all : (path : List ℕ)
+    → Sound (m.file path)) where
+  one_call : (c : Call) → IsTrue (after_system_call disk earlier c m).is_honest → (path : List ℕ)
+      → Sound ((after_system_call disk earlier c m).file path)
+  one_call (looked path None) h = all
+  one_call (looked path (Some there)) h = all
+  one_call (made path ok) h =
+      let p = and_parts m.is_honest (not (is_some (m.file path).seen)) h in
+      put_sound m.file path _ all (made_image (m.file path) (ok || disk.came earlier) p.1 (all path))
+  one_call (measured path None) h = all
+  one_call (measured path (Some size)) h = all
+  one_call (read path ok at bytes) h = all
+  one_call (held path ok) h = all
+  one_call (written path at n bytes) h =
+      let p = and_parts m.is_honest (is_held_before path earlier && is_long_enough (m.file path) at) h in
+      let q = and_parts (is_held_before path earlier) (is_long_enough (m.file path) at) p.1 in
+      put_sound m.file path _ all (written_sound (m.file path) at n bytes (disk.torn earlier) q.1
+      (all path))
+  one_call (flushed path true) h =
+      put_sound m.file path _ all (leaves_synced (m.file path).log (content (m.file path)))
+  one_call (flushed path false) h = all
+  one_call (entered path) h = all
+  one_call (asked_of_folder path told) h = all
+  one_call (taken path most bytes) h = all
+  one_call (taken_shared path most bytes) h = all
 
-was_honest : (disk : Unseen) (earlier : List Event) (m : Folder) (e : Event)
-    → IsTrue (after_event disk earlier e m).is_honest → IsTrue m.is_honest
-was_honest disk earlier m (in_folder path) h = h
-was_honest disk earlier m (named name) h = h
-was_honest disk earlier m (made ok) h = (and_parts m.is_honest _ h).0
-was_honest disk earlier m (measured None) h = h
-was_honest disk earlier m (measured (Some size)) h = (and_parts m.is_honest _ h).0
-was_honest disk earlier m (read ok at bytes) h = (and_parts m.is_honest _ h).0
-was_honest disk earlier m (held ok) h = h
-was_honest disk earlier m (written at n bytes) h = (and_parts m.is_honest _ h).0
-was_honest disk earlier m (flushed ok) h = (and_parts m.is_honest _ h).0
-was_honest disk earlier m (looked None) h = h
-was_honest disk earlier m (looked (Some there)) h = (and_parts m.is_honest _ h).0
+was_honest : (disk : Unseen) (earlier : List Call) (m : DiskFiles) (c : Call)
+    → IsTrue (after_system_call disk earlier c m).is_honest → IsTrue m.is_honest
+was_honest disk earlier m (looked path None) h = h
+was_honest disk earlier m (looked path (Some there)) h = (and_parts m.is_honest _ h).0
+was_honest disk earlier m (made path ok) h = (and_parts m.is_honest _ h).0
+was_honest disk earlier m (measured path None) h = h
+was_honest disk earlier m (measured path (Some size)) h = (and_parts m.is_honest _ h).0
+was_honest disk earlier m (read path ok at bytes) h = (and_parts m.is_honest _ h).0
+was_honest disk earlier m (held path ok) h = h
+was_honest disk earlier m (written path at n bytes) h = (and_parts m.is_honest _ h).0
+was_honest disk earlier m (flushed path ok) h = (and_parts m.is_honest _ h).0
+was_honest disk earlier m (entered path) h = h
+was_honest disk earlier m (asked_of_folder path told) h = h
+was_honest disk earlier m (taken path most bytes) h = h
+was_honest disk earlier m (taken_shared path most bytes) h = h
 
-pub replay_sound : (disk : Unseen) → ((name : List ℕ) → Sound (disk.first name))
-    → (events : List Event) (name : List ℕ) → IsTrue (replay disk events).is_honest
-    → Sound ((replay disk events).file name)
-replay_sound disk all [] name h = all name
-replay_sound disk all (e ∷ earlier) name h =
-    let before = was_honest disk earlier (replay disk earlier) e h in
-    one_call disk earlier (replay disk earlier) (λ n. replay_sound disk all earlier n before) e h name
+pub replay_sound : (disk : Unseen) → ((path : List ℕ) → Sound (disk.first path))
+    → (calls : List Call) (path : List ℕ) → IsTrue (replay disk calls).is_honest
+    → Sound ((replay disk calls).file path)
+replay_sound disk all [] path h = all path
+replay_sound disk all (c ∷ earlier) path h =
+    let before = was_honest disk earlier (replay disk earlier) c h in
+    one_call disk earlier (replay disk earlier) (λ n. replay_sound disk all earlier n before) c h path

@@ -1,92 +1,81 @@
-//! A shelf over a folder of the system: a unit is the file of that name in the folder.
-ghost use Rattle.std.specs.Prelude.{◌≡◌, ◌+◌, ◌-◌, ◌^◌, ◌<◌, min, map, length, get_or, [], ◌∷◌, string_bytes};
-ghost use Rattle.std.specs.Prelude.{IsTrue, IsErrOf};
+//! A shelf over a folder of a system: a unit is the file of that name in the folder.
+ghost use Rattle.std.specs.Prelude.{◌≡◌, ◌+◌, ◌-◌, ◌^◌, min, string_bytes, IsErrOf};
 ghost use Rattle.std.proofs.Props.{props};
 ghost use Rattle.io_state.specs.declared.fault.Fault.TheVariants.{Device};
 ghost use Rattle.page_store.specs.ShelfState.{FaultHasCause};
-ghost use Rattle.folder_shelf.specs.Events.{in_folder, folder_path, failed_calls};
+ghost use Rattle.recorded_system.specs.SystemState.{entered_at};
+ghost use Rattle.folder_shelf.specs.FailedCalls.{failed_calls};
 ghost use Rattle.folder_shelf.specs.Replay.{folder_state};
 
 use crate::disk::Disk;
-use crate::folder::Folder;
+use growing_shelf::GrowingShelf;
 use io_state::{Fault, FileName};
 use page_store::Shelf;
-use std::alloc::Global;
+use recorded_system::System;
 use std::marker::PhantomData;
-use std::os::unix::fs::FileExt;
-use std::rt::Files;
-use system_files::{Cause, LockFile};
+use system_files::Cause;
 
-/// The files of a folder. Each is kept open until the next `attach`.
+/// The files of a folder. Each is kept open until it is let go, or until the next `attach`.
 #[derive(Drop)]
-pub struct FolderShelf<R: Files + Drop, D: Disk> {
-    alloc: Global,
-    units: Vec<FileName>,
-    folder: Folder<R>,
+pub struct FolderShelf<S: System + Drop, D: Disk> {
+    system: S,
     faults: u64,
     disk: PhantomData<D>,
-    ghost counted: { faults ≡ failed_calls folder.calls.events } by { Prim.hlevel props },
+    ghost counted: { faults ≡ failed_calls (S.state system).calls } by { Prim.hlevel props },
 }
 
-impl<R: Files + Drop, D: Disk> FolderShelf<R, D>
-where
-    R::File: FileExt + LockFile,
-{
-    /// A shelf with no unit over a folder of the system.
-    pub fn new(rt: R, alloc: Global, folder: String) -> FolderShelf<R, D>
-        ensures units { result.units.items ≡ [] }
-        ensures calls { result.folder.calls.events ≡ in_folder (string_bytes folder) ∷ [] }
+impl<S: System + Drop, D: Disk> FolderShelf<S, D> {
+    /// A shelf with no unit over the folder of this path. It has the system until it gives it back.
+    pub fn new(system: S, folder: String) -> FolderShelf<S, D>
+        ensures entered { S.state result.system ≡ entered_at (string_bytes folder) (S.state system) }
         ensures faults { result.faults ≡ 0 }
     {
+        let mut system = system;
+        system.enter(folder);
         FolderShelf {
-            alloc,
-            units: Vec::new(alloc),
-            folder: Folder::new(rt, alloc, folder),
+            system,
             faults: 0,
             disk: PhantomData,
         }
     }
 
-    /// The names of the units.
-    pub fn units(&self) -> &[FileName] {
-        &self.units
+    /// The system, whose record has the calls of this shelf behind the earlier ones.
+    pub fn into_system(self) -> S
+        ensures { result ≡ self.system }
+    {
+        self.system
     }
 
     /// Why a call on the unit's file first failed, since it was attached.
     pub fn cause(&self, unit: usize) -> Option<Cause> {
-        self.folder.cause(unit)
+        self.system.cause(unit)
     }
 }
 
-impl<R: Files + Drop, D: Disk> Shelf for FolderShelf<R, D>
-where
-    R::File: FileExt + LockFile,
-{
+impl<S: System + Drop, D: Disk> Shelf for FolderShelf<S, D> {
     ghost use Rattle.folder_shelf.specs.ReplayLaws.{replay_sound};
+    ghost use Rattle.recorded_system.specs.SystemState.{file_path};
 
-    ghost state = { λ shelf. folder_state D.Disk.unseen (map (λ name. name.bytes) shelf.units.items)
-        shelf.folder.calls.events };
+    ghost state = { λ shelf. folder_state D.Disk.unseen (S.state shelf.system) };
 
     ghost fault_count = { λ shelf. shelf.faults };
 
-    ghost reads_an_image = { λ shelf name honest. let path = folder_path shelf.folder.calls.events in
-        replay_sound (D.Disk.unseen path) (D.Disk.sound path) shelf.folder.calls.events name honest };
+    ghost reads_an_image = { λ shelf name honest. replay_sound D.Disk.unseen D.Disk.sound
+        (S.state shelf.system).calls (file_path (S.state shelf.system).folder name) honest };
 
     fn faults(&self) -> u64 {
         self.faults
     }
 
     fn exists(&mut self, unit: usize) -> Result<bool, Fault> {
-        let name = name_of(&self.units, unit);
-        match self.folder.look(unit, name)? {
+        match self.system.look(unit) {
             Some(there) => Ok(there),
             None => fail(&mut self.faults),
         }
     }
 
     fn create(&mut self, unit: usize) -> Result<(), Fault> {
-        let name = name_of(&self.units, unit);
-        if self.folder.make(unit, name)? {
+        if self.system.make(unit) {
             Ok(())
         } else {
             fail(&mut self.faults)
@@ -94,16 +83,14 @@ where
     }
 
     fn size(&mut self, unit: usize) -> Result<u64, Fault> {
-        let name = name_of(&self.units, unit);
-        match self.folder.measure(unit, name)? {
+        match self.system.measure(unit) {
             Some(size) => Ok(size),
             None => fail(&mut self.faults),
         }
     }
 
     fn read_at(&mut self, unit: usize, at: u64, bytes: &mut [u8]) -> Result<(), Fault> {
-        let name = name_of(&self.units, unit);
-        if self.folder.read(unit, name, at, bytes)? {
+        if self.system.read(unit, at, bytes) {
             Ok(())
         } else {
             fail(&mut self.faults)
@@ -111,12 +98,11 @@ where
     }
 
     fn write_at(&mut self, unit: usize, at: u64, bytes: &[u8]) -> Result<(), Fault> {
-        let name = name_of(&self.units, unit);
-        let held = self.folder.hold(unit, name)?;
+        let held = self.system.hold(unit);
         if !held {
             return fail(&mut self.faults);
         }
-        let taken = self.folder.write(unit, at, bytes);
+        let taken = self.system.write(unit, at, bytes);
         if taken == bytes.len() {
             Ok(())
         } else {
@@ -125,8 +111,7 @@ where
     }
 
     fn sync(&mut self, unit: usize) -> Result<(), Fault> {
-        let name = name_of(&self.units, unit);
-        if self.folder.flush(unit, name)? {
+        if self.system.flush(unit) {
             Ok(())
         } else {
             fail(&mut self.faults)
@@ -134,19 +119,20 @@ where
     }
 
     fn attach(&mut self, units: &[FileName]) -> Result<(), Fault> {
-        let names = units.to_vec(self.alloc).map_err(|_| Fault::Memory)?;
-        self.folder.close(units.len())?;
-        self.units = names;
-        Ok(())
+        self.system.attach(units)
     }
 }
 
-// The name of a unit.
-fn name_of(units: &[FileName], unit: usize) -> &FileName
-    requires { unit < length units.now }
-    ensures { result.now.bytes ≡ get_or (map (λ name. name.bytes) units.now) unit [] }
-{
-    &units[unit]
+impl<S: System + Drop, D: Disk> GrowingShelf for FolderShelf<S, D> {
+    ghost keeps_open = { λ shelf. S.keeps_open shelf.system };
+
+    fn add_unit(&mut self, name: &FileName) -> Result<(), Fault> {
+        self.system.add_unit(name)
+    }
+
+    fn let_go(&mut self, unit: usize) {
+        self.system.let_go(unit);
+    }
 }
 
 // Counts a call that failed.

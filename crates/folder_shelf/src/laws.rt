@@ -1,7 +1,7 @@
-//! What may become of a folder, whatever its disk does.
+//! What may become of the files of a disk, whatever it does.
 ghost use Rattle.folder_shelf.specs.FolderLaws.{each_disk_goes_so, each_way_has_its_disk};
 
-/// What `replay` says for every disk is what may become of a folder by steps from one folder to the
+/// What `replay` says for every disk is what may become of files by steps from the one to the
 /// next: on each disk the calls lead along such steps, and each way along such steps is that on
 /// some disk. It does nothing.
 pub fn folder_laws()

@@ -44,6 +44,12 @@ pub fn look<R: Files>(rt: &R, path: &str) -> Result<bool, Cause> {
     }
 }
 
+/// Whether a path is that of a folder, or of a link to one, if the system tells it.
+pub fn is_folder<R: Files>(rt: &R, path: &str) -> Result<bool, Cause> {
+    let found = again(|| fs::metadata(rt, path))?;
+    Ok(found.is_dir())
+}
+
 /// Refuses what is no file.
 pub(crate) fn require_file(found: &Metadata) -> Result<(), Cause> {
     if found.is_file() {

@@ -12,14 +12,16 @@
 mod appearance;
 mod calls;
 mod cause;
+mod front;
 mod kept_file;
 mod kept_folder;
 mod locks;
 mod opening;
 
-pub use calls::{Written, look, measure, read, sync, write};
+pub use calls::{Written, is_folder, look, measure, read, sync, write};
 pub use cause::Cause;
+pub use front::{ReadFault, read_front};
 pub use kept_file::KeptFile;
 pub use kept_folder::KeptFolder;
 pub use locks::{LockFile, share};
-pub use opening::{make, open};
+pub use opening::{make, open, open_shared, open_to_read};

@@ -6,7 +6,7 @@ use crate::calls::{again, require_file};
 use crate::cause::Cause;
 use crate::kept_file::KeptFile;
 use crate::kept_folder::KeptFolder;
-use crate::locks::LockFile;
+use crate::locks::{LockFile, share};
 use std::fs::{self, OpenOptions};
 use std::io::ErrorKind;
 use std::os::unix::fs::FileExt;
@@ -52,6 +52,24 @@ where
         return Err(Cause::Replaced);
     }
     KeptFile::opened(file, only_read)
+}
+
+/// Opens what a path names, or what a link there leads to, to be read.
+pub fn open_to_read<R: Files>(rt: &R, path: &str) -> Result<R::File, Cause> {
+    again(|| fs::open(rt, path))
+}
+
+/// The same, as long as no other run changes it.
+pub fn open_shared<R: Files>(rt: &R, path: &str) -> Result<R::File, Cause>
+where
+    R::File: LockFile,
+{
+    let file = open_to_read(rt, path)?;
+    if share(&file) {
+        Ok(file)
+    } else {
+        Err(Cause::InUse)
+    }
 }
 
 fn open_path<R: Files>(

@@ -7,6 +7,7 @@ use folder_shelf::{EmptyDisk, FolderShelf};
 use io_state::Fault;
 use memory_shelf::Kind;
 use page_store::{Shelf, Store};
+use recorded_system::RecordedSystem;
 use std::fs;
 use std::os::unix::fs::symlink;
 use std::process::Abort;
@@ -17,11 +18,11 @@ fn new_shelf(
     test: &impl Abort,
     rt: HostRuntime,
     folder: &str,
-) -> FolderShelf<HostRuntime, EmptyDisk> {
+) -> FolderShelf<RecordedSystem<HostRuntime>, EmptyDisk> {
     let _ = fs::remove_dir_all(&rt, folder);
     fs::create_dir(&rt, folder).expect(test, "a folder");
     let path = folder.to_string(rt.alloc()).expect(test, "memory");
-    FolderShelf::new(rt, rt.alloc(), path)
+    FolderShelf::new(RecordedSystem::new(rt, rt.alloc()), path)
 }
 
 #[test]

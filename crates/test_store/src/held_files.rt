@@ -8,6 +8,7 @@ use crate::shelves::{attach, name, name_of};
 use folder_shelf::{EmptyDisk, FolderShelf};
 use io_state::{Fault, FileName};
 use page_store::{Shelf, Store};
+use recorded_system::RecordedSystem;
 use std::alloc::Global;
 use std::fs;
 use std::io::{self, ErrorKind};
@@ -140,13 +141,13 @@ fn run_over<R: Files + Drop>(
     rt: R,
     alloc: Global,
     folder: &str,
-) -> FolderShelf<R, EmptyDisk>
+) -> FolderShelf<RecordedSystem<R>, EmptyDisk>
 where
     R::File: FileExt + LockFile,
-    ensures unit { HasUnit (⟦<FolderShelf<R, EmptyDisk> as Shelf>⟧.state result) 0 }
+    ensures unit { HasUnit (⟦<FolderShelf<RecordedSystem<R>, EmptyDisk> as Shelf>⟧.state result) 0 }
 {
     let path = folder.to_string(alloc).expect(test, "memory");
-    let mut run = FolderShelf::new(rt, alloc, path);
+    let mut run = FolderShelf::new(RecordedSystem::new(rt, alloc), path);
     attach(test, &mut run);
     run
 }
