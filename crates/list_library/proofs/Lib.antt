@@ -3,6 +3,7 @@ pub mod ChangeLemmas
 pub mod StoredLemmas
 pub mod ReplacingLemmas
 pub mod NameLemmas
+pub mod UnitAddedLemmas
 pub mod ShownLemmas
 pub mod ListWorldLemmas
 pub mod UnitWorldLemmas

@@ -63,7 +63,7 @@ unlike_before (x ∷ xs) (suc i) d others elsewhere distinct within =
     rw no (unlike_before xs i d others elsewhere distinct.1 (omega arith))
 
 -- one more unit, which stands for what its name stood for
-one_more :
+pub one_more :
     (units : List FileUnit) (new : FileUnit) (old now : List ℕ → Named) (name : List ℕ) → new.named ≡ old new.name → (bytes_eq new.name name ≡ false → now name ≡ old name)
     → name_in (units ++ new ∷ []) now name ≡ name_in units old name
 one_more [] new old now name named keeps =

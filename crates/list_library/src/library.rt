@@ -7,6 +7,7 @@ ghost use Rattle.list_library.specs.Units.{absent_unit, in_place_among, named_am
 
 use crate::list_unit::ListUnit;
 use crate::wanted::Wanted;
+use growing_library::GrowingLibrary;
 use indexed_file::{Added, Found, Library, Replaced, Seen};
 use io_state::{Fault, FileName, Key, Position, Relation};
 use record_layout::Schema;
@@ -218,4 +219,23 @@ impl Library for ListLibrary {
         unit.is_sound();
         shut
     }
+}
+
+impl GrowingLibrary for ListLibrary {
+    ghost use Rattle.std.specs.Prelude.{false};
+
+    // no file of the system is open
+    ghost keeps_open = { λ _ _. false };
+
+    fn add_unit(&mut self, name: &FileName) -> Result<(), Fault> {
+        self.units.reserve(1).map_err(|_| Fault::Memory)?;
+        let mut unit = ListUnit::absent(*name);
+        take_place(&mut unit, &mut self.others);
+        if self.units.push(unit).is_err() {
+            unreachable!()
+        }
+        Ok(())
+    }
+
+    fn let_go(&mut self, _u: usize) {}
 }

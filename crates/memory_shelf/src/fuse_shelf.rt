@@ -11,6 +11,7 @@ ghost use Rattle.memory_shelf.specs.FusedCalls.{LooksBehindFuse, ReadsBehindFuse
 ghost use Rattle.memory_shelf.specs.FusedCalls.{WritesBehindFuse};
 
 use crate::fuse::{Call, Fuse, Kind, Turn};
+use growing_shelf::GrowingShelf;
 use io_state::{Fault, FileName};
 use page_store::Shelf;
 
@@ -166,5 +167,17 @@ impl<S: Shelf + Drop> Shelf for FuseShelf<S> {
 
     fn attach(&mut self, units: &[FileName]) -> Result<(), Fault> {
         self.inner.attach(units)
+    }
+}
+
+impl<S: GrowingShelf + Drop> GrowingShelf for FuseShelf<S> {
+    ghost keeps_open = { λ shelf. S.keeps_open shelf.inner };
+
+    fn add_unit(&mut self, name: &FileName) -> Result<(), Fault> {
+        self.inner.add_unit(name)
+    }
+
+    fn let_go(&mut self, unit: usize) {
+        self.inner.let_go(unit);
     }
 }

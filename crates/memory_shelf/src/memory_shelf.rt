@@ -6,6 +6,7 @@ ghost use Rattle.memory_shelf.specs.MemShelves.{AddsCrashed, KeepsOthersThan};
 
 use crate::crash::Image;
 use crate::memory_file::MemFile;
+use growing_shelf::GrowingShelf;
 use io_state::{Fault, FileName};
 use page_store::Shelf;
 use std::alloc::Global;
@@ -147,6 +148,20 @@ impl Shelf for MemShelf {
         self.units = units.to_vec(self.alloc).map_err(|_| Fault::Memory)?;
         Ok(())
     }
+}
+
+impl GrowingShelf for MemShelf {
+    ghost use Rattle.std.specs.Prelude.{false};
+
+    // no file of the system is open
+    ghost keeps_open = { λ _ _. false };
+
+    fn add_unit(&mut self, name: &FileName) -> Result<(), Fault> {
+        self.units.push(*name).map_err(|_| Fault::Memory)?;
+        Ok(())
+    }
+
+    fn let_go(&mut self, _unit: usize) {}
 }
 
 // Adds what a crash leaves of a file, if it leaves the file.

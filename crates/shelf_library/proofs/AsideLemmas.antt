@@ -63,15 +63,15 @@ module _ (file : ShelfFile) (old new : ShelfState) (same : unit_file new (unit_o
     sound = subst (λ (sound : Bool). IsTrue sound) (sym same_sound) s.sound;
   }
 
-  pub ready_same : new.names ≡ old.names → (IsTrue new.is_honest → IsTrue old.is_honest) → IsReady file old → IsReady file new
-  ready_same names honest ready =
-      let unit = unit_of_pages (pages_behind file) in
+  pub ready_where : (unit_of_pages (pages_behind file) < length old.names → unit_of_pages (pages_behind file) < length new.names)
+      → (IsTrue new.is_honest → IsTrue old.is_honest) → IsReady file old → IsReady file new
+  ready_where attached honest ready =
       let joined = ready.over.joined in
       record {
         over = record {
           joined = record {
             over = record {
-              attached = record { attached = subst (λ (ns : List (List ℕ)). unit < length ns) (sym names) joined.over.attached.attached };
+              attached = record { attached = attached joined.over.attached.attached };
               counted = joined.over.counted;
               pages = λ h. subst (λ (bytes : DeviceFile). HoldsPages (cache_of (pages_behind file)).store.pages bytes) (sym same) (joined.over.pages (honest h));
               clean = λ h n frame is unchanged. joined.over.clean (honest h) n frame is unchanged ∙ ap (λ (bytes : DeviceFile). page_of_bytes (content bytes) n) (sym same);
@@ -85,12 +85,16 @@ module _ (file : ShelfFile) (old new : ShelfState) (same : unit_file new (unit_o
         shaped = ready.shaped;
       }
 
+  pub ready_same : new.names ≡ old.names → (IsTrue new.is_honest → IsTrue old.is_honest) → IsReady file old → IsReady file new
+  ready_same names honest ready =
+      ready_where (λ within. subst (λ (ns : List (List ℕ)). unit_of_pages (pages_behind file) < length ns) (sym names) within) honest ready
+
 -- ---- a call on unit u
 
 with_same : (world : World) (u : ℕ) → with_unit world u (named_at world u) (holding_at world u) ≡ world
 with_same world u = ap (λ (units : List FileUnit). record world { units = units }) (set-get_or world.units u (record { name = []; named = Absent; holding = Shut }))
 
-within_held : (held : List Held) (v : ℕ) (header : Header) → held_at held v ≡ Looked header → v < length held
+pub within_held : (held : List Held) (v : ℕ) (header : Header) → held_at held v ≡ Looked header → v < length held
 within_held [] v header is = absurd (cc)
 within_held (first ∷ held) zero header is = omega arith
 within_held (first ∷ held) (suc v) header is = let below = within_held held v header is in omega (arith, below)

@@ -10,6 +10,7 @@ pub mod UnitLemmas
 pub mod LimitLemmas
 pub mod LookingLemmas
 pub mod AttachLemmas
+pub mod AddedLemmas
 pub mod OpensLemmas
 pub mod OpeningLemmas
 pub mod MakingLemmas

@@ -4,6 +4,7 @@ pub mod Truth
 pub mod OneUnit
 pub mod WorldLaws
 pub mod Attaching
+pub mod Adding
 pub mod Looking
 pub mod Opening
 pub mod Closing

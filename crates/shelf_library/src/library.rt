@@ -14,6 +14,8 @@ ghost use Rattle.shelf_library.specs.Units.{room_of_held};
 ghost use Rattle.shelf_library.specs.Told.{held_after, seen_after, held_open, answer_open};
 
 use crate::held::Held;
+use growing_library::GrowingLibrary;
+use growing_shelf::GrowingShelf;
 use indexed_file::{Added, Found, Library, Replaced, Seen};
 use io_state::{Fault, FileName, Key, Position, Relation};
 use open_file::OpenFile;
@@ -293,5 +295,22 @@ impl<S: Shelf> Library for ShelfLibrary<S> {
             unreachable!()
         };
         file.close(&mut self.shelf)
+    }
+}
+
+impl<S: GrowingShelf> GrowingLibrary for ShelfLibrary<S> {
+    ghost keeps_open = { λ library. S.keeps_open library.shelf };
+
+    fn add_unit(&mut self, name: &FileName) -> Result<(), Fault> {
+        self.units.reserve(1).map_err(|_| Fault::Memory)?;
+        self.shelf.add_unit(name)?;
+        if self.units.push(Held::Nothing).is_err() {
+            unreachable!()
+        }
+        Ok(())
+    }
+
+    fn let_go(&mut self, u: usize) {
+        self.shelf.let_go(u);
     }
 }
