@@ -1,12 +1,22 @@
--- A session that was just made. All of this is ours.
-use Rattle.std.specs.Prelude.{◌≡◌, ℕ, List, string_bytes}
-use Rattle.std.specs.NonZero.{non_zero_usize_get}
-use Rattle.file_session.specs.Files.{no_numbered_files}
-use Rattle.cobix_inside.specs.declared.open_session.OpenSession.{OpenSession}
+-- The beginning and the end of a session that C holds. All of this is ours.
+use Rattle.std.specs.Prelude.{◌≡◌, ℕ, Bool, List, []}
+use Rattle.folder_shelf.specs.Replay.{Unseen}
+use Rattle.indexed_file.specs.Shown.{Shown}
+use Rattle.file_session.specs.Files.{Files, files_at_start}
+use Rattle.serve.specs.NoFalseFile.{NoFalseFileAfter}
+use Rattle.serve.specs.Serving.{ClosesAndCounts}
 
--- a session over the folder of this path, with these limits, in which no file is described
-pub record IsNewSession (path : List ℕ) (pages frames : ℕ) (made : OpenSession) : Type 0 where
-  pub folder : string_bytes made.libraries.folder ≡ path
-  pub pages_are : made.libraries.limits.pages ≡ pages
-  pub frames_are : non_zero_usize_get made.libraries.limits.frames ≡ frames
-  pub files : made.session ≡ no_numbered_files
+-- a session over a library of which this is so, in which no file is described
+pub record IsNewSession {S : Type 0} (IsNew : S → Type 0) (made : Files S) : Type 0 where
+  pub library : S
+  pub is_new : IsNew library
+  pub files : made ≡ files_at_start library
+
+-- the open files were closed, and so many of the closes failed
+pub record ClosesAll {S : Type 0} (shown : Shown S) (old : Files S) (failed : ℕ) : Type 0 where
+  pub last : Files S
+  pub closes : ClosesAndCounts shown old last failed
+
+-- a session over any library has had no false file before its first request
+abbrev pub NoneFalseAtFirst : {S : Type 0} → Shown S → (keeps_open : S → ℕ → Bool) → Type 0
+NoneFalseAtFirst {S} shown keeps_open = (start : S) → NoFalseFileAfter shown keeps_open start [] (files_at_start start)

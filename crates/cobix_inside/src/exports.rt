@@ -1,24 +1,30 @@
 //! What C calls.
-ghost use Rattle.std.specs.Prelude.{◌≡◌, ◌≤◌, true, [], Some, is_some, IfSome, length, string_bytes};
+ghost use Rattle.std.specs.Prelude.{◌≡◌, ◌≤◌, true, [], Some, is_some, IfSome, length};
 ghost use Rattle.std.specs.NonZero.{non_zero_usize_get};
-ghost use Rattle.file_session.specs.Files.{no_numbered_files};
-ghost use Rattle.serve.specs.NoFalseFile.{NoFalseFileAfter};
 ghost use Rattle.serve.specs.AnswerRoom.{AnswersInto};
 ghost use Rattle.inside_session.specs.NewLibrary.{shown_inside, IsNewInside};
-ghost use Rattle.cobix_inside.specs.Sessions.{IsNewSession};
+ghost use Rattle.cobix_inside.specs.Sessions.{IsNewSession, ClosesAll, NoneFalseAtFirst};
 ghost use Rattle.cobix_inside.specs.declared.open_session.OpenSession.{OpenSession};
 
 use crate::handle::Handle;
 use crate::open_session::OpenSession;
 use asked_system::AskedSystem;
-use file_session::Session;
+use file_session::{FreePlaces, Session};
 use folder_shelf::{Disk, EmptyDisk, FolderShelf};
-use inside_session::{AskedLibraries, Limits};
+use growing_library::GrowingLibrary;
+use inside_session::{AskedLibrary, Limits, asked_library};
 use page_store::Shelf;
+use recorded_system::RecordedSystem;
 use serve::{answer_into, close_all, no_false_file_in_requests};
 use std::alloc::Global;
 use std::io::{Stdin, Stdout};
-use std::marker::PhantomData;
+
+// A session in memory of its own. None where that was refused.
+fn boxed(alloc: Global, session: Session<AskedLibrary<EmptyDisk>>) -> Option<Box<OpenSession>>
+    ensures { IfSome result (λ made. made.value.session ≡ session) }
+{
+    Box::new(alloc, OpenSession { session }).ok()
+}
 
 // A session in which no file is described. None where the path is no text, or memory was refused.
 fn session(
@@ -27,20 +33,16 @@ fn session(
     folder: &[u8],
     limits: Limits,
 ) -> Option<Box<OpenSession>>
-    ensures { IfSome result (λ made. IsNewSession folder.now limits.pages
-        (non_zero_usize_get limits.frames) made.value) }
+    ensures { IfSome result (λ made. IsNewSession
+        (IsNewInside ⟦<FolderShelf<RecordedSystem<AskedSystem>, EmptyDisk> as Shelf>⟧
+        (⟦<EmptyDisk as Disk>⟧).unseen folder.now limits.pages (non_zero_usize_get limits.frames))
+        made.value.session) }
 {
     let folder = std::str::from_utf8(folder).ok()?;
     let folder = folder.to_string(alloc).ok()?;
-    let session = Session::new(alloc).ok()?;
-    let libraries = AskedLibraries {
-        alloc,
-        system,
-        folder,
-        limits,
-        disk: PhantomData,
-    };
-    Box::new(alloc, OpenSession { libraries, session }).ok()
+    let places = FreePlaces::new(alloc).ok()?;
+    let library: AskedLibrary<EmptyDisk> = asked_library(alloc, system, folder, limits);
+    boxed(alloc, Session::new(alloc, library, places))
 }
 
 /// Makes a session over the folder of this path, in which no file is described. A file may have so
@@ -58,7 +60,8 @@ pub extern "C" fn cobix_inside_begin(
 ) -> bool
     ensures held { result ≡ true → is_some out.new.value ≡ true }
     ensures made { (new : OpenSession) → result ≡ true → out.new.value ≡ Some new
-        → IsNewSession folder.now pages frames new }
+        → IsNewSession (IsNewInside ⟦<FolderShelf<RecordedSystem<AskedSystem>, EmptyDisk> as Shelf>⟧
+        (⟦<EmptyDisk as Disk>⟧).unseen folder.now pages frames) new.session }
 {
     let Some(limits) = Limits::of(pages, frames) else {
         return false;
@@ -76,14 +79,11 @@ pub extern "C" fn cobix_inside_begin(
 /// bytes it has.
 fn answer_in(opened: &mut OpenSession, body: &[u8], room: &mut [u8]) -> usize
     requires room { 4005 ≤ length room.old }
-    ensures answered { AnswersInto (shown_inside ⟦<FolderShelf<AskedSystem, EmptyDisk> as Shelf>⟧)
-        (IsNewInside ⟦<FolderShelf<AskedSystem, EmptyDisk> as Shelf>⟧ (⟦<EmptyDisk as Disk>⟧).unseen
-        (string_bytes opened.old.libraries.folder)
-        opened.old.libraries.limits.pages (non_zero_usize_get opened.old.libraries.limits.frames))
+    ensures answered { AnswersInto (shown_inside ⟦<FolderShelf<RecordedSystem<AskedSystem>, EmptyDisk> as Shelf>⟧)
+        (⟦<AskedLibrary<EmptyDisk> as GrowingLibrary>⟧).keeps_open
         body.now opened.old.session opened.new.session room.old room.new result }
-    ensures stays { opened.new.libraries ≡ opened.old.libraries }
 {
-    answer_into(&opened.libraries, &mut opened.session, body, room)
+    answer_into(&mut opened.session, body, room)
 }
 
 /// Does what the body of a frame asks for, and puts the frame of the answer into the room. How many
@@ -99,13 +99,9 @@ pub extern "C" fn cobix_inside_answer(
     requires room { 4005 ≤ length room.old }
     ensures held { is_some out.new.value ≡ true }
     ensures answered { (old new : OpenSession) → handle.value ≡ Some old → out.new.value ≡ Some new
-        → AnswersInto (shown_inside ⟦<FolderShelf<AskedSystem, EmptyDisk> as Shelf>⟧)
-        (IsNewInside ⟦<FolderShelf<AskedSystem, EmptyDisk> as Shelf>⟧ (⟦<EmptyDisk as Disk>⟧).unseen
-        (string_bytes old.libraries.folder)
-        old.libraries.limits.pages (non_zero_usize_get old.libraries.limits.frames))
+        → AnswersInto (shown_inside ⟦<FolderShelf<RecordedSystem<AskedSystem>, EmptyDisk> as Shelf>⟧)
+        (⟦<AskedLibrary<EmptyDisk> as GrowingLibrary>⟧).keeps_open
         body.now old.session new.session room.old room.new result }
-    ensures stays { (old new : OpenSession) → handle.value ≡ Some old → out.new.value ≡ Some new
-        → new.libraries ≡ old.libraries }
 {
     let mut held = handle.into_box();
     let count = answer_in(&mut held, body, room);
@@ -115,28 +111,30 @@ pub extern "C" fn cobix_inside_answer(
 
 // Gives the memory of a session back.
 fn give_up(held: Box<OpenSession>)
-    requires closed { held.value.session.opened ≡ [] }
+    requires closed { held.value.session.table.opened ≡ [] }
 {
     drop(held);
 }
 
-/// Closes the files that are open, in the order of opening, and ends the session. Its handle is not
-/// to be used again.
+/// Closes the files that are open, in the order of opening, and ends the session. How many of the
+/// closes failed: were answered another status than 00. Its handle is not to be used again.
 #[unsafe(no_mangle)]
-pub extern "C" fn cobix_inside_end(handle: Handle)
+pub extern "C" fn cobix_inside_end(handle: Handle) -> usize
     requires held { is_some handle.value ≡ true }
+    ensures closed { (old : OpenSession) → handle.value ≡ Some old
+        → ClosesAll (shown_inside ⟦<FolderShelf<RecordedSystem<AskedSystem>, EmptyDisk> as Shelf>⟧)
+        old.session result }
 {
     let mut held = handle.into_box();
-    close_all(&mut held.session);
+    let unclosed = close_all(&mut held.session);
     give_up(held);
+    unclosed
 }
 
 /// What a session begins with: before its first request it has had no false file. It does nothing.
-pub fn no_false_file_at_first(libraries: &AskedLibraries<EmptyDisk>)
-    ensures { NoFalseFileAfter (shown_inside ⟦<FolderShelf<AskedSystem, EmptyDisk> as Shelf>⟧)
-        (IsNewInside ⟦<FolderShelf<AskedSystem, EmptyDisk> as Shelf>⟧ (⟦<EmptyDisk as Disk>⟧).unseen
-        (string_bytes libraries.now.folder)
-        libraries.now.limits.pages (non_zero_usize_get libraries.now.limits.frames)) [] no_numbered_files }
+pub fn no_false_file_at_first()
+    ensures { NoneFalseAtFirst (shown_inside ⟦<FolderShelf<RecordedSystem<AskedSystem>, EmptyDisk> as Shelf>⟧)
+        (⟦<AskedLibrary<EmptyDisk> as GrowingLibrary>⟧).keeps_open }
 {
-    no_false_file_in_requests(libraries);
+    no_false_file_in_requests::<AskedLibrary<EmptyDisk>>();
 }

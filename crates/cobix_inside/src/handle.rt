@@ -24,6 +24,9 @@ impl Model for Handle {
     ghost also_owns = { λ h. lent_owns (ghosts.dealloc_token h.alloc) session_row h.at h.value };
 }
 
+// A session may be used by another thread, since nothing that it holds belongs to one.
+unsafe impl Send for Handle {}
+
 impl Handle {
     // The same pointer, of a type that C knows.
     fn seal(raw: RawBox<OpenSession, Global>) -> Handle

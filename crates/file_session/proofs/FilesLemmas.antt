@@ -7,7 +7,7 @@ use Rattle.std.proofs.lemmas.List.Folds.{list_any-append}
 use Rattle.std.proofs.lemmas.Cmp.{nat_eq_equiv}
 use Rattle.std.proofs.lemmas.Map.Keys.{IsDistinct-head}
 use Rattle.std.proofs.lemmas.Map.Views.{any-filter_same}
-use Rattle.file_session.specs.Files.{NumberedFile, Files, AreNumberedFiles, IsOrder, file_of_number, is_open_file, is_open_in, without, order_after}
+use Rattle.file_session.specs.Files.{NumberedFile, FileTable, AreNumberedFiles, IsOrder, file_of_number, is_open_file, is_open_in, without, order_after}
 use Rattle.file_session.proofs.OrderLemmas.{order_without, order_with}
 
 eqb_same : (n : ℕ) → eqb n n ≡ true
@@ -15,42 +15,42 @@ eqb_same n = nat_eq_equiv.refl n
 
 -- ---- the file of a number, after one was put in
 
-at_same : {S : Type 0} (places : List (Option (NumberedFile S))) (number : ℕ) (file : Option (NumberedFile S)) → number < length places
+pub at_same : (places : List (Option (NumberedFile))) (number : ℕ) (file : Option (NumberedFile)) → number < length places
     → slice_index_or (slice_set places number file) number None ≡ file
 at_same places number file below = get_or-set_same places number file None below
 
-at_other : {S : Type 0} (places : List (Option (NumberedFile S))) (number other : ℕ) (file : Option (NumberedFile S)) → other ≢ number
+pub at_other : (places : List (Option (NumberedFile))) (number other : ℕ) (file : Option (NumberedFile)) → other ≢ number
     → slice_index_or (slice_set places number file) other None ≡ slice_index_or places other None
 at_other places number other file apart = get_or-set_other places number other file None apart
 
-abbrev name_or : {S : Type 0} → List ℕ → Option (NumberedFile S) → List ℕ
+abbrev name_or : List ℕ → Option (NumberedFile) → List ℕ
 name_or name None = name
 name_or name (Some file) = file.name
 
-some_name : {S : Type 0} (a b : NumberedFile S) → Some a ≡ Some b → a.name ≡ b.name
+some_name : (a b : NumberedFile) → Some a ≡ Some b → a.name ≡ b.name
 some_name a b same = ap (name_or []) same
 
-abbrev is_there : {S : Type 0} → Option (NumberedFile S) → Bool
+abbrev is_there : Option (NumberedFile) → Bool
 is_there None = false
 is_there (Some file) = true
 
-pub none_some : {S : Type 0} {file : NumberedFile S} → None ≡ Some file → ⊥
+pub none_some : {file : NumberedFile} → None ≡ Some file → ⊥
 none_some same = true≢false (sym (ap is_there same))
 
 -- ---- a change of one number
 
 -- what is to be known of the change of one number's file: the order after it tells whether it is open, and of the others what it told
 -- before; and no other file has its name
-record Changes {S : Type 0} (files : Files S) (number : ℕ) (file : Option (NumberedFile S)) (opened : List ℕ) : Type 0 where
+record Changes (files : FileTable) (number : ℕ) (file : Option (NumberedFile)) (opened : List ℕ) : Type 0 where
   pub below : number < 64
   pub order : IsOrder opened
   pub here : list_any (eqb number) opened ≡ is_open_in file
   pub there : (other : ℕ) → other ≢ number → list_any (eqb other) opened ≡ list_any (eqb other) files.opened
-  pub name : (other : ℕ) (a b : NumberedFile S) → other ≢ number → file_of_number files other ≡ Some a → file ≡ Some b → a.name ≡ b.name → ⊥
+  pub name : (other : ℕ) (a b : NumberedFile) → other ≢ number → file_of_number files other ≡ Some a → file ≡ Some b → a.name ≡ b.name → ⊥
 
-changed_names : {S : Type 0} (files : Files S) (number : ℕ) (file : Option (NumberedFile S)) (opened : List ℕ)
+changed_names : (files : FileTable) (number : ℕ) (file : Option (NumberedFile)) (opened : List ℕ)
     → AreNumberedFiles files → Changes files number file opened
-    → (m n : ℕ) (a b : NumberedFile S) → (m ≡ number) ⊎ (m ≢ number) → (n ≡ number) ⊎ (n ≢ number)
+    → (m n : ℕ) (a b : NumberedFile) → (m ≡ number) ⊎ (m ≢ number) → (n ≡ number) ⊎ (n ≢ number)
     → slice_index_or (slice_set files.places number file) m None ≡ Some a
     → slice_index_or (slice_set files.places number file) n None ≡ Some b → a.name ≡ b.name → m ≡ n
 changed_names files number file opened are change m n a b (inl here) (inl there) x y same = here ∙ sym there
@@ -63,7 +63,7 @@ changed_names files number file opened are change m n a b (inr apart) (inl there
 changed_names files number file opened are change m n a b (inr far) (inr apart) x y same =
     are.names m n a b (sym (at_other files.places number m file far) ∙ x) (sym (at_other files.places number n file apart) ∙ y) same
 
-changed_opened : {S : Type 0} (files : Files S) (number : ℕ) (file : Option (NumberedFile S)) (opened : List ℕ)
+changed_opened : (files : FileTable) (number : ℕ) (file : Option (NumberedFile)) (opened : List ℕ)
     → AreNumberedFiles files → Changes files number file opened
     → (other : ℕ) → (other ≡ number) ⊎ (other ≢ number)
     → list_any (eqb other) opened ≡ is_open_in (slice_index_or (slice_set files.places number file) other None)
@@ -74,7 +74,7 @@ changed_opened files number file opened are change other (inl here) =
 changed_opened files number file opened are change other (inr apart) =
     change.there other apart ∙ are.opened other ∙ ap is_open_in (sym (at_other files.places number other file apart))
 
-changed : {S : Type 0} (files : Files S) (number : ℕ) (file : Option (NumberedFile S)) (opened : List ℕ)
+changed : (files : FileTable) (number : ℕ) (file : Option (NumberedFile)) (opened : List ℕ)
     → AreNumberedFiles files → Changes files number file opened → AreNumberedFiles (record { places = slice_set files.places number file; opened = opened })
 changed files number file opened are change = record {
   places = length-set files.places number file ∙ are.places;
@@ -132,7 +132,7 @@ there_noted number other false opened apart =
     any_without number other opened ∙ ap (λ b. not b && list_any (eqb other) opened) (ne_eqb number other (λ same. apart (sym same)))
 
 -- a file of the number has performed a statement: it has its name, and its place in the order
-pub files_after : {S : Type 0} (files : Files S) (number : ℕ) (before after : NumberedFile S) → AreNumberedFiles files → number < 64
+pub files_after : (files : FileTable) (number : ℕ) (before after : NumberedFile) → AreNumberedFiles files → number < 64
     → file_of_number files number ≡ Some before → after.name ≡ before.name
     → AreNumberedFiles (record { places = slice_set files.places number (Some after); opened = order_after number (is_open_file after) files.opened })
 files_after files number before after are below was name = changed files number (Some after) (order_after number (is_open_file after) files.opened) are (record {
@@ -144,9 +144,9 @@ files_after files number before after are below was name = changed files number 
 })
 
 -- a free number has got a file that is not open, with a name that no other has
-pub files_with : {S : Type 0} (files : Files S) (number : ℕ) (file : NumberedFile S) → AreNumberedFiles files → number < 64
+pub files_with : (files : FileTable) (number : ℕ) (file : NumberedFile) → AreNumberedFiles files → number < 64
     → file_of_number files number ≡ None → is_open_file file ≡ false
-    → ((other : ℕ) (a : NumberedFile S) → file_of_number files other ≡ Some a → a.name ≡ file.name → ⊥)
+    → ((other : ℕ) (a : NumberedFile) → file_of_number files other ≡ Some a → a.name ≡ file.name → ⊥)
     → AreNumberedFiles (record { places = slice_set files.places number (Some file); opened = files.opened })
 files_with files number file are below free closed name = changed files number (Some file) files.opened are (record {
   below = below;
@@ -157,7 +157,7 @@ files_with files number file are below free closed name = changed files number (
 })
 
 -- a file that is not open has gone
-pub files_without : {S : Type 0} (files : Files S) (number : ℕ) (file : NumberedFile S) → AreNumberedFiles files → number < 64
+pub files_without : (files : FileTable) (number : ℕ) (file : NumberedFile) → AreNumberedFiles files → number < 64
     → file_of_number files number ≡ Some file → is_open_file file ≡ false
     → AreNumberedFiles (record { places = slice_set files.places number None; opened = files.opened })
 files_without files number file are below was closed = changed files number None files.opened are (record {
@@ -171,12 +171,12 @@ files_without files number file are below was closed = changed files number None
 -- ---- the calls of a session
 
 -- a statement was performed on the file of a place
-pub place_after : {S : Type 0} (files : Files S) (number : ℕ) (before after : NumberedFile S) (place : Option (NumberedFile S)) (opened : List ℕ)
+pub place_after : (files : FileTable) (number : ℕ) (before after : NumberedFile) (place : Option (NumberedFile)) (opened : List ℕ)
     → AreNumberedFiles files → number < 64 → file_of_number files number ≡ Some before → place ≡ Some after → after.name ≡ before.name
     → opened ≡ order_after number (is_open_file after) files.opened
     → AreNumberedFiles (record { places = slice_set files.places number place; opened = opened })
 place_after files number before after place opened are below was is name order =
-    subst (λ (p : Option (NumberedFile _)). AreNumberedFiles (record { places = slice_set files.places number p; opened = opened })) (sym is)
+    subst (λ (p : Option (NumberedFile)). AreNumberedFiles (record { places = slice_set files.places number p; opened = opened })) (sym is)
     (subst (λ (o : List ℕ). AreNumberedFiles (record { places = slice_set files.places number (Some after); opened = o })) (sym order)
     (files_after files number before after are below was name))
 
@@ -207,7 +207,7 @@ without_first first rest order =
 pub first_below : (opened : List ℕ) (first : ℕ) (rest : List ℕ) → IsOrder opened → opened ≡ first ∷ rest → first < 64
 first_below opened first rest order is = (subst IsOrder is order).below 0 0 (omega arith)
 
-pub first_open : {S : Type 0} (files : Files S) (first : ℕ) (rest : List ℕ) → AreNumberedFiles files → files.opened ≡ first ∷ rest
+pub first_open : (files : FileTable) (first : ℕ) (rest : List ℕ) → AreNumberedFiles files → files.opened ≡ first ∷ rest
     → is_open_in (file_of_number files first) ≡ true
 first_open files first rest are is =
     sym (are.opened first) ∙ ap (list_any (eqb first)) is ∙ ap (λ b. b || list_any (eqb first) rest) (eqb_same first)

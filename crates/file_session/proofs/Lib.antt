@@ -1,3 +1,5 @@
 pub mod OrderLemmas
 pub mod FilesLemmas
 pub mod CallLemmas
+pub mod UnitLemmas
+pub mod SessionLemmas

@@ -1,16 +1,17 @@
 -- What each call on a session changes. All of this is ours.
-use Rattle.std.specs.Prelude.{◌≡◌, ◌≤◌, ℕ, Bool, true, false, not, List, [], ◌∷◌, ◌++◌, length, drop}
-use Rattle.std.specs.Prelude.{replicate, nat_lt, Option, Some, None, unwrap_or, IsTrue, IsFalse, Result, Ok}
-use Rattle.std.specs.Prelude.{Err, IfOk, OnErr, if◌then◌else◌}
+use Rattle.std.specs.Prelude.{◌≡◌, ◌≢◌, ◌⊎◌, ◌<◌, ◌≤◌, ℕ, Bool, true, false, not, List, [], ◌∷◌, ◌++◌, length}
+use Rattle.std.specs.Prelude.{drop, replicate, nat_lt, Option, Some, None, unwrap_or, IsTrue, IsFalse, Result}
+use Rattle.std.specs.Prelude.{Ok, Err, IfOk, OnOk, OnErr, if◌then◌else◌}
 use Rattle.io_state.specs.declared.statement.FileStatement.{FileStatement}
 use Rattle.io_state.specs.declared.statement.FileStatement.TheVariants.{Open, Close, ReadNext, Read, Start}
 use Rattle.io_state.specs.declared.statement.FileStatement.TheVariants.{Write, Rewrite, Delete}
 use Rattle.io_state.specs.declared.status.Status.{Status}
 use Rattle.record_layout.specs.Schema.{Schema, IsSchema, schema_of_fields}
 use Rattle.indexed_file.specs.Shown.{Shown}
-use Rattle.indexed_file.specs.World.{attached, named_in}
+use Rattle.indexed_file.specs.World.{World, name_at, holding_at, is_open}
 use Rattle.indexed_file.specs.Images.{AllStay}
 use Rattle.indexed_file.specs.Calls.{Keeps}
+use Rattle.growing_library.specs.Growing.{IsNewName, AddsUnit, KeepsOpen, LetsFileGo, LetsGoOnly}
 use Rattle.verbs.specs.declared.answer.Answer.{Answer}
 use Rattle.verbs.specs.Held.{held_at_start, record_delivered, silent}
 use Rattle.verbs.specs.Performed.{FileInMemory, IsPerformed}
@@ -20,9 +21,9 @@ use Rattle.request_frames.specs.declared.Refusal.{Refusal}
 use Rattle.request_frames.specs.declared.Refusal.TheVariants.{NoRequest, TooLong, Number, Description, Name}
 use Rattle.request_frames.specs.declared.Refusal.TheVariants.{Memory, Key}
 use Rattle.request_frames.specs.declared.Refusal.TheVariants.{Open as IsOpen}
-use Rattle.file_session.specs.Files.{NumberedFile, Files, file_of_number, with_file, schema_of_file}
-use Rattle.file_session.specs.Files.{is_open_file, is_free_number}
-use Rattle.file_session.specs.Files.{is_named_file, order_after}
+use Rattle.file_session.specs.Files.{NumberedFile, FileTable, Files, file_of_number, with_file}
+use Rattle.file_session.specs.Files.{schema_of_file, is_open_file, is_free_number, is_named_file, order_after}
+use Rattle.file_session.specs.Files.{memory_of}
 
 -- why a call was refused, if it was
 abbrev pub refusal_in : {X : Type 0} → Result X Refusal → Option Refusal
@@ -40,13 +41,13 @@ pub record CanBeFile (d : Described) : Type 0 where
   pub name : IsTrue (is_file_name d.name)
 
 -- the number is free, a file can be so, and no file of the session has the name
-pub record CanBeDescribed {S : Type 0} (files : Files S) (d : Described) : Type 0 where
+pub record CanBeDescribed (files : FileTable) (d : Described) : Type 0 where
   pub free : IsTrue (is_free_number files d.file)
   pub file : CanBeFile d
   pub name : IsFalse (is_named_file files d.name)
 
 -- why a description is refused: the first that is amiss; but want of memory may refuse any
-abbrev pub RefusesDescription : {S : Type 0} → Files S → Described → Refusal → Type 0
+abbrev pub RefusesDescription : FileTable → Described → Refusal → Type 0
 RefusesDescription files d NoRequest = ⊥
 RefusesDescription files d TooLong = ⊥
 RefusesDescription files d Number = IsFalse (is_free_number files d.file)
@@ -57,38 +58,56 @@ RefusesDescription files d IsOpen = ⊥
 RefusesDescription files d Memory = CanBeDescribed files d
 RefusesDescription files d Key = ⊥
 
--- a library has the file of the name as unit 0, shut; no name stands for something else
-pub record AttachesName {S : Type 0} (shown : Shown S) (name : List ℕ) (old new : S) : Type 0 where
-  pub units : (shown.world new).units ≡ attached (shown.world old) (name ∷ [])
-  pub named : (other : List ℕ) → named_in (shown.world new) other ≡ named_in (shown.world old) other
-  pub images : IsTrue (shown.is_honest new) → AllStay shown.moments old new
+-- unit u is one of the library's, has the name, and is not open
+pub record IsShutUnit (world : World) (u : ℕ) (name : List ℕ) : Type 0 where
+  pub attached : u < length world.units
+  pub name_is : name_at world u ≡ name
+  pub shut : is_open (holding_at world u) ≡ false
+
+-- unit u was added under this name, which no unit had, behind the others
+pub record AddsLast {S : Type 0} (shown : Shown S) (keeps_open : S → ℕ → Bool) (name : List ℕ) (u : ℕ)
+    (old new : S) : Type 0 where
+  pub last : u ≡ length (shown.world old).units
+  pub is_new : IsNewName (shown.world old) name
+  pub adds : AddsUnit shown name old new (Ok tt)
+  pub kept : KeepsOpen keeps_open old new
+
+-- a library gives unit u to a file of this name: one that it has, and then nothing is changed; or
+-- one that is added
+pub record GivesUnit {S : Type 0} (shown : Shown S) (keeps_open : S → ℕ → Bool) (name : List ℕ) (u : ℕ)
+    (old new : S) : Type 0 where
+  pub unit : IsShutUnit (shown.world new) u name
+  pub from : (new ≡ old) ⊎ AddsLast shown keeps_open name u old new
+
+-- what a library shows stays, where a unit could not be added for want of memory
+pub record LibraryStays {S : Type 0} (shown : Shown S) (old new : S) : Type 0 where
+  pub world : shown.world new ≡ shown.world old
+  pub images : AllStay shown.moments old new
   pub keeps : Keeps shown old new
 
--- the file of a description: its connector is closed, and its record area all spaces
-abbrev pub file_described : {S : Type 0} → Described → S → NumberedFile S
-file_described d library = record {
+-- nothing was changed where a description was refused, but that a library that lacked memory may
+-- have sought it
+pub record StaysRefused {S : Type 0} (shown : Shown S) (why : Refusal) (old new : Files S) : Type 0 where
+  pub table : new.table ≡ old.table
+  pub library : LibraryStays shown old.library new.library
+  pub same : why ≢ Memory → new ≡ old
+
+-- the file of a description, which is unit u: its connector is closed, and its record area all spaces
+abbrev pub file_described : Described → ℕ → NumberedFile
+file_described d u = record {
   name = d.name;
-  memory = record {
-    held = held_at_start d.access d.optional (schema_described d);
-    library = library;
-    area = replicate d.greatest 32;
-  };
+  unit = u;
+  held = held_at_start d.access d.optional (schema_described d);
+  area = replicate d.greatest 32;
 }
 
--- the file of a description, over the library that was given
-pub record IsDescribedOver {S : Type 0} (shown : Shown S) (d : Described) (given : S)
-    (file : NumberedFile S) : Type 0 where
-  pub library : S
-  pub attached : AttachesName shown d.name given library
-  pub is : file ≡ file_described d library
-
--- a file was described: its number has it, over the library that was given
-pub record Describes {S : Type 0} (shown : Shown S) (d : Described) (given : S)
+-- a file was described: its number has it, as a unit that the library has given
+pub record Describes {S : Type 0} (shown : Shown S) (keeps_open : S → ℕ → Bool) (d : Described)
     (old new : Files S) : Type 0 where
-  pub allowed : CanBeDescribed old d
-  pub file : NumberedFile S
-  pub over : IsDescribedOver shown d given file
-  pub files : new ≡ with_file old d.file (Some file)
+  pub allowed : CanBeDescribed old.table d
+  pub unit : ℕ
+  pub gives : GivesUnit shown keeps_open d.name unit old.library new.library
+  pub table : new.table ≡ with_file old.table d.file (Some (file_described d unit))
 
 -- ---- a verb is performed
 
@@ -105,55 +124,54 @@ is_of_keys schema Delete = true
 
 -- why a verb is refused: there is no file, its key is none of the file, or the bytes are more than
 -- the record area has
-abbrev pub refusal_by : {S : Type 0} → Option (NumberedFile S) → Performed → Option Refusal
+abbrev pub refusal_by : Option NumberedFile → Performed → Option Refusal
 refusal_by None p = Some Number
 refusal_by (Some file) p =
     if not (is_of_keys (schema_of_file file) p.statement) then Some Key
-    else if nat_lt (length file.memory.area) (length p.bytes) then Some NoRequest
+    else if nat_lt (length file.area) (length p.bytes) then Some NoRequest
     else None
 
-abbrev pub refusal_of_verb : {S : Type 0} → Files S → Performed → Option Refusal
+abbrev pub refusal_of_verb : FileTable → Performed → Option Refusal
 refusal_of_verb files p = refusal_by (file_of_number files p.file) p
 
 -- these bytes are put into the beginning of the record area, and the rest stays
 abbrev pub with_bytes : {S : Type 0} → List ℕ → FileInMemory S → FileInMemory S
 with_bytes bytes file = record file { area = bytes ++ drop (length bytes) file.area }
 
--- a file has performed the statement, with the bytes put into its area, and has its name
+-- a file of a library has performed the statement, with the bytes put into its area; it has its name
+-- and its unit
 pub record PerformsWith {S : Type 0} (shown : Shown S) (statement : FileStatement) (n : ℕ) (bytes : List ℕ)
-    (old : NumberedFile S) (answer : Answer) (new : NumberedFile S) : Type 0 where
-  pub performed : IsPerformed shown 0 statement n (with_bytes bytes old.memory) answer new.memory
+    (library : S) (old : NumberedFile) (answer : Answer) (after : S) (new : NumberedFile) : Type 0 where
+  pub performed : IsPerformed shown old.unit statement n (with_bytes bytes (memory_of library old)) answer
+      (memory_of after new)
   pub name : new.name ≡ old.name
+  pub unit : new.unit ≡ old.unit
 
 -- the file of a place has performed the statement, with the bytes put into its area
-pub record PerformsAt {S : Type 0} (shown : Shown S) (p : Performed) (old : Option (NumberedFile S))
-    (answer : Answer) (new : Option (NumberedFile S)) : Type 0 where
-  pub before : NumberedFile S
-  pub after : NumberedFile S
+pub record PerformsAt {S : Type 0} (shown : Shown S) (p : Performed) (library : S) (old : Option NumberedFile)
+    (answer : Answer) (now : S) (new : Option NumberedFile) : Type 0 where
+  pub before : NumberedFile
+  pub after : NumberedFile
   pub was : old ≡ Some before
   pub is : new ≡ Some after
-  pub name : after.name ≡ before.name
-  pub performed : IsPerformed shown 0 p.statement p.length
-      (with_bytes p.bytes before.memory) answer after.memory
+  pub does : PerformsWith shown p.statement p.length p.bytes library before answer now after
 
 -- the file of the number has performed the statement, with the bytes put into its area. Every other
 -- number has the file that it had
 pub record PerformsRequest {S : Type 0} (shown : Shown S) (p : Performed) (old : Files S) (answer : Answer)
     (new : Files S) : Type 0 where
-  pub before : NumberedFile S
-  pub after : NumberedFile S
-  pub file : file_of_number old p.file ≡ Some before
-  pub name : after.name ≡ before.name
-  pub performed : IsPerformed shown 0 p.statement p.length
-      (with_bytes p.bytes before.memory) answer after.memory
-  pub places : new.places ≡ (with_file old p.file (Some after)).places
-  pub opened : new.opened ≡ order_after p.file (is_open_file after) old.opened
+  pub before : NumberedFile
+  pub after : NumberedFile
+  pub file : file_of_number old.table p.file ≡ Some before
+  pub does : PerformsWith shown p.statement p.length p.bytes old.library before answer new.library after
+  pub places : new.table.places ≡ (with_file old.table p.file (Some after)).places
+  pub opened : new.table.opened ≡ order_after p.file (is_open_file after) old.table.opened
 
 -- a verb was performed, or refused, and then nothing was changed
 pub record PerformsOrRefuses {S : Type 0} (shown : Shown S) (p : Performed) (old new : Files S)
     (result : Result Answer Refusal) : Type 0 where
   pub performed : IfOk result (λ answer. PerformsRequest shown p old answer new)
-  pub refused : refusal_in result ≡ refusal_of_verb old p
+  pub refused : refusal_in result ≡ refusal_of_verb old.table p
   pub err : OnErr result (new ≡ old)
 
 -- these are the bytes of a record, and no more than a record can have
@@ -162,40 +180,41 @@ pub record ShowsRecord (bytes shown : List ℕ) : Type 0 where
   pub short : length shown ≤ 4000
 
 -- the record that an answer has delivered into the area of a file: no bytes where it delivered none
-abbrev pub record_by : {S : Type 0} → Option (NumberedFile S) → Option ℕ → List ℕ
+abbrev pub record_by : Option NumberedFile → Option ℕ → List ℕ
 record_by None length = []
-record_by (Some file) length = unwrap_or (record_delivered file.memory.area length) []
+record_by (Some file) length = unwrap_or (record_delivered file.area length) []
 
 -- ---- a file is given up
 
-abbrev pub refusal_of_file : {S : Type 0} → Option (NumberedFile S) → Option Refusal
+abbrev pub refusal_of_file : Option NumberedFile → Option Refusal
 refusal_of_file None = Some Number
 refusal_of_file (Some file) = if is_open_file file then Some IsOpen else None
 
-abbrev pub refusal_of_release : {S : Type 0} → Files S → ℕ → Option Refusal
+abbrev pub refusal_of_release : FileTable → ℕ → Option Refusal
 refusal_of_release files number = refusal_of_file (file_of_number files number)
 
--- the place is empty, and its library given back
-pub record ReleasesAt {S : Type 0} (old : Option (NumberedFile S)) (library : S)
-    (new : Option (NumberedFile S)) : Type 0 where
-  pub file : NumberedFile S
-  pub was : old ≡ Some file
+-- the file of a place is not open, and is this unit
+pub record IsClosedUnit (place : Option NumberedFile) (u : ℕ) : Type 0 where
+  pub file : NumberedFile
+  pub was : place ≡ Some file
   pub closed : is_open_file file ≡ false
-  pub given : library ≡ file.memory.library
-  pub is : new ≡ None
+  pub unit : u ≡ file.unit
 
--- the number is free, and its library given back
-pub record Releases {S : Type 0} (number : ℕ) (old : Files S) (library : S) (new : Files S) : Type 0 where
-  pub file : NumberedFile S
-  pub was : file_of_number old number ≡ Some file
-  pub given : library ≡ file.memory.library
-  pub files : new ≡ with_file old number None
+-- the number of a file that was not open is free; the library has let the file go, and no other one
+pub record Releases {S : Type 0} (shown : Shown S) (keeps_open : S → ℕ → Bool) (number : ℕ)
+    (old new : Files S) : Type 0 where
+  pub file : NumberedFile
+  pub was : file_of_number old.table number ≡ Some file
+  pub closed : is_open_file file ≡ false
+  pub stays : LetsFileGo shown old.library new.library
+  pub gone : LetsGoOnly keeps_open file.unit old.library new.library
+  pub table : new.table ≡ with_file old.table number None
 
 -- a file was given up, or that was refused, and then nothing was changed
-pub record ReleasesOrRefuses {S : Type 0} (number : ℕ) (old new : Files S)
-    (result : Result S Refusal) : Type 0 where
-  pub released : IfOk result (λ library. Releases number old library new)
-  pub refused : refusal_in result ≡ refusal_of_release old number
+pub record ReleasesOrRefuses {S : Type 0} (shown : Shown S) (keeps_open : S → ℕ → Bool) (number : ℕ)
+    (old new : Files S) (result : Result (Unit {0}) Refusal) : Type 0 where
+  pub released : OnOk result (Releases shown keeps_open number old new)
+  pub refused : refusal_in result ≡ refusal_of_release old.table number
   pub err : OnErr result (new ≡ old)
 
 -- ---- the file that was opened first is closed
@@ -204,22 +223,20 @@ abbrev pub close_request : ℕ → Performed
 close_request number = record { file = number; statement = Close false; length = 0; bytes = [] }
 
 -- the file of a place has performed CLOSE
-pub record ClosesPlace {S : Type 0} (shown : Shown S) (old : Option (NumberedFile S)) (status : Status)
-    (new : Option (NumberedFile S)) : Type 0 where
-  pub before : NumberedFile S
-  pub after : NumberedFile S
+pub record ClosesPlace {S : Type 0} (shown : Shown S) (library : S) (old : Option NumberedFile)
+    (status : Status) (now : S) (new : Option NumberedFile) : Type 0 where
+  pub before : NumberedFile
+  pub after : NumberedFile
   pub was : old ≡ Some before
   pub is : new ≡ Some after
-  pub name : after.name ≡ before.name
   pub closed : is_open_file after ≡ false
-  pub performed : IsPerformed shown 0 (Close false) 0 (with_bytes [] before.memory)
-      (silent status) after.memory
+  pub does : PerformsWith shown (Close false) 0 [] library before (silent status) now after
 
 -- it has performed CLOSE, and the open files are the others, in their order
 pub record ClosesFirst {S : Type 0} (shown : Shown S) (old : Files S) (status : Status)
     (new : Files S) : Type 0 where
   pub first : ℕ
   pub rest : List ℕ
-  pub was : old.opened ≡ first ∷ rest
+  pub was : old.table.opened ≡ first ∷ rest
   pub closed : PerformsRequest shown (close_request first) old (silent status) new
-  pub opened : new.opened ≡ rest
+  pub opened : new.table.opened ≡ rest

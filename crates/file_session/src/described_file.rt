@@ -4,7 +4,6 @@ ghost use Rattle.std.specs.Prelude.{bytes_eq, unwrap_or, [], None};
 ghost use Rattle.io_state.specs.declared.statement.FileStatement.TheVariants.{Close};
 ghost use Rattle.verbs.specs.Held.{record_delivered, silent};
 ghost use Rattle.verbs.specs.Fits.{Fits};
-ghost use Rattle.verbs.specs.Performed.{in_memory};
 ghost use Rattle.file_session.specs.Files.{NumberedFile, schema_of_file, is_open_file};
 ghost use Rattle.file_session.specs.Steps.{is_of_keys, PerformsWith, ShowsRecord};
 
@@ -13,14 +12,14 @@ use io_state::{FileName, FileStatement, Status};
 use std::marker::Model;
 use verbs::{Answer, Connector};
 
-/// A described file: its name, its connector and how many keys it has, the library whose unit 0 it
-/// is, and its record area.
+/// A described file: its name, the unit that it is, its connector and how many keys it has, and its
+/// record area.
 #[derive(Drop)]
-pub struct DescribedFile<L: Library + Drop> {
+pub struct DescribedFile {
     name: FileName,
+    unit: usize,
     connector: Connector,
     key_count: usize,
-    library: L,
     area: Vec<u8>,
 }
 
@@ -33,40 +32,46 @@ fn put_first(area: &mut [u8], bytes: &[u8])
     area[..bytes.len()].copy_from_slice(bytes);
 }
 
-impl<L: Library + Drop> Model for DescribedFile<L> {
+impl Model for DescribedFile {
     ghost use Rattle.file_session.specs.Files.{NumberedFile};
 
-    ghost Value = { NumberedFile L };
+    ghost Value = { NumberedFile };
 
     ghost use Rattle.file_session.specs.Fields.{numbered_file, IsInside};
 
     ghost view = { numbered_file };
 
-    ghost invariant = { IsInside L.shown };
+    ghost invariant = { IsInside };
 }
 
-impl<L: Library + Drop> DescribedFile<L> {
-    /// A file that is closed, of a library that has its name as unit 0.
+impl DescribedFile {
+    /// A file with this connector, which is a unit of that number.
     pub fn new(
         name: FileName,
+        unit: usize,
         connector: Connector,
         key_count: usize,
-        library: L,
         area: Vec<u8>,
     ) -> Self
-        requires fits { Fits connector (L.shown.world library) 0 }
         requires keys { key_count ≡ count_of connector.connector.schema.keys }
         requires area { count_of area.items ≡ connector.connector.schema.greatest }
         requires short { count_of area.items ≤ 4000 }
-        ensures { result ≡ record { name = name.bytes; memory = in_memory connector library area.items } }
+        ensures { result ≡ record { name = name.bytes; unit = unit; held = connector; area = area.items } }
     {
         DescribedFile {
             name,
+            unit,
             connector,
             key_count,
-            library,
             area,
         }
+    }
+
+    /// The unit that it is.
+    pub fn unit(&self) -> usize
+        ensures { result ≡ self.now.unit }
+    {
+        self.unit
     }
 
     /// Whether this is its name.
@@ -96,44 +101,47 @@ impl<L: Library + Drop> DescribedFile<L> {
 
     /// Whether the record area has room for the bytes.
     pub fn has_room(&self, bytes: &[u8]) -> bool
-        ensures { result ≡ not (nat_lt (count_of self.now.memory.area) (count_of bytes.now)) }
+        ensures { result ≡ not (nat_lt (count_of self.now.area) (count_of bytes.now)) }
     {
         bytes.len() <= self.area.len()
     }
 
     /// Puts the bytes into the beginning of the record area, and performs a statement.
-    pub fn perform(&mut self, statement: &FileStatement, length: u16, bytes: &[u8]) -> Answer
+    pub fn perform<L: Library>(
+        &mut self,
+        library: &mut L,
+        statement: &FileStatement,
+        length: u16,
+        bytes: &[u8],
+    ) -> Answer
+        requires fits { Fits self.old.held (L.shown.world library.old) self.old.unit }
         requires key { is_of_keys (schema_of_file self.old) statement.now ≡ true }
-        requires room { count_of bytes.now ≤ count_of self.old.memory.area }
-        ensures { PerformsWith L.shown statement.now «length» bytes.now self.old result self.new }
+        requires room { count_of bytes.now ≤ count_of self.old.area }
+        ensures { PerformsWith L.shown statement.now «length» bytes.now library.old self.old result
+            library.new self.new }
     {
         put_first(&mut self.area, bytes);
         self.connector
-            .perform(&mut self.library, 0, statement, length, &mut self.area)
+            .perform(library, self.unit, statement, length, &mut self.area)
     }
 
     /// Performs CLOSE.
-    pub fn close(&mut self) -> Status
-        ensures closes { PerformsWith L.shown (Close false) 0 [] self.old (silent result) self.new }
+    pub fn close<L: Library>(&mut self, library: &mut L) -> Status
+        requires fits { Fits self.old.held (L.shown.world library.old) self.old.unit }
+        ensures closes { PerformsWith L.shown (Close false) 0 [] library.old self.old (silent result)
+            library.new self.new }
         ensures closed { is_open_file self.new ≡ false }
     {
-        self.connector.close(&mut self.library, 0, false)
+        self.connector.close(library, self.unit, false)
     }
 
     /// The record that an answer has delivered into the area, of no bytes where it delivered none.
     pub fn record(&self, length: Option<u16>) -> &[u8]
-        ensures { ShowsRecord (unwrap_or (record_delivered self.now.memory.area «length») []) result.now }
+        ensures { ShowsRecord (unwrap_or (record_delivered self.now.area «length») []) result.now }
     {
         match length {
             Some(length) => &self.area[..usize::from(length).min(self.area.len())],
             None => &[],
         }
-    }
-
-    /// Its library.
-    pub fn into_library(self) -> L
-        ensures { result ≡ self.memory.library }
-    {
-        self.library
     }
 }

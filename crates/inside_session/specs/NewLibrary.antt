@@ -1,9 +1,8 @@
--- The libraries of files that are described in a session that C asks. All of this is ours.
-use Rattle.std.specs.Prelude.{◌≡◌, ℕ, List, [], ◌∷◌}
+-- The library of a session that C asks. All of this is ours.
+use Rattle.std.specs.Prelude.{◌≡◌, ℕ, List, []}
 use Rattle.std.specs.NonZero.{non_zero_usize_get}
 use Rattle.page_store.specs.declared.shelf.Shelf.{Ghosts}
-use Rattle.folder_shelf.specs.Events.{in_folder}
-use Rattle.folder_shelf.specs.Replay.{Unseen, folder_state}
+use Rattle.folder_shelf.specs.Replay.{Unseen, folder_after}
 use Rattle.indexed_file.specs.Shown.{Shown}
 use Rattle.shelf_library.specs.Library.{shown_by}
 use Rattle.shelf_library.specs.State.{LibraryState}
@@ -24,10 +23,10 @@ abbrev pub shown_inside : {X : Type 0} → (shelf : Ghosts X) → Shown (ShelfLi
 shown_inside shelf = shown_by (inside_state shelf)
 
 -- a library over the folder of this path that was asked nothing yet
-abbrev pub IsNewInside : {X : Type 0} → (shelf : Ghosts X) → (List ℕ → Unseen) → (path : List ℕ)
+abbrev pub IsNewInside : {X : Type 0} → (shelf : Ghosts X) → Unseen → (path : List ℕ)
     → (limit frames : ℕ) → ShelfLibrary X shelf → Type 0
 IsNewInside shelf disk path limit frames library = inside_state shelf library ≡ record {
-  shelf = folder_state disk [] (in_folder path ∷ []);
+  shelf = folder_after disk path [] [];
   held = [];
   faults = 0;
   limit = limit;

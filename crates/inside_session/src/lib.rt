@@ -1,12 +1,12 @@
-//! The libraries of a session over the files of a folder, of a system that is asked through two
+//! The library of a session over the files of a folder, of a system that is asked through two
 //! streams.
 //!
-//! Each file that is described has a library of its own, over that folder and with the limits of
-//! the session. Read `libraries`.
+//! One library serves all files of a session, over that folder and with the limits of the session.
+//! Read `library`.
 #![tactic(auto)]
 
-mod libraries;
+mod library;
 mod limits;
 
-pub use libraries::AskedLibraries;
+pub use library::{AskedLibrary, asked_library};
 pub use limits::Limits;

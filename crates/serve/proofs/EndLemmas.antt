@@ -1,5 +1,5 @@
 -- How the requests end.
-use Rattle.std.proofs.Common.{◌≡◌, ◌⊎◌, ◌<◌, ◌≤◌, ◌-◌, ◌^◌, inl, inr, ℕ, List, [], ◌∷◌, ◌++◌, Option, refl, sym, ap, subst, ◌∙◌, append_assoc, append-nil, length, arith}
+use Rattle.std.proofs.Common.{◌≡◌, Bool, ◌⊎◌, ◌<◌, ◌≤◌, ◌-◌, ◌^◌, inl, inr, ℕ, List, [], ◌∷◌, ◌++◌, Option, refl, sym, ap, subst, ◌∙◌, append_assoc, append-nil, length, arith}
 use Rattle.std.proofs.lemmas.List.Elements.{All-nil, All-cons, All-append}
 use Rattle.std.specs.Prelude.{Result, Ok, Err}
 use Rattle.std.specs.Io.KnownBytes.{Appends}
@@ -21,17 +21,17 @@ use Rattle.serve.proofs.InputLemmas.{gives_on, gives_none}
 use Rattle.serve.proofs.ServingLemmas.{AllRead, HasServed, answers_both, requests_both, requests_then, taken_too, behind_all, join}
 use Rattle.serve.proofs.HeldLemmas.{held_ends_in, reads_behind}
 
-module _ {S : Type 0} (shown : Shown S) (IsNew : S → Type 0) (a b c : Source) (x y z : Option (List ℕ)) (held after : List ℕ) (old between new : Files S) (made : ℕ)
-    (had : HasServed shown IsNew (streams a b x y) held old between made) where
+module _ {S : Type 0} (shown : Shown S) (keeps_open : S → ℕ → Bool) (a b c : Source) (x y z : Option (List ℕ)) (held after : List ℕ) (old between new : Files S) (made : ℕ)
+    (had : HasServed shown keeps_open (streams a b x y) held old between made) where
   -- the writer refused what was held: perhaps one more request was performed, which only reads
-  refused : (others : List Exchange) (more : List ℕ) → Serving shown IsNew between others new → AllRead others → IsUnanswered more
-      → GivesBytes b c (requests others ++ more) → RefusesHeld y z held → Serves shown IsNew (streams a c x z) old new (Err Output)
+  refused : (others : List Exchange) (more : List ℕ) → Serving shown keeps_open between others new → AllRead others → IsUnanswered more
+      → GivesBytes b c (requests others ++ more) → RefusesHeld y z held → Serves shown keeps_open (streams a c x z) old new (Err Output)
   refused others more serving reads unanswered gives (some, (front, rest, is, took)) =
       let at = held_ends_in held had.kept front rest had.held_is some is in
       let every : List Exchange = (had.taken ++ had.kept) ++ others in
       record {
         exchanges = every;
-        serving = join shown IsNew (had.taken ++ had.kept) others old between new had.serving serving;
+        serving = join shown keeps_open (had.taken ++ had.kept) others old between new had.serving serving;
         read = requests every ++ more;
         written = answer_bytes (had.taken ++ at.taken) ++ at.part;
         gives = gives_on a b c (requests (had.taken ++ had.kept)) (requests others ++ more) (requests every ++ more) had.gives gives
@@ -57,11 +57,11 @@ module _ {S : Type 0} (shown : Shown S) (IsNew : S → Type 0) (a b c : Source) 
       }
 
   -- the writer refused an answer that was not held
-  answer_refused : (e : Exchange) (front rest : List ℕ) → Serving shown IsNew between (e ∷ []) new → GivesBytes b c (framed e.body) → answer_frame e.told ≡ front ++ rest → Appends y z (held ++ front)
-      → Serves shown IsNew (streams a c x z) old new (Err Output)
+  answer_refused : (e : Exchange) (front rest : List ℕ) → Serving shown keeps_open between (e ∷ []) new → GivesBytes b c (framed e.body) → answer_frame e.told ≡ front ++ rest → Appends y z (held ++ front)
+      → Serves shown keeps_open (streams a c x z) old new (Err Output)
   answer_refused e front rest serving gives is took = record {
     exchanges = (had.taken ++ had.kept) ++ e ∷ [];
-    serving = join shown IsNew (had.taken ++ had.kept) (e ∷ []) old between new had.serving serving;
+    serving = join shown keeps_open (had.taken ++ had.kept) (e ∷ []) old between new had.serving serving;
     read = requests ((had.taken ++ had.kept) ++ e ∷ []);
     written = answer_bytes (had.taken ++ had.kept) ++ front;
     gives = requests_then a b c (had.taken ++ had.kept) e had.gives gives;
@@ -69,7 +69,7 @@ module _ {S : Type 0} (shown : Shown S) (IsNew : S → Type 0) (a b c : Source) 
     ends = inl (record { before = had.taken ++ had.kept; last = e; are = refl; front = front; rest = rest; frame = is; read_is = refl; written_is = refl });
   }
 
-  pub one_failed : (body : List ℕ) → GivesBytes b c (framed body) → FailsOne shown IsNew body (outgoing y z held after) between new → Serves shown IsNew (streams a c x z) old new (Err Output)
+  pub one_failed : (body : List ℕ) → GivesBytes b c (framed body) → FailsOne shown keeps_open body (outgoing y z held after) between new → Serves shown keeps_open (streams a c x z) old new (Err Output)
   one_failed body gives (inl (held_refused, same)) = refused [] (framed body) same (All-nil (λ (e : Exchange). AsksOnlyToRead e.body)) (NotPerformed body) gives held_refused
   one_failed body gives (inr (told, answer, inl (reads, held_refused))) =
       let e : Exchange = record { body = body; told = told } in
@@ -78,13 +78,13 @@ module _ {S : Type 0} (shown : Shown S) (IsNew : S → Type 0) (a b c : Source) 
   one_failed body gives (inr (told, answer, inr (front, rest, is, took))) = answer_refused (record { body = body; told = told }) front rest (new, answer, refl) gives is took
 
 -- no request was answered since
-module _ {S : Type 0} (shown : Shown S) (IsNew : S → Type 0) (a b c : Source) (x y z : Option (List ℕ)) (held after : List ℕ) (old new : Files S) (made : ℕ)
-    (had : HasServed shown IsNew (streams a b x y) held old new made) where
+module _ {S : Type 0} (shown : Shown S) (keeps_open : S → ℕ → Bool) (a b c : Source) (x y z : Option (List ℕ)) (held after : List ℕ) (old new : Files S) (made : ℕ)
+    (had : HasServed shown keeps_open (streams a b x y) held old new made) where
   -- the writer refused what was held, and this was read
-  pub held_refused : (more : List ℕ) → IsUnanswered more → GivesBytes b c more → RefusesHeld y z held → Serves shown IsNew (streams a c x z) old new (Err Output)
-  held_refused more unanswered gives is = refused shown IsNew a b c x y z held after old new new made had [] more refl (All-nil (λ (e : Exchange). AsksOnlyToRead e.body)) unanswered gives is
+  pub held_refused : (more : List ℕ) → IsUnanswered more → GivesBytes b c more → RefusesHeld y z held → Serves shown keeps_open (streams a c x z) old new (Err Output)
+  held_refused more unanswered gives is = refused shown keeps_open a b c x y z held after old new new made had [] more refl (All-nil (λ (e : Exchange). AsksOnlyToRead e.body)) unanswered gives is
 
-  length_refused : (size : ℕ) → 8192 < size → GivesBytes b c (big_bytes 2 size) → Appends y z (held ++ too_long) → Serves shown IsNew (streams a c x z) old new (Ok tt)
+  length_refused : (size : ℕ) → 8192 < size → GivesBytes b c (big_bytes 2 size) → Appends y z (held ++ too_long) → Serves shown keeps_open (streams a c x z) old new (Ok tt)
   length_refused size past gives took = record {
     exchanges = had.taken ++ had.kept;
     serving = had.serving;
@@ -95,7 +95,7 @@ module _ {S : Type 0} (shown : Shown S) (IsNew : S → Type 0) (a b c : Source) 
     ends = inr (record { size = size; past = past; read_is = refl; written_is = refl });
   }
 
-  refusal_refused : (size : ℕ) → 8192 < size → GivesBytes b c (big_bytes 2 size) → RefusesNext y z held too_long → Serves shown IsNew (streams a c x z) old new (Err Output)
+  refusal_refused : (size : ℕ) → 8192 < size → GivesBytes b c (big_bytes 2 size) → RefusesNext y z held too_long → Serves shown keeps_open (streams a c x z) old new (Err Output)
   refusal_refused size past gives (front, rest, is, took) = record {
     exchanges = had.taken ++ had.kept;
     serving = had.serving;
@@ -106,14 +106,14 @@ module _ {S : Type 0} (shown : Shown S) (IsNew : S → Type 0) (a b c : Source) 
     ends = inr (inr (record { size = size; past = past; front = front; rest = rest; frame = is; read_is = refl; written_is = refl }));
   }
 
-  pub length_told : (result : Result Unit ServeFault) → IsTooLongFrame b c → RefusesLength y z held result → Serves shown IsNew (streams a c x z) old new result
+  pub length_told : (result : Result Unit ServeFault) → IsTooLongFrame b c → RefusesLength y z held result → Serves shown keeps_open (streams a c x z) old new result
   length_told (Ok _) (size, past, gives) took = length_refused size past gives took
   length_told (Err Input) long none = absurd none
   length_told (Err Output) (size, past, gives) (inl is) = held_refused (big_bytes 2 size) (PastLimit size past) gives is
   length_told (Err Output) (size, past, gives) (inr is) = refusal_refused size past gives is
   length_told (Err Memory) long none = absurd none
 
-  ended : FrameBreaksOff b c → HasEnded c → HandsAllOver y z held after → Serves shown IsNew (streams a c x z) old new (Ok tt)
+  ended : FrameBreaksOff b c → HasEnded c → HandsAllOver y z held after → Serves shown keeps_open (streams a c x z) old new (Ok tt)
   ended (cut, is_cut, gives) at_end (took, none) = record {
     exchanges = had.taken ++ had.kept;
     serving = had.serving;
@@ -124,7 +124,7 @@ module _ {S : Type 0} (shown : Shown S) (IsNew : S → Type 0) (a b c : Source) 
     ends = inl (record { cut = cut; is_cut = is_cut; read_is = refl; ended = at_end; written_is = refl });
   }
 
-  failed : FrameBreaksOff b c → HasFailed c ⊎ (2 ^ 64 - 1 ≤ length (had.taken ++ had.kept)) → HandsAllOver y z held after → Serves shown IsNew (streams a c x z) old new (Err Input)
+  failed : FrameBreaksOff b c → HasFailed c ⊎ (2 ^ 64 - 1 ≤ length (had.taken ++ had.kept)) → HandsAllOver y z held after → Serves shown keeps_open (streams a c x z) old new (Err Input)
   failed (cut, is_cut, gives) why (took, none) = record {
     exchanges = had.taken ++ had.kept;
     serving = had.serving;
@@ -136,23 +136,23 @@ module _ {S : Type 0} (shown : Shown S) (IsNew : S → Type 0) (a b c : Source) 
   }
 
   -- what was held is refused, or handed over and this is the end
-  finished : (end result : Result Unit ServeFault) → FrameBreaksOff b c → (HandsAllOver y z held after → Serves shown IsNew (streams a c x z) old new end)
-      → Finishes end (outgoing y z held after) result → Serves shown IsNew (streams a c x z) old new result
-  finished end result broken on (inl (is, over)) = subst (λ (r : Result Unit ServeFault). Serves shown IsNew (streams a c x z) old new r) (sym is) (on over)
+  finished : (end result : Result Unit ServeFault) → FrameBreaksOff b c → (HandsAllOver y z held after → Serves shown keeps_open (streams a c x z) old new end)
+      → Finishes end (outgoing y z held after) result → Serves shown keeps_open (streams a c x z) old new result
+  finished end result broken on (inl (is, over)) = subst (λ (r : Result Unit ServeFault). Serves shown keeps_open (streams a c x z) old new r) (sym is) (on over)
   finished end result (cut, is_cut, gives) on (inr (is, refusal)) =
-      subst (λ (r : Result Unit ServeFault). Serves shown IsNew (streams a c x z) old new r) (sym is) (held_refused cut (Less cut is_cut) gives refusal)
+      subst (λ (r : Result Unit ServeFault). Serves shown keeps_open (streams a c x z) old new r) (sym is) (held_refused cut (Less cut is_cut) gives refusal)
 
-  pub input_ended : (result : Result Unit ServeFault) → FrameBreaksOff b c → HasEnded c → Finishes (Ok tt) (outgoing y z held after) result → Serves shown IsNew (streams a c x z) old new result
+  pub input_ended : (result : Result Unit ServeFault) → FrameBreaksOff b c → HasEnded c → Finishes (Ok tt) (outgoing y z held after) result → Serves shown keeps_open (streams a c x z) old new result
   input_ended result broken at_end is = finished (Ok tt) result broken (ended broken at_end) is
 
-  pub read_failed : (result : Result Unit ServeFault) → FrameBreaksOff b c → HasFailed c → Finishes (Err Input) (outgoing y z held after) result → Serves shown IsNew (streams a c x z) old new result
+  pub read_failed : (result : Result Unit ServeFault) → FrameBreaksOff b c → HasFailed c → Finishes (Err Input) (outgoing y z held after) result → Serves shown keeps_open (streams a c x z) old new result
   read_failed result broken at_fault is = finished (Err Input) result broken (failed broken (inl at_fault)) is
 
 -- more requests than are counted
-pub worn_out : {S : Type 0} (shown : Shown S) (IsNew : S → Type 0) (a b : Source) (x y z : Option (List ℕ)) (held after : List ℕ) (old new : Files S) (made : ℕ)
-    (had : HasServed shown IsNew (streams a b x y) held old new made) → 2 ^ 64 - 1 ≤ made → (result : Result Unit ServeFault) → Finishes (Err Input) (outgoing y z held after) result
-    → Serves shown IsNew (streams a b x z) old new result
-worn_out shown IsNew a b x y z held after old new made had all result is =
+pub worn_out : {S : Type 0} (shown : Shown S) (keeps_open : S → ℕ → Bool) (a b : Source) (x y z : Option (List ℕ)) (held after : List ℕ) (old new : Files S) (made : ℕ)
+    (had : HasServed shown keeps_open (streams a b x y) held old new made) → 2 ^ 64 - 1 ≤ made → (result : Result Unit ServeFault) → Finishes (Err Input) (outgoing y z held after) result
+    → Serves shown keeps_open (streams a b x z) old new result
+worn_out shown keeps_open a b x y z held after old new made had all result is =
     let nothing : FrameBreaksOff b b = ([], NoLength [] (omega arith), gives_none b) in
-    finished shown IsNew a b b x y z held after old new made had (Err Input) result nothing
-    (failed shown IsNew a b b x y z held after old new made had nothing (inr (let few = had.counted in omega arith))) is
+    finished shown keeps_open a b b x y z held after old new made had (Err Input) result nothing
+    (failed shown keeps_open a b b x y z held after old new made had nothing (inr (let few = had.counted in omega arith))) is

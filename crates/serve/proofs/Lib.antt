@@ -3,6 +3,7 @@ pub mod ServingLemmas
 pub mod HeldLemmas
 pub mod EndLemmas
 pub mod ClosingLemmas
-pub mod BookLemmas
-pub mod JudgedLemmas
+pub mod LedgerLemmas
 pub mod NoFalseFileLemmas
+pub mod NamedLemmas
+pub mod ExactLemmas

@@ -1,5 +1,5 @@
 -- Requests that were answered, and then one more.
-use Rattle.std.proofs.Common.{◌≡◌, ◌≤◌, ◌+◌, inl, inr, ℕ, length, length-append, arith, List, [], ◌∷◌, ◌++◌, All, Option, refl, sym, ap, subst, ◌∙◌, append_assoc, append-nil}
+use Rattle.std.proofs.Common.{◌≡◌, Bool, ◌≤◌, ◌+◌, inl, inr, ℕ, length, length-append, arith, List, [], ◌∷◌, ◌++◌, All, Option, refl, sym, ap, subst, ◌∙◌, append_assoc, append-nil}
 use Rattle.std.proofs.lemmas.Grind.{flat_map-append}
 use Rattle.std.proofs.lemmas.List.Elements.{All-nil, All-cons, All-append}
 use Rattle.std.specs.Io.KnownBytes.{Appends}
@@ -19,10 +19,10 @@ abbrev pub AllRead : List Exchange → Type 0
 AllRead exchanges = All (λ e. AsksOnlyToRead e.body) exchanges
 
 -- requests were answered so far, so many at least: the writer took the answers to the first ones, and those to the others, which only read, are held
-pub record HasServed {S : Type 0} (shown : Shown S) (IsNew : S → Type 0) (s : Streams) (held : List ℕ) (old new : Files S) (made : ℕ) : Type 0 where
+pub record HasServed {S : Type 0} (shown : Shown S) (keeps_open : S → ℕ → Bool) (s : Streams) (held : List ℕ) (old new : Files S) (made : ℕ) : Type 0 where
   pub taken : List Exchange
   pub kept : List Exchange
-  pub serving : Serving shown IsNew old (taken ++ kept) new
+  pub serving : Serving shown keeps_open old (taken ++ kept) new
   pub gives : GivesBytes s.input s.input_after (requests (taken ++ kept))
   pub appends : Appends s.output s.output_after (answer_bytes taken)
   pub held_is : held ≡ answer_bytes kept
@@ -55,13 +55,13 @@ behind_all x y z es more held front is first then =
     (ap (λ (l : List ℕ). answer_bytes es ++ (l ++ front)) is ∙ sym (append_assoc (answer_bytes es) (answer_bytes more) front) ∙ ap (λ (l : List ℕ). l ++ front) (sym (answers_both es more)))
     (Appends-trans x y z (answer_bytes es) (held ++ front) first then)
 
-module _ {S : Type 0} (shown : Shown S) (IsNew : S → Type 0) where
-  pub join : (es more : List Exchange) (old between new : Files S) → Serving shown IsNew old es between → Serving shown IsNew between more new → Serving shown IsNew old (es ++ more) new
-  join [] more old between new first then = subst (λ (from : Files S). Serving shown IsNew from more new) first then
+module _ {S : Type 0} (shown : Shown S) (keeps_open : S → ℕ → Bool) where
+  pub join : (es more : List Exchange) (old between new : Files S) → Serving shown keeps_open old es between → Serving shown keeps_open between more new → Serving shown keeps_open old (es ++ more) new
+  join [] more old between new first then = subst (λ (from : Files S). Serving shown keeps_open from more new) first then
   join (e ∷ es) more old between new (mid, one, rest) then = (mid, one, join es more mid between new rest then)
 
   -- no request so far
-  pub begins_served : (a : Source) (x : Option (List ℕ)) (held : List ℕ) (files : Files S) → held ≡ [] → HasServed shown IsNew (streams a a x x) held files files 0
+  pub begins_served : (a : Source) (x : Option (List ℕ)) (held : List ℕ) (files : Files S) → held ≡ [] → HasServed shown keeps_open (streams a a x x) held files files 0
   begins_served a x held files none = record {
     taken = [];
     kept = [];
@@ -73,13 +73,13 @@ module _ {S : Type 0} (shown : Shown S) (IsNew : S → Type 0) where
     counted = omega arith;
   }
 
-  module _ (a b : Source) (x y z : Option (List ℕ)) (held after : List ℕ) (old new : Files S) (made : ℕ) (had : HasServed shown IsNew (streams a b x y) held old new made) where
+  module _ (a b : Source) (x y z : Option (List ℕ)) (held after : List ℕ) (old new : Files S) (made : ℕ) (had : HasServed shown keeps_open (streams a b x y) held old new made) where
     -- all that was held is handed over
-    handed : HandsAllOver y z held after → HasServed shown IsNew (streams a b x z) after old new made
+    handed : HandsAllOver y z held after → HasServed shown keeps_open (streams a b x z) after old new made
     handed (took, none) = record {
       taken = had.taken ++ had.kept;
       kept = [];
-      serving = subst (λ (es : List Exchange). Serving shown IsNew old es new) (sym (append-nil (had.taken ++ had.kept))) had.serving;
+      serving = subst (λ (es : List Exchange). Serving shown keeps_open old es new) (sym (append-nil (had.taken ++ had.kept))) had.serving;
       gives = subst (λ (es : List Exchange). GivesBytes a b (requests es)) (sym (append-nil (had.taken ++ had.kept))) had.gives;
       appends = taken_too x y z had.taken had.kept held had.held_is had.appends took;
       held_is = none;
@@ -87,7 +87,7 @@ module _ {S : Type 0} (shown : Shown S) (IsNew : S → Type 0) where
       counted = subst (λ (es : List Exchange). made ≤ length es) (sym (append-nil (had.taken ++ had.kept))) had.counted;
     }
 
-    pub way_made : (ahead : List ℕ) → MakesWayForInput ahead y z held after → HasServed shown IsNew (streams a b x z) after old new made
+    pub way_made : (ahead : List ℕ) → MakesWayForInput ahead y z held after → HasServed shown keeps_open (streams a b x z) after old new made
     way_made ahead (inl (whole, kept, same)) = record {
       taken = had.taken;
       kept = had.kept;
@@ -100,14 +100,14 @@ module _ {S : Type 0} (shown : Shown S) (IsNew : S → Type 0) where
     }
     way_made ahead (inr over) = handed over
 
-  module _ (a b c : Source) (x y z : Option (List ℕ)) (held after : List ℕ) (old between new : Files S) (made : ℕ) (had : HasServed shown IsNew (streams a b x y) held old between made) where
+  module _ (a b c : Source) (x y z : Option (List ℕ)) (held after : List ℕ) (old between new : Files S) (made : ℕ) (had : HasServed shown keeps_open (streams a b x y) held old between made) where
     -- one more: of all requests the writer took the answers to the first ones
-    more : (e : Exchange) (taken kept : List Exchange) → taken ++ kept ≡ (had.taken ++ had.kept) ++ e ∷ [] → Serving shown IsNew between (e ∷ []) new → GivesBytes b c (framed e.body)
-        → Appends x z (answer_bytes taken) → after ≡ answer_bytes kept → AllRead kept → HasServed shown IsNew (streams a c x z) after old new (made + 1)
+    more : (e : Exchange) (taken kept : List Exchange) → taken ++ kept ≡ (had.taken ++ had.kept) ++ e ∷ [] → Serving shown keeps_open between (e ∷ []) new → GivesBytes b c (framed e.body)
+        → Appends x z (answer_bytes taken) → after ≡ answer_bytes kept → AllRead kept → HasServed shown keeps_open (streams a c x z) after old new (made + 1)
     more e taken kept are serving gives took is reads = record {
       taken = taken;
       kept = kept;
-      serving = subst (λ (es : List Exchange). Serving shown IsNew old es new) (sym are) (join (had.taken ++ had.kept) (e ∷ []) old between new had.serving serving);
+      serving = subst (λ (es : List Exchange). Serving shown keeps_open old es new) (sym are) (join (had.taken ++ had.kept) (e ∷ []) old between new had.serving serving);
       gives = subst (λ (es : List Exchange). GivesBytes a c (requests es)) (sym are) (requests_then a b c (had.taken ++ had.kept) e had.gives gives);
       appends = took;
       held_is = is;
@@ -118,7 +118,7 @@ module _ {S : Type 0} (shown : Shown S) (IsNew : S → Type 0) where
           let same = ap (λ (es : List Exchange). length es) are in omega arith;
     }
 
-    pub one_more : (body : List ℕ) → GivesBytes b c (framed body) → AnswersAs shown IsNew body (SendsAnswer body (outgoing y z held after)) between new → HasServed shown IsNew (streams a c x z) after old new (made + 1)
+    pub one_more : (body : List ℕ) → GivesBytes b c (framed body) → AnswersAs shown keeps_open body (SendsAnswer body (outgoing y z held after)) between new → HasServed shown keeps_open (streams a c x z) after old new (made + 1)
     one_more body gives (told, answer, inl (reads, inl (kept, is))) =
         let e : Exchange = record { body = body; told = told } in
         more e had.taken (had.kept ++ e ∷ []) (sym (append_assoc had.taken had.kept (e ∷ []))) (new, answer, refl) gives

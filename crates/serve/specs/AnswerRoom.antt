@@ -1,5 +1,5 @@
 -- The answer to a request, in the room that a caller has for it. All of this is ours.
-use Rattle.std.specs.Prelude.{◌≡◌, ℕ, List, [], ◌∷◌, ◌++◌, drop, length}
+use Rattle.std.specs.Prelude.{◌≡◌, Bool, ℕ, List, [], ◌∷◌, ◌++◌, drop, length}
 use Rattle.indexed_file.specs.Shown.{Shown}
 use Rattle.request_frames.specs.Answer.{Told}
 use Rattle.request_frames.specs.Reading.{request_in}
@@ -14,11 +14,12 @@ exchange body told = record { body = body; told = told }
 
 -- the request was answered, and its answer's frame is the first of these bytes, so many; the other
 -- bytes stay. Where the requests before it have left no false file at any moment, nor has this one
-pub record AnswersInto {S : Type 0} (shown : Shown S) (IsNew : S → Type 0) (body : List ℕ)
+pub record AnswersInto {S : Type 0} (shown : Shown S) (keeps_open : S → ℕ → Bool) (body : List ℕ)
     (old new : Files S) (room room_after : List ℕ) (count : ℕ) : Type 0 where
   pub told : Told
-  pub answers : AnswersRequest shown IsNew (request_in body) old told new
+  pub answers : AnswersRequest shown keeps_open (request_in body) old told new
   pub frame : room_after ≡ answer_frame told ++ drop (length (answer_frame told)) room
   pub count_is : count ≡ length (answer_frame told)
-  pub no_false_file : (exchanges : List Exchange) → NoFalseFileAfter shown IsNew exchanges old
-      → NoFalseFileAfter shown IsNew (exchanges ++ exchange body told ∷ []) new
+  pub no_false_file : (start : S) → (exchanges : List Exchange)
+      → NoFalseFileAfter shown keeps_open start exchanges old
+      → NoFalseFileAfter shown keeps_open start (exchanges ++ exchange body told ∷ []) new

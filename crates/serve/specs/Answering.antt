@@ -1,5 +1,5 @@
 -- The answering of one request, and of the end, where answers are held. All of this is ours.
-use Rattle.std.specs.Prelude.{◌≡◌, ◌⊎◌, ℕ, List, ◌++◌, Option, Result, Ok, Err, OnOk, OnErr}
+use Rattle.std.specs.Prelude.{◌≡◌, Bool, ◌⊎◌, ℕ, List, ◌++◌, Option, Result, Ok, Err, OnOk, OnErr}
 use Rattle.std.specs.Io.KnownBytes.{Appends}
 use Rattle.indexed_file.specs.Shown.{Shown}
 use Rattle.request_frames.specs.Answer.{Told}
@@ -26,10 +26,10 @@ outgoing written written_after held held_after =
     record { written = written; written_after = written_after; held = held; held_after = held_after }
 
 -- a request was answered, so that this is so of what was told
-abbrev pub AnswersAs : {S : Type 0} → Shown S → (IsNew : S → Type 0) → (body : List ℕ) → (Told → Type 0)
+abbrev pub AnswersAs : {S : Type 0} → Shown S → (keeps_open : S → ℕ → Bool) → (body : List ℕ) → (Told → Type 0)
     → (old new : Files S) → Type 0
-AnswersAs shown IsNew body IsSo old new = (told : Told)
-    × AnswersRequest shown IsNew (request_in body) old told new × IsSo told
+AnswersAs shown keeps_open body IsSo old new = (told : Told)
+    × AnswersRequest shown keeps_open (request_in body) old told new × IsSo told
 
 -- the answer is held, if the request only reads; or the writer took it behind all that was held
 abbrev pub SendsAnswer : (body : List ℕ) → Outgoing → Told → Type 0
@@ -44,40 +44,40 @@ AnswerStays body o told =
     ⊎ RefusesNext o.written o.written_after o.held (answer_frame told)
 
 -- the writer refused what was held, and the request was not performed; or it was, and then the writer refused
-abbrev pub FailsOne : {S : Type 0} → Shown S → (IsNew : S → Type 0) → (body : List ℕ) → Outgoing
+abbrev pub FailsOne : {S : Type 0} → Shown S → (keeps_open : S → ℕ → Bool) → (body : List ℕ) → Outgoing
     → (old new : Files S) → Type 0
-FailsOne shown IsNew body o old new =
+FailsOne shown keeps_open body o old new =
     (RefusesHeld o.written o.written_after o.held × (new ≡ old))
-    ⊎ AnswersAs shown IsNew body (AnswerStays body o) old new
+    ⊎ AnswersAs shown keeps_open body (AnswerStays body o) old new
 
 -- a request that only reads was answered, and its answer is held; or the writer refused what was held
-pub record AnswersRead {S W : Type 0} (shown : Shown S) (IsNew : S → Type 0)
+pub record AnswersRead {S W : Type 0} (shown : Shown S) (keeps_open : S → ℕ → Bool)
     (contents : W → Option (List ℕ)) (body : List ℕ) (old new : Files S) (held held_after : List ℕ)
     (out out_after : W) (result : Result (Unit {0}) Refused) : Type 0 where
-  pub answered : OnOk result (AnswersAs shown IsNew body
+  pub answered : OnOk result (AnswersAs shown keeps_open body
       (λ told. AddsText (contents out) (contents out_after) held held_after (answer_frame told)) old new)
-  pub refused : OnErr result (AnswersAs shown IsNew body
+  pub refused : OnErr result (AnswersAs shown keeps_open body
       (λ told. RefusesHeld (contents out) (contents out_after) held) old new)
 
 -- another one was answered, and the writer took its answer behind all that was held; or it refused
 -- what was held, and the request was not performed; or it refused the answer
-pub record AnswersOther {S W : Type 0} (shown : Shown S) (IsNew : S → Type 0)
+pub record AnswersOther {S W : Type 0} (shown : Shown S) (keeps_open : S → ℕ → Bool)
     (contents : W → Option (List ℕ)) (body : List ℕ) (old new : Files S) (held held_after : List ℕ)
     (out out_after : W) (result : Result (Unit {0}) Refused) : Type 0 where
-  pub answered : OnOk result (AnswersAs shown IsNew body
+  pub answered : OnOk result (AnswersAs shown keeps_open body
       (λ told. HandsAllOver (contents out) (contents out_after)
       (held ++ answer_frame told) held_after) old new)
   pub refused : OnErr result ((RefusesHeld (contents out) (contents out_after) held × (new ≡ old))
-      ⊎ AnswersAs shown IsNew body
+      ⊎ AnswersAs shown keeps_open body
       (λ told. RefusesNext (contents out) (contents out_after) held (answer_frame told)) old new)
 
 -- any request was answered so, or failed so
-pub record AnswersOne {S W : Type 0} (shown : Shown S) (IsNew : S → Type 0)
+pub record AnswersOne {S W : Type 0} (shown : Shown S) (keeps_open : S → ℕ → Bool)
     (contents : W → Option (List ℕ)) (body : List ℕ) (old new : Files S) (held held_after : List ℕ)
     (out out_after : W) (result : Result (Unit {0}) Refused) : Type 0 where
-  pub answered : OnOk result (AnswersAs shown IsNew body
+  pub answered : OnOk result (AnswersAs shown keeps_open body
       (SendsAnswer body (outgoing (contents out) (contents out_after) held held_after)) old new)
-  pub refused : OnErr result (FailsOne shown IsNew body
+  pub refused : OnErr result (FailsOne shown keeps_open body
       (outgoing (contents out) (contents out_after) held held_after) old new)
 
 -- where the requests end, the writer took all that was held, or refused it

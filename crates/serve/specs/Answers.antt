@@ -1,5 +1,5 @@
 -- What a request is answered, and what it changes. All of this is ours.
-use Rattle.std.specs.Prelude.{◌≡◌, ◌⊎◌, ℕ, List, Option, Some, None}
+use Rattle.std.specs.Prelude.{◌≡◌, ℕ, Bool, List, Option, Some, None}
 use Rattle.indexed_file.specs.Shown.{Shown}
 use Rattle.verbs.specs.declared.answer.Answer.{Answer}
 use Rattle.request_frames.specs.Answer.{Told, Refuses, Does, Tells, answer_body, framed}
@@ -9,42 +9,45 @@ use Rattle.request_frames.specs.Request.{described_of}
 use Rattle.request_frames.specs.declared.description.Description.{Description}
 use Rattle.request_frames.specs.declared.refusal.Refusal.TheVariants as refusal
 use Rattle.file_session.specs.Files.{Files, file_of_number}
-use Rattle.file_session.specs.Steps.{Describes, RefusesDescription, PerformsRequest, refusal_of_verb}
-use Rattle.file_session.specs.Steps.{record_by}
+use Rattle.file_session.specs.Steps.{Describes, RefusesDescription, StaysRefused, PerformsRequest}
+use Rattle.file_session.specs.Steps.{refusal_of_verb, record_by}
 use Rattle.file_session.specs.Steps.{Releases, refusal_of_release}
 
--- a file is described over a library that is new; or that is refused, and nothing is changed. Want
--- of memory may refuse any description
-abbrev pub AnswersDescription : {S : Type 0} → Shown S → (IsNew : S → Type 0) → Described → Files S → Told
+-- a file is described, as a unit of the library; or that is refused, and nothing is changed
+abbrev pub AnswersDescription : {S : Type 0} → Shown S → (keeps_open : S → ℕ → Bool) → Described → Files S → Told
     → Files S → Type 0
-AnswersDescription {S} shown IsNew d old Does new =
-    (given : S) × IsNew given × Describes shown d given old new
-AnswersDescription shown IsNew d old (Refuses why) new =
-    ((why ≡ refusal.Memory) ⊎ RefusesDescription old d why) × (new ≡ old)
-AnswersDescription shown IsNew d old (Tells status bytes) new = ⊥
+AnswersDescription shown keeps_open d old Does new = Describes shown keeps_open d old new
+AnswersDescription shown keeps_open d old (Refuses why) new =
+    RefusesDescription old.table d why × StaysRefused shown why old new
+AnswersDescription shown keeps_open d old (Tells status bytes) new = ⊥
 
 -- a verb is performed, and its status told, with the record that it delivered; or it is refused,
 -- and nothing is changed
 abbrev pub AnswersVerb : {S : Type 0} → Shown S → Performed → Files S → Told → Files S → Type 0
 AnswersVerb shown p old Does new = ⊥
-AnswersVerb shown p old (Refuses why) new = (refusal_of_verb old p ≡ Some why) × (new ≡ old)
+AnswersVerb shown p old (Refuses why) new = (refusal_of_verb old.table p ≡ Some why) × (new ≡ old)
 AnswersVerb shown p old (Tells status bytes) new =
     (answer : Answer) × PerformsRequest shown p old answer new × (status ≡ answer.status)
-    × (bytes ≡ record_by (file_of_number new p.file) answer.length)
+    × (bytes ≡ record_by (file_of_number new.table p.file) answer.length)
+    × (refusal_of_verb old.table p ≡ None)
 
--- the number is free again; or that is refused, and nothing is changed
-abbrev pub AnswersRelease : {S : Type 0} → ℕ → Files S → Told → Files S → Type 0
-AnswersRelease {S} number old Does new = (library : S) × Releases number old library new
-AnswersRelease number old (Refuses why) new = (refusal_of_release old number ≡ Some why) × (new ≡ old)
-AnswersRelease number old (Tells status bytes) new = ⊥
+-- the number is free again, and the library has let the file go; or that is refused, and nothing is
+-- changed
+abbrev pub AnswersRelease : {S : Type 0} → Shown S → (keeps_open : S → ℕ → Bool) → ℕ → Files S → Told
+    → Files S → Type 0
+AnswersRelease shown keeps_open number old Does new = Releases shown keeps_open number old new
+AnswersRelease shown keeps_open number old (Refuses why) new =
+    (refusal_of_release old.table number ≡ Some why) × (new ≡ old)
+AnswersRelease shown keeps_open number old (Tells status bytes) new = ⊥
 
 -- a request is answered; what is none is refused, and changes nothing
-abbrev pub AnswersRequest : {S : Type 0} → Shown S → (IsNew : S → Type 0) → Option Asked → Files S → Told
+abbrev pub AnswersRequest : {S : Type 0} → Shown S → (keeps_open : S → ℕ → Bool) → Option Asked → Files S → Told
     → Files S → Type 0
-AnswersRequest shown IsNew None old told new = (told ≡ Refuses refusal.NoRequest) × (new ≡ old)
-AnswersRequest shown IsNew (Some (Describing d)) old told new = AnswersDescription shown IsNew d old told new
-AnswersRequest shown IsNew (Some (Performing p)) old told new = AnswersVerb shown p old told new
-AnswersRequest shown IsNew (Some (Releasing number)) old told new = AnswersRelease number old told new
+AnswersRequest shown keeps_open None old told new = (told ≡ Refuses refusal.NoRequest) × (new ≡ old)
+AnswersRequest shown keeps_open (Some (Describing d)) old told new = AnswersDescription shown keeps_open d old told new
+AnswersRequest shown keeps_open (Some (Performing p)) old told new = AnswersVerb shown p old told new
+AnswersRequest shown keeps_open (Some (Releasing number)) old told new = AnswersRelease shown keeps_open number
+    old told new
 
 -- the frame of an answer
 abbrev pub answer_frame : Told → List ℕ
@@ -55,15 +58,15 @@ abbrev pub IsFrameOf : List ℕ → (Told → Type 0) → Type 0
 IsFrameOf frame IsAnswer = (told : Told) × (frame ≡ answer_frame told) × IsAnswer told
 
 -- the frame tells the answer to a description, to a verb, and to the request that the body has
-abbrev pub TellsOfFile : {S : Type 0} → Shown S → (IsNew : S → Type 0) → Description → (old new : Files S)
+abbrev pub TellsOfFile : {S : Type 0} → Shown S → (keeps_open : S → ℕ → Bool) → Description → (old new : Files S)
     → (frame : List ℕ) → Type 0
-TellsOfFile shown IsNew description old new frame =
-    IsFrameOf frame (λ told. AnswersDescription shown IsNew (described_of description) old told new)
+TellsOfFile shown keeps_open description old new frame =
+    IsFrameOf frame (λ told. AnswersDescription shown keeps_open (described_of description) old told new)
 
 abbrev pub TellsVerb : {S : Type 0} → Shown S → Performed → (old new : Files S) → (frame : List ℕ) → Type 0
 TellsVerb shown p old new frame = IsFrameOf frame (λ told. AnswersVerb shown p old told new)
 
-abbrev pub TellsAnswer : {S : Type 0} → Shown S → (IsNew : S → Type 0) → (body : List ℕ)
+abbrev pub TellsAnswer : {S : Type 0} → Shown S → (keeps_open : S → ℕ → Bool) → (body : List ℕ)
     → (old new : Files S) → (frame : List ℕ) → Type 0
-TellsAnswer shown IsNew body old new frame =
-    IsFrameOf frame (λ told. AnswersRequest shown IsNew (request_in body) old told new)
+TellsAnswer shown keeps_open body old new frame =
+    IsFrameOf frame (λ told. AnswersRequest shown keeps_open (request_in body) old told new)

@@ -5,6 +5,7 @@ pub mod Reads
 pub mod HeldAnswers
 pub mod Serving
 pub mod Answering
-pub mod Books
+pub mod Ledgers
 pub mod NoFalseFile
 pub mod AnswerRoom
+pub mod ExactSession

@@ -1,20 +1,22 @@
 -- The answering of the requests of an input. All of this is ours.
-use Rattle.std.specs.Prelude.{◌≡◌, ◌≢◌, ◌⊎◌, ℕ, ◌<◌, ◌≤◌, ◌-◌, ◌^◌, All, length, List, [], ◌∷◌, ◌++◌}
-use Rattle.std.specs.Prelude.{flat_map, Option, Result, Ok, Err}
+use Rattle.std.specs.Prelude.{◌≡◌, ◌≢◌, ◌⊎◌, ℕ, ◌<◌, ◌≤◌, ◌+◌, ◌-◌, ◌^◌, Bool, true, false, All, length, List, []}
+use Rattle.std.specs.Prelude.{◌∷◌, ◌++◌, flat_map, Option, Some, None, if◌then◌else◌, Result, Ok, Err}
 use Rattle.std.specs.Io.KnownBytes.{Appends}
 use Rattle.byteorder.specs.Endian.{big_bytes}
 use Rattle.io_state.specs.declared.status.Status.{Status}
+use Rattle.io_state.specs.declared.status.Status.TheVariants.{Successful}
 use Rattle.indexed_file.specs.Shown.{Shown}
 use Rattle.request_frames.specs.Answer.{Told, Refuses, framed}
 use Rattle.request_frames.specs.Reading.{request_in}
 use Rattle.request_frames.specs.declared.refusal.Refusal.TheVariants as refusal
-use Rattle.file_session.specs.Files.{Files, no_numbered_files}
+use Rattle.file_session.specs.Files.{Files, files_at_start}
 use Rattle.file_session.specs.Steps.{ClosesFirst}
 use Rattle.standard_input.specs.Source.{Source, source_of, GivesBytes, HasEnded, HasFailed}
 use Rattle.standard_input.specs.declared.standard_input.StandardInput.{StandardInput}
 use Rattle.serve.specs.Input.{IsCutFrame}
 use Rattle.serve.specs.Answers.{AnswersRequest, answer_frame}
 use Rattle.serve.specs.Reads.{AsksOnlyToRead}
+use Rattle.serve.specs.declared.end.SessionEnd.{SessionEnd}
 use Rattle.serve.specs.declared.fault.ServeFault.{ServeFault}
 use Rattle.serve.specs.declared.fault.ServeFault.TheVariants.{Input, Output, Memory}
 
@@ -31,16 +33,16 @@ abbrev pub answer_bytes : List Exchange → List ℕ
 answer_bytes exchanges = flat_map (λ e. answer_frame e.told) exchanges
 
 -- requests were answered one after another, each in what those before it left
-abbrev pub Serving : {S : Type 0} → Shown S → (IsNew : S → Type 0) → Files S → List Exchange → Files S
+abbrev pub Serving : {S : Type 0} → Shown S → (keeps_open : S → ℕ → Bool) → Files S → List Exchange → Files S
     → Type 0
-Serving shown IsNew old [] new = new ≡ old
-Serving {S} shown IsNew old (e ∷ rest) new =
-    (between : Files S) × AnswersRequest shown IsNew (request_in e.body) old e.told between
-    × Serving shown IsNew between rest new
+Serving shown keeps_open old [] new = new ≡ old
+Serving {S} shown keeps_open old (e ∷ rest) new =
+    (between : Files S) × AnswersRequest shown keeps_open (request_in e.body) old e.told between
+    × Serving shown keeps_open between rest new
 
 -- the open files were closed, the one that was opened first at first, until none was open
 abbrev pub ClosesAllFiles : {S : Type 0} → Shown S → Files S → List Status → Files S → Type 0
-ClosesAllFiles shown old [] new = (old.opened ≡ []) × (new ≡ old)
+ClosesAllFiles shown old [] new = (old.table.opened ≡ []) × (new ≡ old)
 ClosesAllFiles {S} shown old (status ∷ rest) new = (between : Files S) × ClosesFirst shown old status between
     × ClosesAllFiles shown between rest new
 
@@ -142,39 +144,68 @@ streams input input_after output output_after = record {
 }
 
 -- the requests of the input were answered to its end, or to a fault
-pub record Serves {S : Type 0} (shown : Shown S) (IsNew : S → Type 0) (s : Streams) (old new : Files S)
+pub record Serves {S : Type 0} (shown : Shown S) (keeps_open : S → ℕ → Bool) (s : Streams) (old new : Files S)
     (result : Result Unit ServeFault) : Type 0 where
   pub exchanges : List Exchange
-  pub serving : Serving shown IsNew old exchanges new
+  pub serving : Serving shown keeps_open old exchanges new
   pub read : List ℕ
   pub written : List ℕ
   pub gives : GivesBytes s.input s.input_after read
   pub appends : Appends s.output s.output_after written
   pub ends : EndsSession s.input_after exchanges read written result
 
--- a whole session: its requests were answered, from the first one, when no file was described; and
--- then the files that were still open were closed
-pub record Served {S : Type 0} (shown : Shown S) (IsNew : S → Type 0) (s : Streams)
+-- a whole session over this library: its requests were answered, from the first one, when no file
+-- was described; and then the files that were still open were closed
+pub record Served {S : Type 0} (shown : Shown S) (keeps_open : S → ℕ → Bool) (start : S) (s : Streams)
     (result : Result Unit ServeFault) : Type 0 where
   pub last : Files S
-  pub served : Serves shown IsNew s no_numbered_files last result
+  pub served : Serves shown keeps_open s (files_at_start start) last result
   pub closes : List Status
   pub end : Files S
   pub closed : ClosesAllFiles shown last closes end
 
+-- a close that was answered another status than 00
+abbrev pub is_failed_close : Status → Bool
+is_failed_close Successful = false
+is_failed_close _ = true
+
+-- how many closes of these failed
+abbrev pub failed_of : Option Status → ℕ
+failed_of None = 0
+failed_of (Some status) = if is_failed_close status then 1 else 0
+
+abbrev pub failed_among : List Status → ℕ
+failed_among [] = 0
+failed_among (status ∷ statuses) = failed_of (Some status) + failed_among statuses
+
+-- a whole session was served so: its library is given back, and it is told how many of the closes
+-- at its end failed
+pub record IsServedToEnd {S : Type 0} (shown : Shown S) (keeps_open : S → ℕ → Bool) (start : S) (s : Streams)
+    (end : SessionEnd S) : Type 0 where
+  pub session : Served shown keeps_open start s end.requests
+  pub library : end.library ≡ session.end.library
+  pub unclosed : end.unclosed ≡ failed_among session.closes
+
 -- the same of the reader and the writer themselves
-abbrev pub ServesInput : {S R W : Type 0} → Shown S → (IsNew : S → Type 0)
+abbrev pub ServesInput : {S R W : Type 0} → Shown S → (keeps_open : S → ℕ → Bool)
     → (remaining : R → Option (List ℕ)) → (contents : W → Option (List ℕ))
     → (input input_after : StandardInput R) → (out out_after : W) → (old new : Files S)
     → Result Unit ServeFault → Type 0
-ServesInput shown IsNew remaining contents input input_after out out_after old new result =
-    Serves shown IsNew (streams (source_of remaining input) (source_of remaining input_after)
+ServesInput shown keeps_open remaining contents input input_after out out_after old new result =
+    Serves shown keeps_open (streams (source_of remaining input) (source_of remaining input_after)
     (contents out) (contents out_after)) old new result
 
 -- a whole session over them, unless it was refused for want of memory
-abbrev pub ServesAll : {S R W : Type 0} → Shown S → (IsNew : S → Type 0)
+abbrev pub ServesAll : {S R W : Type 0} → Shown S → (keeps_open : S → ℕ → Bool)
     → (remaining : R → Option (List ℕ)) → (contents : W → Option (List ℕ))
-    → (input input_after : StandardInput R) → (out out_after : W) → Result Unit ServeFault → Type 0
-ServesAll shown IsNew remaining contents input input_after out out_after result = result ≢ Err Memory
-    → Served shown IsNew (streams (source_of remaining input) (source_of remaining input_after)
-    (contents out) (contents out_after)) result
+    → (input input_after : StandardInput R) → (out out_after : W) → (start : S) → SessionEnd S → Type 0
+ServesAll shown keeps_open remaining contents input input_after out out_after start end =
+    end.requests ≢ Err Memory
+    → IsServedToEnd shown keeps_open start (streams (source_of remaining input) (source_of remaining input_after)
+    (contents out) (contents out_after)) end
+
+-- the open files were closed, and so many of the closes failed
+pub record ClosesAndCounts {S : Type 0} (shown : Shown S) (old new : Files S) (failed : ℕ) : Type 0 where
+  pub statuses : List Status
+  pub closed : ClosesAllFiles shown old statuses new
+  pub failed_are : failed ≡ failed_among statuses

@@ -3,9 +3,9 @@ ghost use Rattle.std.specs.Prelude.{◌≡◌, ◌≤◌, ◌++◌, drop, length
 ghost use Rattle.serve.specs.AnswerRoom.{AnswersInto};
 
 use crate::answering::answer_request;
-use crate::libraries::Libraries;
 use crate::whole_session::no_false_file_in_requests;
 use file_session::Session;
+use growing_library::GrowingLibrary;
 use request_frames::AnswerFrame;
 
 /// Puts bytes into the beginning of the room.
@@ -18,20 +18,19 @@ fn put_first(room: &mut [u8], bytes: &[u8])
 
 /// Does what the body of a frame asks for, and puts the frame of the answer into the room, which
 /// is long enough for any. How many bytes the frame has.
-pub fn answer_into<M: Libraries>(
-    libraries: &M,
-    session: &mut Session<M::Library>,
+pub fn answer_into<L: GrowingLibrary + Drop>(
+    session: &mut Session<L>,
     body: &[u8],
     room: &mut [u8],
 ) -> usize
     requires room { 4005 ≤ length room.old }
-    ensures { AnswersInto M.Library.shown (M.is_new libraries.now) body.now
+    ensures { AnswersInto L.shown L.keeps_open body.now
         session.old session.new room.old room.new result }
 {
     // Brings the law that an answered request leaves no false file.
-    no_false_file_in_requests(libraries);
+    no_false_file_in_requests::<L>();
     let mut frame = AnswerFrame::new();
-    answer_request(libraries, session, body, &mut frame);
+    answer_request(session, body, &mut frame);
     put_first(room, frame.as_slice());
     frame.len()
 }

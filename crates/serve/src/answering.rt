@@ -5,9 +5,8 @@ ghost use Rattle.request_frames.specs.Answer.{Refuses};
 ghost use Rattle.serve.specs.Answers.{IsFrameOf, answer_frame, AnswersRelease, TellsOfFile, TellsVerb};
 ghost use Rattle.serve.specs.Answers.{TellsAnswer};
 
-use crate::libraries::Libraries;
 use file_session::Session;
-use indexed_file::Library;
+use growing_library::GrowingLibrary;
 use request_frames::{
     Answer, AnswerFrame, Description, Performance, Refusal, Request, put_answer, read_request,
 };
@@ -19,27 +18,23 @@ fn refuse(frame: &mut AnswerFrame, refusal: Refusal)
     put_answer(frame, &Answer::Refused(refusal));
 }
 
-/// Describes a file, over a library of its own.
-fn describe<M: Libraries>(
-    libraries: &M,
-    session: &mut Session<M::Library>,
+/// Describes a file.
+fn describe<L: GrowingLibrary + Drop>(
+    session: &mut Session<L>,
     description: &Description<'_>,
     frame: &mut AnswerFrame,
 )
-    ensures { TellsOfFile M.Library.shown (M.is_new libraries.now) description.now
+    ensures { TellsOfFile L.shown L.keeps_open description.now
         session.old session.new frame.new.items }
 {
-    let Some(library) = libraries.make() else {
-        return refuse(frame, Refusal::Memory);
-    };
-    match session.describe(description, library) {
+    match session.describe(description) {
         Ok(()) => put_answer(frame, &Answer::Done),
         Err(refusal) => refuse(frame, refusal),
     }
 }
 
 /// Performs a verb.
-fn perform<L: Library + Drop>(
+fn perform<L: GrowingLibrary + Drop>(
     session: &mut Session<L>,
     performance: &Performance<'_>,
     frame: &mut AnswerFrame,
@@ -59,28 +54,27 @@ fn perform<L: Library + Drop>(
 }
 
 /// Gives up a file.
-fn release<L: Library + Drop>(session: &mut Session<L>, number: u8, frame: &mut AnswerFrame)
-    ensures { IsFrameOf frame.new.items (λ told. AnswersRelease number session.old told session.new) }
+fn release<L: GrowingLibrary + Drop>(session: &mut Session<L>, number: u8, frame: &mut AnswerFrame)
+    ensures { IsFrameOf frame.new.items (λ told. AnswersRelease L.shown L.keeps_open number
+        session.old told session.new) }
 {
     match session.release(number) {
-        Ok(library) => drop(library),
-        Err(refusal) => return refuse(frame, refusal),
+        Ok(()) => put_answer(frame, &Answer::Done),
+        Err(refusal) => refuse(frame, refusal),
     }
-    put_answer(frame, &Answer::Done);
 }
 
 /// Does what the body of a frame asks for, and makes the frame of the answer.
-pub fn answer_request<M: Libraries>(
-    libraries: &M,
-    session: &mut Session<M::Library>,
+pub fn answer_request<L: GrowingLibrary + Drop>(
+    session: &mut Session<L>,
     body: &[u8],
     frame: &mut AnswerFrame,
 )
-    ensures { TellsAnswer M.Library.shown (M.is_new libraries.now) body.now
+    ensures { TellsAnswer L.shown L.keeps_open body.now
         session.old session.new frame.new.items }
 {
     match read_request(body) {
-        Some(Request::Describe(description)) => describe(libraries, session, &description, frame),
+        Some(Request::Describe(description)) => describe(session, &description, frame),
         Some(Request::Perform(performance)) => perform(session, &performance, frame),
         Some(Request::Release(number)) => release(session, number, frame),
         None => refuse(frame, Refusal::NoRequest),

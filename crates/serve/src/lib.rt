@@ -5,19 +5,20 @@
 //! end of the input the files that are still open are closed, in the order of opening. What is
 //! written is the frames of the answers, each what the definitions say of its request.
 //!
-//! At each moment a crash leaves no false file, as in the run of a deck.
+//! One library has all files of a session, through descriptions and releases. At each moment a crash
+//! leaves no false file, as in the run of a deck.
 //!
 //! Read `specs/Answers.antt`, `specs/Serving.antt`, then `held_answers`, and then `serving`;
-//! `specs/Books.antt` and `specs/NoFalseFile.antt` for what a crash may leave.
+//! `specs/Ledgers.antt` and `specs/NoFalseFile.antt` for what a crash may leave.
 #![tactic(auto)]
 
 mod answer_room;
 mod answering;
+mod end;
 mod fault;
 mod frame;
 mod held_answers;
 mod input;
-mod libraries;
 mod output;
 mod reads;
 mod serving;
@@ -25,8 +26,8 @@ mod whole_session;
 
 pub use answer_room::answer_into;
 pub use answering::answer_request;
+pub use end::SessionEnd;
 pub use fault::ServeFault;
 pub use input::{InputFailed, Next, read_frame};
-pub use libraries::Libraries;
 pub use serving::{close_all, serve};
-pub use whole_session::{no_false_file, no_false_file_in_requests};
+pub use whole_session::{exact_session, no_false_file, no_false_file_in_requests};

@@ -1,74 +1,71 @@
 //! The requests of a session, one after another.
-ghost use Rattle.std.specs.Prelude.{◌≡◌, [], List, Err};
-ghost use Rattle.io_state.specs.declared.status.Status.{Status as ToldStatus};
-ghost use Rattle.serve.specs.Serving.{ServesInput, ClosesAllFiles, ServesAll};
+ghost use Rattle.std.specs.Prelude.{◌≡◌, ◌≤◌, [], Err};
+ghost use Rattle.serve.specs.Serving.{ServesInput, ClosesAndCounts, ServesAll, failed_of};
 ghost use Rattle.serve.specs.Answering.{outgoing, AnswersRead, AnswersOther, AnswersOne, Finishes};
 ghost use Rattle.serve.specs.Answering.{RefusesLength};
 
 use crate::answering::answer_request;
+use crate::end::SessionEnd;
 use crate::fault::ServeFault;
 use crate::held_answers::{make_way, send_held};
 use crate::input::{Next, read_frame};
-use crate::libraries::Libraries;
 use crate::output::send_frames;
 use crate::reads::only_reads;
-use file_session::Session;
+use file_session::{FreePlaces, Session};
+use growing_library::GrowingLibrary;
 use held_text::{HeldText, Refused};
-use indexed_file::Library;
+use io_state::Status;
 use request_frames::{Answer, AnswerFrame, LENGTH_LIMIT, Refusal, put_answer};
 use standard_input::{ReadsAhead, StandardInput};
 use std::alloc::Global;
 use std::io::{Read, Write};
 
 /// Answers a request that only reads. The answer is held.
-fn answer_read<M: Libraries, W: Write>(
-    libraries: &M,
-    session: &mut Session<M::Library>,
+fn answer_read<L: GrowingLibrary + Drop, W: Write>(
+    session: &mut Session<L>,
     body: &[u8],
     held: &mut HeldText,
     out: &mut W,
 ) -> Result<(), Refused>
-    ensures { AnswersRead M.Library.shown (M.is_new libraries.now) W.contents body.now
+    ensures { AnswersRead L.shown L.keeps_open W.contents body.now
         session.old session.new held.old held.new out.old out.new result }
 {
     let mut answer = AnswerFrame::new();
-    answer_request(libraries, session, body, &mut answer);
+    answer_request(session, body, &mut answer);
     held.add(answer.as_slice(), out)
 }
 
 /// Answers another request. All that is held is handed to the writer before it is performed, and
 /// its own answer at once.
-fn answer_other<M: Libraries, W: Write>(
-    libraries: &M,
-    session: &mut Session<M::Library>,
+fn answer_other<L: GrowingLibrary + Drop, W: Write>(
+    session: &mut Session<L>,
     body: &[u8],
     held: &mut HeldText,
     out: &mut W,
 ) -> Result<(), Refused>
-    ensures { AnswersOther M.Library.shown (M.is_new libraries.now) W.contents body.now
+    ensures { AnswersOther L.shown L.keeps_open W.contents body.now
         session.old session.new held.old held.new out.old out.new result }
 {
     send_held(held, out)?;
     let mut frame = AnswerFrame::new();
-    answer_request(libraries, session, body, &mut frame);
+    answer_request(session, body, &mut frame);
     send_frames(out, frame.as_slice())
 }
 
 /// Answers a request.
-fn answer<M: Libraries, W: Write>(
-    libraries: &M,
-    session: &mut Session<M::Library>,
+fn answer<L: GrowingLibrary + Drop, W: Write>(
+    session: &mut Session<L>,
     body: &[u8],
     held: &mut HeldText,
     out: &mut W,
 ) -> Result<(), Refused>
-    ensures { AnswersOne M.Library.shown (M.is_new libraries.now) W.contents body.now
+    ensures { AnswersOne L.shown L.keeps_open W.contents body.now
         session.old session.new held.old held.new out.old out.new result }
 {
     if only_reads(body) {
-        answer_read(libraries, session, body, held, out)
+        answer_read(session, body, held, out)
     } else {
-        answer_other(libraries, session, body, held, out)
+        answer_other(session, body, held, out)
     }
 }
 
@@ -102,15 +99,14 @@ fn finish<W: Write>(
 }
 
 /// Answers requests until there is none. Before it waits for one, all that is held is handed to the writer.
-fn answer_all<M: Libraries, R: Read + ReadsAhead, W: Write>(
-    libraries: &M,
-    session: &mut Session<M::Library>,
+fn answer_all<L: GrowingLibrary + Drop, R: Read + ReadsAhead, W: Write>(
+    session: &mut Session<L>,
     input: &mut StandardInput<R>,
     held: &mut HeldText,
     out: &mut W,
 ) -> Result<(), ServeFault>
     requires none_held { held.old ≡ [] }
-    ensures { ServesInput M.Library.shown (M.is_new libraries.now) R.remaining W.contents
+    ensures { ServesInput L.shown L.keeps_open R.remaining W.contents
         input.old input.new out.old out.new session.old session.new result }
 {
     let mut buffer = [0; LENGTH_LIMIT];
@@ -124,48 +120,79 @@ fn answer_all<M: Libraries, R: Read + ReadsAhead, W: Write>(
             Ok(Next::End) => return finish(Ok(()), held, out),
             Err(_) => return finish(Err(ServeFault::Input), held, out),
         };
-        let Ok(()) = answer(libraries, session, &buffer[..size], held, out) else {
+        let Ok(()) = answer(session, &buffer[..size], held, out) else {
             return Err(ServeFault::Output);
         };
     }
     finish(Err(ServeFault::Input), held, out)
 }
 
-/// Closes the files that are open, in the order of opening.
-pub fn close_all<L: Library + Drop>(session: &mut Session<L>)
-    ensures none_open { session.new.opened ≡ [] }
-    ensures closed { (statuses : List ToldStatus) × ClosesAllFiles L.shown session.old statuses session.new }
+/// 1 for a close that failed: that was answered another status than 00.
+fn failed_in(closed: Option<Status>) -> usize
+    ensures told { result ≡ failed_of closed }
+    ensures one { result ≤ 1 }
 {
-    for _ in 0..session.open_count() {
-        let _ = session.close_first();
+    match closed {
+        None | Some(Status::Successful) => 0,
+        Some(_) => 1,
     }
 }
 
-/// Answers the requests of an input, and closes the files that are open then, in the order of
-/// opening. The answers to requests that only read are held while the next request has come, and
-/// all of them are written before a request is performed that may change a file.
+/// Closes the files that are open, in the order of opening. How many of the closes failed.
+pub fn close_all<L: GrowingLibrary + Drop>(session: &mut Session<L>) -> usize
+    ensures none_open { session.new.table.opened ≡ [] }
+    ensures closed { ClosesAndCounts L.shown session.old session.new result }
+{
+    let mut failed = 0;
+    for _ in 0..session.open_count() {
+        failed += failed_in(session.close_first());
+    }
+    failed
+}
+
+/// The end of a session that memory was refused for.
+fn refused<L: Drop>(library: L) -> SessionEnd<L>
+    ensures { result ≡ record { library = library; requests = Err ServeFault.Memory; unclosed = 0 } }
+{
+    SessionEnd {
+        library,
+        requests: Err(ServeFault::Memory),
+        unclosed: 0,
+    }
+}
+
+/// Answers the requests of an input over a library without units, and closes the files that are open
+/// then, in the order of opening. The answers to requests that only read are held while the next
+/// request has come, and all of them are written before a request is performed that may change a
+/// file. The library is given back, and it is told how many of the closes at the end failed.
 ///
 /// The input ends, or a length past the limit is refused, and nothing behind it is read. `Input`: a
 /// read failed, or 2^64 - 1 requests were answered. `Output`: the writer refused an answer.
 /// `Memory`: memory was wanted before the first request, and nothing was read or written.
-pub fn serve<M: Libraries, R: Read + ReadsAhead, W: Write>(
+pub fn serve<L: GrowingLibrary + Drop, R: Read + ReadsAhead, W: Write>(
     alloc: Global,
-    libraries: &M,
+    library: L,
     input: &mut StandardInput<R>,
     out: &mut W,
-) -> Result<(), ServeFault>
-    ensures served { ServesAll M.Library.shown (M.is_new libraries.now) R.remaining W.contents
-        input.old input.new out.old out.new result }
-    ensures memory { result ≡ Err ServeFault.Memory → (input.new ≡ input.old) × (out.new ≡ out.old) }
+) -> SessionEnd<L>
+    requires units { (L.shown.world library).units ≡ [] }
+    ensures served { ServesAll L.shown L.keeps_open R.remaining W.contents
+        input.old input.new out.old out.new library result }
+    ensures memory { result.requests ≡ Err ServeFault.Memory
+        → (input.new ≡ input.old) × (out.new ≡ out.old) × (result.library ≡ library) }
 {
-    let Ok(session) = Session::new(alloc) else {
-        return Err(ServeFault::Memory);
+    let Ok(places) = FreePlaces::new(alloc) else {
+        return refused(library);
     };
-    let Ok(held) = HeldText::new(alloc) else {
-        return Err(ServeFault::Memory);
+    let Ok(mut held) = HeldText::new(alloc) else {
+        return refused(library);
     };
-    let (mut session, mut held) = (session, held);
-    let end = answer_all(libraries, &mut session, input, &mut held, out);
-    close_all(&mut session);
-    end
+    let mut session = Session::new(alloc, library, places);
+    let requests = answer_all(&mut session, input, &mut held, out);
+    let unclosed = close_all(&mut session);
+    SessionEnd {
+        library: session.into_library(),
+        requests,
+        unclosed,
+    }
 }

@@ -1,20 +1,30 @@
 //! A whole session.
+ghost use Rattle.serve.specs.ExactSession.{ExactSession};
 ghost use Rattle.serve.specs.NoFalseFile.{NoFalseFileInSession, NoFalseFileInRequests};
 
-use crate::libraries::Libraries;
+use growing_library::GrowingLibrary;
 
-/// In every session, however it ended: from the description of a file to its release, or to the
-/// end, each image that a crash may leave of a name at any moment is one that the ledger of the
-/// name has. So it is in the run of a deck, and requests are in the place of statements. Where all
-/// images of a name really were absent, closed or refused in the library that was given for the
-/// file, all have been so since. What one library leaves, and another one finds, is not said.
-pub fn no_false_file<M: Libraries>(_libraries: &M)
-    ensures { NoFalseFileInSession M.Library.shown (M.is_new _libraries.now) }
+/// In every session, however it ended: from its first request to the end, each image that a crash
+/// may leave of a name at any moment is one that the ledger of the name has. So it is in the run of
+/// a deck, and requests are in the place of statements. One library has all files, through
+/// descriptions and releases, so the only premises are those at the start. Where all images of a
+/// name really were absent, closed or refused then, all have been so since.
+pub fn no_false_file<L: GrowingLibrary + Drop>()
+    ensures { NoFalseFileInSession L.shown L.keeps_open }
 {}
 
 /// The same of requests that come one at a time, by whatever way: before the first one, and behind
 /// each that is answered as `answer_request` does it, the session has had no false file, and has
 /// none while its open files are closed as by `close_all`.
-pub fn no_false_file_in_requests<M: Libraries>(_libraries: &M)
-    ensures { NoFalseFileInRequests M.Library.shown (M.is_new _libraries.now) }
+pub fn no_false_file_in_requests<L: GrowingLibrary + Drop>()
+    ensures { NoFalseFileInRequests L.shown L.keeps_open }
+{}
+
+/// A session whose answers tell of no fault (no verb is answered 24, 30, 90 or 92, only OPEN is
+/// answered 91, and no description was refused for want of memory) has answered exactly what the
+/// definitions give for its requests in order, from the files that its library had first, through
+/// descriptions and releases, and its library has the files that they leave. The library has not lied
+/// by then, and what it showed at first of the names that are described was true.
+pub fn exact_session<L: GrowingLibrary + Drop>()
+    ensures { ExactSession L.shown L.keeps_open }
 {}

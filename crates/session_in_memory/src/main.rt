@@ -7,30 +7,33 @@
 //! deleted; among these are frames that are no requests. After CLOSE WITH LOCK it is released, and
 //! another one is left open at the end. `cases/sessions.py` has the same requests, over a folder.
 //!
-//! Each described file has a shelf of its own. So a file that is released is gone.
+//! One library has all files of the session, over a shelf in memory. A file that is released stays
+//! there.
 #![tactic(auto)]
 
-mod memory_libraries;
-
-use memory_libraries::MemoryLibraries;
+use memory_shelf::MemShelf;
 use serve::serve;
+use shelf_library::ShelfLibrary;
 use standard_input::StandardInput;
 use std::io::{BufReader, Stdin, Stdout};
+use std::num::NonZeroUsize;
 use std::process::ExitCode;
 
+/// The most pages that a file has.
+const PAGE_LIMIT: u32 = 1024;
+
 fn main(rt: HostRuntime) -> ExitCode {
-    let libraries = MemoryLibraries::new(rt.alloc());
-    let Ok(reader) = BufReader::new(rt.alloc(), rt.stdin()) else {
+    let alloc = rt.alloc();
+    let Ok(reader) = BufReader::new(alloc, rt.stdin()) else {
         return ExitCode::FAILURE;
     };
     let (mut input, mut out) = (StandardInput::new(reader), rt.stdout());
-    match serve::<MemoryLibraries, BufReader<Stdin>, Stdout>(
-        rt.alloc(),
-        &libraries,
-        &mut input,
-        &mut out,
-    ) {
-        Ok(()) => ExitCode::SUCCESS,
-        Err(_) => ExitCode::FAILURE,
+    let library = ShelfLibrary::new(alloc, MemShelf::new(alloc), PAGE_LIMIT, NonZeroUsize::MIN);
+    let end = serve::<ShelfLibrary<MemShelf>, BufReader<Stdin>, Stdout>(
+        alloc, library, &mut input, &mut out,
+    );
+    match end.requests {
+        Ok(()) if end.unclosed == 0 => ExitCode::SUCCESS,
+        _ => ExitCode::FAILURE,
     }
 }

@@ -12,5 +12,5 @@ returns g c =
       frame = c.put_first.ensures.put ∙ ap (λ (bytes : List ℕ). bytes ++ drop (length bytes) c.args.room.now) is;
       count_is = c.len.ensures.value ∙ ap length had.1;
       no_false_file =
-          λ exchanges before. c.no_false_file_in_requests.ensures.next exchanges (exchange c.args.body.now had.0) c.args.session.now c.answer_request.new.session before had.2;
+          λ start exchanges before. c.no_false_file_in_requests.ensures.next start exchanges (exchange c.args.body.now had.0) c.args.session.now c.answer_request.new.session before had.2;
     }

@@ -10,5 +10,5 @@ returns-in-None g c =
     let is = c.in-None.ensures in (
       Refuses NoRequest,
       c.refuse.ensures,
-      subst (λ (asked : Option Asked). AnswersRequest g.M.Library.Library.shown (g.M.Libraries.is_new c.args.libraries.now) asked c.args.session.now (Refuses NoRequest) c.args.session.now) is (refl, refl),
+      subst (λ (asked : Option Asked). AnswersRequest g.L.Library.shown g.L.GrowingLibrary.keeps_open asked c.args.session.now (Refuses NoRequest) c.args.session.now) is (refl, refl),
     )

@@ -2,27 +2,25 @@ use Rattle.std.proofs.Common.{rules, sym, ap, ◌∙◌, subst, [], false, lengt
 use Rattle.io_state.specs.declared.statement.FileStatement.TheVariants.{Close}
 use Rattle.verbs.specs.Held.{silent}
 use Rattle.verbs.specs.Performed.{IsPerformed, in_memory}
-use Rattle.file_session.specs.Files.{NumberedFile}
+use Rattle.file_session.specs.Files.{NumberedFile, memory_of}
 use Rattle.file_session.specs.Fields.{numbered_file}
 use Rattle.file_session.specs.Steps.{with_bytes}
 use Rattle.file_session.proofs.described_file.DescribedFile.close.Goals as goal
 
 pub returns-clause-closes : goal.returns-clause-closes
 returns-clause-closes g c = record {
-  performed = subst (λ (file : NumberedFile _). IsPerformed g.L.Library.shown 0 (Close false) 0 (with_bytes [] file.memory) (silent c.close.result)
+  performed = subst (λ (file : NumberedFile). IsPerformed g.L.Library.shown file.unit (Close false) 0 (with_bytes [] (memory_of c.args.library.now file)) (silent c.close.result)
       (in_memory c.close.new.self c.close.new.lib c.self.inside.area.items))
       {x = numbered_file c.self.inside} {y = c.args.self.now} (search rules) (c.close.ensures.performed 0 c.self.inside.area.items);
   name = search rules;
+  unit = search rules;
 }
 
 pub invariant_of-self : goal.invariant_of-self
 invariant_of-self g c =
     let performed = c.close.ensures.performed 0 c.self.inside.area.items in
     record {
-      file = record {
-        fits = performed.fits;
-        area = c.self.invariant.file.area ∙ ap (λ schema. schema.greatest) (sym performed.schema);
-        short = c.self.invariant.file.short;
-      };
       keys = c.self.invariant.keys ∙ ap (λ schema. length schema.keys) (sym performed.schema);
+      area = c.self.invariant.area ∙ ap (λ schema. schema.greatest) (sym performed.schema);
+      short = c.self.invariant.short;
     }

@@ -1,12 +1,12 @@
-use Rattle.std.proofs.Common.{◌≡◌, ℕ, Bool, true, false, List, Option, Some, None, refl, cond, rules, arith, subst}
+use Rattle.std.proofs.Common.{◌≡◌, ℕ, Bool, true, false, List, Option, Some, None, refl, sym, ap, ◌∙◌, cond, rules, arith, subst}
 use Rattle.std.specs.Option.{option_map}
 use Rattle.arrayvec.specs.ArrayString.{ArrayString}
 use Rattle.io_state.specs.FileName.{is_file_name}
 use Rattle.std.proofs.lemmas.Grind.{common_steps}
 use Rattle.request_frames.specs.Request.{described_of}
-use Rattle.file_session.specs.Files.{Files}
-use Rattle.file_session.specs.Steps.{Describes}
-use Rattle.file_session.proofs.CallLemmas.{describe_keeps, describe_describes, changed_to}
+use Rattle.file_session.specs.Files.{FileTable, is_free_number}
+use Rattle.file_session.specs.Steps.{CanBeDescribed, IsShutUnit}
+use Rattle.file_session.proofs.SessionLemmas.{describe_named}
 use Rattle.file_session.proofs.session.Session.describe.Goals as goal
 
 -- a name that was made of a text is the name of a file
@@ -16,17 +16,15 @@ name_made false text made name e is = absurd (cc)
 
 pub invariant_of-self : goal.invariant_of-self
 invariant_of-self g c =
-    describe_keeps g.L.Library.shown (described_of c.args.description.now) c.args.library (record { places = c.self.inside.files.items; opened = c.self.inside.order })
-    c.from.result c.in-Some.file c.put.new.place c.self.invariant (search rules) (search rules) (search rules) (search rules) (search rules)
-
-pub returns-clause-described : goal.returns-clause-described
-returns-clause-described g c =
-    subst (λ (files : Files _). Describes g.L.Library.shown (described_of c.args.description.now) c.args.library files
-    (changed_to (record { places = c.self.inside.files.items; opened = c.self.inside.order }) c.from.result c.put.new.place c.self.inside.order))
-    {x = record { places = c.self.inside.files.items; opened = c.self.inside.order }} {y = c.args.self.now} (search rules)
-    (describe_describes g.L.Library.shown (described_of c.args.description.now) c.args.library (record { places = c.self.inside.files.items; opened = c.self.inside.order })
-    c.from.result c.in-Some.file c.put.new.place (search rules) (record {
+    let table : FileTable = record { places = c.self-2.inside.files.items; opened = c.self-2.inside.order } in
+    let same : c.args.self.now.table ≡ table = first_of (search rules, grind (arith, common_steps)) in
+    let allowed : CanBeDescribed c.args.self.now.table (described_of c.args.description.now) = record {
       free = first_of (search rules, grind (arith, common_steps));
       file = record { schema = first_of (search rules, grind (arith, common_steps)); name = name_made (is_file_name c.args.description.now.name.now) c.args.description.now.name.now c.file_name_of.result c.in-Some-Some.name c.file_name_of.ensures c.in-Some-Some.is-1 };
       name = first_of (search rules, grind (arith, common_steps));
-    }) (search rules) (search rules))
+    } in
+    let there : CanBeDescribed table (described_of c.args.description.now) = subst (λ (t : FileTable). CanBeDescribed t (described_of c.args.description.now)) same allowed in
+    let gives = c.in-Some.ensures.gives in
+    let unit : IsShutUnit (g.L.Library.shown.world c.self-2.inside.library) c.in-Some.unit c.args.description.now.name.now = first_of (search rules, grind (arith, common_steps)) in
+    describe_named g.L.Library.shown table c.self-2.inside.library c.self-2.inside.names.items c.self-2.invariant (described_of c.args.description.now) c.in-Some.unit c.from.result c.put.new.place
+    (search rules) there.free there unit (c.put.ensures ∙ ap Some c.described_file-file.ensures)
