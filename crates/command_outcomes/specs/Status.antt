@@ -17,12 +17,16 @@ use Rattle.command_outcomes.specs.declared.fault.Fault.{Fault}
 use Rattle.command_outcomes.specs.declared.fault.Fault.TheVariants.{Deck, NotListed, NoSuchFile}
 use Rattle.command_outcomes.specs.declared.fault.Fault.TheVariants.{Form as NoForm, Unexplained, LongValue}
 use Rattle.command_outcomes.specs.declared.fault.Fault.TheVariants.{Usage, Input, Output, Memory}
+use Rattle.command_outcomes.specs.declared.outcome.WorstCheck.{WorstCheck}
+use Rattle.command_outcomes.specs.declared.outcome.WorstCheck.TheVariants.{AllSound}
+use Rattle.command_outcomes.specs.declared.outcome.WorstCheck.TheVariants.{Unsound as SomeUnsound}
+use Rattle.command_outcomes.specs.declared.outcome.WorstCheck.TheVariants.{Unread as SomeUnread}
 use Rattle.command_outcomes.specs.declared.outcome.Outcome.{Outcome}
 use Rattle.command_outcomes.specs.declared.outcome.Outcome.TheVariants.{Helped, Checked, Ended, Served}
 use Rattle.command_outcomes.specs.declared.outcome.Outcome.TheVariants.{SchemaTold, SchemaCompared}
 use Rattle.command_outcomes.specs.declared.outcome.Outcome.TheVariants.{SchemaRefused, Explained, Listed}
 use Rattle.command_outcomes.specs.declared.outcome.Outcome.TheVariants.{CheckedAll, Records, InCobol, Loaded}
-use Rattle.command_outcomes.specs.declared.outcome.Outcome.TheVariants.{Counted}
+use Rattle.command_outcomes.specs.declared.outcome.Outcome.TheVariants.{Counted, OtherSchema}
 
 -- the exit status that tells a fault
 abbrev pub status_of : Fault → ℕ
@@ -48,7 +52,13 @@ status_of_list RecordsListed = 0
 status_of_list NoKey = 1
 status_of_list (NoFile reason) = 1
 
--- the exit status that tells whether all files are sound, or all lines loaded
+-- the exit status that tells what is worst of several files: that one cannot be read
+abbrev pub status_of_worst : WorstCheck → ℕ
+status_of_worst AllSound = 0
+status_of_worst SomeUnsound = 1
+status_of_worst SomeUnread = 4
+
+-- the exit status that tells whether all lines were loaded
 abbrev pub status_where : Bool → ℕ
 status_where true = 0
 status_where false = 1
@@ -81,8 +91,9 @@ status_for (SchemaCompared told) = status_of_comparison told
 status_for (SchemaRefused refusal) = 1
 status_for Explained = 0
 status_for Listed = 0
-status_for (CheckedAll sound) = status_where sound
+status_for (CheckedAll worst) = status_of_worst worst
 status_for (Records list) = status_of_list list
+status_for OtherSchema = 1
 status_for InCobol = 0
 status_for (Loaded end) = status_of_load end
 status_for (Counted end) = status_of_count end

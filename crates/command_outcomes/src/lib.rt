@@ -13,4 +13,4 @@ mod outcome;
 
 pub use fault::{Fault, RefusedDeck};
 pub use form_fault::FormFault;
-pub use outcome::{Outcome, report};
+pub use outcome::{Outcome, WorstCheck, report};

@@ -2,6 +2,7 @@
 ghost use Rattle.std.specs.Prelude.{◌≡◌};
 ghost use Rattle.command_outcomes.specs.Status.{status_by, status_of_list, status_of_load, status_of_count};
 ghost use Rattle.command_outcomes.specs.Status.{status_of_comparison, status_where, status_for, exit_status};
+ghost use Rattle.command_outcomes.specs.Status.{status_of_worst};
 
 use crate::fault::Fault;
 use deck_runner::RunEnd;
@@ -14,6 +15,17 @@ use schema_listing::{Comparison, Refusal};
 use shelf_loading::{ShelfEnd, is_loaded};
 use std::io::{self, Write};
 
+/// What is worst of several files that were checked.
+#[derive(Clone, Copy, Debug, PartialEq, Eq)]
+pub enum WorstCheck {
+    /// All of them are sound.
+    AllSound,
+    /// All were read, and one is not sound.
+    Unsound,
+    /// One cannot be read.
+    Unread,
+}
+
 /// What was done, whole.
 #[derive(Clone, Copy, Debug, PartialEq, Eq)]
 pub enum Outcome {
@@ -21,8 +33,8 @@ pub enum Outcome {
     Helped,
     /// A file was checked, and this verdict written.
     Checked(Verdict),
-    /// Files were checked, and their verdicts written: whether all of them are sound.
-    CheckedAll(bool),
+    /// Files were checked, and a line of each was written: what was worst.
+    CheckedAll(WorstCheck),
     /// A run ended.
     Ended(RunEnd),
     /// Requests were answered to the end of the input.
@@ -39,6 +51,9 @@ pub enum Outcome {
     Listed,
     /// The records of a file were listed, or it was found why not.
     Records(FileList),
+    /// The records of a file were not listed, since it is of another schema than the file of the
+    /// deck that the columns are those of: their differences were written.
+    OtherSchema,
     /// A deck was written as a COBOL program.
     InCobol,
     /// A text was loaded into a file, up to this end.
@@ -87,11 +102,22 @@ pub fn status_by_count(end: FileStatisticsEnd) -> u8
     }
 }
 
-/// The exit status that tells whether all files are sound, or all lines loaded.
-pub fn status_if_all(sound: bool) -> u8
-    ensures { result ≡ status_where sound }
+/// The exit status that tells whether all lines were loaded.
+pub fn status_if_all(loaded: bool) -> u8
+    ensures { result ≡ status_where loaded }
 {
-    if sound { 0 } else { 1 }
+    if loaded { 0 } else { 1 }
+}
+
+/// The exit status that tells what is worst of several files.
+pub fn status_by_worst(worst: WorstCheck) -> u8
+    ensures { result ≡ status_of_worst worst }
+{
+    match worst {
+        WorstCheck::AllSound => 0,
+        WorstCheck::Unsound => 1,
+        WorstCheck::Unread => 4,
+    }
 }
 
 /// Tells why the records of a file were not listed, if they were not.
@@ -125,8 +151,8 @@ pub fn status_by_verdict(verdict: Verdict) -> u8
 }
 
 impl Outcome {
-    /// Tells why a file has no schema or no list, or was not made, on standard error, as far as
-    /// that takes it, and answers the exit status.
+    /// Tells why a file has no schema or no list, was not made, or was not read, on standard error,
+    /// as far as that takes it, and answers the exit status.
     fn report<E: Write>(self, err: &mut E) -> u8
         ensures { result ≡ status_for self }
     {
@@ -138,6 +164,9 @@ impl Outcome {
         }
         if let Outcome::Counted(FileStatisticsEnd::Unsound(reason, place)) = self {
             let _ = tell_reason(reason, place, err);
+        }
+        if let Outcome::CheckedAll(WorstCheck::Unread) = self {
+            let _ = writeln!(err, "{}", Fault::Input);
         }
         if let Outcome::Loaded(ShelfEnd::IsThere) = self {
             let _ = writeln!(err, "cobix: the file is there already");
@@ -152,13 +181,13 @@ impl Outcome {
             Outcome::Helped | Outcome::Ended(_) | Outcome::Served => 0,
             Outcome::SchemaTold => 0,
             Outcome::SchemaCompared(told) => status_by_comparison(told),
-            Outcome::SchemaRefused(_) => 1,
+            Outcome::SchemaRefused(_) | Outcome::OtherSchema => 1,
             Outcome::Explained | Outcome::Listed | Outcome::InCobol => 0,
             Outcome::Records(list) => status_by_list(list),
             Outcome::Loaded(end) => status_by_load(end),
             Outcome::Counted(end) => status_by_count(end),
             Outcome::Checked(verdict) => status_by_verdict(verdict),
-            Outcome::CheckedAll(sound) => status_if_all(sound),
+            Outcome::CheckedAll(worst) => status_by_worst(worst),
         }
     }
 }

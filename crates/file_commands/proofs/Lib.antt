@@ -4,3 +4,4 @@ pub mod DeckLemmas
 pub mod CutLemmas
 pub mod FormLemmas
 pub mod ListLemmas
+pub mod VerdictLemmas

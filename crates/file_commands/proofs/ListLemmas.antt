@@ -2,10 +2,7 @@
 use Rattle.std.proofs.Common.{◌≡◌, ℕ, List, Result, Ok, Err, IfOk, IfErr, refl, ap, subst}
 use Rattle.command_outcomes.specs.Status.{status_of}
 use Rattle.file_commands.specs.Listed.{IsListFault, TellsDeck, IsDeckRefused}
-use Rattle.file_listing.specs.declared.listing.FileList.{FileList}
-use Rattle.record_listing.specs.declared.end.ListFault.{ListFault}
 use Rattle.command_outcomes.specs.declared.outcome.Outcome.{Outcome}
-use Rattle.command_outcomes.specs.declared.outcome.Outcome.TheVariants.{Records}
 use Rattle.command_outcomes.specs.declared.fault.Fault.{Fault}
 use Rattle.command_outcomes.specs.declared.fault.RefusedDeck.{RefusedDeck}
 use Rattle.command_outcomes.specs.declared.fault.Fault.TheVariants.{NotListed, Input, Output, Memory}
@@ -36,16 +33,6 @@ if_ok (Err fault) so known = tt
 pub if_ok_of : {A B : Outcome → Type 0} (result : Result Outcome Fault) → ((outcome : Outcome) → A outcome → B outcome) → IfOk result A → IfOk result B
 if_ok_of (Ok done) so known = so done known
 if_ok_of (Err fault) so known = tt
-
--- what became of the list of a file, by how it ended
-module _ {P : FileList → Type 0} where
-  pub listed_as : (end : Result FileList ListFault) (result : Result Outcome Fault) → ((list : FileList) → end ≡ Ok list → P list)
-      → IfOk result (λ outcome. IfOk end (λ list. outcome ≡ Records list)) → IfErr end (λ _. IfOk result (λ _. ⊥))
-      → IfOk result (λ outcome. (list : FileList) × (outcome ≡ Records list) × P list)
-  listed_as (Ok list) (Ok outcome) known done there = (list, done, known list refl)
-  listed_as (Ok list) (Err fault) known done there = tt
-  listed_as (Err why) (Ok outcome) known done there = absurd there
-  listed_as (Err why) (Err fault) known done there = tt
 
 -- what becomes of a deck: it was not read, it is refused, or its text was written or not
 module _ {W : Type 0} {IsRead IsWritten : List ℕ → Type 0} {told : Outcome} {old : W} where

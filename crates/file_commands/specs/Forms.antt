@@ -1,8 +1,8 @@
 -- The form that a list is asked for in, and its columns. All of this is ours.
 use Rattle.std.specs.Prelude.{◌≡◌, ◌≢◌, ◌⊎◌, ℕ, true, List, [], ◌∷◌, map, Option, Some, None, IsSome, codes}
 use Rattle.std.specs.Prelude.{⊤, ◌++◌, Result, Err, IfOk, IfErr}
-use Rattle.std.specs.Global.{Vec}
 use Rattle.clap.specs.Words.{Text as Word}
+use Rattle.record_layout.specs.Schema.{Schema}
 use Rattle.file_control.specs.Description.{FileDesc}
 use Rattle.record_forms.specs.declared.column.Column.{Column}
 use Rattle.record_forms.specs.declared.form.Form.{Form}
@@ -10,6 +10,8 @@ use Rattle.record_forms.specs.declared.form.Form.TheVariants.{Text, Csv, Json}
 use Rattle.record_forms.specs.Parts.{part_of_column, do_rise, cut_parts, item_parts, whole_part}
 use Rattle.command_words.specs.Asks.{FormText, IsNumber, form_text}
 use Rattle.command_words.specs.declared.form_words.FormWords.{FormWords}
+use Rattle.file_commands.specs.declared.forms.Columns.{Columns}
+use Rattle.file_commands.specs.declared.forms.ListForm.{ListForm}
 use Rattle.file_commands.specs.Cuts.{AreCuts}
 use Rattle.file_commands.specs.Front.{IsDeckNamed}
 use Rattle.file_commands.specs.DeckFile.{IsOfDeck, IsHalf, IsDeckAsked}
@@ -26,33 +28,37 @@ abbrev pub IsCutInto : Word → List Column → Type 0
 IsCutInto text columns = (cuts : List ℕ) × AreCuts text cuts × (do_rise 0 cuts ≡ true)
     × (map part_of_column columns ≡ cut_parts 1 0 cuts)
 
--- the columns are the elementary items of the record of the file of this name in a deck
-abbrev pub AreItemsOf : (IsRead : List ℕ → Type 0) → (name : Word) → List Column → Type 0
-AreItemsOf IsRead name columns = (file : FileDesc) × IsOfDeck IsRead name file
-    × (map part_of_column columns ≡ item_parts file.layout)
+-- the columns are the elementary items of the record of the file of this name in a deck, and this is
+-- its schema
+abbrev pub AreItemsOf : (IsRead : List ℕ → Type 0) → (name : Word) → List Column → Option Schema → Type 0
+AreItemsOf IsRead name columns schema = (file : FileDesc) × IsOfDeck IsRead name file
+    × (map part_of_column columns ≡ item_parts file.layout) × (schema ≡ Some file.schema)
 
--- the columns are those that are asked for: by cuts, by a deck and the name of a file in it, or by nothing
+-- the columns are those that are asked for: by cuts, by a deck and the name of a file in it, which
+-- has this schema, or by nothing
 abbrev pub AreColumns : (IsRead : Word → List ℕ → Type 0) → (cut deck name : Option Word) → List Column
-    → Type 0
-AreColumns IsRead None None None columns = map part_of_column columns ≡ whole_part ∷ []
-AreColumns IsRead (Some text) None None columns = IsCutInto text columns
-AreColumns IsRead None (Some deck) (Some name) columns = AreItemsOf (IsRead deck) name columns
-AreColumns IsRead None None (Some name) columns = ⊥
-AreColumns IsRead None (Some deck) None columns = ⊥
-AreColumns IsRead (Some text) None (Some name) columns = ⊥
-AreColumns IsRead (Some text) (Some deck) name columns = ⊥
+    → Option Schema → Type 0
+AreColumns IsRead None None None columns schema =
+    (map part_of_column columns ≡ whole_part ∷ []) × (schema ≡ None)
+AreColumns IsRead (Some text) None None columns schema = IsCutInto text columns × (schema ≡ None)
+AreColumns IsRead None (Some deck) (Some name) columns schema = AreItemsOf (IsRead deck) name columns schema
+AreColumns IsRead None None (Some name) columns schema = ⊥
+AreColumns IsRead None (Some deck) None columns schema = ⊥
+AreColumns IsRead (Some text) None (Some name) columns schema = ⊥
+AreColumns IsRead (Some text) (Some deck) name columns schema = ⊥
 
 -- no columns are asked for
 abbrev pub HasNoColumns : FormText → Type 0
 HasNoColumns asked = (asked.cut ≡ None) × (asked.deck ≡ None) × (asked.name ≡ None)
 
--- the form is the one that is asked for, with its columns: text has none
-abbrev pub IsFormAsked : (IsRead : Word → List ℕ → Type 0) → FormText → Form → Type 0
-IsFormAsked IsRead asked Text = (asked.kind ≡ codes "text") × HasNoColumns asked
-IsFormAsked IsRead asked (Csv columns) = (asked.kind ≡ codes "csv")
-    × AreColumns IsRead asked.cut asked.deck asked.name columns.items
-IsFormAsked IsRead asked (Json columns) = (asked.kind ≡ codes "json")
-    × AreColumns IsRead asked.cut asked.deck asked.name columns.items
+-- the form is the one that is asked for, with its columns: text has none. Where they are those of a
+-- file of a deck, this is its schema
+abbrev pub IsFormAsked : (IsRead : Word → List ℕ → Type 0) → FormText → Form → Option Schema → Type 0
+IsFormAsked IsRead asked Text schema = (asked.kind ≡ codes "text") × HasNoColumns asked × (schema ≡ None)
+IsFormAsked IsRead asked (Csv columns) schema = (asked.kind ≡ codes "csv")
+    × AreColumns IsRead asked.cut asked.deck asked.name columns.items schema
+IsFormAsked IsRead asked (Json columns) schema = (asked.kind ≡ codes "json")
+    × AreColumns IsRead asked.cut asked.deck asked.name columns.items schema
 
 -- the texts of a form have this fault
 abbrev pub HasFormFault : FormText → FormFault → Type 0
@@ -80,8 +86,13 @@ abbrev pub IsListRefused : FormText → Fault → Type 0
 IsListRefused asked fault = (fault ≡ LongValue) ⊎ IsFormRefused asked fault
 
 -- the columns are those that the words of a form ask for
-abbrev pub AreColumnsAsked : (IsRead : Word → List ℕ → Type 0) → FormText → Vec Column → Type 0
-AreColumnsAsked IsRead asked columns = AreColumns IsRead asked.cut asked.deck asked.name columns.items
+abbrev pub AreColumnsAsked : (IsRead : Word → List ℕ → Type 0) → FormText → Columns → Type 0
+AreColumnsAsked IsRead asked told =
+    AreColumns IsRead asked.cut asked.deck asked.name told.columns.items told.schema
+
+-- so a form with its columns
+abbrev pub IsFormTold : (IsRead : Word → List ℕ → Type 0) → FormText → ListForm → Type 0
+IsFormTold IsRead asked told = IsFormAsked IsRead asked told.form told.schema
 
 -- no cuts, or want of memory
 abbrev pub IsCutFault : Fault → Type 0
@@ -119,6 +130,14 @@ pub record ComesOfForm {X : Type 0} (IsSo : FormText → X → Type 0) (asked : 
 -- the columns are the elementary items of the record of the file of this name in the deck of a path,
 -- or of the input where the path is a hyphen
 abbrev pub AreItemsAt : {F I : Type 0} → (F → Option (List ℕ)) → (I → Option (List ℕ)) → I
-    → (path name : Word) → Vec Column → Type 0
-AreItemsAt remaining left input path name columns =
-    AreItemsOf (IsDeckNamed remaining (left input) path) name columns.items
+    → (path name : Word) → Columns → Type 0
+AreItemsAt remaining left input path name told =
+    AreItemsOf (IsDeckNamed remaining (left input) path) name told.columns.items told.schema
+
+-- the record as one column, which is that of no deck
+abbrev pub IsWholeRecord : Columns → Type 0
+IsWholeRecord told = (map part_of_column told.columns.items ≡ whole_part ∷ []) × (told.schema ≡ None)
+
+-- the columns between the cuts of a text, which are those of no deck
+abbrev pub AreBetweenCuts : (text : Word) → Columns → Type 0
+AreBetweenCuts text told = IsCutInto text told.columns.items × (told.schema ≡ None)

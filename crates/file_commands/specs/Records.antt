@@ -1,6 +1,12 @@
 -- What is listed of the records of a file. All of this is ours.
-use Rattle.std.specs.Prelude.{◌≡◌, ◌≢◌, ℕ, List, [], Option, option_map, Result, IfOk, IfErr}
+use Rattle.std.specs.Prelude.{◌≡◌, ◌≢◌, ℕ, Bool, true, false, List, [], Option, Some, None, option_map}
+use Rattle.std.specs.Prelude.{Result, Ok, IfOk, IfErr, ⊤}
 use Rattle.std.specs.Option.{unwrap_or}
+use Rattle.record_layout.specs.Schema.{Schema}
+use Rattle.file_header.specs.declared.header.Header.{Header}
+use Rattle.schema_listing.specs.Listing.{read_of_file}
+use Rattle.schema_listing.specs.Comparing.{comparison_of, TellsDifferences}
+use Rattle.schema_listing.specs.declared.comparing.Comparison.TheVariants.{Same, Different}
 use Rattle.record_listing.specs.declared.asked.Asked.{Asked}
 use Rattle.record_forms.specs.declared.form.Form.{Form}
 use Rattle.file_listing.specs.Listing.{EndsWithIn}
@@ -11,11 +17,11 @@ use Rattle.command_outcomes.specs.declared.fault.Fault.{Fault}
 use Rattle.command_outcomes.specs.declared.fault.Fault.TheVariants.{LongValue}
 use Rattle.command_words.specs.Asks.{FormText, form_text}
 use Rattle.command_words.specs.declared.form_words.FormWords.{FormWords}
-use Rattle.file_commands.specs.Front.{IsDeckNamed, OfWholeFile, word_in}
+use Rattle.file_commands.specs.Front.{IsDeckNamed, OfCountedFile, word_in}
 use Rattle.file_commands.specs.Forms.{IsFormAsked, IsListRefused}
 use Rattle.file_commands.specs.declared.listing.Bounds.{Bounds}
 use Rattle.command_outcomes.specs.declared.outcome.Outcome.{Outcome}
-use Rattle.command_outcomes.specs.declared.outcome.Outcome.TheVariants.{Records}
+use Rattle.command_outcomes.specs.declared.outcome.Outcome.TheVariants.{Records, OtherSchema}
 
 -- this is asked for by the number of a key, the first and the last value, and how many records at most
 pub record IsAskedFor (key : ℕ) (from to : Option (List ℕ)) (first : ℕ) (asked : Asked) : Type 0 where
@@ -34,15 +40,40 @@ ListsRecords form bytes key from to first before behind list =
 abbrev pub IsAskedBy : Bounds → Asked → Type 0
 IsAskedBy bounds asked = IsAskedFor bounds.key (word_in bounds.from) (word_in bounds.to) bounds.first asked
 
+-- OPEN would find a file of these bytes to be of the schema of a deck, where there is one
+abbrev pub AgreesWith : Option Schema → List ℕ → Type 0
+AgreesWith None bytes = ⊤
+AgreesWith (Some deck) bytes =
+    (header : Header) → read_of_file bytes ≡ Ok header → comparison_of header.schema deck ≡ Same
+
+-- it would not, and the differences were written
+abbrev pub WritesOther : Option Schema → List ℕ → (before behind : Option (List ℕ)) → Type 0
+WritesOther None bytes before behind = ⊥
+WritesOther (Some deck) bytes before behind =
+    TellsDifferences deck before behind (read_of_file bytes) (Ok Different)
+
 -- the records of a file were listed as these words ask for it, in the form that is asked for, and this
--- is how the list ended
+-- is how the list ended; or the file is of another schema than the deck whose columns are asked for
 abbrev pub ListsAsked : {F I W : Type 0} → (F → Option (List ℕ)) → (I → Option (List ℕ)) → I → Bounds
     → FormText → (W → Option (List ℕ)) → (old new : W) → Outcome → Type 0
-ListsAsked remaining left input bounds asked contents old new outcome =
-    (list : FileList) × (outcome ≡ Records list)
-    × ((form : Form) × IsFormAsked (IsDeckNamed remaining (left input)) asked form
-    × OfWholeFile remaining (λ bytes. ListsRecords form bytes bounds.key (word_in bounds.from)
-    (word_in bounds.to) bounds.first (contents old) (contents new) list))
+ListsAsked remaining left input bounds asked contents old new (Records list) =
+    (form : Form) × (schema : Option Schema)
+    × IsFormAsked (IsDeckNamed remaining (left input)) asked form schema
+    × OfCountedFile remaining (λ bytes. AgreesWith schema bytes
+    × ListsRecords form bytes bounds.key (word_in bounds.from)
+    (word_in bounds.to) bounds.first (contents old) (contents new) list)
+ListsAsked remaining left input bounds asked contents old new OtherSchema =
+    (form : Form) × (schema : Option Schema)
+    × IsFormAsked (IsDeckNamed remaining (left input)) asked form schema
+    × OfCountedFile remaining (λ bytes. WritesOther schema bytes (contents old) (contents new))
+ListsAsked remaining left input bounds asked contents old new outcome = ⊥
+
+-- whether a file of these bytes is of another schema than that of a deck, if there is one: the
+-- differences are written then, and nothing otherwise
+abbrev pub TellsOther : {W : Type 0} → Option Schema → List ℕ → (W → Option (List ℕ)) → (old new : W)
+    → Bool → Type 0
+TellsOther schema bytes contents old new true = WritesOther schema bytes (contents old) (contents new)
+TellsOther schema bytes contents old new false = AgreesWith schema bytes × (new ≡ old)
 
 -- a value that is so; or a text is too long for one
 pub record FitsValue {X : Type 0} (IsSo : X → Type 0) (result : Result X Fault) : Type 0 where

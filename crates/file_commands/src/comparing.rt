@@ -3,8 +3,8 @@ ghost use Rattle.file_commands.specs.Schema.{ComparesWithReader, ComparesFile, I
 ghost use Rattle.file_commands.specs.Schema.{ComparesPaths};
 
 use crate::deck::{deck_at, file_in};
-use crate::file_bytes::open_shared;
 use crate::first_page::fault_of;
+use crate::opening;
 use command_outcomes::{Fault, Outcome};
 use record_layout::Schema;
 use schema_listing::compare_schema;
@@ -44,7 +44,7 @@ where
     ensures { ComesOfFile IsOfComparison
         (ComparesFile R.File.remaining deck.now W.contents out.old out.new) result }
 {
-    let file = open_shared(rt, path)?;
+    let file = opening::open_shared(rt, path).map_err(opening::fault_of)?;
     write_differences(alloc, file, deck, out)
 }
 

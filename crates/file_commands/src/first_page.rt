@@ -5,7 +5,7 @@ ghost use Rattle.file_commands.specs.Schema.{listing_told_as};
 ghost use Rattle.command_outcomes.specs.Status.{status_of};
 
 use crate::comparing::compare_path;
-use crate::file_bytes::open_shared;
+use crate::opening;
 use command_outcomes::{Fault, FormFault, Outcome};
 use schema_listing::{ListingFault, list_schema};
 use std::alloc::Global;
@@ -52,7 +52,7 @@ where
     R::File: LockFile,
     ensures { ComesOfFile IsOfSchema (TellsFile R.File.remaining W.contents out.old out.new) result }
 {
-    let file = open_shared(rt, path)?;
+    let file = opening::open_shared(rt, path).map_err(opening::fault_of)?;
     write_schema(alloc, file, out)
 }
 

@@ -1,10 +1,9 @@
 //! The form in which records are listed, as the words ask for it.
-ghost use Rattle.std.specs.Prelude.{◌≡◌, ◌∷◌, [], map, codes};
-ghost use Rattle.record_forms.specs.Parts.{part_of_column, whole_part};
+ghost use Rattle.std.specs.Prelude.{◌≡◌, codes};
 ghost use Rattle.file_commands.specs.Cuts.{AreNoCuts};
 ghost use Rattle.file_commands.specs.DeckFile.{ComesOfDeck};
-ghost use Rattle.file_commands.specs.Forms.{IsCutInto, AreItemsAt, AreColumnsAsked, IsFormAsked};
-ghost use Rattle.file_commands.specs.Forms.{ComesOfCuts, ComesOfForm, WantsOnlyMemory};
+ghost use Rattle.file_commands.specs.Forms.{AreBetweenCuts, IsWholeRecord, AreItemsAt, AreColumnsAsked};
+ghost use Rattle.file_commands.specs.Forms.{IsFormTold, ComesOfCuts, ComesOfForm, WantsOnlyMemory};
 ghost use Rattle.file_commands.specs.Front.{IsDeckNamed};
 
 use crate::cuts::read_cuts;
@@ -12,20 +11,40 @@ use crate::deck::{deck_at, file_in};
 use command_outcomes::{Fault, FormFault};
 use command_words::FormWords;
 use record_forms::{Column, CutFault, Form, cut_columns, item_columns, whole_column};
+use record_layout::Schema;
 use std::alloc::Global;
 use std::io::Read;
 use std::rt::Files;
 
+/// The columns of a record, and the schema of the file of a deck that they are those of, if there
+/// is one.
+#[derive(Drop)]
+pub struct Columns {
+    columns: Vec<Column>,
+    schema: Option<Schema>,
+}
+
+/// A form in which records are listed, and the schema of the file of a deck that its columns are
+/// those of, if there is one.
+#[derive(Drop)]
+pub struct ListForm {
+    pub form: Form,
+    pub schema: Option<Schema>,
+}
+
 /// The columns between the cuts of a text.
-fn columns_between(alloc: Global, text: &str) -> Result<Vec<Column>, Fault>
-    ensures { ComesOfCuts (λ columns. IsCutInto text.now columns.items) (AreNoCuts text.now) result }
+fn columns_between(alloc: Global, text: &str) -> Result<Columns, Fault>
+    ensures { ComesOfCuts (AreBetweenCuts text.now) (AreNoCuts text.now) result }
 {
     let cuts = match read_cuts(alloc, text) {
         Ok(cuts) => cuts,
         Err(fault) => return Err(fault),
     };
     match cut_columns(alloc, cuts.as_slice()) {
-        Ok(columns) => Ok(columns),
+        Ok(columns) => Ok(Columns {
+            columns,
+            schema: None,
+        }),
         Err(CutFault::Order) => Err(Fault::Form(FormFault::Cuts)),
         Err(CutFault::Memory) => Err(Fault::Memory),
     }
@@ -38,7 +57,7 @@ fn columns_in<R: Files, I: Read>(
     deck: &str,
     name: &str,
     input: &mut I,
-) -> Result<Vec<Column>, Fault>
+) -> Result<Columns, Fault>
     ensures { ComesOfDeck (AreItemsAt R.File.remaining I.remaining input.old deck.now name.now) result }
 {
     let deck = match deck_at(rt, alloc, deck, input) {
@@ -50,17 +69,23 @@ fn columns_in<R: Files, I: Read>(
         Err(fault) => return Err(fault),
     };
     match item_columns(alloc, &file.layout) {
-        Ok(columns) => Ok(columns),
+        Ok(columns) => Ok(Columns {
+            columns,
+            schema: Some(file.schema.copy()),
+        }),
         Err(_) => Err(Fault::Memory),
     }
 }
 
 /// The record as one column.
-fn whole(alloc: Global) -> Result<Vec<Column>, Fault>
-    ensures { WantsOnlyMemory (λ columns. map part_of_column columns.items ≡ whole_part ∷ []) result }
+fn whole(alloc: Global) -> Result<Columns, Fault>
+    ensures { WantsOnlyMemory IsWholeRecord result }
 {
     match whole_column(alloc) {
-        Ok(columns) => Ok(columns),
+        Ok(columns) => Ok(Columns {
+            columns,
+            schema: None,
+        }),
         Err(_) => Err(Fault::Memory),
     }
 }
@@ -71,7 +96,7 @@ fn columns_of<R: Files, I: Read>(
     alloc: Global,
     asked: FormWords<'_>,
     input: &mut I,
-) -> Result<Vec<Column>, Fault>
+) -> Result<Columns, Fault>
     ensures { ComesOfForm (AreColumnsAsked (IsDeckNamed R.File.remaining (I.remaining input.old)))
         asked.entry result }
 {
@@ -85,12 +110,15 @@ fn columns_of<R: Files, I: Read>(
 }
 
 /// Text, where no columns are asked for.
-fn text_form(asked: FormWords<'_>) -> Result<Form, Fault>
+fn text_form(asked: FormWords<'_>) -> Result<ListForm, Fault>
     requires { asked.kind.now ≡ codes "text" }
-    ensures { ComesOfForm (IsFormAsked (λ deck bytes. ⊥)) asked.entry result }
+    ensures { ComesOfForm (IsFormTold (λ deck bytes. ⊥)) asked.entry result }
 {
     match (asked.cut, asked.deck, asked.name) {
-        (None, None, None) => Ok(Form::Text),
+        (None, None, None) => Ok(ListForm {
+            form: Form::Text,
+            schema: None,
+        }),
         _ => Err(Fault::Form(FormFault::TextColumns)),
     }
 }
@@ -102,8 +130,8 @@ pub fn form_of<R: Files, I: Read>(
     alloc: Global,
     asked: FormWords<'_>,
     input: &mut I,
-) -> Result<Form, Fault>
-    ensures { ComesOfForm (IsFormAsked (IsDeckNamed R.File.remaining (I.remaining input.old)))
+) -> Result<ListForm, Fault>
+    ensures { ComesOfForm (IsFormTold (IsDeckNamed R.File.remaining (I.remaining input.old)))
         asked.entry result }
 {
     if asked.kind == "text" {
@@ -111,13 +139,19 @@ pub fn form_of<R: Files, I: Read>(
     }
     if asked.kind == "csv" {
         return match columns_of(rt, alloc, asked, input) {
-            Ok(columns) => Ok(Form::Csv(columns)),
+            Ok(told) => Ok(ListForm {
+                form: Form::Csv(told.columns),
+                schema: told.schema,
+            }),
             Err(fault) => Err(fault),
         };
     }
     if asked.kind == "json" {
         return match columns_of(rt, alloc, asked, input) {
-            Ok(columns) => Ok(Form::Json(columns)),
+            Ok(told) => Ok(ListForm {
+                form: Form::Json(told.columns),
+                schema: told.schema,
+            }),
             Err(fault) => Err(fault),
         };
     }

@@ -18,8 +18,11 @@ mod file_bytes;
 mod first_page;
 mod forms;
 mod listing;
+mod opening;
+mod shown;
 mod text;
 mod verdict;
+mod verdict_lines;
 
 pub use cobol::write_cobol;
 pub use counting::count_path;

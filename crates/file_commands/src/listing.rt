@@ -1,16 +1,19 @@
 //! The list of the records of the file of a path.
 ghost use Rattle.std.specs.Prelude.{◌≡◌, option_map};
-ghost use Rattle.file_commands.specs.Front.{word_in};
-ghost use Rattle.file_commands.specs.Records.{IsAskedBy, FitsValue, ToldOfList, ListsFile};
+ghost use Rattle.file_commands.specs.Front.{word_in, GivesSuch};
+ghost use Rattle.file_commands.specs.Records.{IsAskedBy, FitsValue, ToldOfList, ListsFile, TellsOther};
 
 use crate::file_bytes::read_file;
+use crate::first_page::fault_of;
 use crate::forms::form_of;
 use command_outcomes::{Fault, Outcome};
 use command_words::FormWords;
 use file_listing::{FileList, list_file_as};
 use io_state::Key;
 use progress::Progress;
+use record_layout::Schema;
 use record_listing::{Asked, ListFault};
+use schema_listing::{Comparison, compare_schema};
 use std::alloc::Global;
 use std::io::{Read, Write};
 use std::rt::Files;
@@ -73,9 +76,31 @@ fn ended(end: Result<FileList, ListFault>) -> Result<Outcome, Fault>
     }
 }
 
+/// Whether a file that has these bytes is of another schema than that of a deck, if there is one:
+/// the differences are written then, and nothing otherwise.
+fn is_other<W: Write>(
+    alloc: Global,
+    bytes: &[u8],
+    schema: &Option<Schema>,
+    out: &mut W,
+) -> Result<bool, Fault>
+    ensures { GivesSuch (TellsOther schema.now bytes.now W.contents out.old out.new) result }
+{
+    let Some(schema) = schema else {
+        return Ok(false);
+    };
+    match compare_schema(alloc, bytes, schema, out) {
+        Ok(Ok(Comparison::Different)) => Ok(true),
+        Ok(_) => Ok(false),
+        Err(fault) => Err(fault_of(fault)),
+    }
+}
+
 /// Writes the lines of the records of the file of a path that are asked for, in the form that is
 /// asked for. `LongValue`: nothing was read or written. `Form`, `Deck`, `NoSuchFile`: there is no
-/// such form, and the file was not read. While it is read, it is told how many bytes have come.
+/// such form, and the file was not read. Where the columns are those of a deck, and OPEN in it would
+/// find the file to be of another schema, a line of each difference is written in place of the
+/// records. While the file is read, it is told how many bytes have come.
 pub fn list_records<R: Files, I: Read, P: Progress, W: Write>(
     rt: &R,
     alloc: Global,
@@ -95,13 +120,17 @@ where
         Ok(asked) => asked,
         Err(fault) => return Err(fault),
     };
-    let form = match form_of(rt, alloc, form, input) {
-        Ok(form) => form,
+    let told = match form_of(rt, alloc, form, input) {
+        Ok(told) => told,
         Err(fault) => return Err(fault),
     };
     let bytes = match read_file(rt, alloc, path, progress) {
         Ok(bytes) => bytes,
         Err(fault) => return Err(fault),
     };
-    ended(list_file_as(alloc, bytes, asked, &form, out))
+    match is_other(alloc, bytes.as_slice(), &told.schema, out) {
+        Ok(true) => Ok(Outcome::OtherSchema),
+        Ok(false) => ended(list_file_as(alloc, bytes, asked, &told.form, out)),
+        Err(fault) => Err(fault),
+    }
 }

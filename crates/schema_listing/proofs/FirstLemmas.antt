@@ -1,11 +1,15 @@
 -- The first bytes of a reader.
-use Rattle.std.proofs.Common.{◌≡◌, ℕ, List, [], ◌++◌, take, Option, Some, None, option_map, Result, Err, refl, ap, subst, ◌∙◌}
+use Rattle.std.proofs.Common.{◌≡◌, ℕ, Bool, true, List, [], ◌∷◌, ◌++◌, take, Option, Some, None, option_map, Result, Ok, Err, if◌then◌else◌, refl, sym, ap, subst, ◌∙◌, append-nil}
+use Rattle.std.specs.Io.KnownBytes.{Appends}
 use Rattle.std.specs.Option.{IfSome}
 use Rattle.file_header.specs.declared.header.Header.{Header}
 use Rattle.schema_listing.specs.declared.first_page.Refusal.{Refusal}
-use Rattle.record_layout.specs.Schema.{Schema}
+use Rattle.record_layout.specs.Schema.{Schema, same_schema}
 use Rattle.schema_listing.specs.Listing.{read_front, read_of_file, TellsHeader}
 use Rattle.schema_listing.specs.Comparing.{TellsDifferences}
+use Rattle.schema_listing.specs.declared.comparing.Comparison.TheVariants.{Same, Different}
+use Rattle.schema_listing.specs.Differences.{differences, is_none}
+use Rattle.schema_listing.proofs.DifferencesLemmas.{none_where_same}
 
 first_bytes : (known : Option (List ℕ)) (n : ℕ) (old new : List ℕ) → old ≡ [] → IfSome (option_map (take n) known) (λ xs. new ≡ old ++ xs)
     → IfSome known (λ all. new ≡ take n all)
@@ -30,3 +34,18 @@ pub not_compared : (known out : Option (List ℕ)) (deck : Schema) (first : List
     → IfSome known (λ bytes. TellsDifferences deck out out (read_of_file bytes) (Err why))
 not_compared None out deck first why is read = tt
 not_compared (Some all) out deck first why is read = subst (λ (r : Result Header Refusal). TellsDifferences deck out out r (Err why)) (read ∙ ap read_front is) (refl, refl)
+
+-- nothing is told where the schemas are the same
+is_empty : (lines : List ℕ) → is_none lines ≡ true → lines ≡ []
+is_empty [] none = refl
+is_empty (byte ∷ lines) none = absurd (cc)
+
+unchanged : (out : Option (List ℕ)) (lines : List ℕ) → lines ≡ [] → Appends out out lines
+unchanged None lines none = tt
+unchanged (Some xs) lines none = rw none (sym (append-nil xs))
+
+pub told_same : (out : Option (List ℕ)) (header : Header) (deck : Schema) (same : Bool) → same ≡ same_schema header.schema deck → same ≡ true → TellsDifferences deck out out (Ok header) (Ok Same)
+told_same out header deck same is met = (
+  sym (ap (λ (b : Bool). if b then Same else Different) (sym is ∙ met)),
+  unchanged out (differences header.schema deck) (is_empty (differences header.schema deck) (none_where_same header.schema deck ∙ sym is ∙ met)),
+)

@@ -1,0 +1,34 @@
+//! A path as it is shown: with the escapes of the transcript, so that no byte of it ends a line.
+ghost use Rattle.std.specs.Prelude.{◌≡◌, ◌≤◌, ◌++◌, OnOk};
+ghost use Rattle.deck_runner.specs.Line.{hex_digit, shown_byte};
+ghost use Rattle.record_forms.specs.Columns.{text_of};
+
+use std::alloc::AllocError;
+
+/// A hexadecimal digit, in lower case.
+fn digit(n: u8) -> u8
+    requires { n ≤ 15 }
+    ensures { result ≡ hex_digit n }
+{
+    if n < 10 { b'0' + n } else { 87 + n }
+}
+
+/// Adds a byte as it is shown.
+fn add_byte(text: &mut Vec<u8>, byte: u8) -> Result<(), AllocError>
+    ensures { OnOk result (text.new.items ≡ text.old.items ++ shown_byte byte) }
+{
+    if byte > 31 && byte < 127 && byte != b'\\' {
+        return text.extend_from_slice(&[byte]);
+    }
+    text.extend_from_slice(&[b'\\', digit(byte / 16), digit(byte % 16)])
+}
+
+/// Adds bytes as they are shown.
+pub fn add_shown(text: &mut Vec<u8>, bytes: &[u8]) -> Result<(), AllocError>
+    ensures { OnOk result (text.new.items ≡ text.old.items ++ text_of bytes.now) }
+{
+    for byte in bytes {
+        add_byte(text, *byte)?;
+    }
+    Ok(())
+}
