@@ -1,12 +1,11 @@
 -- Words ask for one session at most.
-use Rattle.std.proofs.Common.{◌≡◌, ◌≢◌, inl, inr, ℕ, List, Option, Some, Result, Ok, Err, codes, sym, ap, subst, refl, ◌∙◌}
+use Rattle.std.proofs.Common.{◌≡◌, ◌≢◌, inl, inr, ℕ, Bool, List, Option, Some, Result, Ok, Err, codes, sym, ap, subst, refl, ◌∙◌}
 use Rattle.clap.specs.Words.{Text, Row, first_of, one_of}
 use Rattle.indexed_file.specs.Shown.{Shown}
 use Rattle.command_words.specs.Asks.{IsServe, AskServe}
 use Rattle.command_words.proofs.NumberLemmas.{one_number}
-use Rattle.serve.specs.Serving.{Streams, Served as ServedRequests}
-use Rattle.serve.specs.declared.fault.ServeFault.{ServeFault}
-use Rattle.command_line.specs.Session.{session_end_as}
+use Rattle.serve.specs.Serving.{Streams}
+use Rattle.command_line.specs.Session.{ServedOver}
 use Rattle.command_line.specs.AskedSession.{outcome_of_end, CameToServe, ServedAsAsked}
 use Rattle.command_outcomes.specs.declared.fault.Fault.{Fault}
 use Rattle.command_outcomes.specs.declared.fault.Fault.TheVariants.{Memory}
@@ -47,26 +46,27 @@ module _ (met : Option (Text × List Row)) (folder other : Text) (pages frames p
 
 -- ---- what became of it
 
-module _ {S : Type 0} (shown : Shown S) (IsNew : List ℕ → ℕ → ℕ → S → Type 0) (words : List Text) (s : Streams) (outcome : Result Outcome Fault) where
+module _ {S : Type 0} (shown : Shown S) (keeps_open : S → ℕ → Bool) (IsNew : List ℕ → ℕ → ℕ → S → Type 0) (words : List Text) (s : Streams) (outcome : Result Outcome Fault) where
   -- the session that they ask for came to this
-  pub as_asked : (folder : Text) (pages frames : ℕ) → AskServe words folder pages frames → CameToServe shown (IsNew folder pages frames) s outcome → ServedAsAsked shown IsNew words s outcome
+  pub as_asked : (folder : Text) (pages frames : ℕ) → AskServe words folder pages frames → CameToServe shown keeps_open (IsNew folder pages frames) s outcome
+      → ServedAsAsked shown keeps_open IsNew words s outcome
   as_asked folder pages frames asked came other p f also =
-      let came_of : Text → ℕ → ℕ → Type 0 = λ x m n. CameToServe shown (IsNew x m n) s outcome in
+      let came_of : Text → ℕ → ℕ → Type 0 = λ x m n. CameToServe shown keeps_open (IsNew x m n) s outcome in
       subst (λ (n : ℕ). came_of other p n) (one_frames _ folder other pages frames p f asked.1 also.1)
       (subst (λ (m : ℕ). came_of other m frames) (one_pages _ folder other pages frames p f asked.1 also.1)
       (subst (λ (x : Text). came_of x pages frames) (one_folder _ folder other pages frames p f asked.1 also.1) came))
 
 -- ---- a session that came to its end, or was not begun
 
-module _ {S : Type 0} (shown : Shown S) (IsNew : S → Type 0) (s : Streams) where
+module _ {S : Type 0} (shown : Shown S) (keeps_open : S → ℕ → Bool) (IsNew : S → Type 0) (s : Streams) where
   served_or_not : (result : Result Unit Fault)
-      → (result ≢ Err Memory → (end : Result Unit ServeFault) × (result ≡ session_end_as end) × ServedRequests shown IsNew s end)
-      → (result ≡ Err Memory → (s.input_after ≡ s.input) × (s.output_after ≡ s.output)) → CameToServe shown IsNew s (outcome_of_end result)
-  served_or_not (Ok done) served unbegun = let so = served (λ is. absurd (cc)) in inr (record { end = so.0; served = so.2; told = ap outcome_of_end so.1 })
-  served_or_not (Err Memory) served unbegun = let no = unbegun refl in inl (record { unread = no.0; unwritten = no.1; fault = Memory; told = refl })
-  served_or_not (Err fault) served unbegun = let so = served (λ is. absurd (cc)) in inr (record { end = so.0; served = so.2; told = ap outcome_of_end so.1 })
+      → (result ≢ Err Memory → (start : S) × IsNew start × ServedOver shown keeps_open start s result)
+      → (result ≡ Err Memory → (s.input_after ≡ s.input) × (s.output_after ≡ s.output)) → CameToServe shown keeps_open IsNew s (outcome_of_end result)
+  served_or_not (Ok done) served unbegun = let so = served (λ is. absurd (cc)) in inr (record { start = so.0; is_new = so.1; end = Ok done; served = so.2; told = refl })
+  served_or_not (Err Memory) served unbegun = let none = unbegun refl in inl (record { unread = none.0; unwritten = none.1; fault = Memory; told = refl })
+  served_or_not (Err fault) served unbegun = let so = served (λ is. absurd (cc)) in inr (record { start = so.0; is_new = so.1; end = Err fault; served = so.2; told = refl })
 
   pub came_to_serve : (result : Result Unit Fault) (outcome : Result Outcome Fault) → outcome ≡ outcome_of_end result
-      → (result ≢ Err Memory → (end : Result Unit ServeFault) × (result ≡ session_end_as end) × ServedRequests shown IsNew s end)
-      → (result ≡ Err Memory → (s.input_after ≡ s.input) × (s.output_after ≡ s.output)) → CameToServe shown IsNew s outcome
-  came_to_serve result outcome is served unbegun = subst (CameToServe shown IsNew s) (sym is) (served_or_not result served unbegun)
+      → (result ≢ Err Memory → (start : S) × IsNew start × ServedOver shown keeps_open start s result)
+      → (result ≡ Err Memory → (s.input_after ≡ s.input) × (s.output_after ≡ s.output)) → CameToServe shown keeps_open IsNew s outcome
+  came_to_serve result outcome is served unbegun = subst (CameToServe shown keeps_open IsNew s) (sym is) (served_or_not result served unbegun)

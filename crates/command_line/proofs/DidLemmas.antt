@@ -1,13 +1,14 @@
 -- What was done for words that ask for a list, a schema, a load or a run.
 use Rattle.std.proofs.Common.{◌≡◌, ℕ, Bool, List, Option, Some, None, Result, Ok, Err, IfOk, IfErr, option_map, Bor, inl, inr, refl, sym, subst}
 use Rattle.clap.specs.Words.{Text}
-use Rattle.file_listing.specs.declared.listing.FileList.{FileList}
 use Rattle.command_words.specs.Asks.{Ask, AskSchema, AskRun, form_text}
 use Rattle.command_words.specs.declared.form_words.FormWords.{FormWords}
 use Rattle.command_words.specs.declared.limits.Limits.{Limits}
 use Rattle.command_words.specs.declared.request.Request.TheVariants.{Schema, List as ListRecords, Load}
 use Rattle.file_commands.specs.Forms.{IsFormRefused, IsListRefused}
+use Rattle.file_commands.specs.Records.{ListsAsked}
 use Rattle.file_commands.specs.Schema.{IsSchemaDone, IsSchemaFault}
+use Rattle.file_commands.specs.declared.listing.Bounds.{Bounds}
 use Rattle.file_commands.specs.DeckFile.{IsDeckFault}
 use Rattle.shelf_loading.specs.declared.end.ShelfEnd.{ShelfEnd}
 use Rattle.command_line.specs.LoadForm.{IsLoadFault}
@@ -15,7 +16,7 @@ use Rattle.command_line.specs.Performed.{Begun, Written, CameToEnd, AskForLoad, 
 use Rattle.command_outcomes.specs.declared.fault.Fault.{Fault}
 use Rattle.command_outcomes.specs.declared.fault.Fault.TheVariants.{Deck, NoSuchFile, Form as NoForm, Input, Output, Memory}
 use Rattle.command_outcomes.specs.declared.outcome.Outcome.{Outcome}
-use Rattle.command_outcomes.specs.declared.outcome.Outcome.TheVariants.{Ended, SchemaTold, SchemaCompared, SchemaRefused, Records, Loaded}
+use Rattle.command_outcomes.specs.declared.outcome.Outcome.TheVariants.{Ended, SchemaTold, SchemaCompared, SchemaRefused, Records, OtherSchema, Loaded}
 
 -- what a request asks for, by its values
 abbrev pub for_schema : (words : List Text) (file : Bor Text) (deck name : Option (Bor Text)) → Ask words (Schema file deck name) → AskForSchema words
@@ -61,10 +62,13 @@ module _ (words : List Text) (out : Written) (list : AskForRecords words) where
   did_refused Memory h = tt
   did_refused fault h = absurd h
 
-  pub did_list : (P : FileList → Type 0) (result : Result Outcome Fault) → IfOk result (λ outcome. (end : FileList) × (outcome ≡ Records end) × P end) → IfErr result (IsListRefused list.form) → Did words None out result
-  did_list P (Ok outcome) done fault = subst (λ (o : Outcome). Did words None out (Ok o)) (sym done.1) list
-  did_list P (Err f) done (inl long) = subst (λ (x : Fault). Did words None out (Err x)) (sym long) list
-  did_list P (Err f) done (inr refused) = did_refused f refused
+  pub did_list : {F I W : Type 0} (remaining : F → Option (List ℕ)) (left : I → Option (List ℕ)) (input : I) (bounds : Bounds) (contents : W → Option (List ℕ)) (old new : W)
+      (result : Result Outcome Fault) → IfOk result (ListsAsked remaining left input bounds list.form contents old new) → IfErr result (IsListRefused list.form) → Did words None out result
+  did_list remaining left input bounds contents old new (Ok (Records end)) done fault = list
+  did_list remaining left input bounds contents old new (Ok OtherSchema) done fault = list
+  did_list remaining left input bounds contents old new (Ok outcome) done fault = absurd done
+  did_list remaining left input bounds contents old new (Err f) done (inl long) = subst (λ (x : Fault). Did words None out (Err x)) (sym long) list
+  did_list remaining left input bounds contents old new (Err f) done (inr refused) = did_refused f refused
 
 -- the words ask for a schema
 module _ (words : List Text) (out : Written) (schema : AskForSchema words) where
@@ -98,11 +102,11 @@ module _ (words : List Text) (out : Written) (load : AskForLoad words) where
   did_load P (Err f) done (inr refused) = load_refused f refused
 
 -- the words ask for a run
-module _ (words : List Text) (deck folder : Text) (pages frames : ℕ) (asked : AskRun words deck folder pages frames) where
+module _ (words : List Text) (deck folder : Text) (pages frames : ℕ) (strict : Bool) (asked : AskRun words deck folder pages frames strict) where
   pub did_run : (run : Option Begun) (out : Written) (result : Result Outcome Fault) → CameToEnd folder pages frames run out result → Did words run out result
-  did_run (Some run) out (Ok (Ended end)) came = record { deck = deck; folder = folder; pages = pages; frames = frames; asked = asked; came = came.0 }
+  did_run (Some run) out (Ok (Ended end)) came = record { deck = deck; folder = folder; pages = pages; frames = frames; strict = strict; asked = asked; came = came.0 }
   did_run (Some run) out (Ok outcome) came = absurd came.1
-  did_run (Some run) out (Err fault) came = record { deck = deck; folder = folder; pages = pages; frames = frames; asked = asked; came = came.0 }
+  did_run (Some run) out (Err fault) came = record { deck = deck; folder = folder; pages = pages; frames = frames; strict = strict; asked = asked; came = came.0 }
   did_run None out (Ok outcome) came = absurd came
   did_run None out (Err Input) came = tt
   did_run None out (Err Output) came = tt

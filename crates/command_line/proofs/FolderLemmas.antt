@@ -1,21 +1,31 @@
 -- A folder before the first call on it.
-use Rattle.std.proofs.Common.{◌≡◌, ℕ, List, [], ◌∷◌, refl, subst}
+use Rattle.std.proofs.Common.{◌≡◌, ℕ, List, [], ◌∷◌, map, String, string_bytes, refl, subst}
+use Rattle.std.specs.Global.{Global}
 use Rattle.arrayvec.specs.ArrayString.{ArrayString}
-use Rattle.folder_shelf.specs.Events.{Event, in_folder}
-use Rattle.folder_shelf.specs.Replay.{Unseen}
 use Rattle.page_store.specs.ShelfState.{ShelfState}
+use Rattle.recorded_system.specs.Calls.{Call, entered}
+use Rattle.recorded_system.specs.SystemState.{SystemState}
+use Rattle.folder_shelf.specs.Replay.{Unseen, folder_state}
 use Rattle.shelf_run.specs.ShelfRun.{LeavesFiles, StaysSound}
-use Rattle.command_line.specs.Folder.{folder_at_first, folder_after}
+use Rattle.command_line.specs.Folder.{folder_at_first}
 
-pub untouched : (disk : List ℕ → Unseen) (path : List ℕ) (names : List ArrayString) (calls : List Event) → names ≡ [] → calls ≡ in_folder path ∷ [] → folder_after disk names calls ≡ folder_at_first disk path
-untouched disk path names calls no_names no_calls = rw no_names (rw no_calls refl)
+-- what is known of a system, by the parts of one that has a runtime
+abbrev pub system_by : (folder : String Global) → (names : List ArrayString) → List Call → SystemState
+system_by folder names calls = record {
+  folder = string_bytes folder;
+  names = map (λ name. name.bytes) names;
+  calls = calls;
+}
 
--- what is sound before the first call stays so
-pub sound_from_first : (disk : List ℕ → Unseen) (path : List ℕ) (names : List ArrayString) (calls : List Event) → names ≡ [] → calls ≡ in_folder path ∷ [] → (last : ShelfState)
-    → StaysSound (folder_after disk names calls) last → StaysSound (folder_at_first disk path) last
-sound_from_first disk path names calls no_names no_calls last = subst (λ (first : ShelfState). StaysSound first last) (untouched disk path names calls no_names no_calls)
+-- a folder was entered in a system that was asked nothing yet
+module _ (disk : Unseen) (path : List ℕ) (calls : List Call) (system : SystemState) (enters : system ≡ record { folder = path; names = []; calls = entered path ∷ calls }) (no_calls : calls ≡ []) where
+  pub untouched : folder_state disk system ≡ folder_at_first disk path
+  untouched = rw enters (rw no_calls refl)
 
--- what is left as it was is so as before the first call
-pub left_from_first : (disk : List ℕ → Unseen) (path : List ℕ) (names : List ArrayString) (calls : List Event) → names ≡ [] → calls ≡ in_folder path ∷ [] → (last : ShelfState)
-    → LeavesFiles (folder_after disk names calls) last → LeavesFiles (folder_at_first disk path) last
-left_from_first disk path names calls no_names no_calls last = subst (λ (first : ShelfState). LeavesFiles first last) (untouched disk path names calls no_names no_calls)
+  -- what is sound before the first call stays so
+  pub sound_from_first : (last : ShelfState) → StaysSound (folder_state disk system) last → StaysSound (folder_at_first disk path) last
+  sound_from_first last = subst (λ (first : ShelfState). StaysSound first last) untouched
+
+  -- what is left as it was is so as before the first call
+  pub left_from_first : (last : ShelfState) → LeavesFiles (folder_state disk system) last → LeavesFiles (folder_at_first disk path) last
+  left_from_first last = subst (λ (first : ShelfState). LeavesFiles first last) untouched

@@ -1,5 +1,5 @@
 -- What an outcome is right of, by what is known of the command that gave it.
-use Rattle.std.proofs.Common.{◌≡◌, ℕ, List, Option, Some, None, Result, Ok, Err, sym, subst, refl}
+use Rattle.std.proofs.Common.{◌≡◌, ℕ, Bool, List, Option, Some, None, Result, Ok, Err, Bor, sym, subst, refl}
 use Rattle.std.specs.Prelude.{IfOk}
 use Rattle.clap.specs.Words.{Text}
 use Rattle.file_control.specs.Description.{FileDesc}
@@ -7,12 +7,18 @@ use Rattle.schema_listing.specs.Listing.{read_of_file}
 use Rattle.schema_listing.specs.declared.comparing.Comparison.{Comparison}
 use Rattle.file_commands.specs.DeckFile.{IsDeckFile}
 use Rattle.file_commands.specs.Front.{OfOpenedFile}
+use Rattle.folder_shelf.specs.Replay.{Unseen}
+use Rattle.command_words.specs.Asks.{Ask, form_text}
+use Rattle.command_words.specs.declared.form_words.FormWords.{FormWords}
+use Rattle.command_words.specs.declared.request.Request.TheVariants.{List as ListRecords}
+use Rattle.file_commands.specs.Records.{ListsAsked}
 use Rattle.file_commands.specs.Schema.{TellsAs, ComparesAs, IsOfSchema, IsSchemaDone}
-use Rattle.command_line.specs.Performed.{Begun, Written, CameToEnd, AskForSchema}
-use Rattle.command_line.specs.Right.{Given, AreOfDeck, IsRightOf}
+use Rattle.command_line.specs.Performed.{Begun, Written, CameToEnd, AskForSchema, wrote}
+use Rattle.command_line.specs.Right.{Given, given_by, AreOfDeck, IsRightOf}
+use Rattle.command_line.proofs.DidLemmas.{for_records}
 use Rattle.command_outcomes.specs.declared.fault.Fault.{Fault}
 use Rattle.command_outcomes.specs.declared.outcome.Outcome.{Outcome}
-use Rattle.command_outcomes.specs.declared.outcome.Outcome.TheVariants.{Ended, SchemaTold, SchemaCompared, SchemaRefused}
+use Rattle.command_outcomes.specs.declared.outcome.Outcome.TheVariants.{Ended, SchemaTold, SchemaCompared, SchemaRefused, Records, OtherSchema}
 
 module _ {File : Type 0} (given : Given File) (words : List Text) (out : Written) where
   abbrev IsRight : Outcome → Type 0
@@ -55,3 +61,13 @@ module _ {File : Type 0} (given : Given File) (words : List Text) (out : Written
   right_run folder limit frames (Some run) written (Err fault) came = tt
   right_run folder limit frames None written (Ok outcome) came = absurd came
   right_run folder limit frames None written (Err fault) came = tt
+
+-- the records of a file were listed, or it is of another schema
+module _ {F I W : Type 0} (remaining : F → Option (List ℕ)) (left : I → Option (List ℕ)) (input : I) (unseen : Unseen) (words : List Text) (contents : W → Option (List ℕ)) (old new : W)
+    (file : Bor Text) (key : ℕ) (from to : Option (Bor Text)) (first : ℕ) (form : FormWords) (quiet : Bool) (asked : Ask words (ListRecords file key from to first form quiet)) where
+  pub right_list : (result : Result Outcome Fault) → IfOk result (ListsAsked remaining left input (record { key = key; from = from; to = to; first = first }) (form_text form) contents old new)
+      → IfOk result (IsRightOf (given_by remaining (left input) unseen) words (wrote contents old new))
+  right_list (Ok (Records end)) is = (for_records words file key from to first form quiet asked, is.0, is.1, is.2, is.3)
+  right_list (Ok OtherSchema) is = (for_records words file key from to first form quiet asked, is.0, is.1, is.2, is.3)
+  right_list (Ok outcome) is = absurd is
+  right_list (Err fault) is = tt

@@ -3,8 +3,7 @@ use Rattle.std.specs.Prelude.{◌≡◌, ◌≢◌, ℕ, Bool, true, false, List
 use Rattle.std.specs.Prelude.{String, string_bytes}
 use Rattle.std.specs.Global.{Global}
 use Rattle.std.specs.Io.KnownBytes.{Appends}
-use Rattle.arrayvec.specs.ArrayString.{ArrayString}
-use Rattle.folder_shelf.specs.Events.{Event}
+use Rattle.recorded_system.specs.SystemState.{SystemState}
 use Rattle.folder_shelf.specs.Replay.{Unseen}
 use Rattle.record_layout.specs.Schema.{Schema}
 use Rattle.file_control.specs.Description.{FileDesc}
@@ -39,18 +38,17 @@ load_of false = New
 -- a load of a text into the file of a name in the folder of this path: how it ended, and what it
 -- left where it came to nothing; all other names stand for what they stood for; and no crash leaves
 -- a false file
-pub record LoadsFolder (disk : List ℕ → Unseen) (folder name : List ℕ) (schema : Schema) (load : Load)
+pub record LoadsFolder (disk : Unseen) (folder name : List ℕ) (schema : Schema) (load : Load)
     (list : Listing) (result : Result ShelfEnd Fault) : Type 0 where
-  pub names : List ArrayString
-  pub calls : List Event
-  pub ends : OverFolder disk folder names calls (λ first last.
+  pub system : SystemState
+  pub ends : OverFolder disk folder system (λ first last.
       IfOk result (λ end. EndsLoad name schema load list first end last))
-  pub nothing : OverFolder disk folder names calls (λ first last. OnErr result (LeavesFiles first last))
-  pub others : OverFolder disk folder names calls (KeepsOtherNames name)
-  pub safe : OverFolder disk folder names calls (IsSafeLoad name)
+  pub nothing : OverFolder disk folder system (λ first last. OnErr result (LeavesFiles first last))
+  pub others : OverFolder disk folder system (KeepsOtherNames name)
+  pub safe : OverFolder disk folder system (IsSafeLoad name)
 
 -- so of a load of a text in a form into a file that is described
-abbrev pub LoadsDescribed : (disk : List ℕ → Unseen) → (path : String Global) → FileDesc → Load → Form
+abbrev pub LoadsDescribed : (disk : Unseen) → (path : String Global) → FileDesc → Load → Form
     → (text : List ℕ) → Result ShelfEnd Fault → Type 0
 LoadsDescribed disk path file load form text result =
     LoadsFolder disk (string_bytes path) file.file file.schema load (listing form text) result
@@ -68,7 +66,7 @@ TellsLoad end contents old new outcome =
 -- the bytes are a deck that has a file of this name, a text was loaded into that file in this
 -- folder, in the form that a word asks for, and it was told how that ended
 pub record LoadsDeck
-    (disk : List ℕ → Unseen) (IsTheText : List ℕ → Type 0) (bytes folder name word : List ℕ) (into : Bool)
+    (disk : Unseen) (IsTheText : List ℕ → Type 0) (bytes folder name word : List ℕ) (into : Bool)
     (before behind : Option (List ℕ)) (end : ShelfEnd) : Type 0 where
   pub deck : Deck
   pub is_deck : IsDeck bytes deck
@@ -91,7 +89,7 @@ pub record ComesOfLoad {W : Type 0} (IsSo : ShelfEnd → Type 0) (IsSuch : Fault
 
 -- into a file of the deck that the bytes are, a text was loaded that is read of a path or of the input
 abbrev pub LoadsBytes : {F I W : Type 0} → (F → Option (List ℕ)) → (I → Option (List ℕ)) → StandardInput I
-    → (List ℕ → Unseen) → (bytes : List ℕ) → (path : String Global) → FormKind → Loading
+    → Unseen → (bytes : List ℕ) → (path : String Global) → FormKind → Loading
     → (W → Option (List ℕ)) → (old new : W) → Result Outcome Fault → Type 0
 LoadsBytes remaining left input disk bytes path kind asked contents old new result = ComesOfLoad (λ end.
     LoadsDeck disk (IsTextNamed remaining (left input.reader) asked.text.now) bytes (string_bytes path)
@@ -99,7 +97,7 @@ LoadsBytes remaining left input disk bytes path kind asked contents old new resu
 
 -- into a file of the deck of a path, or of the input where the path is a hyphen
 abbrev pub LoadsAsked : {F I W : Type 0} → (F → Option (List ℕ)) → (I → Option (List ℕ)) → StandardInput I
-    → (List ℕ → Unseen) → (deck folder : List ℕ) → Loading → (W → Option (List ℕ)) → (old new : W)
+    → Unseen → (deck folder : List ℕ) → Loading → (W → Option (List ℕ)) → (old new : W)
     → Result Outcome Fault → Type 0
 LoadsAsked remaining left input disk deck folder asked contents old new result = ComesOfLoad (λ end.
     OfNamedDeck remaining (left input.reader) deck (λ bytes.

@@ -2,13 +2,10 @@
 use Rattle.std.specs.Prelude.{◌≡◌, ◌≢◌, ◌⊎◌, ℕ, Bool, true, List, [], ◌∷◌, map, Option, Some, None}
 use Rattle.std.specs.Prelude.{option_map, Result, Ok, Err, IfOk, ⊤, String, string_bytes}
 use Rattle.std.specs.Global.{Global}
-use Rattle.std.specs.declared.io.traits.Read.{Ghosts as Reads}
-use Rattle.std.specs.declared.io.traits.Write.{Ghosts as Writes}
-use Rattle.std.specs.declared.io.traits.Seek.{Ghosts as Seeks}
-use Rattle.arrayvec.specs.ArrayString.{ArrayString}
+use Rattle.recorded_system.specs.declared.system.System.{Ghosts as Systems}
 use Rattle.clap.specs.Words.{Text}
 use Rattle.clap.specs.declared.error.Error.{Error}
-use Rattle.folder_shelf.specs.Events.{Event}
+use Rattle.recorded_system.specs.SystemState.{SystemState}
 use Rattle.folder_shelf.specs.Replay.{Unseen}
 use Rattle.folder_shelf.specs.declared.disk.Disk.{Ghosts as Disks}
 use Rattle.deck_words.specs.declared.fault.DeckFault.{DeckFault}
@@ -39,34 +36,30 @@ use Rattle.command_outcomes.specs.declared.outcome.Outcome.TheVariants.{Helped, 
 use Rattle.command_outcomes.specs.declared.outcome.Outcome.TheVariants.{SchemaTold, SchemaCompared}
 use Rattle.command_outcomes.specs.declared.outcome.Outcome.TheVariants.{SchemaRefused, Explained, Listed}
 use Rattle.command_outcomes.specs.declared.outcome.Outcome.TheVariants.{CheckedAll, Records, InCobol, Loaded}
-use Rattle.command_outcomes.specs.declared.outcome.Outcome.TheVariants.{Counted}
+use Rattle.command_outcomes.specs.declared.outcome.Outcome.TheVariants.{Counted, OtherSchema}
 
--- a run that was begun: the bytes of its deck, and what the folder was asked and answered
+-- a run that was begun: the bytes of its deck, and what the system was asked and answered
 pub record Begun : Type 0 where
   pub bytes : List ℕ
-  pub disk : List ℕ → Unseen
-  pub names : List ArrayString
-  pub calls : List Event
+  pub disk : Unseen
+  pub system : SystemState
   pub faults : ℕ
 
 -- the same, by its parts
-abbrev pub begun : (List ℕ → Unseen) → List ℕ → List ArrayString → List Event → ℕ → Begun
-begun disk bytes names calls faults = record {
+abbrev pub begun : Unseen → List ℕ → SystemState → ℕ → Begun
+begun disk bytes system faults = record {
   bytes = bytes;
   disk = disk;
-  names = names;
-  calls = calls;
+  system = system;
   faults = faults;
 }
 
--- a run has these types as parameters, and the ghost members of some of them
-module _ {R D F E : Type 0} {reads : Reads F} {writes : Writes F} {seeks : Seeks F}
-    {entries : Reads E} {disks : Disks D} where
+-- a run has these types as parameters, and their ghost members
+module _ {S D : Type 0} {systems : Systems S} {disks : Disks D} where
   -- the run that was given back, if one was begun
-  abbrev pub begun_by : (List ℕ → Unseen) → Option (Ran R D F E reads writes seeks entries disks)
-      → Option Begun
+  abbrev pub begun_by : Unseen → Option (Ran S D systems disks) → Option Begun
   begun_by disk = option_map (λ ran.
-      begun disk ran.bytes.items ran.shelf.units.items ran.shelf.folder.calls.events ran.shelf.faults)
+      begun disk ran.bytes.items (systems.state ran.shelf.system) ran.shelf.faults)
 
 -- how a run ended, as what was done
 abbrev pub outcome_of : Result RunEnd Fault → Result Outcome Fault
@@ -96,18 +89,18 @@ wrote contents old new = written (contents old) (contents new)
 pub record CameTo (folder : List ℕ) (limit frames : ℕ) (run : Begun) (out : Written)
     (outcome : Result Outcome Fault) : Type 0 where
   pub exact : (end : RunEnd) → outcome ≡ Ok (Ended end) → end.clean ≡ true
-      → OverFolder run.disk folder run.names run.calls
+      → OverFolder run.disk folder run.system
       (λ first last. IsExactRun run.bytes first last out.before out.behind end)
   pub whole : (end : RunEnd) → outcome ≡ Ok (Ended end)
-      → OverFolder run.disk folder run.names run.calls (λ first last. OnShelf run.bytes first last (λ deck.
+      → OverFolder run.disk folder run.system (λ first last. OnShelf run.bytes first last (λ deck.
       TellsLines out.before out.behind end (Runs limit frames first last 0 run.faults deck)))
   pub part : outcome ≡ Err Output
-      → OverFolder run.disk folder run.names run.calls (λ first last. OnShelf run.bytes first last (λ deck.
+      → OverFolder run.disk folder run.system (λ first last. OnShelf run.bytes first last (λ deck.
       ToldInPart out.before out.behind (BreaksOff limit frames first last 0 run.faults deck)))
   pub nothing : (fault : Fault) → outcome ≡ Err fault → fault ≢ Output
-      → (out.behind ≡ out.before) × OverFolder run.disk folder run.names run.calls LeavesFiles
+      → (out.behind ≡ out.before) × OverFolder run.disk folder run.system LeavesFiles
   pub refused : (fault : DeckFault) → outcome ≡ Err (Deck fault) → IsNoDeck run.bytes fault
-  pub sound : OverFolder run.disk folder run.names run.calls StaysSound
+  pub sound : OverFolder run.disk folder run.system StaysSound
 
 -- a run came to its end or to a fault, or was not begun since a file, a folder or memory was wanting
 abbrev pub CameToEnd : (folder : List ℕ) (limit frames : ℕ) → Option Begun → Written → Result Outcome Fault
@@ -121,15 +114,16 @@ CameToEnd folder limit frames None out (Err fault) = status_of fault ≡ 4
 abbrev pub RunsTo : (folder : List ℕ) → Limits → Option Begun → Written → Result Outcome Fault → Type 0
 RunsTo folder limits run out outcome = CameToEnd folder limits.pages limits.frames.value run out outcome
 
--- the words ask for a run, and this run, over the folder that they name, with their limit of pages
--- and number of frames, came to this
+-- the words ask for a run, strict or not, and this run, over the folder that they name, with their
+-- limit of pages and number of frames, came to this
 pub record RanAsAsked (words : List Text) (run : Begun) (out : Written)
     (outcome : Result Outcome Fault) : Type 0 where
   pub deck : Text
   pub folder : Text
   pub pages : ℕ
   pub frames : ℕ
-  pub asked : AskRun words deck folder pages frames
+  pub strict : Bool
+  pub asked : AskRun words deck folder pages frames strict
   pub came : CameTo folder pages frames run out outcome
 
 -- the bytes are those of the deck of a path, or of the input where the path is a hyphen
@@ -137,11 +131,14 @@ abbrev pub IsDeckFrom : {F I : Type 0} → (F → Option (List ℕ)) → (I → 
     → (path bytes : List ℕ) → Type 0
 IsDeckFrom remaining left input path bytes = IsDeckNamed remaining (left input.reader) path bytes
 
--- the words ask for a run, and the bytes are those of the deck that they name
+-- the words ask for a run, strict or not as it is said, and the bytes are those of the deck that they
+-- name
 abbrev pub AreOfAskedRun : {F I : Type 0} → List (String Global) → (F → Option (List ℕ))
-    → (I → Option (List ℕ)) → StandardInput I → List ℕ → Type 0
-AreOfAskedRun words remaining left input bytes = (deck : Text) × (folder : Text) × (pages : ℕ) × (frames : ℕ)
-    × AskRun (map string_bytes words) deck folder pages frames × IsDeckFrom remaining left input deck bytes
+    → (I → Option (List ℕ)) → StandardInput I → List ℕ → (strict : Bool) → Type 0
+AreOfAskedRun words remaining left input bytes strict =
+    (deck : Text) × (folder : Text) × (pages : ℕ) × (frames : ℕ)
+    × AskRun (map string_bytes words) deck folder pages frames strict
+    × IsDeckFrom remaining left input deck bytes
 
 -- the words ask for the list of a deck, or for a deck as a COBOL program
 abbrev pub AskOfDeck : List Text → Type 0
@@ -195,16 +192,16 @@ AskForNoForm words fault =
     ⊎ ((load : AskForLoad words) × (fault ≡ Kind) × IsNoFormWord load.form)
 
 -- what was done for the words: help was written for those that ask for it, files checked for those
--- that ask for that, records listed for those that ask for them, a program written for those that
--- ask for one in COBOL, a text loaded for those that ask for that, the pages of a file counted for
--- those that ask for that, requests answered for those that ask for a session, a schema told,
--- compared or refused for those that ask for one, and a run came to its end or to a fault for those
--- that ask for one; a fault that is told of the words is theirs. The input, the output or memory
--- may fail for any words.
+-- that ask for that, records listed, or the file found to be of another schema than its deck, for
+-- those that ask for records, a program written for those that ask for one in COBOL, a text loaded
+-- for those that ask for that, the pages of a file counted for those that ask for that, requests
+-- answered for those that ask for a session, a schema told, compared or refused for those that ask
+-- for one, and a run came to its end or to a fault for those that ask for one; a fault that is told
+-- of the words is theirs. The input, the output or memory may fail for any words.
 abbrev pub Did : List Text → Option Begun → Written → Result Outcome Fault → Type 0
 Did words None out (Ok Helped) = (text : Error) × AskHelp words text
 Did words None out (Ok (Checked verdict)) = (file : Text) × (quiet : Bool) × AskCheck words (file ∷ []) quiet
-Did words None out (Ok (CheckedAll sound)) = (files : List Text) × (quiet : Bool) × AskCheck words files quiet
+Did words None out (Ok (CheckedAll worst)) = (files : List Text) × (quiet : Bool) × AskCheck words files quiet
 Did words None out (Ok Served) = (folder : Text) × (pages : ℕ) × (frames : ℕ)
     × AskServe words folder pages frames
 Did words None out (Ok SchemaTold) = (file : Text) × AskSchema words file None None
@@ -214,6 +211,7 @@ Did words None out (Ok (SchemaRefused refusal)) = AskForSchema words
 Did words None out (Ok Explained) = (kind : Text) × (number : Text) × AskExplain words kind number
 Did words None out (Ok Listed) = (deck : Text) × AskDeck words deck
 Did words None out (Ok (Records list)) = AskForRecords words
+Did words None out (Ok OtherSchema) = AskForRecords words
 Did words None out (Ok InCobol) = (deck : Text) × (fixed : Bool) × AskCobol words deck fixed
 Did words None out (Ok (Loaded end)) = AskForLoad words
 Did words None out (Ok (Counted end)) = (file : Text) × AskStat words file

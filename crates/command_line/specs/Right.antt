@@ -1,11 +1,12 @@
 -- What an outcome means: of what it is right, and what was written. All of this is ours.
-use Rattle.std.specs.Prelude.{ℕ, Bool, List, length, map, Option, Result, Ok, Err, IfOk, ⊤, String}
+use Rattle.std.specs.Prelude.{ℕ, Bool, List, map, Option, Result, Ok, Err, IfOk, ⊤, String}
 use Rattle.std.specs.Prelude.{string_bytes}
 use Rattle.std.specs.Global.{Global}
 use Rattle.clap.specs.Words.{Text}
 use Rattle.folder_shelf.specs.Replay.{Unseen}
 use Rattle.file_checker.specs.Sound.{IsRight}
 use Rattle.file_checker.specs.declared.verdict.Verdict.{Verdict}
+use Rattle.record_layout.specs.Schema.{Schema}
 use Rattle.file_control.specs.Description.{FileDesc}
 use Rattle.file_statistics.specs.Listing.{EndsStatisticsWith}
 use Rattle.record_forms.specs.declared.form.Form.{Form}
@@ -14,10 +15,10 @@ use Rattle.schema_listing.specs.Comparing.{TellsDifferences}
 use Rattle.command_words.specs.Asks.{AskCheck, AskCobol, AskDeck, AskExplain, AskStat}
 use Rattle.file_commands.specs.DeckFile.{IsDeckFile}
 use Rattle.file_commands.specs.Forms.{IsFormAsked}
-use Rattle.file_commands.specs.Front.{IsDeckNamed, IsTextNamed, OfOpenedFile, OfWholeFile, OfNamedDeck}
+use Rattle.file_commands.specs.Front.{IsDeckNamed, IsTextNamed, OfOpenedFile, OfCountedFile, OfNamedDeck}
 use Rattle.file_commands.specs.Listed.{WritesList, WritesCobol}
-use Rattle.file_commands.specs.Records.{ListsRecords}
-use Rattle.file_commands.specs.Verdicts.{AreVerdicts}
+use Rattle.file_commands.specs.Records.{ListsRecords, AgreesWith, WritesOther}
+use Rattle.file_commands.specs.Verdicts.{WritesVerdict, WritesVerdicts}
 use Rattle.explanations.specs.Tables.{explanation}
 use Rattle.command_line.specs.Explained.{WritesExplanation}
 use Rattle.command_line.specs.Loaded.{LoadsDeck}
@@ -29,20 +30,20 @@ use Rattle.command_outcomes.specs.declared.outcome.Outcome.TheVariants.{Helped, 
 use Rattle.command_outcomes.specs.declared.outcome.Outcome.TheVariants.{SchemaTold, SchemaCompared}
 use Rattle.command_outcomes.specs.declared.outcome.Outcome.TheVariants.{SchemaRefused, Explained, Listed}
 use Rattle.command_outcomes.specs.declared.outcome.Outcome.TheVariants.{CheckedAll, Records, InCobol, Loaded}
-use Rattle.command_outcomes.specs.declared.outcome.Outcome.TheVariants.{Counted}
+use Rattle.command_outcomes.specs.declared.outcome.Outcome.TheVariants.{Counted, OtherSchema}
 
 -- what there is to read: what a file that is opened and the input have left, and what the folder of a path
 -- holds
 pub record Given (File : Type 0) : Type 0 where
   pub of_file : File → Option (List ℕ)
   pub of_input : Option (List ℕ)
-  pub of_folder : List ℕ → Unseen
+  pub of_disk : Unseen
 
 -- the same, by its parts
-abbrev pub given_by : {File : Type 0} → (File → Option (List ℕ)) → Option (List ℕ) → (List ℕ → Unseen)
+abbrev pub given_by : {File : Type 0} → (File → Option (List ℕ)) → Option (List ℕ) → Unseen
     → Given File
-given_by of_file of_input of_folder =
-    record { of_file = of_file; of_input = of_input; of_folder = of_folder }
+given_by of_file of_input of_disk =
+    record { of_file = of_file; of_input = of_input; of_disk = of_disk }
 
 -- the bytes are those of the deck that a word names
 abbrev pub AreOfDeck : {File : Type 0} → Given File → (deck : Text) → List ℕ → Type 0
@@ -58,12 +59,13 @@ abbrev pub IsRightOf : {File : Type 0} → Given File → List Text → Written 
 IsRightOf given words out Helped = ⊤
 IsRightOf given words out (Ended end) = ⊤
 IsRightOf given words out Served = ⊤
--- the verdict is that on a file
-IsRightOf given words out (Checked verdict) = IsVerdict given verdict
--- there is such a verdict for each file that the words name, and this is whether all of them are sound
-IsRightOf given words out (CheckedAll sound) =
+-- the verdict is that on a file, and its line was written
+IsRightOf given words out (Checked verdict) =
+    WritesVerdict (IsVerdict given) out.before out.behind verdict
+-- a line was written of each file that the words name, and this is what is worst of them
+IsRightOf given words out (CheckedAll worst) =
     (files : List Text) × (quiet : Bool) × AskCheck words files quiet
-    × AreVerdicts (IsVerdict given) (length files) sound
+    × WritesVerdicts (IsVerdict given) files out.before out.behind worst
 -- the lines of a file's schema were written
 IsRightOf given words out SchemaTold =
     OfOpenedFile given.of_file (λ bytes. TellsHeader out.before out.behind (read_of_file bytes) (Ok tt))
@@ -86,9 +88,16 @@ IsRightOf given words out Listed =
     × OfNamedDeck given.of_file given.of_input deck (λ bytes. WritesList bytes out.before out.behind)
 -- the records that the words ask for were written, in the form that they name, or it is told why not
 IsRightOf given words out (Records list) =
-    (asked : AskForRecords words) × (form : Form) × IsFormAsked (AreOfDeck given) asked.form form
-    × OfWholeFile given.of_file (λ bytes.
-    ListsRecords form bytes asked.key asked.from asked.to asked.first out.before out.behind list)
+    (asked : AskForRecords words) × (form : Form) × (schema : Option Schema)
+    × IsFormAsked (AreOfDeck given) asked.form form schema
+    × OfCountedFile given.of_file (λ bytes. AgreesWith schema bytes
+    × ListsRecords form bytes asked.key asked.from asked.to asked.first out.before out.behind list)
+-- a file is of another schema than the deck whose columns the words ask for, and the differences were
+-- written
+IsRightOf given words out OtherSchema =
+    (asked : AskForRecords words) × (form : Form) × (schema : Option Schema)
+    × IsFormAsked (AreOfDeck given) asked.form form schema
+    × OfCountedFile given.of_file (λ bytes. WritesOther schema bytes out.before out.behind)
 -- the deck that the words name was written as a program
 IsRightOf given words out InCobol =
     (deck : Text) × (fixed : Bool) × AskCobol words deck fixed
@@ -97,16 +106,16 @@ IsRightOf given words out InCobol =
 -- folder that they name
 IsRightOf given words out (Loaded end) =
     (load : AskForLoad words) × OfNamedDeck given.of_file given.of_input load.deck (λ bytes.
-    LoadsDeck given.of_folder (IsTextNamed given.of_file given.of_input load.text)
+    LoadsDeck given.of_disk (IsTextNamed given.of_file given.of_input load.text)
     bytes load.folder load.file load.form load.into out.before out.behind end)
 -- what a file has was counted and written, or it is told why not
 IsRightOf given words out (Counted end) =
     (path : Text) × AskStat words path
-    × OfWholeFile given.of_file (λ bytes. EndsStatisticsWith bytes out.before out.behind end)
+    × OfCountedFile given.of_file (λ bytes. EndsStatisticsWith bytes out.before out.behind end)
 
 -- where something was done, it is right of what was read of the files, of the input and of the folder
 abbrev pub RightIfOk : {F I W : Type 0} → (F → Option (List ℕ)) → (I → Option (List ℕ)) → StandardInput I
-    → (List ℕ → Unseen) → (words : List (String Global)) → (W → Option (List ℕ)) → (old new : W)
+    → Unseen → (words : List (String Global)) → (W → Option (List ℕ)) → (old new : W)
     → Result Outcome Fault → Type 0
 RightIfOk remaining left input unseen words contents old new result =
     IfOk result (IsRightOf (given_by remaining (left input.reader) unseen) (map string_bytes words)

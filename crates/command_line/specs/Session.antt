@@ -1,5 +1,5 @@
--- The libraries of the files that are described in a session over a folder. All of this is ours.
-use Rattle.std.specs.Prelude.{◌≡◌, ◌≢◌, ℕ, List, [], Option, Result, Ok, Err}
+-- The library of a session over a folder. All of this is ours.
+use Rattle.std.specs.Prelude.{◌≡◌, ◌≢◌, ℕ, Bool, List, [], Option, Result, Ok, Err}
 use Rattle.std.specs.NonZero.{non_zero_usize_get}
 use Rattle.page_store.specs.declared.shelf.Shelf.{Ghosts}
 use Rattle.folder_shelf.specs.Replay.{Unseen}
@@ -10,7 +10,8 @@ use Rattle.shelf_library.specs.declared.library.ShelfLibrary.{ShelfLibrary}
 use Rattle.shelf_run.specs.ShelfRun.{over_shelf}
 use Rattle.standard_input.specs.Source.{source_of}
 use Rattle.standard_input.specs.declared.standard_input.StandardInput.{StandardInput}
-use Rattle.serve.specs.Serving.{Streams, streams, Served}
+use Rattle.serve.specs.Serving.{Streams, streams, IsServedToEnd}
+use Rattle.serve.specs.declared.end.SessionEnd.{SessionEnd}
 use Rattle.serve.specs.declared.fault.ServeFault.{ServeFault}
 use Rattle.serve.specs.declared.fault.ServeFault.TheVariants.{Input as NotRead, Output as NotWritten}
 use Rattle.serve.specs.declared.fault.ServeFault.TheVariants.{Memory as NoMemory}
@@ -29,7 +30,7 @@ abbrev pub shown_over : {X : Type 0} → (shelf : Ghosts X) → Shown (ShelfLibr
 shown_over shelf = shown_by (library_state shelf)
 
 -- a library over the folder of this path that was asked nothing yet
-abbrev pub IsNewOver : {X : Type 0} → (shelf : Ghosts X) → (List ℕ → Unseen) → (path : List ℕ)
+abbrev pub IsNewOver : {X : Type 0} → (shelf : Ghosts X) → Unseen → (path : List ℕ)
     → (limit frames : ℕ) → ShelfLibrary X shelf → Type 0
 IsNewOver shelf disk path limit frames library =
     library_state shelf library ≡ over_shelf limit frames (folder_at_first disk path) [] 0
@@ -50,13 +51,24 @@ abbrev pub session_end_as : Result Unit ServeFault → Result Unit Fault
 session_end_as (Ok _) = Ok tt
 session_end_as (Err fault) = Err (session_told_as fault)
 
--- unless memory was wanted before the first request: requests were answered over libraries that are
+-- the library lets go of files as its shelf does
+abbrev pub keeps_over : {X : Type 0} → (shelf : Ghosts X) → (X → ℕ → Bool) → ShelfLibrary X shelf → ℕ → Bool
+keeps_over shelf keeps_open library = keeps_open library.shelf
+
+-- requests were answered over this library, one for the whole session, and how that ended is told
+pub record ServedOver {S : Type 0} (shown : Shown S) (keeps_open : S → ℕ → Bool) (start : S) (s : Streams)
+    (result : Result Unit Fault) : Type 0 where
+  pub end : SessionEnd S
+  pub ends : IsServedToEnd shown keeps_open start s end
+  pub told : result ≡ session_end_as end.requests
+
+-- unless memory was wanted before the first request: requests were answered over a library that is
 -- new at first, over the folder of this path, and how that ended is told
-abbrev pub ServedAt : {X I W : Type 0} → (shelf : Ghosts X) → (List ℕ → Unseen) → (path : List ℕ) → Limits
+abbrev pub ServedAt : {X I W : Type 0} → (shelf : Ghosts X) → (X → ℕ → Bool) → Unseen → (path : List ℕ) → Limits
     → (I → Option (List ℕ)) → (W → Option (List ℕ)) → (input input_after : StandardInput I)
     → (out out_after : W) → Result Unit Fault → Type 0
-ServedAt shelf disk path limits left contents input input_after out out_after result =
-    result ≢ Err Memory → (end : Result Unit ServeFault) × (result ≡ session_end_as end)
-    × Served (shown_over shelf)
-    (IsNewOver shelf disk path limits.pages (non_zero_usize_get limits.frames))
-    (streams_of left contents input input_after out out_after) end
+ServedAt {X} shelf keeps_open disk path limits left contents input input_after out out_after result =
+    result ≢ Err Memory → (start : ShelfLibrary X shelf)
+    × IsNewOver shelf disk path limits.pages (non_zero_usize_get limits.frames) start
+    × ServedOver (shown_over shelf) (keeps_over shelf keeps_open) start
+    (streams_of left contents input input_after out out_after) result

@@ -1,9 +1,7 @@
 -- What a run of a deck over a folder writes and leaves, by what the folder was asked and answered.
 use Rattle.std.specs.Prelude.{◌≡◌, ◌≢◌, ℕ, List, Option, String}
 use Rattle.std.specs.Global.{Global}
-use Rattle.std.specs.declared.io.traits.Read.{Ghosts as Reads}
-use Rattle.std.specs.declared.io.traits.Write.{Ghosts as Writes}
-use Rattle.std.specs.declared.io.traits.Seek.{Ghosts as Seeks}
+use Rattle.recorded_system.specs.declared.system.System.{Ghosts as Systems}
 use Rattle.std.specs.NonZero.{non_zero_usize_get}
 use Rattle.folder_shelf.specs.Replay.{Unseen}
 use Rattle.folder_shelf.specs.declared.disk.Disk.{Ghosts as Disks}
@@ -18,20 +16,19 @@ use Rattle.command_line.specs.Folder.{OverShelf}
 use Rattle.command_outcomes.specs.declared.fault.Fault.{Fault}
 use Rattle.command_outcomes.specs.declared.fault.Fault.TheVariants.{Deck, Output}
 
--- a shelf over a folder has these types as parameters, and the ghost members of some of them
-module _ {R D F E : Type 0} {reads : Reads F} {writes : Writes F} {seeks : Seeks F}
-    {entries : Reads E} {disks : Disks D} where
+-- a shelf over a folder has these types as parameters, and their ghost members
+module _ {S D : Type 0} {systems : Systems S} {disks : Disks D} where
   -- the transcript of the deck was written, up to this end
-  abbrev pub TellsRun : {W : Type 0} → (List ℕ → Unseen) → (path : String Global)
-      → FolderShelf R D F E reads writes seeks entries disks → (bytes : List ℕ) → Limits
+  abbrev pub TellsRun : {W : Type 0} → Unseen → (path : String Global)
+      → FolderShelf S D systems disks → (bytes : List ℕ) → Limits
       → (W → Option (List ℕ)) → (old new : W) → RunEnd → Type 0
   TellsRun disk path shelf bytes limits contents old new end = OverShelf disk path shelf (λ first last.
       OnShelf bytes first last (λ deck. TellsLines (contents old) (contents new) end
       (Runs limits.pages (non_zero_usize_get limits.frames) first last 0 shelf.faults deck)))
 
   -- where the writer refused a line, lines of it were written, up to that one
-  abbrev pub TellsPart : {W : Type 0} → (List ℕ → Unseen) → (path : String Global)
-      → FolderShelf R D F E reads writes seeks entries disks → (bytes : List ℕ) → Limits
+  abbrev pub TellsPart : {W : Type 0} → Unseen → (path : String Global)
+      → FolderShelf S D systems disks → (bytes : List ℕ) → Limits
       → (W → Option (List ℕ)) → (old new : W) → Fault → Type 0
   TellsPart disk path shelf bytes limits contents old new fault =
       fault ≡ Output → OverShelf disk path shelf (λ first last.
@@ -39,8 +36,8 @@ module _ {R D F E : Type 0} {reads : Reads F} {writes : Writes F} {seeks : Seeks
       (BreaksOff limits.pages (non_zero_usize_get limits.frames) first last 0 shelf.faults deck)))
 
   -- at any other fault nothing was written, and no file was changed
-  abbrev pub LeavesAll : {W : Type 0} → (List ℕ → Unseen) → (path : String Global)
-      → FolderShelf R D F E reads writes seeks entries disks → (old new : W) → Fault → Type 0
+  abbrev pub LeavesAll : {W : Type 0} → Unseen → (path : String Global)
+      → FolderShelf S D systems disks → (old new : W) → Fault → Type 0
   LeavesAll disk path shelf old new fault =
       fault ≢ Output → (new ≡ old) × OverShelf disk path shelf LeavesFiles
 

@@ -8,12 +8,15 @@
 //! `serve_folder` that of a session. The text of help is shown by runs of the program, and that the
 //! system opens the folder that a path names is trusted.
 //!
-//! Read `performing` first, then `transcript`, which runs the bytes of a deck, and `session`.
+//! Read `performing` first, then `transcript`, which runs the bytes of a deck, and `session`. What is
+//! told behind the first line on standard error stands in `causes` and `missed`; no clause speaks of it.
 #![tactic(auto)]
 
+mod causes;
 mod explaining;
 mod load_form;
 mod loading;
+mod missed;
 mod performing;
 mod session;
 mod streams;

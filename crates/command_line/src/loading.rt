@@ -15,6 +15,7 @@ use progress::Progress;
 use record_forms::Form;
 use record_loading::Load;
 use record_reading::items_are_whole;
+use recorded_system::RecordedSystem;
 use shelf_loading::{ShelfEnd, ShelfFault, add_answer, load_on_shelf};
 use standard_input::StandardInput;
 use std::alloc::Global;
@@ -80,7 +81,8 @@ where
     ensures loads { LoadsDescribed D.Disk.unseen folder file.now load form.now text.now result }
     ensures fault { IfErr result (λ fault. status_of fault ≡ 4) }
 {
-    let shelf: FolderShelf<&R, D> = FolderShelf::new(rt, alloc, folder);
+    let system = RecordedSystem::new(rt, alloc);
+    let shelf: FolderShelf<RecordedSystem<&R>, D> = FolderShelf::new(system, folder);
     let (_shelf, end) = load_on_shelf(
         alloc,
         shelf,

@@ -25,7 +25,7 @@ simple app is = (and_parts (is_simple app) _ (simple_and_free app is)).0
 
 -- what was met is what the words ask for
 asked : (words : List Text) (request : Request) → AreFaultless words → IsRequestMet (subcommand_of program_app words) request → Ask words request
-asked words (Run deck folder limits) faultless h = (faultless, h)
+asked words (Run deck folder limits strict) faultless h = (faultless, h)
 asked words (Check files quiet) faultless h = (faultless, h)
 asked words (Serve folder limits) faultless h = (faultless, h)
 asked words (Schema file deck name) faultless h = (faultless, h)

@@ -33,19 +33,22 @@ pub record AreLimits (rows : List Row) (pages frames : ℕ) : Type 0 where
   pub fewest_frames : 0 < frames
   pub most_frames : frames ≤ 4096
 
--- the subcommand that was met is the run of this deck over this folder, with these limits
-pub record IsRunRequest (met : Option (Text × List Row)) (deck folder : Text) (pages frames : ℕ) : Type
-    0 where
+-- the text is this truth value
+abbrev pub IsFlag : Text → Bool → Type 0
+IsFlag text true = text ≡ codes "true"
+IsFlag text false = text ≡ codes "false"
+
+-- the subcommand that was met is the run of this deck over this folder, with these limits, strict or not
+pub record IsRunRequest (met : Option (Text × List Row)) (deck folder : Text) (pages frames : ℕ)
+    (strict : Bool) : Type 0 where
   pub rows : List Row
   pub is : met ≡ Some (codes "run", rows)
   pub deck_given : first_of (codes "deck") rows ≡ Some deck
   pub folder_given : first_of (codes "folder") rows ≡ Some folder
   pub limits : AreLimits rows pages frames
-
--- the text is this truth value
-abbrev pub IsFlag : Text → Bool → Type 0
-IsFlag text true = text ≡ codes "true"
-IsFlag text false = text ≡ codes "false"
+  pub strict_text : Text
+  pub strict_given : one_of (codes "strict") rows ≡ Some strict_text
+  pub strict_is : IsFlag strict_text strict
 
 -- the values ask that no progress is shown, or do not
 pub record IsQuietRequest (rows : List Row) (quiet : Bool) : Type 0 where
@@ -165,8 +168,8 @@ pub record IsStat (met : Option (Text × List Row)) (file : Text) : Type 0 where
 
 -- the subcommand that was met, with its values, is what is asked for
 abbrev pub IsRequestMet : Option (Text × List Row) → Request → Type 0
-IsRequestMet met (Run deck folder limits) =
-    IsRunRequest met deck.now folder.now limits.pages limits.frames.value
+IsRequestMet met (Run deck folder limits strict) =
+    IsRunRequest met deck.now folder.now limits.pages limits.frames.value strict
 IsRequestMet met (Check files quiet) = IsCheck met (map (λ file. file.now) files.items) quiet
 IsRequestMet met (Serve folder limits) = IsServe met folder.now limits.pages limits.frames.value
 IsRequestMet met (Schema file deck name) = IsSchemaRequest met file.now (option_map (λ text. text.now) deck)
@@ -185,7 +188,8 @@ IsRequestMet met (Help text) = ⊥
 -- the subcommand that was met is no run, or its values are none that a run can have; and so of each
 -- other subcommand
 abbrev pub IsNoRun : Option (Text × List Row) → Type 0
-IsNoRun met = (deck folder : Text) (pages frames : ℕ) → ¬ (IsRunRequest met deck folder pages frames)
+IsNoRun met = (deck folder : Text) (pages frames : ℕ) (strict : Bool)
+    → ¬ (IsRunRequest met deck folder pages frames strict)
 
 abbrev pub IsNoCheck : Option (Text × List Row) → Type 0
 IsNoCheck met = (files : List Text) (quiet : Bool) → ¬ (IsCheck met files quiet)
@@ -257,10 +261,11 @@ IsHelpText text = (kind_of text ≡ DisplayHelp) ⊎ (kind_of text ≡ DisplayVe
 abbrev pub IsMistake : (error text : Error) → Type 0
 IsMistake error text = (text ≡ error) × (IsHelpText error → ⊥) × (kind_of error ≢ OutOfMemory)
 
--- the words, the program's name first, ask for the run of this deck over this folder, with these limits
-abbrev pub AskRun : List Text → (deck folder : Text) (pages frames : ℕ) → Type 0
-AskRun words deck folder pages frames = AreFaultless words
-    × IsRunRequest (subcommand_of program_app words) deck folder pages frames
+-- the words, the program's name first, ask for the run of this deck over this folder, with these
+-- limits, strict or not
+abbrev pub AskRun : List Text → (deck folder : Text) (pages frames : ℕ) (strict : Bool) → Type 0
+AskRun words deck folder pages frames strict = AreFaultless words
+    × IsRunRequest (subcommand_of program_app words) deck folder pages frames strict
 
 -- for the check of these files, with progress or not
 abbrev pub AskCheck : List Text → (files : List Text) (quiet : Bool) → Type 0
@@ -311,7 +316,8 @@ AskHelp words text = HaveFault words text × IsHelpText text
 
 -- for this
 abbrev pub Ask : List Text → Request → Type 0
-Ask words (Run deck folder limits) = AskRun words deck.now folder.now limits.pages limits.frames.value
+Ask words (Run deck folder limits strict) =
+    AskRun words deck.now folder.now limits.pages limits.frames.value strict
 Ask words (Check files quiet) = AskCheck words (map (λ file. file.now) files.items) quiet
 Ask words (Serve folder limits) = AskServe words folder.now limits.pages limits.frames.value
 Ask words (Schema file deck name) = AskSchema words file.now (option_map (λ text. text.now) deck)

@@ -51,16 +51,16 @@ number_rule name least most usual = record (new_rule name) {
 abbrev pub pages_rule : Rule
 pages_rule = number_rule (codes "pages") 16 4294967295 (codes "1048576")
 
--- `[--frames N]`
-abbrev pub frames_rule : Rule
-frames_rule = number_rule (codes "frames") 1 4096 (codes "64")
+-- `[--frames N]`, and so many where it is not given
+abbrev pub frames_rule : Text → Rule
+frames_rule usual = number_rule (codes "frames") 1 4096 usual
 
--- `run DECK --folder DIR [--pages N] [--frames N]`
+-- `run DECK --folder DIR [--pages N] [--frames N] [--strict]`
 abbrev pub run_shape : Shape
 run_shape = record (new_shape (codes "run")) {
   rules = word_rule (codes "deck") ∷ option_rule (codes "folder")
       ∷ pages_rule
-      ∷ frames_rule ∷ [];
+      ∷ frames_rule (codes "64") ∷ flag_rule (codes "strict") ∷ [];
 }
 
 -- `check FILE.. [--quiet]`
@@ -75,7 +75,7 @@ abbrev pub serve_shape : Shape
 serve_shape = record (new_shape (codes "serve")) {
   rules = option_rule (codes "folder")
       ∷ pages_rule
-      ∷ frames_rule ∷ [];
+      ∷ frames_rule (codes "1024") ∷ [];
 }
 
 -- `schema FILE [--deck DECK --file NAME]`
@@ -124,7 +124,7 @@ load_shape = record (new_shape (codes "load")) {
       (codes "text") ∷ usual_rule (codes "as") (codes "text")
       ∷ flag_rule (codes "into")
       ∷ pages_rule
-      ∷ frames_rule ∷ flag_rule (codes "quiet") ∷ [];
+      ∷ frames_rule (codes "64") ∷ flag_rule (codes "quiet") ∷ [];
 }
 
 -- `stat FILE`

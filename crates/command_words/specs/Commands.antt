@@ -1,6 +1,6 @@
 -- What the arguments and the commands are that the program makes for `clap`.
 use Rattle.std.specs.Prelude.{◌≡◌, [], false, codes}
-use Rattle.clap.specs.Words.{App, Shape, Rule, app_of, rule_of, with_rule}
+use Rattle.clap.specs.Words.{App, Shape, Rule, Text, app_of, rule_of, with_rule}
 use Rattle.clap.specs.declared.builder.arg.Arg.{Arg}
 use Rattle.clap.specs.declared.builder.command.Command.{Command}
 use Rattle.clap.specs.declared.builder.command.Command.TheViews.{out-Command}
@@ -28,9 +28,9 @@ HasShape shape command = IsApp (record { top = shape; subs = [] }) command
 abbrev pub with_files : App → App
 with_files app = with_rule (with_rule app (word_rule (codes "deck"))) (option_rule (codes "folder"))
 
--- with limits
-abbrev pub with_limits : App → App
-with_limits app = with_rule (with_rule app pages_rule) frames_rule
+-- with limits, of which this is the number of frames where none is given
+abbrev pub with_limits : Text → App → App
+with_limits frames app = with_rule (with_rule app pages_rule) (frames_rule frames)
 
 -- with the option by which it shows no progress
 abbrev pub with_quiet : App → App

@@ -45,10 +45,12 @@ fn run_of<'a>(matches: &ArgMatches<'a>) -> Option<Request<'a>>
     let deck = run.get_str("deck")?;
     let folder = run.get_str("folder")?;
     let limits = limits_of(run)?;
+    let strict = run.get_one("strict")?;
     Some(Request::Run {
         deck,
         folder,
         limits,
+        strict,
     })
 }
 

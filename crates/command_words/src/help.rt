@@ -13,6 +13,7 @@ macro_rules! answers {
     $($fault:ident $code:literal [$start:literal $($rest:literal)*] $told:literal)*) => {
         concat!("Exit status:
   0   the run ended, whatever statuses its verbs answered
+  1   with '--strict': the run ended, and a line of the transcript has 24, 30, 90, 91 or 92
   2   the deck is refused: 'cobix: line L: fault C'
   3   the command line is not understood
   4   the deck could not be read or DIR is no folder ('cobix: input'), the transcript could not be written \

@@ -17,11 +17,13 @@ use std::alloc::Global;
 /// What a command line asks for.
 #[derive(Drop)]
 pub enum Request<'a> {
-    /// The run of the deck in the file of this path, over the files of a folder.
+    /// The run of the deck in the file of this path, over the files of a folder; where it is strict,
+    /// its exit status tells whether a verb failed for no fault of the deck.
     Run {
         deck: &'a str,
         folder: &'a str,
         limits: Limits,
+        strict: bool,
     },
     /// The checks of the files of these paths, without progress where it is quiet.
     Check {

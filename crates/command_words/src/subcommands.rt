@@ -52,12 +52,14 @@ fn with_files<'a>(
     )
 }
 
-/// `run`, `serve` or `load` with its limits.
+/// `run`, `serve` or `load` with its limits: so many frames where none are given.
 fn with_limits<'a>(
     alloc: Global,
     files: Result<Command<'a>, AllocError>,
+    usual_frames: &'a str,
 ) -> Result<Command<'a>, AllocError>
-    ensures { (app : App) → IfOk files.entry (IsApp app) → IfOk result (IsApp (with_limits app)) }
+    ensures { (app : App) → IfOk files.entry (IsApp app)
+        → IfOk result (IsApp (with_limits usual_frames.entry.now app)) }
 {
     let pages = number(
         alloc,
@@ -72,7 +74,7 @@ fn with_limits<'a>(
         "frames",
         1,
         4096,
-        "64",
+        usual_frames,
         "How many pages of an open file are held in memory at most, from 1 to 4,096",
     );
     let begun = with_argument(files, pages);
@@ -104,7 +106,12 @@ fn run_command<'a>(alloc: Global) -> Result<Command<'a>, AllocError>
         "Runs a deck, and writes its transcript to standard output",
         ANSWERS,
     );
-    with_limits(alloc, with_files(alloc, Ok(run)))
+    let strict = flag(
+        alloc,
+        "strict",
+        "Ends with 1 where a line of the transcript has 24, 30, 90, 91 or 92",
+    );
+    with_argument(with_limits(alloc, with_files(alloc, Ok(run)), "64"), strict)
 }
 
 /// `check`.
@@ -137,7 +144,7 @@ fn serve_command<'a>(alloc: Global) -> Result<Command<'a>, AllocError>
         SERVING,
     );
     let folder = folder(alloc, "The folder in which the files stay");
-    with_limits(alloc, serve.arg(folder))
+    with_limits(alloc, serve.arg(folder), "1024")
 }
 
 /// `list` or `schema` with a deck, and a file of it.
@@ -359,7 +366,7 @@ fn load_command<'a>(alloc: Global) -> Result<Command<'a>, AllocError>
         LOADED,
     );
     let written = with_text(alloc, with_files(alloc, Ok(load)));
-    with_quiet(alloc, with_limits(alloc, written))
+    with_quiet(alloc, with_limits(alloc, written, "64"))
 }
 
 /// `stat`.

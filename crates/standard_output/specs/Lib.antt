@@ -1,1 +1,3 @@
 pub mod Writes
+pub mod LineEnds
+pub mod FaultLines

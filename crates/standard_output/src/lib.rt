@@ -8,7 +8,11 @@
 //! Read `specs/Writes.antt` first, then `StandardOutput`.
 #![tactic(auto)]
 
+mod fault_lines;
+mod line_ends;
 mod record;
 mod standard_output;
 
+pub use fault_lines::{FaultLine, FaultLines};
+pub use line_ends::LineEnds;
 pub use standard_output::StandardOutput;

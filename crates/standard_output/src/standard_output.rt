@@ -3,15 +3,26 @@ ghost use Rattle.std.specs.Prelude.{◌≡◌, ◌∷◌, []};
 ghost use Rattle.std.specs.Io.{WritesAtMost};
 ghost use Rattle.std.specs.Io.KnownBytes.{WriteAppends, Keeps};
 ghost use Rattle.standard_output.specs.Writes.{answered_write, taken_by};
+ghost use Rattle.standard_output.specs.LineEnds.{AreEndsOf, has_failed_line};
+ghost use Rattle.standard_output.specs.FaultLines.{AreFaultsOf, IsFaultLine};
+ghost use Rattle.std.specs.Option.{IfSome};
 
+use crate::fault_lines::FaultLines;
+use crate::line_ends::LineEnds;
 use crate::record::Record;
-use std::io::{self, Write};
+use std::io::{self, ErrorKind, Write};
 
-/// A writer over standard output, or another writer, that notes each write.
+/// A writer over standard output, or another writer, that notes each write, and of a transcript how
+/// its lines end.
 #[derive(Drop)]
 pub struct StandardOutput<W> {
     out: W,
     calls: Record,
+    ends: LineEnds,
+    faults: FaultLines,
+    refused: Option<ErrorKind>,
+    ghost noted: { AreEndsOf (taken_by calls.writes) ends },
+    ghost faulted: { AreFaultsOf (taken_by calls.writes) faults },
 }
 
 impl<W: Write> StandardOutput<W> {
@@ -23,6 +34,9 @@ impl<W: Write> StandardOutput<W> {
         StandardOutput {
             out,
             calls: Record::new(),
+            ends: LineEnds::new(),
+            faults: FaultLines::new(),
+            refused: None,
         }
     }
 
@@ -30,8 +44,39 @@ impl<W: Write> StandardOutput<W> {
     pub fn into_inner(self) -> W
         ensures { result ≡ self.out }
     {
-        let StandardOutput { out, calls: _ } = self;
+        let StandardOutput {
+            out,
+            calls: _,
+            ends: _,
+            faults: _,
+            refused: _,
+        } = self;
         out
+    }
+
+    /// Whether a line that was written ended in a status by which a run is not as it was asked: 24,
+    /// 30, 90, 91 or 92.
+    pub fn has_failed_line(&self) -> bool
+        ensures { result ≡ has_failed_line (taken_by self.now.calls.writes) }
+    {
+        self.ends.failed
+    }
+
+    /// The number of a line of a transcript that was written, from 1 on, by which the file of this
+    /// name in the deck answered 30: of the first one, where it is one of the first eight files that
+    /// did. None where there is none.
+    pub fn fault_line_of(&self, name: &[u8]) -> Option<u64>
+        ensures { IfSome result (λ number.
+            ∥ IsFaultLine (taken_by self.now.calls.writes) name.now number ∥₁) }
+    {
+        self.faults.number_of(name)
+    }
+
+    /// Why the last write that failed did, if one failed.
+    pub fn refusal(&self) -> Option<ErrorKind>
+        ensures { result ≡ self.now.refused }
+    {
+        self.refused
     }
 }
 
@@ -51,8 +96,15 @@ impl<W: Write> Write for StandardOutput<W> {
     {
         let answer = self.out.write(bytes);
         match &answer {
-            Ok(n) => self.calls.taken(bytes, *n),
-            Err(_) => self.calls.failed(bytes),
+            Ok(n) => {
+                self.calls.taken(bytes, *n);
+                self.ends.note(&bytes[..*n]);
+                self.faults.note(&bytes[..*n]);
+            }
+            Err(error) => {
+                self.calls.failed(bytes);
+                self.refused = Some(error.kind());
+            }
         }
         answer
     }

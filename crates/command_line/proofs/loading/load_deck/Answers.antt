@@ -53,7 +53,7 @@ returns-in-Ok-end g c =
               form = c.in-Ok-form_of.form;
               is_form = c.in-Ok-form_of.ensures.form;
               text = c.in-Ok-read_text.text.items;
-              is_text = c.in-Ok-read_text.ensures.bytes;
+              is_text = c.in-Ok-read_text.ensures.text;
               loads = loads;
               told = done.1;
             },

@@ -1,11 +1,13 @@
-use Rattle.std.proofs.Common.{map, string_bytes, subst}
-use Rattle.command_words.specs.Asks.{Ask}
+use Rattle.std.proofs.Common.{Bool, map, string_bytes, subst, sym}
+use Rattle.command_words.specs.Asks.{Ask, AskRun}
 use Rattle.command_line.specs.Performed.{written, wrote}
 use Rattle.command_line.specs.Right.{given_by}
 use Rattle.command_line.proofs.AskedSessionLemmas.{as_asked}
+use Rattle.command_line.proofs.PerformedLemmas.{both_some}
 use Rattle.command_line.proofs.DidLemmas.{for_schema, for_records, for_load, did_list, did_schema, did_load, did_run}
-use Rattle.command_line.proofs.RightLemmas.{right_done, right_as, right_by, right_schema, right_run}
-use Rattle.command_outcomes.specs.declared.outcome.Outcome.TheVariants.{Helped, Checked, Served, Explained, Listed, Records, InCobol, Loaded, Counted}
+use Rattle.command_line.proofs.RightLemmas.{right_done, right_as, right_by, right_schema, right_list, right_run}
+use Rattle.command_outcomes.specs.declared.outcome.Outcome.TheVariants.{Helped, Checked, Served, Explained, Listed, InCobol, Loaded, Counted}
+use Rattle.standard_input.specs.declared.standard_input.StandardInput.{StandardInput}
 use Rattle.command_line.proofs.performing.perform.Goals as goal
 
 -- the session that was held is the one that the words ask for
@@ -13,7 +15,7 @@ pub returns-in-Serve-clause-session : goal.returns-in-Serve-clause-session
 returns-in-Serve-clause-session g c =
     let words = map string_bytes c.args.words.now in
     let asked = subst (Ask words) c.in-Serve.is c.in-Ok.ensures.asked in
-    as_asked _ _ words _ _ c.in-Serve.folder.now c.in-Serve.limits.pages c.in-Serve.limits.frames.value asked c.serve_path.ensures.came
+    as_asked _ _ _ words _ _ c.in-Serve.folder.now c.in-Serve.limits.pages c.in-Serve.limits.frames.value asked c.serve_path.ensures.came
 
 -- help, a run and a session are right of whatever was read
 pub returns-in-Help-clause-right : goal.returns-in-Help-clause-right
@@ -39,7 +41,18 @@ pub returns-in-Run-clause-did : goal.returns-in-Run-clause-did
 returns-in-Run-clause-did g c =
     let words = map string_bytes c.args.words.now in
     let asked = subst (Ask words) c.in-Run.is c.in-Ok.ensures.asked in
-    did_run words c.in-Run.deck.now c.in-Run.folder.now c.in-Run.limits.pages c.in-Run.limits.frames.value asked _ _ c.run.result.1 c.run.ensures.came
+    did_run words c.in-Run.deck.now c.in-Run.folder.now c.in-Run.limits.pages c.in-Run.limits.frames.value c.in-Run.strict asked _ _ c.run.result.1 c.run.ensures.came
+
+-- the run is strict as the words ask for it
+pub returns-in-Run-clause-deck : goal.returns-in-Run-clause-deck
+returns-in-Run-clause-deck g c =
+    let words = map string_bytes c.args.words.now in
+    let asked = subst (Ask words) c.in-Run.is c.in-Ok.ensures.asked in
+    let deck = c.in-Run.deck.now in
+    let folder = c.in-Run.folder.now in
+    let limits = c.in-Run.limits in
+    both_some c.run.result.0 c.run.ensures.strict c.run.ensures.deck
+    (λ ran same is. (deck, folder, limits.pages, limits.frames.value, subst (λ (strict : Bool). AskRun words deck folder limits.pages limits.frames.value strict) (sym same) asked, is))
 
 pub returns-in-len1-clause-right : goal.returns-in-len1-clause-right
 returns-in-len1-clause-right g c =
@@ -82,16 +95,16 @@ returns-in-List-clause-did g c =
     let asked = subst (Ask words) c.in-List.is c.in-Ok.ensures.asked in
     did_list words (written (g.W.Write.contents c.args.out.now) (g.W.Write.contents c.list_records.new.out))
     (for_records words c.in-List.file c.in-List.key c.in-List.from c.in-List.to c.in-List.first c.in-List.form c.in-List.quiet asked)
-    _ c.list_records.result c.list_records.ensures.records c.list_records.ensures.fault
+    g.R.File.Read.remaining (λ (input : StandardInput g.row.I.Denot). g.I.Read.remaining input.reader) c.args.input.now
+    (record { key = c.in-List.key; from = c.in-List.from; to = c.in-List.to; first = c.in-List.first })
+    g.W.Write.contents c.args.out.now c.list_records.new.out c.list_records.result c.list_records.ensures.records c.list_records.ensures.fault
 
 pub returns-in-List-clause-right : goal.returns-in-List-clause-right
 returns-in-List-clause-right g c =
-    let given = given_by g.R.File.Read.remaining (g.I.Read.remaining c.args.input.now.reader) g.D.Disk.unseen in
-    let words = map string_bytes c.args.words.now in
-    let asked = subst (Ask words) c.in-List.is c.in-Ok.ensures.asked in
-    let list = for_records words c.in-List.file c.in-List.key c.in-List.from c.in-List.to c.in-List.first c.in-List.form c.in-List.quiet asked in
-    right_by given words (wrote g.W.Write.contents c.args.out.now c.list_records.new.out) Records _
-    c.list_records.result c.list_records.ensures.records (λ end is. (list, is.0, is.1, is.2))
+    let asked = subst (Ask (map string_bytes c.args.words.now)) c.in-List.is c.in-Ok.ensures.asked in
+    right_list g.R.File.Read.remaining (λ (input : StandardInput g.row.I.Denot). g.I.Read.remaining input.reader) c.args.input.now g.D.Disk.unseen (map string_bytes c.args.words.now)
+    g.W.Write.contents c.args.out.now c.list_records.new.out
+    c.in-List.file c.in-List.key c.in-List.from c.in-List.to c.in-List.first c.in-List.form c.in-List.quiet asked c.list_records.result c.list_records.ensures.records
 
 pub returns-in-Stat-clause-right : goal.returns-in-Stat-clause-right
 returns-in-Stat-clause-right g c =

@@ -8,5 +8,5 @@ returns-clause-came g c =
     let done = c.serve_folder-end in
     let same : c.as_str.result.now ≡ c.args.folder.now = search rules in
     rw (sym same)
-    (came_to_serve _ _ _ done.result _ c.session_ended.ensures done.ensures.served
+    (came_to_serve _ _ _ _ done.result _ c.session_ended.ensures done.ensures.served
     (λ is. let no = done.ensures.memory is in (ap (source_of g.I.Read.remaining) no.0, ap g.W.Write.contents no.1)))

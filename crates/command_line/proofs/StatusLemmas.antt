@@ -1,0 +1,131 @@
+-- Which numbers are exit statuses of outcomes, also where a strict run heeds its lines.
+use Rattle.std.proofs.Common.{◌≡◌, ◌≢◌, ◌⊎◌, ◌≤◌, ℕ, zero, suc, Bool, true, false, ◌&&◌, if◌then◌else◌, List, Result, Ok, Err, IfErr, inl, inr, refl, sym, ◌∙◌, arith}
+use Rattle.file_checker.specs.declared.verdict.Verdict.{Verdict}
+use Rattle.file_checker.specs.declared.verdict.Verdict.TheVariants.{Sound, Unsound}
+use Rattle.file_listing.specs.declared.listing.FileList.{FileList}
+use Rattle.file_listing.specs.declared.listing.FileList.TheVariants as lists
+use Rattle.file_statistics.specs.declared.listing.FileStatisticsEnd.{FileStatisticsEnd}
+use Rattle.file_statistics.specs.declared.listing.FileStatisticsEnd.TheVariants as counts
+use Rattle.schema_listing.specs.declared.comparing.Comparison.{Comparison}
+use Rattle.schema_listing.specs.declared.comparing.Comparison.TheVariants.{Same, Different}
+use Rattle.shelf_loading.specs.Answer.{is_loaded}
+use Rattle.shelf_loading.specs.declared.end.ShelfEnd.{ShelfEnd}
+use Rattle.shelf_loading.specs.declared.end.ShelfEnd.TheVariants as ends
+use Rattle.standard_output.specs.LineEnds.{has_failed_line}
+use Rattle.command_outcomes.specs.Status.{status_of, status_by, status_of_worst, status_of_list, status_where, status_of_comparison, status_of_load, status_of_count, status_for, exit_status, IsExitStatus}
+use Rattle.command_outcomes.specs.declared.fault.Fault.{Fault}
+use Rattle.command_outcomes.specs.declared.fault.Fault.TheVariants as faults
+use Rattle.command_outcomes.specs.declared.outcome.Outcome.{Outcome}
+use Rattle.command_outcomes.specs.declared.outcome.Outcome.TheVariants as outcomes
+use Rattle.command_outcomes.specs.declared.outcome.WorstCheck.{WorstCheck}
+use Rattle.command_outcomes.specs.declared.outcome.WorstCheck.TheVariants as worst
+use Rattle.command_line.specs.Answered.{is_ended, status_heeding}
+
+-- what was done has one of the first two exit statuses, part by part
+low_where : (b : Bool) → status_where b ≤ 1
+low_where true = omega arith
+low_where false = omega arith
+
+low_verdict : (verdict : Verdict) → status_by verdict ≤ 1
+low_verdict (Sound records pages) = omega arith
+low_verdict (Unsound reason) = omega arith
+
+low_list : (list : FileList) → status_of_list list ≤ 1
+low_list lists.Listed = omega arith
+low_list lists.NoKey = omega arith
+low_list (lists.Unsound reason) = omega arith
+
+low_comparison : (told : Comparison) → status_of_comparison told ≤ 1
+low_comparison Same = omega arith
+low_comparison Different = omega arith
+
+low_load : (end : ShelfEnd) → status_of_load end ≤ 1
+low_load ends.IsThere = omega arith
+low_load (ends.Loaded end) = low_where (is_loaded end)
+
+low_count : (end : FileStatisticsEnd) → status_of_count end ≤ 1
+low_count counts.Listed = omega arith
+low_count (counts.Unsound reason place) = omega arith
+
+-- and so has an outcome, but that of several files of which one cannot be read
+abbrev IsLow : ℕ → Type 0
+IsLow status = (status ≤ 1) ⊎ (status ≡ 4)
+
+low_worst : (found : WorstCheck) → IsLow (status_of_worst found)
+low_worst worst.AllSound = inl (omega arith)
+low_worst worst.Unsound = inl (omega arith)
+low_worst worst.Unread = inr refl
+
+low : (outcome : Outcome) → IsLow (status_for outcome)
+low outcomes.Helped = inl (omega arith)
+low (outcomes.Checked verdict) = inl (low_verdict verdict)
+low (outcomes.CheckedAll found) = low_worst found
+low (outcomes.Ended end) = inl (omega arith)
+low outcomes.Served = inl (omega arith)
+low outcomes.SchemaTold = inl (omega arith)
+low (outcomes.SchemaCompared told) = inl (low_comparison told)
+low (outcomes.SchemaRefused refusal) = inl (omega arith)
+low outcomes.Explained = inl (omega arith)
+low outcomes.Listed = inl (omega arith)
+low (outcomes.Records list) = inl (low_list list)
+low outcomes.OtherSchema = inl (omega arith)
+low outcomes.InCobol = inl (omega arith)
+low (outcomes.Loaded end) = inl (low_load end)
+low (outcomes.Counted end) = inl (low_count end)
+
+few_is : (n : ℕ) → n ≤ 1 → IsExitStatus n
+few_is zero few = inl refl
+few_is (suc zero) few = inr (inl refl)
+few_is (suc (suc n)) few = absurd (omega (arith, few))
+
+low_is : (n : ℕ) → IsLow n → IsExitStatus n
+low_is n (inl few) = few_is n few
+low_is n (inr four) = inr (inr (inr (inr four)))
+
+not_two : (n : ℕ) → IsLow n → n ≡ 2 → ⊥
+not_two n (inl few) two = omega (arith, few, two)
+not_two n (inr four) two = omega (arith, four, two)
+
+not_three : (n : ℕ) → IsLow n → n ≡ 3 → ⊥
+not_three n (inl few) three = omega (arith, few, three)
+not_three n (inr four) three = omega (arith, four, three)
+
+fault_is : (fault : Fault) → IsExitStatus (status_of fault)
+fault_is (faults.Deck fault) = inr (inr (inl refl))
+fault_is (faults.NotListed fault) = inr (inr (inl refl))
+fault_is faults.NoSuchFile = inr (inr (inr (inl refl)))
+fault_is (faults.Form fault) = inr (inr (inr (inl refl)))
+fault_is faults.Unexplained = inr (inr (inr (inl refl)))
+fault_is faults.LongValue = inr (inr (inr (inl refl)))
+fault_is (faults.Usage text) = inr (inr (inr (inl refl)))
+fault_is faults.Input = inr (inr (inr (inr refl)))
+fault_is faults.Output = inr (inr (inr (inr refl)))
+fault_is faults.Memory = inr (inr (inr (inr refl)))
+
+exit_is : (outcome : Result Outcome Fault) → IsExitStatus (exit_status outcome)
+exit_is (Ok outcome) = low_is (status_for outcome) (low outcome)
+exit_is (Err fault) = fault_is fault
+
+one_or : (fails : Bool) (n : ℕ) → IsExitStatus n → IsExitStatus (if fails then 1 else n)
+one_or true n is = inr (inl refl)
+one_or false n is = is
+
+pub heeding_is : (strict : Bool) (bytes : List ℕ) (outcome : Result Outcome Fault) → IsExitStatus (status_heeding strict bytes outcome)
+heeding_is strict bytes outcome = one_or (strict && is_ended outcome && has_failed_line bytes) (exit_status outcome) (exit_is outcome)
+
+-- a status of 2 or 3 is that of a fault that is neither of the input, of the output, nor of memory
+by_fault : (P : Type 0) (outcome : Result Outcome Fault) → IfErr outcome (λ fault. status_of fault ≢ 4 → P) → (exit_status outcome ≡ 2) ⊎ (exit_status outcome ≡ 3) → P
+by_fault P (Ok outcome) kept (inl two) = absurd (not_two (status_for outcome) (low outcome) two)
+by_fault P (Ok outcome) kept (inr three) = absurd (not_three (status_for outcome) (low outcome) three)
+by_fault P (Err fault) kept (inl two) = kept (λ four. omega (arith, two, four))
+by_fault P (Err fault) kept (inr three) = kept (λ four. omega (arith, three, four))
+
+not_one : (fails : Bool) (n : ℕ) → ((if fails then 1 else n) ≡ 2) ⊎ ((if fails then 1 else n) ≡ 3) → (n ≡ 2) ⊎ (n ≡ 3)
+not_one true n (inl two) = absurd (omega (arith, two))
+not_one true n (inr three) = absurd (omega (arith, three))
+not_one false n either = either
+
+pub untouched_by : (P : Type 0) (strict : Bool) (bytes : List ℕ) (outcome : Result Outcome Fault) → IfErr outcome (λ fault. status_of fault ≢ 4 → P) → (status : ℕ) → status ≡ status_heeding strict bytes outcome → (status ≡ 2) ⊎ (status ≡ 3) → P
+untouched_by P strict bytes outcome kept status is either =
+    let heeded : (status_heeding strict bytes outcome ≡ 2) ⊎ (status_heeding strict bytes outcome ≡ 3) = elim either [ inl two ↦ inl (sym is ∙ two) | inr three ↦ inr (sym is ∙ three) ] in
+    by_fault P outcome kept (not_one (strict && is_ended outcome && has_failed_line bytes) (exit_status outcome) heeded)
