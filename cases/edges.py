@@ -6,6 +6,7 @@ Only a trial that tells what the machine lacks for it is skipped: any other erro
 import fcntl
 import os
 import random
+import re
 import resource
 import shutil
 import subprocess
@@ -85,6 +86,22 @@ def delivered(verb, *numbers):
     return [f"{verb} CUST 00 [{record(it)}]" for it in numbers]
 
 
+FILES = {"CUST": "cust.dat", "TWIN": "twin.dat"}
+
+
+def wants_causes(told, lines):
+    """Standard error has a line for each file by which a line of the transcript ends in 30: its name in the folder, a cause, and the number of the first such line."""
+    first = {}
+    for number, line in enumerate(lines, 1):
+        words = line.split()
+        if words[-1] == "30":
+            first.setdefault(words[-2], number)
+    wanted = [rf"cobix: {FILES[it]}: .+ \(line {first[it]} of the transcript\)" for it in FILES if it in first]
+    found = told.decode().splitlines()
+    met = len(found) == len(wanted) and all(re.fullmatch(*it) for it in zip(wanted, found))
+    wants((met, told), (True, told), f"whether standard error tells {wanted}")
+
+
 READS = ["READ CUST NEXT"] * 5  # more bytes of transcript than a pipe holds
 NEW = deck("OPEN OUTPUT CUST", *added(1, 2, 3, 4, 5), "CLOSE CUST")
 LOOK = deck("OPEN INPUT CUST", "READ CUST NEXT", "CLOSE CUST")
@@ -102,6 +119,7 @@ class Room:
         self.files = self.place / "files"
         self.files.mkdir()
         self.cust = self.files / "cust.dat"
+        self.told = ""  # by the last run, on standard error
 
     def words(self, text, options=()):
         """The command line of a run of a deck."""
@@ -116,8 +134,11 @@ class Room:
     def run(self, text, **how):
         """The lines of the transcript of a run that ends as it should."""
         ended = self.call(self.words(text), **how)
-        wants((ended.returncode, ended.stderr), (0, b""), "exit status and standard error")
-        return ended.stdout.decode().splitlines()
+        wants(ended.returncode, 0, "exit status")
+        lines = ended.stdout.decode().splitlines()
+        wants_causes(ended.stderr, lines)
+        self.told = ended.stderr.decode()
+        return lines
 
     def made(self):
         """A file of five records, and its bytes."""
@@ -200,7 +221,8 @@ def full_output(room):
     """A transcript that cannot be written ends the run behind its first verb, and the file that it was making is refused."""
     with open("/dev/full", "wb") as full:
         ended = room.call(room.words(NEW), capture_output=False, stdout=full, stderr=subprocess.PIPE)
-    wants((ended.returncode, ended.stderr), (4, b"cobix: output\n"), "exit status and standard error")
+    told = b"cobix: output\n  standard output: no space left on device\n"
+    wants((ended.returncode, ended.stderr), (4, told), "exit status and standard error")
     room.wants_refused()
 
 
@@ -211,7 +233,8 @@ def pipe_ends_early(room):
     os.close(end)
     ended = room.call(room.words(LOOK), capture_output=False, stdout=writer, stderr=subprocess.PIPE)
     os.close(writer)
-    wants((ended.returncode, ended.stderr), (4, b"cobix: output\n"), "exit status and standard error")
+    told = b"cobix: output\n  standard output: broken pipe\n"
+    wants((ended.returncode, ended.stderr), (4, told), "exit status and standard error")
     wants(room.cust.read_bytes(), before, "bytes of the file")
 
 
@@ -224,7 +247,10 @@ def change_beside_change(room):
     first = Held(room.words(deck("OPEN I-O CUST", *added(11), *READS, "CLOSE CUST")))
     second = room.run(deck("OPEN I-O CUST", *added(12), "OPEN OUTPUT CUST"))
     wants(second, ["OPEN I-O CUST 30", "WRITE CUST 48", "OPEN OUTPUT CUST 30"], "the second run")
-    wants(room.check().returncode, 4, "exit status of a check meanwhile")
+    wants(room.told, "cobix: cust.dat: another run has it (line 1 of the transcript)\n", "the cause")
+    check = room.check()
+    told = f"cobix: input\n  {room.cust}: another run has it\n"
+    wants((check.returncode, check.stderr.decode()), (4, told), "exit status and standard error of a check meanwhile")
     wants(first.lines(), ["OPEN I-O CUST 00", "WRITE CUST 00", *delivered("READ NEXT", 1, 2, 3, 4, 5), "CLOSE CUST 00"], "the first run")
     room.wants_sound(6)
 
@@ -361,6 +387,7 @@ def folder_only_read(room):
     room.files.chmod(0o555)
     lines = room.run(deck("OPEN OUTPUT CUST", *added(1)), **unprivileged())
     wants(lines, ["OPEN OUTPUT CUST 30", "WRITE CUST 48"], "transcript")
+    wants(room.told, "cobix: cust.dat: permission denied (line 1 of the transcript)\n", "the cause")
     wants(list(room.files.iterdir()), [], "files of the folder")
 
 

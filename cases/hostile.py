@@ -303,7 +303,8 @@ def write_that_the_disk_refuses(room, case):
 def writer_that_refuses(room, case):
     """In run 1 the writer of the transcript refuses its first byte."""
     ended, _, failed = case_run(room, case, 1, Calls("write", 1, 1))
-    wants((failed, ended.returncode, ended.stdout, ended.stderr), (1, 4, transcript(case, 1), b"cobix: output\n"), "run 1")
+    told = b"cobix: output\n  standard output: the system refused it\n"
+    wants((failed, ended.returncode, ended.stdout, ended.stderr), (1, 4, transcript(case, 1), told), "run 1")
     wants(case_run(room, case, 2, Calls())[0].stdout, transcript(case, 2), "run 2")
 
 

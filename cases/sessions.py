@@ -187,11 +187,42 @@ def two_files(room):
     wants(room.check(room.files / "twin.dat").stdout[:16], b"sound records 3 ", "cobix check")
 
 
+def described_again(room):
+    """A file that was released is found as it was left, under any number, and no other file has changed meanwhile."""
+    serves(room, [
+        *BEGUN,
+        (describes(1, "twin.dat"), DONE),
+        (performs(1, OPEN, OUTPUT), told("00")),
+        (writes(0, ADAMS), told("00")),
+        (writes(1, SMITH), told("00")),
+        (performs(0, CLOSE), told("00")),
+        (releases(0), DONE),
+        (writes(1, SVEN), told("02")),
+        (describes(2, "cust.dat"), DONE),
+        (describes(0, "third.dat"), DONE),
+        (performs(2, OPEN, I_O), told("00")),
+        (performs(2, READ_NEXT), told("00", ADAMS)),
+        (writes(2, SMITH), told("00")),
+        (performs(2, CLOSE, 1), told("00")),
+        (performs(2, OPEN, INPUT), told("38")),
+        (releases(2), DONE),
+        (describes(3, "cust.dat"), DONE),
+        (performs(3, OPEN, INPUT), told("00")),
+        (performs(3, READ_NEXT), told("00", ADAMS)),
+        (performs(3, READ_NEXT), told("00", SMITH)),
+        (performs(3, READ_NEXT), told("10")),
+        (performs(0, OPEN, INPUT), told("35")),
+    ])
+    room.wants_sound(2)
+    wants(room.check(room.files / "twin.dat").stdout[:16], b"sound records 2 ", "cobix check")
+
+
 def answers_on_a_full_device(room):
     words = [room.program, "serve", "--folder", room.files]
     with open("/dev/full", "wb") as full:
         ended = subprocess.run(words, input=BEGUN[0][0] + BEGUN[1][0], stdout=full, stderr=subprocess.PIPE, timeout=SECONDS)
-    wants((ended.returncode, ended.stderr), (4, b"cobix: output\n"), "exit status and standard error")
+    told = b"cobix: output\n  standard output: no space left on device\n"
+    wants((ended.returncode, ended.stderr), (4, told), "exit status and standard error")
     wants(list(room.files.iterdir()), [], "the files")
 
 
@@ -199,15 +230,19 @@ def answers_on_a_full_device(room):
 
 
 @contextlib.contextmanager
-def client(room):
+def client(room, status=0, first_error=None):
     """Gives two functions: one sends bytes to a session, the other takes what one write of the session had."""
     ours, theirs = socket.socketpair(socket.AF_UNIX, socket.SOCK_SEQPACKET)
     ours.settimeout(SECONDS)
     words = [room.program, "serve", "--folder", room.files]
-    with ours, subprocess.Popen(words, stdin=subprocess.PIPE, stdout=theirs, bufsize=0) as session:
+    with ours, subprocess.Popen(words, stdin=subprocess.PIPE, stdout=theirs, stderr=subprocess.PIPE, bufsize=0) as session:
         theirs.close()
         yield session.stdin.write, lambda: ours.recv(1 << 17)
-    wants(session.returncode, 0, "exit status")
+        session.stdin.close()
+        errors = session.stderr.read()
+    wants(session.returncode, status, "exit status")
+    if first_error is not None:
+        wants(errors.splitlines()[:1], [first_error], "the first line on standard error")
 
 
 def filled(room):
@@ -273,6 +308,7 @@ def trials():
     yield "requests with several reasons to be refused", first_of_several_reasons
     yield "requests on records of varying length", varying_records
     yield "requests on two files", two_files
+    yield "a file that is released and described again", described_again
     yield "answers on a full device", answers_on_a_full_device
     yield "answers to requests that only read, in one write", answers_in_one_write
     yield "answers that are more than are held", as_many_answers_as_there_is_room_for
