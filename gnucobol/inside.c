@@ -9,10 +9,12 @@
 #include <stdio.h>
 #include <stdlib.h>
 #include <string.h>
+#include <unistd.h>
 
 static const int ending[] = {SIGINT, SIGTERM, SIGHUP, SIGPIPE, SIGQUIT};
 enum { ENDING = sizeof ending / sizeof *ending };
 
+static pthread_t program;               /* the thread that performs verbs: GnuCOBOL has no other */
 static struct sigaction behind[ENDING]; /* what libcob, or the program itself, has for them */
 static volatile sig_atomic_t at_work;   /* how many calls of the library are on their way */
 static volatile sig_atomic_t held;      /* a signal that came meanwhile, or 0 */
@@ -29,9 +31,12 @@ static void end_by(int number)
     raise(number);
 }
 
+/* A signal that comes to another thread of the process is for the one that performs verbs. */
 static void on_signal(int number)
 {
-    if (at_work)
+    if (!pthread_equal(pthread_self(), program))
+        pthread_kill(program, number);
+    else if (at_work)
         held = number;
     else
         end_by(number);
@@ -58,6 +63,7 @@ static bool catch_signals(void)
     if (are_caught)
         return true;
     sigfillset(&ours.sa_mask);
+    program = pthread_self();
     if (pthread_atfork(begin_work, end_work, end_work))
         return false;
     for (int i = 0; i < ENDING; i++)
@@ -98,11 +104,21 @@ size_t inside_exchange(struct server *server, uint8_t *request, size_t length, c
     return had >= 3 && had == 2 + (size_t)two(*answer) ? had : 0;
 }
 
+/* A signal may have come: so it is told by a call of the system alone. */
+static void tell_unclosed(void)
+{
+    static const char line[] = "cobix: a file that was open at the end was not closed well\n";
+    if (write(STDERR_FILENO, line, sizeof line - 1) < 0)
+        return;
+}
+
 void inside_end(struct server *server)
 {
     struct engine *engine = server->engine;
     begin_work();
     server->engine = NULL;
-    cobix_engine_end(engine);
+    bool is_child = cobix_engine_is_parents(engine);
+    if (cobix_engine_end(engine) && !is_child)
+        tell_unclosed();
     end_work();
 }

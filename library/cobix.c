@@ -31,21 +31,22 @@ struct cobix {
 
 /* ---- a call begins and ends */
 
-/* 0, or why no call may begin. It ends by `leave`. */
+/* 0, or why no call may begin. It ends by `leave`. The flag orders the calls of a session, whatever threads they come from: so it
+   is what the proved library asks of a handle that passes from thread to thread, a sequentially consistent atomic. */
 static int enter(cobix *session)
 {
-    if (!session || atomic_flag_test_and_set_explicit(&session->busy, memory_order_acquire))
+    if (!session || atomic_flag_test_and_set(&session->busy))
         return COBIX_MISUSE;
     if (session->engine && !cobix_engine_is_parents(session->engine))
         return 0;
     int why = session->engine ? COBIX_FORKED : COBIX_ENDED;
-    atomic_flag_clear_explicit(&session->busy, memory_order_release);
+    atomic_flag_clear(&session->busy);
     return why;
 }
 
 static int leave(cobix *session, int answer)
 {
-    atomic_flag_clear_explicit(&session->busy, memory_order_release);
+    atomic_flag_clear(&session->busy);
     return answer;
 }
 
@@ -169,10 +170,9 @@ int cobix_close(cobix *session)
     if (why == COBIX_MISUSE || !session)
         return why;
     take_from_list(session);
-    if (session->engine)
-        cobix_engine_end(session->engine);
+    size_t failed = session->engine ? cobix_engine_end(session->engine) : 0;
     free(session);
-    return 0;
+    return failed && why == 0 ? COBIX_FAULT : 0;
 }
 
 /* ---- requests and answers */

@@ -19,15 +19,18 @@
  * end of the file, and so on as docs/FORMAT.md says of each. What is below 0 is no status: the verb was not performed, and
  * nothing was changed.
  *
- * THREADS. A session is used by one thread at a time, and any thread may be the next, where the program orders the two (a
- * lock, a join). Two sessions are independent, and may be used at the same time. A call that comes while another one is on
- * its way in the same session answers COBIX_MISUSE. No call is made from a handler of a signal.
+ * THREADS. A session may be used by any thread, one call at a time: a call that comes while another one is on its way in the
+ * same session answers COBIX_MISUSE, and nothing else is needed to pass a session from thread to thread. (Who uses one from
+ * several threads at once puts a lock around the call and what it delivers.) Two sessions are independent, and may be used at
+ * the same time. No call is made from a handler of a signal.
  *
  * FORK. A child of fork() has no part in its parent's sessions: their files are closed in it, their locks stay the
  * parent's, and each call answers COBIX_FORKED. cobix_close gives their memory back. The child may open sessions of its own.
  *
  * MEMORY. What a read delivers stays as it is until the next call in its session. Every other pointer that is given to a
- * call is the caller's, and is not kept. A session takes some 50 KiB, and an open file 4 KiB a frame that it has filled.
+ * call is the caller's, and is not kept. A session takes some 50 KiB, and an open file 4 KiB for each page that it holds.
+ * Pages are taken as they are used, at most as many as the file has, and at most the frames of cobix_limits: with the usual
+ * 1,024, up to 4 MiB a file. They are given back at CLOSE.
  *
  * OTHER RUNS. A file is under a shared lock (flock) from the first look at it, and under an exclusive one from its first
  * change, until it is released or the session ends: CLOSE keeps the lock. It is the lock of `cobix run` and `cobix serve`,
@@ -111,8 +114,9 @@ typedef struct {
 int cobix_open(const char *folder, const cobix_limits *limits, cobix **session);
 
 /* Closes the files that are open, in the order in which they were opened, and ends the session and its files: no other
-   call may have them afterwards. 0; also where session is NULL. At COBIX_MISUSE another call is on its way, and nothing was
-   done. To know that a file was closed well, close it by cobix_close_file. */
+   call may have them afterwards. 0; also where session is NULL, or a parent's. COBIX_FAULT where the CLOSE of one of them was
+   not answered 00: the session has ended all the same, and cobix_close_file would have told which file it was. At COBIX_MISUSE
+   another call is on its way, and nothing was done. */
 int cobix_close(cobix *session);
 
 typedef enum { COBIX_SEQUENTIAL, COBIX_RANDOM, COBIX_DYNAMIC } cobix_access;

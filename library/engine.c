@@ -13,7 +13,7 @@ struct handle {
 /* The functions of the proved library. */
 bool cobix_inside_begin(const uint8_t *folder, size_t length, uint32_t pages, size_t frames, struct handle *made);
 size_t cobix_inside_answer(struct handle held, const uint8_t *body, size_t length, uint8_t *room, size_t size, struct handle *left);
-void cobix_inside_end(struct handle held);
+size_t cobix_inside_end(struct handle held);
 
 /* The memory of the proved library, and of a session here: these are the kit's, or those of a program that replaces both. */
 struct block {
@@ -93,12 +93,13 @@ size_t cobix_engine_ask(struct engine *engine, const uint8_t *body, size_t lengt
     return cobix_inside_answer(engine->handle, body, length, engine->answer, sizeof engine->answer, &engine->handle);
 }
 
-void cobix_engine_end(struct engine *engine)
+size_t cobix_engine_end(struct engine *engine)
 {
     take_from_list(engine);
     cobix_asked_by(&engine->asked);
-    cobix_inside_end(engine->handle);
+    size_t failed = cobix_inside_end(engine->handle);
     give_back(engine);
+    return failed;
 }
 
 bool cobix_engine_is_parents(const struct engine *engine) { return engine->asked.disowned; }

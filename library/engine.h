@@ -20,9 +20,10 @@ struct engine *cobix_engine_begin(const char *folder, uint32_t pages, uint32_t f
    length first, and how many bytes it has. One call at a time in a session; it never waits for another process or thread. */
 size_t cobix_engine_ask(struct engine *engine, const uint8_t *body, size_t length, const uint8_t **answer);
 
-/* Closes the files that are open, in the order of opening, and ends the session. In a child of fork() the files are the parent's: then
-   it gives memory back, and no more. */
-void cobix_engine_end(struct engine *engine);
+/* Closes the files that are open, in the order of opening, and ends the session. How many of them were not closed well: their CLOSE was
+   answered another status than 00. In a child of fork() the files are the parent's: then it gives memory back, and no more; what it
+   answers says nothing then. */
+size_t cobix_engine_end(struct engine *engine);
 
 /* Whether this process is a child of the one that began the session. Its descriptors were closed here by fork(). */
 bool cobix_engine_is_parents(const struct engine *engine);

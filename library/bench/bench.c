@@ -51,6 +51,14 @@ static bool reads_next(long i)
     return store->next(record);
 }
 
+/* The same, under another name, by which callgrind counts it. */
+__attribute__((no_icf)) static bool reads_group(long i)
+{
+    char record[LENGTH];
+    (void)i;
+    return store->next(record);
+}
+
 static bool rewrites(long i) { return store->rewrite(make(i, 6271, i * 3)); }
 
 static bool deletes(long i) { return store->delete(make(i, 7001, 0)); }
@@ -97,7 +105,7 @@ int main(int count, char **words)
     must(store->start(false, "0000000000"), "START");
     measure("READ-NEXT", reads_next);
     must(store->start(true, "000000"), "START");
-    measure("READ-NEXT-BY-GROUP", reads_next);
+    measure("READ-NEXT-BY-GROUP", reads_group);
     measure("REWRITE", rewrites);
     measure("DELETE", deletes);
     close_all("CLOSE-2");

@@ -260,7 +260,7 @@ static void two_sessions(void)
     CHECK("read in b", cobix_read_next(in_b, &record, &length), 0);
     CHECK("what was there", delivered("00001AAA"), true);
     CHECK("close in b", cobix_close(b), 0);
-    CHECK("close in a", cobix_close(a), 0);
+    CHECK("close in a, where a write failed", cobix_close(a), COBIX_FAULT);
 }
 
 /* A file that another program has changed since it was read is not changed over that, though the lock is had. */
@@ -282,6 +282,22 @@ static void changed_between(void)
     CHECK("another write", cobix_write(file, "00003AAA", 8), COBIX_FAILED_BEFORE);
     CHECK("close", cobix_close_file(file, false), COBIX_FAULT);
     CHECK("close session", cobix_close(session), 0);
+}
+
+/* A file that cannot be closed at the end of its session, since its name is gone. */
+static void unclosed(void)
+{
+    cobix_file *file;
+    cobix *session = session_of("MOVED", COBIX_DYNAMIC, &file);
+    int there = open(folder, O_RDONLY | O_DIRECTORY);
+    CHECK("output", cobix_open_file(file, COBIX_OUTPUT), 0);
+    CHECK("write", cobix_write(file, "00001AAA", 8), 0);
+    CHECK("moved", renameat(there, "MOVED", there, "ELSEWHERE"), 0);
+    CHECK("close session", cobix_close(session), COBIX_FAULT);
+    session = session_of("ELSEWHERE", COBIX_DYNAMIC, &file);
+    CHECK("refused under its new name", cobix_open_file(file, COBIX_INPUT), COBIX_UNSOUND);
+    CHECK("close session", cobix_close(session), 0);
+    close(there);
 }
 
 static int ends_of(pid_t child)
@@ -419,6 +435,7 @@ int main(int count, char **words)
     names();
     two_sessions();
     changed_between();
+    unclosed();
     forked();
     forked_and_left();
     ends();

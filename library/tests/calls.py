@@ -82,6 +82,16 @@ with cobix.Session(folder) as session:
     with file.open("input"):
         check("and the record before it", [it["number"] for it in file] == [1])
 
+# A file that cannot be closed at the end of its session, since another has its name.
+session = cobix.Session(folder)
+file = make(session, "moved.dat")
+file.open("output")
+file.write(record(1))
+os.rename(os.path.join(folder, "moved.dat"), os.path.join(folder, "elsewhere.dat"))
+raises(cobix.Fault, 30, session.close)
+session.close()
+raises(cobix.Misuse, -1, file.read_next)
+
 # A session passed to a thread, and one of a parent in its child.
 with cobix.Session(folder) as session:
     file = make(session, "t.dat")

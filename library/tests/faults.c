@@ -1,11 +1,13 @@
-/* The n-th call of the system is marred, for each n over a session that uses every verb: it fails, it is interrupted, it reads or
+/* The n-th call of the system is marred, for each n over sessions that use every verb: it fails, it is interrupted, it reads or
    writes less than was asked for; once, or each call from then on. Or the process is killed in its midst, a write half done.
-   Then the file is looked at by a new session: where the last CLOSE was answered 00 it has exactly the records that the statuses
-   tell; else it is that, or what an earlier or a later CLOSE was to leave, or it is refused.
+   Then the file is looked at by a new session, as it is, and as each image that a crash of the machine may have left of it (disk.h):
+   where the last CLOSE was answered 00 it has exactly the records that the statuses tell; else it is that, or what an earlier or a
+   later CLOSE was to leave, or it is refused.
    The last line is "faults: N passed, M failed".    usage: faults FOLDER [COBIX], the program for `cobix check` */
 #define _GNU_SOURCE
 #include "check.h"
 #include "cobix.h"
+#include "disk.h"
 #include <errno.h>
 #include <fcntl.h>
 #include <signal.h>
@@ -26,11 +28,14 @@ static const char *const kinds[KINDS] = {"fails", "is interrupted", "is short", 
 static struct {
     enum kind kind;
     long at;    /* the call that is marred, from 1 */
+    long last;  /* the same, of the last session */
     bool stays; /* and each later one */
     long count; /* calls so far */
     bool met;
     long tried; /* how often a file was found sound; every eighth is given to the program too */
 } fault;
+
+static struct disk *disk; /* NULL where calls are not traced */
 
 /* Whether this call is to be marred. */
 static bool is_marred(void)
@@ -53,7 +58,13 @@ static int mar(void)
 #define MARRED (is_marred() && fault.kind != IS_SHORT)
 
 int faulty_open(const char *path, int flags, int mode);
-int faulty_open(const char *path, int flags, int mode) { return MARRED ? mar() : open(path, flags, mode); }
+int faulty_open(const char *path, int flags, int mode)
+{
+    int end = MARRED ? mar() : open(path, flags, mode);
+    if (disk && end >= 0 && flags & O_CREAT)
+        disk_made(disk, end);
+    return end;
+}
 
 int faulty_fstat(int end, struct stat *found);
 int faulty_fstat(int end, struct stat *found) { return MARRED ? mar() : fstat(end, found); }
@@ -65,7 +76,13 @@ int faulty_flock(int end, int how);
 int faulty_flock(int end, int how) { return MARRED ? mar() : flock(end, how); }
 
 int faulty_fsync(int end);
-int faulty_fsync(int end) { return MARRED ? mar() : fsync(end); }
+int faulty_fsync(int end)
+{
+    int answer = MARRED ? mar() : fsync(end);
+    if (disk && answer == 0)
+        disk_synced(disk, end);
+    return answer;
+}
 
 ssize_t faulty_pread(int end, void *bytes, size_t length, off_t at);
 ssize_t faulty_pread(int end, void *bytes, size_t length, off_t at)
@@ -79,6 +96,8 @@ ssize_t faulty_pread(int end, void *bytes, size_t length, off_t at)
 ssize_t faulty_pwrite(int end, const void *bytes, size_t length, off_t at);
 ssize_t faulty_pwrite(int end, const void *bytes, size_t length, off_t at)
 {
+    if (disk)
+        disk_touched(disk, at, length);
     if (!is_marred())
         return pwrite(end, bytes, length, at);
     ssize_t half = fault.kind == IS_INTERRUPTED ? 0 : pwrite(end, bytes, (length + 1) / 2, at);
@@ -87,7 +106,7 @@ ssize_t faulty_pwrite(int end, const void *bytes, size_t length, off_t at)
 
 /* ---- what the file is to have */
 
-enum { KEYS = 24, LENGTH = 20 };
+enum { KEYS = 30, DYNAMIC_KEYS = 24 /* the rest are added by EXTEND */, LENGTH = 20 };
 
 /* The records by their prime keys, 0 to KEYS - 1. */
 struct rows {
@@ -106,6 +125,8 @@ static struct told {
 static const cobix_key keys[] = {{0, 5, false}, {5, 3, true}};
 static const cobix_description described = {
     .name = "F", .access = COBIX_DYNAMIC, .least = 8, .greatest = LENGTH, .key_count = 2, .keys = keys};
+static const cobix_description in_sequence = {
+    .name = "F", .access = COBIX_SEQUENTIAL, .least = 8, .greatest = LENGTH, .key_count = 2, .keys = keys};
 static const char *folder, *program;
 
 static bool is_fault(int status) { return status == COBIX_FAULT || status >= 90; }
@@ -136,13 +157,13 @@ static void delete_one(cobix_file *file, int key)
         told_of->now.there[key] = false;
 }
 
-/* A record that is delivered is that of the rows. */
-static void is_right(const void *record, size_t length)
+/* The key of a record that was delivered, which is to be that of the rows; -1 where it is not. */
+static int is_right(const void *record, size_t length)
 {
-    int key = length == LENGTH ? atoi((char[6]){((const char *)record)[0], ((const char *)record)[1], ((const char *)record)[2],
-                                               ((const char *)record)[3], ((const char *)record)[4]})
-                               : KEYS;
-    told_of->bad += key >= KEYS || !told_of->now.there[key] || memcmp(record, told_of->now.record[key], LENGTH) != 0;
+    int key = length == LENGTH ? atoi(strndupa(record, 5)) : KEYS;
+    bool right = key < KEYS && told_of->now.there[key] && memcmp(record, told_of->now.record[key], LENGTH) == 0;
+    told_of->bad += !right;
+    return right ? key : -1;
 }
 
 static void read_some(cobix_file *file, int key)
@@ -161,48 +182,108 @@ static void read_some(cobix_file *file, int key)
     told_of->faults += is_fault(status);
 }
 
-static void close_file(cobix_file *file)
+/* A CLOSE begins: that of the file, or of the session which has it open. */
+static void begin_close(void) { told_of->closing = told_of->now, told_of->is_closing = true; }
+
+static void end_close(int status)
 {
-    told_of->closing = told_of->now, told_of->is_closing = true;
-    if (is_as(cobix_close_file(file, false), 0))
+    if (is_as(status, 0))
         told_of->closed = told_of->now, told_of->was_closed = told_of->is_exact = true, told_of->is_closing = false;
 }
 
-/* One OPEN to CLOSE. Where OPEN fails nothing is done. */
-static void period(cobix_file *file, cobix_mode mode, int turns)
+static void close_file(cobix_file *file)
+{
+    begin_close();
+    end_close(cobix_close_file(file, false));
+}
+
+static bool opens(cobix_file *file, cobix_mode mode)
 {
     int status = cobix_open_file(file, mode);
     told_of->faults += is_fault(status);
     if (!cobix_succeeded(status))
-        return;
+        return false;
     if (mode == COBIX_OUTPUT)
         memset(&told_of->now, 0, sizeof told_of->now);
     told_of->is_exact &= mode == COBIX_INPUT;
-    for (int i = 0; i < turns; i++) {
+    return true;
+}
+
+/* One OPEN to CLOSE. Where OPEN fails nothing is done. */
+static void period(cobix_file *file, cobix_mode mode)
+{
+    if (!opens(file, mode))
+        return;
+    for (int i = 0; i < DYNAMIC_KEYS; i++) {
         if (mode != COBIX_INPUT)
-            write_one(file, i * 7 % KEYS, i + turns);
+            write_one(file, i * 7 % DYNAMIC_KEYS, i + (int)mode);
         if (mode == COBIX_IO && i % 3 == 0)
-            delete_one(file, i * 11 % KEYS);
+            delete_one(file, i * 11 % DYNAMIC_KEYS);
         if (mode != COBIX_OUTPUT && i % 4 == 0)
-            read_some(file, i * 3 % KEYS);
+            read_some(file, i * 3 % DYNAMIC_KEYS);
     }
     close_file(file);
 }
 
-/* The session: every verb, in every mode of dynamic access. */
+/* Sequential access: records behind the last one. */
+static void extend(cobix_file *file)
+{
+    if (!opens(file, COBIX_EXTEND))
+        return;
+    for (int key = DYNAMIC_KEYS; key < KEYS; key++)
+        write_one(file, key, key);
+    close_file(file);
+}
+
+/* Sequential access: each record is read, and then deleted, written anew, or left. */
+static void walk(cobix_file *file)
+{
+    const void *record;
+    size_t length;
+    int status;
+    if (!opens(file, COBIX_IO))
+        return;
+    for (int turn = 0; cobix_succeeded(status = cobix_read_next(file, &record, &length)); turn++) {
+        int key = is_right(record, length);
+        if (key >= 0 && turn % 3 == 0 && is_as(cobix_delete(file, NULL), 0))
+            told_of->now.there[key] = false;
+        if (key >= 0 && turn % 3 == 1)
+            write_one(file, key, turn);
+    }
+    is_as(status, COBIX_END);
+    close_file(file);
+}
+
+static cobix_file *file_of(cobix *session, const cobix_description *description)
+{
+    cobix_file *file;
+    told_of->bad += cobix_describe(session, description, &file) != 0 && told_of->faults == 0;
+    return file;
+}
+
+static void release(cobix_file *file) { told_of->bad += cobix_release(file) != 0 && told_of->faults == 0; }
+
+/* The session: every verb, in every mode of dynamic and of sequential access. It ends while the file is open. */
 static void perform(void)
 {
     cobix *session;
-    cobix_file *file;
-    if (cobix_open(folder, &(cobix_limits){.frames = 2}, &session) || cobix_describe(session, &described, &file)) {
+    if (cobix_open(folder, &(cobix_limits){.frames = 2}, &session)) {
         told_of->bad++;
         return;
     }
-    period(file, COBIX_OUTPUT, KEYS);
-    period(file, COBIX_IO, KEYS);
-    period(file, COBIX_INPUT, KEYS);
-    told_of->bad += cobix_release(file) != 0 && told_of->faults == 0;
-    told_of->bad += cobix_close(session) != 0;
+    cobix_file *file = file_of(session, &described);
+    if (file)
+        period(file, COBIX_OUTPUT), period(file, COBIX_IO), period(file, COBIX_INPUT), release(file);
+    file = file_of(session, &in_sequence);
+    if (file)
+        extend(file), walk(file), release(file);
+    file = file_of(session, &described);
+    if (file && opens(file, COBIX_IO)) {
+        write_one(file, 1, 1);
+        begin_close();
+        end_close(cobix_close(session));
+    } else
+        told_of->bad += cobix_close(session) != 0;
 }
 
 /* ---- what the file has */
@@ -265,12 +346,31 @@ static bool is_allowed(void)
     return is_closed || (told_of->is_closing && opened == 0 && are_same(&had, &told_of->closing));
 }
 
+/* Whether the file is as it may be, as it is and as each image of it. */
+static bool are_allowed(const char *kind, bool stays)
+{
+    static const char *const images[IMAGES] = {"", ", as synced", ", with zeros", ", with Cs", ", half as synced"};
+    disk_end(disk);
+    for (enum image image = 0; image < IMAGES; image++) {
+        if (image != AS_READ)
+            disk_leave(disk, image);
+        if (told_of->bad || !is_allowed()) {
+            failed++;
+            printf("FAILED: call %ld %s%s%s: %d bad answers, exact %d\n", fault.last, kind, stays ? ", and all later" : "", images[image],
+                   told_of->bad, told_of->is_exact);
+            return false;
+        }
+    }
+    return true;
+}
+
 /* Performs the session in a child with this fault. Whether the fault was met. */
 static bool run(enum kind kind, long at, bool stays)
 {
     char path[4096];
     snprintf(path, sizeof path, "%s/F", folder);
     unlink(path);
+    disk_begin(disk, path);
     memset(told_of, 0, sizeof *told_of);
     fault.kind = kind, fault.at = at, fault.stays = stays, fault.count = 0, fault.met = false;
     fflush(stdout);
@@ -279,20 +379,55 @@ static bool run(enum kind kind, long at, bool stays)
         perform();
         _exit(fault.met);
     }
-    fault.at = 0;
     int status = 0;
     waitpid(child, &status, 0);
     bool killed = WIFSIGNALED(status) && WTERMSIG(status) == SIGKILL && kind == IS_KILLED;
     if (!killed && !WIFEXITED(status))
         told_of->bad++;
     bool met = killed || (WIFEXITED(status) && WEXITSTATUS(status) == 1);
-    if (told_of->bad || !is_allowed()) {
-        failed++;
-        printf("FAILED: call %ld %s%s: %d bad answers, exact %d\n", at, kinds[kind], stays ? ", and all later" : "", told_of->bad,
-               told_of->is_exact);
-    } else
-        passed += met;
+    fault.at = 0, fault.last = at;
+    passed += are_allowed(kinds[kind], stays) && met;
     return met;
+}
+
+/* ---- pages that are held */
+
+/* How many calls of the system a walk over all records takes, after another one, with so many frames. */
+static long calls_of_a_walk(cobix_file *file)
+{
+    const void *record;
+    size_t length;
+    long before = fault.count, walked = 0;
+    CHECK("start", cobix_start(file, 0, COBIX_NOT_LESS, "0", 1), 0);
+    while (cobix_read_next(file, &record, &length) == 0)
+        walked++;
+    CHECK("all records", walked, 10000);
+    return fault.count - before;
+}
+
+/* 10,000 records are some 200 pages: more than 64, and fewer than are held where nothing is said. */
+static void held_pages(void)
+{
+    const cobix_limits few = {.frames = 64};
+    for (int usual = 0; usual < 2; usual++) {
+        cobix *session;
+        cobix_file *file;
+        char bytes[2 * LENGTH];
+        long well = 0;
+        CHECK("a session", cobix_open(folder, usual ? NULL : &few, &session), 0);
+        CHECK("described", cobix_describe(session, &described, &file), 0);
+        CHECK("output", cobix_open_file(file, COBIX_OUTPUT), 0);
+        for (int i = 0; i < 10000; i++) {
+            snprintf(bytes, sizeof bytes, "%05d%03d%12s", i * 7919 % 10000, i % 500, "");
+            well += cobix_succeeded(cobix_write(file, bytes, LENGTH));
+        }
+        CHECK("all are written", well, 10000);
+        CHECK("close", cobix_close_file(file, false), 0);
+        CHECK("input", cobix_open_file(file, COBIX_INPUT), 0);
+        calls_of_a_walk(file);
+        CHECK("no page is read again, with 1,024 frames", calls_of_a_walk(file) == 0, usual);
+        CHECK("close session", cobix_close(session), 0);
+    }
 }
 
 int main(int count, char **words)
@@ -301,6 +436,8 @@ int main(int count, char **words)
         return 2;
     folder = words[1], program = count > 2 ? words[2] : NULL;
     told_of = mmap(NULL, sizeof *told_of, PROT_READ | PROT_WRITE, MAP_SHARED | MAP_ANONYMOUS, -1, 0);
+    held_pages();
+    disk = disk_new();
     CHECK("without a fault it is not met", run(FAILS, 0, false), false);
     CHECK("without a fault the file is exact", told_of->is_exact, true);
     CHECK("without a fault there is none", told_of->faults, 0);

@@ -53,8 +53,8 @@ Without fields a record is its bytes, and a key has its place.
 >>> session.close()
 >>> folder.cleanup()
 
-Close a file to know that it is on the disk: CLOSE raises where it is not. A session is used by one thread at a time, and not by a child
-of fork(). What a program that is killed leaves unclosed is refused (Unsound) by the next open, unless that is for output.
+Close a file to know that it is on the disk: CLOSE raises where it is not. A session is used by any thread, one call at a time, and not by
+a child of fork(). What a program that is killed leaves unclosed is refused (Unsound) by the next open, unless that is for output.
 """
 import ctypes
 import os
@@ -189,19 +189,28 @@ class Session:
         return File(self, name, keys, fields, least, greatest, access, optional)
 
     def close(self):
-        """Closes the files that are open. Whether that was done well their own close() tells."""
+        """Closes the files that are open, and ends the session. Fault (30) where one of them was not closed well."""
         at, self._at = self._at, c_void_p()
-        if at:
-            answer = _library.cobix_close(at)
-            if answer < 0:
-                self._at = at
-                raise _error(answer, "end of the session")
+        answer = _library.cobix_close(at) if at else 0
+        if answer < 0:
+            self._at = at
+        if answer:
+            raise _error(answer, "end of the session")
 
     def __enter__(self):
         return self
 
-    def __exit__(self, *_):
-        self.close()
+    def __exit__(self, kind, error, trace):
+        _close_behind(self, kind)
+
+
+def _close_behind(it, kind):
+    """Closes what was entered. Where an error came before, that one is told."""
+    try:
+        it.close()
+    except Error:
+        if kind is None:
+            raise
 
 
 class File:
@@ -321,10 +330,4 @@ class File:
         return self
 
     def __exit__(self, kind, error, trace):
-        if kind is None:
-            self.close()
-            return
-        try:
-            self.close()
-        except Error:
-            pass  # the error that came first is told
+        _close_behind(self, kind)
