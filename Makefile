@@ -1,9 +1,10 @@
 # cobix: `make try` runs a deck over the files of DIR without the proofs, in one to two minutes;
 # `make run` proves and builds the program, JOBS crates side by side, and runs a deck;
 # `make test` proves and tests everything,
-# runs the examples, the cases and some of them out of memory, and checks the documents;
+# runs the examples, the cases and some of them out of memory, tries the library and, where cobc is there,
+# COBOL programs, and checks the documents;
 # `make library` proves and builds the library for C and Python (see docs/LIBRARY.md);
-# `make gnucobol` runs COBOL programs over it, where cobc is there;
+# `make gnucobol` tries COBOL programs at length;
 # `make bench` measures its verbs beside those of GnuCOBOL, where cobc is there;
 # `make install` puts the program that `make run` or `make test` built into PREFIX/bin, its manual page,
 # its completion for bash and its line for file(1) into PREFIX/share.
@@ -38,6 +39,8 @@ test:
 	cases/run-out-of-memory $(PROGRAM) $(LISTS)
 	library/build-proved cobix_inside
 	library/test $(PROGRAM)
+	make -s -C library
+	gnucobol/test $(PROGRAM) 20
 	docs/check $(PROGRAM)
 
 # The proved part is a static library, which the gate proves and does not build.
