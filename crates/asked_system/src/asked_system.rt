@@ -8,7 +8,8 @@ use crate::streams::Streams;
 use std::alloc::Allocator;
 use std::fs::{Metadata, OpenOptions};
 use std::io::{self, ErrorKind, Stdin, Stdout};
-use std::rt::Files;
+use std::rt::{Clock, Files};
+use std::time::Duration;
 
 /// Files that are asked for through two streams.
 #[derive(Clone, Copy)]
@@ -93,6 +94,17 @@ impl Files for AskedSystem {
     }
 
     fn remove_dir_all<B: Allocator>(&self, _alloc: B, _path: &str) -> io::Result<()> {
+        unsupported()
+    }
+}
+
+// Nobody is asked for the time, and no lock is waited for: a pause ends at once.
+impl Clock for AskedSystem {
+    fn monotonic(&self) -> io::Result<Duration> {
+        unsupported()
+    }
+
+    fn since_1970(&self) -> io::Result<Duration> {
         unsupported()
     }
 }

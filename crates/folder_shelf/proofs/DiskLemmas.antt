@@ -2,7 +2,7 @@
 use Rattle.std.proofs.Common.{◌≡◌, ◌<◌, ℕ, ◌==◌, Bool, true, List, [], ◌∷◌, length, Some, None, refl, ap, sym, ◌∙◌, arith, if◌then◌else◌}
 use Rattle.std.proofs.lemmas.Bool.{ne_eqb}
 use Rattle.std.proofs.lemmas.Grind.{common_steps}
-use Rattle.recorded_system.specs.Calls.{Call, looked, made, measured, read, held, written, flushed, entered, asked_of_folder, taken, taken_shared}
+use Rattle.recorded_system.specs.Calls.{Call, looked, made, measured, read, held, written, flushed, entered, asked_of_folder, taken, taken_shared, streams_held}
 use Rattle.folder_shelf.specs.Replay.{Unseen, DiskFiles, after_system_call, replay}
 use Rattle.folder_shelf.specs.FolderLaws.{disk_so, files_at_first, each_disk_goes_so, each_way_has_its_disk}
 
@@ -21,6 +21,7 @@ one_step disk earlier (entered path) m = refl
 one_step disk earlier (asked_of_folder path told) m = refl
 one_step disk earlier (taken path most bytes) m = refl
 one_step disk earlier (taken_shared path most bytes) m = refl
+one_step disk earlier (streams_held done) m = refl
 
 pub each_disk : each_disk_goes_so
 each_disk disk [] = refl

@@ -2,7 +2,7 @@
 use Rattle.std.specs.Prelude.{ℕ, ◌+◌, ◌-◌, ◌^◌, ◌==◌, min, Bool, false, not, List, [], ◌∷◌, length, is_some}
 use Rattle.std.specs.Prelude.{if◌then◌else◌}
 use Rattle.recorded_system.specs.Calls.{Call, looked, made, measured, read, held, written, flushed, entered}
-use Rattle.recorded_system.specs.Calls.{asked_of_folder, taken, taken_shared}
+use Rattle.recorded_system.specs.Calls.{asked_of_folder, taken, taken_shared, streams_held}
 
 -- what was asked of a unit's file was not done, or not told
 abbrev pub is_failed_call : Call → Bool
@@ -17,6 +17,7 @@ is_failed_call (entered path) = false
 is_failed_call (asked_of_folder path told) = false
 is_failed_call (taken path most bytes) = false
 is_failed_call (taken_shared path most bytes) = false
+is_failed_call (streams_held done) = false
 
 -- how many calls failed since a folder was entered, as far as 64 bits can count
 abbrev pub failed_calls : List Call → ℕ

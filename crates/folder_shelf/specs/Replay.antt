@@ -4,7 +4,7 @@ use Rattle.std.specs.Prelude.{[], ◌∷◌, ◌++◌, length, take, drop, bytes
 use Rattle.page_store.specs.DeviceFile.{DeviceFile, created, wrote, synced, content}
 use Rattle.page_store.specs.ShelfState.{ShelfState}
 use Rattle.recorded_system.specs.Calls.{Call, looked, made, measured, read, held, written, flushed, entered}
-use Rattle.recorded_system.specs.Calls.{asked_of_folder, taken, taken_shared}
+use Rattle.recorded_system.specs.Calls.{asked_of_folder, taken, taken_shared, streams_held}
 use Rattle.recorded_system.specs.SystemState.{SystemState, file_path}
 
 -- what no code can read of a disk
@@ -78,6 +78,7 @@ after_system_call disk earlier (entered path) m = m
 after_system_call disk earlier (asked_of_folder path told) m = m
 after_system_call disk earlier (taken path most bytes) m = m
 after_system_call disk earlier (taken_shared path most bytes) m = m
+after_system_call disk earlier (streams_held done) m = m
 
 -- the newest call is first
 abbrev pub replay : Unseen → List Call → DiskFiles

@@ -11,7 +11,7 @@ use Rattle.page_store.proofs.TornLemmas.{part_torn}
 use Rattle.page_store.proofs.FileLemmas.{some_bytes}
 use Rattle.page_store.proofs.MadeLemmas.{made_image}
 use Rattle.recorded_system.specs.Calls.{Call, looked, made, measured, read, held, written, flushed, entered}
-use Rattle.recorded_system.specs.Calls.{asked_of_folder, taken, taken_shared}
+use Rattle.recorded_system.specs.Calls.{asked_of_folder, taken, taken_shared, streams_held}
 use Rattle.folder_shelf.specs.Replay.{Unseen, DiskFiles, put_file, is_held_before, after_system_call, replay}
 
 -- the file is there and has at least n bytes
@@ -79,6 +79,7 @@ module _ (disk : Unseen) (earlier : List Call) (m : DiskFiles) (all : (path : Li
   one_call (asked_of_folder path told) h = all
   one_call (taken path most bytes) h = all
   one_call (taken_shared path most bytes) h = all
+  one_call (streams_held done) h = all
 
 was_honest : (disk : Unseen) (earlier : List Call) (m : DiskFiles) (c : Call)
     → IsTrue (after_system_call disk earlier c m).is_honest → IsTrue m.is_honest
@@ -95,6 +96,7 @@ was_honest disk earlier m (entered path) h = h
 was_honest disk earlier m (asked_of_folder path told) h = h
 was_honest disk earlier m (taken path most bytes) h = h
 was_honest disk earlier m (taken_shared path most bytes) h = h
+was_honest disk earlier m (streams_held done) h = h
 
 pub replay_sound : (disk : Unseen) → ((path : List ℕ) → Sound (disk.first path))
     → (calls : List Call) (path : List ℕ) → IsTrue (replay disk calls).is_honest

@@ -26,6 +26,8 @@ pub data Call : Type 0 where
   taken : List ℕ → ℕ → Option (List ℕ) → Call
   -- the same, as long as no run changes the file
   taken_shared : List ℕ → ℕ → Option (List ℕ) → Call
+  -- the numbers of those standard streams that are closed were to be taken, and whether they were
+  streams_held : Bool → Call
 
 -- the kinds of calls, as the code counts them
 abbrev pub call : ℕ → ℕ → ℕ → (path bytes : List ℕ) → Call
@@ -41,8 +43,10 @@ call (suc (suc (suc (suc (suc (suc (suc (suc zero)))))))) at n path bytes =
     asked_of_folder path (if n == 1 then Some (at == 1) else None)
 call (suc (suc (suc (suc (suc (suc (suc (suc (suc zero))))))))) at n path bytes =
     taken path at (if n == 1 then Some bytes else None)
-call (suc (suc (suc (suc (suc (suc (suc (suc (suc (suc more)))))))))) at n path bytes =
+call (suc (suc (suc (suc (suc (suc (suc (suc (suc (suc zero)))))))))) at n path bytes =
     taken_shared path at (if n == 1 then Some bytes else None)
+call (suc (suc (suc (suc (suc (suc (suc (suc (suc (suc (suc more))))))))))) at n path bytes =
+    streams_held (n == 1)
 
 abbrev pub call_of : List ℕ → (path bytes : List ℕ) → Call
 call_of numbers path bytes =

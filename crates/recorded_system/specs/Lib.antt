@@ -1,3 +1,4 @@
 pub mod Calls
 pub mod SystemState
 pub mod Kept
+pub mod Reading

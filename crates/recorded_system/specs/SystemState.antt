@@ -1,6 +1,7 @@
 -- What is known of a system: the files of its units, and what it was asked and answered.
 use Rattle.std.specs.Prelude.{◌≡◌, ◌<◌, ◌≤◌, ℕ, List, [], ◌∷◌, ◌++◌, map, length, get_or, codes}
-use Rattle.std.specs.Prelude.{Option, Some, None, Result, Ok, Err, IfOk, OnOk, OnErr, IsOkUnless}
+use Rattle.std.specs.Prelude.{Bool, true, false, Option, Some, None, Result, Ok, Err, IfOk, OnOk, OnErr}
+use Rattle.std.specs.Prelude.{IsOkUnless}
 use Rattle.std.specs.Global.{Vec}
 use Rattle.io_state.specs.declared.fault.Fault.{Fault}
 use Rattle.io_state.specs.declared.fault.Fault.TheVariants.{Memory}
@@ -48,10 +49,19 @@ entered_at path system =
 abbrev pub with_units : List (List ℕ) → SystemState → SystemState
 with_units names system = record system { names = names }
 
+-- the record is another one
+abbrev pub recording : List Call → SystemState → SystemState
+recording calls system = record system { calls = calls }
+
 -- what was told, if that was
 abbrev pub if_told : {X E : Type 0} → Result X E → Option X
 if_told (Ok x) = Some x
 if_told (Err e) = None
+
+-- whether a call was done
+abbrev pub is_done : {X E : Type 0} → Result X E → Bool
+is_done (Ok x) = true
+is_done (Err e) = false
 
 -- the units are the files of these names, or memory was lacking, and they are those that they were
 pub record AttachesNames (names : List (List ℕ)) (old new : SystemState) (result : Result Unit Fault)

@@ -3,8 +3,10 @@ ghost use Rattle.std.specs.Prelude.{◌≡◌, List, [], ◌∷◌, option_map};
 ghost use Rattle.std.specs.Borrow.{ftrue};
 ghost use Rattle.recorded_system.specs.Calls.{Call, call_of, call, looked, made, measured, read, held, written};
 ghost use Rattle.recorded_system.specs.Calls.{flushed, entered, asked_of_folder, taken, taken_shared};
+ghost use Rattle.recorded_system.specs.Calls.{streams_held};
 
 use std::marker::{Model, PhantomData};
+use std::rt::Files;
 
 const LOOKED: u64 = 0;
 
@@ -28,6 +30,8 @@ const TAKEN: u64 = 9;
 
 const TAKEN_SHARED: u64 = 10;
 
+const STREAMS_HELD: u64 = 11;
+
 /// What a system was asked and what it answered, the newest first. No memory holds it.
 #[derive(Drop)]
 pub struct CallRecord {
@@ -50,6 +54,13 @@ impl CallRecord {
         CallRecord {
             marker: PhantomData,
         }
+    }
+
+    /// No call. Only who has a runtime can have a record that is empty, so that none is lost for one.
+    pub fn unasked<R: Files>(_rt: &R) -> CallRecord
+        ensures { result.calls ≡ [] }
+    {
+        CallRecord::new()
     }
 
     // Adds a call on the file or folder of a path: its kind, and the numbers and bytes of its kind.
@@ -155,5 +166,12 @@ impl CallRecord {
             Some(bytes) => self.add(path, TAKEN_SHARED, most as u64, 1, bytes),
             None => self.add(path, TAKEN_SHARED, most as u64, 0, &[]),
         }
+    }
+
+    /// The numbers of the closed standard streams were to be taken, and whether they were.
+    pub(crate) fn streams_held(&mut self, done: bool)
+        ensures { self.new.calls ≡ streams_held done ∷ self.old.calls }
+    {
+        self.add("", STREAMS_HELD, 0, done as u64, &[]);
     }
 }

@@ -11,8 +11,13 @@
 
 mod call_record;
 mod recorded_system;
+mod streams;
 mod system;
 mod unit;
+mod unread;
 
+pub use call_record::CallRecord;
 pub use recorded_system::RecordedSystem;
+pub use streams::{HoldsStreams, StreamFault};
 pub use system::System;
+pub use unread::Unread;

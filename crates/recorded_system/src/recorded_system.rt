@@ -1,38 +1,48 @@
 //! The files and folders of a runtime, and what they were asked and answered.
-ghost use Rattle.std.specs.Prelude.{◌≡◌, ◌≤◌, ◌<◌, [], map, length, get_or, string_bytes, IfOk, IsOkUnless};
+ghost use Rattle.std.specs.Prelude.{◌≡◌, ◌⊎◌, ◌≤◌, ◌<◌, [], false, map, length, get_or, string_bytes, IfOk, IsOkUnless};
 ghost use Rattle.std.proofs.Props.{props};
 ghost use Rattle.io_state.specs.declared.fault.Fault.TheVariants.{Memory};
-ghost use Rattle.system_files.specs.Front.{IsFrontRead};
+ghost use Rattle.system_files.specs.Front.{IsFrontRead, EndsInLongLine};
 ghost use Rattle.recorded_system.specs.SystemState.{file_path};
 
 use crate::call_record::CallRecord;
+use crate::streams::{HoldsStreams, StreamFault, hold_numbers};
 use crate::system::System;
 use crate::unit::Unit;
+use crate::unread::{Unread, cause_of, cause_of_folder, keep_cause};
 use io_state::{Fault, FileName};
 use progress::{Progress, ProgressReader};
 use std::alloc::Global;
 use std::fs::OpenFile;
 use std::io::Read;
+use std::mem;
+use std::os::fd::AsRawFd;
 use std::os::unix::fs::FileExt;
-use std::rt::Files;
-use system_files::{Cause, KeptFile, KeptFolder, LockFile, ReadFault, read_front};
+use std::rt::{Clock, Files};
+use system_files::{
+    Cause, KeptFile, KeptFolder, Lines, LockFile, LockWait, ReadFault, read_front, read_lines,
+};
 
 /// The files and folders of a runtime. It is not copied, and gives the runtime to nobody.
 #[derive(Drop)]
 pub struct RecordedSystem<R: Files + Drop> {
     rt: R,
     alloc: Global,
+    wait: LockWait,
     folder: KeptFolder<R::File>,
     names: Vec<FileName>,
     // Of each unit, the path of its file.
     paths: Vec<String>,
     units: Vec<Unit<R::File>>,
+    // What has the numbers of standard streams that were closed.
+    streams: Vec<R::File>,
     calls: CallRecord,
+    unread: Vec<Unread>,
     ghost named: { map string_bytes paths.items
         ≡ map (file_path (string_bytes folder.path)) (map (λ name. name.bytes) names.items) } by { Prim.hlevel props },
 }
 
-impl<R: Files + Drop> RecordedSystem<R>
+impl<R: Files + Clock + Drop> RecordedSystem<R>
 where
     R::File: FileExt + LockFile,
 {
@@ -43,11 +53,14 @@ where
         RecordedSystem {
             rt,
             alloc,
+            wait: LockWait::of_seconds(0),
             folder: KeptFolder::new(String::new(alloc)),
             names: Vec::new(alloc),
             paths: Vec::new(alloc),
             units: Vec::new(alloc),
+            streams: Vec::new(alloc),
             calls: CallRecord::new(),
+            unread: Vec::new(alloc),
         }
     }
 
@@ -74,7 +87,16 @@ where
         read_front(self.alloc, &mut file, most)
     }
 
-    // The same, as long as no run changes it.
+    // The text of the file of a path, and how many bytes were asked for.
+    fn text_of(&self, path: &str, longest: usize) -> Result<(Vec<u8>, usize), ReadFault>
+        ensures { IfOk result (λ text. (length text.0.items < text.1) ⊎ EndsInLongLine longest text.0.items) }
+    {
+        let mut file = system_files::open_to_read(&self.rt, path).map_err(ReadFault::Device)?;
+        let lines = read_lines(self.alloc, &mut file, longest)?;
+        asked_of(lines, longest)
+    }
+
+    // The bytes of the file of a path, as long as no run changes it.
     fn shared_bytes_of<P: Progress>(
         &self,
         path: &str,
@@ -83,10 +105,25 @@ where
     ) -> Result<Vec<u8>, ReadFault>
         ensures within { IfOk result (λ bytes. length bytes.items ≤ most) }
     {
-        let file = system_files::open_shared(&self.rt, path).map_err(ReadFault::Device)?;
+        let file = system_files::open_shared(&self.rt, self.wait, path).map_err(ReadFault::Device)?;
         let bytes = self.read_all(file, most, progress);
         progress.wipe();
         bytes
+    }
+}
+
+// Lines, and how many bytes were asked for: where there are no more of them, one more than came.
+fn asked_of(lines: Lines, longest: usize) -> Result<(Vec<u8>, usize), ReadFault>
+    requires { lines.is_whole ≡ false → EndsInLongLine longest lines.bytes.items }
+    ensures { IfOk result (λ text. (length text.0.items < text.1) ⊎ EndsInLongLine longest text.0.items) }
+{
+    let count = lines.bytes.len();
+    if !lines.is_whole {
+        return Ok((lines.bytes, count));
+    }
+    match count.checked_add(1) {
+        Some(more) => Ok((lines.bytes, more)),
+        None => Err(ReadFault::Memory),
     }
 }
 
@@ -136,7 +173,7 @@ fn new_units<F: OpenFile + FileExt + LockFile + Drop>(
     Ok(units)
 }
 
-impl<R: Files + Drop> System for RecordedSystem<R>
+impl<R: Files + Clock + Drop> System for RecordedSystem<R>
 where
     R::File: FileExt + LockFile,
 {
@@ -149,6 +186,10 @@ where
       names = map (λ name. name.bytes) system.names.items;
       calls = system.calls.calls;
     } };
+
+    fn wait_for_locks(&mut self, seconds: u32) {
+        self.wait = LockWait::of_seconds(seconds);
+    }
 
     fn enter(&mut self, folder: String) {
         self.calls.entered(folder.as_str());
@@ -183,7 +224,7 @@ where
 
     fn let_go(&mut self, unit: usize) {
         if let Some(it) = self.units.get_mut(unit) {
-            *it = Unit::new();
+            it.close();
         }
     }
 
@@ -200,7 +241,7 @@ where
     fn make(&mut self, unit: usize) -> bool {
         let path = path_at(&self.paths, unit);
         let done = match self.units.get_mut(unit) {
-            Some(it) => it.make(&self.rt, path, &mut self.folder),
+            Some(it) => it.make(&self.rt, self.wait, path, &mut self.folder),
             None => false,
         };
         self.calls.made(path, done);
@@ -210,7 +251,7 @@ where
     fn measure(&mut self, unit: usize) -> Option<u64> {
         let path = path_at(&self.paths, unit);
         let size = match self.units.get_mut(unit) {
-            Some(it) => it.measure(&self.rt, path, &mut self.folder),
+            Some(it) => it.measure(&self.rt, self.wait, path, &mut self.folder),
             None => None,
         };
         self.calls.measured(path, size);
@@ -220,7 +261,7 @@ where
     fn read(&mut self, unit: usize, at: u64, bytes: &mut [u8]) -> bool {
         let path = path_at(&self.paths, unit);
         let done = match self.units.get_mut(unit) {
-            Some(it) => it.read(&self.rt, path, &mut self.folder, at, bytes),
+            Some(it) => it.read(&self.rt, self.wait, path, &mut self.folder, at, bytes),
             None => false,
         };
         self.calls.read(path, done, at, bytes);
@@ -230,7 +271,7 @@ where
     fn hold(&mut self, unit: usize) -> bool {
         let path = path_at(&self.paths, unit);
         let done = match self.units.get_mut(unit) {
-            Some(it) => it.hold(&self.rt, path, &mut self.folder),
+            Some(it) => it.hold(&self.rt, self.wait, path, &mut self.folder),
             None => false,
         };
         self.calls.held(path, done);
@@ -250,7 +291,7 @@ where
     fn flush(&mut self, unit: usize) -> bool {
         let path = path_at(&self.paths, unit);
         let done = match self.units.get_mut(unit) {
-            Some(it) => it.sync(&self.rt, path, &mut self.folder),
+            Some(it) => it.sync(&self.rt, self.wait, path, &mut self.folder),
             None => false,
         };
         self.calls.flushed(path, done);
@@ -264,14 +305,27 @@ where
         }
     }
 
+    fn units(&self) -> usize {
+        self.names.len()
+    }
+
+    fn name(&self, unit: usize) -> Option<&str> {
+        match self.names.get(unit) {
+            Some(name) => Some(name.as_str()),
+            None => None,
+        }
+    }
+
     fn is_folder(&mut self, path: &str) -> Result<bool, Cause> {
         let told = system_files::is_folder(&self.rt, path);
+        keep_cause(&mut self.unread, self.alloc, path, cause_of_folder(&told));
         self.calls.asked_of_folder(path, told.ok());
         told
     }
 
     fn take(&mut self, path: &str, most: usize) -> Result<Vec<u8>, ReadFault> {
         let bytes = self.bytes_of(path, most);
+        keep_cause(&mut self.unread, self.alloc, path, cause_of(&bytes));
         match &bytes {
             Ok(bytes) => self.calls.taken(path, most, Some(bytes.as_slice())),
             Err(_) => self.calls.taken(path, most, None),
@@ -286,10 +340,45 @@ where
         progress: &mut P,
     ) -> Result<Vec<u8>, ReadFault> {
         let bytes = self.shared_bytes_of(path, most, progress);
+        keep_cause(&mut self.unread, self.alloc, path, cause_of(&bytes));
         match &bytes {
             Ok(bytes) => self.calls.taken_shared(path, most, Some(bytes.as_slice())),
             Err(_) => self.calls.taken_shared(path, most, None),
         }
         bytes
+    }
+
+    fn take_text(&mut self, path: &str, longest: usize) -> Result<Vec<u8>, ReadFault> {
+        let told = self.text_of(path, longest);
+        keep_cause(&mut self.unread, self.alloc, path, cause_of(&told));
+        match told {
+            Ok((text, most)) => {
+                self.calls.taken(path, most, Some(text.as_slice()));
+                Ok(text)
+            }
+            Err(fault) => {
+                self.calls.taken(path, longest, None);
+                Err(fault)
+            }
+        }
+    }
+
+    fn unread(&self) -> &[Unread] {
+        self.unread.as_slice()
+    }
+
+    fn exchange_record(&mut self, other: &mut CallRecord) {
+        mem::swap(&mut self.calls, other);
+    }
+}
+
+impl<R: Files + Clock + Drop> HoldsStreams for RecordedSystem<R>
+where
+    R::File: FileExt + LockFile + AsRawFd,
+{
+    fn hold_closed_streams(&mut self) -> Result<(), StreamFault> {
+        let held = hold_numbers(&self.rt, &mut self.streams);
+        self.calls.streams_held(held.is_ok());
+        held
     }
 }

@@ -1,10 +1,13 @@
 //! The files and folders of a system, as the layers above ask for them.
-ghost use Rattle.std.specs.Prelude.{◌≡◌, ◌≢◌, ℕ, Bool, false, [], ◌∷◌, ◌++◌, map, string_bytes};
+ghost use Rattle.std.specs.Prelude.{◌≡◌, ◌≢◌, ℕ, Bool, false, [], ◌∷◌, ◌++◌, map, length, string_bytes};
 ghost use Rattle.recorded_system.specs.Calls.{looked, made, measured, read, held, written, flushed};
 ghost use Rattle.recorded_system.specs.Calls.{asked_of_folder, taken, taken_shared};
 ghost use Rattle.recorded_system.specs.SystemState.{SystemState, IsUnit, with_call, noted_of, entered_at};
-ghost use Rattle.recorded_system.specs.SystemState.{with_units, if_told, AttachesNames, TakesBytes};
+ghost use Rattle.recorded_system.specs.SystemState.{with_units, recording, if_told, AttachesNames, TakesBytes};
+ghost use Rattle.recorded_system.specs.Reading.{TakesText};
 
+use crate::call_record::CallRecord;
+use crate::unread::Unread;
 use io_state::{Fault, FileName};
 use progress::Progress;
 use system_files::{Cause, ReadFault};
@@ -18,6 +21,15 @@ pub trait System {
     /// What is known of it.
     ghost state: { Self → SystemState };
 
+    /// Whether the file of a unit is kept open, and so under a lock.
+    ghost keeps_open: { Self → ℕ → Bool };
+
+    /// From now on a lock that another run has is tried again for so many seconds, ten times a second,
+    /// before a call fails for want of it. At first it is tried once.
+    fn wait_for_locks(&mut self, seconds: u32)
+        ensures state { state self.new ≡ state self.old }
+        ensures kept { (unit : ℕ) → keeps_open self.new unit ≡ keeps_open self.old unit };
+
     /// Lets all units go. From now on units are files of the folder of this path.
     fn enter(&mut self, folder: String)
         ensures { state self.new ≡ entered_at (string_bytes folder) (state self.old) };
@@ -26,9 +38,6 @@ pub trait System {
     /// it had.
     fn attach(&mut self, names: &[FileName]) -> Result<(), Fault>
         ensures { AttachesNames (map (λ name. name.bytes) names.now) (state self.old) (state self.new) result };
-
-    /// Whether the file of a unit is kept open, and so under a lock.
-    ghost keeps_open: { Self → ℕ → Bool };
 
     /// Has one more unit, of this name, behind the others. `Memory`: it has those that it had.
     fn add_unit(&mut self, name: &FileName) -> Result<(), Fault>
@@ -86,6 +95,13 @@ pub trait System {
     /// Why a call on the unit's file first failed, since it was attached.
     fn cause(&self, unit: usize) -> Option<Cause>;
 
+    /// How many units there are.
+    fn units(&self) -> usize
+        ensures { result ≡ length (state self.now).names };
+
+    /// The name of the file of a unit, if there is such a unit.
+    fn name(&self, unit: usize) -> Option<&str>;
+
     /// Whether this path is that of a folder, or of a link to one. An error: it is not told.
     fn is_folder(&mut self, path: &str) -> Result<bool, Cause>
         ensures { state self.new ≡ with_call (asked_of_folder path.now (if_told result)) (state self.old) };
@@ -105,4 +121,19 @@ pub trait System {
     ) -> Result<Vec<u8>, ReadFault>
         ensures { TakesBytes most (taken_shared path.now most)
             (state self.old) (state self.new) result };
+
+    /// The text of the file of this path: all of it, or a front that ends in the midst of a line
+    /// that has `longest` bytes at least.
+    fn take_text(&mut self, path: &str, longest: usize) -> Result<Vec<u8>, ReadFault>
+        ensures { TakesText longest path.now (state self.old) (state self.new) result };
+
+    /// The files and folders of which nothing was told when they were asked for by their paths, and
+    /// why, in this order, as far as memory was had to keep it.
+    fn unread(&self) -> &[Unread];
+
+    /// Exchanges the record of the calls so far with another one. No call is lost: each stays in one
+    /// of the two.
+    fn exchange_record(&mut self, other: &mut CallRecord)
+        ensures record { state self.new ≡ recording other.old.calls (state self.old) }
+        ensures other { other.new.calls ≡ (state self.old).calls };
 }

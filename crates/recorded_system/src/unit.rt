@@ -3,8 +3,8 @@ ghost use Rattle.std.specs.Prelude.{◌≡◌, ◌≤◌, length, None};
 
 use std::fs::OpenFile;
 use std::os::unix::fs::FileExt;
-use std::rt::Files;
-use system_files::{Cause, KeptFile, KeptFolder, LockFile};
+use std::rt::{Clock, Files};
+use system_files::{Cause, KeptFile, KeptFolder, LockFile, LockWait};
 
 /// The file of a unit, once it was reached, and why a call on it first failed.
 #[derive(Drop)]
@@ -21,6 +21,13 @@ impl<F: OpenFile + FileExt + LockFile + Drop> Unit<F> {
             file: None,
             failed: None,
         }
+    }
+
+    /// Closes the file. Why a call first failed is kept.
+    pub(crate) fn close(&mut self)
+        ensures { self.new.file ≡ None }
+    {
+        self.file = None;
     }
 
     /// Why a call first failed, if one did.
@@ -61,11 +68,17 @@ impl<F: OpenFile + FileExt + LockFile + Drop> Unit<F> {
     }
 
     // Opens the file, if it is not open and can be read.
-    fn reach<R: Files<File = F>>(&mut self, rt: &R, path: &str, folder: &mut KeptFolder<F>)
+    fn reach<R: Files<File = F> + Clock>(
+        &mut self,
+        rt: &R,
+        wait: LockWait,
+        path: &str,
+        folder: &mut KeptFolder<F>,
+    )
         ensures { folder.new.path ≡ folder.old.path }
     {
         if self.file.is_none() {
-            self.open(rt, path, folder);
+            self.open(rt, wait, path, folder);
         }
     }
 
@@ -73,10 +86,16 @@ impl<F: OpenFile + FileExt + LockFile + Drop> Unit<F> {
     // each page that is read or written asks: a call of the system has a path of 4 KiB in its frame,
     // filled at its entry.
     #[inline(never)]
-    fn open<R: Files<File = F>>(&mut self, rt: &R, path: &str, folder: &mut KeptFolder<F>)
+    fn open<R: Files<File = F> + Clock>(
+        &mut self,
+        rt: &R,
+        wait: LockWait,
+        path: &str,
+        folder: &mut KeptFolder<F>,
+    )
         ensures { folder.new.path ≡ folder.old.path }
     {
-        let opened = system_files::open(rt, path);
+        let opened = system_files::open(rt, wait, path);
         self.keep(opened);
         // A file is read without it: the first change asks for it again.
         let _ = folder.reach(rt);
@@ -94,39 +113,42 @@ impl<F: OpenFile + FileExt + LockFile + Drop> Unit<F> {
     }
 
     /// Makes the file. Whether it was made, and this run has it alone.
-    pub(crate) fn make<R: Files<File = F>>(
+    pub(crate) fn make<R: Files<File = F> + Clock>(
         &mut self,
         rt: &R,
+        wait: LockWait,
         path: &str,
         folder: &mut KeptFolder<F>,
     ) -> bool
         ensures { folder.new.path ≡ folder.old.path }
     {
-        let made = system_files::make(rt, path, folder);
+        let made = system_files::make(rt, wait, path, folder);
         self.keep(made)
     }
 
     /// The number of bytes of the file, if it is told.
-    pub(crate) fn measure<R: Files<File = F>>(
+    pub(crate) fn measure<R: Files<File = F> + Clock>(
         &mut self,
         rt: &R,
+        wait: LockWait,
         path: &str,
         folder: &mut KeptFolder<F>,
     ) -> Option<u64>
         ensures { folder.new.path ≡ folder.old.path }
     {
-        self.reach(rt, path, folder);
+        self.reach(rt, wait, path, folder);
         let size = match &mut self.file {
-            Some(file) => file.measure(),
+            Some(file) => file.measure(rt, wait),
             None => return None,
         };
         self.told(size)
     }
 
     /// Fills the bytes with those of the file from `at` on. Whether they all came.
-    pub(crate) fn read<R: Files<File = F>>(
+    pub(crate) fn read<R: Files<File = F> + Clock>(
         &mut self,
         rt: &R,
+        wait: LockWait,
         path: &str,
         folder: &mut KeptFolder<F>,
         at: u64,
@@ -134,37 +156,44 @@ impl<F: OpenFile + FileExt + LockFile + Drop> Unit<F> {
     ) -> bool
         ensures { folder.new.path ≡ folder.old.path }
     {
-        self.reach(rt, path, folder);
+        self.reach(rt, wait, path, folder);
         let done = match &mut self.file {
-            Some(file) => file.read(at, bytes),
+            Some(file) => file.read(rt, wait, at, bytes),
             None => return false,
         };
         self.told(done).is_some()
     }
 
     /// Holds the file for changes. Whether it is held.
-    pub(crate) fn hold<R: Files<File = F>>(
+    pub(crate) fn hold<R: Files<File = F> + Clock>(
         &mut self,
         rt: &R,
+        wait: LockWait,
         path: &str,
         folder: &mut KeptFolder<F>,
     ) -> bool
         ensures { folder.new.path ≡ folder.old.path }
     {
-        self.reach(rt, path, folder);
+        self.reach(rt, wait, path, folder);
         match &self.file {
             Some(file) if file.is_held() => true,
-            _ => self.claim(rt, path, folder),
+            _ => self.claim(rt, wait, path, folder),
         }
     }
 
     // Holds a file that was not held. It is apart from `hold` as `open` is from `reach`.
     #[inline(never)]
-    fn claim<R: Files<File = F>>(&mut self, rt: &R, path: &str, folder: &mut KeptFolder<F>) -> bool
+    fn claim<R: Files<File = F> + Clock>(
+        &mut self,
+        rt: &R,
+        wait: LockWait,
+        path: &str,
+        folder: &mut KeptFolder<F>,
+    ) -> bool
         ensures { folder.new.path ≡ folder.old.path }
     {
         let done = match &mut self.file {
-            Some(file) => file.hold(rt, path, folder),
+            Some(file) => file.hold(rt, wait, path, folder),
             None => return false,
         };
         self.told(done).is_some()
@@ -185,17 +214,18 @@ impl<F: OpenFile + FileExt + LockFile + Drop> Unit<F> {
     }
 
     /// Brings the file to the disk. Whether it was done.
-    pub(crate) fn sync<R: Files<File = F>>(
+    pub(crate) fn sync<R: Files<File = F> + Clock>(
         &mut self,
         rt: &R,
+        wait: LockWait,
         path: &str,
         folder: &mut KeptFolder<F>,
     ) -> bool
         ensures { folder.new.path ≡ folder.old.path }
     {
-        self.reach(rt, path, folder);
+        self.reach(rt, wait, path, folder);
         let done = match &mut self.file {
-            Some(file) => file.sync(rt, path, folder),
+            Some(file) => file.sync(rt, wait, path, folder),
             None => return false,
         };
         self.told(done).is_some()

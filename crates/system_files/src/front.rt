@@ -1,5 +1,6 @@
 //! The first bytes of a reader.
 ghost use Rattle.std.specs.Prelude.{◌≡◌, ◌≤◌, length, IfOk};
+ghost use Rattle.std.specs.Io.KnownBytes.{Consumes};
 ghost use Rattle.system_files.specs.Front.{IsFrontRead, FillsRoom};
 
 use crate::calls::{MOST_INTERRUPTED, is_interrupted};
@@ -40,6 +41,8 @@ fn read_part<R: Read>(reader: &mut R, part: &mut [u8]) -> Result<usize, ReadFaul
 /// The bytes of a reader to its end, or so many of the first ones.
 pub fn read_front<R: Read>(alloc: Global, reader: &mut R, most: usize) -> Result<Vec<u8>, ReadFault>
     ensures bytes { IfOk result (λ bytes. IsFrontRead most (R.remaining reader.old) bytes.items) }
+    ensures taken { IfOk result (λ bytes.
+        Consumes (R.remaining reader.old) (R.remaining reader.new) bytes.items) }
     ensures within { IfOk result (λ bytes. length bytes.items ≤ most) }
 {
     let mut bytes = Vec::new(alloc);

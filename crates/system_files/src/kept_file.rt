@@ -6,10 +6,11 @@ use crate::appearance::Appearance;
 use crate::calls::{Written, again, measure, read, sync, write};
 use crate::cause::Cause;
 use crate::kept_folder::KeptFolder;
+use crate::lock_wait::{LockWait, in_time};
 use crate::locks::{LockFile, claim, release, share};
 use std::fs::OpenFile;
 use std::os::unix::fs::FileExt;
-use std::rt::Files;
+use std::rt::{Clock, Files};
 
 /// The lock that a run has on a file.
 #[derive(Drop)]
@@ -48,12 +49,10 @@ impl<F: OpenFile + FileExt + LockFile + Drop> KeptFile<F> {
         })
     }
 
-    /// A file that was just made, with the exclusive lock, if it is had. Another run may have had
-    /// it first, and gone: then it is not the one that was made.
-    pub fn made(file: F) -> Result<KeptFile<F>, Cause> {
-        if !claim(&file) {
-            return Err(Cause::InUse);
-        }
+    /// A file that was just made, with the exclusive lock, if it is had in time. Another run may have
+    /// had it first, and gone: then it is not the one that was made.
+    pub fn made<C: Clock>(clock: &C, wait: LockWait, file: F) -> Result<KeptFile<F>, Cause> {
+        in_time(clock, wait, || claim(&file))?;
         if measure(&file)? != 0 {
             return Err(Cause::Changed);
         }
@@ -80,11 +79,13 @@ impl<F: OpenFile + FileExt + LockFile + Drop> KeptFile<F> {
 
     /// Makes the lock exclusive, before the file is changed. The folder is asked for before the
     /// lock, so that all that a change needs is had before the first byte is written. It is refused
-    /// where the path does not name this file, or the file is not the one that this run has read.
-    /// Where the lock is refused none is left; the next look at the file takes the shared one anew.
-    pub fn hold<R: Files>(
+    /// where the lock is not had in time, the path does not name this file, or the file is not the
+    /// one that this run has read. Where the lock is refused none is left; the next look at the file
+    /// takes the shared one anew.
+    pub fn hold<R: Files + Clock>(
         &mut self,
         rt: &R,
+        wait: LockWait,
         path: &str,
         folder: &mut KeptFolder<R::File>,
     ) -> Result<(), Cause>
@@ -99,7 +100,7 @@ impl<F: OpenFile + FileExt + LockFile + Drop> KeptFile<F> {
             return Err(cause);
         }
         folder.reach(rt)?;
-        match self.claimed(rt, path) {
+        match self.claimed(rt, wait, path) {
             Ok(()) => {
                 self.lock = Lock::Exclusive;
                 Ok(())
@@ -112,13 +113,11 @@ impl<F: OpenFile + FileExt + LockFile + Drop> KeptFile<F> {
     }
 
     // Claims the lock of a file that is still what this run has read.
-    fn claimed<R: Files>(&self, rt: &R, path: &str) -> Result<(), Cause> {
+    fn claimed<R: Files + Clock>(&self, rt: &R, wait: LockWait, path: &str) -> Result<(), Cause> {
         let Lock::Shared(seen) = &self.lock else {
             return Err(Cause::InUse);
         };
-        if !claim(&self.file) {
-            return Err(Cause::InUse);
-        }
+        in_time(rt, wait, || claim(&self.file))?;
         if Appearance::of(&self.file)? != *seen {
             return Err(Cause::Changed);
         }
@@ -140,22 +139,29 @@ impl<F: OpenFile + FileExt + LockFile + Drop> KeptFile<F> {
     }
 
     // Sees that a lock is had. The shared one is taken anew where it is gone.
-    fn lock(&mut self) -> Result<(), Cause> {
+    fn lock<C: Clock>(&mut self, clock: &C, wait: LockWait) -> Result<(), Cause> {
         if matches!(self.lock, Lock::Nothing) {
-            self.lock = shared(&self.file)?;
+            self.lock = in_time(clock, wait, || shared(&self.file))?;
         }
         Ok(())
     }
 
-    /// The number of bytes, if a lock is had and it is told.
-    pub fn measure(&mut self) -> Result<u64, Cause> {
-        self.lock()?;
+    /// The number of bytes, if a lock is had in time and it is told.
+    pub fn measure<C: Clock>(&mut self, clock: &C, wait: LockWait) -> Result<u64, Cause> {
+        self.lock(clock, wait)?;
         measure(&self.file)
     }
 
-    /// Fills the bytes with those of the file from `at` on, if a lock is had and they all come.
-    pub fn read(&mut self, at: u64, bytes: &mut [u8]) -> Result<(), Cause> {
-        self.lock()?;
+    /// Fills the bytes with those of the file from `at` on, if a lock is had in time and they all
+    /// come.
+    pub fn read<C: Clock>(
+        &mut self,
+        clock: &C,
+        wait: LockWait,
+        at: u64,
+        bytes: &mut [u8],
+    ) -> Result<(), Cause> {
+        self.lock(clock, wait)?;
         read(&self.file, at, bytes)
     }
 
@@ -178,9 +184,10 @@ impl<F: OpenFile + FileExt + LockFile + Drop> KeptFile<F> {
     /// of a file that is synced before it is held: the run that made it may have ended before its
     /// name was there. It fails where the path does not name this file any more, and always once a
     /// sync failed.
-    pub fn sync<R: Files>(
+    pub fn sync<R: Files + Clock>(
         &mut self,
         rt: &R,
+        wait: LockWait,
         path: &str,
         folder: &mut KeptFolder<R::File>,
     ) -> Result<(), Cause>
@@ -189,7 +196,7 @@ impl<F: OpenFile + FileExt + LockFile + Drop> KeptFile<F> {
         if let Some(cause) = self.lost {
             return Err(cause);
         }
-        self.lock()?;
+        self.lock(rt, wait)?;
         self.is_unnamed |= !self.is_held();
         let done = self.bring_to_disk(rt, path, folder);
         if let Err(cause) = done {

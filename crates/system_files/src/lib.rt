@@ -3,8 +3,9 @@
 //!
 //! Reads and writes go on until all bytes came or were taken; the thousandth interrupted call in a
 //! row is told as one that failed. A file is read under a shared lock and written under an
-//! exclusive one. Nothing is promised of the system's answers, and that each function makes the
-//! calls that its name says is trusted.
+//! exclusive one, and a lock that another run has is waited for, for as long as is asked. Nothing is
+//! promised of the system's answers, and that each function makes the calls that its name says is
+//! trusted.
 //!
 //! Read `calls` and `locks`, then `kept_file`.
 #![tactic(auto)]
@@ -15,6 +16,8 @@ mod cause;
 mod front;
 mod kept_file;
 mod kept_folder;
+mod lines;
+mod lock_wait;
 mod locks;
 mod opening;
 
@@ -23,5 +26,7 @@ pub use cause::Cause;
 pub use front::{ReadFault, read_front};
 pub use kept_file::KeptFile;
 pub use kept_folder::KeptFolder;
+pub use lines::{Lines, read_lines};
+pub use lock_wait::LockWait;
 pub use locks::{LockFile, share};
 pub use opening::{make, open, open_shared, open_to_read};

@@ -2,6 +2,7 @@
 //! that is closed, and so with the process.
 
 use crate::calls::{MOST_INTERRUPTED, again, is_interrupted};
+use crate::cause::Cause;
 use std::fs::{self, File, TryLockError};
 use std::io;
 use std::os::unix::fs::MetadataExt;
@@ -50,10 +51,14 @@ pub fn share<F: LockFile>(file: &F) -> bool {
     was_had(|| file.try_lock_shared())
 }
 
-/// Takes the lock that one alone has. Whether it was had, as `share` tells it; where it was not, a
-/// lock that was had before is gone.
-pub(crate) fn claim<F: LockFile>(file: &F) -> bool {
-    was_had(|| file.try_lock())
+/// Takes the lock that one alone has, if it is had, as `share` tells it. Where it is not, a lock that
+/// was had before is gone: two that read a file and are to change it do not wait for each other.
+pub(crate) fn claim<F: LockFile>(file: &F) -> Result<(), Cause> {
+    if was_had(|| file.try_lock()) {
+        return Ok(());
+    }
+    release(file);
+    Err(Cause::InUse)
 }
 
 /// Lets a lock go.

@@ -6,16 +6,18 @@ use crate::calls::{again, require_file};
 use crate::cause::Cause;
 use crate::kept_file::KeptFile;
 use crate::kept_folder::KeptFolder;
+use crate::lock_wait::{LockWait, in_time};
 use crate::locks::{LockFile, share};
-use std::fs::{self, OpenOptions};
+use std::fs::{self, OpenFile, OpenOptions};
 use std::io::ErrorKind;
 use std::os::unix::fs::FileExt;
-use std::rt::Files;
+use std::rt::{Clock, Files};
 
 /// Makes a file that is not there, and has it alone. It is not made where the folder cannot be
 /// had. Where another run had it first, it is not made by this one, and may be there.
-pub fn make<R: Files>(
+pub fn make<R: Files + Clock>(
     rt: &R,
+    wait: LockWait,
     path: &str,
     folder: &mut KeptFolder<R::File>,
 ) -> Result<KeptFile<R::File>, Cause>
@@ -26,15 +28,27 @@ where
 {
     folder.reach(rt)?;
     match open_path(rt, path, true, true) {
-        Ok(file) => KeptFile::made(file),
+        Ok(file) => KeptFile::made(rt, wait, file),
         Err(Cause::Other(ErrorKind::AlreadyExists)) => Err(Cause::InUse),
         Err(cause) => Err(cause),
     }
 }
 
 /// Opens what is a file by its own name, and no link, for as long as no other run changes it. Where
-/// the system refuses writing it is opened for reading.
-pub fn open<R: Files>(rt: &R, path: &str) -> Result<KeptFile<R::File>, Cause>
+/// the system refuses writing it is opened for reading. At each try for its lock it is opened anew,
+/// so that it has its name when the lock is had.
+pub fn open<R: Files + Clock>(
+    rt: &R,
+    wait: LockWait,
+    path: &str,
+) -> Result<KeptFile<R::File>, Cause>
+where
+    R::File: FileExt + LockFile,
+{
+    in_time(rt, wait, || open_once(rt, path))
+}
+
+fn open_once<R: Files>(rt: &R, path: &str) -> Result<KeptFile<R::File>, Cause>
 where
     R::File: FileExt + LockFile,
 {
@@ -54,13 +68,27 @@ where
     KeptFile::opened(file, only_read)
 }
 
-/// Opens what a path names, or what a link there leads to, to be read.
+/// Opens the file of a path, or the one to which a link there leads, to be read. It is looked at
+/// before, since the opening of a pipe waits for whoever writes into it, and once more when it is
+/// open: a folder, a pipe, a device or a socket is no file.
 pub fn open_to_read<R: Files>(rt: &R, path: &str) -> Result<R::File, Cause> {
-    again(|| fs::open(rt, path))
+    let found = again(|| fs::metadata(rt, path))?;
+    require_file(&found)?;
+    let file = again(|| fs::open(rt, path))?;
+    let opened = again(|| file.metadata())?;
+    require_file(&opened)?;
+    Ok(file)
 }
 
-/// The same, as long as no other run changes it.
-pub fn open_shared<R: Files>(rt: &R, path: &str) -> Result<R::File, Cause>
+/// The same, as long as no other run changes it. It is opened anew at each try, as `open` does.
+pub fn open_shared<R: Files + Clock>(rt: &R, wait: LockWait, path: &str) -> Result<R::File, Cause>
+where
+    R::File: LockFile,
+{
+    in_time(rt, wait, || open_shared_once(rt, path))
+}
+
+fn open_shared_once<R: Files>(rt: &R, path: &str) -> Result<R::File, Cause>
 where
     R::File: LockFile,
 {

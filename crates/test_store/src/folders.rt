@@ -11,7 +11,7 @@ use recorded_system::RecordedSystem;
 use std::fs;
 use std::os::unix::fs::symlink;
 use std::process::Abort;
-use system_files::KeptFolder;
+use system_files::{KeptFolder, LockWait};
 
 // A shelf over an empty folder of this name.
 fn new_shelf(
@@ -87,7 +87,10 @@ fn a_folder_of_the_name_is_a_fault_of_the_device(rt: HostRuntime) {
 // No file is made by the name of a link.
 fn is_not_made(test: &impl Abort, rt: HostRuntime, path: &str) {
     let mut folder = KeptFolder::new("link".to_string(rt.alloc()).expect(test, "memory"));
-    assert_that(test, system_files::make(&rt, path, &mut folder).is_err());
+    assert_that(
+        test,
+        system_files::make(&rt, LockWait::of_seconds(0), path, &mut folder).is_err(),
+    );
 }
 
 #[test]
@@ -97,7 +100,10 @@ fn a_link_is_not_followed(rt: HostRuntime) {
     symlink(&rt, "../outside_the_folder", "link/CUST").expect(&rt, "a link");
     symlink(&rt, "../nowhere", "link/NONE").expect(&rt, "a link");
     is_no_file(&rt, &mut shelf);
-    assert_that(&rt, system_files::open(&rt, "link/CUST").is_err());
+    assert_that(
+        &rt,
+        system_files::open(&rt, LockWait::of_seconds(0), "link/CUST").is_err(),
+    );
     is_not_made(&rt, rt, "link/CUST");
     is_not_made(&rt, rt, "link/NONE");
     let made = fs::exists(&rt, "nowhere").expect(&rt, "an answer");

@@ -14,7 +14,7 @@ use std::fs;
 use std::io::{self, ErrorKind};
 use std::os::unix::fs::FileExt;
 use std::process::Abort;
-use std::rt::Files;
+use std::rt::{Clock, Files};
 use system_files::LockFile;
 
 /// What a run does with a file of three pages.
@@ -136,7 +136,7 @@ fn perform_both<S: Shelf>(
 }
 
 // A run over the files of a folder, which has the file attached.
-fn run_over<R: Files + Drop>(
+fn run_over<R: Files + Clock + Drop>(
     test: &impl Abort,
     rt: R,
     alloc: Global,

@@ -5,8 +5,8 @@
 //! call in turn, and what they are found to be afterwards is looked at, page by page.
 //!
 //! Read `files` for a file and its gate, `folders` for files in a folder of the system, `held_files`
-//! for those of two runs at once and `system_calls` for its calls, then `paged_files` for the pages
-//! that the cache holds and those that are free.
+//! for those of two runs at once, `waiting` for their locks and `system_calls` for its calls, then
+//! `paged_files` for the pages that the cache holds and those that are free.
 #![tactic(auto)]
 
 #[cfg(test)]
@@ -25,3 +25,5 @@ mod refusing_system;
 mod shelves;
 #[cfg(test)]
 mod system_calls;
+#[cfg(test)]
+mod waiting;

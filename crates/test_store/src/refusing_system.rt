@@ -5,8 +5,8 @@ use std::cell::Cell;
 use std::fs::{File, FileTimes, Metadata, OpenFile, OpenOptions, TryLockError};
 use std::io::{self, ErrorKind, Read, Seek, SeekFrom, Write};
 use std::os::unix::fs::FileExt;
-use std::rt::Files;
-use std::time::UNIX_EPOCH;
+use std::rt::{Clock, Files};
+use std::time::{Duration, UNIX_EPOCH};
 use system_files::LockFile;
 
 /// What another run does to a file while this one has no lock on it.
@@ -219,5 +219,15 @@ impl<'a, R: Files<File = File>> Files for Refusing<'a, R> {
 
     fn remove_dir_all<B: Allocator>(&self, alloc: B, path: &str) -> io::Result<()> {
         self.rt.remove_dir_all(alloc, path)
+    }
+}
+
+impl<'a, R: Clock> Clock for Refusing<'a, R> {
+    fn monotonic(&self) -> io::Result<Duration> {
+        self.rt.monotonic()
+    }
+
+    fn since_1970(&self) -> io::Result<Duration> {
+        self.rt.since_1970()
     }
 }

@@ -8,7 +8,7 @@ use std::io;
 use std::os::unix::fs::FileExt;
 use std::process::Abort;
 use std::rt::Files;
-use system_files::{Cause, KeptFile, KeptFolder, LockFile};
+use system_files::{Cause, KeptFile, KeptFolder, LockFile, LockWait};
 
 /// A file of which each call is interrupted so many times, and then moves at most three bytes.
 #[derive(Drop)]
@@ -163,11 +163,16 @@ fn is_held_as(test: &impl Abort, rt: HostRuntime, then: (u64, u8), is_held: bool
     };
     let mut file = kept(test, file);
     let mut folder = folder_of(test, rt.alloc(), ".");
-    assert_equal_for(test, then, file.hold(&rt, "", &mut folder).is_ok(), is_held);
+    assert_equal_for(
+        test,
+        then,
+        file.hold(&rt, no_wait(), "", &mut folder).is_ok(),
+        is_held,
+    );
     assert_equal_for(test, then, file.write(0, &[0; 10]).taken, written);
     // Read anew, it is the file that it was found to be.
-    assert_equal(test, file.measure(), Ok(then.0));
-    assert_that(test, file.hold(&rt, "", &mut folder).is_ok());
+    assert_equal(test, file.measure(&rt, no_wait()), Ok(then.0));
+    assert_that(test, file.hold(&rt, no_wait(), "", &mut folder).is_ok());
 }
 
 #[test]
@@ -197,7 +202,10 @@ fn a_thousand_interrupted_calls_in_a_row_are_a_fault(rt: HostRuntime) {
     assert_equal(&rt, few, (true, 10, true, Some(7), true));
     let many = answers_of(&Interrupted::new(1000, false));
     assert_equal(&rt, many, (false, 0, false, None, false));
-    assert_that(&rt, KeptFile::made(Interrupted::new(1000, false)).is_err());
+    assert_that(
+        &rt,
+        KeptFile::made(&rt, no_wait(), Interrupted::new(1000, false)).is_err(),
+    );
 }
 
 fn kept<F: OpenFile + FileExt + LockFile + Drop>(test: &impl Abort, file: F) -> KeptFile<F> {
@@ -216,13 +224,17 @@ fn folder_of(test: &impl Abort, alloc: Global, path: &str) -> KeptFolder<File> {
     KeptFolder::new(path.to_string(alloc).expect(test, "memory"))
 }
 
+fn no_wait() -> LockWait {
+    LockWait::of_seconds(0)
+}
+
 #[test]
 fn a_file_is_written_only_while_it_is_held(rt: HostRuntime) {
     let mut file = opened(&rt, 999, false);
     let mut folder = folder_of(&rt, rt.alloc(), ".");
-    assert_equal(&rt, file.measure(), Ok(7));
+    assert_equal(&rt, file.measure(&rt, no_wait()), Ok(7));
     assert_equal(&rt, file.write(0, &[0; 10]).taken, 0);
-    assert_equal(&rt, file.hold(&rt, "", &mut folder), Ok(()));
+    assert_equal(&rt, file.hold(&rt, no_wait(), "", &mut folder), Ok(()));
     assert_equal(&rt, file.write(0, &[0; 10]).taken, 10);
 }
 
@@ -234,26 +246,30 @@ fn a_file_that_may_only_be_read_is_never_held(rt: HostRuntime) {
         Err(_) => panic!(rt; "a file that is kept"),
     };
     let mut folder = folder_of(&rt, rt.alloc(), ".");
-    assert_equal(&rt, file.hold(&rt, "", &mut folder), Err(Cause::Permission));
+    assert_equal(
+        &rt,
+        file.hold(&rt, no_wait(), "", &mut folder),
+        Err(Cause::Permission),
+    );
     assert_equal(&rt, file.write(0, &[0; 10]).taken, 0);
-    assert_equal(&rt, file.measure(), Ok(7));
+    assert_equal(&rt, file.measure(&rt, no_wait()), Ok(7));
 }
 
 #[test]
 fn a_file_is_not_held_without_its_folder(rt: HostRuntime) {
     let mut file = opened(&rt, 0, false);
     let mut folder = folder_of(&rt, rt.alloc(), "no_such_folder");
-    assert_that(&rt, file.hold(&rt, "", &mut folder).is_err());
+    assert_that(&rt, file.hold(&rt, no_wait(), "", &mut folder).is_err());
     assert_equal(&rt, file.write(0, &[0; 10]).taken, 0);
-    assert_equal(&rt, file.measure(), Ok(7));
+    assert_equal(&rt, file.measure(&rt, no_wait()), Ok(7));
 }
 
 #[test]
 fn a_file_whose_sync_failed_is_not_synced_again(rt: HostRuntime) {
     let mut folder = folder_of(&rt, rt.alloc(), ".");
     let mut file = opened(&rt, 0, true);
-    assert_that(&rt, file.sync(&rt, "", &mut folder).is_err());
-    assert_that(&rt, file.sync(&rt, "", &mut folder).is_err());
+    assert_that(&rt, file.sync(&rt, no_wait(), "", &mut folder).is_err());
+    assert_that(&rt, file.sync(&rt, no_wait(), "", &mut folder).is_err());
     let mut file = opened(&rt, 0, false);
-    assert_equal(&rt, file.sync(&rt, "", &mut folder), Ok(()));
+    assert_equal(&rt, file.sync(&rt, no_wait(), "", &mut folder), Ok(()));
 }

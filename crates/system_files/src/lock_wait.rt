@@ -1,0 +1,48 @@
+//! Waiting for a lock that another run has.
+ghost use Rattle.std.specs.Prelude.{◌≡◌, ◌*◌, ◌-◌, ◌^◌, min};
+
+use crate::cause::Cause;
+use std::rt::Clock;
+use std::thread;
+use std::time::Duration;
+
+/// A lock is tried again so often in a second.
+const TRIES_A_SECOND: u32 = 10;
+
+/// The milliseconds between two tries.
+const PAUSE: u64 = 100;
+
+/// How long a lock is waited for.
+#[derive(Clone, Copy, Debug, PartialEq, Eq)]
+pub struct LockWait {
+    tries: u32,
+}
+
+impl LockWait {
+    /// So many seconds, as far as the tries are counted. For none, a lock is tried once.
+    pub fn of_seconds(seconds: u32) -> LockWait
+        ensures { result.tries ≡ min (seconds * 10) (2 ^ 32 - 1) }
+    {
+        LockWait {
+            tries: seconds.saturating_mul(TRIES_A_SECOND),
+        }
+    }
+}
+
+/// Makes a call again, a tenth of a second later, while it answers that another run has a lock and
+/// the wait is not over.
+pub(crate) fn in_time<C: Clock, T, F: Fn() -> Result<T, Cause> + Drop>(
+    clock: &C,
+    wait: LockWait,
+    call: F,
+) -> Result<T, Cause>
+    requires { F.IsAlwaysCallable call }
+{
+    for _ in 0..wait.tries {
+        match call() {
+            Err(Cause::InUse) => thread::sleep(clock, Duration::from_millis(PAUSE)),
+            answer => return answer,
+        }
+    }
+    call()
+}
