@@ -25,13 +25,13 @@ simple app is = (and_parts (is_simple app) _ (simple_and_free app is)).0
 
 -- what was met is what the words ask for
 asked : (words : List Text) (request : Request) → AreFaultless words → IsRequestMet (subcommand_of program_app words) request → Ask words request
-asked words (Run deck folder limits strict) faultless h = (faultless, h)
-asked words (Check files quiet) faultless h = (faultless, h)
-asked words (Serve folder limits) faultless h = (faultless, h)
+asked words (Run deck folder limits strict wait) faultless h = ((faultless, h.0), (faultless, h.1))
+asked words (Check files quiet wait) faultless h = ((faultless, h.0), (faultless, h.1))
+asked words (Serve folder limits wait) faultless h = ((faultless, h.0), (faultless, h.1))
 asked words (Schema file deck name) faultless h = (faultless, h)
 asked words (Explain kind number) faultless h = (faultless, h)
 asked words (Deck deck) faultless h = (faultless, h)
-asked words (ListRecords file key from to first form quiet) faultless h = (faultless, h)
+asked words (ListRecords file key from to first form quiet wait) faultless h = ((faultless, h.0), (faultless, h.1))
 asked words (Cobol deck fixed) faultless h = (faultless, h)
 asked words (Load deck folder file text form into limits quiet) faultless h = (faultless, h)
 asked words (Stat file) faultless h = (faultless, h)

@@ -7,7 +7,7 @@ use Rattle.clap.specs.Words.{Row, Text, one_of, one_text, rows_of}
 use Rattle.clap.specs.Matches.{ReadsOne}
 use Rattle.clap.specs.declared.parser.matches.Found.{Found}
 use Rattle.clap.proofs.WalkLemmas.{one_text-rows}
-use Rattle.command_words.specs.Asks.{IsNumber, AreLimits}
+use Rattle.command_words.specs.Asks.{IsNumber, AreLimits, IsWaitRequest, IsWaitMet}
 use Rattle.command_words.specs.declared.limits.Limits.{Limits}
 
 -- the text of this id is there, and this number
@@ -64,3 +64,14 @@ no_limits rows pages frames o p f none is m n limits =
     let same_pages : pages ≡ m = one_number rows (codes "pages") 32 pages m p (limits.pages_text, limits.pages_given, limits.pages_are) in
     let same_frames : frames ≡ n = one_number rows (codes "frames") 64 frames n f (limits.frames_text, limits.frames_given, limits.frames_are) in
     none is (rw same_pages limits.fewest_pages) (rw same_frames limits.fewest_frames) (rw same_frames limits.most_frames)
+
+-- the seconds that were read
+pub wait_read : (rows : List Row) (o : Option ℕ) → ((n : ℕ) → o ≡ Some n → Given rows (codes "wait") 32 n) → IfSome o (IsWaitRequest rows)
+wait_read rows None given = tt
+wait_read rows (Some n) given =
+    let it = given n refl in
+    record { text = it.0; given = it.1; is = it.2 }
+
+-- those of the subcommand that was met
+pub wait_met : {met : Option (Text × List Row)} {name : Text} {rows : List Row} {seconds : ℕ} → met ≡ Some (name, rows) → IsWaitRequest rows seconds → IsWaitMet met seconds
+wait_met {met} {name} {rows} {seconds} is wait = record { name = name; rows = rows; is = is; wait_is = wait }

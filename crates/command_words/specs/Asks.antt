@@ -33,6 +33,19 @@ pub record AreLimits (rows : List Row) (pages frames : ℕ) : Type 0 where
   pub fewest_frames : 0 < frames
   pub most_frames : frames ≤ 4096
 
+-- the values ask to wait so many seconds for a lock that another run has
+pub record IsWaitRequest (rows : List Row) (seconds : ℕ) : Type 0 where
+  pub text : Text
+  pub given : one_of (codes "wait") rows ≡ Some text
+  pub is : IsNumber 32 text seconds
+
+-- so many seconds are asked for with the subcommand that was met
+pub record IsWaitMet (met : Option (Text × List Row)) (seconds : ℕ) : Type 0 where
+  pub name : Text
+  pub rows : List Row
+  pub is : met ≡ Some (name, rows)
+  pub wait_is : IsWaitRequest rows seconds
+
 -- the text is this truth value
 abbrev pub IsFlag : Text → Bool → Type 0
 IsFlag text true = text ≡ codes "true"
@@ -49,6 +62,8 @@ pub record IsRunRequest (met : Option (Text × List Row)) (deck folder : Text) (
   pub strict_text : Text
   pub strict_given : one_of (codes "strict") rows ≡ Some strict_text
   pub strict_is : IsFlag strict_text strict
+  pub seconds : ℕ
+  pub wait_is : IsWaitRequest rows seconds
 
 -- the values ask that no progress is shown, or do not
 pub record IsQuietRequest (rows : List Row) (quiet : Bool) : Type 0 where
@@ -62,6 +77,8 @@ pub record IsCheck (met : Option (Text × List Row)) (files : List Text) (quiet 
   pub is : met ≡ Some (codes "check", rows)
   pub files_given : all_of (codes "file") rows ≡ Some files
   pub quiet_is : IsQuietRequest rows quiet
+  pub seconds : ℕ
+  pub wait_is : IsWaitRequest rows seconds
 
 -- the subcommand that was met is to serve the files of this folder, with these limits
 pub record IsServe (met : Option (Text × List Row)) (folder : Text) (pages frames : ℕ) : Type 0 where
@@ -69,6 +86,8 @@ pub record IsServe (met : Option (Text × List Row)) (folder : Text) (pages fram
   pub is : met ≡ Some (codes "serve", rows)
   pub folder_given : first_of (codes "folder") rows ≡ Some folder
   pub limits : AreLimits rows pages frames
+  pub seconds : ℕ
+  pub wait_is : IsWaitRequest rows seconds
 
 -- the subcommand that was met is to tell the schema of this file, or to hold it against that of a
 -- file of a deck
@@ -133,6 +152,8 @@ pub record IsList (met : Option (Text × List Row)) (file : Text) (key : ℕ) (f
   pub to_is : first_of (codes "to") rows ≡ to
   pub form_is : IsForm rows form
   pub quiet_is : IsQuietRequest rows quiet
+  pub seconds : ℕ
+  pub wait_is : IsWaitRequest rows seconds
 
 -- the subcommand that was met is to write this deck in COBOL, in fixed form or not
 pub record IsCobol (met : Option (Text × List Row)) (deck : Text) (fixed : Bool) : Type 0 where
@@ -168,17 +189,19 @@ pub record IsStat (met : Option (Text × List Row)) (file : Text) : Type 0 where
 
 -- the subcommand that was met, with its values, is what is asked for
 abbrev pub IsRequestMet : Option (Text × List Row) → Request → Type 0
-IsRequestMet met (Run deck folder limits strict) =
-    IsRunRequest met deck.now folder.now limits.pages limits.frames.value strict
-IsRequestMet met (Check files quiet) = IsCheck met (map (λ file. file.now) files.items) quiet
-IsRequestMet met (Serve folder limits) = IsServe met folder.now limits.pages limits.frames.value
+IsRequestMet met (Run deck folder limits strict wait) =
+    IsRunRequest met deck.now folder.now limits.pages limits.frames.value strict × IsWaitMet met wait
+IsRequestMet met (Check files quiet wait) =
+    IsCheck met (map (λ file. file.now) files.items) quiet × IsWaitMet met wait
+IsRequestMet met (Serve folder limits wait) =
+    IsServe met folder.now limits.pages limits.frames.value × IsWaitMet met wait
 IsRequestMet met (Schema file deck name) = IsSchemaRequest met file.now (option_map (λ text. text.now) deck)
     (option_map (λ text. text.now) name)
 IsRequestMet met (Explain kind number) = IsExplain met kind.now number.now
 IsRequestMet met (Deck deck) = IsDeckRequest met deck.now
-IsRequestMet met (ListRecords file key from to first form quiet) =
+IsRequestMet met (ListRecords file key from to first form quiet wait) =
     IsList met file.now key (option_map (λ text. text.now) from) (option_map (λ text. text.now) to) first
-    (form_text form) quiet
+    (form_text form) quiet × IsWaitMet met wait
 IsRequestMet met (Cobol deck fixed) = IsCobol met deck.now fixed
 IsRequestMet met (Load deck folder file text form into limits quiet) =
     IsLoad met deck.now folder.now file.now text.now form.now into limits.pages limits.frames.value quiet
@@ -310,23 +333,29 @@ AskLoad words deck folder file text form into pages frames quiet =
 abbrev pub AskStat : List Text → (file : Text) → Type 0
 AskStat words file = AreFaultless words × IsStat (subcommand_of program_app words) file
 
+-- to wait so many seconds for a lock that another run has
+abbrev pub AskWait : List Text → (seconds : ℕ) → Type 0
+AskWait words seconds = AreFaultless words × IsWaitMet (subcommand_of program_app words) seconds
+
 -- for help or the version, as the text shows it
 abbrev pub AskHelp : List Text → Error → Type 0
 AskHelp words text = HaveFault words text × IsHelpText text
 
 -- for this
 abbrev pub Ask : List Text → Request → Type 0
-Ask words (Run deck folder limits strict) =
-    AskRun words deck.now folder.now limits.pages limits.frames.value strict
-Ask words (Check files quiet) = AskCheck words (map (λ file. file.now) files.items) quiet
-Ask words (Serve folder limits) = AskServe words folder.now limits.pages limits.frames.value
+Ask words (Run deck folder limits strict wait) =
+    AskRun words deck.now folder.now limits.pages limits.frames.value strict × AskWait words wait
+Ask words (Check files quiet wait) =
+    AskCheck words (map (λ file. file.now) files.items) quiet × AskWait words wait
+Ask words (Serve folder limits wait) =
+    AskServe words folder.now limits.pages limits.frames.value × AskWait words wait
 Ask words (Schema file deck name) = AskSchema words file.now (option_map (λ text. text.now) deck)
     (option_map (λ text. text.now) name)
 Ask words (Explain kind number) = AskExplain words kind.now number.now
 Ask words (Deck deck) = AskDeck words deck.now
-Ask words (ListRecords file key from to first form quiet) =
+Ask words (ListRecords file key from to first form quiet wait) =
     AskList words file.now key (option_map (λ text. text.now) from)
-    (option_map (λ text. text.now) to) first (form_text form) quiet
+    (option_map (λ text. text.now) to) first (form_text form) quiet × AskWait words wait
 Ask words (Cobol deck fixed) = AskCobol words deck.now fixed
 Ask words (Load deck folder file text form into limits quiet) =
     AskLoad words deck.now folder.now file.now text.now form.now into limits.pages limits.frames.value quiet
@@ -337,3 +366,11 @@ Ask words (Help text) = AskHelp words text
 abbrev pub AskNothing : List Text → Error → Type 0
 AskNothing words text = (HaveFault words text × (IsHelpText text → ⊥))
     ⊎ (AreFaultless words × IsNone (subcommand_of program_app words))
+
+-- the seconds that a request waits for a lock that another run has
+abbrev pub seconds_of : Request → ℕ
+seconds_of (Run deck folder limits strict wait) = wait
+seconds_of (Check files quiet wait) = wait
+seconds_of (Serve folder limits wait) = wait
+seconds_of (ListRecords file key from to first form quiet wait) = wait
+seconds_of other = 0

@@ -55,27 +55,31 @@ pages_rule = number_rule (codes "pages") 16 4294967295 (codes "1048576")
 abbrev pub frames_rule : Text → Rule
 frames_rule usual = number_rule (codes "frames") 1 4096 usual
 
--- `run DECK --folder DIR [--pages N] [--frames N] [--strict]`
+-- `[--wait SECONDS]`
+abbrev pub wait_rule : Rule
+wait_rule = number_rule (codes "wait") 0 86400 (codes "0")
+
+-- `run DECK --folder DIR [--pages N] [--frames N] [--strict] [--wait SECONDS]`
 abbrev pub run_shape : Shape
 run_shape = record (new_shape (codes "run")) {
   rules = word_rule (codes "deck") ∷ option_rule (codes "folder")
       ∷ pages_rule
-      ∷ frames_rule (codes "64") ∷ flag_rule (codes "strict") ∷ [];
+      ∷ frames_rule (codes "64") ∷ flag_rule (codes "strict") ∷ wait_rule ∷ [];
 }
 
--- `check FILE.. [--quiet]`
+-- `check FILE.. [--quiet] [--wait SECONDS]`
 abbrev pub check_shape : Shape
 check_shape = record (new_shape (codes "check")) {
   rules = words_rule (codes "file") ∷ flag_rule
-      (codes "quiet") ∷ [];
+      (codes "quiet") ∷ wait_rule ∷ [];
 }
 
--- `serve --folder DIR [--pages N] [--frames N]`
+-- `serve --folder DIR [--pages N] [--frames N] [--wait SECONDS]`
 abbrev pub serve_shape : Shape
 serve_shape = record (new_shape (codes "serve")) {
   rules = option_rule (codes "folder")
       ∷ pages_rule
-      ∷ frames_rule (codes "1024") ∷ [];
+      ∷ frames_rule (codes "1024") ∷ wait_rule ∷ [];
 }
 
 -- `schema FILE [--deck DECK --file NAME]`
@@ -101,13 +105,13 @@ abbrev pub first_rule : Rule
 first_rule = number_rule (codes "first") 0 18446744073709551615 (codes "18446744073709551615")
 
 -- `list FILE [--key N] [--from V] [--to V] [--first N] [--as FORM] [--cut N,N..] [--deck DECK
--- --file NAME] [--quiet]`
+-- --file NAME] [--quiet] [--wait SECONDS]`
 abbrev pub list_shape : Shape
 list_shape = record (new_shape (codes "list")) {
   rules = word_rule (codes "file") ∷ number_rule (codes "key") 0 8 (codes "0") ∷ text_rule
       (codes "from") ∷ text_rule (codes "to")
       ∷ first_rule ∷ usual_rule (codes "as") (codes "text") ∷ text_rule (codes "cut") ∷ text_rule
-      (codes "deck") ∷ name_rule ∷ flag_rule (codes "quiet") ∷ [];
+      (codes "deck") ∷ name_rule ∷ flag_rule (codes "quiet") ∷ wait_rule ∷ [];
 }
 
 -- `cobol DECK [--fixed]`

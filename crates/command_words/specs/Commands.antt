@@ -5,7 +5,7 @@ use Rattle.clap.specs.declared.builder.arg.Arg.{Arg}
 use Rattle.clap.specs.declared.builder.command.Command.{Command}
 use Rattle.clap.specs.declared.builder.command.Command.TheViews.{out-Command}
 use Rattle.command_words.specs.CommandLine.{word_rule, option_rule, text_rule, usual_rule, name_rule}
-use Rattle.command_words.specs.CommandLine.{flag_rule, number_rule, pages_rule, frames_rule}
+use Rattle.command_words.specs.CommandLine.{flag_rule, number_rule, pages_rule, frames_rule, wait_rule}
 
 -- an argument of this rule, for its own command alone
 abbrev pub HasRule : Rule → Arg → Type 0
@@ -35,6 +35,10 @@ with_limits frames app = with_rule (with_rule app pages_rule) (frames_rule frame
 -- with the option by which it shows no progress
 abbrev pub with_quiet : App → App
 with_quiet app = with_rule app (flag_rule (codes "quiet"))
+
+-- with the option by which it waits for locks
+abbrev pub with_wait : App → App
+with_wait app = with_rule app wait_rule
 
 -- with a deck, and a file of it
 abbrev pub with_deck : App → App

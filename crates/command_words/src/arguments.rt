@@ -1,7 +1,7 @@
 //! The arguments of the subcommands.
 ghost use Rattle.std.specs.Prelude.{codes};
 ghost use Rattle.command_words.specs.CommandLine.{word_rule, words_rule, option_rule, text_rule, usual_rule};
-ghost use Rattle.command_words.specs.CommandLine.{name_rule, flag_rule, number_rule, first_rule};
+ghost use Rattle.command_words.specs.CommandLine.{name_rule, flag_rule, number_rule, first_rule, wait_rule};
 ghost use Rattle.command_words.specs.Commands.{HasRule};
 
 use clap::builder::ValueParser;
@@ -35,6 +35,21 @@ pub fn first<'a>(alloc: Global) -> Arg<'a>
         "The most records that are listed; where it is not given, all of them",
     );
     first.hide_default_value(true)
+}
+
+/// The option `--wait`.
+pub fn wait<'a>(alloc: Global) -> Arg<'a>
+    ensures { HasRule wait_rule result }
+{
+    let wait = number(
+        alloc,
+        "wait",
+        0,
+        86_400,
+        "0",
+        "How many seconds a file that another run has is waited for, from 0 to 86,400",
+    );
+    wait.value_name("SECONDS")
 }
 
 /// A word that has to be given.

@@ -2,7 +2,7 @@
 ghost use Rattle.std.specs.Prelude.{◌≡◌, ℕ, Bool, List, Option, Some, None, IfOk};
 ghost use Rattle.std.specs.Option.{IfSome};
 ghost use Rattle.clap.specs.Words.{Row, found_of, rows_of, subcommand_rows_of};
-ghost use Rattle.command_words.specs.Asks.{AreLimits, IsQuietRequest, FormText, form_text, IsForm};
+ghost use Rattle.command_words.specs.Asks.{AreLimits, IsQuietRequest, IsWaitRequest, FormText, form_text, IsForm};
 ghost use Rattle.command_words.specs.Asks.{IsRequestMet, IsNoRun};
 ghost use Rattle.command_words.specs.Asks.{IsNoCheck, IsNoServe, IsNoSchema, IsNoExplain, IsNoDeckList};
 ghost use Rattle.command_words.specs.Asks.{IsNoList, IsNoCobol, IsNoLoad, IsNoStat, IsNoRunOrList};
@@ -36,6 +36,15 @@ fn limits_of(files: &ArgMatches<'_>) -> Option<Limits>
     Limits::of(pages, frames)
 }
 
+/// How many seconds a lock is to be waited for.
+fn wait_of(locking: &ArgMatches<'_>) -> Option<u32>
+    ensures some { IfSome result (IsWaitRequest (rows_of (found_of locking.now))) }
+    ensures none { result ≡ None → (seconds : ℕ)
+        → IsWaitRequest (rows_of (found_of locking.now)) seconds → ⊥ }
+{
+    locking.get_one("wait")
+}
+
 /// The run that the matches ask for, if they ask for one.
 fn run_of<'a>(matches: &ArgMatches<'a>) -> Option<Request<'a>>
     ensures some { IfSome result (IsRequestMet (subcommand_rows_of matches.now)) }
@@ -46,11 +55,13 @@ fn run_of<'a>(matches: &ArgMatches<'a>) -> Option<Request<'a>>
     let folder = run.get_str("folder")?;
     let limits = limits_of(run)?;
     let strict = run.get_one("strict")?;
+    let wait = wait_of(run)?;
     Some(Request::Run {
         deck,
         folder,
         limits,
         strict,
+        wait,
     })
 }
 
@@ -75,10 +86,14 @@ fn check_of<'a>(alloc: Global, matches: &ArgMatches<'a>) -> Result<Option<Reques
         Some(quiet) => quiet,
         None => return Ok(None),
     };
+    let wait = match wait_of(check) {
+        Some(wait) => wait,
+        None => return Ok(None),
+    };
     match check.get_strs("file") {
         Some(files) => {
             let files = files.to_vec(alloc)?;
-            Ok(Some(Request::Check { files, quiet }))
+            Ok(Some(Request::Check { files, quiet, wait }))
         }
         None => Ok(None),
     }
@@ -92,7 +107,12 @@ fn serve_of<'a>(matches: &ArgMatches<'a>) -> Option<Request<'a>>
     let serve = met(matches, "serve")?;
     let folder = serve.get_str("folder")?;
     let limits = limits_of(serve)?;
-    Some(Request::Serve { folder, limits })
+    let wait = wait_of(serve)?;
+    Some(Request::Serve {
+        folder,
+        limits,
+        wait,
+    })
 }
 
 /// The schema that the matches ask for, if they ask for one.
@@ -155,6 +175,7 @@ fn list_of<'a>(matches: &ArgMatches<'a>) -> Option<Request<'a>>
     let first = list.get_one("first")?;
     let form = form_of(list)?;
     let quiet = quiet_of(list)?;
+    let wait = wait_of(list)?;
     Some(Request::List {
         file,
         key,
@@ -163,6 +184,7 @@ fn list_of<'a>(matches: &ArgMatches<'a>) -> Option<Request<'a>>
         first,
         form,
         quiet,
+        wait,
     })
 }
 

@@ -3,7 +3,7 @@ ghost use Rattle.std.specs.Prelude.{◌≡◌, map, string_bytes, IfOk, IfErr};
 ghost use Rattle.clap.specs.Words.{app_of, subcommand_rows_of};
 ghost use Rattle.command_words.specs.CommandLine.{program_app};
 ghost use Rattle.command_words.specs.Asks.{Ask, AskNothing, IsHelpText, IfUsage, IsMistake};
-ghost use Rattle.command_words.specs.Asks.{IsRequestMet, IsNone};
+ghost use Rattle.command_words.specs.Asks.{IsRequestMet, IsNone, seconds_of};
 
 use crate::asked::request_of;
 use crate::fault::WordsFault;
@@ -14,7 +14,7 @@ use clap::error::ErrorKind;
 use clap::{ArgMatches, Command, Error};
 use std::alloc::Global;
 
-/// What a command line asks for.
+/// What a command line asks for. `wait` is how many seconds a lock is waited for that another run has.
 #[derive(Drop)]
 pub enum Request<'a> {
     /// The run of the deck in the file of this path, over the files of a folder; where it is strict,
@@ -24,16 +24,19 @@ pub enum Request<'a> {
         folder: &'a str,
         limits: Limits,
         strict: bool,
+        wait: u32,
     },
     /// The checks of the files of these paths, without progress where it is quiet.
     Check {
         files: Vec<&'a str>,
         quiet: bool,
+        wait: u32,
     },
     /// To perform verbs that are asked for on standard input, on the files of a folder.
     Serve {
         folder: &'a str,
         limits: Limits,
+        wait: u32,
     },
     /// The schema of the file of this path, by its first page; or how it differs from that of the
     /// file of this name in a deck.
@@ -61,6 +64,7 @@ pub enum Request<'a> {
         first: u64,
         form: FormWords<'a>,
         quiet: bool,
+        wait: u32,
     },
     /// The deck in the file of this path as a program in COBOL: in fixed form, or in free form.
     Cobol {
@@ -96,6 +100,19 @@ impl Request<'_> {
             | Request::List { quiet, .. }
             | Request::Load { quiet, .. } => *quiet,
             _ => false,
+        }
+    }
+
+    /// How many seconds a lock that another run has is waited for.
+    pub fn seconds(&self) -> u32
+        ensures { result ≡ seconds_of self.now }
+    {
+        match self {
+            Request::Run { wait, .. }
+            | Request::Check { wait, .. }
+            | Request::Serve { wait, .. }
+            | Request::List { wait, .. } => *wait,
+            _ => 0,
         }
     }
 }

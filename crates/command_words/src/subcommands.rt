@@ -3,7 +3,7 @@ ghost use Rattle.std.specs.Prelude.{◌≡◌, IfOk};
 ghost use Rattle.clap.specs.Words.{App, Rule, Shape, app_of, with_rule, with_subcommand};
 ghost use Rattle.clap.specs.Simple.{new_shape};
 ghost use Rattle.command_words.specs.Commands.{HasRule, IsApp, HasShape};
-ghost use Rattle.command_words.specs.Commands.{with_files, with_limits, with_quiet};
+ghost use Rattle.command_words.specs.Commands.{with_files, with_limits, with_quiet, with_wait};
 ghost use Rattle.command_words.specs.Commands.{with_deck, with_values, with_bounds, with_form};
 ghost use Rattle.command_words.specs.Commands.{with_file_words};
 ghost use Rattle.command_words.specs.Commands.{with_text};
@@ -12,7 +12,9 @@ ghost use Rattle.command_words.specs.CommandLine.{explain_shape, deck_shape, lis
 ghost use Rattle.command_words.specs.CommandLine.{load_shape, stat_shape, versioned_shape, program_shape};
 ghost use Rattle.command_words.specs.CommandLine.{runs_app, schemas_app, lists_app, records_app, program_app};
 
-use crate::arguments::{deck, first, flag, folder, name, number, option, text, usual, word, words};
+use crate::arguments::{
+    deck, first, flag, folder, name, number, option, text, usual, wait, word, words,
+};
 use crate::help::{
     ANSWERS, COBOL, COUNTED, EXPLAINED, LISTED, LOADED, REASONS, RECORDS, SCHEMA, SERVING, VERSION,
 };
@@ -96,6 +98,16 @@ fn with_quiet<'a>(
     with_argument(long, quiet)
 }
 
+/// `run`, `check`, `serve` or `list` with the option by which it waits for locks.
+fn with_wait<'a>(
+    alloc: Global,
+    locking: Result<Command<'a>, AllocError>,
+) -> Result<Command<'a>, AllocError>
+    ensures { (app : App) → IfOk locking.entry (IsApp app) → IfOk result (IsApp (with_wait app)) }
+{
+    with_argument(locking, wait(alloc))
+}
+
 /// `run`, with its words and options.
 fn run_command<'a>(alloc: Global) -> Result<Command<'a>, AllocError>
     ensures { IfOk result (HasShape run_shape) }
@@ -111,7 +123,8 @@ fn run_command<'a>(alloc: Global) -> Result<Command<'a>, AllocError>
         "strict",
         "Ends with 1 where a line of the transcript has 24, 30, 90, 91 or 92",
     );
-    with_argument(with_limits(alloc, with_files(alloc, Ok(run)), "64"), strict)
+    let limited = with_limits(alloc, with_files(alloc, Ok(run)), "64");
+    with_wait(alloc, with_argument(limited, strict))
 }
 
 /// `check`.
@@ -130,7 +143,7 @@ fn check_command<'a>(alloc: Global) -> Result<Command<'a>, AllocError>
         "Checks whether files stand for records",
         REASONS,
     );
-    with_quiet(alloc, check.arg(files))
+    with_wait(alloc, with_quiet(alloc, check.arg(files)))
 }
 
 /// `serve`.
@@ -144,7 +157,7 @@ fn serve_command<'a>(alloc: Global) -> Result<Command<'a>, AllocError>
         SERVING,
     );
     let folder = folder(alloc, "The folder in which the files stay");
-    with_limits(alloc, serve.arg(folder), "1024")
+    with_wait(alloc, with_limits(alloc, serve.arg(folder), "1024"))
 }
 
 /// `list` or `schema` with a deck, and a file of it.
@@ -288,7 +301,7 @@ fn list_command<'a>(alloc: Global) -> Result<Command<'a>, AllocError>
     );
     let bounded = with_bounds(alloc, list.arg(file));
     let formed = with_form(alloc, with_argument(bounded, first(alloc)));
-    with_quiet(alloc, formed)
+    with_wait(alloc, with_quiet(alloc, formed))
 }
 
 /// `cobol`.

@@ -3,9 +3,9 @@ use Rattle.std.specs.Prelude.{codes}
 use Rattle.std.specs.Str.Parse.{ParsesUnsigned, ExplainsUnsignedError, HasUnsignedDigitsIfOk}
 use Rattle.std.specs.declared.num.ParseIntError.{ParseIntError}
 use Rattle.clap.specs.Words.{Row, found_of, rows_of}
-use Rattle.command_words.specs.Asks.{IsForm, IsQuietRequest}
+use Rattle.command_words.specs.Asks.{IsForm, IsQuietRequest, IsWaitRequest}
 use Rattle.command_words.proofs.MetLemmas.{no_text, same_rows, some_not_none, text_read}
-use Rattle.command_words.proofs.NumberLemmas.{Given, is_read, none_read}
+use Rattle.command_words.proofs.NumberLemmas.{Given, is_read, none_read, wait_met}
 use Rattle.command_words.proofs.asked.list_of.Goals as goal
 
 -- what a number of so many bits is read of a text as
@@ -49,26 +49,36 @@ returns-in_err-quiet-clause-none c =
     c.quiet_of.ensures.none c.in_err-quiet.was quiet
     (subst (λ (rows : List Row). IsQuietRequest rows quiet) (same_rows c.in_ok-list.ensures.some list.is) list.quiet_is)
 
+pub returns-in_err-wait-clause-none : goal.returns-in_err-wait-clause-none
+returns-in_err-wait-clause-none c =
+    λ none file key from to first form quiet list.
+    c.wait_of.ensures.none c.in_err-wait.was list.seconds
+    (subst (λ (rows : List Row). IsWaitRequest rows list.seconds) (same_rows c.in_ok-list.ensures.some list.is) list.wait_is)
+
 pub returns-clause-some : goal.returns-clause-some
 returns-clause-some c =
     let f = found_of c.in_ok-list.list.now in
     let key = is_read f (codes "key") 8 (Gives 8) (λ t x g. g.0) c.get_one.result c.get_one.ensures.none c.get_one.ensures.value c.in_ok-key.key c.in_ok-key.was in
-    let first = is_read f (codes "first") 64 (Gives 64) (λ t x g. g.0) c.get_one-2.result c.get_one-2.ensures.none c.get_one-2.ensures.value c.in_ok-first.first c.in_ok-first.was in
-    record {
-      rows = rows_of f;
-      is = c.in_ok-list.ensures.some;
-      file_given = text_read f (codes "file") _ c.in_ok-file.ensures;
-      key_text = key.0;
-      key_given = key.1;
-      key_is = key.2;
-      first_text = first.0;
-      first_given = first.1;
-      first_is = first.2;
-      from_is = text_read f (codes "from") _ c.get_str-2.ensures;
-      to_is = text_read f (codes "to") _ c.get_str-3.ensures;
-      form_is = c.in_ok-form.ensures.some;
-      quiet_is = c.in_ok-quiet.ensures.some;
-    }
+    let first = is_read f (codes "first") 64 (Gives 64) (λ t x g. g.0) c.get_one-2.result c.get_one-2.ensures.none c.get_one-2.ensures.value c.in_ok-first.first c.in_ok-first.was in (
+      record {
+        rows = rows_of f;
+        is = c.in_ok-list.ensures.some;
+        file_given = text_read f (codes "file") _ c.in_ok-file.ensures;
+        key_text = key.0;
+        key_given = key.1;
+        key_is = key.2;
+        first_text = first.0;
+        first_given = first.1;
+        first_is = first.2;
+        from_is = text_read f (codes "from") _ c.get_str-2.ensures;
+        to_is = text_read f (codes "to") _ c.get_str-3.ensures;
+        form_is = c.in_ok-form.ensures.some;
+        quiet_is = c.in_ok-quiet.ensures.some;
+        seconds = c.in_ok-wait.wait;
+        wait_is = c.in_ok-wait.ensures.some;
+      },
+      wait_met c.in_ok-list.ensures.some c.in_ok-wait.ensures.some,
+    )
 
 pub returns-clause-none : goal.returns-clause-none
 returns-clause-none c = λ none file key from to first form quiet list. some_not_none none

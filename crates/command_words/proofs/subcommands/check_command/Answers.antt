@@ -3,4 +3,5 @@ use Rattle.command_words.proofs.subcommands.check_command.Goals as goal
 
 pub returns : goal.returns
 returns c =
-    c.with_quiet.ensures _ (last_arg _ _ c.arg.result c.arg.ensures c.named-check.ensures c.words-files.ensures)
+    let filed = last_arg _ _ c.arg.result c.arg.ensures c.named-check.ensures c.words-files.ensures in
+    c.with_wait.ensures _ (c.with_quiet.ensures _ filed)
