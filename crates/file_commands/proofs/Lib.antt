@@ -5,3 +5,4 @@ pub mod CutLemmas
 pub mod FormLemmas
 pub mod ListLemmas
 pub mod VerdictLemmas
+pub mod RecordsLemmas

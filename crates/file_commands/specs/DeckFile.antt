@@ -8,6 +8,7 @@ use Rattle.deck_reader.specs.declared.deck.Deck.{Deck}
 use Rattle.deck_reader.specs.Deck.{IsDeck}
 use Rattle.deck_runner.specs.DeckRun.{IsNoDeck}
 use Rattle.deck_words.specs.declared.fault.DeckFault.{DeckFault}
+use Rattle.recorded_system.specs.Calls.{Call}
 use Rattle.file_commands.specs.Front.{OfNamedDeck}
 use Rattle.command_outcomes.specs.declared.fault.Fault.{Fault}
 use Rattle.command_outcomes.specs.declared.fault.Fault.TheVariants.{Deck as DeckRefused, NoSuchFile, Input}
@@ -58,9 +59,8 @@ IsDeckFault Memory = ⊤
 IsDeckFault fault = ⊥
 
 -- the deck is that of a path, or of the input where the path is a hyphen
-abbrev pub IsDeckAt : {F I : Type 0} → (F → Option (List ℕ)) → (I → Option (List ℕ)) → I → (path : List ℕ)
-    → Deck → Type 0
-IsDeckAt remaining left input path deck = OfNamedDeck remaining (left input) path (λ bytes. IsDeck bytes deck)
+abbrev pub IsDeckAt : List Call → Option (List ℕ) → (path : List ℕ) → Deck → Type 0
+IsDeckAt calls input path deck = OfNamedDeck calls input path (λ bytes. IsDeck bytes deck)
 
 -- what came of a file of a deck is so; or nothing did
 pub record ComesOfDeck {X : Type 0} (IsSo : X → Type 0) (result : Result X Fault) : Type 0 where

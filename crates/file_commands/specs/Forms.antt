@@ -13,7 +13,8 @@ use Rattle.command_words.specs.declared.form_words.FormWords.{FormWords}
 use Rattle.file_commands.specs.declared.forms.Columns.{Columns}
 use Rattle.file_commands.specs.declared.forms.ListForm.{ListForm}
 use Rattle.file_commands.specs.Cuts.{AreCuts}
-use Rattle.file_commands.specs.Front.{IsDeckNamed}
+use Rattle.recorded_system.specs.Calls.{Call}
+use Rattle.file_commands.specs.Front.{IsDeckNamed, IsDeckReadBy}
 use Rattle.file_commands.specs.DeckFile.{IsOfDeck, IsHalf, IsDeckAsked}
 use Rattle.command_outcomes.specs.declared.form_fault.FormFault.{FormFault}
 use Rattle.command_outcomes.specs.declared.form_fault.FormFault.TheVariants.{Kind, TextColumns, CutAndDeck}
@@ -90,9 +91,17 @@ abbrev pub AreColumnsAsked : (IsRead : Word → List ℕ → Type 0) → FormTex
 AreColumnsAsked IsRead asked told =
     AreColumns IsRead asked.cut asked.deck asked.name told.columns.items told.schema
 
--- so a form with its columns
-abbrev pub IsFormTold : (IsRead : Word → List ℕ → Type 0) → FormText → ListForm → Type 0
-IsFormTold IsRead asked told = IsFormAsked IsRead asked told.form told.schema
+-- by these calls a deck was read, if one is asked for
+abbrev pub AreColumnsBy : List Call → (input : Option (List ℕ)) → FormText → Columns → Type 0
+AreColumnsBy calls input asked told =
+    IsDeckReadBy calls input asked.deck × AreColumnsAsked (IsDeckNamed calls input) asked told
+
+abbrev pub IsFormBy : List Call → (input : Option (List ℕ)) → FormText → Form → Option Schema → Type 0
+IsFormBy calls input asked form schema =
+    IsDeckReadBy calls input asked.deck × IsFormAsked (IsDeckNamed calls input) asked form schema
+
+abbrev pub IsFormToldBy : List Call → (input : Option (List ℕ)) → FormText → ListForm → Type 0
+IsFormToldBy calls input asked told = IsFormBy calls input asked told.form told.schema
 
 -- no cuts, or want of memory
 abbrev pub IsCutFault : Fault → Type 0
@@ -129,10 +138,9 @@ pub record ComesOfForm {X : Type 0} (IsSo : FormText → X → Type 0) (asked : 
 
 -- the columns are the elementary items of the record of the file of this name in the deck of a path,
 -- or of the input where the path is a hyphen
-abbrev pub AreItemsAt : {F I : Type 0} → (F → Option (List ℕ)) → (I → Option (List ℕ)) → I
-    → (path name : Word) → Columns → Type 0
-AreItemsAt remaining left input path name told =
-    AreItemsOf (IsDeckNamed remaining (left input) path) name told.columns.items told.schema
+abbrev pub AreItemsAt : List Call → (input : Option (List ℕ)) → (path name : Word) → Columns → Type 0
+AreItemsAt calls input path name told =
+    AreItemsOf (IsDeckNamed calls input path) name told.columns.items told.schema
 
 -- the record as one column, which is that of no deck
 abbrev pub IsWholeRecord : Columns → Type 0

@@ -10,6 +10,7 @@ use Rattle.deck_diagnosis.specs.Told.{TellsOf}
 use Rattle.cobol_program.specs.Layout.{IsLaidOut}
 use Rattle.cobol_program.specs.declared.form.Form.{Form}
 use Rattle.cobol_program.specs.declared.form.Form.TheVariants.{Free, Fixed}
+use Rattle.recorded_system.specs.Calls.{Call}
 use Rattle.file_commands.specs.Front.{IsDeckNamed}
 use Rattle.command_outcomes.specs.Status.{status_of}
 use Rattle.command_outcomes.specs.declared.outcome.Outcome.{Outcome}
@@ -74,16 +75,15 @@ pub record TellsDeck {W : Type 0} (IsRead IsWritten : List ℕ → Type 0) (told
   pub fault : IfErr result IsListFault
 
 -- the deck of a path, or of the input where the path is a hyphen, and its list was written
-abbrev pub ListsDeckAt : {F I W : Type 0} → (F → Option (List ℕ)) → (I → Option (List ℕ)) → I
-    → (path : List ℕ) → (W → Option (List ℕ)) → (old new : W) → Result Outcome Fault → Type 0
-ListsDeckAt remaining left input path contents old new result =
-    TellsDeck (IsDeckNamed remaining (left input) path)
+abbrev pub ListsDeckAt : {W : Type 0} → (input : Option (List ℕ)) → (path : List ℕ) → (W → Option (List ℕ))
+    → (old new : W) → Result Outcome Fault → List Call → Type 0
+ListsDeckAt input path contents old new result calls =
+    TellsDeck (IsDeckNamed calls input path)
     (λ bytes. WritesList bytes (contents old) (contents new)) Listed old new result
 
 -- or a program of it, in fixed form or in free form
-abbrev pub WritesCobolAt : {F I W : Type 0} → (F → Option (List ℕ)) → (I → Option (List ℕ)) → I
-    → (path : List ℕ) → (fixed : Bool) → (W → Option (List ℕ)) → (old new : W) → Result Outcome Fault
-    → Type 0
-WritesCobolAt remaining left input path fixed contents old new result =
-    TellsDeck (IsDeckNamed remaining (left input) path)
+abbrev pub WritesCobolAt : {W : Type 0} → (input : Option (List ℕ)) → (path : List ℕ) → (fixed : Bool)
+    → (W → Option (List ℕ)) → (old new : W) → Result Outcome Fault → List Call → Type 0
+WritesCobolAt input path fixed contents old new result calls =
+    TellsDeck (IsDeckNamed calls input path)
     (λ bytes. WritesCobol bytes fixed (contents old) (contents new)) InCobol old new result

@@ -17,8 +17,9 @@ use Rattle.command_outcomes.specs.declared.fault.Fault.{Fault}
 use Rattle.command_outcomes.specs.declared.fault.Fault.TheVariants.{LongValue}
 use Rattle.command_words.specs.Asks.{FormText, form_text}
 use Rattle.command_words.specs.declared.form_words.FormWords.{FormWords}
-use Rattle.file_commands.specs.Front.{IsDeckNamed, OfCountedFile, word_in}
-use Rattle.file_commands.specs.Forms.{IsFormAsked, IsListRefused}
+use Rattle.recorded_system.specs.Calls.{Call}
+use Rattle.file_commands.specs.Front.{OfCountedFile, word_in}
+use Rattle.file_commands.specs.Forms.{IsFormBy, IsListRefused}
 use Rattle.file_commands.specs.declared.listing.Bounds.{Bounds}
 use Rattle.command_outcomes.specs.declared.outcome.Outcome.{Outcome}
 use Rattle.command_outcomes.specs.declared.outcome.Outcome.TheVariants.{Records, OtherSchema}
@@ -52,21 +53,25 @@ WritesOther None bytes before behind = ⊥
 WritesOther (Some deck) bytes before behind =
     TellsDifferences deck before behind (read_of_file bytes) (Ok Different)
 
+-- the form is the one that is asked for, and behind the calls by which its deck was read, if one is
+-- asked for, others gave the bytes that the first page of the file of a path counts, of which this is so
+abbrev pub OfFormAndFile : (input : Option (List ℕ)) → (path : List ℕ) → FormText → List Call
+    → (IsSo : Form → Option Schema → List ℕ → Type 0) → Type 0
+OfFormAndFile input path asked calls IsSo = (form : Form) × (schema : Option Schema) × (before : List Call)
+    × IsFormBy before input asked form schema × OfCountedFile path before calls (IsSo form schema)
+
 -- the records of a file were listed as these words ask for it, in the form that is asked for, and this
 -- is how the list ended; or the file is of another schema than the deck whose columns are asked for
-abbrev pub ListsAsked : {F I W : Type 0} → (F → Option (List ℕ)) → (I → Option (List ℕ)) → I → Bounds
-    → FormText → (W → Option (List ℕ)) → (old new : W) → Outcome → Type 0
-ListsAsked remaining left input bounds asked contents old new (Records list) =
-    (form : Form) × (schema : Option Schema)
-    × IsFormAsked (IsDeckNamed remaining (left input)) asked form schema
-    × OfCountedFile remaining (λ bytes. AgreesWith schema bytes
+abbrev pub ListsAsked : {W : Type 0} → (input : Option (List ℕ)) → (path : List ℕ) → Bounds → FormText
+    → (W → Option (List ℕ)) → (old new : W) → List Call → Outcome → Type 0
+ListsAsked input path bounds asked contents old new calls (Records list) =
+    OfFormAndFile input path asked calls (λ form schema bytes. AgreesWith schema bytes
     × ListsRecords form bytes bounds.key (word_in bounds.from)
     (word_in bounds.to) bounds.first (contents old) (contents new) list)
-ListsAsked remaining left input bounds asked contents old new OtherSchema =
-    (form : Form) × (schema : Option Schema)
-    × IsFormAsked (IsDeckNamed remaining (left input)) asked form schema
-    × OfCountedFile remaining (λ bytes. WritesOther schema bytes (contents old) (contents new))
-ListsAsked remaining left input bounds asked contents old new outcome = ⊥
+ListsAsked input path bounds asked contents old new calls OtherSchema =
+    OfFormAndFile input path asked calls (λ form schema bytes.
+    WritesOther schema bytes (contents old) (contents new))
+ListsAsked input path bounds asked contents old new calls outcome = ⊥
 
 -- whether a file of these bytes is of another schema than that of a deck, if there is one: the
 -- differences are written then, and nothing otherwise
@@ -89,9 +94,9 @@ pub record ToldOfList (end : Result FileList ListFault) (result : Result Outcome
 -- the records that words ask for were listed; or the words are refused, or the input, the output or
 -- memory failed. Unless one of these failed, nothing is written where nothing is listed
 pub record ListsFile
-    {F I W : Type 0} (remaining : F → Option (List ℕ)) (left : I → Option (List ℕ)) (input : I)
-    (bounds : Bounds) (form : FormWords) (contents : W → Option (List ℕ)) (old new : W)
-    (result : Result Outcome Fault) : Type 0 where
-  pub records : IfOk result (ListsAsked remaining left input bounds (form_text form) contents old new)
+    {W : Type 0} (input : Option (List ℕ)) (path : List ℕ) (bounds : Bounds) (form : FormWords)
+    (contents : W → Option (List ℕ)) (old new : W) (result : Result Outcome Fault) (calls : List Call)
+    : Type 0 where
+  pub records : IfOk result (ListsAsked input path bounds (form_text form) contents old new calls)
   pub untouched : IfErr result (λ fault. status_of fault ≢ 4 → new ≡ old)
   pub fault : IfErr result (IsListRefused (form_text form))

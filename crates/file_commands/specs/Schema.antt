@@ -14,7 +14,8 @@ use Rattle.schema_listing.specs.declared.comparing.Comparison.{Comparison}
 use Rattle.file_control.specs.Description.{FileDesc}
 use Rattle.schema_listing.specs.Comparing.{TellsDifferences}
 use Rattle.file_commands.specs.DeckFile.{IsOfDeck, IsDeckAsked, IsDeckFile, IsHalf, IsDeckFault}
-use Rattle.file_commands.specs.Front.{IsDeckNamed, OfOpenedFile, GivesSuch, word_in}
+use Rattle.recorded_system.specs.Calls.{Call}
+use Rattle.file_commands.specs.Front.{IsDeckNamed, IsDeckReadBy, OfFirstPage, GivesSuch, word_in}
 use Rattle.command_outcomes.specs.Status.{status_of}
 use Rattle.command_outcomes.specs.declared.form_fault.FormFault.TheVariants.{HalfDeck}
 use Rattle.command_outcomes.specs.declared.fault.Fault.{Fault}
@@ -74,42 +75,37 @@ IsSchemaFault deck name Output = ⊤
 IsSchemaFault deck name Memory = ⊤
 IsSchemaFault deck name fault = ⊥
 
--- of the file that a reader has
-abbrev pub TellsReader : {W : Type 0} → (known : Option (List ℕ)) → (W → Option (List ℕ)) → (old new : W)
-    → Outcome → Type 0
-TellsReader known contents old new outcome = IfSome known (λ bytes.
+-- of the first bytes of the file of a path, which the last call gave
+abbrev pub TellsFile : {W : Type 0} → (path : List ℕ) → (W → Option (List ℕ)) → (old new : W)
+    → (before calls : List Call) → Outcome → Type 0
+TellsFile path contents old new before calls outcome = OfFirstPage path before calls (λ bytes.
     TellsAs (contents old) (contents new) (read_of_file bytes) outcome)
 
-abbrev pub ComparesWithReader : {W : Type 0} → (known : Option (List ℕ)) → Schema → (W → Option (List ℕ))
-    → (old new : W) → Outcome → Type 0
-ComparesWithReader known deck contents old new outcome = IfSome known (λ bytes.
+abbrev pub ComparesFile : {W : Type 0} → (path : List ℕ) → Schema → (W → Option (List ℕ)) → (old new : W)
+    → (before calls : List Call) → Outcome → Type 0
+ComparesFile path deck contents old new before calls outcome = OfFirstPage path before calls (λ bytes.
     ComparesAs deck (contents old) (contents new) (read_of_file bytes) outcome)
 
--- of some file that was opened
-abbrev pub TellsFile : {F W : Type 0} → (F → Option (List ℕ)) → (W → Option (List ℕ)) → (old new : W)
-    → Outcome → Type 0
-TellsFile remaining contents old new outcome = OfOpenedFile remaining (λ bytes.
-    TellsAs (contents old) (contents new) (read_of_file bytes) outcome)
+-- behind the calls by which a deck was read, if one is given
+abbrev pub TellsAsked : {W : Type 0} → (input : Option (List ℕ)) → (path : List ℕ) → (deck : Option Text)
+    → (W → Option (List ℕ)) → (old new : W) → List Call → Outcome → Type 0
+TellsAsked input path deck contents old new calls outcome = (before : List Call)
+    × IsDeckReadBy before input deck × TellsFile path contents old new before calls outcome
 
-abbrev pub ComparesFile : {F W : Type 0} → (F → Option (List ℕ)) → Schema → (W → Option (List ℕ))
-    → (old new : W) → Outcome → Type 0
-ComparesFile remaining deck contents old new outcome = OfOpenedFile remaining (λ bytes.
-    ComparesAs deck (contents old) (contents new) (read_of_file bytes) outcome)
-
--- of some file, with the file of a name in the deck of a path
-abbrev pub ComparesWithDeck : {F I W : Type 0} → (F → Option (List ℕ)) → (I → Option (List ℕ)) → I
-    → (deck name : Text) → (W → Option (List ℕ)) → (old new : W) → Outcome → Type 0
-ComparesWithDeck remaining left input deck name contents old new outcome = (described : FileDesc)
-    × IsOfDeck (IsDeckNamed remaining (left input) deck) name described
-    × ComparesFile remaining described.schema contents old new outcome
+-- with the file of a name in the deck of a path
+abbrev pub ComparesWithDeck : {W : Type 0} → (input : Option (List ℕ)) → (path deck name : Text)
+    → (W → Option (List ℕ)) → (old new : W) → List Call → Outcome → Type 0
+ComparesWithDeck input path deck name contents old new calls outcome = (described : FileDesc)
+    × (before : List Call) × IsOfDeck (IsDeckNamed before input deck) name described
+    × ComparesFile path described.schema contents old new before calls outcome
 
 -- where a deck and a name are given, and the outcome tells of a comparison
-abbrev pub ComparesAsked : {F I W : Type 0} → (F → Option (List ℕ)) → (I → Option (List ℕ)) → I
-    → (deck name : Option Text) → (W → Option (List ℕ)) → (old new : W) → Outcome → Type 0
-ComparesAsked remaining left input deck name contents old new outcome =
-    (told : Comparison) → outcome ≡ SchemaCompared told → (described : FileDesc)
-    × IsDeckFile (IsDeckNamed remaining (left input)) deck name described
-    × ComparesFile remaining described.schema contents old new outcome
+abbrev pub ComparesAsked : {W : Type 0} → (input : Option (List ℕ)) → (path : List ℕ)
+    → (deck name : Option Text) → (W → Option (List ℕ)) → (old new : W) → List Call → Outcome → Type 0
+ComparesAsked input path deck name contents old new calls outcome =
+    (told : Comparison) → outcome ≡ SchemaCompared told → (described : FileDesc) × (before : List Call)
+    × IsDeckFile (IsDeckNamed before input) deck name described
+    × ComparesFile path described.schema contents old new before calls outcome
 
 -- an outcome of a kind, of which this is so
 pub record ComesOfFile (IsKind IsSo : Outcome → Type 0) (result : Result Outcome Fault) : Type 0 where
@@ -119,22 +115,22 @@ pub record ComesOfFile (IsKind IsSo : Outcome → Type 0) (result : Result Outco
 -- the schema of a file was held against that of the file of a name in the deck of a path; or nothing
 -- came of them. Unless the input, the output or memory failed, nothing is written then
 pub record ComparesPaths
-    {F I W : Type 0} (remaining : F → Option (List ℕ)) (left : I → Option (List ℕ)) (input : I)
-    (deck name : Text) (contents : W → Option (List ℕ)) (old new : W)
-    (result : Result Outcome Fault) : Type 0 where
-  pub told : IfOk result (ComparesWithDeck remaining left input deck name contents old new)
+    {W : Type 0} (input : Option (List ℕ)) (path deck name : Text) (contents : W → Option (List ℕ))
+    (old new : W) (result : Result Outcome Fault) (calls : List Call) : Type 0 where
+  pub told : IfOk result (ComparesWithDeck input path deck name contents old new calls)
   pub kind : IfOk result IsOfComparison
   pub untouched : IfErr result (λ fault. status_of fault ≢ 4 → new ≡ old)
   pub fault : IfErr result IsDeckFault
 
 -- the same where a deck and a name may be given, without which the schema is told
 pub record AnswersSchema
-    {F I W : Type 0} (remaining : F → Option (List ℕ)) (left : I → Option (List ℕ)) (input : I)
-    (deck name : Option (Bor (List ℕ))) (contents : W → Option (List ℕ)) (old new : W)
-    (result : Result Outcome Fault) : Type 0 where
-  pub told : IfOk result (λ outcome. IsOfSchema outcome → TellsFile remaining contents old new outcome)
+    {W : Type 0} (input : Option (List ℕ)) (path : List ℕ) (deck name : Option (Bor (List ℕ)))
+    (contents : W → Option (List ℕ)) (old new : W) (result : Result Outcome Fault) (calls : List Call)
+    : Type 0 where
+  pub told : IfOk result (λ outcome. IsOfSchema outcome
+      → TellsAsked input path (word_in deck) contents old new calls outcome)
   pub compared : IfOk result
-      (ComparesAsked remaining left input (word_in deck) (word_in name) contents old new)
+      (ComparesAsked input path (word_in deck) (word_in name) contents old new calls)
   pub done : IfOk result (IsSchemaDone (word_in deck) (word_in name))
   pub untouched : IfErr result (λ fault. status_of fault ≢ 4 → new ≡ old)
   pub fault : IfErr result (IsSchemaFault (word_in deck) (word_in name))

@@ -1,5 +1,6 @@
 -- What is written of files that are checked, and what is worst of them. All of this is ours.
-use Rattle.std.specs.Prelude.{◌≡◌, ℕ, List, [], ◌∷◌, ◌++◌, map, codes, decimal, Option, Some, None, IfSome, ⊤}
+use Rattle.std.specs.Prelude.{◌≡◌, ℕ, List, [], ◌∷◌, ◌++◌, map, codes, decimal, Option, Some, None}
+use Rattle.std.specs.Prelude.{Result, Ok, Err, IfOk, IfErr}
 use Rattle.std.specs.Io.KnownBytes.{Appends}
 use Rattle.clap.specs.Words.{Text}
 use denote.Ref.{Bor}
@@ -8,7 +9,11 @@ use Rattle.file_checker.specs.Sound.{IsRight}
 use Rattle.file_checker.specs.declared.verdict.Verdict.{Verdict}
 use Rattle.file_checker.specs.declared.verdict.Verdict.TheVariants.{Sound, Unsound}
 use Rattle.record_forms.specs.Columns.{text_of}
-use Rattle.file_commands.specs.Front.{OfOpenedFile}
+use Rattle.system_files.specs.declared.cause.Cause.{Cause}
+use Rattle.recorded_system.specs.Calls.{Call}
+use Rattle.file_commands.specs.Front.{OfCountedFile, IsUnreadBy}
+use Rattle.file_commands.specs.declared.verdict.NoVerdict.{NoVerdict}
+use Rattle.file_commands.specs.declared.verdict.NoVerdict.TheVariants.{Unread, Memory}
 use Rattle.command_outcomes.specs.declared.outcome.Outcome.{Outcome}
 use Rattle.command_outcomes.specs.declared.outcome.Outcome.TheVariants.{Checked, CheckedAll}
 use Rattle.command_outcomes.specs.declared.outcome.WorstCheck.{WorstCheck}
@@ -45,10 +50,19 @@ AreFileLines (path ∷ paths) (found ∷ more) lines =
     (line : List ℕ) × (rest : List ℕ) × IsFileLine path found line × AreFileLines paths more rest
     × (lines ≡ line ++ rest)
 
--- each verdict is such a one
-abbrev pub AreVerdicts : (IsSuch : Verdict → Type 0) → List (Option Verdict) → Type 0
-AreVerdicts IsSuch [] = ⊤
-AreVerdicts IsSuch (found ∷ more) = IfSome found IsSuch × AreVerdicts IsSuch more
+-- the verdict is right of the bytes that these calls gave of the file of a path; or by them it
+-- cannot be read
+abbrev pub IsFoundBy : (path : List ℕ) → List Call → Option Verdict → Type 0
+IsFoundBy path calls (Some verdict) = OfCountedFile path [] calls (λ bytes. IsRight bytes verdict)
+IsFoundBy path calls None = IsUnreadBy path calls
+
+-- so of each file, in the order of their paths
+abbrev pub AreFoundBy : (paths : List Text) → List Call → List (Option Verdict) → Type 0
+AreFoundBy [] calls [] = calls ≡ []
+AreFoundBy [] calls (found ∷ more) = ⊥
+AreFoundBy (path ∷ paths) calls [] = ⊥
+AreFoundBy (path ∷ paths) calls (found ∷ more) = (before : List Call) × (later : List Call)
+    × (calls ≡ later ++ before) × IsFoundBy path before found × AreFoundBy paths later more
 
 -- what is worst where a file is not sound beside others
 abbrev pub or_unsound : WorstCheck → WorstCheck
@@ -67,46 +81,51 @@ abbrev pub worst_of : List (Option Verdict) → WorstCheck
 worst_of [] = AllSound
 worst_of (found ∷ more) = worse_of found (worst_of more)
 
--- files were checked: such a verdict was found of each that could be read, and the lines of all of
--- them were written, in their order
-pub record WritesVerdicts (IsSuch : Verdict → Type 0) (paths : List Text) (before behind : Option (List ℕ))
+-- files were checked: what was found of each is right, and the lines of all of them were written, in
+-- their order
+pub record WritesVerdicts (paths : List Text) (before behind : Option (List ℕ)) (calls : List Call)
     (worst : WorstCheck) : Type 0 where
   pub found : List (Option Verdict)
-  pub right : AreVerdicts IsSuch found
+  pub right : AreFoundBy paths calls found
   pub lines : List ℕ
   pub are_lines : AreFileLines paths found lines
   pub written : Appends before behind lines
   pub worst_is : worst ≡ worst_of found
 
--- a file was checked, and the line of such a verdict was written
-abbrev pub WritesVerdict : (IsSuch : Verdict → Type 0) → (before behind : Option (List ℕ)) → Verdict → Type 0
-WritesVerdict IsSuch before behind verdict = IsSuch verdict × Appends before behind (verdict_line verdict)
-
 -- the line of one of several files was written
 abbrev pub WritesLine : (path : List ℕ) → Option Verdict → (before behind : Option (List ℕ)) → Type 0
 WritesLine path found before behind = (line : List ℕ) × IsFileLine path found line × Appends before behind line
 
--- so, and the verdict is such a one, if there is one
-abbrev pub WritesLineOf : (IsSuch : Verdict → Type 0) → (path : List ℕ) → (before behind : Option (List ℕ))
+-- so, and what was found of it is right
+abbrev pub WritesLineOf : (path : List ℕ) → (before behind : Option (List ℕ)) → List Call
     → Option Verdict → Type 0
-WritesLineOf IsSuch path before behind found = IfSome found IsSuch × WritesLine path found before behind
+WritesLineOf path before behind calls found = IsFoundBy path calls found × WritesLine path found before behind
 
--- the verdict is right of some file that was opened
-abbrev pub IsOnFile : {F : Type 0} → (F → Option (List ℕ)) → Verdict → Type 0
-IsOnFile remaining verdict = OfOpenedFile remaining (λ bytes. IsRight bytes verdict)
-
--- the verdict on a file was written
-abbrev pub ChecksFile : {F W : Type 0} → (F → Option (List ℕ)) → (W → Option (List ℕ)) → (old new : W)
-    → Outcome → Type 0
-ChecksFile remaining contents old new outcome = (verdict : Verdict) × (outcome ≡ Checked verdict)
-    × WritesVerdict (IsOnFile remaining) (contents old) (contents new) verdict
+-- the file of a path was checked, and the line of the verdict was written
+abbrev pub ChecksFile : {W : Type 0} → (path : List ℕ) → (W → Option (List ℕ)) → (old new : W)
+    → List Call → Outcome → Type 0
+ChecksFile path contents old new calls outcome = (verdict : Verdict) × (outcome ≡ Checked verdict)
+    × IsFoundBy path calls (Some verdict) × Appends (contents old) (contents new) (verdict_line verdict)
 
 -- the paths of files
 abbrev pub paths_of : List (Bor (List ℕ)) → List Text
 paths_of paths = map (λ path. path.now) paths
 
--- a line of each file was written
-abbrev pub ChecksFiles : {F W : Type 0} → (F → Option (List ℕ)) → List (Bor (List ℕ))
-    → (W → Option (List ℕ)) → (old new : W) → Outcome → Type 0
-ChecksFiles remaining paths contents old new outcome = (worst : WorstCheck) × (outcome ≡ CheckedAll worst)
-    × WritesVerdicts (IsOnFile remaining) (paths_of paths) (contents old) (contents new) worst
+-- the files of paths were checked, and a line of each was written
+abbrev pub ChecksFiles : {W : Type 0} → List (Bor (List ℕ)) → (W → Option (List ℕ)) → (old new : W)
+    → List Call → Outcome → Type 0
+ChecksFiles paths contents old new calls outcome = (worst : WorstCheck) × (outcome ≡ CheckedAll worst)
+    × WritesVerdicts (paths_of paths) (contents old) (contents new) calls worst
+
+-- a verdict was found of the file of a path; or it cannot be read
+pub record FindsVerdict (path : List ℕ) (result : Result Verdict NoVerdict) (calls : List Call) : Type 0 where
+  pub right : IfOk result (λ verdict. IsFoundBy path calls (Some verdict))
+  pub unread : IfErr result (λ why. (cause : Cause) → why ≡ Unread cause → IsFoundBy path calls None)
+
+-- the line of one of several files was written by what was found of it, and that is told
+abbrev pub WritesFound : (path : List ℕ) → Result Verdict NoVerdict → (before behind : Option (List ℕ))
+    → Option Verdict → Type 0
+WritesFound path (Ok verdict) before behind told =
+    (told ≡ Some verdict) × WritesLine path (Some verdict) before behind
+WritesFound path (Err (Unread cause)) before behind told = (told ≡ None) × WritesLine path None before behind
+WritesFound path (Err Memory) before behind told = ⊥

@@ -1,5 +1,6 @@
 //! The deck in a file as a COBOL program.
 ghost use Rattle.std.specs.Prelude.{◌≡◌};
+ghost use Rattle.recorded_system.specs.Reading.{ByReads};
 ghost use Rattle.file_commands.specs.Listed.{form_of, IsInCobol, GivesText, WritesCobolAt};
 
 use crate::deck_list::refused;
@@ -7,9 +8,9 @@ use crate::file_bytes::read_deck_bytes;
 use crate::text::write_text;
 use cobol_program::{Form, write_program};
 use command_outcomes::{Fault, Outcome};
+use recorded_system::System;
 use std::alloc::Global;
 use std::io::{Read, Write};
-use std::rt::Files;
 
 /// The program of the deck that the bytes are.
 fn program_of(alloc: Global, bytes: &[u8], form: Form) -> Result<String, Fault>
@@ -31,18 +32,18 @@ fn form_of(fixed: bool) -> Form
 #[tactic(auto, using(crate::proofs::ListLemmas::not_read, crate::proofs::ListLemmas::not_written))]
 /// Writes the deck in the file of a path, or in the input where the path is a hyphen, as a COBOL
 /// program. `NotListed`: it is refused, and nothing was written.
-pub fn write_cobol<R: Files, I: Read, W: Write>(
-    rt: &R,
+pub fn write_cobol<S: System, I: Read, W: Write>(
+    system: &mut S,
     alloc: Global,
     path: &str,
     fixed: bool,
     input: &mut I,
     out: &mut W,
 ) -> Result<Outcome, Fault>
-    ensures { WritesCobolAt R.File.remaining I.remaining input.old path.now fixed
-        W.contents out.old out.new result }
+    ensures { ByReads (WritesCobolAt (I.remaining input.old) path.now fixed W.contents out.old out.new result)
+        (S.state system.old) (S.state system.new) }
 {
-    let bytes = match read_deck_bytes(rt, alloc, path, input) {
+    let bytes = match read_deck_bytes(system, alloc, path, input) {
         Ok(bytes) => bytes,
         Err(fault) => return Err(fault),
     };

@@ -1,30 +1,32 @@
 //! The schema of a file, held against that of a file of a deck.
-ghost use Rattle.file_commands.specs.Schema.{ComparesWithReader, ComparesFile, IsOfComparison, ComesOfFile};
+ghost use Rattle.std.specs.Prelude.{[]};
+ghost use Rattle.schema_listing.specs.Listing.{read_of_file};
+ghost use Rattle.recorded_system.specs.Reading.{ByReads};
+ghost use Rattle.file_commands.specs.Schema.{ComparesAs, ComparesFile, IsOfComparison, ComesOfFile};
 ghost use Rattle.file_commands.specs.Schema.{ComparesPaths};
 
 use crate::deck::{deck_at, file_in};
+use crate::file_bytes::read_first_page;
 use crate::first_page::fault_of;
-use crate::opening;
 use command_outcomes::{Fault, Outcome};
 use record_layout::Schema;
+use recorded_system::System;
 use schema_listing::compare_schema;
 use std::alloc::Global;
 use std::io::{Read, Write};
-use std::rt::Files;
-use system_files::LockFile;
 
-/// Writes how the schema of the file that a reader has differs from that of a deck, by its first
-/// page alone; or nothing, where that page is none.
-fn write_differences<R: Read + Drop, W: Write>(
+/// Writes how the schema of the file that begins with these bytes differs from that of a deck, by its
+/// first page alone; or nothing, where that page is none.
+fn write_differences<W: Write>(
     alloc: Global,
-    reader: R,
+    bytes: &[u8],
     deck: &Schema,
     out: &mut W,
 ) -> Result<Outcome, Fault>
     ensures { ComesOfFile IsOfComparison
-        (ComparesWithReader (R.remaining reader) deck.now W.contents out.old out.new) result }
+        (ComparesAs deck.now (W.contents out.old) (W.contents out.new) (read_of_file bytes.now)) result }
 {
-    match compare_schema(alloc, reader, deck, out) {
+    match compare_schema(alloc, bytes, deck, out) {
         Ok(Ok(told)) => Ok(Outcome::SchemaCompared(told)),
         Ok(Err(refusal)) => Ok(Outcome::SchemaRefused(refusal)),
         Err(fault) => Err(fault_of(fault)),
@@ -32,27 +34,29 @@ fn write_differences<R: Read + Drop, W: Write>(
 }
 
 /// Writes how the schema of the file of a path, as long as no run changes it, differs from that of a deck.
-fn compare_file<R: Files, W: Write>(
-    rt: &R,
+fn compare_file<S: System, W: Write>(
+    system: &mut S,
     alloc: Global,
     path: &str,
     deck: &Schema,
     out: &mut W,
 ) -> Result<Outcome, Fault>
-where
-    R::File: LockFile,
-    ensures { ComesOfFile IsOfComparison
-        (ComparesFile R.File.remaining deck.now W.contents out.old out.new) result }
+    ensures { ByReads (λ calls. ComesOfFile IsOfComparison
+        (ComparesFile path.now deck.now W.contents out.old out.new [] calls) result)
+        (S.state system.old) (S.state system.new) }
 {
-    let file = opening::open_shared(rt, path).map_err(opening::fault_of)?;
-    write_differences(alloc, file, deck, out)
+    let bytes = match read_first_page(system, path) {
+        Ok(bytes) => bytes,
+        Err(fault) => return Err(fault),
+    };
+    write_differences(alloc, bytes.as_slice(), deck, out)
 }
 
 /// Writes how the schema of the file of a path, as long as no run changes it, differs from that of
 /// a file of the deck in the file of another path. `Deck`, `NoSuchFile`: the deck is refused, or
 /// does not have the file. Nothing was written.
-pub fn compare_path<R: Files, I: Read, W: Write>(
-    rt: &R,
+pub fn compare_path<S: System, I: Read, W: Write>(
+    system: &mut S,
     alloc: Global,
     path: &str,
     deck: &str,
@@ -60,12 +64,10 @@ pub fn compare_path<R: Files, I: Read, W: Write>(
     input: &mut I,
     out: &mut W,
 ) -> Result<Outcome, Fault>
-where
-    R::File: LockFile,
-    ensures { ComparesPaths R.File.remaining I.remaining input.old deck.now name.now
-        W.contents out.old out.new result }
+    ensures { ByReads (ComparesPaths (I.remaining input.old) path.now deck.now name.now
+        W.contents out.old out.new result) (S.state system.old) (S.state system.new) }
 {
-    let deck = match deck_at(rt, alloc, deck, input) {
+    let deck = match deck_at(system, alloc, deck, input) {
         Ok(deck) => deck,
         Err(fault) => return Err(fault),
     };
@@ -73,5 +75,5 @@ where
         Ok(described) => described,
         Err(fault) => return Err(fault),
     };
-    compare_file(rt, alloc, path, &described.schema, out)
+    compare_file(system, alloc, path, &described.schema, out)
 }

@@ -1,17 +1,17 @@
 //! The count of what the file of a path has.
 ghost use Rattle.std.specs.Prelude.{◌≡◌};
-ghost use Rattle.file_commands.specs.Counted.{CountsSomeFile};
-ghost use Rattle.file_commands.specs.Front.{DoesSuch};
+ghost use Rattle.recorded_system.specs.Reading.{ByReads};
+ghost use Rattle.file_commands.specs.Counted.{CountsFileAt};
+ghost use Rattle.file_commands.specs.Front.{DoesBy};
 ghost use Rattle.command_outcomes.specs.Status.{status_of};
 
-use crate::file_bytes::read_file;
+use crate::file_bytes::{fault_of as not_read, read_counted};
 use command_outcomes::{Fault, Outcome};
 use file_statistics::{FileStatisticsEnd, StatisticsFault, list_statistics};
 use progress::Silent;
+use recorded_system::System;
 use std::alloc::Global;
 use std::io::Write;
-use std::rt::Files;
-use system_files::LockFile;
 
 /// Why nothing is told of a file, or not all.
 fn fault_of(fault: StatisticsFault) -> Fault
@@ -25,19 +25,18 @@ fn fault_of(fault: StatisticsFault) -> Fault
 }
 
 /// Writes what is counted of the file of a path, once a check has found it sound.
-pub fn count_path<R: Files, W: Write>(
-    rt: &R,
+pub fn count_path<S: System, W: Write>(
+    system: &mut S,
     alloc: Global,
     path: &str,
     out: &mut W,
 ) -> Result<Outcome, Fault>
-where
-    R::File: LockFile,
-    ensures { DoesSuch (CountsSomeFile R.File.remaining W.contents out.old out.new) result }
+    ensures { ByReads (DoesBy (CountsFileAt path.now W.contents out.old out.new) result)
+        (S.state system.old) (S.state system.new) }
 {
-    let bytes = match read_file(rt, alloc, path, &mut Silent) {
+    let bytes = match read_counted(system, path, &mut Silent) {
         Ok(bytes) => bytes,
-        Err(fault) => return Err(fault),
+        Err(fault) => return Err(not_read(fault)),
     };
     match list_statistics(alloc, bytes.as_slice(), out) {
         Ok(end) => Ok(Outcome::Counted(end)),

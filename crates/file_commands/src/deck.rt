@@ -1,14 +1,15 @@
 //! The deck in a file, and a file of it.
 ghost use Rattle.std.specs.Prelude.{◌≡◌, None, find, option_map, IfOk, IfErr};
+ghost use Rattle.recorded_system.specs.Reading.{ByReads};
 ghost use Rattle.file_commands.specs.DeckFile.{is_named_in_deck, IsFileOf, IsDeckAt, ComesOfDeck, GivesDeck};
 
 use crate::file_bytes::read_deck_bytes;
 use command_outcomes::Fault;
 use deck_runner::{Deck, RunFault, read_deck};
 use file_control::FileDesc;
+use recorded_system::System;
 use std::alloc::Global;
 use std::io::Read;
-use std::rt::Files;
 
 #[tactic(auto, using(crate::proofs::DeckLemmas::of_a_deck))]
 /// The deck that the bytes are.
@@ -37,15 +38,16 @@ pub fn file_named<'a>(files: &'a [FileDesc], name: &str) -> Option<&'a FileDesc>
 }
 
 /// The deck in the file of a path, or in the input where the path is a hyphen.
-pub fn deck_at<R: Files, I: Read>(
-    rt: &R,
+pub fn deck_at<S: System, I: Read>(
+    system: &mut S,
     alloc: Global,
     path: &str,
     input: &mut I,
 ) -> Result<Deck, Fault>
-    ensures { ComesOfDeck (IsDeckAt R.File.remaining I.remaining input.old path.now) result }
+    ensures { ByReads (λ calls. ComesOfDeck (IsDeckAt calls (I.remaining input.old) path.now) result)
+        (S.state system.old) (S.state system.new) }
 {
-    let bytes = match read_deck_bytes(rt, alloc, path, input) {
+    let bytes = match read_deck_bytes(system, alloc, path, input) {
         Ok(bytes) => bytes,
         Err(fault) => return Err(fault),
     };

@@ -3,6 +3,7 @@ ghost use Rattle.std.specs.Prelude.{◌≢◌};
 ghost use Rattle.deck_reader.specs.declared.deck.Deck.{Deck as ToldDeck};
 ghost use Rattle.deck_reader.specs.Deck.{IsDeck};
 ghost use Rattle.deck_listing.specs.Listing.{Lists};
+ghost use Rattle.recorded_system.specs.Reading.{ByReads};
 ghost use Rattle.file_commands.specs.Listed.{IsRefusalOf, IsListFault, GivesText, ListsDeckAt};
 
 use crate::file_bytes::read_deck_bytes;
@@ -11,9 +12,9 @@ use command_outcomes::{Fault, Outcome, RefusedDeck};
 use deck_diagnosis::diagnose;
 use deck_listing::list_deck;
 use file_control::DeckFault;
+use recorded_system::System;
 use std::alloc::Global;
 use std::io::{Read, Write};
-use std::rt::Files;
 
 /// The code of a deck's fault that is want of memory.
 const MEMORY_CODE: u8 = 8;
@@ -27,7 +28,7 @@ pub fn refused(alloc: Global, bytes: &[u8], fault: DeckFault) -> Fault
     if fault.code == MEMORY_CODE {
         return Fault::Memory;
     }
-    match diagnose(alloc, bytes, fault) {
+    match diagnose(alloc, bytes) {
         Ok(diagnosis) => Fault::NotListed(RefusedDeck { fault, diagnosis }),
         Err(_) => Fault::Memory,
     }
@@ -46,16 +47,17 @@ fn list(alloc: Global, bytes: &[u8]) -> Result<String, Fault>
 #[tactic(auto, using(crate::proofs::ListLemmas::not_read, crate::proofs::ListLemmas::not_written))]
 /// Writes the list of the deck in the file of a path, or in the input where the path is a hyphen.
 /// `NotListed`: it is refused, and nothing was written.
-pub fn list_path<R: Files, I: Read, W: Write>(
-    rt: &R,
+pub fn list_path<S: System, I: Read, W: Write>(
+    system: &mut S,
     alloc: Global,
     path: &str,
     input: &mut I,
     out: &mut W,
 ) -> Result<Outcome, Fault>
-    ensures { ListsDeckAt R.File.remaining I.remaining input.old path.now W.contents out.old out.new result }
+    ensures { ByReads (ListsDeckAt (I.remaining input.old) path.now W.contents out.old out.new result)
+        (S.state system.old) (S.state system.new) }
 {
-    let bytes = match read_deck_bytes(rt, alloc, path, input) {
+    let bytes = match read_deck_bytes(system, alloc, path, input) {
         Ok(bytes) => bytes,
         Err(fault) => return Err(fault),
     };

@@ -1,20 +1,21 @@
 //! The bytes of a file: of a deck, of records, or of a text.
-ghost use Rattle.std.specs.Prelude.{◌≡◌, ◌≤◌, length};
-ghost use Rattle.file_checker.specs.Sound.{asked_in};
-ghost use Rattle.file_commands.specs.Front.{AreCountedIn, IsTextOf, IsTextNamed, IsCountedFile, GivesSuch};
-ghost use Rattle.file_commands.specs.Front.{FillsPart, TakesFront, ReadsNamed, ReadsDeckNamed};
+ghost use Rattle.std.specs.Prelude.{◌≡◌, ◌≢◌, [], ◌∷◌, Some, false, take, IsTrue, IfOk, OnErr};
+ghost use Rattle.system_files.specs.Front.{IsFrontRead, IsTextRead};
+ghost use Rattle.recorded_system.specs.Calls.{taken, taken_shared};
+ghost use Rattle.recorded_system.specs.Reading.{ByReads};
+ghost use Rattle.command_outcomes.specs.Status.{status_of};
+ghost use Rattle.file_commands.specs.Front.{asked_by, longest_line, IsTextTaken, GivesSuch};
+ghost use Rattle.file_commands.specs.Front.{ReadsDeckNamed, ReadsTextNamed, ReadsCounted};
 
-use crate::opening::{fault_of, open_plain, open_shared};
 use byteorder::{BigEndian, ByteOrder};
 use command_outcomes::Fault;
 use file_control::DECK_LIMIT;
 use page_bytes::PAGE_SIZE;
-use progress::{Progress, ProgressReader};
+use progress::{Progress, Silent};
+use recorded_system::System;
 use std::alloc::Global;
-use std::fs::OpenFile;
 use std::io::{ErrorKind, Read};
-use std::rt::Files;
-use system_files::LockFile;
+use system_files::{Cause, ReadFault, read_front, read_lines};
 
 /// The bytes that are read of a deck: one more than the longest deck has.
 const MOST_BYTES: usize = DECK_LIMIT + 1;
@@ -24,184 +25,171 @@ const PAGES: usize = 12;
 
 const PAGES_END: usize = 16;
 
-/// The bytes that are asked for at a call.
-const AT_ONCE: usize = 4096;
-
-/// The bytes of a text that are read as one part: no record has a line of so many. JSON has at most
-/// four bytes for each of a record's 4,000, and its columns have names.
+/// No record has a line of so many bytes: JSON has at most four for each of a record's 4,000, and
+/// its columns have names.
 const LONGEST_LINE: usize = 1_048_576;
 
-/// More such parts than memory could ever hold.
-const MOST_PARTS: u64 = 1 << 44;
-
-const LINE_FEED: u8 = b'\n';
-
-/// So many interrupted reads in a row are a fault of the input.
-const MOST_INTERRUPTED: u32 = 1000;
-
-/// Reads a part, and answers how many bytes came: none at the end.
-fn read_part<R: Read>(reader: &mut R, part: &mut [u8]) -> Result<usize, Fault>
-    ensures { FillsPart (R.remaining reader.old) (R.remaining reader.new) part.old part.new result }
+/// Why bytes did not come, as the command tells it.
+pub fn fault_of(fault: ReadFault) -> Fault
+    ensures { status_of result ≡ 4 }
 {
-    for _ in 0..MOST_INTERRUPTED {
-        match reader.read(part) {
-            Ok(n) => return Ok(n),
-            Err(error) => {
-                if error.kind() != ErrorKind::Interrupted {
-                    return Err(Fault::Input);
-                }
-            }
-        }
+    match fault {
+        ReadFault::Memory => Fault::Memory,
+        ReadFault::Device(Cause::Other(ErrorKind::OutOfMemory)) => Fault::Memory,
+        ReadFault::Device(_) => Fault::Input,
     }
-    Err(Fault::Input)
 }
 
-/// The bytes of a reader to its end, or so many of the first ones.
-pub fn read_front<R: Read>(alloc: Global, reader: &mut R, most: usize) -> Result<Vec<u8>, Fault>
-    ensures { TakesFront most (R.remaining reader.old) (R.remaining reader.new) result }
+/// The bytes of the input to its end, or so many of the first ones.
+fn read_input<I: Read>(alloc: Global, input: &mut I, most: usize) -> Result<Vec<u8>, Fault>
+    ensures { GivesSuch (λ bytes. IsFrontRead most (I.remaining input.old) bytes.items) result }
 {
-    let mut bytes = Vec::new(alloc);
-    let mut part = [0; AT_ONCE];
-    'more: while bytes.len() < most {
-        let wanted = AT_ONCE.min(most - bytes.len());
-        let n = read_part(reader, &mut part[..wanted])?;
-        if n == 0 {
-            return Ok(bytes);
-        }
-        bytes.extend_from_slice(&part[..n])?;
+    match read_front(alloc, input, most) {
+        Ok(bytes) => Ok(bytes),
+        Err(fault) => Err(fault_of(fault)),
     }
-    Ok(bytes)
 }
 
-/// The bytes of the file of a path, or of the input where the path is a hyphen: to the end, or so
-/// many of the first ones.
-fn read_named<R: Files, I: Read>(
-    rt: &R,
+/// The bytes of the file of a path to its end, or so many of the first ones.
+fn take_front<S: System>(system: &mut S, path: &str, most: usize) -> Result<Vec<u8>, Fault>
+    ensures { ByReads (λ calls. GivesSuch (λ bytes.
+        calls ≡ taken path.now most (Some bytes.items) ∷ []) result)
+        (S.state system.old) (S.state system.new) }
+{
+    match system.take(path, most) {
+        Ok(bytes) => Ok(bytes),
+        Err(fault) => Err(fault_of(fault)),
+    }
+}
+
+/// The bytes of a deck: those of the file of a path, or of the input where the path is a hyphen, to
+/// the end, or the first 1,048,577.
+pub fn read_deck_bytes<S: System, I: Read>(
+    system: &mut S,
     alloc: Global,
     path: &str,
     input: &mut I,
-    most: usize,
 ) -> Result<Vec<u8>, Fault>
-    ensures { ReadsNamed most R.File.remaining I.remaining path.now input.old input.new result }
+    ensures { ByReads (ReadsDeckNamed I.remaining path.now input.old input.new result)
+        (S.state system.old) (S.state system.new) }
 {
     if path == "-" {
-        return read_front(alloc, input, most);
+        return read_input(alloc, input, MOST_BYTES);
     }
-    let mut file = open_plain(rt, path).map_err(fault_of)?;
-    read_front(alloc, &mut file, most)
+    take_front(system, path, MOST_BYTES)
 }
 
-/// The bytes of a deck: those of a file that was opened, or of the input where the path is a hyphen,
-/// to the end, or the first 1,048,577.
-pub fn read_deck_bytes<R: Files, I: Read>(
-    rt: &R,
-    alloc: Global,
-    path: &str,
-    input: &mut I,
-) -> Result<Vec<u8>, Fault>
-    ensures { ReadsDeckNamed R.File.remaining I.remaining path.now input.old input.new result }
-{
-    read_named(rt, alloc, path, input, MOST_BYTES)
-}
-
-/// The text that a reader has: all of it, or a front that ends in a line which is too long for any
+/// The text that the input has: all of it, or a front that ends in a line which is too long for any
 /// record.
-fn read_lines<R: Read>(alloc: Global, reader: &mut R) -> Result<Vec<u8>, Fault>
-    ensures { GivesSuch (λ text. IsTextOf (R.remaining reader.old) text.items) result }
+fn read_input_text<I: Read>(alloc: Global, input: &mut I) -> Result<Vec<u8>, Fault>
+    ensures { GivesSuch (λ text. IsTextRead longest_line (I.remaining input.old) text.items) result }
 {
-    let mut text = Vec::new(alloc);
-    for _ in 0..MOST_PARTS {
-        let part = read_front(alloc, reader, LONGEST_LINE)?;
-        text.extend_from_slice(part.as_slice())?;
-        if part.len() < LONGEST_LINE {
-            return Ok(text);
-        }
-        if !part.as_slice().contains(&LINE_FEED) {
-            return Ok(text);
-        }
+    match read_lines(alloc, input, LONGEST_LINE) {
+        Ok(lines) => Ok(lines.bytes),
+        Err(fault) => Err(fault_of(fault)),
     }
-    Err(Fault::Memory)
 }
 
-/// A text: that of a file that was opened, or of the input where the path is a hyphen. It is read to
-/// its end, or up to some place in the first line that is too long for any record.
-pub fn read_text<R: Files, I: Read>(
-    rt: &R,
+/// The same of the file of a path.
+fn take_text<S: System>(system: &mut S, path: &str) -> Result<Vec<u8>, Fault>
+    ensures { ByReads (λ calls. GivesSuch (λ text. IsTextTaken calls path.now text.items) result)
+        (S.state system.old) (S.state system.new) }
+{
+    match system.take_text(path, LONGEST_LINE) {
+        Ok(text) => Ok(text),
+        Err(fault) => Err(fault_of(fault)),
+    }
+}
+
+/// A text: that of the file of a path, or of the input where the path is a hyphen. It is read to its
+/// end, or up to some place in the first line that is too long for any record.
+pub fn read_text<S: System, I: Read>(
+    system: &mut S,
     alloc: Global,
     path: &str,
     input: &mut I,
 ) -> Result<Vec<u8>, Fault>
-    ensures text { GivesSuch (λ text.
-        IsTextNamed R.File.remaining (I.remaining input.old) path.now text.items) result }
+    ensures { ByReads (ReadsTextNamed I.remaining path.now input.old input.new result)
+        (S.state system.old) (S.state system.new) }
 {
-    if path != "-" {
-        let mut file = open_plain(rt, path).map_err(fault_of)?;
-        return read_lines(alloc, &mut file);
+    if path == "-" {
+        return read_input_text(alloc, input);
     }
-    read_lines(alloc, input)
-}
-
-/// A file as a reader that tells how many of its bytes have come.
-pub fn with_progress<F: OpenFile + Read, P: Progress>(
-    file: F,
-    progress: &mut P,
-) -> ProgressReader<'_, F, P>
-    ensures { result.reader ≡ file }
-{
-    let whole = system_files::measure(&file).unwrap_or(0);
-    ProgressReader::new(file, whole, progress)
+    take_text(system, path)
 }
 
 /// How many bytes of a file are asked for, by its first bytes: those of the first page, and of the
 /// others that it counts.
 fn asked_by(first: &[u8]) -> usize
-    ensures least { 4096 ≤ result }
-    ensures counted { length first.now ≡ 4096 → result ≡ asked_in first.now }
+    ensures { result ≡ asked_by first.now }
 {
-    if first.len() < PAGE_SIZE {
+    if first.len() != PAGE_SIZE {
         return PAGE_SIZE;
     }
     let pages = BigEndian::read_u32(&first[PAGES..PAGES_END]);
     PAGE_SIZE + PAGE_SIZE * pages.saturating_sub(1) as usize
 }
 
-/// The bytes of a reader that its first page counts.
-fn read_counted<R: Read + Drop>(alloc: Global, reader: R) -> Result<Vec<u8>, Fault>
-    ensures { GivesSuch (λ bytes. AreCountedIn (R.remaining reader) bytes.items) result }
+/// The first bytes, as many as a page has, or all that there are.
+fn first_page(bytes: &[u8]) -> &[u8]
+    ensures { result.now ≡ take 4096 bytes.now }
 {
-    let mut reader = reader;
-    let first = read_front(alloc, &mut reader, PAGE_SIZE)?;
-    let asked = asked_by(first.as_slice());
-    let mut whole = first.as_slice().chain(reader);
-    let bytes = read_front(alloc, &mut whole, asked)?;
-    Ok(bytes)
+    if bytes.len() < PAGE_SIZE {
+        bytes
+    } else {
+        &bytes[..PAGE_SIZE]
+    }
 }
 
-/// The bytes of a file that its first page counts. It is told how many have come.
-fn read_all<F: OpenFile + Read + Drop, P: Progress>(
-    alloc: Global,
-    file: F,
-    progress: &mut P,
-) -> Result<Vec<u8>, Fault>
-    ensures bytes { GivesSuch (λ bytes. AreCountedIn (F.remaining file) bytes.items) result }
+/// Whether a file begins with this first page.
+fn begins_with(bytes: &[u8], first: &[u8]) -> bool
+    ensures same { IsTrue result → take 4096 bytes.now ≡ first.now }
+    ensures other { result ≡ false → take 4096 bytes.now ≢ first.now }
 {
-    read_counted(alloc, with_progress(file, progress))
+    first_page(bytes) == first
 }
 
-/// The bytes of the file of a path that its first page counts, as long as no run changes it. It is
-/// told how many have come.
-pub fn read_file<R: Files, P: Progress>(
-    rt: &R,
-    alloc: Global,
+/// The bytes of a file, where they begin with its first page, as it was read before.
+fn require_first(bytes: Vec<u8>, first: &[u8]) -> Result<Vec<u8>, ReadFault>
+    ensures same { IfOk result (λ whole. (whole.items ≡ bytes.items) × (take 4096 bytes.items ≡ first.now)) }
+    ensures other { OnErr result (take 4096 bytes.items ≢ first.now) }
+{
+    if begins_with(bytes.as_slice(), first) {
+        Ok(bytes)
+    } else {
+        Err(ReadFault::Device(Cause::Changed))
+    }
+}
+
+/// The bytes of the file of a path that its first page counts, as long as no run changes it. The
+/// first page is read first. It is told how many bytes have come.
+pub fn read_counted<S: System, P: Progress>(
+    system: &mut S,
     path: &str,
     progress: &mut P,
-) -> Result<Vec<u8>, Fault>
-where
-    R::File: LockFile,
-    ensures bytes { GivesSuch (λ bytes. IsCountedFile R.File.remaining bytes.items) result }
+) -> Result<Vec<u8>, ReadFault>
+    ensures { ByReads (ReadsCounted path.now result) (S.state system.old) (S.state system.new) }
 {
-    let file = open_shared(rt, path).map_err(fault_of)?;
-    let bytes = read_all(alloc, file, progress);
-    progress.wipe();
-    bytes
+    let first = match system.take_shared(path, PAGE_SIZE, &mut Silent) {
+        Ok(first) => first,
+        Err(fault) => return Err(fault),
+    };
+    let asked = asked_by(first.as_slice());
+    match system.take_shared(path, asked, progress) {
+        Ok(bytes) => require_first(bytes, first.as_slice()),
+        Err(fault) => Err(fault),
+    }
+}
+
+/// The first page of the file of a path, or all bytes that it has where they are fewer, as long as
+/// no run changes it.
+pub fn read_first_page<S: System>(system: &mut S, path: &str) -> Result<Vec<u8>, Fault>
+    ensures { ByReads (λ calls. GivesSuch (λ bytes.
+        calls ≡ taken_shared path.now 4096 (Some bytes.items) ∷ []) result)
+        (S.state system.old) (S.state system.new) }
+{
+    match system.take_shared(path, PAGE_SIZE, &mut Silent) {
+        Ok(first) => Ok(first),
+        Err(fault) => Err(fault_of(fault)),
+    }
 }

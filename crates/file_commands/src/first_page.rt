@@ -1,17 +1,18 @@
 //! The schema of a file, by its first page, told or held against that of a file of a deck.
-ghost use Rattle.std.specs.Prelude.{◌≡◌};
-ghost use Rattle.file_commands.specs.Schema.{TellsReader, TellsFile, IsOfSchema, ComesOfFile, AnswersSchema};
+ghost use Rattle.std.specs.Prelude.{◌≡◌, []};
+ghost use Rattle.schema_listing.specs.Listing.{read_of_file};
+ghost use Rattle.recorded_system.specs.Reading.{ByReads};
+ghost use Rattle.file_commands.specs.Schema.{TellsAs, TellsFile, IsOfSchema, ComesOfFile, AnswersSchema};
 ghost use Rattle.file_commands.specs.Schema.{listing_told_as};
 ghost use Rattle.command_outcomes.specs.Status.{status_of};
 
 use crate::comparing::compare_path;
-use crate::opening;
+use crate::file_bytes::read_first_page;
 use command_outcomes::{Fault, FormFault, Outcome};
+use recorded_system::System;
 use schema_listing::{ListingFault, list_schema};
 use std::alloc::Global;
 use std::io::{Read, Write};
-use std::rt::Files;
-use system_files::LockFile;
 
 /// Why nothing is told of a file, or not all.
 pub fn fault_of(fault: ListingFault) -> Fault
@@ -25,16 +26,13 @@ pub fn fault_of(fault: ListingFault) -> Fault
     }
 }
 
-/// Writes the lines that tell of the file that a reader has, by its first page alone; or nothing,
-/// where that page is none.
-fn write_schema<R: Read + Drop, W: Write>(
-    alloc: Global,
-    reader: R,
-    out: &mut W,
-) -> Result<Outcome, Fault>
-    ensures { ComesOfFile IsOfSchema (TellsReader (R.remaining reader) W.contents out.old out.new) result }
+/// Writes the lines that tell of the file that begins with these bytes, by its first page alone; or
+/// nothing, where that page is none.
+fn write_schema<W: Write>(alloc: Global, bytes: &[u8], out: &mut W) -> Result<Outcome, Fault>
+    ensures { ComesOfFile IsOfSchema
+        (TellsAs (W.contents out.old) (W.contents out.new) (read_of_file bytes.now)) result }
 {
-    match list_schema(alloc, reader, out) {
+    match list_schema(alloc, bytes, out) {
         Ok(Ok(())) => Ok(Outcome::SchemaTold),
         Ok(Err(refusal)) => Ok(Outcome::SchemaRefused(refusal)),
         Err(fault) => Err(fault_of(fault)),
@@ -42,23 +40,27 @@ fn write_schema<R: Read + Drop, W: Write>(
 }
 
 /// Writes the schema of the file of a path, as long as no run changes it.
-fn schema_path<R: Files, W: Write>(
-    rt: &R,
+fn schema_path<S: System, W: Write>(
+    system: &mut S,
     alloc: Global,
     path: &str,
     out: &mut W,
 ) -> Result<Outcome, Fault>
-where
-    R::File: LockFile,
-    ensures { ComesOfFile IsOfSchema (TellsFile R.File.remaining W.contents out.old out.new) result }
+    ensures { ByReads (λ calls. ComesOfFile IsOfSchema
+        (TellsFile path.now W.contents out.old out.new [] calls) result)
+        (S.state system.old) (S.state system.new) }
 {
-    let file = opening::open_shared(rt, path).map_err(opening::fault_of)?;
-    write_schema(alloc, file, out)
+    let bytes = match read_first_page(system, path) {
+        Ok(bytes) => bytes,
+        Err(fault) => return Err(fault),
+    };
+    write_schema(alloc, bytes.as_slice(), out)
 }
 
+#[tactic(auto, using(recorded_system::proofs::ReadingLemmas::by_none))]
 /// Writes the schema of the file of a path, or how it differs from that of a file of a deck.
-pub fn schema<R: Files, I: Read, W: Write>(
-    rt: &R,
+pub fn schema<S: System, I: Read, W: Write>(
+    system: &mut S,
     alloc: Global,
     path: &str,
     deck: Option<&str>,
@@ -66,14 +68,12 @@ pub fn schema<R: Files, I: Read, W: Write>(
     input: &mut I,
     out: &mut W,
 ) -> Result<Outcome, Fault>
-where
-    R::File: LockFile,
-    ensures { AnswersSchema R.File.remaining I.remaining input.old deck.entry name.entry
-        W.contents out.old out.new result }
+    ensures { ByReads (AnswersSchema (I.remaining input.old) path.now deck.entry name.entry
+        W.contents out.old out.new result) (S.state system.old) (S.state system.new) }
 {
     match (deck, name) {
-        (None, None) => schema_path(rt, alloc, path, out),
-        (Some(deck), Some(name)) => compare_path(rt, alloc, path, deck, name, input, out),
+        (None, None) => schema_path(system, alloc, path, out),
+        (Some(deck), Some(name)) => compare_path(system, alloc, path, deck, name, input, out),
         (Some(_), None) | (None, Some(_)) => Err(Fault::Form(FormFault::HalfDeck)),
     }
 }

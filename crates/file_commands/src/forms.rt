@@ -1,10 +1,10 @@
 //! The form in which records are listed, as the words ask for it.
-ghost use Rattle.std.specs.Prelude.{◌≡◌, codes};
+ghost use Rattle.std.specs.Prelude.{◌≡◌, ℕ, List, [], Option, codes};
 ghost use Rattle.file_commands.specs.Cuts.{AreNoCuts};
 ghost use Rattle.file_commands.specs.DeckFile.{ComesOfDeck};
-ghost use Rattle.file_commands.specs.Forms.{AreBetweenCuts, IsWholeRecord, AreItemsAt, AreColumnsAsked};
-ghost use Rattle.file_commands.specs.Forms.{IsFormTold, ComesOfCuts, ComesOfForm, WantsOnlyMemory};
-ghost use Rattle.file_commands.specs.Front.{IsDeckNamed};
+ghost use Rattle.recorded_system.specs.Reading.{ByReads};
+ghost use Rattle.file_commands.specs.Forms.{AreBetweenCuts, IsWholeRecord, AreItemsAt, AreColumnsBy};
+ghost use Rattle.file_commands.specs.Forms.{IsFormToldBy, ComesOfCuts, ComesOfForm, WantsOnlyMemory};
 
 use crate::cuts::read_cuts;
 use crate::deck::{deck_at, file_in};
@@ -12,9 +12,9 @@ use command_outcomes::{Fault, FormFault};
 use command_words::FormWords;
 use record_forms::{Column, CutFault, Form, cut_columns, item_columns, whole_column};
 use record_layout::Schema;
+use recorded_system::System;
 use std::alloc::Global;
 use std::io::Read;
-use std::rt::Files;
 
 /// The columns of a record, and the schema of the file of a deck that they are those of, if there
 /// is one.
@@ -51,16 +51,17 @@ fn columns_between(alloc: Global, text: &str) -> Result<Columns, Fault>
 }
 
 /// The columns of the record of a file of the deck in the file of a path.
-fn columns_in<R: Files, I: Read>(
-    rt: &R,
+fn columns_in<S: System, I: Read>(
+    system: &mut S,
     alloc: Global,
     deck: &str,
     name: &str,
     input: &mut I,
 ) -> Result<Columns, Fault>
-    ensures { ComesOfDeck (AreItemsAt R.File.remaining I.remaining input.old deck.now name.now) result }
+    ensures { ByReads (λ calls. ComesOfDeck (AreItemsAt calls (I.remaining input.old) deck.now name.now) result)
+        (S.state system.old) (S.state system.new) }
 {
-    let deck = match deck_at(rt, alloc, deck, input) {
+    let deck = match deck_at(system, alloc, deck, input) {
         Ok(deck) => deck,
         Err(fault) => return Err(fault),
     };
@@ -90,20 +91,21 @@ fn whole(alloc: Global) -> Result<Columns, Fault>
     }
 }
 
+#[tactic(auto, using(recorded_system::proofs::ReadingLemmas::by_none))]
 /// The columns that words ask for.
-fn columns_of<R: Files, I: Read>(
-    rt: &R,
+fn columns_of<S: System, I: Read>(
+    system: &mut S,
     alloc: Global,
     asked: FormWords<'_>,
     input: &mut I,
 ) -> Result<Columns, Fault>
-    ensures { ComesOfForm (AreColumnsAsked (IsDeckNamed R.File.remaining (I.remaining input.old)))
-        asked.entry result }
+    ensures { ByReads (λ calls. ComesOfForm (AreColumnsBy calls (I.remaining input.old)) asked.entry result)
+        (S.state system.old) (S.state system.new) }
 {
     match (asked.cut, asked.deck, asked.name) {
         (None, None, None) => whole(alloc),
         (Some(text), None, None) => columns_between(alloc, text),
-        (None, Some(deck), Some(name)) => columns_in(rt, alloc, deck, name, input),
+        (None, Some(deck), Some(name)) => columns_in(system, alloc, deck, name, input),
         (Some(_), Some(_), Some(_)) => Err(Fault::Form(FormFault::CutAndDeck)),
         (_, Some(_), None) | (_, None, Some(_)) => Err(Fault::Form(FormFault::HalfDeck)),
     }
@@ -112,7 +114,7 @@ fn columns_of<R: Files, I: Read>(
 /// Text, where no columns are asked for.
 fn text_form(asked: FormWords<'_>) -> Result<ListForm, Fault>
     requires { asked.kind.now ≡ codes "text" }
-    ensures { ComesOfForm (IsFormTold (λ deck bytes. ⊥)) asked.entry result }
+    ensures { (input : Option (List ℕ)) → ComesOfForm (IsFormToldBy [] input) asked.entry result }
 {
     match (asked.cut, asked.deck, asked.name) {
         (None, None, None) => Ok(ListForm {
@@ -123,22 +125,23 @@ fn text_form(asked: FormWords<'_>) -> Result<ListForm, Fault>
     }
 }
 
+#[tactic(auto, using(recorded_system::proofs::ReadingLemmas::by_none))]
 /// The form that words ask for, with its columns. `Form`: they ask for none. `Deck`, `NoSuchFile`:
 /// the deck is refused, or does not have the file.
-pub fn form_of<R: Files, I: Read>(
-    rt: &R,
+pub fn form_of<S: System, I: Read>(
+    system: &mut S,
     alloc: Global,
     asked: FormWords<'_>,
     input: &mut I,
 ) -> Result<ListForm, Fault>
-    ensures { ComesOfForm (IsFormTold (IsDeckNamed R.File.remaining (I.remaining input.old)))
-        asked.entry result }
+    ensures { ByReads (λ calls. ComesOfForm (IsFormToldBy calls (I.remaining input.old)) asked.entry result)
+        (S.state system.old) (S.state system.new) }
 {
     if asked.kind == "text" {
         return text_form(asked);
     }
     if asked.kind == "csv" {
-        return match columns_of(rt, alloc, asked, input) {
+        return match columns_of(system, alloc, asked, input) {
             Ok(told) => Ok(ListForm {
                 form: Form::Csv(told.columns),
                 schema: told.schema,
@@ -147,7 +150,7 @@ pub fn form_of<R: Files, I: Read>(
         };
     }
     if asked.kind == "json" {
-        return match columns_of(rt, alloc, asked, input) {
+        return match columns_of(system, alloc, asked, input) {
             Ok(told) => Ok(ListForm {
                 form: Form::Json(told.columns),
                 schema: told.schema,

@@ -1,9 +1,10 @@
 //! Commands that look into a file and change none: the check of files, the list of records, the
 //! schema, the count of pages, and the list of a deck and its program in COBOL.
 //!
-//! Each is given the words that ask for it, opens its file, writes to the output, and answers the
-//! `Outcome` or the `Fault`. Its clauses say what was written of which bytes. A file of records is
-//! read as long as no run changes it. That the system opens the file that a path names is trusted.
+//! Each is given the words that ask for it and a `System`, writes to the output, and answers the
+//! `Outcome` or the `Fault`. Its clauses say what was written of which bytes: those that the calls
+//! gave which it made of the system, all of them reads. A file of records is read as long as no run
+//! changes it.
 //!
 //! Read `file_bytes` first, then `verdict` and `listing`; `deck` finds a file in a deck.
 #![tactic(auto)]
@@ -18,7 +19,6 @@ mod file_bytes;
 mod first_page;
 mod forms;
 mod listing;
-mod opening;
 mod shown;
 mod text;
 mod verdict;
@@ -28,7 +28,7 @@ pub use cobol::write_cobol;
 pub use counting::count_path;
 pub use deck::{deck_of, file_named};
 pub use deck_list::list_path;
-pub use file_bytes::{read_deck_bytes, read_front, read_text};
+pub use file_bytes::{read_deck_bytes, read_text};
 pub use first_page::schema;
 pub use listing::{Bounds, list_records};
 pub use verdict::{check_path, check_paths};

@@ -1,9 +1,10 @@
 //! The list of the records of the file of a path.
 ghost use Rattle.std.specs.Prelude.{◌≡◌, option_map};
+ghost use Rattle.recorded_system.specs.Reading.{ByReads};
 ghost use Rattle.file_commands.specs.Front.{word_in, GivesSuch};
 ghost use Rattle.file_commands.specs.Records.{IsAskedBy, FitsValue, ToldOfList, ListsFile, TellsOther};
 
-use crate::file_bytes::read_file;
+use crate::file_bytes::{fault_of as not_read, read_counted};
 use crate::first_page::fault_of;
 use crate::forms::form_of;
 use command_outcomes::{Fault, Outcome};
@@ -13,11 +14,10 @@ use io_state::Key;
 use progress::Progress;
 use record_layout::Schema;
 use record_listing::{Asked, ListFault};
+use recorded_system::System;
 use schema_listing::{Comparison, compare_schema};
 use std::alloc::Global;
 use std::io::{Read, Write};
-use std::rt::Files;
-use system_files::LockFile;
 
 /// What is asked of the list of a file: the number of a key, the first and the last value, and how
 /// many records at most.
@@ -101,8 +101,8 @@ fn is_other<W: Write>(
 /// such form, and the file was not read. Where the columns are those of a deck, and OPEN in it would
 /// find the file to be of another schema, a line of each difference is written in place of the
 /// records. While the file is read, it is told how many bytes have come.
-pub fn list_records<R: Files, I: Read, P: Progress, W: Write>(
-    rt: &R,
+pub fn list_records<S: System, I: Read, P: Progress, W: Write>(
+    system: &mut S,
     alloc: Global,
     path: &str,
     bounds: Bounds<'_>,
@@ -111,22 +111,20 @@ pub fn list_records<R: Files, I: Read, P: Progress, W: Write>(
     progress: &mut P,
     out: &mut W,
 ) -> Result<Outcome, Fault>
-where
-    R::File: LockFile,
-    ensures { ListsFile R.File.remaining I.remaining input.old bounds.entry form.entry
-        W.contents out.old out.new result }
+    ensures { ByReads (ListsFile (I.remaining input.old) path.now bounds.entry form.entry
+        W.contents out.old out.new result) (S.state system.old) (S.state system.new) }
 {
     let asked = match asked_by(bounds) {
         Ok(asked) => asked,
         Err(fault) => return Err(fault),
     };
-    let told = match form_of(rt, alloc, form, input) {
+    let told = match form_of(system, alloc, form, input) {
         Ok(told) => told,
         Err(fault) => return Err(fault),
     };
-    let bytes = match read_file(rt, alloc, path, progress) {
+    let bytes = match read_counted(system, path, progress) {
         Ok(bytes) => bytes,
-        Err(fault) => return Err(fault),
+        Err(fault) => return Err(not_read(fault)),
     };
     match is_other(alloc, bytes.as_slice(), &told.schema, out) {
         Ok(true) => Ok(Outcome::OtherSchema),

@@ -1,24 +1,23 @@
 //! The check of files, and what is written of them.
 ghost use Rattle.std.specs.Prelude.{◌≡◌, Some, None, IfOk, IfErr};
-ghost use Rattle.std.specs.Option.{IfSome};
 ghost use Rattle.std.specs.Io.KnownBytes.{Appends};
 ghost use Rattle.file_checker.specs.Sound.{IsRight};
 ghost use Rattle.command_outcomes.specs.Status.{status_of};
-ghost use Rattle.file_commands.specs.Front.{GivesSuch, DoesSuch};
-ghost use Rattle.file_commands.specs.Verdicts.{worse_of, paths_of, IsOnFile, ChecksFile, ChecksFiles};
-ghost use Rattle.file_commands.specs.Verdicts.{WritesLine, WritesLineOf, WritesVerdicts};
+ghost use Rattle.recorded_system.specs.Reading.{ByReads};
+ghost use Rattle.file_commands.specs.Front.{GivesSuch, DoesBy};
+ghost use Rattle.file_commands.specs.Verdicts.{verdict_line, worse_of, paths_of, ChecksFile, ChecksFiles};
+ghost use Rattle.file_commands.specs.Verdicts.{WritesLine, WritesLineOf, WritesVerdicts, FindsVerdict};
+ghost use Rattle.file_commands.specs.Verdicts.{WritesFound};
 
-use crate::file_bytes::with_progress;
-use crate::opening::{fault_of, open_shared};
+use crate::file_bytes::{fault_of, read_counted};
 use crate::verdict_lines::{named_line, unread_line, verdict_line};
 use command_outcomes::{Fault, Outcome, WorstCheck};
-use file_checker::{CheckFault, Verdict, check_file};
+use file_checker::{Verdict, check_file};
 use progress::Progress;
+use recorded_system::System;
 use std::alloc::Global;
-use std::fs::OpenFile;
-use std::io::{Read, Write};
-use std::rt::Files;
-use system_files::{Cause, LockFile};
+use std::io::Write;
+use system_files::{Cause, ReadFault};
 
 /// Why there is no verdict on a file.
 #[derive(Clone, Copy)]
@@ -32,53 +31,45 @@ fn fault_by(why: NoVerdict) -> Fault
     ensures { status_of result ≡ 4 }
 {
     match why {
-        NoVerdict::Unread(cause) => fault_of(cause),
+        NoVerdict::Unread(cause) => fault_of(ReadFault::Device(cause)),
         NoVerdict::Memory => Fault::Memory,
     }
 }
 
-/// Checks the file that a reader has.
-fn check<R: Read>(alloc: Global, reader: &mut R) -> Result<Verdict, NoVerdict>
-    ensures right { IfOk result (λ verdict. IfSome (R.remaining reader.old)
-        (λ bytes. IsRight bytes verdict)) }
-{
-    match check_file(alloc, reader) {
-        Ok(verdict) => Ok(verdict),
-        Err(CheckFault::Input) => Err(NoVerdict::Unread(Cause::Device)),
-        Err(CheckFault::Memory) => Err(NoVerdict::Memory),
+/// Why bytes that did not come have no verdict.
+fn not_found(fault: ReadFault) -> NoVerdict {
+    match fault {
+        ReadFault::Device(cause) => NoVerdict::Unread(cause),
+        ReadFault::Memory => NoVerdict::Memory,
     }
 }
 
-/// The verdict on a file. It is told how many bytes have come.
-fn check_all<F: OpenFile + Read + Drop, P: Progress>(
-    alloc: Global,
-    file: F,
-    progress: &mut P,
-) -> Result<Verdict, NoVerdict>
-    ensures right { IfOk result (λ verdict. IfSome (F.remaining file) (λ bytes. IsRight bytes verdict)) }
+/// Checks the file that has these bytes.
+fn check(alloc: Global, bytes: &[u8]) -> Result<Verdict, NoVerdict>
+    ensures right { IfOk result (IsRight bytes.now) }
+    ensures memory { IfErr result (λ why. why ≡ NoVerdict.Memory) }
 {
-    let mut reader = with_progress(file, progress);
-    check(alloc, &mut reader)
+    let mut reader = bytes;
+    // Bytes that are there always come: what may lack is memory.
+    match check_file(alloc, &mut reader) {
+        Ok(verdict) => Ok(verdict),
+        Err(_) => Err(NoVerdict::Memory),
+    }
 }
 
 /// The verdict on the file of a path, as long as no run changes it. It is told how many bytes have come.
-fn verdict_of<R: Files, P: Progress>(
-    rt: &R,
+fn verdict_of<S: System, P: Progress>(
+    system: &mut S,
     alloc: Global,
     path: &str,
     progress: &mut P,
 ) -> Result<Verdict, NoVerdict>
-where
-    R::File: LockFile,
-    ensures right { IfOk result (IsOnFile R.File.remaining) }
+    ensures { ByReads (FindsVerdict path.now result) (S.state system.old) (S.state system.new) }
 {
-    let file = match open_shared(rt, path) {
-        Ok(file) => file,
-        Err(cause) => return Err(NoVerdict::Unread(cause)),
-    };
-    let verdict = check_all(alloc, file, progress);
-    progress.wipe();
-    verdict
+    match read_counted(system, path, progress) {
+        Ok(bytes) => check(alloc, bytes.as_slice()),
+        Err(fault) => Err(not_found(fault)),
+    }
 }
 
 /// Writes a line.
@@ -93,24 +84,32 @@ fn write_line<W: Write>(line: &[u8], out: &mut W) -> Result<(), Fault>
 }
 
 /// Checks the file of a path, as long as no run changes it, and writes the verdict.
-pub fn check_path<R: Files, P: Progress, W: Write>(
-    rt: &R,
+pub fn check_path<S: System, P: Progress, W: Write>(
+    system: &mut S,
     alloc: Global,
     path: &str,
     progress: &mut P,
     out: &mut W,
 ) -> Result<Outcome, Fault>
-where
-    R::File: LockFile,
-    ensures { DoesSuch (ChecksFile R.File.remaining W.contents out.old out.new) result }
+    ensures { ByReads (DoesBy (ChecksFile path.now W.contents out.old out.new) result)
+        (S.state system.old) (S.state system.new) }
 {
-    let verdict = match verdict_of(rt, alloc, path, progress) {
+    let verdict = match verdict_of(system, alloc, path, progress) {
         Ok(verdict) => verdict,
         Err(why) => return Err(fault_by(why)),
     };
+    match write_alone(alloc, verdict, out) {
+        Ok(()) => Ok(Outcome::Checked(verdict)),
+        Err(fault) => Err(fault),
+    }
+}
+
+/// Writes the line of the verdict on a file that is checked alone.
+fn write_alone<W: Write>(alloc: Global, verdict: Verdict, out: &mut W) -> Result<(), Fault>
+    ensures { GivesSuch (λ _. Appends (W.contents out.old) (W.contents out.new) (verdict_line verdict)) result }
+{
     let line = verdict_line(alloc, verdict)?;
-    write_line(line.as_slice(), out)?;
-    Ok(Outcome::Checked(verdict))
+    write_line(line.as_slice(), out)
 }
 
 /// Writes the line of a verdict behind the path of its file.
@@ -135,20 +134,17 @@ fn write_unread<W: Write>(alloc: Global, path: &str, cause: Cause, out: &mut W) 
     write_line(line.as_slice(), out)
 }
 
-/// Checks the file of a path, one of several, and writes its line: the verdict, if there is one.
-fn check_named<R: Files, P: Progress, W: Write>(
-    rt: &R,
+/// Writes the line of one of several files by what is found of it: the verdict, if there is one.
+fn write_found<W: Write>(
     alloc: Global,
     path: &str,
-    progress: &mut P,
+    found: Result<Verdict, NoVerdict>,
     out: &mut W,
 ) -> Result<Option<Verdict>, Fault>
-where
-    R::File: LockFile,
-    ensures { GivesSuch (WritesLineOf (IsOnFile R.File.remaining) path.now (W.contents out.old)
-        (W.contents out.new)) result }
+    ensures { GivesSuch (λ told. WritesFound path.now found (W.contents out.old)
+        (W.contents out.new) told) result }
 {
-    match verdict_of(rt, alloc, path, progress) {
+    match found {
         Ok(verdict) => {
             write_verdict(alloc, path, verdict, out)?;
             Ok(Some(verdict))
@@ -159,6 +155,21 @@ where
         }
         Err(NoVerdict::Memory) => Err(Fault::Memory),
     }
+}
+
+/// Checks the file of a path, one of several, and writes its line: the verdict, if there is one.
+fn check_named<S: System, P: Progress, W: Write>(
+    system: &mut S,
+    alloc: Global,
+    path: &str,
+    progress: &mut P,
+    out: &mut W,
+) -> Result<Option<Verdict>, Fault>
+    ensures { ByReads (λ calls. GivesSuch (WritesLineOf path.now (W.contents out.old)
+        (W.contents out.new) calls) result) (S.state system.old) (S.state system.new) }
+{
+    let found = verdict_of(system, alloc, path, progress);
+    write_found(alloc, path, found, out)
 }
 
 /// What is worst of a file and of others.
@@ -174,43 +185,43 @@ fn worse_of(found: Option<Verdict>, others: WorstCheck) -> WorstCheck
 }
 
 /// Checks the files of paths one after another, and writes a line of each: what is worst of them.
-fn check_files<R: Files, P: Progress, W: Write>(
-    rt: &R,
+fn check_files<S: System, P: Progress, W: Write>(
+    system: &mut S,
     alloc: Global,
     paths: &[&str],
     progress: &mut P,
     out: &mut W,
 ) -> Result<WorstCheck, Fault>
-where
-    R::File: LockFile,
-    ensures { GivesSuch (WritesVerdicts (IsOnFile R.File.remaining) (paths_of paths.now)
-        (W.contents out.old) (W.contents out.new)) result }
+    ensures { ByReads (λ calls. GivesSuch (WritesVerdicts (paths_of paths.now) (W.contents out.old)
+        (W.contents out.new) calls) result) (S.state system.old) (S.state system.new) }
 {
-    match paths.split_first() {
-        None => Ok(WorstCheck::AllSound),
-        Some((first, rest)) => {
-            let found = check_named(rt, alloc, first, progress, out)?;
-            let others = check_files(rt, alloc, rest, progress, out)?;
-            Ok(worse_of(found, others))
-        }
+    let Some((first, rest)) = paths.split_first() else {
+        return Ok(WorstCheck::AllSound);
+    };
+    let found = match check_named(system, alloc, first, progress, out) {
+        Ok(found) => found,
+        Err(fault) => return Err(fault),
+    };
+    match check_files(system, alloc, rest, progress, out) {
+        Ok(others) => Ok(worse_of(found, others)),
+        Err(fault) => Err(fault),
     }
 }
 
 /// Checks the files of several paths, each as long as no run changes it, and writes a line of each
 /// behind its path: the verdict, or why the file cannot be read. Want of memory, or an output that
 /// fails, ends it.
-pub fn check_paths<R: Files, P: Progress, W: Write>(
-    rt: &R,
+pub fn check_paths<S: System, P: Progress, W: Write>(
+    system: &mut S,
     alloc: Global,
     paths: &[&str],
     progress: &mut P,
     out: &mut W,
 ) -> Result<Outcome, Fault>
-where
-    R::File: LockFile,
-    ensures { DoesSuch (ChecksFiles R.File.remaining paths.now W.contents out.old out.new) result }
+    ensures { ByReads (DoesBy (ChecksFiles paths.now W.contents out.old out.new) result)
+        (S.state system.old) (S.state system.new) }
 {
-    match check_files(rt, alloc, paths, progress, out) {
+    match check_files(system, alloc, paths, progress, out) {
         Ok(worst) => Ok(Outcome::CheckedAll(worst)),
         Err(fault) => Err(fault),
     }

@@ -8,4 +8,4 @@ returns-in-Ok-clause-refused c told is =
     let refused : RefusedDeck = record { fault = c.args.fault; diagnosis = c.in-Ok.diagnosis } in
     let same : refused ≡ told = cc in
     subst (IsDeckRefused c.args.bytes.now) same
-    (c.if-fault-eq-MEMORY_CODE.false, c.requires.none c.if-fault-eq-MEMORY_CODE.false, c.in-Ok.ensures)
+    (c.if-fault-eq-MEMORY_CODE.false, c.requires.none c.if-fault-eq-MEMORY_CODE.false, c.in-Ok.ensures.tells)

@@ -1,16 +1,28 @@
-use Rattle.std.proofs.Common.{◌≡◌, ℕ, List, length, Some, ap, subst, ◌∙◌}
-use Rattle.std.specs.Fmt.{option_append}
-use Rattle.file_checker.specs.Sound.{asked_in}
-use Rattle.file_commands.proofs.FrontLemmas.{counted_read}
+use Rattle.std.proofs.Common.{◌≡◌, ◌≢◌, ℕ, List, take, Some, None, IfOk, OnErr, inl, refl, ap, subst, ◌∙◌}
+use Rattle.recorded_system.specs.Calls.{taken_shared}
+use Rattle.recorded_system.proofs.ReadingLemmas.{by_one, by_two}
+use Rattle.file_commands.specs.Front.{asked_by}
+use Rattle.file_commands.proofs.FrontLemmas.{counted_or_changed, not_counted}
 use Rattle.file_commands.proofs.file_bytes.read_counted.Goals as goal
+
+pub returns-in-Err : goal.returns-in-Err
+returns-in-Err g c = by_one _ _ (taken_shared c.args.path.now 4096 None) c.in-Err.ensures.failed tt (record { whole = tt; unread = inl refl })
+
+pub returns-in-Ok-take_shared : goal.returns-in-Ok-take_shared
+returns-in-Ok-take_shared g c =
+    let path = c.args.path.now in
+    let first = c.in-Ok.first.items in
+    let bytes = c.in-Ok-take_shared.bytes.items in
+    let asked = c.asked_by-asked.ensures ∙ ap asked_by c.as_slice.ensures.value in
+    by_two _ _ _ (taken_shared path 4096 (Some first)) (taken_shared path c.asked_by-asked.result (Some bytes)) c.in-Ok.ensures.came c.in-Ok-take_shared.ensures.came tt tt
+    (counted_or_changed path bytes first c.asked_by-asked.result c.require_first.result asked
+    (subst (λ (page : List ℕ). IfOk c.require_first.result (λ whole. (whole.items ≡ bytes) × (take 4096 bytes ≡ page))) c.as_slice-in-Ok-take_shared.ensures.value c.require_first.ensures.same)
+    (subst (λ (page : List ℕ). OnErr c.require_first.result (take 4096 bytes ≢ page)) c.as_slice-in-Ok-take_shared.ensures.value c.require_first.ensures.other))
 
 pub returns : goal.returns
 returns g c =
-    let after = g.R.Read.remaining c.read_front.new.reader in
-    let first = c.in_ok-first.first.items in
-    counted_read (g.R.Read.remaining c.args.reader) after _ first c.in_ok-bytes.bytes.items c.asked_by-asked.result
-    c.in_ok-first.ensures.bytes c.in_ok-first.ensures.taken
-    (c.chain-whole.ensures.bytes ∙ ap (λ (l : List ℕ). option_append (Some l) after) c.as_slice-2.ensures.value)
-    c.asked_by-asked.ensures.least
-    (subst (λ (l : List ℕ). length l ≡ 4096 → c.asked_by-asked.result ≡ asked_in l) c.as_slice.ensures.value c.asked_by-asked.ensures.counted)
-    c.in_ok-bytes.ensures.bytes
+    let path = c.args.path.now in
+    let first = c.in-Ok.first.items in
+    let asked = c.asked_by-asked.ensures ∙ ap asked_by c.as_slice.ensures.value in
+    by_two _ _ _ (taken_shared path 4096 (Some first)) (taken_shared path c.asked_by-asked.result None) c.in-Ok.ensures.came c.in-Err-take_shared.ensures.failed tt tt
+    (not_counted path first c.asked_by-asked.result c.in-Err-take_shared.fault asked)

@@ -1,16 +1,13 @@
-use Rattle.std.proofs.Common.{refl, subst, ◌∙◌}
-use Rattle.std.specs.Io.KnownBytes.{Appends}
+use Rattle.std.proofs.Common.{refl}
+use Rattle.recorded_system.proofs.ReadingLemmas.{by_same}
 use Rattle.file_commands.proofs.verdict.check_path.Goals as goal
 
-pub returns : goal.returns
-returns g c =
-    let before = g.W.Write.contents c.args.out.now in
-    let behind = g.W.Write.contents c.write_line.new.out in
-    record {
-      right = (
-        c.in-Ok.verdict,
-        refl,
-        (c.in-Ok.ensures.right, subst (Appends before behind) (c.as_slice.ensures.value ∙ c.in_ok-line.ensures) c.in_ok-write_line.ensures.written),
-      );
-      fault = tt;
-    }
+pub returns-in-Err : goal.returns-in-Err
+returns-in-Err g c = by_same _ _ c.in-Err.ensures (λ calls found. record { right = tt; fault = c.fault_by.ensures })
+
+pub returns-in-Ok-write_alone : goal.returns-in-Ok-write_alone
+returns-in-Ok-write_alone g c =
+    by_same _ _ c.in-Ok.ensures (λ calls found. record { right = (c.in-Ok.verdict, refl, found.right, c.in-Ok-write_alone.ensures); fault = tt })
+
+pub returns-in-Err-write_alone : goal.returns-in-Err-write_alone
+returns-in-Err-write_alone g c = by_same _ _ c.in-Ok.ensures (λ calls found. record { right = tt; fault = c.in-Err-write_alone.ensures })

@@ -1,0 +1,57 @@
+-- How a list of records ended.
+use Rattle.std.proofs.Common.{◌≡◌, ℕ, List, ◌++◌, Option, Result, Ok, Err, IfOk, IfErr, inl, inr, refl, sym, ap, subst, ◌∙◌}
+use Rattle.record_layout.specs.Schema.{Schema}
+use Rattle.record_listing.specs.declared.asked.Asked.{Asked}
+use Rattle.record_listing.specs.declared.end.ListFault.{ListFault}
+use Rattle.record_forms.specs.declared.form.Form.{Form}
+use Rattle.file_listing.specs.Listing.{EndsIn}
+use Rattle.file_listing.specs.declared.listing.FileList.{FileList}
+use Rattle.command_words.specs.Asks.{form_text}
+use Rattle.command_words.specs.declared.form_words.FormWords.{FormWords}
+use Rattle.recorded_system.specs.Calls.{Call}
+use Rattle.file_commands.specs.Front.{counted_calls}
+use Rattle.file_commands.specs.Forms.{IsFormBy, IsFormRefused}
+use Rattle.file_commands.specs.Records.{AgreesWith, WritesOther, IsAskedBy, ListsAsked, ListsFile, ToldOfList}
+use Rattle.file_commands.specs.declared.listing.Bounds.{Bounds}
+use Rattle.file_commands.proofs.FormLemmas.{form_not_read}
+use Rattle.command_outcomes.specs.Status.{status_of}
+use Rattle.command_outcomes.specs.declared.outcome.Outcome.{Outcome}
+use Rattle.command_outcomes.specs.declared.outcome.Outcome.TheVariants.{OtherSchema}
+use Rattle.command_outcomes.specs.declared.fault.Fault.{Fault}
+use Rattle.command_outcomes.specs.declared.fault.Fault.TheVariants.{LongValue}
+
+module _ {W : Type 0} (input : Option (List ℕ)) (path : List ℕ) (bounds : Bounds) (words : FormWords) (contents : W → Option (List ℕ)) (old : W) where
+  -- a value is too long
+  pub not_asked : (calls : List Call) (fault : Fault) → fault ≡ LongValue → ListsFile input path bounds words contents old old (Err fault) calls
+  not_asked calls fault is = record { records = tt; untouched = λ _. refl; fault = inl is }
+
+  -- the form is refused
+  pub no_form : (calls : List Call) (fault : Fault) → IsFormRefused (form_text words) fault → ListsFile input path bounds words contents old old (Err fault) calls
+  no_form calls fault is = record { records = tt; untouched = λ _. refl; fault = inr is }
+
+  module _ (new : W) where
+    -- the input, the output or memory failed
+    pub broken_off : (calls : List Call) (fault : Fault) → status_of fault ≡ 4 → ListsFile input path bounds words contents old new (Err fault) calls
+    broken_off calls fault four = record { records = tt; untouched = λ other. absurd (other four); fault = inr (form_not_read (form_text words) fault four) }
+
+    module _ (form : Form) (schema : Option Schema) (bytes : List ℕ) (before later : List Call) (formed : IsFormBy before input (form_text words) form schema)
+        (came : later ≡ counted_calls path bytes) where
+      -- the file is of another schema than that of the deck
+      pub other_schema : WritesOther schema bytes (contents old) (contents new) → ListsFile input path bounds words contents old new (Ok OtherSchema) (later ++ before)
+      other_schema written = record {
+        records = (form, schema, before, formed, (bytes, ap (λ (l : List Call). l ++ before) came, written));
+        untouched = tt;
+        fault = tt;
+      }
+
+      -- the list ended
+      pub listed : (asked : Asked) (end : Result FileList ListFault) (result : Result Outcome Fault) → AgreesWith schema bytes → IsAskedBy bounds asked
+          → EndsIn form bytes asked (contents old) (contents new) end → ToldOfList end result → ListsFile input path bounds words contents old new result (later ++ before)
+      listed asked (Ok list) (Ok outcome) agrees is_asked ends told = record {
+        records = subst (ListsAsked input path bounds (form_text words) contents old new (later ++ before)) (sym told.done)
+            (form, schema, before, formed, (bytes, ap (λ (l : List Call). l ++ before) came, (agrees, (asked, is_asked, ends))));
+        untouched = tt;
+        fault = tt;
+      }
+      listed asked (Err fault) (Ok outcome) agrees is_asked ends told = absurd told.there
+      listed asked end (Err fault) agrees is_asked ends told = broken_off (later ++ before) fault told.fault

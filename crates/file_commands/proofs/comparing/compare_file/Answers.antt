@@ -1,0 +1,17 @@
+use Rattle.std.proofs.Common.{subst}
+use Rattle.recorded_system.proofs.ReadingLemmas.{by_same}
+use Rattle.schema_listing.specs.Listing.{read_of_file}
+use Rattle.file_commands.specs.Schema.{ComparesAs}
+use Rattle.file_commands.proofs.SchemaLemmas.{file_told, file_not_read}
+use Rattle.file_commands.proofs.comparing.compare_file.Goals as goal
+
+pub returns-in-Err : goal.returns-in-Err
+returns-in-Err g c = by_same _ _ c.in-Err.ensures (λ calls read. file_not_read c.in-Err.fault read)
+
+pub returns : goal.returns
+returns g c =
+    let before = g.W.Write.contents c.args.out.now in
+    let behind = g.W.Write.contents c.write_differences.new.out in
+    by_same _ _ c.in-Ok.ensures (λ calls call. file_told c.write_differences.result
+    (λ outcome told. (c.in-Ok.bytes.items, call, subst (λ bytes. ComparesAs c.args.deck.now before behind (read_of_file bytes) outcome) c.as_slice.ensures.value told))
+    c.write_differences.ensures)

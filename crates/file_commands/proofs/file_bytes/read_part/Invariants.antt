@@ -1,7 +1,0 @@
-use Rattle.std.specs.Io.KnownBytes.{Keeps}
-use Rattle.std.proofs.Common.{◌≡◌, length}
-use Rattle.file_commands.proofs.file_bytes.read_part.Given as goal
-
--- no byte came so far
-abbrev pub invariant-loop : goal.invariant-loop
-invariant-loop g l = Keeps (g.R.Read.remaining l.initial.reader) (g.R.Read.remaining l.reader) × (length l.part ≡ length l.initial.part)

@@ -1,0 +1,9 @@
+use Rattle.recorded_system.proofs.ReadingLemmas.{by_same}
+use Rattle.file_commands.proofs.VerdictLemmas.{line_of}
+use Rattle.file_commands.proofs.verdict.check_named.Goals as goal
+
+pub returns : goal.returns
+returns g c =
+    let before = g.W.Write.contents c.args.out.now in
+    let behind = g.W.Write.contents c.write_found.new.out in
+    by_same _ _ c.verdict_of-found.ensures (λ calls finds. line_of c.args.path.now before behind calls c.verdict_of-found.result c.write_found.result finds c.write_found.ensures)
