@@ -1,31 +1,43 @@
 -- What was done for words that ask for a list, a schema, a load or a run.
-use Rattle.std.proofs.Common.{◌≡◌, ℕ, Bool, List, Option, Some, None, Result, Ok, Err, IfOk, IfErr, option_map, Bor, inl, inr, refl, sym, subst}
+use Rattle.std.proofs.Common.{◌≡◌, ◌⊎◌, ℕ, Bool, List, [], ◌∷◌, Option, Some, None, Result, Ok, Err, IfOk, IfErr, option_map, Bor, inl, inr, refl, sym, ap, subst}
+use Rattle.std.proofs.lemmas.Result.{IfErr-weaker}
 use Rattle.clap.specs.Words.{Text}
-use Rattle.command_words.specs.Asks.{Ask, AskSchema, AskRun, form_text}
+use Rattle.recorded_system.specs.Calls.{Call}
+use Rattle.clap.specs.declared.error.Error.{Error}
+use Rattle.command_words.specs.Asks.{Ask, AskCheck, AskExplain, AskHelp, AskNothing, AskSchema, AskServe, AskStat, FormText, IfUsage, form_text}
+use Rattle.command_words.specs.declared.fault.WordsFault.{WordsFault}
+use Rattle.command_words.specs.declared.fault.WordsFault.TheVariants.{Usage as NotUnderstood, Memory as NoMemoryForWords}
 use Rattle.command_words.specs.declared.form_words.FormWords.{FormWords}
 use Rattle.command_words.specs.declared.limits.Limits.{Limits}
 use Rattle.command_words.specs.declared.request.Request.TheVariants.{Schema, List as ListRecords, Load}
 use Rattle.file_commands.specs.Forms.{IsFormRefused, IsListRefused}
+use Rattle.file_commands.specs.Listed.{IsListFault}
 use Rattle.file_commands.specs.Records.{ListsAsked}
 use Rattle.file_commands.specs.Schema.{IsSchemaDone, IsSchemaFault}
 use Rattle.file_commands.specs.declared.listing.Bounds.{Bounds}
 use Rattle.file_commands.specs.DeckFile.{IsDeckFault}
+use Rattle.file_commands.specs.Front.{DoesBy}
+use Rattle.file_commands.specs.Verdicts.{ChecksFile}
+use Rattle.file_statistics.specs.declared.listing.FileStatisticsEnd.{FileStatisticsEnd}
 use Rattle.shelf_loading.specs.declared.end.ShelfEnd.{ShelfEnd}
 use Rattle.command_line.specs.LoadForm.{IsLoadFault}
-use Rattle.command_line.specs.Performed.{Begun, Written, CameToEnd, AskForLoad, AskForRecords, AskForSchema, Did}
+use Rattle.command_line.specs.Performed.{AskOfDeck, AskForLoad, AskForRecords, AskForRun, AskForSchema, Did, IsRunOutcome}
+use Rattle.command_outcomes.specs.Status.{status_of}
 use Rattle.command_outcomes.specs.declared.fault.Fault.{Fault}
-use Rattle.command_outcomes.specs.declared.fault.Fault.TheVariants.{Deck, NoSuchFile, Form as NoForm, Input, Output, Memory}
+use Rattle.command_outcomes.specs.declared.fault.Fault.TheVariants.{Deck, NoSuchFile, NotListed, Form as NoForm, Unexplained, Input, Output, Memory}
 use Rattle.command_outcomes.specs.declared.outcome.Outcome.{Outcome}
-use Rattle.command_outcomes.specs.declared.outcome.Outcome.TheVariants.{Ended, SchemaTold, SchemaCompared, SchemaRefused, Records, OtherSchema, Loaded}
+use Rattle.command_outcomes.specs.declared.outcome.Outcome.TheVariants.{Helped, Checked, CheckedAll, Counted, Explained, Ended, Served, SchemaTold, SchemaCompared, SchemaRefused, Records, OtherSchema, Loaded}
+use Rattle.command_outcomes.specs.declared.outcome.WorstCheck.{WorstCheck}
+use Rattle.command_outcomes.specs.Told.{words_told_as}
 
 -- what a request asks for, by its values
 abbrev pub for_schema : (words : List Text) (file : Bor Text) (deck name : Option (Bor Text)) → Ask words (Schema file deck name) → AskForSchema words
 for_schema words file deck name asked =
     record { file = file.now; deck = option_map (λ text. text.now) deck; name = option_map (λ text. text.now) name; asked = asked }
 
-abbrev pub for_records : (words : List Text) (file : Bor Text) (key : ℕ) (from to : Option (Bor Text)) (first : ℕ) (form : FormWords) (quiet : Bool)
-    → Ask words (ListRecords file key from to first form quiet) → AskForRecords words
-for_records words file key from to first form quiet asked = record {
+abbrev pub for_records : (words : List Text) (file : Bor Text) (key : ℕ) (from to : Option (Bor Text)) (first : ℕ) (form : FormWords) (quiet : Bool) (wait : ℕ)
+    → Ask words (ListRecords file key from to first form quiet wait) → AskForRecords words
+for_records words file key from to first form quiet wait asked = record {
   file = file.now;
   key = key;
   from = option_map (λ text. text.now) from;
@@ -33,7 +45,7 @@ for_records words file key from to first form quiet asked = record {
   first = first;
   form = form_text form;
   quiet = quiet;
-  asked = asked;
+  asked = asked.0;
 }
 
 abbrev pub for_load : (words : List Text) (deck folder file text form : Bor Text) (into : Bool) (limits : Limits) (quiet : Bool)
@@ -52,9 +64,9 @@ for_load words deck folder file text form into limits quiet asked = record {
 }
 
 -- the words ask for a list
-module _ (words : List Text) (out : Written) (list : AskForRecords words) where
-  did_refused : (fault : Fault) → IsFormRefused list.form fault → Did words None out (Err fault)
-  did_refused (Deck fault) h = inr (inl (list, h))
+module _ (words : List Text) (list : AskForRecords words) where
+  did_refused : (fault : Fault) → IsFormRefused list.form fault → Did words (Err fault)
+  did_refused (Deck fault) h = inl (inr (inl (list, h)))
   did_refused NoSuchFile h = inr (inl (list, h))
   did_refused (NoForm fault) h = inl (list, h)
   did_refused Input h = tt
@@ -62,23 +74,23 @@ module _ (words : List Text) (out : Written) (list : AskForRecords words) where
   did_refused Memory h = tt
   did_refused fault h = absurd h
 
-  pub did_list : {F I W : Type 0} (remaining : F → Option (List ℕ)) (left : I → Option (List ℕ)) (input : I) (bounds : Bounds) (contents : W → Option (List ℕ)) (old new : W)
-      (result : Result Outcome Fault) → IfOk result (ListsAsked remaining left input bounds list.form contents old new) → IfErr result (IsListRefused list.form) → Did words None out result
-  did_list remaining left input bounds contents old new (Ok (Records end)) done fault = list
-  did_list remaining left input bounds contents old new (Ok OtherSchema) done fault = list
-  did_list remaining left input bounds contents old new (Ok outcome) done fault = absurd done
-  did_list remaining left input bounds contents old new (Err f) done (inl long) = subst (λ (x : Fault). Did words None out (Err x)) (sym long) list
-  did_list remaining left input bounds contents old new (Err f) done (inr refused) = did_refused f refused
+  pub did_list : {W : Type 0} (input : Option (List ℕ)) (path : List ℕ) (bounds : Bounds) (contents : W → Option (List ℕ)) (old new : W) (calls : List Call) (result : Result Outcome Fault)
+      → IfOk result (ListsAsked input path bounds list.form contents old new calls) → IfErr result (IsListRefused list.form) → Did words result
+  did_list input path bounds contents old new calls (Ok (Records end)) done fault = list
+  did_list input path bounds contents old new calls (Ok OtherSchema) done fault = list
+  did_list input path bounds contents old new calls (Ok outcome) done fault = absurd done
+  did_list input path bounds contents old new calls (Err f) done (inl long) = subst (λ (x : Fault). Did words (Err x)) (sym long) list
+  did_list input path bounds contents old new calls (Err f) done (inr refused) = did_refused f refused
 
 -- the words ask for a schema
-module _ (words : List Text) (out : Written) (schema : AskForSchema words) where
-  pub did_schema : (result : Result Outcome Fault) → IfOk result (IsSchemaDone schema.deck schema.name) → IfErr result (IsSchemaFault schema.deck schema.name) → Did words None out result
+module _ (words : List Text) (schema : AskForSchema words) where
+  pub did_schema : (result : Result Outcome Fault) → IfOk result (IsSchemaDone schema.deck schema.name) → IfErr result (IsSchemaFault schema.deck schema.name) → Did words result
   did_schema (Ok SchemaTold) done fault =
       (schema.file, subst (λ (deck : Option Text). AskSchema words schema.file deck None) done.0 (subst (λ (name : Option Text). AskSchema words schema.file schema.deck name) done.1 schema.asked))
   did_schema (Ok (SchemaCompared told)) done fault = (schema, done)
   did_schema (Ok (SchemaRefused refusal)) done fault = schema
   did_schema (Ok outcome) done fault = absurd done
-  did_schema (Err (Deck fault)) done h = inr (inr (schema, h))
+  did_schema (Err (Deck fault)) done h = inl (inr (inr (schema, h)))
   did_schema (Err NoSuchFile) done h = inr (inr (schema, h))
   did_schema (Err (NoForm fault)) done h = inr (inl (schema, h.0, h.1))
   did_schema (Err Input) done h = tt
@@ -87,28 +99,86 @@ module _ (words : List Text) (out : Written) (schema : AskForSchema words) where
   did_schema (Err fault) done h = absurd h
 
 -- the words ask for a load
-module _ (words : List Text) (out : Written) (load : AskForLoad words) where
-  load_refused : (fault : Fault) → IsDeckFault fault → Did words None out (Err fault)
-  load_refused (Deck fault) h = inl load
+module _ (words : List Text) (load : AskForLoad words) where
+  load_refused : (fault : Fault) → IsDeckFault fault → Did words (Err fault)
+  load_refused (Deck fault) h = inl (inl load)
   load_refused NoSuchFile h = inl load
   load_refused Input h = tt
   load_refused Output h = tt
   load_refused Memory h = tt
   load_refused fault h = absurd h
 
-  pub did_load : (P : ShelfEnd → Type 0) (result : Result Outcome Fault) → IfOk result (λ outcome. (end : ShelfEnd) × (outcome ≡ Loaded end) × P end) → IfErr result (IsLoadFault load.form) → Did words None out result
-  did_load P (Ok outcome) done fault = subst (λ (o : Outcome). Did words None out (Ok o)) (sym done.1) load
-  did_load P (Err f) done (inl none) = subst (λ (x : Fault). Did words None out (Err x)) (sym none.0) (inr (inr (load, refl, none.1)))
-  did_load P (Err f) done (inr refused) = load_refused f refused
+  pub did_load : (result : Result Outcome Fault) → IfOk result (λ outcome. (end : ShelfEnd) × (outcome ≡ Loaded end)) → IfErr result (IsLoadFault load.form) → Did words result
+  did_load (Ok outcome) done fault = subst (λ (o : Outcome). Did words (Ok o)) (sym done.1) load
+  did_load (Err f) done (inl none) = subst (λ (x : Fault). Did words (Err x)) (sym none.0) (inr (inr (load, refl, none.1)))
+  did_load (Err f) done (inr refused) = load_refused f refused
 
 -- the words ask for a run
-module _ (words : List Text) (deck folder : Text) (pages frames : ℕ) (strict : Bool) (asked : AskRun words deck folder pages frames strict) where
-  pub did_run : (run : Option Begun) (out : Written) (result : Result Outcome Fault) → CameToEnd folder pages frames run out result → Did words run out result
-  did_run (Some run) out (Ok (Ended end)) came = record { deck = deck; folder = folder; pages = pages; frames = frames; strict = strict; asked = asked; came = came.0 }
-  did_run (Some run) out (Ok outcome) came = absurd came.1
-  did_run (Some run) out (Err fault) came = record { deck = deck; folder = folder; pages = pages; frames = frames; strict = strict; asked = asked; came = came.0 }
-  did_run None out (Ok outcome) came = absurd came
-  did_run None out (Err Input) came = tt
-  did_run None out (Err Output) came = tt
-  did_run None out (Err Memory) came = tt
-  did_run None out (Err fault) came = absurd (cc)
+module _ (words : List Text) (run : AskForRun words) where
+  pub did_run : (result : Result Outcome Fault) → IsRunOutcome result → Did words result
+  did_run (Ok (Ended end)) told = run
+  did_run (Ok outcome) told = absurd told
+  did_run (Err (Deck fault)) told = inr run
+  did_run (Err Output) told = tt
+  did_run (Err Memory) told = tt
+  did_run (Err fault) told = absurd told
+
+-- the input, the output or memory may fail for any words
+pub did_fail : (words : List Text) (fault : Fault) → status_of fault ≡ 4 → Did words (Err fault)
+did_fail words Input is = tt
+did_fail words Output is = tt
+did_fail words Memory is = tt
+did_fail words fault is = absurd (cc)
+
+-- this was done, or the input, the output or memory failed
+module _ (words : List Text) where
+  pub did_done : (done : Outcome) → Did words (Ok done) → (result : Result Outcome Fault) → IfOk result (λ outcome. outcome ≡ done) → IfErr result (λ fault. status_of fault ≡ 4) → Did words result
+  did_done done asked (Ok outcome) is four = subst (λ (o : Outcome). Did words (Ok o)) (sym is) asked
+  did_done done asked (Err fault) is four = did_fail words fault four
+
+  pub did_help : (text : Error) → AskHelp words text → (result : Result Outcome Fault) → IfOk result (λ outcome. outcome ≡ Helped) → IfErr result (λ fault. fault ≡ Output) → Did words result
+  did_help text asked result is output = did_done Helped (text, asked) result is (IfErr-weaker result (λ fault. fault ≡ Output) (λ fault. status_of fault ≡ 4) (λ fault same. ap status_of same) output)
+
+  pub did_explain : (kind number : Text) → AskExplain words kind number → (result : Result Outcome Fault) → IfOk result (λ outcome. outcome ≡ Explained)
+      → IfErr result (λ fault. (fault ≡ Unexplained) ⊎ (fault ≡ Output)) → Did words result
+  did_explain kind number asked (Ok outcome) is fault = subst (λ (o : Outcome). Did words (Ok o)) (sym is) (kind, number, asked)
+  did_explain kind number asked (Err f) is (inl none) = subst (λ (x : Fault). Did words (Err x)) (sym none) (kind, number, asked)
+  did_explain kind number asked (Err f) is (inr output) = did_fail words f (ap status_of output)
+
+  -- so of what is done by calls
+  pub did_check : {W : Type 0} (file : Text) (quiet : Bool) → AskCheck words (file ∷ []) quiet → (contents : W → Option (List ℕ)) (old new : W) (calls : List Call) (result : Result Outcome Fault)
+      → DoesBy (ChecksFile file contents old new) result calls → Did words result
+  did_check file quiet asked contents old new calls (Ok outcome) does = subst (λ (o : Outcome). Did words (Ok o)) (sym does.right.1) (file, quiet, asked)
+  did_check file quiet asked contents old new calls (Err fault) does = did_fail words fault does.fault
+
+  pub did_checks : (files : List Text) (quiet : Bool) → AskCheck words files quiet → (P : WorstCheck → Type 0) (result : Result Outcome Fault)
+      → IfOk result (λ outcome. (worst : WorstCheck) × (outcome ≡ CheckedAll worst) × P worst) → IfErr result (λ fault. status_of fault ≡ 4) → Did words result
+  did_checks files quiet asked P (Ok outcome) is four = subst (λ (o : Outcome). Did words (Ok o)) (sym is.1) (files, quiet, asked)
+  did_checks files quiet asked P (Err fault) is four = did_fail words fault four
+
+  pub did_count : (path : Text) → AskStat words path → (P : FileStatisticsEnd → Type 0) (result : Result Outcome Fault)
+      → IfOk result (λ outcome. (end : FileStatisticsEnd) × (outcome ≡ Counted end) × P end) → IfErr result (λ fault. status_of fault ≡ 4) → Did words result
+  did_count path asked P (Ok outcome) is four = subst (λ (o : Outcome). Did words (Ok o)) (sym is.1) (path, asked)
+  did_count path asked P (Err fault) is four = did_fail words fault four
+
+  -- a deck was told, or is refused
+  deck_refused : AskOfDeck words → (fault : Fault) → IsListFault fault → Did words (Err fault)
+  deck_refused asked (NotListed refused) is = asked
+  deck_refused asked Input is = tt
+  deck_refused asked Output is = tt
+  deck_refused asked Memory is = tt
+  deck_refused asked fault is = absurd is
+
+  pub did_deck : AskOfDeck words → (done : Outcome) → Did words (Ok done) → (result : Result Outcome Fault) → IfOk result (λ outcome. outcome ≡ done) → IfErr result IsListFault → Did words result
+  did_deck asked done so (Ok outcome) is fault = subst (λ (o : Outcome). Did words (Ok o)) (sym is) so
+  did_deck asked done so (Err f) is fault = deck_refused asked f fault
+
+  -- requests were answered, or why not
+  pub served_did : (folder : Text) (pages frames : ℕ) → AskServe words folder pages frames → (outcome : Result Outcome Fault) → IfOk outcome (λ done. done ≡ Served)
+      → IfErr outcome (λ fault. status_of fault ≡ 4) → Did words outcome
+  served_did folder pages frames asked outcome is four = did_done Served (folder, pages, frames, asked) outcome is four
+
+  -- the words are refused
+  pub did_refuse : (fault : WordsFault) → IfUsage (AskNothing words) fault → Did words (Err (words_told_as fault))
+  did_refuse (NotUnderstood text) asked = asked text refl
+  did_refuse NoMemoryForWords asked = tt

@@ -1,21 +1,11 @@
 -- A folder before the first call on it.
-use Rattle.std.proofs.Common.{◌≡◌, ℕ, List, [], ◌∷◌, map, String, string_bytes, refl, subst}
-use Rattle.std.specs.Global.{Global}
-use Rattle.arrayvec.specs.ArrayString.{ArrayString}
+use Rattle.std.proofs.Common.{◌≡◌, ℕ, List, [], ◌∷◌, refl, subst}
 use Rattle.page_store.specs.ShelfState.{ShelfState}
 use Rattle.recorded_system.specs.Calls.{Call, entered}
 use Rattle.recorded_system.specs.SystemState.{SystemState}
 use Rattle.folder_shelf.specs.Replay.{Unseen, folder_state}
 use Rattle.shelf_run.specs.ShelfRun.{LeavesFiles, StaysSound}
 use Rattle.command_line.specs.Folder.{folder_at_first}
-
--- what is known of a system, by the parts of one that has a runtime
-abbrev pub system_by : (folder : String Global) → (names : List ArrayString) → List Call → SystemState
-system_by folder names calls = record {
-  folder = string_bytes folder;
-  names = map (λ name. name.bytes) names;
-  calls = calls;
-}
 
 -- a folder was entered in a system that was asked nothing yet
 module _ (disk : Unseen) (path : List ℕ) (calls : List Call) (system : SystemState) (enters : system ≡ record { folder = path; names = []; calls = entered path ∷ calls }) (no_calls : calls ≡ []) where

@@ -1,7 +1,11 @@
 -- What a load leaves of the folder that it is over, and what it reads.
-use Rattle.std.proofs.Common.{◌≡◌, ℕ, Bool, List, [], ◌∷◌, Option, Result, Ok, Err, IfOk, IfErr, codes, subst}
+use Rattle.std.proofs.Common.{◌≡◌, ◌≢◌, ◌⊎◌, ℕ, Bool, List, [], ◌∷◌, ◌++◌, Option, Result, Ok, Err, IfOk, IfErr, codes, inl, inr, refl, sym, ap, ◌∙◌, subst}
+use Rattle.std.proofs.lemmas.Result.{IfErr-weaker}
+use Rattle.std.specs.Prelude.{⊤}
 use Rattle.recorded_system.specs.Calls.{Call, entered}
+use Rattle.recorded_system.specs.Reading.{ByReads}
 use Rattle.recorded_system.specs.SystemState.{SystemState}
+use Rattle.recorded_system.proofs.ReadingLemmas.{by_both}
 use Rattle.folder_shelf.specs.Replay.{Unseen, folder_state}
 use Rattle.page_store.specs.ShelfState.{ShelfState}
 use Rattle.record_layout.specs.Schema.{Schema}
@@ -10,12 +14,19 @@ use Rattle.record_loading.specs.Loading.{Listing}
 use Rattle.record_loading.specs.declared.end.Load.{Load}
 use Rattle.shelf_loading.specs.Loaded.{EndsLoad, KeepsOtherNames, IsSafeLoad}
 use Rattle.shelf_loading.specs.declared.end.ShelfEnd.{ShelfEnd}
+use Rattle.command_line.specs.CallsMade.{CallsMade, BeginsNothing, folder_behind}
 use Rattle.command_line.specs.Folder.{folder_at_first}
-use Rattle.file_commands.specs.Front.{IsTextOf, IsTextNamed, GivesSuch}
-use Rattle.command_line.specs.Loaded.{LoadsFolder, LoadsDeck}
+use Rattle.system_files.specs.Front.{IsTextRead}
+use Rattle.file_commands.specs.DeckFile.{IsDeckFault}
+use Rattle.file_commands.specs.Front.{IsDeckNamed, IsTextNamed, longest_line}
+use Rattle.file_commands.proofs.DeckLemmas.{not_there}
+use Rattle.command_line.specs.LoadForm.{IsLoadFault}
+use Rattle.command_line.specs.Loaded.{LoadsFolder, LoadsDeck, TellsLoad, IsShelfFault, ComesOfLoad, BeginsLoad, BeginsLoadOfDeck}
 use Rattle.command_line.proofs.FolderLemmas.{untouched}
 use Rattle.command_outcomes.specs.Status.{status_of}
 use Rattle.command_outcomes.specs.declared.fault.Fault.{Fault}
+use Rattle.command_outcomes.specs.declared.outcome.Outcome.{Outcome}
+use Rattle.command_outcomes.specs.declared.outcome.Outcome.TheVariants.{Loaded as LoadEnded}
 
 -- a load over the folder of a path, which was entered in a system that was asked nothing yet
 module _ (disk : Unseen) (path : List ℕ) (calls : List Call) (at_first : SystemState) (enters : at_first ≡ record { folder = path; names = []; calls = entered path ∷ calls }) (no_calls : calls ≡ [])
@@ -30,18 +41,18 @@ module _ (disk : Unseen) (path : List ℕ) (calls : List Call) (at_first : Syste
   from_first : (IsSo : ShelfState → ShelfState → Type 0) → IsSo first last → IsSo (folder_at_first disk path) last
   from_first IsSo = subst (λ (old : ShelfState). IsSo old last) (untouched disk path calls at_first enters no_calls)
 
-  pub load_ended : (end : ShelfEnd) → EndsLoad name schema load list first end last → KeepsOtherNames name first last → IsSafeLoad name first last → LoadsFolder disk path name schema load list (Ok end)
+  pub load_ended : (end : ShelfEnd) → EndsLoad name schema load list first end last → KeepsOtherNames name first last → IsSafeLoad name first last
+      → LoadsFolder disk path name schema load list system (Ok end)
   load_ended end ends others safe = record {
-    system = system;
     ends = from_first (λ old new. EndsLoad name schema load list old end new) ends;
     nothing = tt;
     others = from_first (KeepsOtherNames name) others;
     safe = from_first (IsSafeLoad name) safe;
   }
 
-  pub load_failed : (fault : Fault) → LeavesFiles first last → KeepsOtherNames name first last → IsSafeLoad name first last → LoadsFolder disk path name schema load list (Err fault)
+  pub load_failed : (fault : Fault) → LeavesFiles first last → KeepsOtherNames name first last → IsSafeLoad name first last
+      → LoadsFolder disk path name schema load list system (Err fault)
   load_failed fault nothing others safe = record {
-    system = system;
     ends = tt;
     nothing = from_first LeavesFiles nothing;
     others = from_first (KeepsOtherNames name) others;
@@ -51,18 +62,19 @@ module _ (disk : Unseen) (path : List ℕ) (calls : List Call) (at_first : Syste
 -- ---- the text of a load
 
 -- what is read of the input behind the deck is what it had at first, where it is not both the deck and the text
-pub text_at_first : {F : Type 0} (remaining : F → Option (List ℕ)) (old new : Option (List ℕ)) (deck path text : List ℕ)
-    → ((deck ≡ codes "-" → ⊥) → new ≡ old) → (deck ≡ codes "-" → path ≡ codes "-" → ⊥) → IsTextNamed remaining new path text → IsTextNamed remaining old path text
-text_at_first remaining old new deck path text unread other is = record {
+pub text_at_first : (reads : List Call) (old new : Option (List ℕ)) (deck path text : List ℕ)
+    → ((deck ≡ codes "-" → ⊥) → new ≡ old) → (deck ≡ codes "-" → path ≡ codes "-" → ⊥) → IsTextNamed reads new path text → IsTextNamed reads old path text
+text_at_first reads old new deck path text unread other is = record {
   of_input = λ hyphen.
-      subst (λ (input : Option (List ℕ)). IsTextOf input text)
+      subst (λ (input : Option (List ℕ)). IsTextRead longest_line input text × (reads ≡ []))
       (unread (λ both. other both hyphen)) (is.of_input hyphen);
   of_file = is.of_file;
 }
 
 -- what else is known of the text of a load
-pub loads_as : {A B : List ℕ → Type 0} {disk : Unseen} {bytes folder name word : List ℕ} {into : Bool} {before behind : Option (List ℕ)} {end : ShelfEnd}
-    → ((text : List ℕ) → A text → B text) → LoadsDeck disk A bytes folder name word into before behind end → LoadsDeck disk B bytes folder name word into before behind end
+pub loads_as : {A B : List ℕ → Type 0} {disk : Unseen} {system : SystemState} {bytes folder name word : List ℕ} {into : Bool} {before behind : Option (List ℕ)} {outcome : Result Outcome Fault}
+    → ((text : List ℕ) → A text → B text) → LoadsDeck disk system A bytes folder name word into before behind outcome
+    → LoadsDeck disk system B bytes folder name word into before behind outcome
 loads_as so known = record {
   deck = known.deck;
   is_deck = known.is_deck;
@@ -72,16 +84,83 @@ loads_as so known = record {
   is_form = known.is_form;
   text = known.text;
   is_text = so known.text known.is_text;
+  end = known.end;
   loads = known.loads;
   told = known.told;
 }
 
--- ---- what was given, or the input, the output or memory failed
+-- ---- what is told of a load
 
-pub such_if_ok : {X : Type 0} (IsSo : X → Type 0) (result : Result X Fault) → GivesSuch IsSo result → IfOk result IsSo
-such_if_ok IsSo (Ok x) such = such
-such_if_ok IsSo (Err fault) such = tt
+-- a fault that is told is of the output, the input or memory
+pub told_fault : (end : Result ShelfEnd Fault) (before behind : Option (List ℕ)) (outcome : Result Outcome Fault) → TellsLoad end before behind outcome → IfErr outcome (λ fault. status_of fault ≡ 4)
+told_fault (Ok end) before behind outcome (inl told) = subst (λ (o : Result Outcome Fault). IfErr o (λ fault. status_of fault ≡ 4)) (sym told.0) tt
+told_fault (Ok end) before behind outcome (inr told) = subst (λ (o : Result Outcome Fault). IfErr o (λ fault. status_of fault ≡ 4)) (sym told) refl
+told_fault (Err fault) before behind outcome told =
+    subst (λ (o : Result Outcome Fault). IfErr o (λ f. status_of f ≡ 4)) (sym told.0) (elim told.1 [ inl input ↦ ap status_of input | inr memory ↦ ap status_of memory ])
 
-pub failed_if_err : {X : Type 0} (IsSo : X → Type 0) (result : Result X Fault) → GivesSuch IsSo result → IfErr result (λ fault. status_of fault ≡ 4)
-failed_if_err IsSo (Ok x) such = tt
-failed_if_err IsSo (Err fault) such = such
+-- and what was done is a load
+pub told_end : (end : Result ShelfEnd Fault) (before behind : Option (List ℕ)) (outcome : Result Outcome Fault) → TellsLoad end before behind outcome
+    → IfOk outcome (λ o. (e : ShelfEnd) × (o ≡ LoadEnded e))
+told_end (Ok end) before behind outcome (inl told) = subst (λ (o : Result Outcome Fault). IfOk o (λ o. (e : ShelfEnd) × (o ≡ LoadEnded e))) (sym told.0) (end, refl)
+told_end (Ok end) before behind outcome (inr told) = subst (λ (o : Result Outcome Fault). IfOk o (λ o. (e : ShelfEnd) × (o ≡ LoadEnded e))) (sym told) tt
+told_end (Err fault) before behind outcome told = subst (λ (o : Result Outcome Fault). IfOk o (λ o. (e : ShelfEnd) × (o ≡ LoadEnded e))) (sym told.0) tt
+
+-- so it is of a load that was begun or not
+pub load_done : {W : Type 0} (old : SystemState) (made : CallsMade) (out out_after : W) (outcome : Result Outcome Fault) (IsBegun : Type 0)
+    → BeginsNothing old made out out_after outcome ⊎ IsBegun → (IsBegun → IfOk outcome (λ o. (e : ShelfEnd) × (o ≡ LoadEnded e))) → IfOk outcome (λ o. (e : ShelfEnd) × (o ≡ LoadEnded e))
+load_done old made out out_after outcome IsBegun (inl none) so = subst (λ (o : Result Outcome Fault). IfOk o (λ o. (e : ShelfEnd) × (o ≡ LoadEnded e))) (sym none.told) tt
+load_done old made out out_after outcome IsBegun (inr is) so = so is
+
+-- a fault of this status is one of a file of a deck
+pub deck_fault : (outcome : Result Outcome Fault) → IfErr outcome (λ fault. status_of fault ≡ 4) → IfErr outcome IsDeckFault
+deck_fault outcome four = IfErr-weaker outcome (λ fault. status_of fault ≡ 4) IsDeckFault not_there four
+
+-- and nothing is said of what was written then
+pub untouched_unless : (A : Type 0) (outcome : Result Outcome Fault) → IfErr outcome (λ fault. status_of fault ≡ 4) → IfErr outcome (λ fault. status_of fault ≢ 4 → A)
+untouched_unless A outcome four = IfErr-weaker outcome (λ fault. status_of fault ≡ 4) (λ fault. status_of fault ≢ 4 → A) (λ fault is other. absurd (other is)) four
+
+-- ---- a load of the bytes of a deck is one of the deck
+
+-- a fault came before a folder was entered, after other reads
+pub begins_nothing_after : {W : Type 0} (old between : SystemState) (made : CallsMade) (out out_after : W) (outcome : Result Outcome Fault) → ByReads (λ _. ⊤) old between
+    → BeginsNothing between made out out_after outcome → BeginsNothing old made out out_after outcome
+begins_nothing_after old between made out out_after outcome first none = record {
+  none_aside = none.none_aside;
+  reads = by_both old between made.system first none.reads (λ calls later so also. tt);
+  unwritten = none.unwritten;
+  fault = none.fault;
+  told = none.told;
+}
+
+module _ {W : Type 0} (old between : SystemState) (made : CallsMade) (at_first behind_deck : Option (List ℕ)) (deck folder file text form : List ℕ) (into : Bool) (disk : Unseen) (before behind : Option (List ℕ))
+    (out out_after : W) (outcome : Result Outcome Fault) (bytes : List ℕ) (reads : List Call) (is_deck : IsDeckNamed reads at_first deck bytes)
+    (noted : between.calls ≡ folder_behind folder reads old.calls) (first : ByReads (λ _. ⊤) old between)
+    (unread : (deck ≡ codes "-" → ⊥) → behind_deck ≡ at_first) (not_both : deck ≡ codes "-" → text ≡ codes "-" → ⊥) where
+  abbrev IsOfBytes : List Call → Type 0
+  IsOfBytes base = BeginsLoad base behind_deck bytes folder file text form into disk made before behind outcome
+
+  abbrev IsOfDeck : Type 0
+  IsOfDeck = BeginsLoadOfDeck old.calls at_first deck folder file text form into disk made before behind outcome
+
+  of_deck : IsOfBytes between.calls → IsOfDeck
+  of_deck is = (
+    bytes,
+    reads,
+    is_deck,
+    (
+      is.0,
+      is.1 ∙ ap (λ (base : List Call). is.0 ++ base) noted,
+      loads_as (λ (t : List ℕ). text_at_first is.0 at_first behind_deck deck text t unread not_both) is.2,
+    ),
+  )
+
+  came_of_deck : BeginsNothing between made out out_after outcome ⊎ IsOfBytes between.calls → BeginsNothing old made out out_after outcome ⊎ IsOfDeck
+  came_of_deck (inl none) = inl (begins_nothing_after old between made out out_after outcome first none)
+  came_of_deck (inr is) = inr (of_deck is)
+
+  pub load_of_deck : ComesOfLoad (IsOfBytes between.calls) IsDeckFault between made out out_after outcome → ComesOfLoad IsOfDeck (IsLoadFault form) old made out out_after outcome
+  load_of_deck comes = record {
+    came = came_of_deck comes.came;
+    untouched = comes.untouched;
+    fault = IfErr-weaker outcome IsDeckFault (IsLoadFault form) (λ fault is. inr is) comes.fault;
+  }

@@ -1,73 +1,90 @@
 -- What an outcome is right of, by what is known of the command that gave it.
-use Rattle.std.proofs.Common.{◌≡◌, ℕ, Bool, List, Option, Some, None, Result, Ok, Err, Bor, sym, subst, refl}
+use Rattle.std.proofs.Common.{◌≡◌, ℕ, Bool, List, [], ◌∷◌, Option, Some, None, Result, Ok, Err, Bor, map, sym, subst, refl}
 use Rattle.std.specs.Prelude.{IfOk}
 use Rattle.clap.specs.Words.{Text}
-use Rattle.file_control.specs.Description.{FileDesc}
-use Rattle.schema_listing.specs.Listing.{read_of_file}
+use Rattle.recorded_system.specs.Calls.{Call}
 use Rattle.schema_listing.specs.declared.comparing.Comparison.{Comparison}
-use Rattle.file_commands.specs.DeckFile.{IsDeckFile}
-use Rattle.file_commands.specs.Front.{OfOpenedFile}
-use Rattle.folder_shelf.specs.Replay.{Unseen}
-use Rattle.command_words.specs.Asks.{Ask, form_text}
+use Rattle.command_words.specs.Asks.{Ask, AskCheck, AskCobol, AskDeck, AskExplain, AskStat, form_text}
 use Rattle.command_words.specs.declared.form_words.FormWords.{FormWords}
 use Rattle.command_words.specs.declared.request.Request.TheVariants.{List as ListRecords}
+use Rattle.explanations.specs.Tables.{explanation}
+use Rattle.file_commands.specs.Counted.{CountsFileAt}
+use Rattle.file_commands.specs.Front.{DoesBy, IsDeckNamed}
+use Rattle.file_commands.specs.Listed.{TellsDeck, WritesList, WritesCobol}
 use Rattle.file_commands.specs.Records.{ListsAsked}
-use Rattle.file_commands.specs.Schema.{TellsAs, ComparesAs, IsOfSchema, IsSchemaDone}
-use Rattle.command_line.specs.Performed.{Begun, Written, CameToEnd, AskForSchema, wrote}
-use Rattle.command_line.specs.Right.{Given, given_by, AreOfDeck, IsRightOf}
+use Rattle.file_commands.specs.Schema.{TellsAsked, ComparesAsked, IsOfSchema, IsSchemaDone}
+use Rattle.file_commands.specs.Verdicts.{ChecksFile, WritesVerdicts}
+use Rattle.file_checker.specs.declared.verdict.Verdict.{Verdict}
+use Rattle.file_statistics.specs.declared.listing.FileStatisticsEnd.{FileStatisticsEnd}
+use Rattle.command_line.specs.Explained.{WritesExplanation}
+use Rattle.command_line.specs.Performed.{AskForSchema}
+use Rattle.command_line.specs.Right.{IsRightOf}
 use Rattle.command_line.proofs.DidLemmas.{for_records}
 use Rattle.command_outcomes.specs.declared.fault.Fault.{Fault}
 use Rattle.command_outcomes.specs.declared.outcome.Outcome.{Outcome}
-use Rattle.command_outcomes.specs.declared.outcome.Outcome.TheVariants.{Ended, SchemaTold, SchemaCompared, SchemaRefused, Records, OtherSchema}
+use Rattle.command_outcomes.specs.declared.outcome.Outcome.TheVariants.{Helped, Checked, CheckedAll, SchemaTold, SchemaCompared, SchemaRefused, Explained, Listed, Records, OtherSchema, InCobol, Counted}
+use Rattle.command_outcomes.specs.declared.outcome.WorstCheck.{WorstCheck}
 
-module _ {File : Type 0} (given : Given File) (words : List Text) (out : Written) where
-  abbrev IsRight : Outcome → Type 0
-  IsRight = IsRightOf given words out
+module _ {W : Type 0} (words : List Text) (calls : List Call) (input : Option (List ℕ)) (contents : W → Option (List ℕ)) (old new : W) where
+  abbrev pub IsRight : Outcome → Type 0
+  IsRight = IsRightOf words calls input contents old new
 
-  -- this was done
-  pub right_done : (done : Outcome) (result : Result Outcome Fault) → IfOk result (λ outcome. outcome ≡ done) → IsRight done → IfOk result IsRight
-  right_done done (Ok outcome) is right = subst IsRight (sym is) right
-  right_done done (Err fault) is right = tt
+  -- help was written
+  pub right_help : (result : Result Outcome Fault) → IfOk result (λ outcome. outcome ≡ Helped) → IfOk result IsRight
+  right_help (Ok outcome) is = subst IsRight (sym is) tt
+  right_help (Err fault) is = tt
 
-  -- this was done, and this is known of it
-  pub right_as : {A : Type 0} (done : Outcome) (result : Result Outcome Fault) → IfOk result (λ outcome. outcome ≡ done) → IfOk result (λ _. A) → (A → IsRight done)
-      → IfOk result IsRight
-  right_as done (Ok outcome) is known so = subst IsRight (sym is) (so known)
-  right_as done (Err fault) is known so = tt
+  -- a number was explained
+  pub right_explained : (kind number : Text) → AskExplain words kind number → (result : Result Outcome Fault) → IfOk result (λ outcome. outcome ≡ Explained)
+      → IfOk result (λ _. WritesExplanation (explanation kind number) (contents old) (contents new)) → IfOk result IsRight
+  right_explained kind number asked (Ok outcome) is text = subst IsRight (sym is) (kind, number, asked, text)
+  right_explained kind number asked (Err fault) is text = tt
 
-  -- of this it is told how it ended
-  pub right_by : {A : Type 0} (done : A → Outcome) (P : A → Type 0) (result : Result Outcome Fault) → IfOk result (λ outcome. (end : A) × (outcome ≡ done end) × P end)
-      → ((end : A) → P end → IsRight (done end)) → IfOk result IsRight
-  right_by done P (Ok outcome) known so = subst IsRight (sym known.1) (so known.0 known.2)
-  right_by done P (Err fault) known so = tt
+  -- a file was checked
+  pub right_check : (file : Text) (quiet : Bool) → AskCheck words (file ∷ []) quiet → (result : Result Outcome Fault) → DoesBy (ChecksFile file contents old new) result calls → IfOk result IsRight
+  right_check file quiet asked (Ok outcome) does = let done = does.right in
+      subst IsRight (sym done.1) (file, quiet, asked, subst (λ (o : Outcome). ChecksFile file contents old new calls o) done.1 done)
+  right_check file quiet asked (Err fault) does = tt
+
+  -- files were checked
+  pub right_checks : (files : List Text) (quiet : Bool) → AskCheck words files quiet → (result : Result Outcome Fault)
+      → IfOk result (λ outcome. (worst : WorstCheck) × (outcome ≡ CheckedAll worst) × WritesVerdicts files (contents old) (contents new) calls worst) → IfOk result IsRight
+  right_checks files quiet asked (Ok outcome) done = subst IsRight (sym done.1) (files, quiet, asked, done.2)
+  right_checks files quiet asked (Err fault) done = tt
+
+  -- the pages of a file were counted
+  pub right_count : (path : Text) → AskStat words path → (result : Result Outcome Fault) → DoesBy (CountsFileAt path contents old new) result calls → IfOk result IsRight
+  right_count path asked (Ok outcome) does = let done = does.right in
+      subst IsRight (sym done.1) (path, asked, subst (λ (o : Outcome). CountsFileAt path contents old new calls o) done.1 done)
+  right_count path asked (Err fault) does = tt
+
+  -- a deck was listed, or written in COBOL
+  pub right_listed : (deck : Text) → AskDeck words deck → (result : Result Outcome Fault)
+      → TellsDeck (IsDeckNamed calls input deck) (λ bytes. WritesList bytes (contents old) (contents new)) Listed old new result → IfOk result IsRight
+  right_listed deck asked (Ok outcome) told = subst IsRight (sym told.done) (deck, asked, told.written)
+  right_listed deck asked (Err fault) told = tt
+
+  pub right_cobol : (deck : Text) (fixed : Bool) → AskCobol words deck fixed → (result : Result Outcome Fault)
+      → TellsDeck (IsDeckNamed calls input deck) (λ bytes. WritesCobol bytes fixed (contents old) (contents new)) InCobol old new result → IfOk result IsRight
+  right_cobol deck fixed asked (Ok outcome) told = subst IsRight (sym told.done) (deck, fixed, asked, told.written)
+  right_cobol deck fixed asked (Err fault) told = tt
 
   -- a schema was told, compared or refused
   pub right_schema : (schema : AskForSchema words) (result : Result Outcome Fault)
-      → IfOk result (λ outcome. IsOfSchema outcome → OfOpenedFile given.of_file (λ bytes. TellsAs out.before out.behind (read_of_file bytes) outcome))
-      → IfOk result (λ outcome. (told : Comparison) → outcome ≡ SchemaCompared told → (described : FileDesc) × IsDeckFile (AreOfDeck given) schema.deck schema.name described
-      × OfOpenedFile given.of_file (λ bytes. ComparesAs described.schema out.before out.behind (read_of_file bytes) outcome))
+      → IfOk result (λ outcome. IsOfSchema outcome → TellsAsked input schema.file schema.deck contents old new calls outcome)
+      → IfOk result (ComparesAsked input schema.file schema.deck schema.name contents old new calls)
       → IfOk result (IsSchemaDone schema.deck schema.name) → IfOk result IsRight
-  right_schema schema (Ok SchemaTold) told compared done = told tt
-  right_schema schema (Ok (SchemaRefused refusal)) told compared done = told tt
-  right_schema schema (Ok (SchemaCompared comparison)) told compared done = let is = compared comparison refl in (schema, is.0, is.1, is.2)
+  right_schema schema (Ok SchemaTold) told compared done = (schema, told tt)
+  right_schema schema (Ok (SchemaRefused refusal)) told compared done = (schema, told tt)
+  right_schema schema (Ok (SchemaCompared comparison)) told compared done = (schema, compared)
   right_schema schema (Ok outcome) told compared done = absurd done
   right_schema schema (Err fault) told compared done = tt
 
-  -- a run came to its end, or was not begun
-  pub right_run : (folder : List ℕ) (limit frames : ℕ) (run : Option Begun) (written : Written) (result : Result Outcome Fault) → CameToEnd folder limit frames run written result
-      → IfOk result IsRight
-  right_run folder limit frames (Some run) written (Ok (Ended end)) came = tt
-  right_run folder limit frames (Some run) written (Ok outcome) came = absurd came.1
-  right_run folder limit frames (Some run) written (Err fault) came = tt
-  right_run folder limit frames None written (Ok outcome) came = absurd came
-  right_run folder limit frames None written (Err fault) came = tt
-
--- the records of a file were listed, or it is of another schema
-module _ {F I W : Type 0} (remaining : F → Option (List ℕ)) (left : I → Option (List ℕ)) (input : I) (unseen : Unseen) (words : List Text) (contents : W → Option (List ℕ)) (old new : W)
-    (file : Bor Text) (key : ℕ) (from to : Option (Bor Text)) (first : ℕ) (form : FormWords) (quiet : Bool) (asked : Ask words (ListRecords file key from to first form quiet)) where
-  pub right_list : (result : Result Outcome Fault) → IfOk result (ListsAsked remaining left input (record { key = key; from = from; to = to; first = first }) (form_text form) contents old new)
-      → IfOk result (IsRightOf (given_by remaining (left input) unseen) words (wrote contents old new))
-  right_list (Ok (Records end)) is = (for_records words file key from to first form quiet asked, is.0, is.1, is.2, is.3)
-  right_list (Ok OtherSchema) is = (for_records words file key from to first form quiet asked, is.0, is.1, is.2, is.3)
-  right_list (Ok outcome) is = absurd is
-  right_list (Err fault) is = tt
+  -- the records of a file were listed, or it is of another schema
+  pub right_list : (file : Bor Text) (key : ℕ) (from to : Option (Bor Text)) (first : ℕ) (form : FormWords) (quiet : Bool) (wait : ℕ)
+      → Ask words (ListRecords file key from to first form quiet wait) → (result : Result Outcome Fault)
+      → IfOk result (ListsAsked input file.now (record { key = key; from = from; to = to; first = first }) (form_text form) contents old new calls) → IfOk result IsRight
+  right_list file key from to first form quiet wait asked (Ok (Records end)) is = (for_records words file key from to first form quiet wait asked, is)
+  right_list file key from to first form quiet wait asked (Ok OtherSchema) is = (for_records words file key from to first form quiet wait asked, is)
+  right_list file key from to first form quiet wait asked (Ok outcome) is = absurd is
+  right_list file key from to first form quiet wait asked (Err fault) is = tt

@@ -1,5 +1,5 @@
 -- Which numbers are exit statuses of outcomes, also where a strict run heeds its lines.
-use Rattle.std.proofs.Common.{◌≡◌, ◌≢◌, ◌⊎◌, ◌≤◌, ℕ, zero, suc, Bool, true, false, ◌&&◌, if◌then◌else◌, List, Result, Ok, Err, IfErr, inl, inr, refl, sym, ◌∙◌, arith}
+use Rattle.std.proofs.Common.{◌≡◌, ◌≢◌, ◌⊎◌, ◌≤◌, ℕ, zero, suc, nat_lt, Bool, true, false, ◌&&◌, if◌then◌else◌, List, Result, Ok, Err, IfErr, inl, inr, refl, sym, ◌∙◌, arith}
 use Rattle.file_checker.specs.declared.verdict.Verdict.{Verdict}
 use Rattle.file_checker.specs.declared.verdict.Verdict.TheVariants.{Sound, Unsound}
 use Rattle.file_listing.specs.declared.listing.FileList.{FileList}
@@ -19,7 +19,7 @@ use Rattle.command_outcomes.specs.declared.outcome.Outcome.{Outcome}
 use Rattle.command_outcomes.specs.declared.outcome.Outcome.TheVariants as outcomes
 use Rattle.command_outcomes.specs.declared.outcome.WorstCheck.{WorstCheck}
 use Rattle.command_outcomes.specs.declared.outcome.WorstCheck.TheVariants as worst
-use Rattle.command_line.specs.Answered.{is_ended, status_heeding}
+use Rattle.command_line.specs.Answered.{is_ended, is_served, status_heeding}
 
 -- what was done has one of the first two exit statuses, part by part
 low_where : (b : Bool) → status_where b ≤ 1
@@ -110,8 +110,14 @@ one_or : (fails : Bool) (n : ℕ) → IsExitStatus n → IsExitStatus (if fails 
 one_or true n is = inr (inl refl)
 one_or false n is = is
 
-pub heeding_is : (strict : Bool) (bytes : List ℕ) (outcome : Result Outcome Fault) → IsExitStatus (status_heeding strict bytes outcome)
-heeding_is strict bytes outcome = one_or (strict && is_ended outcome && has_failed_line bytes) (exit_status outcome) (exit_is outcome)
+four_or : (fails : Bool) (n : ℕ) → IsExitStatus n → IsExitStatus (if fails then 4 else n)
+four_or true n is = inr (inr (inr (inr refl)))
+four_or false n is = is
+
+pub heeding_is : (strict : Bool) (unclosed : ℕ) (bytes : List ℕ) (outcome : Result Outcome Fault) → IsExitStatus (status_heeding strict unclosed bytes outcome)
+heeding_is strict unclosed bytes outcome =
+    one_or (strict && is_ended outcome && has_failed_line bytes) _
+    (four_or (is_served outcome && nat_lt 0 unclosed) (exit_status outcome) (exit_is outcome))
 
 -- a status of 2 or 3 is that of a fault that is neither of the input, of the output, nor of memory
 by_fault : (P : Type 0) (outcome : Result Outcome Fault) → IfErr outcome (λ fault. status_of fault ≢ 4 → P) → (exit_status outcome ≡ 2) ⊎ (exit_status outcome ≡ 3) → P
@@ -125,7 +131,14 @@ not_one true n (inl two) = absurd (omega (arith, two))
 not_one true n (inr three) = absurd (omega (arith, three))
 not_one false n either = either
 
-pub untouched_by : (P : Type 0) (strict : Bool) (bytes : List ℕ) (outcome : Result Outcome Fault) → IfErr outcome (λ fault. status_of fault ≢ 4 → P) → (status : ℕ) → status ≡ status_heeding strict bytes outcome → (status ≡ 2) ⊎ (status ≡ 3) → P
-untouched_by P strict bytes outcome kept status is either =
-    let heeded : (status_heeding strict bytes outcome ≡ 2) ⊎ (status_heeding strict bytes outcome ≡ 3) = elim either [ inl two ↦ inl (sym is ∙ two) | inr three ↦ inr (sym is ∙ three) ] in
-    by_fault P outcome kept (not_one (strict && is_ended outcome && has_failed_line bytes) (exit_status outcome) heeded)
+not_four : (fails : Bool) (n : ℕ) → ((if fails then 4 else n) ≡ 2) ⊎ ((if fails then 4 else n) ≡ 3) → (n ≡ 2) ⊎ (n ≡ 3)
+not_four true n (inl two) = absurd (omega (arith, two))
+not_four true n (inr three) = absurd (omega (arith, three))
+not_four false n either = either
+
+pub untouched_by : (P : Type 0) (strict : Bool) (unclosed : ℕ) (bytes : List ℕ) (outcome : Result Outcome Fault) → IfErr outcome (λ fault. status_of fault ≢ 4 → P) → (status : ℕ)
+    → status ≡ status_heeding strict unclosed bytes outcome → (status ≡ 2) ⊎ (status ≡ 3) → P
+untouched_by P strict unclosed bytes outcome kept status is either =
+    let heeded : (status_heeding strict unclosed bytes outcome ≡ 2) ⊎ (status_heeding strict unclosed bytes outcome ≡ 3) = elim either [ inl two ↦ inl (sym is ∙ two) | inr three ↦ inr (sym is ∙ three) ] in
+    by_fault P outcome kept (not_four (is_served outcome && nat_lt 0 unclosed) (exit_status outcome)
+    (not_one (strict && is_ended outcome && has_failed_line bytes) (if is_served outcome && nat_lt 0 unclosed then 4 else exit_status outcome) heeded))

@@ -1,57 +1,82 @@
 -- What the program answers to the words of its command line. All of this is ours.
-use Rattle.std.specs.Prelude.{◌≡◌, ℕ, Bool, true, false, ◌&&◌, if◌then◌else◌, List, Option, Some, None, Result, Ok}
-use Rattle.std.specs.Prelude.{String}
-use Rattle.std.specs.Global.{Global}
-use Rattle.recorded_system.specs.declared.system.System.{Ghosts as Systems}
+use Rattle.std.specs.Prelude.{◌≡◌, ◌⊎◌, ℕ, nat_lt, Bool, true, false, ◌&&◌, if◌then◌else◌, List}
+use Rattle.std.specs.Prelude.{Option, Some, None, Result, Ok}
+use Rattle.clap.specs.Words.{Text}
 use Rattle.page_store.specs.declared.shelf.Shelf.{Ghosts}
 use Rattle.folder_shelf.specs.Replay.{Unseen}
-use Rattle.folder_shelf.specs.declared.disk.Disk.{Ghosts as Disks}
 use Rattle.standard_input.specs.declared.standard_input.StandardInput.{StandardInput}
 use Rattle.standard_output.specs.LineEnds.{has_failed_line}
 use Rattle.standard_output.specs.Writes.{taken_by}
 use Rattle.standard_output.specs.declared.standard_output.StandardOutput.{StandardOutput}
-use Rattle.command_line.specs.AskedSession.{ServedFor}
-use Rattle.command_line.specs.Performed.{begun_by, wrote, DidFor}
-use Rattle.command_line.specs.Right.{RightIfOk}
-use Rattle.command_line.specs.declared.transcript.Ran.{Ran}
+use Rattle.command_line.specs.AskedSession.{ServedAsAsked}
+use Rattle.command_line.specs.CallsMade.{CallsMade, streams_first}
+use Rattle.command_line.specs.Loaded.{BeginsLoadOfDeck}
+use Rattle.command_line.specs.Performed.{wrote, Did, RanAsAsked, AskForLoad}
+use Rattle.command_line.specs.Right.{ReadsAlone}
+use Rattle.command_line.specs.Session.{streams_of}
+use Rattle.command_line.specs.declared.done.Done.{Done}
+use Rattle.command_line.specs.declared.done.Ran.{Ran}
 use Rattle.command_outcomes.specs.Status.{exit_status}
 use Rattle.command_outcomes.specs.declared.fault.Fault.{Fault}
 use Rattle.command_outcomes.specs.declared.outcome.Outcome.{Outcome}
-use Rattle.command_outcomes.specs.declared.outcome.Outcome.TheVariants.{Ended}
+use Rattle.command_outcomes.specs.declared.outcome.Outcome.TheVariants.{Ended, Served}
 
 -- whether a run ended
 abbrev pub is_ended : Result Outcome Fault → Bool
 is_ended (Ok (Ended end)) = true
 is_ended outcome = false
 
+-- whether the requests of a session ended with its input
+abbrev pub is_served : Result Outcome Fault → Bool
+is_served (Ok Served) = true
+is_served outcome = false
+
 -- the exit status of an outcome; but of a strict run that ended, 1 where the bytes that were written
--- have a line that ends in 24, 30, 90, 91 or 92
-abbrev pub status_heeding : (strict : Bool) → List ℕ → Result Outcome Fault → ℕ
-status_heeding strict bytes outcome =
-    if strict && is_ended outcome && has_failed_line bytes then 1 else exit_status outcome
+-- have a line that ends in 24, 30, 90, 91 or 92, and of a session that ended with its input, 4 where a
+-- close at its end failed
+abbrev pub status_heeding : (strict : Bool) → (unclosed : ℕ) → List ℕ → Result Outcome Fault → ℕ
+status_heeding strict unclosed bytes outcome =
+    if strict && is_ended outcome && has_failed_line bytes then 1
+    else (if is_served outcome && nat_lt 0 unclosed then 4 else exit_status outcome)
 
 -- what standard output took, as its writes were answered
 abbrev pub taken : {W : Type 0} → StandardOutput W → Option (List ℕ)
 taken out = Some (taken_by out.calls.writes)
 
--- a run has these types as parameters, and their ghost members
-module _ {S D : Type 0} {systems : Systems S} {disks : Disks D} where
-  -- whether a run that was begun is strict
-  abbrev pub is_strict : Option (Ran S D systems disks) → Bool
-  is_strict (Some ran) = ran.strict
-  is_strict None = false
+-- whether a run that was begun is strict
+abbrev pub is_strict : Option Ran → Bool
+is_strict (Some ran) = ran.strict
+is_strict None = false
 
-  -- the exit status, which is answered with the run that was begun, is that of an outcome, by the lines
-  -- that were written where the run is strict: this was done for the words, where they ask for a session
-  -- it came to that, and the outcome is right of what was read and written
-  pub record AnswersWords
-      {X File I W : Type 0} (shelf : Ghosts X) (keeps_open : X → ℕ → Bool) (remaining : File → Option (List ℕ)) (disk : Unseen)
-      (words : List (String Global)) (left : I → Option (List ℕ)) (input input_after : StandardInput I)
-      (out out_after : StandardOutput W)
-      (answer : ℕ × Option (Ran S D systems disks)) : Type 0 where
-    pub outcome : Result Outcome Fault
-    pub status_is : answer.0
-        ≡ status_heeding (is_strict answer.1) (taken_by out_after.calls.writes) outcome
-    pub did : DidFor words (begun_by disk answer.1) (wrote taken out out_after) outcome
-    pub session : ServedFor shelf keeps_open disk words left taken input input_after out out_after outcome
-    pub right : RightIfOk remaining left input disk words taken out out_after outcome
+-- the words ask for a load, and this one was begun
+abbrev pub LoadedAsAsked : (words : List Text) → (input : Option (List ℕ)) → Unseen → CallsMade
+    → (before behind : Option (List ℕ)) → Result Outcome Fault → Type 0
+LoadedAsAsked words input disk made before behind outcome = (load : AskForLoad words)
+    × BeginsLoadOfDeck streams_first input load.deck load.folder load.file load.text load.form load.into
+    disk made before behind outcome
+
+-- for the words the program came to this, by these calls: no folder was entered, and only reads were made;
+-- or the run, the session or the load was begun that the words ask for
+abbrev pub CameFor : {X I W : Type 0} → (shelf : Ghosts X) → (X → ℕ → Bool) → Unseen
+    → (words : List Text) → CallsMade → (I → Option (List ℕ)) → (W → Option (List ℕ))
+    → (input input_after : StandardInput I) → (out out_after : W) → Done → Type 0
+CameFor shelf keeps_open disk words made left contents input input_after out out_after done =
+    ReadsAlone words (left input.reader) made contents out out_after done.outcome
+    ⊎ ((ran : Ran) × (done.ran ≡ Some ran) × RanAsAsked words (left input.reader)
+    disk made (wrote contents out out_after) ran.strict done.outcome)
+    ⊎ ServedAsAsked shelf keeps_open words disk made
+    (streams_of left contents input input_after out out_after) done.unclosed done.outcome
+    ⊎ LoadedAsAsked words (left input.reader) disk made (contents out)
+    (contents out_after) done.outcome
+
+-- the exit status is that of an outcome, by the lines that were written where the run is strict, and by the
+-- closes at the end of a session; for the words it came to that outcome, by these calls
+pub record AnswersWords
+    {X I W : Type 0} (shelf : Ghosts X) (keeps_open : X → ℕ → Bool) (disk : Unseen)
+    (words : List Text) (made : CallsMade) (left : I → Option (List ℕ))
+    (input input_after : StandardInput I) (out out_after : StandardOutput W) (status : ℕ) : Type 0 where
+  pub done : Done
+  pub status_is : status
+      ≡ status_heeding (is_strict done.ran) done.unclosed (taken_by out_after.calls.writes) done.outcome
+  pub did : Did words done.outcome
+  pub came : CameFor shelf keeps_open disk words made left taken input input_after out out_after done

@@ -1,16 +1,20 @@
 -- What became of words that ask for a session. All of this is ours.
-use Rattle.std.specs.Prelude.{◌≡◌, ◌⊎◌, ℕ, Bool, List, map, Option, Result, Ok, Err, String, string_bytes}
-use Rattle.std.specs.Global.{Global}
+use Rattle.std.specs.Prelude.{◌≡◌, ◌⊎◌, ℕ, Bool, List, [], ◌∷◌, Option, Result, Ok, Err}
 use Rattle.clap.specs.Words.{Text}
 use Rattle.page_store.specs.declared.shelf.Shelf.{Ghosts}
+use Rattle.recorded_system.specs.Calls.{Call, entered}
+use Rattle.recorded_system.specs.SystemState.{SystemState}
 use Rattle.folder_shelf.specs.Replay.{Unseen}
 use Rattle.indexed_file.specs.Shown.{Shown}
 use Rattle.standard_input.specs.declared.standard_input.StandardInput.{StandardInput}
 use Rattle.command_words.specs.Asks.{AskServe}
 use Rattle.command_words.specs.declared.limits.Limits.{Limits}
 use Rattle.serve.specs.Serving.{Streams}
-use Rattle.command_line.specs.Session.{shown_over, keeps_over, IsNewOver, streams_of, ServedOver}
+use Rattle.command_line.specs.CallsMade.{CallsMade, BeginsNothing, folder_behind, streams_first}
+use Rattle.command_line.specs.Session.{shown_over, keeps_over, IsNewOver, IsLeftIn, streams_of, ServedOver}
+use Rattle.command_line.specs.declared.session.ServedEnd.{ServedEnd}
 use Rattle.command_outcomes.specs.declared.fault.Fault.{Fault}
+use Rattle.command_outcomes.specs.declared.fault.Fault.TheVariants.{Memory}
 use Rattle.command_outcomes.specs.declared.outcome.Outcome.{Outcome}
 use Rattle.command_outcomes.specs.declared.outcome.Outcome.TheVariants.{Served}
 
@@ -19,51 +23,51 @@ abbrev pub outcome_of_end : Result Unit Fault → Result Outcome Fault
 outcome_of_end (Ok _) = Ok Served
 outcome_of_end (Err fault) = Err fault
 
--- a fault came before the first request: nothing was read, and nothing written
-pub record EndsUnbegun (s : Streams) (outcome : Result Outcome Fault) : Type 0 where
+-- memory was wanted before the first request: nothing was read, nothing written, and nothing asked in the
+-- folder
+pub record EndsUnread (s : Streams) (folder : List ℕ) (system : SystemState) (session : ServedEnd) : Type 0 where
+  pub memory : session.requests ≡ Err Memory
   pub unread : s.input_after ≡ s.input
   pub unwritten : s.output_after ≡ s.output
-  pub fault : Fault
-  pub told : outcome ≡ Err fault
+  pub unasked : system.calls ≡ entered folder ∷ []
 
--- the requests were answered over one library that was new at first, and how that ended is what was
--- done
-pub record EndsRequests {S : Type 0} (shown : Shown S) (keeps_open : S → ℕ → Bool) (IsNew : S → Type 0)
-    (s : Streams) (outcome : Result Outcome Fault) : Type 0 where
+-- the requests were answered over one library that was new at first
+pub record EndsRequests {S : Type 0} (shown : Shown S) (keeps_open : S → ℕ → Bool) (IsNew IsLeft : S → Type 0)
+    (s : Streams) (session : ServedEnd) : Type 0 where
   pub start : S
   pub is_new : IsNew start
-  pub end : Result Unit Fault
-  pub served : ServedOver shown keeps_open start s end
-  pub told : outcome ≡ outcome_of_end end
+  pub served : ServedOver shown keeps_open start s IsLeft session
 
--- one of the two, over a library that is new
-abbrev pub CameToServe : {S : Type 0} → Shown S → (keeps_open : S → ℕ → Bool) → (IsNew : S → Type 0) → Streams
+-- a session was begun, behind what was asked before: it was told that the folder is one, and the session
+-- came to this, which is what was done
+pub record BeginsSession {X : Type 0} (base : List Call) (shelf : Ghosts X) (keeps_open : X → ℕ → Bool)
+    (disk : Unseen) (made : CallsMade) (folder : List ℕ) (pages frames : ℕ) (s : Streams) (unclosed : ℕ)
+    (outcome : Result Outcome Fault) : Type 0 where
+  pub before : made.before ≡ folder_behind folder [] base
+  pub session : ServedEnd
+  pub came : EndsUnread s folder made.system session
+      ⊎ EndsRequests (shown_over shelf) (keeps_over shelf keeps_open) (IsNewOver shelf disk folder pages frames)
+      (IsLeftIn shelf disk made.system) s session
+  pub unclosed_are : unclosed ≡ session.unclosed
+  pub told : outcome ≡ outcome_of_end session.requests
+
+-- a session was begun so; or none was, and nothing was read of the input
+abbrev pub ComesOfSession : {X I W : Type 0} → (old : SystemState) → (shelf : Ghosts X) → (X → ℕ → Bool)
+    → Unseen → CallsMade → (folder : List ℕ) → Limits → (I → Option (List ℕ)) → (W → Option (List ℕ))
+    → (input input_after : StandardInput I) → (out out_after : W) → (unclosed : ℕ)
     → Result Outcome Fault → Type 0
-CameToServe shown keeps_open IsNew s outcome = EndsUnbegun s outcome
-    ⊎ EndsRequests shown keeps_open IsNew s outcome
+ComesOfSession old shelf keeps_open disk made folder limits left contents input input_after out out_after
+    unclosed outcome =
+    (BeginsNothing old made out out_after outcome × (input_after ≡ input))
+    ⊎ BeginsSession old.calls shelf keeps_open disk made folder limits.pages limits.frames.value
+    (streams_of left contents input input_after out out_after) unclosed outcome
 
--- so of a session over the folder of this path
-abbrev pub EndsAt : {X I W : Type 0} → (shelf : Ghosts X) → (X → ℕ → Bool) → Unseen
-    → (path : List ℕ) → Limits → (I → Option (List ℕ)) → (W → Option (List ℕ))
-    → (input input_after : StandardInput I) → (out out_after : W) → Result Outcome Fault → Type 0
-EndsAt shelf keeps_open disk path limits left contents input input_after out out_after outcome =
-    CameToServe (shown_over shelf) (keeps_over shelf keeps_open)
-    (IsNewOver shelf disk path limits.pages limits.frames.value)
-    (streams_of left contents input input_after out out_after) outcome
-
--- where the words ask for a session, it came to this over the folder that they name, with their
--- limit of pages and number of frames: a library that is new is over these
-abbrev pub ServedAsAsked : {S : Type 0} → Shown S → (keeps_open : S → ℕ → Bool)
-    → (IsNew : (folder : List ℕ) (pages frames : ℕ) → S → Type 0) → List Text → Streams
-    → Result Outcome Fault → Type 0
-ServedAsAsked shown keeps_open IsNew words s outcome =
-    (folder : Text) (pages frames : ℕ) → AskServe words folder pages frames
-    → CameToServe shown keeps_open (IsNew folder pages frames) s outcome
-
--- so of the words of a command line
-abbrev pub ServedFor : {X I W : Type 0} → (shelf : Ghosts X) → (X → ℕ → Bool) → Unseen
-    → (words : List (String Global)) → (I → Option (List ℕ)) → (W → Option (List ℕ))
-    → (input input_after : StandardInput I) → (out out_after : W) → Result Outcome Fault → Type 0
-ServedFor shelf keeps_open disk words left contents input input_after out out_after outcome =
-    ServedAsAsked (shown_over shelf) (keeps_over shelf keeps_open) (IsNewOver shelf disk)
-    (map string_bytes words) (streams_of left contents input input_after out out_after) outcome
+-- the words ask for a session, and this one was begun, over the folder that they name, with their limit of
+-- pages and number of frames
+pub record ServedAsAsked {X : Type 0} (shelf : Ghosts X) (keeps_open : X → ℕ → Bool) (words : List Text)
+    (disk : Unseen) (made : CallsMade) (s : Streams) (unclosed : ℕ) (outcome : Result Outcome Fault) : Type 0 where
+  pub folder : Text
+  pub pages : ℕ
+  pub frames : ℕ
+  pub asks : AskServe words folder pages frames
+  pub session : BeginsSession streams_first shelf keeps_open disk made folder pages frames s unclosed outcome

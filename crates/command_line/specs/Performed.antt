@@ -1,13 +1,14 @@
 -- What the program did for the words of its command line. All of this is ours.
-use Rattle.std.specs.Prelude.{◌≡◌, ◌≢◌, ◌⊎◌, ℕ, Bool, true, List, [], ◌∷◌, map, Option, Some, None}
-use Rattle.std.specs.Prelude.{option_map, Result, Ok, Err, IfOk, ⊤, String, string_bytes}
-use Rattle.std.specs.Global.{Global}
-use Rattle.recorded_system.specs.declared.system.System.{Ghosts as Systems}
+use Rattle.std.specs.Prelude.{◌≡◌, ◌≢◌, ◌⊎◌, ℕ, Bool, true, List, [], ◌∷◌, Option, Some, None}
+use Rattle.std.specs.Prelude.{Result, Ok, Err, IfOk, IfErr, ⊤, String, string_bytes}
+use Rattle.std.specs.Global.{Global, Vec}
+use Rattle.recorded_system.specs.Calls.{Call, asked_of_folder}
+use Rattle.recorded_system.specs.Reading.{ByReads}
 use Rattle.clap.specs.Words.{Text}
 use Rattle.clap.specs.declared.error.Error.{Error}
-use Rattle.recorded_system.specs.SystemState.{SystemState}
+use Rattle.recorded_system.specs.SystemState.{SystemState, with_call}
+use Rattle.folder_shelf.specs.FailedCalls.{failed_calls}
 use Rattle.folder_shelf.specs.Replay.{Unseen}
-use Rattle.folder_shelf.specs.declared.disk.Disk.{Ghosts as Disks}
 use Rattle.deck_words.specs.declared.fault.DeckFault.{DeckFault}
 use Rattle.deck_runner.specs.DeckRun.{IsNoDeck}
 use Rattle.deck_runner.specs.RunEnd.{TellsLines, ToldInPart}
@@ -17,13 +18,15 @@ use Rattle.shelf_run.specs.ExactRun.{IsExactRun}
 use Rattle.command_words.specs.Asks.{FormText, AskRun, AskCheck, AskServe, AskSchema, AskExplain, AskDeck}
 use Rattle.command_words.specs.Asks.{AskList, AskCobol, AskLoad, AskStat, AskHelp, AskNothing}
 use Rattle.command_words.specs.declared.limits.Limits.{Limits}
+use Rattle.command_line.specs.CallsMade.{CallsMade, BeginsNothing, folder_behind, streams_first}
 use Rattle.command_line.specs.Folder.{OverFolder}
+use Rattle.command_line.specs.Transcript.{IsRunFault}
 use Rattle.command_line.specs.LoadForm.{IsNoFormWord}
 use Rattle.file_commands.specs.DeckFile.{IsDeckAsked, IsHalf}
 use Rattle.file_commands.specs.Forms.{HasFormFault}
 use Rattle.file_commands.specs.Front.{IsDeckNamed}
 use Rattle.standard_input.specs.declared.standard_input.StandardInput.{StandardInput}
-use Rattle.command_line.specs.declared.transcript.Ran.{Ran}
+use Rattle.command_line.specs.declared.done.Ran.{Ran}
 use Rattle.command_outcomes.specs.Status.{status_of}
 use Rattle.command_outcomes.specs.declared.form_fault.FormFault.{FormFault}
 use Rattle.command_outcomes.specs.declared.form_fault.FormFault.TheVariants.{Kind, HalfDeck}
@@ -38,38 +41,30 @@ use Rattle.command_outcomes.specs.declared.outcome.Outcome.TheVariants.{SchemaRe
 use Rattle.command_outcomes.specs.declared.outcome.Outcome.TheVariants.{CheckedAll, Records, InCobol, Loaded}
 use Rattle.command_outcomes.specs.declared.outcome.Outcome.TheVariants.{Counted, OtherSchema}
 
--- a run that was begun: the bytes of its deck, and what the system was asked and answered
+-- a run over a folder: the bytes of its deck, and the system since the folder was entered
 pub record Begun : Type 0 where
   pub bytes : List ℕ
   pub disk : Unseen
   pub system : SystemState
-  pub faults : ℕ
 
 -- the same, by its parts
-abbrev pub begun : Unseen → List ℕ → SystemState → ℕ → Begun
-begun disk bytes system faults = record {
-  bytes = bytes;
-  disk = disk;
-  system = system;
-  faults = faults;
-}
+abbrev pub begun : Unseen → List ℕ → SystemState → Begun
+begun disk bytes system = record { bytes = bytes; disk = disk; system = system }
 
--- a run has these types as parameters, and their ghost members
-module _ {S D : Type 0} {systems : Systems S} {disks : Disks D} where
-  -- the run that was given back, if one was begun
-  abbrev pub begun_by : Unseen → Option (Ran S D systems disks) → Option Begun
-  begun_by disk = option_map (λ ran.
-      begun disk ran.bytes.items (systems.state ran.shelf.system) ran.shelf.faults)
+-- how often a call on a file failed in it
+abbrev pub faults_in : Begun → ℕ
+faults_in run = failed_calls run.system.calls
 
 -- how a run ended, as what was done
 abbrev pub outcome_of : Result RunEnd Fault → Result Outcome Fault
 outcome_of (Ok end) = Ok (Ended end)
 outcome_of (Err fault) = Err fault
 
--- the end of a run
-abbrev pub IsEnd : Outcome → Type 0
-IsEnd (Ended end) = ⊤
-IsEnd outcome = ⊥
+-- the end of a run, or why it came to none
+abbrev pub IsRunOutcome : Result Outcome Fault → Type 0
+IsRunOutcome (Ok (Ended end)) = ⊤
+IsRunOutcome (Ok outcome) = ⊥
+IsRunOutcome (Err fault) = IsRunFault fault
 
 -- what was written before and after it
 pub record Written : Type 0 where
@@ -93,52 +88,73 @@ pub record CameTo (folder : List ℕ) (limit frames : ℕ) (run : Begun) (out : 
       (λ first last. IsExactRun run.bytes first last out.before out.behind end)
   pub whole : (end : RunEnd) → outcome ≡ Ok (Ended end)
       → OverFolder run.disk folder run.system (λ first last. OnShelf run.bytes first last (λ deck.
-      TellsLines out.before out.behind end (Runs limit frames first last 0 run.faults deck)))
+      TellsLines out.before out.behind end (Runs limit frames first last 0 (faults_in run) deck)))
   pub part : outcome ≡ Err Output
       → OverFolder run.disk folder run.system (λ first last. OnShelf run.bytes first last (λ deck.
-      ToldInPart out.before out.behind (BreaksOff limit frames first last 0 run.faults deck)))
+      ToldInPart out.before out.behind (BreaksOff limit frames first last 0 (faults_in run) deck)))
   pub nothing : (fault : Fault) → outcome ≡ Err fault → fault ≢ Output
       → (out.behind ≡ out.before) × OverFolder run.disk folder run.system LeavesFiles
   pub refused : (fault : DeckFault) → outcome ≡ Err (Deck fault) → IsNoDeck run.bytes fault
   pub sound : OverFolder run.disk folder run.system StaysSound
 
--- a run came to its end or to a fault, or was not begun since a file, a folder or memory was wanting
-abbrev pub CameToEnd : (folder : List ℕ) (limit frames : ℕ) → Option Begun → Written → Result Outcome Fault
-    → Type 0
-CameToEnd folder limit frames (Some run) out outcome =
-    CameTo folder limit frames run out outcome × IfOk outcome IsEnd
-CameToEnd folder limit frames None out (Ok outcome) = ⊥
-CameToEnd folder limit frames None out (Err fault) = status_of fault ≡ 4
+-- the path was read of a folder, which it was told to be; or it was not, and nothing but that was asked
+pub record ReadsFolder (path : List ℕ) (old new : SystemState) (result : Result (String Global) Fault)
+    : Type 0 where
+  pub given : IfOk result (λ found. (string_bytes found ≡ path)
+      × (new ≡ with_call (asked_of_folder path (Some true)) old))
+  pub reads : ByReads (λ _. ⊤) old new
+  pub fault : IfErr result (λ fault. status_of fault ≡ 4)
 
--- so with these limits
-abbrev pub RunsTo : (folder : List ℕ) → Limits → Option Begun → Written → Result Outcome Fault → Type 0
-RunsTo folder limits run out outcome = CameToEnd folder limits.pages limits.frames.value run out outcome
+-- the bytes of a deck were read of the path, or of the input where the path is a hyphen, and then the path
+-- of a folder; or only reads were made
+pub record ReadsInputs (input : Option (List ℕ)) (deck folder : List ℕ) (old new : SystemState)
+    (result : Result (Vec ℕ × String Global) Fault) : Type 0 where
+  pub given : IfOk result (λ inputs. (string_bytes inputs.1 ≡ folder) × (reads : List Call)
+      × IsDeckNamed reads input deck inputs.0.items × (new.calls ≡ folder_behind folder reads old.calls))
+  pub reads : ByReads (λ _. ⊤) old new
+  pub fault : IfErr result (λ fault. status_of fault ≡ 4)
 
--- the words ask for a run, strict or not, and this run, over the folder that they name, with their
--- limit of pages and number of frames, came to this
-pub record RanAsAsked (words : List Text) (run : Begun) (out : Written)
+-- a run was begun, behind what was asked before: the bytes of its deck were read of the path, or of the
+-- input where the path is a hyphen; it was told that the folder is one; and so the run came to this
+pub record BeginsRun (base : List Call) (input : Option (List ℕ)) (deck folder : Text) (limit frames : ℕ)
+    (disk : Unseen) (made : CallsMade) (bytes : List ℕ) (out : Written)
     (outcome : Result Outcome Fault) : Type 0 where
+  pub reads : List Call
+  pub is_deck : IsDeckNamed reads input deck bytes
+  pub before : made.before ≡ folder_behind folder reads base
+  pub came : CameTo folder limit frames (begun disk bytes made.system) out outcome
+  pub told : IsRunOutcome outcome
+
+-- a run was begun so, strict or not, which is given back; or none was
+abbrev pub ComesOfRun : {I W : Type 0} → (old : SystemState) → (I → Option (List ℕ)) → StandardInput I
+    → (deck folder : List ℕ) → Limits → (strict : Bool) → Unseen → CallsMade → (W → Option (List ℕ))
+    → (out out_after : W) → Option Ran → Result Outcome Fault → Type 0
+ComesOfRun old left input deck folder limits strict disk made contents out out_after None outcome =
+    BeginsNothing old made out out_after outcome × IfErr outcome (λ fault. status_of fault ≡ 4)
+ComesOfRun old left input deck folder limits strict disk made contents out out_after (Some ran) outcome =
+    (ran.strict ≡ strict) × BeginsRun old.calls (left input.reader) deck folder limits.pages
+    limits.frames.value disk made ran.bytes.items (wrote contents out out_after) outcome
+
+-- the words ask for a run, strict or not as it is said, and this run was begun, over the folder that
+-- they name, with their limit of pages and number of frames
+pub record RanAsAsked (words : List Text) (input : Option (List ℕ)) (disk : Unseen) (made : CallsMade)
+    (out : Written) (strict : Bool) (outcome : Result Outcome Fault) : Type 0 where
+  pub deck : Text
+  pub folder : Text
+  pub pages : ℕ
+  pub frames : ℕ
+  pub bytes : List ℕ
+  pub asks : AskRun words deck folder pages frames strict
+  pub run : BeginsRun streams_first input deck folder pages frames disk made bytes out outcome
+
+-- the words ask for a run
+pub record AskForRun (words : List Text) : Type 0 where
   pub deck : Text
   pub folder : Text
   pub pages : ℕ
   pub frames : ℕ
   pub strict : Bool
   pub asked : AskRun words deck folder pages frames strict
-  pub came : CameTo folder pages frames run out outcome
-
--- the bytes are those of the deck of a path, or of the input where the path is a hyphen
-abbrev pub IsDeckFrom : {F I : Type 0} → (F → Option (List ℕ)) → (I → Option (List ℕ)) → StandardInput I
-    → (path bytes : List ℕ) → Type 0
-IsDeckFrom remaining left input path bytes = IsDeckNamed remaining (left input.reader) path bytes
-
--- the words ask for a run, strict or not as it is said, and the bytes are those of the deck that they
--- name
-abbrev pub AreOfAskedRun : {F I : Type 0} → List (String Global) → (F → Option (List ℕ))
-    → (I → Option (List ℕ)) → StandardInput I → List ℕ → (strict : Bool) → Type 0
-AreOfAskedRun words remaining left input bytes strict =
-    (deck : Text) × (folder : Text) × (pages : ℕ) × (frames : ℕ)
-    × AskRun (map string_bytes words) deck folder pages frames strict
-    × IsDeckFrom remaining left input deck bytes
 
 -- the words ask for the list of a deck, or for a deck as a COBOL program
 abbrev pub AskOfDeck : List Text → Type 0
@@ -196,39 +212,32 @@ AskForNoForm words fault =
 -- those that ask for records, a program written for those that ask for one in COBOL, a text loaded
 -- for those that ask for that, the pages of a file counted for those that ask for that, requests
 -- answered for those that ask for a session, a schema told, compared or refused for those that ask
--- for one, and a run came to its end or to a fault for those that ask for one; a fault that is told
--- of the words is theirs. The input, the output or memory may fail for any words.
-abbrev pub Did : List Text → Option Begun → Written → Result Outcome Fault → Type 0
-Did words None out (Ok Helped) = (text : Error) × AskHelp words text
-Did words None out (Ok (Checked verdict)) = (file : Text) × (quiet : Bool) × AskCheck words (file ∷ []) quiet
-Did words None out (Ok (CheckedAll worst)) = (files : List Text) × (quiet : Bool) × AskCheck words files quiet
-Did words None out (Ok Served) = (folder : Text) × (pages : ℕ) × (frames : ℕ)
-    × AskServe words folder pages frames
-Did words None out (Ok SchemaTold) = (file : Text) × AskSchema words file None None
-Did words None out (Ok (SchemaCompared told)) = (schema : AskForSchema words)
+-- for one, and a run came to its end for those that ask for one; a fault that is told of the words is
+-- theirs. The input, the output or memory may fail for any words.
+abbrev pub Did : List Text → Result Outcome Fault → Type 0
+Did words (Ok Helped) = (text : Error) × AskHelp words text
+Did words (Ok (Checked verdict)) = (file : Text) × (quiet : Bool) × AskCheck words (file ∷ []) quiet
+Did words (Ok (CheckedAll worst)) = (files : List Text) × (quiet : Bool) × AskCheck words files quiet
+Did words (Ok (Ended end)) = AskForRun words
+Did words (Ok Served) = (folder : Text) × (pages : ℕ) × (frames : ℕ) × AskServe words folder pages frames
+Did words (Ok SchemaTold) = (file : Text) × AskSchema words file None None
+Did words (Ok (SchemaCompared told)) = (schema : AskForSchema words)
     × IsDeckAsked schema.deck schema.name
-Did words None out (Ok (SchemaRefused refusal)) = AskForSchema words
-Did words None out (Ok Explained) = (kind : Text) × (number : Text) × AskExplain words kind number
-Did words None out (Ok Listed) = (deck : Text) × AskDeck words deck
-Did words None out (Ok (Records list)) = AskForRecords words
-Did words None out (Ok OtherSchema) = AskForRecords words
-Did words None out (Ok InCobol) = (deck : Text) × (fixed : Bool) × AskCobol words deck fixed
-Did words None out (Ok (Loaded end)) = AskForLoad words
-Did words None out (Ok (Counted end)) = (file : Text) × AskStat words file
-Did words None out (Err (Deck fault)) = AskOfFile words
-Did words None out (Err NoSuchFile) = AskOfFile words
-Did words None out (Err (NoForm fault)) = AskForNoForm words fault
-Did words None out (Err LongValue) = AskForRecords words
-Did words None out (Err Unexplained) = (kind : Text) × (number : Text) × AskExplain words kind number
-Did words None out (Err (NotListed fault)) = AskOfDeck words
-Did words None out (Err (Usage text)) = AskNothing words text
-Did words None out (Err Input) = ⊤
-Did words None out (Err Output) = ⊤
-Did words None out (Err Memory) = ⊤
-Did words (Some run) out (Ok (Ended end)) = RanAsAsked words run out (Ok (Ended end))
-Did words (Some run) out (Err fault) = RanAsAsked words run out (Err fault)
-Did words run out outcome = ⊥
-
--- so for the words of a command line
-abbrev pub DidFor : List (String Global) → Option Begun → Written → Result Outcome Fault → Type 0
-DidFor words run out outcome = Did (map string_bytes words) run out outcome
+Did words (Ok (SchemaRefused refusal)) = AskForSchema words
+Did words (Ok Explained) = (kind : Text) × (number : Text) × AskExplain words kind number
+Did words (Ok Listed) = (deck : Text) × AskDeck words deck
+Did words (Ok (Records list)) = AskForRecords words
+Did words (Ok OtherSchema) = AskForRecords words
+Did words (Ok InCobol) = (deck : Text) × (fixed : Bool) × AskCobol words deck fixed
+Did words (Ok (Loaded end)) = AskForLoad words
+Did words (Ok (Counted end)) = (file : Text) × AskStat words file
+Did words (Err (Deck fault)) = AskOfFile words ⊎ AskForRun words
+Did words (Err NoSuchFile) = AskOfFile words
+Did words (Err (NoForm fault)) = AskForNoForm words fault
+Did words (Err LongValue) = AskForRecords words
+Did words (Err Unexplained) = (kind : Text) × (number : Text) × AskExplain words kind number
+Did words (Err (NotListed fault)) = AskOfDeck words
+Did words (Err (Usage text)) = AskNothing words text
+Did words (Err Input) = ⊤
+Did words (Err Output) = ⊤
+Did words (Err Memory) = ⊤

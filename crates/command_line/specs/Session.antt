@@ -2,7 +2,8 @@
 use Rattle.std.specs.Prelude.{◌≡◌, ◌≢◌, ℕ, Bool, List, [], Option, Result, Ok, Err}
 use Rattle.std.specs.NonZero.{non_zero_usize_get}
 use Rattle.page_store.specs.declared.shelf.Shelf.{Ghosts}
-use Rattle.folder_shelf.specs.Replay.{Unseen}
+use Rattle.recorded_system.specs.SystemState.{SystemState}
+use Rattle.folder_shelf.specs.Replay.{Unseen, folder_state}
 use Rattle.indexed_file.specs.Shown.{Shown}
 use Rattle.shelf_library.specs.Library.{shown_by}
 use Rattle.shelf_library.specs.State.{LibraryState}
@@ -17,6 +18,7 @@ use Rattle.serve.specs.declared.fault.ServeFault.TheVariants.{Input as NotRead, 
 use Rattle.serve.specs.declared.fault.ServeFault.TheVariants.{Memory as NoMemory}
 use Rattle.command_words.specs.declared.limits.Limits.{Limits}
 use Rattle.command_line.specs.Folder.{folder_at_first}
+use Rattle.command_line.specs.declared.session.ServedEnd.{ServedEnd}
 use Rattle.command_outcomes.specs.declared.fault.Fault.{Fault}
 use Rattle.command_outcomes.specs.declared.fault.Fault.TheVariants.{Input, Output, Memory}
 
@@ -55,20 +57,28 @@ session_end_as (Err fault) = Err (session_told_as fault)
 abbrev pub keeps_over : {X : Type 0} → (shelf : Ghosts X) → (X → ℕ → Bool) → ShelfLibrary X shelf → ℕ → Bool
 keeps_over shelf keeps_open library = keeps_open library.shelf
 
--- requests were answered over this library, one for the whole session, and how that ended is told
+-- the shelf of this library shows what the folder of the system holds after its calls
+abbrev pub IsLeftIn : {X : Type 0} → (shelf : Ghosts X) → Unseen → SystemState → ShelfLibrary X shelf → Type 0
+IsLeftIn shelf disk system library = shelf.state library.shelf ≡ folder_state disk system
+
+-- requests were answered over this library, one for the whole session, which left this; and how that
+-- ended is told
 pub record ServedOver {S : Type 0} (shown : Shown S) (keeps_open : S → ℕ → Bool) (start : S) (s : Streams)
-    (result : Result Unit Fault) : Type 0 where
+    (IsLeft : S → Type 0) (session : ServedEnd) : Type 0 where
   pub end : SessionEnd S
   pub ends : IsServedToEnd shown keeps_open start s end
-  pub told : result ≡ session_end_as end.requests
+  pub left : IsLeft end.library
+  pub unclosed : session.unclosed ≡ end.unclosed
+  pub told : session.requests ≡ session_end_as end.requests
 
 -- unless memory was wanted before the first request: requests were answered over a library that is
--- new at first, over the folder of this path, and how that ended is told
+-- new at first, over the folder of this path, and how that ended is told; the library left what the
+-- folder of the system holds
 abbrev pub ServedAt : {X I W : Type 0} → (shelf : Ghosts X) → (X → ℕ → Bool) → Unseen → (path : List ℕ) → Limits
     → (I → Option (List ℕ)) → (W → Option (List ℕ)) → (input input_after : StandardInput I)
-    → (out out_after : W) → Result Unit Fault → Type 0
-ServedAt {X} shelf keeps_open disk path limits left contents input input_after out out_after result =
-    result ≢ Err Memory → (start : ShelfLibrary X shelf)
+    → (out out_after : W) → SystemState → ServedEnd → Type 0
+ServedAt {X} shelf keeps_open disk path limits left contents input input_after out out_after system session =
+    session.requests ≢ Err Memory → (start : ShelfLibrary X shelf)
     × IsNewOver shelf disk path limits.pages (non_zero_usize_get limits.frames) start
     × ServedOver (shown_over shelf) (keeps_over shelf keeps_open) start
-    (streams_of left contents input input_after out out_after) result
+    (streams_of left contents input input_after out out_after) (IsLeftIn shelf disk system) session

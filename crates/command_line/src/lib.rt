@@ -13,6 +13,7 @@
 #![tactic(auto)]
 
 mod causes;
+mod done;
 mod explaining;
 mod load_form;
 mod loading;
@@ -24,5 +25,5 @@ mod transcript;
 
 pub use explaining::every_reason_is_explained;
 pub use performing::program;
-pub use session::serve_folder;
-pub use transcript::{Ran, write_transcript};
+pub use session::{ServedEnd, serve_folder};
+pub use transcript::write_transcript;

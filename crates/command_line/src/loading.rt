@@ -1,9 +1,8 @@
 //! The loading of a text into a file of a deck over a folder.
-ghost use Rattle.std.specs.Prelude.{◌≡◌, [], true, false, codes, IfErr};
-ghost use Rattle.file_commands.specs.Front.{GivesSuch};
+ghost use Rattle.std.specs.Prelude.{◌≡◌, [], true, false, codes, string_bytes, Ok, IfErr};
 ghost use Rattle.record_reading.specs.Whole.{IsWholeForm};
-ghost use Rattle.command_line.specs.Loaded.{load_of, LoadsDescribed, TellsLoad, LoadsBytes};
-ghost use Rattle.command_outcomes.specs.Status.{status_of};
+ghost use Rattle.command_line.specs.CallsMade.{calls_made};
+ghost use Rattle.command_line.specs.Loaded.{load_of, LoadsDescribed, IsShelfFault, TellsLoad, LoadsBytes};
 
 use crate::load_form::{FormKind, form_of};
 use command_outcomes::{Fault, Outcome};
@@ -15,14 +14,11 @@ use progress::Progress;
 use record_forms::Form;
 use record_loading::Load;
 use record_reading::items_are_whole;
-use recorded_system::RecordedSystem;
+use recorded_system::{CallRecord, System};
 use shelf_loading::{ShelfEnd, ShelfFault, add_answer, load_on_shelf};
 use standard_input::StandardInput;
 use std::alloc::Global;
 use std::io::{Read, Write};
-use std::os::unix::fs::FileExt;
-use std::rt::Files;
-use system_files::LockFile;
 
 /// The most bytes of an answer: two lines, with a number and two statuses.
 const MOST_BYTES: usize = 64;
@@ -55,7 +51,7 @@ fn load_of(into: bool) -> Load
 
 /// Why nothing was loaded, as the program tells it.
 fn told_fault(fault: ShelfFault) -> Fault
-    ensures { status_of result ≡ 4 }
+    ensures { IsShelfFault result }
 {
     match fault {
         ShelfFault::Input => Fault::Input,
@@ -63,9 +59,10 @@ fn told_fault(fault: ShelfFault) -> Fault
     }
 }
 
-/// Loads a text in a form into a file over a folder. It is told how many bytes of the text are written.
-fn load_over_folder<R: Files, D: Disk, P: Progress>(
-    rt: &R,
+/// Loads a text in a form into a file over a folder of a system whose record is empty. It is told how
+/// many bytes of the text are written. The system that it gives back has what was asked and answered.
+fn load_over_folder<S: System + Drop, D: Disk, P: Progress>(
+    system: S,
     alloc: Global,
     folder: String,
     file: &FileDesc,
@@ -74,16 +71,15 @@ fn load_over_folder<R: Files, D: Disk, P: Progress>(
     text: &[u8],
     limits: Limits,
     progress: &mut P,
-) -> Result<ShelfEnd, Fault>
-where
-    R::File: FileExt + LockFile,
+) -> (S, Result<ShelfEnd, Fault>)
+    requires unasked { (S.state system).calls ≡ [] }
     requires whole { IsWholeForm form.now file.now.schema.greatest }
-    ensures loads { LoadsDescribed D.Disk.unseen folder file.now load form.now text.now result }
-    ensures fault { IfErr result (λ fault. status_of fault ≡ 4) }
+    ensures loads { LoadsDescribed D.Disk.unseen (string_bytes folder) file.now load form.now text.now
+        (S.state result.0) result.1 }
+    ensures fault { IfErr result.1 IsShelfFault }
 {
-    let system = RecordedSystem::new(rt, alloc);
-    let shelf: FolderShelf<RecordedSystem<&R>, D> = FolderShelf::new(system, folder);
-    let (_shelf, end) = load_on_shelf(
+    let shelf: FolderShelf<S, D> = FolderShelf::new(system, folder);
+    let (shelf, end) = load_on_shelf(
         alloc,
         shelf,
         file.file,
@@ -96,21 +92,24 @@ where
         progress,
     );
     progress.wipe();
+    let system = shelf.into_system();
     match end {
-        Ok(end) => Ok(end),
-        Err(fault) => Err(told_fault(fault)),
+        Ok(end) => (system, Ok(end)),
+        Err(fault) => (system, Err(told_fault(fault))),
     }
 }
 
 /// Writes the lines that tell of a load, for which there is room; or nothing, where the name has a
-/// file already.
+/// file already. Records are loaded by then, so that no other fault is told than that of the output.
 fn write_answer<W: Write>(room: Vec<u8>, end: ShelfEnd, out: &mut W) -> Result<Outcome, Fault>
     requires { room.items ≡ [] }
-    ensures { GivesSuch (TellsLoad end W.contents out.old out.new) result }
+    ensures { TellsLoad (Ok end) (W.contents out.old) (W.contents out.new) result }
 {
     let mut answer = room;
     if let ShelfEnd::Loaded(loaded) = end {
-        add_answer(&mut answer, loaded)?;
+        if add_answer(&mut answer, loaded).is_err() {
+            return Err(Fault::Output);
+        }
         if out.write_all(&answer).is_err() {
             return Err(Fault::Output);
         }
@@ -119,10 +118,12 @@ fn write_answer<W: Write>(room: Vec<u8>, end: ShelfEnd, out: &mut W) -> Result<O
 }
 
 #[tactic(auto, using(file_commands::proofs::DeckLemmas::not_there))]
-/// Loads a text of this kind into a file of the deck that the bytes are, over the files of a
-/// folder, and tells how that ended. `Deck`, `NoSuchFile`: nothing was read, written or changed.
-pub fn load_deck<R: Files, D: Disk, I: Read, P: Progress, W: Write>(
-    rt: &R,
+/// Loads a text of this kind into a file of the deck that the bytes are, over the files of a folder,
+/// and tells how that ended. What was asked before the folder is entered is set aside. `Deck`,
+/// `NoSuchFile`: nothing was written or changed, and no folder entered.
+pub fn load_deck<S: System + Drop, D: Disk, I: Read, P: Progress, W: Write>(
+    system: S,
+    aside: &mut CallRecord,
     alloc: Global,
     bytes: &[u8],
     folder: String,
@@ -131,35 +132,37 @@ pub fn load_deck<R: Files, D: Disk, I: Read, P: Progress, W: Write>(
     input: &mut StandardInput<I>,
     progress: &mut P,
     out: &mut W,
-) -> Result<Outcome, Fault>
-where
-    R::File: FileExt + LockFile,
-    ensures { LoadsBytes R.File.remaining I.remaining input.old D.Disk.unseen bytes.now folder kind
-        asked.entry W.contents out.old out.new result }
+) -> (S, Result<Outcome, Fault>)
+    requires none_aside { aside.old.calls ≡ [] }
+    ensures { LoadsBytes (S.state system) I.remaining input.old D.Disk.unseen
+        (calls_made aside.new.calls (S.state result.0)) bytes.now folder kind asked.entry
+        W.contents out.old out.new result.1 }
 {
+    let mut system = system;
     let deck = match deck_of(alloc, bytes) {
         Ok(deck) => deck,
-        Err(fault) => return Err(fault),
+        Err(fault) => return (system, Err(fault)),
     };
     let Some(file) = file_named(deck.files.as_slice(), asked.file) else {
-        return Err(Fault::NoSuchFile);
+        return (system, Err(Fault::NoSuchFile));
     };
     // This brings that the columns are the whole of a record.
     items_are_whole();
     let form = match form_of(alloc, kind, file) {
         Ok(form) => form,
-        Err(fault) => return Err(fault),
+        Err(fault) => return (system, Err(fault)),
     };
-    let text = match read_text(rt, alloc, asked.text, input) {
+    let text = match read_text(&mut system, alloc, asked.text, input) {
         Ok(text) => text,
-        Err(fault) => return Err(fault),
+        Err(fault) => return (system, Err(fault)),
     };
     let room = match Vec::with_capacity(alloc, MOST_BYTES) {
         Ok(room) => room,
-        Err(_) => return Err(Fault::Memory),
+        Err(_) => return (system, Err(Fault::Memory)),
     };
-    let end = load_over_folder::<R, D, P>(
-        rt,
+    system.exchange_record(aside);
+    let (system, end) = load_over_folder::<S, D, P>(
+        system,
         alloc,
         folder,
         file,
@@ -170,7 +173,7 @@ where
         progress,
     );
     match end {
-        Ok(end) => write_answer(room, end, out),
-        Err(fault) => Err(fault),
+        Ok(end) => (system, write_answer(room, end, out)),
+        Err(fault) => (system, Err(fault)),
     }
 }

@@ -7,7 +7,7 @@ use std::fs;
 use std::os::fd::AsRawFd;
 use std::os::unix::fs::FileExt;
 use std::process::Abort;
-use std::rt::Files;
+use std::rt::{Clock, Files};
 use std::test::Fail;
 use system_files::LockFile;
 
@@ -43,7 +43,7 @@ impl Progress for Counted {
 }
 
 /// The command of these words answers so, and tells this.
-fn tells<R: Files + AllocGlobal + Abort>(
+fn tells<R: Files + Clock + AllocGlobal + Abort>(
     rt: &R,
     words: &[&str],
     out: &str,

@@ -5,6 +5,7 @@ use command_line::program;
 use command_outcomes::Fault;
 use folder_shelf::EmptyDisk;
 use progress::{Progress, Silent};
+use recorded_system::{CallRecord, RecordedSystem};
 use standard_input::StandardInput;
 use standard_output::StandardOutput;
 use std::fs;
@@ -12,7 +13,7 @@ use std::io::{self, BufReader, Empty, ErrorKind, Write};
 use std::os::fd::AsRawFd;
 use std::os::unix::fs::FileExt;
 use std::process::Abort;
-use std::rt::Files;
+use std::rt::{Clock, Files};
 use std::test::Fail;
 use system_files::LockFile;
 
@@ -79,7 +80,7 @@ impl Ended {
 
 /// Runs the program over writers with so much room, of which that of the output takes so many bytes at a
 /// call.
-fn run<R: Files + AllocGlobal + Abort>(
+fn run<R: Files + Clock + AllocGlobal + Abort>(
     rt: &R,
     words: &[&str],
     at_once: usize,
@@ -93,7 +94,7 @@ where
 }
 
 /// The same, and it is told how far the command is.
-pub fn run_with<R: Files + AllocGlobal + Abort, P: Progress>(
+pub fn run_with<R: Files + Clock + AllocGlobal + Abort, P: Progress>(
     rt: &R,
     words: &[&str],
     at_once: usize,
@@ -121,8 +122,11 @@ where
         room: err,
     };
     let nothing = BufReader::new(alloc, io::empty())?;
-    let (status, _ran) = program::<R, EmptyDisk, BufReader<Empty>, P, Narrow, Narrow>(
-        rt,
+    let system = RecordedSystem::new(rt, alloc);
+    let mut aside = CallRecord::unasked(rt);
+    let (status, _system) = program::<_, EmptyDisk, BufReader<Empty>, P, Narrow, Narrow>(
+        system,
+        &mut aside,
         alloc,
         given.as_slice(),
         &mut StandardInput::new(nothing),
@@ -146,7 +150,7 @@ fn output_may_be_taken_a_byte_at_a_time(rt: HostRuntime) -> Result<(), Fail> {
 }
 
 /// A run whose output has so much room writes the front that fits, and tells the fault.
-fn is_cut<R: Files + AllocGlobal + Abort>(rt: &R, room: usize) -> Result<(), Fail>
+fn is_cut<R: Files + Clock + AllocGlobal + Abort>(rt: &R, room: usize) -> Result<(), Fail>
 where
     R::File: FileExt + LockFile + AsRawFd,
 {
@@ -177,7 +181,7 @@ fn output_that_is_refused_is_told(rt: HostRuntime) -> Result<(), Fail> {
 }
 
 /// A run that may write nothing of its output, and of its error so much, ends with this status.
-fn is_refused<R: Files + AllocGlobal + Abort>(
+fn is_refused<R: Files + Clock + AllocGlobal + Abort>(
     rt: &R,
     words: &[&str],
     status: u8,

@@ -7,7 +7,6 @@ use Rattle.record_reading.specs.Whole.{IsWholeForm}
 use Rattle.record_loading.specs.Loading.{listing}
 use Rattle.shelf_loading.specs.Loaded.{EndsLoad}
 use Rattle.command_line.specs.Loaded.{LoadsFolder}
-use Rattle.command_line.proofs.FolderLemmas.{system_by}
 use Rattle.command_line.proofs.LoadingLemmas.{load_ended, load_failed}
 use Rattle.command_line.proofs.loading.load_over_folder.Goals as goal
 
@@ -17,19 +16,23 @@ load_on_shelf-shelf-requires-clause-whole g c = subst (λ (file : FileDesc). IsW
 pub returns-in-Ok-clause-loads : goal.returns-in-Ok-clause-loads
 returns-in-Ok-clause-loads g c =
     let shelf = c.load_on_shelf-shelf.result.0 in
-    let first = folder_state g.D.Disk.unseen (system_by c.new-shelf.result.system.folder.path c.new-shelf.result.system.names.items c.new-shelf.result.system.calls.calls) in
-    let last = folder_state g.D.Disk.unseen (system_by shelf.system.folder.path shelf.system.names.items shelf.system.calls.calls) in
-    subst (λ (file : FileDesc). LoadsFolder g.D.Disk.unseen (string_bytes c.args.folder) file.file file.schema c.args.load (listing c.args.form.now c.args.text.now) (Ok c.in-Ok.end)) c.file.view_is
-    (load_ended g.D.Disk.unseen (string_bytes c.args.folder) _ _ c.new-shelf.ensures.entered c.new-system.ensures.calls
-    (system_by shelf.system.folder.path shelf.system.names.items shelf.system.calls.calls) c.file.inside.file.bytes c.file.inside.schema c.args.load (listing c.args.form.now c.args.text.now) c.in-Ok.end
-    (IfOk-at_ok (λ end. EndsLoad c.file.inside.file.bytes c.file.inside.schema c.args.load (listing c.args.form.now c.args.text.now) first end last) c.in-Ok.is c.load_on_shelf-shelf.ensures.ends) c.load_on_shelf-shelf.ensures.others c.load_on_shelf-shelf.ensures.safe)
+    let system = g.S.System.state shelf.system in
+    let first = folder_state g.D.Disk.unseen (g.S.System.state c.new-shelf.result.system) in
+    let last = folder_state g.D.Disk.unseen system in
+    rw c.into_system-system.ensures
+    (subst (λ (file : FileDesc). LoadsFolder g.D.Disk.unseen (string_bytes c.args.folder) file.file file.schema c.args.load (listing c.args.form.now c.args.text.now) system (Ok c.in-Ok.end)) c.file.view_is
+    (load_ended g.D.Disk.unseen (string_bytes c.args.folder) _ _ c.new-shelf.ensures.entered c.requires.unasked
+    system c.file.inside.file.bytes c.file.inside.schema c.args.load (listing c.args.form.now c.args.text.now) c.in-Ok.end
+    (IfOk-at_ok (λ end. EndsLoad c.file.inside.file.bytes c.file.inside.schema c.args.load (listing c.args.form.now c.args.text.now) first end last) c.in-Ok.is c.load_on_shelf-shelf.ensures.ends) c.load_on_shelf-shelf.ensures.others c.load_on_shelf-shelf.ensures.safe))
 
-pub returns-clause-loads : goal.returns-clause-loads
-returns-clause-loads g c =
+pub returns-in-Err-clause-loads : goal.returns-in-Err-clause-loads
+returns-in-Err-clause-loads g c =
     let shelf = c.load_on_shelf-shelf.result.0 in
-    let first = folder_state g.D.Disk.unseen (system_by c.new-shelf.result.system.folder.path c.new-shelf.result.system.names.items c.new-shelf.result.system.calls.calls) in
-    let last = folder_state g.D.Disk.unseen (system_by shelf.system.folder.path shelf.system.names.items shelf.system.calls.calls) in
-    subst (λ (file : FileDesc). LoadsFolder g.D.Disk.unseen (string_bytes c.args.folder) file.file file.schema c.args.load (listing c.args.form.now c.args.text.now) (Err c.told_fault.result)) c.file.view_is
-    (load_failed g.D.Disk.unseen (string_bytes c.args.folder) _ _ c.new-shelf.ensures.entered c.new-system.ensures.calls
-    (system_by shelf.system.folder.path shelf.system.names.items shelf.system.calls.calls) c.file.inside.file.bytes c.file.inside.schema c.args.load (listing c.args.form.now c.args.text.now) c.told_fault.result
-    (IfErr-at_err (λ _. LeavesFiles first last) c.in-Err.is c.load_on_shelf-shelf.ensures.nothing) c.load_on_shelf-shelf.ensures.others c.load_on_shelf-shelf.ensures.safe)
+    let system = g.S.System.state shelf.system in
+    let first = folder_state g.D.Disk.unseen (g.S.System.state c.new-shelf.result.system) in
+    let last = folder_state g.D.Disk.unseen system in
+    rw c.into_system-system.ensures
+    (subst (λ (file : FileDesc). LoadsFolder g.D.Disk.unseen (string_bytes c.args.folder) file.file file.schema c.args.load (listing c.args.form.now c.args.text.now) system (Err c.told_fault.result)) c.file.view_is
+    (load_failed g.D.Disk.unseen (string_bytes c.args.folder) _ _ c.new-shelf.ensures.entered c.requires.unasked
+    system c.file.inside.file.bytes c.file.inside.schema c.args.load (listing c.args.form.now c.args.text.now) c.told_fault.result
+    (IfErr-at_err (λ _. LeavesFiles first last) c.in-Err.is c.load_on_shelf-shelf.ensures.nothing) c.load_on_shelf-shelf.ensures.others c.load_on_shelf-shelf.ensures.safe))

@@ -1,7 +1,30 @@
-use Rattle.std.proofs.Common.{rules, ◌≡◌, string_bytes, sym}
+use Rattle.std.proofs.Common.{◌≡◌, ◌∷◌, Err, refl, ap, ◌∙◌, sym, string_bytes, rules}
+use Rattle.recorded_system.specs.Calls.{entered}
+use Rattle.command_line.proofs.AskedSessionLemmas.{no_memory}
+use Rattle.serve.specs.declared.fault.ServeFault.TheVariants.{Memory}
+use Rattle.folder_shelf.specs.Replay.{folder_state}
+use Rattle.command_line.specs.Session.{session_end_as}
 use Rattle.command_line.proofs.session.serve_folder.Goals as goal
 
 pub returns-clause-served : goal.returns-clause-served
-returns-clause-served g c =
-    let same : string_bytes c.in-Ok.path ≡ c.args.folder.now = search rules in
-    rw (sym same) c.serve_over.ensures.served
+returns-clause-served g c differs =
+    let end = c.serve-end.result in (
+      c.new-library.result,
+      search rules,
+      record {
+        end = end;
+        ends = c.serve-end.ensures.served (λ (is : end.requests ≡ Err Memory). differs (c.ended.ensures.told ∙ ap session_end_as is));
+        left = ap (λ system. folder_state g.D.Disk.unseen (g.S.System.state system)) (sym (c.into_system.ensures ∙ ap (λ shelf. shelf.system) c.into_shelf.ensures));
+        unclosed = refl;
+        told = c.ended.ensures.told;
+      },
+    )
+
+pub returns-clause-memory : goal.returns-clause-memory
+returns-clause-memory g c is =
+    let no = c.serve-end.ensures.memory (no_memory c.serve-end.result.requests (sym c.ended.ensures.told ∙ is)) in (
+      no.0,
+      no.1,
+      rw c.into_system.ensures (rw c.into_shelf.ensures (rw no.2 (rw c.new-library.ensures.shelf
+          (ap (λ system. system.calls) c.new-shelf.ensures.entered ∙ ap (λ calls. entered (string_bytes c.args.folder) ∷ calls) c.requires.unasked)))),
+    )

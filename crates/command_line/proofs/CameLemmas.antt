@@ -1,0 +1,115 @@
+-- What the program came to, by what came of a run, a session or a load.
+use Rattle.std.proofs.Common.{◌≡◌, ℕ, Bool, List, Option, Some, None, Result, Ok, Err, IfOk, IfErr, inl, inr, refl, sym, subst}
+use Rattle.clap.specs.Words.{Text}
+use Rattle.page_store.specs.declared.shelf.Shelf.{Ghosts}
+use Rattle.recorded_system.specs.Calls.{Call}
+use Rattle.recorded_system.specs.SystemState.{SystemState}
+use Rattle.folder_shelf.specs.Replay.{Unseen}
+use Rattle.command_words.specs.Asks.{AskRun, AskServe}
+use Rattle.command_words.specs.declared.limits.Limits.{Limits}
+use Rattle.standard_input.specs.declared.standard_input.StandardInput.{StandardInput}
+use Rattle.command_line.specs.Answered.{CameFor}
+use Rattle.command_line.specs.AskedSession.{BeginsSession, ComesOfSession}
+use Rattle.command_line.specs.CallsMade.{CallsMade, calls_made, streams_first}
+use Rattle.command_line.specs.LoadForm.{IsLoadFault}
+use Rattle.command_line.specs.Loaded.{BeginsLoadOfDeck, ComesOfLoad}
+use Rattle.command_line.specs.Performed.{AskForLoad, AskForRun, BeginsRun, ComesOfRun, Did, wrote}
+use Rattle.command_line.specs.Session.{streams_of}
+use Rattle.command_line.specs.declared.done.Done.{Done}
+use Rattle.command_line.specs.declared.done.Ran.{Ran}
+use Rattle.command_line.proofs.CallsMadeLemmas.{begins_alone}
+use Rattle.command_line.proofs.DidLemmas.{did_fail, did_load, did_run}
+use Rattle.command_line.proofs.LoadingLemmas.{load_done, told_end}
+use Rattle.shelf_loading.specs.declared.end.ShelfEnd.{ShelfEnd}
+use Rattle.command_outcomes.specs.Status.{status_of}
+use Rattle.command_outcomes.specs.declared.fault.Fault.{Fault}
+use Rattle.command_outcomes.specs.declared.outcome.Outcome.{Outcome}
+use Rattle.command_outcomes.specs.declared.outcome.Outcome.TheVariants.{Loaded as LoadEnded}
+
+-- a run that was not begun is told as a fault of the input, the output or memory
+did_not : (words : List Text) (outcome : Result Outcome Fault) (fault : Fault) → outcome ≡ Err fault → IfErr outcome (λ fault. status_of fault ≡ 4) → Did words outcome
+did_not words outcome fault is four = subst (Did words) (sym is) (did_fail words fault (subst (λ (o : Result Outcome Fault). IfErr o (λ fault. status_of fault ≡ 4)) is four))
+
+module _ {X I W : Type 0} (shelf : Ghosts X) (keeps_open : X → ℕ → Bool) (disk : Unseen) (words : List Text) (before : List Call) (after : SystemState) (left : I → Option (List ℕ))
+    (contents : W → Option (List ℕ)) (input input_after : StandardInput I) (out out_after : W) (old : SystemState) (held : old.calls ≡ streams_first) where
+  abbrev pub Came : Done → Type 0
+  Came = CameFor shelf keeps_open disk words (calls_made before after) left contents input input_after out out_after
+
+  -- a run
+  module _ (deck folder : Text) (limits : Limits) (strict : Bool) (asks : AskRun words deck folder limits.pages limits.frames.value strict) where
+    abbrev pub Comes : Option Ran → Result Outcome Fault → Type 0
+    Comes = ComesOfRun old left input deck folder limits strict disk (calls_made before after) contents out out_after
+
+    run_by : (done : Done) (ran : Option Ran) → done.ran ≡ ran → Comes ran done.outcome → Came done
+    run_by done None is comes = inl (begins_alone words (left input.reader) contents out out_after before comes.0.none_aside old after held done.outcome comes.0)
+    run_by done (Some ran) is comes = inr (inl (
+      ran,
+      is,
+      record {
+        deck = deck;
+        folder = folder;
+        pages = limits.pages;
+        frames = limits.frames.value;
+        bytes = ran.bytes.items;
+        asks = subst (λ (strict : Bool). AskRun words deck folder limits.pages limits.frames.value strict) (sym comes.0) asks;
+        run = subst (λ (base : List Call). BeginsRun base (left input.reader) deck folder limits.pages limits.frames.value disk (calls_made before after) ran.bytes.items
+            (wrote contents out out_after) done.outcome) held comes.1;
+      },
+    ))
+
+    pub run_came : (done : Done) → Comes done.ran done.outcome → Came done
+    run_came done comes = run_by done done.ran refl comes
+
+  -- a session
+  module _ (folder : Text) (limits : Limits) (asks : AskServe words folder limits.pages limits.frames.value) where
+    pub serve_came : (done : Done) → ComesOfSession old shelf keeps_open disk (calls_made before after) folder limits left contents input input_after out out_after done.unclosed done.outcome → Came done
+    serve_came done (inl none) = inl (begins_alone words (left input.reader) contents out out_after before none.0.none_aside old after held done.outcome none.0)
+    serve_came done (inr session) = inr (inr (inl (record {
+      folder = folder;
+      pages = limits.pages;
+      frames = limits.frames.value;
+      asks = asks;
+      session = subst (λ (base : List Call). BeginsSession base shelf keeps_open disk (calls_made before after) folder limits.pages limits.frames.value
+          (streams_of left contents input input_after out out_after) done.unclosed done.outcome) held session;
+    })))
+
+  -- a load
+  module _ (load : AskForLoad words) where
+    abbrev pub IsBegun : List Call → Result Outcome Fault → Type 0
+    IsBegun base outcome = BeginsLoadOfDeck base (left input.reader) load.deck load.folder load.file load.text load.form load.into disk (calls_made before after)
+        (contents out) (contents out_after) outcome
+
+    pub load_came : (done : Done) → ComesOfLoad (IsBegun old.calls done.outcome) (IsLoadFault load.form) old (calls_made before after) out out_after done.outcome → Came done
+    load_came done comes = elim comes.came [
+      | inl none ↦ inl (begins_alone words (left input.reader) contents out out_after before none.none_aside old after held done.outcome none)
+      | inr is ↦ inr (inr (inr (load, subst (λ (base : List Call). IsBegun base done.outcome) held is)))
+    ]
+
+-- what was done for words that ask for a run
+module _ {I W : Type 0} (old : SystemState) (left : I → Option (List ℕ)) (input : StandardInput I) (deck folder : Text) (limits : Limits) (strict : Bool) (disk : Unseen) (made : CallsMade)
+    (contents : W → Option (List ℕ)) (out out_after : W) (words : List Text) (asks : AskRun words deck folder limits.pages limits.frames.value strict) where
+  abbrev pub ComesTo : Option Ran → Result Outcome Fault → Type 0
+  ComesTo = ComesOfRun old left input deck folder limits strict disk made contents out out_after
+
+  did_by : (outcome : Result Outcome Fault) (ran : Option Ran) → ComesTo ran outcome → Did words outcome
+  did_by outcome None comes = did_not words outcome comes.0.fault comes.0.told comes.1
+  did_by outcome (Some ran) comes =
+      did_run words (record { deck = deck; folder = folder; pages = limits.pages; frames = limits.frames.value; strict = strict; asked = asks }) outcome comes.1.told
+
+  pub run_did : (done : Done) → ComesTo done.ran done.outcome → Did words done.outcome
+  run_did done comes = did_by done.outcome done.ran comes
+
+-- what was done for words that ask for a load
+load_done_by : {W : Type 0} (old : SystemState) (made : CallsMade) (out out_after : W) (before behind : Option (List ℕ)) (outcome : Result Outcome Fault) (base : List Call) (input : Option (List ℕ))
+    (deck folder file text form : Text) (into : Bool) (disk : Unseen)
+    → BeginsLoadOfDeck base input deck folder file text form into disk made before behind outcome → IfOk outcome (λ o. (end : ShelfEnd) × (o ≡ LoadEnded end))
+load_done_by old made out out_after before behind outcome base input deck folder file text form into disk is =
+    let loads = is.3.2 in told_end loads.end before behind outcome loads.told
+
+pub load_did : {W : Type 0} (words : List Text) (load : AskForLoad words) {old : SystemState} {made : CallsMade} {out out_after : W} {before behind : Option (List ℕ)} {base : List Call}
+    {input : Option (List ℕ)} {disk : Unseen} (outcome : Result Outcome Fault)
+    → ComesOfLoad (BeginsLoadOfDeck base input load.deck load.folder load.file load.text load.form load.into disk made before behind outcome) (IsLoadFault load.form) old made out out_after outcome
+    → Did words outcome
+load_did words load {old} {made} {out} {out_after} {before} {behind} {base} {input} {disk} outcome comes =
+    did_load words load outcome (load_done old made out out_after outcome _ comes.came
+    (load_done_by old made out out_after before behind outcome base input load.deck load.folder load.file load.text load.form load.into disk)) comes.fault
