@@ -3,6 +3,8 @@ use Rattle.std.specs.Prelude.{◌≡◌, ℕ, Bool, List, []}
 use Rattle.folder_shelf.specs.Replay.{Unseen}
 use Rattle.indexed_file.specs.Shown.{Shown}
 use Rattle.file_session.specs.Files.{Files, files_at_start}
+use Rattle.page_store.specs.ShelfState.{ShelfState}
+use Rattle.serve.specs.ExactSession.{ExactAfter}
 use Rattle.serve.specs.NoFalseFile.{NoFalseFileAfter}
 use Rattle.serve.specs.Serving.{ClosesAndCounts}
 
@@ -20,3 +22,16 @@ pub record ClosesAll {S : Type 0} (shown : Shown S) (old : Files S) (failed : �
 -- a session over any library has had no false file before its first request
 abbrev pub NoneFalseAtFirst : {S : Type 0} → Shown S → (keeps_open : S → ℕ → Bool) → Type 0
 NoneFalseAtFirst {S} shown keeps_open = (start : S) → NoFalseFileAfter shown keeps_open start [] (files_at_start start)
+
+-- a session has answered nothing over a library with this shelf, and so exactly what the definitions give
+pub record IsExactAtFirst {S : Type 0} (shown : Shown S) (keeps_open : S → ℕ → Bool) (shelf_of : S → ShelfState)
+    (shelf : ShelfState) (made : Files S) : Type 0 where
+  pub start : S
+  pub shelf_is : shelf_of start ≡ shelf
+  pub exact : ExactAfter shown keeps_open start [] made
+
+-- every session over a library of which this is so is one, with this shelf
+abbrev pub NewSessionsAreExact : {S : Type 0} → Shown S → (keeps_open : S → ℕ → Bool)
+    → (shelf_of : S → ShelfState) → ShelfState → (IsNew : S → Type 0) → Type 0
+NewSessionsAreExact {S} shown keeps_open shelf_of shelf IsNew =
+    (made : Files S) → IsNewSession IsNew made → IsExactAtFirst shown keeps_open shelf_of shelf made

@@ -1,9 +1,12 @@
 //! What C calls.
-ghost use Rattle.std.specs.Prelude.{◌≡◌, ◌≤◌, true, [], Some, is_some, IfSome, length};
+ghost use Rattle.std.specs.Prelude.{◌≡◌, ◌≤◌, ℕ, true, List, [], Some, is_some, IfSome, length};
 ghost use Rattle.std.specs.NonZero.{non_zero_usize_get};
 ghost use Rattle.serve.specs.AnswerRoom.{AnswersInto};
 ghost use Rattle.inside_session.specs.NewLibrary.{shown_inside, IsNewInside};
-ghost use Rattle.cobix_inside.specs.Sessions.{IsNewSession, ClosesAll, NoneFalseAtFirst};
+ghost use Rattle.serve.specs.ExactSession.{ExactInRequests};
+ghost use Rattle.folder_shelf.specs.Replay.{folder_after};
+ghost use Rattle.shelf_session.specs.SessionOnShelf.{ExactOnShelf};
+ghost use Rattle.cobix_inside.specs.Sessions.{IsNewSession, ClosesAll, NoneFalseAtFirst, NewSessionsAreExact};
 ghost use Rattle.cobix_inside.specs.declared.open_session.OpenSession.{OpenSession};
 
 use crate::handle::Handle;
@@ -15,7 +18,8 @@ use growing_library::GrowingLibrary;
 use inside_session::{AskedLibrary, Limits, asked_library};
 use page_store::Shelf;
 use recorded_system::RecordedSystem;
-use serve::{answer_into, close_all, no_false_file_in_requests};
+use serve::{answer_into, close_all, exact_in_requests, no_false_file_in_requests};
+use shelf_session::exact_on_shelf;
 use std::alloc::Global;
 use std::io::{Stdin, Stdout};
 
@@ -137,4 +141,27 @@ pub fn no_false_file_at_first()
         (⟦<AskedLibrary<EmptyDisk> as GrowingLibrary>⟧).keeps_open }
 {
     no_false_file_in_requests::<AskedLibrary<EmptyDisk>>();
+}
+
+/// What a session begins with, and what becomes of it: before its first request it is exact, over what
+/// the folder of its path held; behind each answer it is so still; and where no answer has told of a
+/// fault, the files of the folder represent what the definitions leave. It does nothing.
+pub fn exact_from_first()
+    ensures begun { (path : List ℕ) → (pages frames : ℕ)
+        → NewSessionsAreExact (shown_inside ⟦<FolderShelf<RecordedSystem<AskedSystem>, EmptyDisk> as Shelf>⟧)
+        (⟦<AskedLibrary<EmptyDisk> as GrowingLibrary>⟧).keeps_open
+        (λ library. (⟦<FolderShelf<RecordedSystem<AskedSystem>, EmptyDisk> as Shelf>⟧).state library.shelf)
+        (folder_after (⟦<EmptyDisk as Disk>⟧).unseen path [] [])
+        (IsNewInside ⟦<FolderShelf<RecordedSystem<AskedSystem>, EmptyDisk> as Shelf>⟧
+        (⟦<EmptyDisk as Disk>⟧).unseen path pages frames) }
+    ensures requests { ExactInRequests
+        (shown_inside ⟦<FolderShelf<RecordedSystem<AskedSystem>, EmptyDisk> as Shelf>⟧)
+        (⟦<AskedLibrary<EmptyDisk> as GrowingLibrary>⟧).keeps_open }
+    ensures files { ExactOnShelf
+        (shown_inside ⟦<FolderShelf<RecordedSystem<AskedSystem>, EmptyDisk> as Shelf>⟧)
+        (⟦<AskedLibrary<EmptyDisk> as GrowingLibrary>⟧).keeps_open
+        (λ library. (⟦<FolderShelf<RecordedSystem<AskedSystem>, EmptyDisk> as Shelf>⟧).state library.shelf) }
+{
+    exact_in_requests::<AskedLibrary<EmptyDisk>>();
+    exact_on_shelf::<FolderShelf<RecordedSystem<AskedSystem>, EmptyDisk>>();
 }

@@ -32,35 +32,23 @@ use Rattle.file_session.specs.Steps.{PerformsRequest, Describes, GivesUnit, Adds
 use Rattle.file_session.proofs.CallLemmas.{not_named, free_below, free_none}
 use Rattle.file_session.proofs.UnitLemmas.{unit_in_front, unit_behind}
 use Rattle.serve.specs.Answers.{AnswersRequest}
-use Rattle.serve.specs.ExactSession.{ExactFile, ExactFiles, exact_at_start, with_exact, IsFree, HasNamed, exact_described, DescribesExactly, RefusesExactly, exact_refusal, exact_outcome, after_verb, PerformsExactly, exact_release, AnswersExactly, ServesExactly, ClosesExactly, is_clean_answer, AreCleanAnswers, AreCleanCloses, IsTrueFor, AreTrueFor, ExactSession}
+use Rattle.serve.specs.ExactFiles.{ExactFile, ExactFiles, exact_at_start, with_exact, IsFree, HasNamed, exact_described, DescribesExactly, RefusesExactly, exact_refusal, exact_outcome, after_verb, PerformsExactly, exact_release, AnswersExactly, ServesExactly, ClosesExactly}
+use Rattle.serve.specs.ExactSession.{file_in_session, place_in_session, files_in_session, is_clean_answer, AreCleanAnswers, AreCleanCloses, IsSoOfDescribed, IsSoOfAllDescribed}
 use Rattle.serve.specs.Ledgers.{JudgedFiles, none_judged, WereTrue}
 use Rattle.serve.specs.NoFalseFile.{LedgersGo, LedgersStay}
 use Rattle.serve.specs.Serving.{Exchange, Serving, ClosesAllFiles}
 use Rattle.serve.proofs.LedgerLemmas.{IsKept, AllKept, within_places, none_kept}
 use Rattle.serve.proofs.NamedLemmas.{AreApart, apart_more, new_among_names, name_here, apart_after, named_after}
 use Rattle.serve.proofs.NoFalseFileLemmas.{answered, goes_on}
+use Rattle.serve.proofs.TruthLemmas.{serving_keeps, closes_keep}
 
 abbrev no_unit : FileUnit
 no_unit = record { name = []; named = Absent; holding = Shut }
 
 -- ---- the files as the library shows them
 
-abbrev exact_file : World → NumberedFile → ExactFile
-exact_file world file = record { name = file.name; state = state_of file.held world file.unit file.area }
-
-abbrev exact_place : World → Option NumberedFile → Option ExactFile
-exact_place world None = None
-exact_place world (Some file) = Some (exact_file world file)
-
-abbrev exact_of : {S : Type 0} → Shown S → Files S → ExactFiles
-exact_of shown files = record {
-  file = λ number. exact_place (shown.world files.library) (file_of_number files.table number);
-  opened = files.table.opened;
-  named = named_in (shown.world files.library);
-}
-
 -- a file whose unit is as it was
-stays_exact : (old new : World) (file : NumberedFile) → unit_at new file.unit ≡ unit_at old file.unit → exact_file new file ≡ exact_file old file
+stays_exact : (old new : World) (file : NumberedFile) → unit_at new file.unit ≡ unit_at old file.unit → file_in_session new file ≡ file_in_session old file
 stays_exact old new file same =
     ap (λ (unit : FileUnit). let f : ExactFile = record { name = file.name; state = record { connector = file.held.connector; named = unit.named; file = file_in unit.holding; area = file.area } } in f) same
 
@@ -76,20 +64,20 @@ there_exact : (files : ExactFiles) (n number : ℕ) (place : Option ExactFile) �
 there_exact files n number place apart = ap (λ (b : Bool). if b then place else files.file n) (ne_eqb n number apart)
 
 -- a place that shows a file has one
-place_known : (world : World) (place : Option NumberedFile) (shown : ExactFile) → exact_place world place ≡ Some shown → (file : NumberedFile) × (place ≡ Some file) × (exact_file world file ≡ shown)
+place_known : (world : World) (place : Option NumberedFile) (shown : ExactFile) → place_in_session world place ≡ Some shown → (file : NumberedFile) × (place ≡ Some file) × (file_in_session world file ≡ shown)
 place_known world None shown is = absurd (cc)
 place_known world (Some file) shown is = (file, refl, cc)
 
-refusal_exact : (world : World) (p : Performed) (place : Option NumberedFile) → exact_refusal (exact_place world place) p ≡ refusal_by place p
+refusal_exact : (world : World) (p : Performed) (place : Option NumberedFile) → exact_refusal (place_in_session world place) p ≡ refusal_by place p
 refusal_exact world p None = refl
 refusal_exact world p (Some file) = refl
 
-release_exact : (world : World) (place : Option NumberedFile) → exact_release (exact_place world place) ≡ refusal_of_file place
+release_exact : (world : World) (place : Option NumberedFile) → exact_release (place_in_session world place) ≡ refusal_of_file place
 release_exact world None = refl
 release_exact world (Some file) = refl
 
-none_exact : (world : World) (place : Option NumberedFile) → place ≡ None → exact_place world place ≡ None
-none_exact world place is = ap (exact_place world) is
+none_exact : (world : World) (place : Option NumberedFile) → place ≡ None → place_in_session world place ≡ None
+none_exact world place is = ap (place_in_session world) is
 
 shut_file : (holding : Holding) → is_open holding ≡ false → file_in holding ≡ None
 shut_file Shut closed = refl
@@ -117,7 +105,7 @@ is_none_of place is = ap is_none is
 lt_true : (a b : ℕ) → a < b → nat_lt a b ≡ true
 lt_true a b below = either (nat_lt a b) _ (λ yes. yes) (λ miss. let past = ltb-false a b miss in absurd (omega (arith, below, past)))
 
-place_none : (world : World) (place : Option NumberedFile) → exact_place world place ≡ None → place ≡ None
+place_none : (world : World) (place : Option NumberedFile) → place_in_session world place ≡ None → place ≡ None
 place_none world None is = refl
 place_none world (Some file) is = absurd (cc)
 
@@ -159,7 +147,7 @@ module _ {S : Type 0} (shown : Shown S) (joins : JoinsStretches shown.moments) (
       next = state_in shown does.before.unit (memory_of new.library does.after);
     }
 
-    exactly : exact_outcome p (exact_file (world_at old.files) does.before) ≡ shown_outcome
+    exactly : exact_outcome p (file_in_session (world_at old.files) does.before) ≡ shown_outcome
     exactly =
         clean_step p.statement p.length (state_in shown does.before.unit (with_bytes p.bytes (memory_of old.files.library does.before))) shown_outcome clean
         (performed.step honest
@@ -175,26 +163,26 @@ module _ {S : Type 0} (shown : Shown S) (joins : JoinsStretches shown.moments) (
     other_there n far = ap (λ (places : List (Option NumberedFile)). slice_index_or places n None) does.places ∙ get_or-set_other old.files.table.places p.file n (Some does.after) None far
 
     abbrev model : ExactFiles
-    model = after_verb p (exact_file (world_at old.files) does.before) (exact_of shown old.files)
+    model = after_verb p (file_in_session (world_at old.files) does.before) (files_in_session shown old.files)
 
-    this_file : exact_file (world_at new) does.after ≡ record { name = does.before.name; state = (exact_outcome p (exact_file (world_at old.files) does.before)).next }
+    this_file : file_in_session (world_at new) does.after ≡ record { name = does.before.name; state = (exact_outcome p (file_in_session (world_at old.files) does.before)).next }
     this_file =
         (λ i. let f : ExactFile = record { name = does.does.name i; state = state_of does.after.held (world_at new) (does.does.unit i) does.after.area } in f)
         ∙ ap (λ (o : Outcome). let f : ExactFile = record { name = does.before.name; state = o.next } in f) (sym exactly)
 
-    other_file : (n : ℕ) → n ≢ p.file → (place : Option NumberedFile) → file_of_number old.files.table n ≡ place → exact_place (world_at new) place ≡ exact_place (world_at old.files) place
+    other_file : (n : ℕ) → n ≢ p.file → (place : Option NumberedFile) → file_of_number old.files.table n ≡ place → place_in_session (world_at new) place ≡ place_in_session (world_at old.files) place
     other_file n far None is = refl
     other_file n far (Some other) is =
         ap Some (stays_exact (world_at old.files) (world_at new) other
         (unit_elsewhere (world_at old.files) (world_at new) does.before.unit other.unit performed.only (λ same. far (kept.apart n p.file other does.before is does.file same))))
 
-    file_now : (n : ℕ) → (n ≡ p.file) ⊎ (n ≢ p.file) → (exact_of shown new).file n ≡ model.file n
+    file_now : (n : ℕ) → (n ≡ p.file) ⊎ (n ≢ p.file) → (files_in_session shown new).file n ≡ model.file n
     file_now n (inl same) =
-        ap (exact_place (world_at new)) (ap (file_of_number new.table) same ∙ after_here) ∙ ap Some this_file
-        ∙ sym (here_exact (exact_of shown old.files) n p.file _ same)
+        ap (place_in_session (world_at new)) (ap (file_of_number new.table) same ∙ after_here) ∙ ap Some this_file
+        ∙ sym (here_exact (files_in_session shown old.files) n p.file _ same)
     file_now n (inr far) =
-        ap (exact_place (world_at new)) (other_there n far) ∙ other_file n far (file_of_number old.files.table n) refl
-        ∙ sym (there_exact (exact_of shown old.files) n p.file _ far)
+        ap (place_in_session (world_at new)) (other_there n far) ∙ other_file n far (file_of_number old.files.table n) refl
+        ∙ sym (there_exact (files_in_session shown old.files) n p.file _ far)
 
     opened_now : new.table.opened ≡ model.opened
     opened_now =
@@ -207,13 +195,13 @@ module _ {S : Type 0} (shown : Shown S) (joins : JoinsStretches shown.moments) (
         ∙ ap (λ (n : List ℕ). if bytes_eq n name then named_at (world_at new) does.before.unit else named_in (world_at old.files) name) had.name
         ∙ ap (λ (o : Outcome). if bytes_eq does.before.name name then o.next.named else named_in (world_at old.files) name) (sym exactly)
 
-    pub verb_exact : PerformsExactly p (exact_of shown old.files) answer.status (record_by (file_of_number new.table p.file) answer.length) (exact_of shown new)
+    pub verb_exact : PerformsExactly p (files_in_session shown old.files) answer.status (record_by (file_of_number new.table p.file) answer.length) (files_in_session shown new)
     verb_exact = record {
-      file = exact_file (world_at old.files) does.before;
-      at = ap (exact_place (world_at old.files)) does.file;
+      file = file_in_session (world_at old.files) does.before;
+      at = ap (place_in_session (world_at old.files)) does.file;
       status_is = ap (λ (o : Outcome). o.status) (sym exactly);
       bytes_are = ap (λ (place : Option NumberedFile). record_by place answer.length) after_here ∙ ap (λ (o : Outcome). unwrap_or o.delivered []) (sym exactly);
-      files = same_files (exact_of shown new) model (λ n. file_now n (cases_eq n p.file)) opened_now named_now;
+      files = same_files (files_in_session shown new) model (λ n. file_now n (cases_eq n p.file)) opened_now named_now;
     }
 
     pub verb_apart : AreApart (unit_names (world_at new))
@@ -268,7 +256,7 @@ module _ {S : Type 0} (shown : Shown S) (joins : JoinsStretches shown.moments) (
         ap (λ (table : FileTable). file_of_number table n) does.table
         ∙ get_or-set_other old.files.table.places d.file n (Some (file_described d does.unit)) None far
 
-    new_exact : exact_file (world_at new) (file_described d does.unit) ≡ exact_described (named_in (world_at old.files)) d
+    new_exact : file_in_session (world_at new) (file_described d does.unit) ≡ exact_described (named_in (world_at old.files)) d
     new_exact =
         let named = known.here in
         let none = shut_file (holding_at (world_at new) does.unit) does.gives.unit.shut in
@@ -277,50 +265,50 @@ module _ {S : Type 0} (shown : Shown S) (joins : JoinsStretches shown.moments) (
           state = record { connector = (file_described d does.unit).held.connector; named = named i; file = none i; area = (file_described d does.unit).area };
         }
 
-    other_described : (n : ℕ) (place : Option NumberedFile) → file_of_number old.files.table n ≡ place → exact_place (world_at new) place ≡ exact_place (world_at old.files) place
+    other_described : (n : ℕ) (place : Option NumberedFile) → file_of_number old.files.table n ≡ place → place_in_session (world_at new) place ≡ place_in_session (world_at old.files) place
     other_described n None is = refl
     other_described n (Some file) is =
         ap Some (stays_exact (world_at old.files) (world_at new) file (known.others file.unit (kept.each n file is).attached))
 
     described_now : (n : ℕ) → (n ≡ d.file) ⊎ (n ≢ d.file)
-        → (exact_of shown new).file n ≡ (with_exact (exact_of shown old.files) d.file (Some (exact_described (named_in (world_at old.files)) d))).file n
+        → (files_in_session shown new).file n ≡ (with_exact (files_in_session shown old.files) d.file (Some (exact_described (named_in (world_at old.files)) d))).file n
     described_now n (inl same) =
-        ap (exact_place (world_at new)) (ap (file_of_number new.table) same ∙ new_here) ∙ ap Some new_exact
-        ∙ sym (here_exact (exact_of shown old.files) n d.file _ same)
+        ap (place_in_session (world_at new)) (ap (file_of_number new.table) same ∙ new_here) ∙ ap Some new_exact
+        ∙ sym (here_exact (files_in_session shown old.files) n d.file _ same)
     described_now n (inr far) =
-        ap (exact_place (world_at new)) (old_there n far) ∙ other_described n (file_of_number old.files.table n) refl
-        ∙ sym (there_exact (exact_of shown old.files) n d.file _ far)
+        ap (place_in_session (world_at new)) (old_there n far) ∙ other_described n (file_of_number old.files.table n) refl
+        ∙ sym (there_exact (files_in_session shown old.files) n d.file _ far)
 
-    pub described_exact : DescribesExactly d (exact_of shown old.files) (exact_of shown new)
+    pub described_exact : DescribesExactly d (files_in_session shown old.files) (files_in_session shown new)
     described_exact = record {
       free = record { below = below; free = none_exact (world_at old.files) (file_of_number old.files.table d.file) (free_none old.files.table d.file does.allowed.free) };
       file = does.allowed.file;
       name = λ has.
           let one = place_known (world_at old.files) (file_of_number old.files.table has.number) has.file has.at in
           not_named old.files.table d.name has.number one.0 does.allowed.name one.1 (ap (λ (f : ExactFile). f.name) one.2 ∙ has.name_is);
-      files = same_files (exact_of shown new) _ (λ n. described_now n (cases_eq n d.file)) (ap (λ (table : FileTable). table.opened) does.table) known.named;
+      files = same_files (files_in_session shown new) _ (λ n. described_now n (cases_eq n d.file)) (ap (λ (table : FileTable). table.opened) does.table) known.named;
     }
 
     pub described_apart : AreApart (unit_names (world_at new))
     described_apart = known.apart
 
   -- a number that the definitions have free is told so
-  is_free : (files : Files S) (number : ℕ) → IsFree (exact_of shown files) number → is_free_number files.table number ≡ true
+  is_free : (files : Files S) (number : ℕ) → IsFree (files_in_session shown files) number → is_free_number files.table number ≡ true
   is_free files number free =
       and_from _ _ (lt_true number number_limit free.below) (is_none_of (file_of_number files.table number) (place_none (world_at files) (file_of_number files.table number) free.free))
 
-  free_exact : (files : Files S) (number : ℕ) → is_free_number files.table number ≡ true → IsFree (exact_of shown files) number
+  free_exact : (files : Files S) (number : ℕ) → is_free_number files.table number ≡ true → IsFree (files_in_session shown files) number
   free_exact files number free = record {
     below = free_below files.table number free;
     free = none_exact (world_at files) (file_of_number files.table number) (free_none files.table number free);
   }
 
-  named_exact : (files : Files S) (name : List ℕ) → is_named_file files.table name ≡ true → HasNamed (exact_of shown files) name
+  named_exact : (files : Files S) (name : List ℕ) → is_named_file files.table name ≡ true → HasNamed (files_in_session shown files) name
   named_exact files name named =
       let one = named_place files.table.places name named in
-      record { number = one.0; file = exact_file (world_at files) one.1; at = ap (exact_place (world_at files)) one.2; name_is = sym ((bytes_eq-Decides name one.1.name).0 one.3) }
+      record { number = one.0; file = file_in_session (world_at files) one.1; at = ap (place_in_session (world_at files)) one.2; name_is = sym ((bytes_eq-Decides name one.1.name).0 one.3) }
 
-  refused_exact : (d : Described) (files : Files S) (why : Refusal) → RefusesDescription files.table d why → is_clean_answer (Some (Describing d)) (Refuses why) ≡ true → RefusesExactly d (exact_of shown files) why
+  refused_exact : (d : Described) (files : Files S) (why : Refusal) → RefusesDescription files.table d why → is_clean_answer (Some (Describing d)) (Refuses why) ≡ true → RefusesExactly d (files_in_session shown files) why
   refused_exact d files refusal.NoRequest a clean = absurd a
   refused_exact d files refusal.TooLong a clean = absurd a
   refused_exact d files refusal.Number a clean = λ free. true≢false (sym (is_free files d.file free) ∙ a)
@@ -333,21 +321,21 @@ module _ {S : Type 0} (shown : Shown S) (joins : JoinsStretches shown.moments) (
   -- ---- a release
 
   released_exact : (number : ℕ) (old : JudgedFiles S) (new : Files S) → AllKept shown start old → Releases shown keeps_open number old.files new
-      → (exact_release ((exact_of shown old.files).file number) ≡ None) × (exact_of shown new ≡ with_exact (exact_of shown old.files) number None)
+      → (exact_release ((files_in_session shown old.files).file number) ≡ None) × (files_in_session shown new ≡ with_exact (files_in_session shown old.files) number None)
   released_exact number old new kept does = (
     release_exact (world_at old.files) (file_of_number old.files.table number) ∙ ap refusal_of_file does.was ∙ rw does.closed refl,
-    same_files (exact_of shown new) _ (λ n. by n (cases_eq n number)) (ap (λ (table : FileTable). table.opened) does.table) (λ name. ap (λ (w : World). named_in w name) does.stays.world),
+    same_files (files_in_session shown new) _ (λ n. by n (cases_eq n number)) (ap (λ (table : FileTable). table.opened) does.table) (λ name. ap (λ (w : World). named_in w name) does.stays.world),
   )
     where
-      by : (n : ℕ) → (n ≡ number) ⊎ (n ≢ number) → (exact_of shown new).file n ≡ (with_exact (exact_of shown old.files) number None).file n
+      by : (n : ℕ) → (n ≡ number) ⊎ (n ≢ number) → (files_in_session shown new).file n ≡ (with_exact (files_in_session shown old.files) number None).file n
       by n (inl same) =
-          ap (exact_place (world_at new)) (ap (file_of_number new.table) same ∙ ap (λ (table : FileTable). file_of_number table number) does.table
+          ap (place_in_session (world_at new)) (ap (file_of_number new.table) same ∙ ap (λ (table : FileTable). file_of_number table number) does.table
           ∙ get_or-set_same old.files.table.places number None None (within_places old.files.table.places number does.file does.was))
-          ∙ sym (here_exact (exact_of shown old.files) n number None same)
+          ∙ sym (here_exact (files_in_session shown old.files) n number None same)
       by n (inr far) =
-          ap (exact_place (world_at new)) (ap (λ (table : FileTable). file_of_number table n) does.table ∙ get_or-set_other old.files.table.places number n None None far)
-          ∙ ap (λ (w : World). exact_place w (file_of_number old.files.table n)) does.stays.world
-          ∙ sym (there_exact (exact_of shown old.files) n number None far)
+          ap (place_in_session (world_at new)) (ap (λ (table : FileTable). file_of_number table n) does.table ∙ get_or-set_other old.files.table.places number n None None far)
+          ∙ ap (λ (w : World). place_in_session w (file_of_number old.files.table n)) does.stays.world
+          ∙ sym (there_exact (files_in_session shown old.files) n number None far)
 
   -- ---- a request
 
@@ -355,10 +343,10 @@ module _ {S : Type 0} (shown : Shown S) (joins : JoinsStretches shown.moments) (
   Apart files = AreApart (unit_names (world_at files))
 
   abbrev Exactly : Option Asked → Told → Files S → Files S → Type 0
-  Exactly asked told old new = AnswersExactly asked (exact_of shown old) told (exact_of shown new) × Apart new
+  Exactly asked told old new = AnswersExactly asked (files_in_session shown old) told (files_in_session shown new) × Apart new
 
-  unchanged : (old new : Files S) → new ≡ old → Apart old → (exact_of shown new ≡ exact_of shown old) × Apart new
-  unchanged old new same apart = (ap (exact_of shown) same, subst Apart (sym same) apart)
+  unchanged : (old new : Files S) → new ≡ old → Apart old → (files_in_session shown new ≡ files_in_session shown old) × Apart new
+  unchanged old new same apart = (ap (files_in_session shown) same, subst Apart (sym same) apart)
 
   exact_step : (asked : Option Asked) (told : Told) (old : JudgedFiles S) (new : Files S) → AllKept shown start old → Apart old.files → AnswersRequest shown keeps_open asked old.files told new
       → IsTrue (shown.is_honest new.library) → WereTrue shown start old.names → is_clean_answer asked told ≡ true → Exactly asked told old.files new
@@ -377,8 +365,8 @@ module _ {S : Type 0} (shown : Shown S) (joins : JoinsStretches shown.moments) (
       let calm : not (is_unclean p.statement a.0.status) ≡ true = ap (λ (s : Status). not (is_unclean p.statement s)) (sym a.2) ∙ clean in (
         (
           refusal_exact (world_at old.files) p (file_of_number old.files.table p.file) ∙ a.4,
-          subst (λ (s : Status). PerformsExactly p (exact_of shown old.files) s bytes (exact_of shown new)) (sym a.2)
-              (subst (λ (l : List ℕ). PerformsExactly p (exact_of shown old.files) a.0.status l (exact_of shown new)) (sym a.3) (verb_exact p old new a.0 kept a.1 apart honest were calm)),
+          subst (λ (s : Status). PerformsExactly p (files_in_session shown old.files) s bytes (files_in_session shown new)) (sym a.2)
+              (subst (λ (l : List ℕ). PerformsExactly p (files_in_session shown old.files) a.0.status l (files_in_session shown new)) (sym a.3) (verb_exact p old new a.0 kept a.1 apart honest were calm)),
         ),
         verb_apart p old new a.0 kept a.1 apart honest were calm,
       )
@@ -388,35 +376,6 @@ module _ {S : Type 0} (shown : Shown S) (joins : JoinsStretches shown.moments) (
       let same = unchanged old.files new a.1 apart in
       ((release_exact (world_at old.files) (file_of_number old.files.table number) ∙ a.0, same.0), same.1)
   exact_step (Some (Releasing number)) (Tells status bytes) old new kept apart a honest were clean = absurd a
-
-  -- ---- a library that has not lied at the end had not before
-
-  same_honest : (old new : Files S) → new ≡ old → IsTrue (shown.is_honest new.library) → IsTrue (shown.is_honest old.library)
-  same_honest old new same honest = subst (λ (files : Files S). IsTrue (shown.is_honest files.library)) same honest
-
-  honest_before : (asked : Option Asked) (told : Told) (old new : Files S) → AnswersRequest shown keeps_open asked old told new → IsTrue (shown.is_honest new.library) → IsTrue (shown.is_honest old.library)
-  honest_before None told old new a honest = same_honest old new a.1 honest
-  honest_before (Some (Describing d)) Does old new a honest = by a.gives.from
-    where
-      by : (new.library ≡ old.library) ⊎ AddsLast shown keeps_open d.name a.unit old.library new.library → IsTrue (shown.is_honest old.library)
-      by (inl same) = subst (λ (l : S). IsTrue (shown.is_honest l)) same honest
-      by (inr last) = last.adds.keeps.honest honest
-  honest_before (Some (Describing d)) (Refuses why) old new a honest = a.1.library.keeps.honest honest
-  honest_before (Some (Describing d)) (Tells status bytes) old new a honest = absurd a
-  honest_before (Some (Performing p)) Does old new a honest = absurd a
-  honest_before (Some (Performing p)) (Refuses why) old new a honest = same_honest old new a.1 honest
-  honest_before (Some (Performing p)) (Tells status bytes) old new a honest = a.1.does.performed.keeps.honest honest
-  honest_before (Some (Releasing number)) Does old new a honest = subst (λ (b : Bool). IsTrue b) a.stays.honest honest
-  honest_before (Some (Releasing number)) (Refuses why) old new a honest = same_honest old new a.1 honest
-  honest_before (Some (Releasing number)) (Tells status bytes) old new a honest = absurd a
-
-  honest_at_first : (exchanges : List Exchange) (old new : Files S) → Serving shown keeps_open old exchanges new → IsTrue (shown.is_honest new.library) → IsTrue (shown.is_honest old.library)
-  honest_at_first [] old new same honest = same_honest old new same honest
-  honest_at_first (e ∷ rest) old new (between, answers, more) honest = honest_before (request_in e.body) e.told old between answers (honest_at_first rest between new more honest)
-
-  honest_at_closes : (statuses : List Status) (old new : Files S) → ClosesAllFiles shown old statuses new → IsTrue (shown.is_honest new.library) → IsTrue (shown.is_honest old.library)
-  honest_at_closes [] old new (none, same) honest = same_honest old new same honest
-  honest_at_closes (status ∷ rest) old new (between, first, more) honest = first.closed.does.performed.keeps.honest (honest_at_closes rest between new more honest)
 
   -- ---- the names that were described
 
@@ -429,7 +388,7 @@ module _ {S : Type 0} (shown : Shown S) (joins : JoinsStretches shown.moments) (
   were_stay : (names : List (List ℕ)) (old after : JudgedFiles S) → LedgersStay shown start names old after → WereTrue shown start names → WereTrue shown start after.names
   were_stay names old after stays were = subst (λ (l : List (List ℕ)). WereTrue shown start l) (sym stays.names_are) were
 
-  were_after : (asked : Option Asked) (told : Told) (old after : JudgedFiles S) → LedgersGo shown start asked told old after → WereTrue shown start old.names → IsTrueFor shown start asked
+  were_after : (asked : Option Asked) (told : Told) (old after : JudgedFiles S) → LedgersGo shown start asked told old after → WereTrue shown start old.names → IsSoOfDescribed (shown.IsShownTruly start) asked
       → WereTrue shown start after.names
   were_after None told old after goes were truly = were_stay old.names old after goes were
   were_after (Some (Describing d)) Does old after goes were truly = were_stay (d.name ∷ old.names) old after goes (were_more d.name old.names truly were)
@@ -445,18 +404,18 @@ module _ {S : Type 0} (shown : Shown S) (joins : JoinsStretches shown.moments) (
   -- ---- a session
 
   -- a point of which all this is known
-  record IsKnown (files : Files S) : Type 0 where
+  pub record IsKnown (files : Files S) : Type 0 where
     pub judged : JudgedFiles S
     pub is : judged.files ≡ files
     pub kept : AllKept shown start judged
     pub apart : Apart judged.files
     pub were : WereTrue shown start judged.names
 
-  serves_exact : (exchanges : List Exchange) (old new : Files S) → IsKnown old → Serving shown keeps_open old exchanges new → IsTrue (shown.is_honest new.library) → AreTrueFor shown start exchanges
-      → AreCleanAnswers exchanges → IsKnown new × ServesExactly (exact_of shown old) exchanges (exact_of shown new)
-  serves_exact [] old new point same honest trues clean = (subst IsKnown (sym same) point, ap (exact_of shown) same)
+  pub serves_exact : (exchanges : List Exchange) (old new : Files S) → IsKnown old → Serving shown keeps_open old exchanges new → IsTrue (shown.is_honest new.library) → IsSoOfAllDescribed (shown.IsShownTruly start) exchanges
+      → AreCleanAnswers exchanges → IsKnown new × ServesExactly (files_in_session shown old) exchanges (files_in_session shown new)
+  serves_exact [] old new point same honest trues clean = (subst IsKnown (sym same) point, ap (files_in_session shown) same)
   serves_exact (e ∷ rest) old new point (between, answers, more) honest trues clean =
-      let honest_then = honest_at_first rest between new more honest in
+      let honest_then = (serving_keeps shown keeps_open rest between new more).honest honest in
       let from : AnswersRequest shown keeps_open (request_in e.body) point.judged.files e.told between =
       subst (λ (files : Files S). AnswersRequest shown keeps_open (request_in e.body) files e.told between) (sym point.is) answers in
       let went = answered shown joins ends start keeps_open (request_in e.body) e.told point.judged between point.kept from in
@@ -471,23 +430,23 @@ module _ {S : Type 0} (shown : Shown S) (joins : JoinsStretches shown.moments) (
       let others = serves_exact rest between new next_point more honest trues.1 clean.1 in (
         others.0,
         (
-          exact_of shown between,
-          subst (λ (files : Files S). AnswersExactly (request_in e.body) (exact_of shown files) e.told (exact_of shown between)) point.is exactly.0,
+          files_in_session shown between,
+          subst (λ (files : Files S). AnswersExactly (request_in e.body) (files_in_session shown files) e.told (files_in_session shown between)) point.is exactly.0,
           others.1,
         ),
       )
 
-  closes_exact : (statuses : List Status) (old new : Files S) → IsKnown old → ClosesAllFiles shown old statuses new → IsTrue (shown.is_honest new.library) → AreCleanCloses statuses
-      → ClosesExactly (exact_of shown old) statuses (exact_of shown new)
-  closes_exact [] old new point (none, same) honest clean = (none, ap (exact_of shown) same)
+  pub closes_exact : (statuses : List Status) (old new : Files S) → IsKnown old → ClosesAllFiles shown old statuses new → IsTrue (shown.is_honest new.library) → AreCleanCloses statuses
+      → ClosesExactly (files_in_session shown old) statuses (files_in_session shown new)
+  closes_exact [] old new point (none, same) honest clean = (none, ap (files_in_session shown) same)
   closes_exact (status ∷ rest) old new point (between, first, more) honest clean =
-      let honest_then = honest_at_closes rest between new more honest in
+      let honest_then = (closes_keep shown rest between new more).honest honest in
       let from : PerformsRequest shown (close_request first.first) point.judged.files (silent status) between =
       subst (λ (files : Files S). PerformsRequest shown (close_request first.first) files (silent status) between) (sym point.is) first.closed in
       let went = goes_on shown joins ends start keeps_open (close_request first.first) point.judged between (silent status) point.kept from in
       let exactly = verb_exact (close_request first.first) point.judged between (silent status) point.kept from point.apart honest_then point.were clean.0 in
-      let plain : PerformsExactly (close_request first.first) (exact_of shown point.judged.files) status [] (exact_of shown between) =
-      subst (λ (l : List ℕ). PerformsExactly (close_request first.first) (exact_of shown point.judged.files) status l (exact_of shown between)) (record_none (file_of_number between.table first.first)) exactly in
+      let plain : PerformsExactly (close_request first.first) (files_in_session shown point.judged.files) status [] (files_in_session shown between) =
+      subst (λ (l : List ℕ). PerformsExactly (close_request first.first) (files_in_session shown point.judged.files) status l (files_in_session shown between)) (record_none (file_of_number between.table first.first)) exactly in
       let next_point : IsKnown between = record {
         judged = went.0;
         is = went.1;
@@ -499,12 +458,12 @@ module _ {S : Type 0} (shown : Shown S) (joins : JoinsStretches shown.moments) (
         first.first,
         first.rest,
         first.was,
-        exact_of shown between,
-        subst (λ (files : Files S). PerformsExactly (close_request first.first) (exact_of shown files) status [] (exact_of shown between)) point.is plain,
+        files_in_session shown between,
+        subst (λ (files : Files S). PerformsExactly (close_request first.first) (files_in_session shown files) status [] (files_in_session shown between)) point.is plain,
         closes_exact rest between new next_point more honest clean.1,
       )
 
-  start_known : (shown.world start).units ≡ [] → IsKnown (files_at_start start)
+  pub start_known : (shown.world start).units ≡ [] → IsKnown (files_at_start start)
   start_known none = record {
     judged = none_judged start;
     is = refl;
@@ -513,18 +472,6 @@ module _ {S : Type 0} (shown : Shown S) (joins : JoinsStretches shown.moments) (
     were = λ name is. absurd (true≢false (sym is));
   }
 
-  start_exact : exact_of shown (files_at_start start) ≡ exact_at_start (named_in (shown.world start))
-  start_exact = same_files (exact_of shown (files_at_start start)) (exact_at_start (named_in (shown.world start)))
-      (λ n. ap (exact_place (shown.world start)) (empty_at number_limit n)) refl (λ name. refl)
-
-pub exact_session : {S : Type 0} (shown : Shown S) → JoinsStretches shown.moments → EndsNow shown.moments → (keeps_open : S → ℕ → Bool) → ExactSession shown keeps_open
-exact_session shown joins ends keeps_open start s result session none honest trues clean calm =
-    let honest_last = honest_at_closes shown joins ends start keeps_open session.closes session.last session.end session.closed honest in
-    let first = serves_exact shown joins ends start keeps_open session.served.exchanges (files_at_start start) session.last (start_known shown joins ends start keeps_open none) session.served.serving honest_last trues clean in
-    let closed = closes_exact shown joins ends start keeps_open session.closes session.last session.end first.0 session.closed honest calm in (
-      exact_of shown session.last,
-      exact_of shown session.end,
-      subst (λ (files : ExactFiles). ServesExactly files session.served.exchanges (exact_of shown session.last)) (start_exact shown joins ends start keeps_open) first.1,
-      closed,
-      λ name. refl,
-    )
+  pub start_exact : files_in_session shown (files_at_start start) ≡ exact_at_start (named_in (shown.world start))
+  start_exact = same_files (files_in_session shown (files_at_start start)) (exact_at_start (named_in (shown.world start)))
+      (λ n. ap (place_in_session (shown.world start)) (empty_at number_limit n)) refl (λ name. refl)

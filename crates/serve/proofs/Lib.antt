@@ -6,4 +6,6 @@ pub mod ClosingLemmas
 pub mod LedgerLemmas
 pub mod NoFalseFileLemmas
 pub mod NamedLemmas
+pub mod TruthLemmas
 pub mod ExactLemmas
+pub mod ExactLaws

@@ -1,155 +1,46 @@
--- An exact session: what the definitions give for requests in order, and what they leave, with no
--- library. All of this is ours.
-use Rattle.std.specs.Prelude.{◌≡◌, ◌<◌, ℕ, Bool, true, false, not, List, [], ◌∷◌, ◌++◌, length, drop, replicate}
-use Rattle.std.specs.Prelude.{eqb, bytes_eq, nat_lt, Option, Some, None, is_some, unwrap_or, Result, IsTrue}
-use Rattle.std.specs.Prelude.{if◌then◌else◌}
+-- An exact session: it answers what the definitions give for its requests, however these came, and
+-- stands for what they leave. All of this is ours.
+use Rattle.std.specs.Prelude.{◌≡◌, ℕ, Bool, true, false, not, List, [], ◌∷◌, ◌++◌, Option, Some, None, Result}
+use Rattle.std.specs.Prelude.{IsTrue}
 use Rattle.io_state.specs.declared.status.Status.{Status}
 use Rattle.indexed_file.specs.Shown.{Shown}
-use Rattle.indexed_file.specs.World.{Named, named_in}
-use Rattle.request_frames.specs.Answer.{Told, Refuses, Does, Tells}
+use Rattle.indexed_file.specs.World.{World, named_in}
+use Rattle.request_frames.specs.Answer.{Told, Refuses, Tells}
 use Rattle.request_frames.specs.Reading.{request_in}
-use Rattle.request_frames.specs.Request.{Described, Performed, Asked, Describing, Performing, Releasing}
-use Rattle.request_frames.specs.declared.refusal.Refusal.{Refusal}
+use Rattle.request_frames.specs.Request.{Asked, Describing, Performing, Releasing}
 use Rattle.request_frames.specs.declared.refusal.Refusal.TheVariants as refusal
-use Rattle.verbs.specs.Connector.{FileState, Outcome, closed_connector}
 use Rattle.verbs.specs.Faults.{is_unclean}
-use Rattle.verbs.specs.Verbs.{perform}
-use Rattle.file_session.specs.Files.{number_limit, order_after}
-use Rattle.file_session.specs.Steps.{CanBeFile, schema_described, is_of_keys, close_request}
-use Rattle.serve.specs.Serving.{Exchange, Streams, Served}
+use Rattle.verbs.specs.Held.{state_of}
+use Rattle.file_session.specs.Files.{NumberedFile, Files, file_of_number, files_at_start}
+use Rattle.file_session.specs.Steps.{close_request}
+use Rattle.serve.specs.Answers.{AnswersRequest}
+use Rattle.serve.specs.ExactFiles.{ExactFile, ExactFiles, exact_at_start, ServesExactly, ClosesExactly}
+use Rattle.serve.specs.ExactFiles.{EndsExactly}
+use Rattle.serve.specs.Serving.{Exchange, Serving, ClosesAllFiles, Streams, Served, failed_among}
 use Rattle.serve.specs.declared.fault.ServeFault.{ServeFault}
 
--- a described file: its name, and its state
-pub record ExactFile : Type 0 where
-  pub name : List ℕ
-  pub state : FileState
+-- ---- what a session stands for
 
--- the file of each number, the numbers of the open files in the order of opening, and what each name
--- stands for
-pub record ExactFiles : Type 0 where
-  pub file : ℕ → Option ExactFile
-  pub opened : List ℕ
-  pub named : List ℕ → Named
-
--- no file is described
-abbrev pub exact_at_start : (List ℕ → Named) → ExactFiles
-exact_at_start named = record { file = λ number. None; opened = []; named = named }
-
--- the files with another one of this number
-abbrev pub with_exact : ExactFiles → ℕ → Option ExactFile → ExactFiles
-with_exact files number place =
-    record files { file = λ other. if eqb other number then place else files.file other }
-
--- ---- a description
-
--- the number is one of a session, and of no file
-pub record IsFree (files : ExactFiles) (number : ℕ) : Type 0 where
-  pub below : number < number_limit
-  pub free : files.file number ≡ None
-
--- a file has the name
-pub record HasNamed (files : ExactFiles) (name : List ℕ) : Type 0 where
-  pub number : ℕ
-  pub file : ExactFile
-  pub at : files.file number ≡ Some file
-  pub name_is : file.name ≡ name
-
--- the file of a description is closed, and its record area all spaces
-abbrev pub exact_described : (List ℕ → Named) → Described → ExactFile
-exact_described named d = record {
-  name = d.name;
-  state = record {
-    connector = closed_connector d.access d.optional (schema_described d);
-    named = named d.name;
-    file = None;
-    area = replicate d.greatest 32;
-  };
+-- a described file, as its library shows it
+abbrev pub file_in_session : World → NumberedFile → ExactFile
+file_in_session world file = record {
+  name = file.name;
+  state = state_of file.held world file.unit file.area;
 }
 
-pub record DescribesExactly (d : Described) (old new : ExactFiles) : Type 0 where
-  pub free : IsFree old d.file
-  pub file : CanBeFile d
-  pub name : HasNamed old d.name → ⊥
-  pub files : new ≡ with_exact old d.file (Some (exact_described old.named d))
+abbrev pub place_in_session : World → Option NumberedFile → Option ExactFile
+place_in_session world None = None
+place_in_session world (Some file) = Some (file_in_session world file)
 
--- why a description is refused: the first that is amiss
-abbrev pub RefusesExactly : Described → ExactFiles → Refusal → Type 0
-RefusesExactly d old refusal.Number = IsFree old d.file → ⊥
-RefusesExactly d old refusal.Description = IsFree old d.file × (CanBeFile d → ⊥)
-RefusesExactly d old refusal.Name = IsFree old d.file × CanBeFile d × HasNamed old d.name
-RefusesExactly d old _ = ⊥
+-- the files that a session stands for
+abbrev pub files_in_session : {S : Type 0} → Shown S → Files S → ExactFiles
+files_in_session shown session = record {
+  file = λ number. place_in_session (shown.world session.library) (file_of_number session.table number);
+  opened = session.table.opened;
+  named = named_in (shown.world session.library);
+}
 
--- ---- a verb
-
--- why it is refused, if it is
-abbrev pub exact_refusal : Option ExactFile → Performed → Option Refusal
-exact_refusal None p = Some refusal.Number
-exact_refusal (Some file) p =
-    if not (is_of_keys file.state.connector.schema p.statement) then Some refusal.Key
-    else if nat_lt (length file.state.area) (length p.bytes) then Some refusal.NoRequest
-    else None
-
--- what it answers and leaves of its file, when the bytes of the request were put into the area
-abbrev pub exact_outcome : Performed → ExactFile → Outcome
-exact_outcome p file = perform p.statement p.length
-    (record file.state { area = p.bytes ++ drop (length p.bytes) file.state.area })
-
--- what it leaves: its file, the order of opening, and what the name of the file stands for
-abbrev pub after_verb : Performed → ExactFile → ExactFiles → ExactFiles
-after_verb p file old =
-    let next = (exact_outcome p file).next in
-    record {
-      file = λ other. if eqb other p.file then Some (record { name = file.name; state = next }) else old.file other;
-      opened = order_after p.file (is_some next.connector.session) old.opened;
-      named = λ name. if bytes_eq file.name name then next.named else old.named name;
-    }
-
-pub record PerformsExactly (p : Performed) (old : ExactFiles) (status : Status) (bytes : List ℕ)
-    (new : ExactFiles) : Type 0 where
-  pub file : ExactFile
-  pub at : old.file p.file ≡ Some file
-  pub status_is : status ≡ (exact_outcome p file).status
-  pub bytes_are : bytes ≡ unwrap_or (exact_outcome p file).delivered []
-  pub files : new ≡ after_verb p file old
-
--- ---- a release
-
-abbrev pub exact_release : Option ExactFile → Option Refusal
-exact_release None = Some refusal.Number
-exact_release (Some file) = if is_some file.state.connector.session then Some refusal.Open else None
-
--- ---- a session
-
--- the answer to a request is the one that the definitions give, and so is what it leaves
-abbrev pub AnswersExactly : Option Asked → ExactFiles → Told → ExactFiles → Type 0
-AnswersExactly None old told new = (told ≡ Refuses refusal.NoRequest) × (new ≡ old)
-AnswersExactly (Some (Describing d)) old Does new = DescribesExactly d old new
-AnswersExactly (Some (Describing d)) old (Refuses why) new = RefusesExactly d old why × (new ≡ old)
-AnswersExactly (Some (Describing d)) old (Tells status bytes) new = ⊥
-AnswersExactly (Some (Performing p)) old Does new = ⊥
-AnswersExactly (Some (Performing p)) old (Refuses why) new =
-    (exact_refusal (old.file p.file) p ≡ Some why) × (new ≡ old)
-AnswersExactly (Some (Performing p)) old (Tells status bytes) new =
-    (exact_refusal (old.file p.file) p ≡ None) × PerformsExactly p old status bytes new
-AnswersExactly (Some (Releasing number)) old Does new =
-    (exact_release (old.file number) ≡ None) × (new ≡ with_exact old number None)
-AnswersExactly (Some (Releasing number)) old (Refuses why) new =
-    (exact_release (old.file number) ≡ Some why) × (new ≡ old)
-AnswersExactly (Some (Releasing number)) old (Tells status bytes) new = ⊥
-
-abbrev pub ServesExactly : ExactFiles → List Exchange → ExactFiles → Type 0
-ServesExactly old [] new = new ≡ old
-ServesExactly old (e ∷ rest) new =
-    (between : ExactFiles) × AnswersExactly (request_in e.body) old e.told between × ServesExactly between rest new
-
--- the open files are closed, the one that was opened first at first
-abbrev pub ClosesExactly : ExactFiles → List Status → ExactFiles → Type 0
-ClosesExactly old [] new = (old.opened ≡ []) × (new ≡ old)
-ClosesExactly old (status ∷ rest) new =
-    (first : ℕ) × (more : List ℕ) × (old.opened ≡ first ∷ more) × (between : ExactFiles)
-    × PerformsExactly (close_request first) old status [] between × ClosesExactly between rest new
-
--- ---- the law
+-- ---- without a fault
 
 -- a request was answered without a fault: no verb by 24, 30, 90 or 92, and only OPEN by 91; and no
 -- description was refused for want of memory
@@ -169,30 +60,70 @@ abbrev pub AreCleanCloses : List Status → Type 0
 AreCleanCloses [] = Unit {0}
 AreCleanCloses (status ∷ rest) = (not (is_unclean (close_request 0).statement status) ≡ true) × AreCleanCloses rest
 
--- what the library showed at the start of each name that is described was true
-abbrev pub IsTrueFor : {S : Type 0} → Shown S → (start : S) → Option Asked → Type 0
-IsTrueFor shown start None = Unit {0}
-IsTrueFor shown start (Some (Describing d)) = shown.IsShownTruly start d.name
-IsTrueFor shown start (Some (Performing p)) = Unit {0}
-IsTrueFor shown start (Some (Releasing number)) = Unit {0}
+-- this is so of the name that a request describes, if it describes one
+abbrev pub IsSoOfDescribed : (List ℕ → Type 0) → Option Asked → Type 0
+IsSoOfDescribed IsSo None = Unit {0}
+IsSoOfDescribed IsSo (Some (Describing d)) = IsSo d.name
+IsSoOfDescribed IsSo (Some (Performing p)) = Unit {0}
+IsSoOfDescribed IsSo (Some (Releasing number)) = Unit {0}
 
-abbrev pub AreTrueFor : {S : Type 0} → Shown S → (start : S) → List Exchange → Type 0
-AreTrueFor shown start [] = Unit {0}
-AreTrueFor shown start (e ∷ rest) = IsTrueFor shown start (request_in e.body) × AreTrueFor shown start rest
+-- and of each name that requests describe
+abbrev pub IsSoOfAllDescribed : (List ℕ → Type 0) → List Exchange → Type 0
+IsSoOfAllDescribed IsSo [] = Unit {0}
+IsSoOfAllDescribed IsSo (e ∷ rest) = IsSoOfDescribed IsSo (request_in e.body) × IsSoOfAllDescribed IsSo rest
 
--- in every session over a library that had no unit at first, where the library has not lied by its
--- end, and showed its files truly at first, and no answer tells of a fault: each answer is what the
--- definitions give for the requests in order, from the files that were there first, through
--- descriptions and releases; the closes at the end are, too; and each name stands for what they leave
+-- no answer told of a fault; and by now the library has not lied, and what it showed at the start of
+-- the described names was true
+pub record AreWithoutFault {S : Type 0} (shown : Shown S) (start : S) (exchanges : List Exchange) (now : S) : Type
+    0 where
+  pub honest : IsTrue (shown.is_honest now)
+  pub truly : IsSoOfAllDescribed (shown.IsShownTruly start) exchanges
+  pub clean : AreCleanAnswers exchanges
+
+-- ---- requests, however they came
+
+-- however the open files are closed from here on, without a fault: each close is what the definitions
+-- give, and so is what it leaves
+abbrev pub ExactInCloses : {S : Type 0} → Shown S → (start : S) → List Exchange → Files S → Type 0
+ExactInCloses {S} shown start exchanges now =
+    (statuses : List Status) → (end : Files S) → ClosesAllFiles shown now statuses end
+    → AreWithoutFault shown start exchanges end.library → AreCleanCloses statuses
+    → ClosesExactly (files_in_session shown now) statuses (files_in_session shown end)
+
+-- a session over the library that it began with, which had no unit then, after these requests, from
+-- the first one on. Without a fault, each was answered what the definitions give for the requests in
+-- order, from what each name stood for at the start, through descriptions and releases; the session
+-- stands for the files that they leave; and so it will be while the open files are closed
+pub record ExactAfter {S : Type 0} (shown : Shown S) (keeps_open : S → ℕ → Bool) (start : S)
+    (exchanges : List Exchange) (now : Files S) : Type 0 where
+  pub no_unit : (shown.world start).units ≡ []
+  pub answered : Serving shown keeps_open (files_at_start start) exchanges now
+  pub exact : AreWithoutFault shown start exchanges now.library
+      → ServesExactly (exact_at_start (named_in (shown.world start))) exchanges (files_in_session shown now)
+  pub closes : ExactInCloses shown start exchanges now
+
+-- ---- the laws
+
+-- it is so before the first request, and it stays so behind each request that is answered; and closes
+-- of which none failed are without a fault
+pub record ExactInRequests {S : Type 0} (shown : Shown S) (keeps_open : S → ℕ → Bool) : Type 0 where
+  pub first : (start : S) → (shown.world start).units ≡ []
+      → ExactAfter shown keeps_open start [] (files_at_start start)
+  pub next : (start : S) → (exchanges : List Exchange) → (e : Exchange) → (old new : Files S)
+      → ExactAfter shown keeps_open start exchanges old
+      → AnswersRequest shown keeps_open (request_in e.body) old e.told new
+      → ExactAfter shown keeps_open start (exchanges ++ e ∷ []) new
+  pub none_failed : (closes : List Status) → failed_among closes ≡ 0 → AreCleanCloses closes
+
+-- in every session over a library that had no unit at first: it is so of its requests; and where
+-- neither they nor the closes at its end told of a fault, all of them are what the definitions give,
+-- and what they leave is what the session stands for at its end
 abbrev pub ExactSession : {S : Type 0} → Shown S → (keeps_open : S → ℕ → Bool) → Type 0
 ExactSession {S} shown keeps_open =
     (start : S) → (s : Streams) → (result : Result Unit ServeFault)
-    → (session : Served shown keeps_open start s result)
-    → (shown.world start).units ≡ []
-    → IsTrue (shown.is_honest session.end.library)
-    → AreTrueFor shown start session.served.exchanges
-    → AreCleanAnswers session.served.exchanges → AreCleanCloses session.closes
-    → (last : ExactFiles) × (end : ExactFiles)
-    × ServesExactly (exact_at_start (named_in (shown.world start))) session.served.exchanges last
-    × ClosesExactly last session.closes end
-    × ((name : List ℕ) → named_in (shown.world session.end.library) name ≡ end.named name)
+    → (session : Served shown keeps_open start s result) → (shown.world start).units ≡ []
+    → ExactAfter shown keeps_open start session.served.exchanges session.last
+    × (AreWithoutFault shown start session.served.exchanges session.end.library
+    → AreCleanCloses session.closes
+    → EndsExactly (named_in (shown.world start)) session.served.exchanges session.closes
+    (files_in_session shown session.end))

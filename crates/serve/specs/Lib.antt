@@ -8,4 +8,5 @@ pub mod Answering
 pub mod Ledgers
 pub mod NoFalseFile
 pub mod AnswerRoom
+pub mod ExactFiles
 pub mod ExactSession

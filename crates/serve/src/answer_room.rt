@@ -3,7 +3,7 @@ ghost use Rattle.std.specs.Prelude.{◌≡◌, ◌≤◌, ◌++◌, drop, length
 ghost use Rattle.serve.specs.AnswerRoom.{AnswersInto};
 
 use crate::answering::answer_request;
-use crate::whole_session::no_false_file_in_requests;
+use crate::whole_session::{exact_in_requests, no_false_file_in_requests};
 use file_session::Session;
 use growing_library::GrowingLibrary;
 use request_frames::AnswerFrame;
@@ -27,8 +27,9 @@ pub fn answer_into<L: GrowingLibrary + Drop>(
     ensures { AnswersInto L.shown L.keeps_open body.now
         session.old session.new room.old room.new result }
 {
-    // Brings the law that an answered request leaves no false file.
+    // Brings the laws that an answered request leaves no false file, and what is exact.
     no_false_file_in_requests::<L>();
+    exact_in_requests::<L>();
     let mut frame = AnswerFrame::new();
     answer_request(session, body, &mut frame);
     put_first(room, frame.as_slice());

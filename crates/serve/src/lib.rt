@@ -6,10 +6,11 @@
 //! written is the frames of the answers, each what the definitions say of its request.
 //!
 //! One library has all files of a session, through descriptions and releases. At each moment a crash
-//! leaves no false file, as in the run of a deck.
+//! leaves no false file, as in the run of a deck. Without a fault it is exact, as such a run is.
 //!
 //! Read `specs/Answers.antt`, `specs/Serving.antt`, then `held_answers`, and then `serving`;
-//! `specs/Ledgers.antt` and `specs/NoFalseFile.antt` for what a crash may leave.
+//! `specs/Ledgers.antt` and `specs/NoFalseFile.antt` for what a crash may leave, `specs/ExactFiles.antt`
+//! and `specs/ExactSession.antt` for what is exact.
 #![tactic(auto)]
 
 mod answer_room;
@@ -30,4 +31,6 @@ pub use end::SessionEnd;
 pub use fault::ServeFault;
 pub use input::{InputFailed, Next, read_frame};
 pub use serving::{close_all, serve};
-pub use whole_session::{exact_session, no_false_file, no_false_file_in_requests};
+pub use whole_session::{
+    exact_in_requests, exact_session, no_false_file, no_false_file_in_requests,
+};

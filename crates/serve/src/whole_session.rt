@@ -1,5 +1,5 @@
 //! A whole session.
-ghost use Rattle.serve.specs.ExactSession.{ExactSession};
+ghost use Rattle.serve.specs.ExactSession.{ExactInRequests, ExactSession};
 ghost use Rattle.serve.specs.NoFalseFile.{NoFalseFileInSession, NoFalseFileInRequests};
 
 use growing_library::GrowingLibrary;
@@ -20,11 +20,20 @@ pub fn no_false_file_in_requests<L: GrowingLibrary + Drop>()
     ensures { NoFalseFileInRequests L.shown L.keeps_open }
 {}
 
-/// A session whose answers tell of no fault (no verb is answered 24, 30, 90 or 92, only OPEN is
-/// answered 91, and no description was refused for want of memory) has answered exactly what the
-/// definitions give for its requests in order, from the files that its library had first, through
-/// descriptions and releases, and its library has the files that they leave. The library has not lied
-/// by then, and what it showed at first of the names that are described was true.
+/// Requests that come one at a time, by whatever way, over a library that had no unit at first: before
+/// the first one, and behind each that is answered as `answer_request` does it, this is so of the
+/// session. Where no answer has told of a fault (no verb was answered 24, 30, 90 or 92, only OPEN was
+/// answered 91, and no description was refused for want of memory), where the library has not lied by
+/// then, and what it showed at first of the names that are described was true: all answers are exactly
+/// what the definitions give for the requests in order, from the files that the library had first,
+/// through descriptions and releases, and the session stands for what they leave. So it is, too, of the
+/// closes of its open files, then.
+pub fn exact_in_requests<L: GrowingLibrary + Drop>()
+    ensures { ExactInRequests L.shown L.keeps_open }
+{}
+
+/// The same of a whole session, however it ended: it is so of its requests, and where no close at its
+/// end has told of a fault, of these, too; its library has the files that they leave.
 pub fn exact_session<L: GrowingLibrary + Drop>()
     ensures { ExactSession L.shown L.keeps_open }
 {}

@@ -13,4 +13,6 @@ returns g c =
       count_is = c.len.ensures.value ∙ ap length had.1;
       no_false_file =
           λ start exchanges before. c.no_false_file_in_requests.ensures.next start exchanges (exchange c.args.body.now had.0) c.args.session.now c.answer_request.new.session before had.2;
+      exact =
+          λ start exchanges before. c.exact_in_requests.ensures.next start exchanges (exchange c.args.body.now had.0) c.args.session.now c.answer_request.new.session before had.2;
     }

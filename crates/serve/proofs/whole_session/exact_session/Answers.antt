@@ -1,4 +1,4 @@
-use Rattle.serve.proofs.ExactLemmas as laws
+use Rattle.serve.proofs.ExactLaws as laws
 use Rattle.serve.proofs.whole_session.exact_session.Goals as goal
 
 pub returns : goal.returns

@@ -1,0 +1,2 @@
+pub mod NamedElsewhere
+pub mod SessionLemmas
