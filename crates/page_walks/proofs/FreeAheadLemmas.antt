@@ -1,14 +1,14 @@
 -- Free pages that a walk has yet to find.
-use Rattle.std.proofs.Common.{◌≡◌, ℕ, zero, suc, ◌-◌, ◌<◌, Bool, true, false, ltb, ◌&&◌, List, [], ◌∷◌, length, Option, Some, None, refl, subst, arith}
-use Rattle.std.specs.Prelude.{if◌then◌else◌, ◌==◌, option_and_then}
-use Rattle.std.proofs.lemmas.Bool.{and_parts, ltb-true, eqb-true}
+use Rattle.std.proofs.Common.{◌≡◌, ℕ, zero, suc, ◌<◌, Bool, true, false, ltb, ◌&&◌, List, [], ◌∷◌, length, Option, Some, None, refl, ap, sym, ◌∙◌, subst, arith}
+use Rattle.std.specs.Prelude.{if◌then◌else◌, ◌==◌, nat_eq, option_and_then}
+use Rattle.std.proofs.lemmas.Bool.{and_parts, ltb-true, eqb-true, false≢true}
 use Rattle.page_bytes.specs.Each.{Each}
 use Rattle.page_alloc.specs.FreePage.{is_free, next_of}
 use Rattle.page_alloc.specs.Chain.{is_page, is_among, chain}
 use Rattle.page_marks.specs.Marks.{IsUnmarked, Marks, marked_in}
 use Rattle.page_marks.proofs.EachLemmas.{outside_symm}
 use Rattle.page_marks.proofs.RefusedLemmas.{still_unmarked}
-use Rattle.page_walks.specs.FreeWalk.{page_in, FreeAhead, IsFreePage, IsFreePageAt}
+use Rattle.page_walks.specs.FreeWalk.{page_in, FreeAhead, IsFreePage, IsFreePageAt, IsFreePagePath}
 use Rattle.page_walks.proofs.FileLemmas.{among_outside}
 
 -- the free pages behind the first one
@@ -76,3 +76,38 @@ ahead_ends list at zero reached none a = go (at == 0) refl a.is
     go : (b : Bool) → (at == 0) ≡ b → (if b then Some [] else None) ≡ Some a.own → at ≡ 0
     go true e is = eqb-true at 0 e
     go false e is = absurd (cc)
+
+pub among_tail : (n m : ℕ) (ms : List ℕ) → nat_eq n m ≡ false → is_among n (m ∷ ms) ≡ true → is_among n ms ≡ true
+among_tail n m ms differs found = rw differs at found
+
+-- some pages of a chain, fewer than so many, lead to page n
+abbrev pub LedTo : List (List ℕ) → (first count n : ℕ) → Type 0
+LedTo list first count n = (front : List ℕ) × (length front < count) × IsFreePagePath list first front n
+
+none_among : (n : ℕ) (own : List ℕ) → Some [] ≡ Some own → is_among n own ≡ true → ⊥
+none_among n own is found = let none : [] ≡ own = cc is in let bad : is_among n [] ≡ true = ap (is_among n) none ∙ found in false≢true bad
+
+led_first : (list : List (List ℕ)) (first k n : ℕ) → n ≡ first → LedTo list first (suc k) n
+led_first list first k n same = ([], (let some : 0 < suc k = omega arith in some), sym same)
+
+led_on : (list : List (List ℕ)) (first next k n : ℕ) → IsFreePageAt list first next → LedTo list next k n → LedTo list first (suc k) n
+led_on list first next k n here rest =
+    let less : length rest.0 < k = rest.1 in
+    (first ∷ rest.0, (let more : suc (length rest.0) < suc k = omega (arith, less) in more), (refl, (next, here, rest.2)))
+
+led_either : (list : List (List ℕ)) (first k n : ℕ) (own : List ℕ) (o : Opened list first k own) → is_among n own ≡ true → (is_among n o.rest ≡ true → LedTo list (next_of (page_in list first)) k n)
+    → (b : Bool) → nat_eq n first ≡ b → LedTo list first (suc k) n
+led_either list first k n own o found rest true e = led_first list first k n (eqb-true n first e)
+led_either list first k n own o found rest false e =
+    led_on list first (next_of (page_in list first)) k n o.here (rest (among_tail n first o.rest e (ap (is_among n) (sym o.are) ∙ found)))
+
+pub led_by_chain : (list : List (List ℕ)) (first count : ℕ) (own : List ℕ) → chain (page_in list) (length list) first count ≡ Some own → (n : ℕ) → is_among n own ≡ true
+    → LedTo list first count n
+led_by_chain list first zero own is n found = go (first == 0) is
+  where
+    go : (b : Bool) → (if b then Some [] else None) ≡ Some own → LedTo list first 0 n
+    go true e = absurd (none_among n own e found)
+    go false e = absurd (cc)
+led_by_chain list first (suc k) own is n found =
+    let o = opens list first k own is in
+    led_either list first k n own o found (λ on. led_by_chain list (next_of (page_in list first)) k o.rest o.behind n on) (nat_eq n first) refl

@@ -7,22 +7,28 @@ use Rattle.page_alloc.specs.FreePage.{is_free}
 use Rattle.page_alloc.specs.Chain.{is_page, is_among, chain}
 use Rattle.page_marks.specs.Marks.{Marks}
 use Rattle.page_marks.proofs.MarksLemmas.{marks_none, marks_on}
-use Rattle.page_walks.specs.FreeWalk.{page_in, IsFreePageAt, IsFreePagePath, FreeFront, FreeWalked}
+use Rattle.page_walks.specs.FreeWalk.{page_in, IsFreePageAt, IsFreePagePath, FreeFront, FreeWalked, last_page}
 
 path_more : (list : List (List ℕ)) (first : ℕ) (own : List ℕ) (n next : ℕ) → IsFreePagePath list first own n → IsFreePageAt list n next → IsFreePagePath list first (own ++ n ∷ []) next
 path_more list first [] n next path at = (path, (next, at, refl))
 path_more list first (m ∷ ms) n next path at = (path.0, (path.1.0, path.1.1, path_more list path.1.0 ms n next path.1.2 at))
 
 -- none is walked yet
-pub free_none : (list : List (List ℕ)) (first : ℕ) (marks : ℕ → Bool) → FreeFront list first first 0 marks marks
-free_none list first marks = record { own = []; path = refl; as_many = refl; marks = marks_none marks }
+pub free_none : (list : List (List ℕ)) (first : ℕ) (marks : ℕ → Bool) → FreeFront list first 0 first 0 marks marks
+free_none list first marks = record { own = []; path = refl; last = refl; as_many = refl; marks = marks_none marks }
+
+pub last_added : (own : List ℕ) (n : ℕ) → last_page (own ++ n ∷ []) ≡ n
+last_added [] n = refl
+last_added (m ∷ []) n = refl
+last_added (m ∷ k ∷ ms) n = last_added (k ∷ ms) n
 
 -- one more is walked
-pub free_more : (list : List (List ℕ)) (first at next count : ℕ) (a b c : ℕ → Bool) → FreeFront list first at count a b → IsFreePageAt list at next → Marks b c (at ∷ [])
-    → FreeFront list first next (suc count) a c
-free_more list first at next count a b c front here marks = record {
+pub free_more : (list : List (List ℕ)) (first from at next count : ℕ) (a b c : ℕ → Bool) → FreeFront list first from at count a b → IsFreePageAt list at next → Marks b c (at ∷ [])
+    → FreeFront list first at next (suc count) a c
+free_more list first from at next count a b c front here marks = record {
   own = front.own ++ at ∷ [];
   path = path_more list first front.own at next front.path here;
+  last = last_added front.own at;
   as_many = length-append front.own (at ∷ []) ∙ (let n = front.as_many in omega arith);
   marks = marks_on a b c front.own (at ∷ []) front.marks marks;
 }
@@ -43,8 +49,8 @@ path_is list first (n ∷ ns) path apart =
     let rest = path_is list path.1.0 ns path.1.2 apart.1 in
     rw (path.0, free_page list n path.1.0 at, at.leads, rest, not_among n ns apart.0) refl
 
-pub free_walked : (list : List (List ℕ)) (first count : ℕ) (before after : ℕ → Bool) → FreeFront list first 0 count before after → FreeWalked list first count before after
-free_walked list first count before after front = record {
+pub free_walked : (list : List (List ℕ)) (first from count : ℕ) (before after : ℕ → Bool) → FreeFront list first from 0 count before after → FreeWalked list first count before after
+free_walked list first from count before after front = record {
   own = front.own;
   is = subst (λ (n : ℕ). chain (page_in list) (length list) first n ≡ Some front.own) front.as_many (path_is list first front.own front.path front.marks.apart);
   marks = front.marks;

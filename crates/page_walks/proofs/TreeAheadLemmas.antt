@@ -1,5 +1,5 @@
 -- Trees that a walk has yet to find.
-use Rattle.std.proofs.Common.{◌≡◌, ℕ, zero, suc, ◌+◌, ◌<◌, ◌≤◌, Bool, true, false, List, [], ◌∷◌, ◌++◌, length, drop, get_or, map, flat_map, min, Some, None, IsSome, refl, ap, sym, ◌∙◌, arith, subst, slice_index_or, nat_lt, Result, Ok, Err, IfErr}
+use Rattle.std.proofs.Common.{◌≡◌, ℕ, zero, suc, ◌<◌, ◌≤◌, Bool, true, false, List, [], ◌∷◌, ◌++◌, length, drop, get_or, map, flat_map, min, Some, None, IsSome, refl, ap, sym, ◌∙◌, arith, subst, slice_index_or, nat_lt, Result, Ok, Err, IfErr}
 use Rattle.std.proofs.lemmas.List.{length-map, append-nil}
 use Rattle.std.proofs.lemmas.Bool.{false≢true, ltb-true}
 use Rattle.std.proofs.Math.Seq.{drop-cons}

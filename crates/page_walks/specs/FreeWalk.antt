@@ -1,8 +1,15 @@
 -- What a walk finds of the free pages.
-use Rattle.std.specs.Prelude.{◌≡◌, ℕ, ◌<◌, Bool, true, List, [], ◌∷◌, length, Some, slice_index_or}
+use Rattle.std.specs.Prelude.{◌≡◌, ◌≢◌, ◌⊎◌, ℕ, ◌<◌, ◌≤◌, Bool, true, false, List, [], ◌∷◌, length, Some}
+use Rattle.std.specs.Prelude.{slice_index_or}
 use Rattle.page_alloc.specs.FreePage.{is_free, next_of}
-use Rattle.page_alloc.specs.Chain.{chain}
+use Rattle.page_alloc.specs.Chain.{chain, is_among}
 use Rattle.page_bytes.specs.Each.{Each}
+use Rattle.page_marks.specs.declared.fault_place.FaultPlace.{FaultPlace}
+use Rattle.page_marks.specs.declared.fault_place.FaultPlace.TheVariants.{Page}
+use Rattle.page_marks.specs.declared.page_fault.PageFault.{PageFault}
+use Rattle.page_marks.specs.declared.page_fault.PageFault.TheVariants.{Shared, Node, Order, Chain, Count}
+use Rattle.page_marks.specs.declared.walk_fault.WalkFault.{WalkFault}
+use Rattle.page_marks.specs.declared.walk_fault.WalkFault.TheVariants.{At}
 use Rattle.page_marks.specs.Marks.{IsUnmarked, Marks}
 
 -- the bytes of a page, as they were read
@@ -38,9 +45,41 @@ IsFreePagePath list first [] at = first ≡ at
 IsFreePagePath list first (n ∷ ns) at = (first ≡ n)
     × ((next : ℕ) × IsFreePageAt list n next × IsFreePagePath list next ns at)
 
--- so many free pages were reached from the first one, and this one is next
-pub record FreeFront (list : List (List ℕ)) (first at count : ℕ) (before after : ℕ → Bool) : Type 0 where
+-- the last of some pages, or page 0
+abbrev pub last_page : List ℕ → ℕ
+last_page [] = 0
+last_page (n ∷ []) = n
+last_page (n ∷ m ∷ ns) = last_page (m ∷ ns)
+
+-- so many free pages were reached from the first one, `from` is the last of them, and this one is next
+pub record FreeFront (list : List (List ℕ)) (first from at count : ℕ)
+    (before after : ℕ → Bool) : Type 0 where
   pub own : List ℕ
   pub path : IsFreePagePath list first own at
+  pub last : last_page own ≡ from
   pub as_many : length own ≡ count
   pub marks : Marks before after own
+
+-- the page that leads to page n is told where n is none of the list, or page 0; or n is, where it is
+-- no free page
+abbrev pub TellsOfNext : List (List ℕ) → (from n : ℕ) → WalkFault → Type 0
+TellsOfNext list from n fault = ((fault ≡ At Chain (Page from)) × ((n ≡ 0) ⊎ (length list ≤ n)))
+    ⊎ ((fault ≡ At Chain (Page n)) × (n < length list) × (is_free (page_in list n) ≡ false))
+
+-- This is wrong behind free pages that lead from the first one to page n, of which there are to be so
+-- many: n had its mark before, or is one of them; it is none of the list, or no free page; or they are
+-- all, and it is not page 0.
+abbrev pub IsFaultBehind : List (List ℕ) → (count : ℕ) → List Bool → List ℕ → ℕ → PageFault → FaultPlace → Type 0
+IsFaultBehind list count marks own n Shared place = (place ≡ Page n) × (n < length list)
+    × (length own < count) × (IsUnmarked marks n → is_among n own ≡ true)
+IsFaultBehind list count marks own n Chain place =
+    ((length own < count) × TellsOfNext list (last_page own) n (At Chain place))
+    ⊎ ((length own ≡ count) × (n ≢ 0) × (place ≡ Page (last_page own)))
+IsFaultBehind list count marks own n Node place = ⊥
+IsFaultBehind list count marks own n Order place = ⊥
+IsFaultBehind list count marks own n Count place = ⊥
+
+-- so it is with the free pages, some pages of the list having their marks before
+abbrev pub IsFreeFault : List (List ℕ) → (first count : ℕ) → List Bool → PageFault → FaultPlace → Type 0
+IsFreeFault list first count marks fault place = (own : List ℕ) × (n : ℕ)
+    × IsFreePagePath list first own n × IsFaultBehind list count marks own n fault place

@@ -1,5 +1,6 @@
 -- Keys of a node that rise between two bounds.
-use Rattle.std.specs.Prelude.{◌≡◌, ℕ, List, [], ◌∷◌, take, drop, Option, Some, ⊤}
+use Rattle.std.specs.Prelude.{◌≡◌, ◌⊎◌, ◌<◌, ℕ, suc, List, [], ◌∷◌, length, take, drop, slice_index_or}
+use Rattle.std.specs.Prelude.{Option, Some, ⊤}
 use Rattle.std.specs.Option.{option_copied}
 use Rattle.std.specs.Borrow.{Bor}
 use Rattle.page_bytes.specs.Each.{Each}
@@ -39,3 +40,20 @@ pub record Risen (width : ℕ) (high : Bound) (es : List (List ℕ)) (i : ℕ) (
   pub rises : Ascends width (drop i es)
   pub under : Each (λ e. Below high (take width e)) (drop i es)
   pub ahead : above ≡ key_ahead width (drop i es) high
+
+-- Key i of these entries is not below the one behind it, or the high bound where none is; or it is the
+-- first one, and does not stand as it should to the low bound.
+abbrev pub IsAstray : (Bound → List ℕ → Type 0) → ℕ → (low high : Bound) → List (List ℕ) → ℕ → Type 0
+IsAstray Stands width low high es i = (i < length es)
+    × ((Below (key_ahead width (drop (suc i) es) high) (take width (slice_index_or es i [])) → ⊥)
+    ⊎ ((i ≡ 0) × (Stands low (take width (slice_index_or es i [])) → ⊥)))
+
+-- so is key i of a leaf's page
+abbrev pub IsLeafKeyAstray : Shape → List ℕ → (low high : Option (Bor (List ℕ))) → ℕ → Type 0
+IsLeafKeyAstray shape page low high i =
+    IsAstray NotBelow shape.width (option_copied low) (option_copied high) (leaf_entries shape page) i
+
+-- so is separator i of an inner node's page
+abbrev pub IsSeparatorAstray : Shape → List ℕ → (low high : Option (Bor (List ℕ))) → ℕ → Type 0
+IsSeparatorAstray shape page low high i =
+    IsAstray Above shape.width (option_copied low) (option_copied high) (separators shape page) i

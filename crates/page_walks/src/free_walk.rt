@@ -8,7 +8,9 @@
 ghost use Rattle.std.specs.Prelude.{◌≡◌, IfErr, IfOk, OnOk};
 ghost use Rattle.page_marks.specs.Marks.{marked_in};
 ghost use Rattle.page_marks.specs.Refused.{RefusesRightly};
-ghost use Rattle.page_walks.specs.FreeWalk.{FreeAhead, FreeWalked, IsFreePage, IsFreePageAt};
+ghost use Rattle.page_walks.specs.FreeWalk.{FreeAhead, FreeWalked, IsFreeFault, IsFreePage, IsFreePageAt};
+ghost use Rattle.page_walks.specs.FreeWalk.{TellsOfNext};
+ghost use Rattle.page_walks.specs.Told.{TellsOfFault};
 
 use byteorder::{BigEndian, ByteOrder};
 use page_bytes::PAGE_SIZE;
@@ -26,6 +28,7 @@ const NEXT_END: usize = 8;
 fn behind(pages: &[[u8; PAGE_SIZE]], from: u32, n: u32) -> Result<u32, WalkFault>
     ensures leads { IfOk result (λ next. IsFreePageAt pages.now n next) }
     ensures refused { IfErr result (RefusesRightly (IsFreePage pages.now n)) }
+    ensures told { IfErr result (TellsOfNext pages.now from n) }
 {
     if n == 0 || n as usize >= pages.len() {
         return Err(WalkFault::of_page(PageFault::Chain, from));
@@ -52,6 +55,8 @@ pub fn walk_free(
     ensures walked { OnOk result (FreeWalked pages.now first count
         (marked_in reached.old) (marked_in reached.new)) }
     ensures refused { IfErr result (RefusesRightly (FreeAhead pages.now first count reached.old)) }
+    ensures told { IfErr result
+        (TellsOfFault (IsFreeFault pages.now first count reached.old)) }
 {
     let mut from = 0;
     let mut at = first;

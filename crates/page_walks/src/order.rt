@@ -1,12 +1,13 @@
 //! The order of a node's keys.
 
-ghost use Rattle.std.specs.Prelude.{◌≡◌, ◌↔◌, IsTrue, OnErr, OnOk};
+ghost use Rattle.std.specs.Prelude.{◌≡◌, ◌↔◌, IfErr, IsTrue, OnErr, OnOk};
 ghost use Rattle.std.specs.Option.{option_copied};
 ghost use Rattle.tree_node.specs.Leaf.{IsLeaf, leaf_entries};
 ghost use Rattle.tree_node.specs.Inner.{IsInner, separators};
 ghost use Rattle.tree_node.specs.Order.{less, Ascends};
 ghost use Rattle.tree_search.specs.Tree.{NotBelow, Above, Below};
 ghost use Rattle.page_walks.specs.Order.{AreSeparatorsBetween, AreLeafKeysInside};
+ghost use Rattle.page_walks.specs.Order.{IsLeafKeyAstray, IsSeparatorAstray};
 
 use page_bytes::PAGE_SIZE;
 use tree_node::{InnerView, LeafView, Shape};
@@ -62,6 +63,7 @@ pub fn check_keys(
     ensures inside { OnOk result (AreLeafKeysInside shape page.now low.entry high.entry) }
     ensures refused { OnErr result (Ascends shape.width (leaf_entries shape page.now)
         → AreLeafKeysInside shape page.now low.entry high.entry → ⊥) }
+    ensures told { IfErr result (λ i. IsLeafKeyAstray shape page.now low.entry high.entry i) }
 {
     let leaf = LeafView { page, shape };
     let mut above = high;
@@ -97,6 +99,7 @@ pub fn check_separators(
     ensures between { OnOk result (AreSeparatorsBetween shape page.now low.entry high.entry) }
     ensures refused { OnErr result (Ascends shape.width (separators shape page.now)
         → AreSeparatorsBetween shape page.now low.entry high.entry → ⊥) }
+    ensures told { IfErr result (λ i. IsSeparatorAstray shape page.now low.entry high.entry i) }
 {
     let node = InnerView { page, shape };
     let mut above = high;

@@ -7,7 +7,10 @@ ghost use Rattle.tree_node.specs.Leaf.{IsLeaf, leaf_room};
 ghost use Rattle.node_balance.specs.Fill.{least_entries};
 ghost use Rattle.page_marks.specs.Refused.{RefusesRightly};
 ghost use Rattle.page_walks.specs.Spots.{IsLeafThere};
+ghost use Rattle.page_walks.specs.Told.{TellsOfFault};
 ghost use Rattle.page_walks.specs.TreeAhead.{AwaitsBelow, TreeUnmarked};
+ghost use Rattle.page_walks.specs.TreeFaults.{IsNodeFault, IsSomewhereBelow, IsTreeFault, MarksBelow};
+ghost use Rattle.page_walks.specs.TreeFaults.{node_place, root_place};
 ghost use Rattle.page_walks.specs.TreeWalk.{IsInnerWithin, IsLeafWithin, AddsLeaf, WalksBelow, WalksTree};
 
 use crate::leaf::{Leaf, have_entries, push};
@@ -32,6 +35,8 @@ struct Limits<'a> {
 fn check_leaf(page: &[u8; PAGE_SIZE], n: u32, shape: Shape, limits: Limits) -> Result<(), WalkFault>
     ensures fits { OnOk result (IsLeafWithin shape page.now limits.entry) }
     ensures refused { IfErr result (RefusesRightly (IsLeafWithin shape page.now limits.entry)) }
+    ensures told { IfErr result
+        (TellsOfFault (IsNodeFault shape page.now (node_place 0 n limits.entry))) }
 {
     if !is_leaf(page, shape) {
         return Err(WalkFault::of_page(PageFault::Node, n));
@@ -55,6 +60,8 @@ fn check_inner(
 ) -> Result<(), WalkFault>
     ensures fits { OnOk result (IsInnerWithin shape page.now limits.entry) }
     ensures refused { IfErr result (RefusesRightly (IsInnerWithin shape page.now limits.entry)) }
+    ensures told { IfErr result
+        (TellsOfFault (IsNodeFault shape page.now (node_place 1 n limits.entry))) }
 {
     if !is_inner(page, shape) {
         return Err(WalkFault::of_page(PageFault::Node, n));
@@ -123,8 +130,12 @@ fn walk_below(
         (reached.old, leaves.old.items) (reached.new, leaves.new.items)) }
     ensures there { OnOk result (Each (IsLeafThere shape pages.now) leaves.old.items
         → Each (IsLeafThere shape pages.now) leaves.new.items) }
+    ensures marks { OnOk result (MarksBelow shape pages.now (node_place levels page limits.entry)
+        reached.old reached.new) }
     ensures refused { IfErr result
         (RefusesRightly (AwaitsBelow shape pages.now levels page limits.entry reached.old)) }
+    ensures told { IfErr result (TellsOfFault (IsSomewhereBelow shape pages.now
+        (node_place levels page limits.entry) reached.old)) }
 {
     if page as usize >= pages.len() {
         return Err(WalkFault::of_page(PageFault::Node, limits.parent));
@@ -194,7 +205,10 @@ pub fn walk_tree(
         (λ leaves. WalksTree tree.now pages.now reached.old reached.new leaves.items) }
     ensures there { IfOk result
         (λ leaves. Each (IsLeafThere (tree_shape tree.now) pages.now) leaves.items) }
+    ensures marks { OnOk result (MarksBelow (tree_shape tree.now) pages.now (root_place tree.now)
+        reached.old reached.new) }
     ensures refused { IfErr result (RefusesRightly (TreeUnmarked tree.now pages.now reached.old)) }
+    ensures told { IfErr result (TellsOfFault (IsTreeFault tree.now pages.now reached.old)) }
 {
     let mut leaves = Vec::new(alloc);
     let limits = Limits {

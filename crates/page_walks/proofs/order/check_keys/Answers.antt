@@ -1,4 +1,4 @@
-use Rattle.std.proofs.Common.{◌≡◌, ◌<◌, ◌-◌, suc, length, take, get_or, [], refl, sym, arith, subst}
+use Rattle.std.proofs.Common.{◌≡◌, ◌<◌, ◌-◌, suc, inl, inr, length, take, get_or, [], refl, sym, arith, subst}
 use Rattle.std.proofs.lemmas.Bool.{false≢true}
 use Rattle.std.specs.Option.{option_copied}
 use Rattle.tree_search.specs.Tree.{Bound, Below, NotBelow}
@@ -38,3 +38,20 @@ returns-then-not-is_from-clause-refused c rises inside =
     let some : 0 < length es = omega arith in
     false≢true (c.if-not-is_from.ensures.1 (subst (NotBelow (option_copied c.args.low)) (sym c.key.ensures.value)
     (first_from c.args.shape.width (option_copied c.args.low) (option_copied c.args.high) es some inside)))
+
+pub returns-then-not-is_under-clause-told : goal.returns-then-not-is_under-clause-told
+returns-then-not-is_under-clause-told c =
+    let es = leaf_entries c.args.shape c.args.page.now in
+    let one : c.keys.i ≡ suc (c.keys.i - 1) = omega arith in (
+      omega arith,
+      inl (λ below. false≢true (c.if-not-is_under.ensures.1 (subst (Below (option_copied c.keys.above)) (sym c.key-key.ensures.value)
+          (subst (λ (b : Bound). Below b (take c.args.shape.width (get_or es (c.keys.i - 1) []))) (sym (rw one at c.keys.invariant.risen.ahead)) below)))),
+    )
+
+pub returns-then-not-is_from-clause-told : goal.returns-then-not-is_from-clause-told
+returns-then-not-is_from-clause-told c =
+    let es = leaf_entries c.args.shape c.args.page.now in
+    let many : c.count.result ≡ length es = c.count.ensures.value in (
+      omega arith,
+      inr (refl, λ from. false≢true (c.if-not-is_from.ensures.1 (subst (NotBelow (option_copied c.args.low)) (sym c.key.ensures.value) from))),
+    )

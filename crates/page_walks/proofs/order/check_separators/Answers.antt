@@ -1,4 +1,4 @@
-use Rattle.std.proofs.Common.{◌≡◌, ◌<◌, ℕ, List, length, ◌-◌, suc, [], get_or, take, refl, arith, sym, subst, ◌∙◌}
+use Rattle.std.proofs.Common.{◌≡◌, ◌<◌, ℕ, List, inl, inr, length, ◌-◌, suc, [], get_or, take, refl, arith, sym, subst, ◌∙◌}
 use Rattle.std.proofs.lemmas.Bool.{false≢true}
 use Rattle.std.specs.Option.{option_copied}
 use Rattle.tree_search.specs.Tree.{Bound, Below, Above}
@@ -44,3 +44,26 @@ returns-then-not-is_over-clause-refused c rises between =
     let some : 0 < length es = omega arith in
     false≢true (c.if-not-is_over.ensures.1 (subst (Above (option_copied c.args.low)) (sym c.separator.ensures.value)
     (first_over (option_copied c.args.low) (option_copied c.args.high) es some between)))
+
+pub returns-then-not-is_under-clause-told : goal.returns-then-not-is_under-clause-told
+returns-then-not-is_under-clause-told c =
+    let width = c.args.shape.width in
+    let es = separators c.args.shape c.args.page.now in
+    let one : c.keys.i ≡ suc (c.keys.i - 1) = omega arith in
+    let all = whole_keys width (branches c.args.shape c.args.page.now) in
+    let whole : take width (get_or es (c.keys.i - 1) []) ≡ get_or es (c.keys.i - 1) [] = Each-get_or (λ (s : List ℕ). take width s ≡ s) es (c.keys.i - 1) [] (omega arith) all in (
+      omega arith,
+      inl (λ below. false≢true (c.if-not-is_under.ensures.1 (subst (Below (option_copied c.keys.above)) (whole ∙ sym c.separator-key.ensures.value)
+          (subst (λ (b : Bound). Below b (take width (get_or es (c.keys.i - 1) []))) (sym (rw one at c.keys.invariant.risen.ahead)) below)))),
+    )
+
+pub returns-then-not-is_over-clause-told : goal.returns-then-not-is_over-clause-told
+returns-then-not-is_over-clause-told c =
+    let width = c.args.shape.width in
+    let es = separators c.args.shape c.args.page.now in
+    let many : c.count.result ≡ length es = c.count.ensures.value in
+    let all = whole_keys width (branches c.args.shape c.args.page.now) in
+    let whole : take width (get_or es 0 []) ≡ get_or es 0 [] = Each-get_or (λ (s : List ℕ). take width s ≡ s) es 0 [] (omega arith) all in (
+      omega arith,
+      inr (refl, λ over. false≢true (c.if-not-is_over.ensures.1 (subst (Above (option_copied c.args.low)) (whole ∙ sym c.separator.ensures.value) over))),
+    )

@@ -1,4 +1,4 @@
-use Rattle.std.proofs.Common.{◌≡◌, ◌-◌, ◌+◌, suc, ◌<◌, ℕ, length, drop, [], get_or, arith, add-one, sym, subst, refl, ap, ◌∙◌, slice_index_or, Some}
+use Rattle.std.proofs.Common.{◌≡◌, IfErr, ◌-◌, ◌+◌, suc, ◌<◌, ◌≤◌, ℕ, length, drop, [], get_or, arith, add-one, sym, subst, refl, ap, ◌∙◌, slice_index_or, Some}
 use Rattle.std.specs.Option.{option_copied}
 use Rattle.tree_node.specs.Inner.{separators, children}
 use Rattle.tree_node.proofs.InnerLemmas.{length_children, length_separators}
@@ -12,6 +12,12 @@ use Rattle.page_marks.specs.Marks.{IsUnmarked}
 use Rattle.page_marks.proofs.RefusedLemmas.{err_refuses_more, handed_on, refused}
 use Rattle.page_walks.proofs.TreeAheadLemmas.{ahead_as, ahead_children, ahead_inner, ahead_leaf, ahead_there, ahead_unmarked, only_memory, row_end, row_first, row_rest, row_split}
 use Rattle.tree_search.specs.Tree.{Bound}
+use Rattle.page_marks.specs.declared.fault_place.FaultPlace.TheVariants.{Page}
+use Rattle.page_marks.specs.declared.page_fault.PageFault.TheVariants.{Node, Shared}
+use Rattle.page_walks.specs.Told.{TellsOfFault}
+use Rattle.page_walks.specs.TreeFaults.{IsNodeFault, IsSomewhereBelow, MarksBelow, NodePlace, child_place, node_place}
+use Rattle.page_walks.proofs.ToldLemmas.{err_tells_more, handed_told, never_free, only_memory_told, tells_on, told}
+use Rattle.page_walks.proofs.TreeFaultLemmas.{behind_inside, behind_last, below_child, beyond_the_list, child_is, inner_there, leaf_there, marks_done, marks_first, marks_next, marks_page, reached_before, wrong_there}
 use Rattle.page_walks.proofs.tree_walk.+walk_below.Goals as goal
 
 pub returns-then-levels-eq0-clause-walked : goal.returns-then-levels-eq0-clause-walked
@@ -31,6 +37,7 @@ children-init t c =
       within = omega arith;
       low = refl;
       there = λ all. all;
+      marks = marks_first c.args.shape list (node_place c.args.levels c.args.page c.args.limits) c.args.reached.now c.mark.new.reached c.in_ok-mark.ensures.marked c.in_ok-mark.ensures.long;
       ahead = λ a. ahead_children c.args.shape list c.args.page c.args.limits.least (option_copied c.args.limits.low) (option_copied c.args.limits.high) c.args.reached.now c.args.levels (c.args.levels - 1)
           c.mark.new.reached (omega arith) c.in_ok-mark.ensures.marked c.in_ok-mark.ensures.long a;
       front = front_none c.args.shape (pages_in list) (c.args.levels - 1) (option_copied c.args.limits.low) (separators c.args.shape bytes) (children c.args.shape bytes) _;
@@ -59,6 +66,16 @@ children-preserved t c =
       within = omega arith;
       low = rw add-one (ap Some c.separator.ensures.value ∙ sym (bound_next low ss i few));
       there = λ all. c.in_ok-walk_below.ensures.there (c.children.invariant.there all);
+      marks = (let at = node_place c.args.levels c.args.page c.args.limits in
+          let some : 1 ≤ c.args.levels = omega arith in
+          let inside : c.args.page < length list = omega arith in
+          let within : i ≤ length ss = omega (arith, few) in
+          marks_next shape list at i (record { above = some; there = inside; inner = c.in_ok-check_inner.ensures.fits.inner; within = within })
+          c.args.reached.now c.children.reached c.walk_below.new.reached c.children.invariant.marks
+          (subst (λ (p : NodePlace). MarksBelow shape list p c.children.reached c.walk_below.new.reached)
+          (child_is shape list at i c.child.result c.least_in-least.result (option_copied c.children.low) (Some c.separator.result.now)
+          c.child.ensures c.least_in-least.ensures c.children.invariant.low (ap Some c.separator.ensures.value ∙ sym (behind_inside ss i (option_copied c.args.limits.high) few)))
+          c.in_ok-walk_below.ensures.marks));
       ahead = λ a. rw add-one (subst (λ (b : Bound). RowAhead shape (pages_in list) k b (drop (suc i) ss) (drop (suc i) below) (option_copied c.args.limits.high) c.walk_below.new.reached)
           (sym (bound_next low ss i few))
           (row_rest shape (pages_in list) k (bound_at low ss i) (get_or ss i []) (drop (suc i) ss) (get_or below i 0) (least_entries shape k) (bound_at low ss i) (Some (get_or ss i [])) (drop (suc i) below)
@@ -176,3 +193,110 @@ returns-clause-refused t c =
     (c.child-2.ensures ∙ ap (λ (n : ℕ). get_or below n 0) (many ∙ sym end)) c.least_in-least.ensures c.children.invariant.low refl
     (row_end shape (pages_in list) k (bound_at low ss i) ss below i high c.children.reached end (omega arith) (c.children.invariant.ahead a)))
     c.walk_below-2.ensures.refused
+
+pub returns-then-levels-eq0-clause-marks : goal.returns-then-levels-eq0-clause-marks
+returns-then-levels-eq0-clause-marks t c =
+    on_ok c.push_leaf.result
+    (λ _. marks_page c.args.shape c.args.pages.now (node_place c.args.levels c.args.page c.args.limits) c.args.reached.now c.mark.new.reached c.in_ok-mark.ensures.marked c.in_ok-mark.ensures.long)
+    c.push_leaf.ensures.adds
+
+pub returns-clause-marks : goal.returns-clause-marks
+returns-clause-marks t c =
+    let shape = c.args.shape in
+    let list = c.args.pages.now in
+    let bytes = slice_index_or list c.args.page [] in
+    let ss = separators shape bytes in
+    let at = node_place c.args.levels c.args.page c.args.limits in
+    let many : c.count-count.result ≡ length ss = c.count-count.ensures.value in
+    let end : c.children.i ≡ length ss = omega arith in
+    let some : 1 ≤ c.args.levels = omega arith in
+    let inside : c.args.page < length list = omega arith in
+    let within : c.children.i ≤ length ss = omega arith in
+    on_ok c.walk_below-2.result
+    (λ below. marks_done shape list at c.children.i (record { above = some; there = inside; inner = c.in_ok-check_inner.ensures.fits.inner; within = within })
+    c.args.reached.now c.children.reached c.walk_below-2.new.reached c.children.invariant.marks
+    (subst (λ (p : NodePlace). MarksBelow shape list p c.children.reached c.walk_below-2.new.reached)
+    (child_is shape list at c.children.i c.child-2.result c.least_in-least.result (option_copied c.children.low) (option_copied c.args.limits.high)
+    (c.child-2.ensures ∙ ap (λ (n : ℕ). get_or (children shape bytes) n 0) (many ∙ sym end)) c.least_in-least.ensures c.children.invariant.low (sym (behind_last ss c.children.i (option_copied c.args.limits.high) end)))
+    below))
+    c.walk_below-2.ensures.marks
+
+pub returns-then-page-pages-clause-told : goal.returns-then-page-pages-clause-told
+returns-then-page-pages-clause-told t c =
+    let at = node_place c.args.levels c.args.page c.args.limits in
+    told (IsSomewhereBelow c.args.shape c.args.pages.now at c.args.reached.now) c.of_page.result Node (Page c.args.limits.parent) c.of_page.ensures
+    (beyond_the_list c.args.shape c.args.pages.now at c.args.reached.now (let past : length c.args.pages.now ≤ c.args.page = omega arith in past))
+
+pub returns-in_err-mark-clause-told : goal.returns-in_err-mark-clause-told
+returns-in_err-mark-clause-told t c =
+    let at = node_place c.args.levels c.args.page c.args.limits in
+    let P = IsSomewhereBelow c.args.shape c.args.pages.now at c.args.reached.now in
+    handed_told P c.from_residual.result _ c.from_residual.ensures.1
+    (told P _ Shared (Page c.args.page) c.in_err-mark.ensures.told
+    (reached_before c.args.shape c.args.pages.now at c.args.reached.now (let inside : c.args.page < length c.args.pages.now = omega arith in inside)
+    (never_free (IsUnmarked c.args.reached.now c.args.page) _ (Page c.args.page) c.in_err-mark.ensures.told c.in_err-mark.ensures.refused)))
+
+pub returns-in_err-check_leaf-clause-told : goal.returns-in_err-check_leaf-clause-told
+returns-in_err-check_leaf-clause-told t c =
+    let list = c.args.pages.now in
+    let bytes = slice_index_or list c.args.page [] in
+    let at = node_place c.args.levels c.args.page c.args.limits in
+    tells_on (IsNodeFault c.args.shape bytes (node_place 0 c.args.page c.args.limits)) (IsSomewhereBelow c.args.shape list at c.args.reached.now)
+    c.from_residual-in_err-check_leaf.result _ c.from_residual-in_err-check_leaf.ensures.1
+    (λ fault place h. wrong_there c.args.shape list at c.args.reached.now (let inside : c.args.page < length list = omega arith in inside) fault place
+    (leaf_there c.args.shape bytes c.args.levels c.args.page c.args.limits c.if-levels-eq0.true fault place h)) c.in_err-check_leaf.ensures.told
+
+pub returns-then-levels-eq0-clause-told : goal.returns-then-levels-eq0-clause-told
+returns-then-levels-eq0-clause-told t c =
+    only_memory_told (IsSomewhereBelow c.args.shape c.args.pages.now (node_place c.args.levels c.args.page c.args.limits) c.args.reached.now) c.push_leaf.result c.push_leaf.ensures.memory
+
+pub returns-in_err-check_inner-clause-told : goal.returns-in_err-check_inner-clause-told
+returns-in_err-check_inner-clause-told t c =
+    let list = c.args.pages.now in
+    let bytes = slice_index_or list c.args.page [] in
+    let at = node_place c.args.levels c.args.page c.args.limits in
+    tells_on (IsNodeFault c.args.shape bytes (node_place 1 c.args.page c.args.limits)) (IsSomewhereBelow c.args.shape list at c.args.reached.now)
+    c.from_residual-in_err-check_inner.result _ c.from_residual-in_err-check_inner.ensures.1
+    (λ fault place h. wrong_there c.args.shape list at c.args.reached.now (let inside : c.args.page < length list = omega arith in inside) fault place
+    (inner_there c.args.shape bytes c.args.levels c.args.page c.args.limits (let some : 1 ≤ c.args.levels = omega arith in some) fault place h)) c.in_err-check_inner.ensures.told
+
+pub returns-in_err-walk_below-clause-told : goal.returns-in_err-walk_below-clause-told
+returns-in_err-walk_below-clause-told t c =
+    let shape = c.args.shape in
+    let list = c.args.pages.now in
+    let bytes = slice_index_or list c.args.page [] in
+    let ss = separators shape bytes in
+    let at = node_place c.args.levels c.args.page c.args.limits in
+    let i = c.children.i in
+    let many : c.count-count.result ≡ length ss = c.count-count.ensures.value in
+    let few : i < length ss = omega arith in
+    let same = child_is shape list at i c.child.result c.least_in-least.result (option_copied c.children.low) (Some c.separator.result.now)
+    c.child.ensures c.least_in-least.ensures c.children.invariant.low (ap Some c.separator.ensures.value ∙ sym (behind_inside ss i (option_copied c.args.limits.high) few)) in
+    let now = c.children.reached in
+    let some : 1 ≤ c.args.levels = omega arith in
+    let inside : c.args.page < length list = omega arith in
+    let within : i ≤ length ss = omega arith in
+    tells_on (IsSomewhereBelow shape list (child_place shape list at i) now) (IsSomewhereBelow shape list at c.args.reached.now)
+    c.from_residual-in_err-walk_below.result _ c.from_residual-in_err-walk_below.ensures.1
+    (below_child shape list at i (record { above = some; there = inside; inner = c.in_ok-check_inner.ensures.fits.inner; within = within }) c.args.reached.now now c.children.invariant.marks)
+    (subst (λ (p : NodePlace). TellsOfFault (IsSomewhereBelow shape list p now) c.in_err-walk_below.field-0.0) same c.in_err-walk_below.ensures.told)
+
+pub returns-clause-told : goal.returns-clause-told
+returns-clause-told t c =
+    let shape = c.args.shape in
+    let list = c.args.pages.now in
+    let bytes = slice_index_or list c.args.page [] in
+    let ss = separators shape bytes in
+    let at = node_place c.args.levels c.args.page c.args.limits in
+    let i = c.children.i in
+    let many : c.count-count.result ≡ length ss = c.count-count.ensures.value in
+    let end : i ≡ length ss = omega arith in
+    let same = child_is shape list at i c.child-2.result c.least_in-least.result (option_copied c.children.low) (option_copied c.args.limits.high)
+    (c.child-2.ensures ∙ ap (λ (n : ℕ). get_or (children shape bytes) n 0) (many ∙ sym end)) c.least_in-least.ensures c.children.invariant.low (sym (behind_last ss i (option_copied c.args.limits.high) end)) in
+    let now = c.children.reached in
+    let some : 1 ≤ c.args.levels = omega arith in
+    let inside : c.args.page < length list = omega arith in
+    let within : i ≤ length ss = omega arith in
+    err_tells_more (IsSomewhereBelow shape list (child_place shape list at i) now) (IsSomewhereBelow shape list at c.args.reached.now) c.walk_below-2.result
+    (below_child shape list at i (record { above = some; there = inside; inner = c.in_ok-check_inner.ensures.fits.inner; within = within }) c.args.reached.now now c.children.invariant.marks)
+    (subst (λ (p : NodePlace). IfErr c.walk_below-2.result (TellsOfFault (IsSomewhereBelow shape list p now))) same c.walk_below-2.ensures.told)

@@ -6,6 +6,7 @@ use Rattle.page_bytes.specs.Each.{Each}
 use Rattle.page_walks.specs.Spots.{IsLeafThere, spots_in}
 use Rattle.page_walks.specs.TreeAhead.{RowAhead, TreeAhead}
 use Rattle.page_walks.specs.TreeWalk.{WalkedFront, bound_at, reach_of}
+use Rattle.page_walks.specs.TreeFaults.{MarksFront, node_place}
 use Rattle.page_walks.proofs.tree_walk.+walk_below.Given as goal
 
 abbrev pub invariant-children : goal.invariant-children
@@ -14,6 +15,7 @@ invariant-children l = record {
   low : option_copied l.low ≡ bound_at (option_copied l.fn.limits.low) (separators l.shape l.node.page.now) l.i;
   front : WalkedFront l.shape (pages_in l.pages) (l.levels - 1) (option_copied l.fn.limits.low) (separators l.shape l.node.page.now) (children l.shape l.node.page.now) l.i
       (reach_of l.shape l.pages l.initial.reached (spots_in l.initial.leaves.items)) (reach_of l.shape l.pages l.reached (spots_in l.leaves.items));
+  marks : MarksFront l.shape l.pages (node_place l.fn.levels l.fn.page l.fn.limits) l.i l.fn.reached l.reached;
   there : Each (IsLeafThere l.shape l.pages) l.initial.leaves.items → Each (IsLeafThere l.shape l.pages) l.leaves.items;
   ahead : TreeAhead l.shape (pages_in l.pages) l.levels l.page l.fn.limits.least (option_copied l.fn.limits.low) (option_copied l.fn.limits.high) l.fn.reached
       → RowAhead l.shape (pages_in l.pages) (l.levels - 1) (bound_at (option_copied l.fn.limits.low) (separators l.shape l.node.page.now) l.i)
