@@ -9,7 +9,7 @@ ghost use Rattle.deck_entries.specs.FileDescription.{no_clauses, with_clause, ad
 
 use crate::record_length::{RecordLength, count, length_clause};
 use crate::words::{eat_one, expect_one};
-use deck_words::{Cause, Parser, Refusal};
+use deck_words::{Cause, Parser, Refusal, Twice};
 
 /// What the clauses of a file description say together.
 #[derive(Drop)]
@@ -19,13 +19,26 @@ pub struct Clauses {
     pub lengths: Option<RecordLength>,
 }
 
+/// The lines of the clauses that there are.
+#[derive(Drop)]
+struct ClauseLines {
+    label: u64,
+    block: u64,
+    lengths: u64,
+}
+
 #[tactic(auto, unfolding(crate::specs::FileDescription::label), using(deck_words::proofs::RepeatLemmas::never_added))]
-fn label(parser: &mut Parser<'_>, clauses: Clauses) -> Result<Clauses, Refusal>
+fn label(
+    parser: &mut Parser<'_>,
+    clauses: Clauses,
+    lines: &mut ClauseLines,
+) -> Result<Clauses, Refusal>
     ensures { Reads ((added_to clauses label_clause).reads parser.old) result parser.new }
 {
     if clauses.label {
-        return Err(parser.fault(Cause::Twice));
+        return Err(parser.fault(Cause::Twice(Twice::Clause(lines.label))));
     }
+    lines.label = parser.line();
     parser.expect(b"LABEL")?;
     expect_one(parser, b"RECORD", b"RECORDS")?;
     eat_one(parser, b"IS", b"ARE")?;
@@ -36,12 +49,17 @@ fn label(parser: &mut Parser<'_>, clauses: Clauses) -> Result<Clauses, Refusal>
 }
 
 #[tactic(auto, unfolding(crate::specs::FileDescription::block, deck_words::specs::Notation::the), using(deck_words::proofs::RepeatLemmas::never_added))]
-fn block(parser: &mut Parser<'_>, clauses: Clauses) -> Result<Clauses, Refusal>
+fn block(
+    parser: &mut Parser<'_>,
+    clauses: Clauses,
+    lines: &mut ClauseLines,
+) -> Result<Clauses, Refusal>
     ensures { Reads ((added_to clauses block_clause).reads parser.old) result parser.new }
 {
     if clauses.block {
-        return Err(parser.fault(Cause::Twice));
+        return Err(parser.fault(Cause::Twice(Twice::Clause(lines.block))));
     }
+    lines.block = parser.line();
     parser.expect(b"BLOCK")?;
     parser.eat(b"CONTAINS");
     count(parser)?;
@@ -55,12 +73,17 @@ fn block(parser: &mut Parser<'_>, clauses: Clauses) -> Result<Clauses, Refusal>
 }
 
 #[tactic(auto, unfolding(crate::specs::FileDescription::record_clause), using(deck_words::proofs::RepeatLemmas::never_added))]
-fn record_clause(parser: &mut Parser<'_>, clauses: Clauses) -> Result<Clauses, Refusal>
+fn record_clause(
+    parser: &mut Parser<'_>,
+    clauses: Clauses,
+    lines: &mut ClauseLines,
+) -> Result<Clauses, Refusal>
     ensures { Reads ((added_to clauses record_clause).reads parser.old) result parser.new }
 {
     if clauses.lengths.is_some() {
-        return Err(parser.fault(Cause::Twice));
+        return Err(parser.fault(Cause::Twice(Twice::Clause(lines.lengths))));
     }
+    lines.lengths = parser.line();
     parser.expect(b"RECORD")?;
     let mut clauses = clauses;
     clauses.lengths = Some(length_clause(parser)?);
@@ -75,16 +98,20 @@ fn sees_clause(parser: &Parser<'_>) -> bool
     parser.sees_one_of(&[b"LABEL", b"BLOCK", b"RECORD"])
 }
 
-fn clause(parser: &mut Parser<'_>, clauses: Clauses) -> Result<Clauses, Refusal>
+fn clause(
+    parser: &mut Parser<'_>,
+    clauses: Clauses,
+    lines: &mut ClauseLines,
+) -> Result<Clauses, Refusal>
     ensures { Reads ((added_to clauses description_clause).reads parser.old) result parser.new }
 {
     if parser.sees(b"LABEL") {
-        return label(parser, clauses);
+        return label(parser, clauses, lines);
     }
     if parser.sees(b"BLOCK") {
-        return block(parser, clauses);
+        return block(parser, clauses, lines);
     }
-    record_clause(parser, clauses)
+    record_clause(parser, clauses, lines)
 }
 
 /// The clauses that come next, if any.
@@ -96,8 +123,13 @@ pub fn read_clauses(parser: &mut Parser<'_>) -> Result<Clauses, Refusal>
         block: false,
         lengths: None,
     };
+    let mut lines = ClauseLines {
+        label: 0,
+        block: 0,
+        lengths: 0,
+    };
     'more: while sees_clause(parser) {
-        clauses = clause(parser, clauses)?;
+        clauses = clause(parser, clauses, &mut lines)?;
     }
     Ok(clauses)
 }

@@ -11,16 +11,17 @@ use crate::entry::Selected;
 use crate::item::{Items, read_items};
 use crate::record_length::RecordLength;
 use crate::select::is_selected_name;
-use deck_words::{Cause, Parser, Refusal};
+use deck_words::{Cause, NameOf, Parser, Refusal, Twice, Unknown, WordPlace};
 use io_state::Name;
 use record_layout::Item;
 use std::alloc::{AllocError, Global};
 use std::marker::Model;
 
-/// A file description, and the line of its word FD. Contracts see the rest.
+/// A file description, where its word FD stands, and the line of its name. Contracts see the rest.
 #[derive(Drop)]
 pub struct Described {
-    pub line: u64,
+    pub place: WordPlace,
+    pub name_line: u64,
     pub name: Name,
     pub lengths: Option<RecordLength>,
     pub items: Items,
@@ -101,6 +102,14 @@ fn is_described_name(earlier: &[Described], name: &[u8]) -> bool
     earlier.iter().any(|described| described.name() == name)
 }
 
+/// The line of the first description's name that is this one.
+fn line_of_name(earlier: &[Described], name: &[u8]) -> u64 {
+    match earlier.iter().find(|described| described.name() == name) {
+        Some(described) => described.name_line,
+        None => 0,
+    }
+}
+
 #[tactic(auto, unfolding(crate::specs::FileDescription::described_name))]
 fn described_name(
     parser: &mut Parser<'_>,
@@ -110,14 +119,14 @@ fn described_name(
     ensures { ReadsAs (λ name. name.bytes) (described_name entries.now earlier.now) parser.old result
         parser.new }
 {
-    let unknown = parser.fault(Cause::Unknown);
-    let twice = parser.fault(Cause::Twice);
-    let name = parser.name()?;
+    let place = parser.place();
+    let name = parser.name(NameOf::File)?;
     if !is_selected_name(entries, name.as_str().as_bytes()) {
-        return Err(unknown);
+        return Err(place.fault(Cause::Unknown(Unknown::Selected)));
     }
     if is_described_name(earlier, name.as_str().as_bytes()) {
-        return Err(twice);
+        let line = line_of_name(earlier, name.as_str().as_bytes());
+        return Err(place.fault(Cause::Twice(Twice::Described(line))));
     }
     Ok(name)
 }
@@ -131,8 +140,9 @@ fn description(
 ) -> Result<Described, Refusal>
     ensures { Reads ((description_behind entries.now earlier.now).reads parser.old) result parser.new }
 {
-    let line = parser.line();
+    let place = parser.place();
     parser.expect(b"FD")?;
+    let name_line = parser.line();
     let name = described_name(parser, entries, earlier)?;
     let clauses = read_clauses(parser)?;
     let Clauses {
@@ -143,7 +153,8 @@ fn description(
     parser.period()?;
     let items = read_items(parser, alloc)?;
     Ok(Described {
-        line,
+        place,
+        name_line,
         name,
         lengths,
         items,

@@ -12,7 +12,7 @@ use crate::entry::Selected;
 use crate::select::select;
 use crate::storage::{StorageItems, storage_section};
 use crate::words::heading;
-use deck_words::{Parser, Refusal};
+use deck_words::{NameOf, Parser, Refusal};
 use std::alloc::{AllocError, Global};
 use std::marker::Model;
 
@@ -75,7 +75,7 @@ fn may_identification(parser: &mut Parser<'_>) -> Result<bool, Refusal>
         heading(parser, b"IDENTIFICATION", b"DIVISION")?;
         parser.expect(b"PROGRAM-ID")?;
         parser.period()?;
-        parser.name()?;
+        parser.name(NameOf::Program)?;
         parser.period()?;
         return Ok(true);
     }
@@ -114,7 +114,7 @@ fn read_entries(parser: &mut Parser<'_>, alloc: Global) -> Result<Entries, Refus
 
 /// The divisions up to the file control entries.
 #[tactic(auto, unfolding(crate::specs::Divisions::file_control_paragraph, crate::specs::Divisions::more_entry))]
-fn file_control_paragraph(parser: &mut Parser<'_>, alloc: Global) -> Result<Entries, Refusal>
+pub fn read_file_control(parser: &mut Parser<'_>, alloc: Global) -> Result<Entries, Refusal>
     ensures { Reads (file_control_paragraph.reads parser.old) result parser.new }
 {
     may_identification(parser)?;
@@ -131,7 +131,7 @@ fn file_control_paragraph(parser: &mut Parser<'_>, alloc: Global) -> Result<Entr
 pub fn read_divisions(parser: &mut Parser<'_>, alloc: Global) -> Result<Divisions, Refusal>
     ensures { Reads (reads_divisions parser.old) result parser.new }
 {
-    let entries = file_control_paragraph(parser, alloc)?;
+    let entries = read_file_control(parser, alloc)?;
     heading(parser, b"DATA", b"DIVISION")?;
     heading(parser, b"FILE", b"SECTION")?;
     let descriptions = read_descriptions(parser, alloc, entries.as_slice())?;

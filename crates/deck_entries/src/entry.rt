@@ -3,7 +3,7 @@ ghost use Rattle.std.specs.Prelude.{◌≡◌};
 ghost use Rattle.deck_entries.specs.FileControlEntry.{no_clauses, control_entry_of};
 ghost use Rattle.deck_words.specs.Reading.{Makes};
 
-use deck_words::{Cause, Refusal};
+use deck_words::{Cause, Expected, Refusal, WordPlace};
 use io_state::{Access, FileName, Name};
 use std::alloc::{AllocError, Global};
 use std::marker::Model;
@@ -84,10 +84,13 @@ impl Model for FileControlEntry {
     } };
 }
 
-/// An entry, and the line of its word SELECT. Contracts see the entry.
+/// An entry, where its word SELECT stands, and the lines of the file's name and of its literal.
+/// Contracts see the entry.
 #[derive(Drop)]
 pub struct Selected {
-    pub line: u64,
+    pub place: WordPlace,
+    pub name_line: u64,
+    pub literal_line: u64,
     pub entry: FileControlEntry,
 }
 
@@ -117,7 +120,16 @@ impl Selected {
     }
 }
 
-/// What the clauses of an entry say together.
+/// The lines of the clauses that there are.
+#[derive(Clone, Copy)]
+pub struct ClauseLines {
+    pub indexed: u64,
+    pub access: u64,
+    pub record_key: u64,
+    pub status: u64,
+}
+
+/// What the clauses of an entry say together, and their lines. Contracts see what they say.
 #[derive(Drop)]
 pub struct Clauses {
     pub indexed: bool,
@@ -125,6 +137,7 @@ pub struct Clauses {
     pub record_key: Option<Name>,
     pub alternate_keys: AlternateKeys,
     pub status: bool,
+    pub lines: ClauseLines,
 }
 
 impl Model for Clauses {
@@ -156,16 +169,22 @@ impl Clauses {
             record_key: None,
             alternate_keys: AlternateKeys::new(alloc),
             status: false,
+            lines: ClauseLines {
+                indexed: 0,
+                access: 0,
+                record_key: 0,
+                status: 0,
+            },
         }
     }
 
-    /// The entry that the clauses make, unless INDEXED or RECORD KEY is missing, which is told for a line.
+    /// The entry that the clauses make, unless INDEXED or RECORD KEY is missing, which is told of its end.
     pub fn entry(
         self,
         optional: bool,
         name: Name,
         file_name: FileName,
-        line: u64,
+        end: WordPlace,
     ) -> Result<FileControlEntry, Refusal>
         ensures { Makes (control_entry_of (optional, (name.bytes, (file_name.bytes, self)))) result }
     {
@@ -175,12 +194,13 @@ impl Clauses {
             record_key,
             alternate_keys,
             status: _,
+            lines: _,
         } = self;
         if !indexed {
-            return Err(Refusal::Fault(line, Cause::Expected));
+            return Err(end.fault(Cause::Expected(Expected::Indexed)));
         }
         let Some(record_key) = record_key else {
-            return Err(Refusal::Fault(line, Cause::Expected));
+            return Err(end.fault(Cause::Expected(Expected::RecordKey)));
         };
         Ok(FileControlEntry {
             name,

@@ -9,7 +9,7 @@ ghost use Rattle.deck_entries.specs.FileDescription.{item, with_one};
 
 use crate::record_length::number_of;
 use crate::words::expect_one;
-use deck_words::{Cause, Parser, Refusal};
+use deck_words::{Cause, Expected, NameOf, Parser, Refusal, WantedClass};
 use io_state::Name;
 use record_layout::Item;
 use std::alloc::{AllocError, Global};
@@ -71,11 +71,11 @@ impl Items {
 fn level(parser: &mut Parser<'_>) -> Result<u8, Refusal>
     ensures { Reads (level.reads parser.old) result parser.new }
 {
-    let fault = parser.fault(Cause::Expected);
+    let place = parser.place();
     let digits = parser.level()?;
     let level = number_of(digits.as_str().as_bytes());
     if level > 99 {
-        return Err(fault);
+        return Err(place.fault(Cause::Expected(Expected::Words(WantedClass::Level))));
     }
     Ok(level as u8)
 }
@@ -84,8 +84,8 @@ fn level(parser: &mut Parser<'_>) -> Result<u8, Refusal>
 fn item_name(parser: &mut Parser<'_>) -> Result<Option<Name>, Refusal>
     ensures { ReadsAs (option_map (λ name. name.bytes)) item_name parser.old result parser.new }
 {
-    if parser.sees_name() {
-        let name = parser.name()?;
+    if parser.sees_name(NameOf::Item) {
+        let name = parser.name(NameOf::Item)?;
         return Ok(Some(name));
     }
     parser.expect(b"FILLER")?;
@@ -96,7 +96,7 @@ fn item_name(parser: &mut Parser<'_>) -> Result<Option<Name>, Refusal>
 fn may_item_name(parser: &mut Parser<'_>) -> Result<Option<Name>, Refusal>
     ensures { ReadsAs (option_map (λ name. name.bytes)) may_item_name parser.old result parser.new }
 {
-    if parser.sees_name_or(b"FILLER") {
+    if parser.sees_name_or(NameOf::Item, b"FILLER") {
         return item_name(parser);
     }
     Ok(None)

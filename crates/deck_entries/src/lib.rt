@@ -19,7 +19,7 @@ mod storage;
 mod words;
 
 pub use description_entry::{Described, Descriptions};
-pub use divisions::{Divisions, Entries, read_divisions};
+pub use divisions::{Divisions, Entries, read_divisions, read_file_control};
 pub use entry::{AlternateKeys, FileControlEntry, Selected};
 pub use item::Items;
 pub use record_length::{RecordLength, VaryingLength};

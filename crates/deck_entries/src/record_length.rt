@@ -5,7 +5,7 @@ ghost use Rattle.record_layout.specs.Reading.{capped_size};
 ghost use Rattle.deck_words.specs.Reading.{Reads};
 ghost use Rattle.deck_entries.specs.FileDescription.{count, length_clause};
 
-use deck_words::{Parser, Refusal};
+use deck_words::{NameOf, Parser, Refusal};
 use io_state::Name;
 use std::marker::Model;
 
@@ -89,7 +89,7 @@ pub fn length_clause(parser: &mut Parser<'_>) -> Result<RecordLength, Refusal>
     parser.eat(b"CHARACTERS");
     parser.expect(b"DEPENDING")?;
     parser.eat(b"ON");
-    let item = parser.name()?;
+    let item = parser.name(NameOf::LengthItem)?;
     Ok(RecordLength::Varying(VaryingLength {
         least,
         greatest,

@@ -10,7 +10,7 @@ ghost use Rattle.deck_entries.specs.FileControlEntry.{select_word, new_name, new
 ghost use Rattle.deck_entries.specs.FileControlEntry.{is_selected, is_assigned};
 
 use crate::entry::{Clauses, Selected};
-use deck_words::{Cause, Parser, Refusal};
+use deck_words::{Cause, Limit, NameOf, NotAllowed, Parser, Refusal, Twice};
 use io_state::{Access, FileName, Name, file_name_of};
 use std::alloc::Global;
 
@@ -25,14 +25,16 @@ fn indexed(parser: &mut Parser<'_>, clauses: Clauses) -> Result<Clauses, Refusal
     ensures { Reads ((added_to clauses indexed).reads parser.old) result parser.new }
 {
     if clauses.indexed {
-        return Err(parser.fault(Cause::Twice));
+        return Err(parser.fault(Cause::Twice(Twice::Clause(clauses.lines.indexed))));
     }
+    let line = parser.line();
     if parser.eat(b"ORGANIZATION") {
         parser.eat(b"IS");
     }
     parser.expect(b"INDEXED")?;
     let mut clauses = clauses;
     clauses.indexed = true;
+    clauses.lines.indexed = line;
     Ok(clauses)
 }
 
@@ -55,12 +57,14 @@ fn access(parser: &mut Parser<'_>, clauses: Clauses) -> Result<Clauses, Refusal>
     ensures { Reads ((added_to clauses access).reads parser.old) result parser.new }
 {
     if clauses.access.is_some() {
-        return Err(parser.fault(Cause::Twice));
+        return Err(parser.fault(Cause::Twice(Twice::Clause(clauses.lines.access))));
     }
+    let line = parser.line();
     parser.expect(b"ACCESS")?;
     parser.eat(b"MODE");
     parser.eat(b"IS");
     let mut clauses = clauses;
+    clauses.lines.access = line;
     clauses.access = Some(mode(parser)?);
     Ok(clauses)
 }
@@ -70,13 +74,15 @@ fn record_key(parser: &mut Parser<'_>, clauses: Clauses) -> Result<Clauses, Refu
     ensures { Reads ((added_to clauses record_key).reads parser.old) result parser.new }
 {
     if clauses.record_key.is_some() {
-        return Err(parser.fault(Cause::Twice));
+        return Err(parser.fault(Cause::Twice(Twice::Clause(clauses.lines.record_key))));
     }
+    let line = parser.line();
     parser.expect(b"RECORD")?;
     parser.eat(b"KEY");
     parser.eat(b"IS");
     let mut clauses = clauses;
-    clauses.record_key = Some(parser.name()?);
+    clauses.lines.record_key = line;
+    clauses.record_key = Some(parser.name(NameOf::Item)?);
     Ok(clauses)
 }
 
@@ -98,13 +104,13 @@ fn alternate(parser: &mut Parser<'_>, clauses: Clauses) -> Result<Clauses, Refus
     ensures { Reads ((added_to clauses alternate).reads parser.old) result parser.new }
 {
     if clauses.alternate_keys.len() >= ALTERNATE_LIMIT {
-        return Err(parser.fault(Cause::Limit));
+        return Err(parser.fault(Cause::Limit(Limit::AlternateKeys)));
     }
     parser.expect(b"ALTERNATE")?;
     parser.expect(b"RECORD")?;
     parser.eat(b"KEY");
     parser.eat(b"IS");
-    let name = parser.name()?;
+    let name = parser.name(NameOf::Item)?;
     let duplicates = duplicates(parser)?;
     let mut clauses = clauses;
     clauses.alternate_keys.push(name, duplicates)?;
@@ -116,14 +122,16 @@ fn status(parser: &mut Parser<'_>, clauses: Clauses) -> Result<Clauses, Refusal>
     ensures { Reads ((added_to clauses status).reads parser.old) result parser.new }
 {
     if clauses.status {
-        return Err(parser.fault(Cause::Twice));
+        return Err(parser.fault(Cause::Twice(Twice::Clause(clauses.lines.status))));
     }
+    let line = parser.line();
     parser.eat(b"FILE");
     parser.expect(b"STATUS")?;
     parser.eat(b"IS");
-    parser.name()?;
+    parser.name(NameOf::Status)?;
     let mut clauses = clauses;
     clauses.status = true;
+    clauses.lines.status = line;
     Ok(clauses)
 }
 
@@ -176,12 +184,12 @@ fn all_clauses(parser: &mut Parser<'_>, alloc: Global) -> Result<Clauses, Refusa
 fn select_word(parser: &mut Parser<'_>, earlier: &[Selected]) -> Result<(), Refusal>
     ensures { Reads ((select_word earlier.now).reads parser.old) result parser.new }
 {
-    let limit = parser.fault(Cause::Limit);
+    let place = parser.place();
     parser.expect(b"SELECT")?;
     if earlier.len() < FILE_LIMIT {
         Ok(())
     } else {
-        Err(limit)
+        Err(place.fault(Cause::Limit(Limit::Files)))
     }
 }
 
@@ -189,10 +197,11 @@ fn select_word(parser: &mut Parser<'_>, earlier: &[Selected]) -> Result<(), Refu
 fn new_name(parser: &mut Parser<'_>, earlier: &[Selected]) -> Result<Name, Refusal>
     ensures { ReadsAs (λ name. name.bytes) (new_name earlier.now) parser.old result parser.new }
 {
-    let twice = parser.fault(Cause::Twice);
-    let name = parser.name()?;
+    let place = parser.place();
+    let name = parser.name(NameOf::File)?;
     if is_selected_name(earlier, name.as_str().as_bytes()) {
-        Err(twice)
+        let line = line_of_name(earlier, name.as_str().as_bytes());
+        Err(place.fault(Cause::Twice(Twice::Selected(line))))
     } else {
         Ok(name)
     }
@@ -207,12 +216,13 @@ fn new_file_name(
 ) -> Result<FileName, Refusal>
     ensures { ReadsAs (λ name. name.bytes) (new_file_name earlier.now) parser.old result parser.new }
 {
-    let not_allowed = parser.fault(Cause::NotAllowed);
-    let twice = parser.fault(Cause::Twice);
+    let place = parser.place();
     let text = parser.literal(alloc)?;
+    let not_allowed = place.fault(Cause::NotAllowed(NotAllowed::FileName));
     let name = file_name_of(text.as_slice()).ok_or(not_allowed)?;
     if is_assigned_name(earlier, name.as_str().as_bytes()) {
-        Err(twice)
+        let line = line_of_literal(earlier, name.as_str().as_bytes());
+        Err(place.fault(Cause::Twice(Twice::Assigned(line))))
     } else {
         Ok(name)
     }
@@ -227,18 +237,25 @@ pub fn select(
 ) -> Result<Selected, Refusal>
     ensures { Reads ((select_behind earlier.now).reads parser.old) result parser.new }
 {
-    let line = parser.line();
+    let place = parser.place();
     select_word(parser, earlier)?;
     let optional = parser.eat(b"OPTIONAL");
+    let name_line = parser.line();
     let name = new_name(parser, earlier)?;
     parser.expect(b"ASSIGN")?;
     parser.eat(b"TO");
+    let literal_line = parser.line();
     let file_name = new_file_name(parser, alloc, earlier)?;
     let clauses = all_clauses(parser, alloc)?;
-    let end = parser.line();
+    let end = parser.place();
     parser.period()?;
     let entry = clauses.entry(optional, name, file_name, end)?;
-    Ok(Selected { line, entry })
+    Ok(Selected {
+        place,
+        name_line,
+        literal_line,
+        entry,
+    })
 }
 
 /// Whether one of the entries has this name.
@@ -246,6 +263,25 @@ pub fn is_selected_name(earlier: &[Selected], name: &[u8]) -> bool
     ensures { result ≡ is_selected earlier.now name.now }
 {
     earlier.iter().any(|selected| selected.name() == name)
+}
+
+/// The line of the first entry's name that is this one.
+fn line_of_name(earlier: &[Selected], name: &[u8]) -> u64 {
+    match earlier.iter().find(|selected| selected.name() == name) {
+        Some(selected) => selected.name_line,
+        None => 0,
+    }
+}
+
+/// The line of the first literal that is this file name.
+fn line_of_literal(earlier: &[Selected], file_name: &[u8]) -> u64 {
+    match earlier
+        .iter()
+        .find(|selected| selected.file_name() == file_name)
+    {
+        Some(selected) => selected.literal_line,
+        None => 0,
+    }
 }
 
 /// Whether one of the entries has this file name.

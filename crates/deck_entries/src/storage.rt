@@ -8,15 +8,15 @@ ghost use Rattle.deck_entries.specs.Divisions.{storage_section};
 
 use crate::item::picture_clause;
 use crate::words::heading;
-use deck_words::{Parser, Refusal};
+use deck_words::{NameOf, Parser, Refusal, WordPlace};
 use io_state::Name;
 use std::alloc::{AllocError, Global};
 use std::marker::Model;
 
-/// An item of the working storage, and the line of its level number. Contracts see the name and the picture.
+/// An item of the working storage, and where its level number stands. Contracts see the name and the picture.
 #[derive(Drop)]
 pub struct StorageItem {
-    pub line: u64,
+    pub place: WordPlace,
     pub name: Name,
     pub picture: Name,
 }
@@ -84,13 +84,13 @@ impl StorageItems {
 fn storage_item(parser: &mut Parser<'_>) -> Result<StorageItem, Refusal>
     ensures { Reads (storage_item.reads parser.old) result parser.new }
 {
-    let line = parser.line();
+    let place = parser.place();
     parser.expect(b"77")?;
-    let name = parser.name()?;
+    let name = parser.name(NameOf::LengthItem)?;
     let picture = picture_clause(parser)?;
     parser.period()?;
     Ok(StorageItem {
-        line,
+        place,
         name,
         picture,
     })

@@ -8,7 +8,11 @@ use deck_words::{Parser, Refusal};
 
 /// Takes one of two words.
 #[tactic(auto, unfolding(deck_words::specs::Notation::the))]
-pub fn expect_one(parser: &mut Parser<'_>, first: &[u8], second: &[u8]) -> Result<(), Refusal>
+pub fn expect_one(
+    parser: &mut Parser<'_>,
+    first: &'static [u8],
+    second: &'static [u8],
+) -> Result<(), Refusal>
     ensures { Reads ((the first.now ∣ the second.now).reads parser.old) result parser.new }
 {
     if parser.eat(first) {
@@ -19,7 +23,11 @@ pub fn expect_one(parser: &mut Parser<'_>, first: &[u8], second: &[u8]) -> Resul
 
 /// Takes one of two words if it is next.
 #[tactic(auto, unfolding(deck_words::specs::Notation::the))]
-pub fn eat_one(parser: &mut Parser<'_>, first: &[u8], second: &[u8]) -> Result<bool, Refusal>
+pub fn eat_one(
+    parser: &mut Parser<'_>,
+    first: &'static [u8],
+    second: &'static [u8],
+) -> Result<bool, Refusal>
     ensures { ReadsAs eaten (optional (the first.now ∣ the second.now)) parser.old result parser.new }
 {
     if parser.sees_one_of(&[first, second]) {
@@ -31,7 +39,11 @@ pub fn eat_one(parser: &mut Parser<'_>, first: &[u8], second: &[u8]) -> Result<b
 
 /// Takes the heading of a division or section.
 #[tactic(auto, unfolding(deck_words::specs::Notation::the))]
-pub fn heading(parser: &mut Parser<'_>, first: &[u8], second: &[u8]) -> Result<(), Refusal>
+pub fn heading(
+    parser: &mut Parser<'_>,
+    first: &'static [u8],
+    second: &'static [u8],
+) -> Result<(), Refusal>
     ensures { Reads ((division_heading first.now second.now).reads parser.old) result parser.new }
 {
     parser.expect(first)?;

@@ -92,5 +92,8 @@ pub fn list_deck(alloc: Global, bytes: &[u8]) -> Result<String, DeckFault>
     one_reading();
     let words = words(bytes)?;
     let deck = read_deck(alloc, bytes)?;
-    Ok(listing(alloc, &deck, &words).map_err(Refusal::from)?)
+    match listing(alloc, &deck, &words) {
+        Ok(text) => Ok(text),
+        Err(error) => Err(Refusal::from(error).into()),
+    }
 }

@@ -1,6 +1,6 @@
 //! A deck, read whole.
 ghost use Rattle.std.specs.Prelude.{List, IfOk, IfErr};
-ghost use Rattle.deck_words.specs.Fault.{IsTold, HasNoneIfTold, GivesOrTells};
+ghost use Rattle.deck_words.specs.Fault.{IsFault, IsTold, HasNoneIfTold, GivesOrRefuses};
 ghost use Rattle.deck_words.specs.OneReading.{Determines};
 ghost use Rattle.deck_words.specs.Word.{Word};
 ghost use Rattle.procedure_division.specs.Names.{names_of};
@@ -9,12 +9,13 @@ ghost use Rattle.deck_reader.specs.declared.deck.Deck.{Deck};
 ghost use Rattle.deck_reader.specs.Deck.{Spells, IsDeck};
 ghost use Rattle.deck_reader.specs.CanBeRun.{CanBeRun};
 
-use deck_words::Refusal;
+use crate::refusal::{DeckRefusal, wanted_of};
+use deck_words::{Refusal, scan};
 use file_control::{
     DeckFault, Description, FileDesc, FileList, ItemList, LengthItem, Words, are_described,
-    one_description, one_reading, read_description, words,
+    describe, one_description, one_reading,
 };
-use procedure_division::{Names, StatementList, one_procedure, only_allowed, procedure};
+use procedure_division::{Names, StatementList, one_procedure, only_allowed, read_procedure};
 use std::alloc::Global;
 
 /// The files of a deck in the order of their SELECT entries, its 77-level items in the order of
@@ -32,19 +33,19 @@ fn statements_of(
     files: &[FileDesc],
     items: &[LengthItem],
     words: &Words<'_>,
-) -> Result<StatementList, DeckFault>
-    ensures { GivesOrTells (IsProcedure (names_of files.now items.now) words.now) result }
+) -> Result<StatementList, Refusal>
+    ensures { GivesOrRefuses (IsProcedure (names_of files.now items.now) words.now) result }
 {
-    let names = Names::new(alloc, files, items).map_err(Refusal::from)?;
-    procedure(alloc, &names, words)
+    let names = Names::new(alloc, files, items)?;
+    read_procedure(alloc, &names, words)
 }
 
 /// The deck that the words spell.
-fn read(alloc: Global, words: &Words<'_>) -> Result<Deck, DeckFault>
-    ensures { GivesOrTells (Spells words.now) result }
+fn read(alloc: Global, words: &Words<'_>) -> Result<Deck, Refusal>
+    ensures { GivesOrRefuses (Spells words.now) result }
 {
     one_description();
-    let description = read_description(alloc, words)?;
+    let description = describe(alloc, words)?;
     let Description {
         files,
         items,
@@ -67,6 +68,17 @@ fn every_deck_can_be_run()
     only_allowed();
 }
 
+/// The deck that the bytes are, or why they are none.
+fn read_whole(alloc: Global, bytes: &[u8]) -> Result<Deck, Refusal>
+    ensures deck { GivesOrRefuses (IsDeck bytes.now) result }
+    ensures runnable { IfOk result CanBeRun }
+{
+    one_reading();
+    every_deck_can_be_run();
+    let words = scan(bytes)?;
+    read(alloc, &words)
+}
+
 /// The deck that the bytes are, or the first fault, by its code and its line: first those of the
 /// words (1 and 6), then those of the words up to PROCEDURE, then those of the files and 77-level
 /// items, and then those of the procedure. Or code 8 on line 0, for want of memory.
@@ -76,10 +88,23 @@ pub fn read_deck(alloc: Global, bytes: &[u8]) -> Result<Deck, DeckFault>
     ensures runnable { IfOk result CanBeRun }
     ensures told { IfErr result IsTold }
 {
-    one_reading();
-    every_deck_can_be_run();
-    let words = words(bytes)?;
-    read(alloc, &words)
+    Ok(read_whole(alloc, bytes)?)
+}
+
+/// The deck that the bytes are, or all that is known of the first fault, which `read_deck` tells.
+pub fn read_deck_told(alloc: Global, bytes: &[u8]) -> Result<Deck, DeckRefusal>
+    ensures deck { IfOk result (IsDeck bytes.now) }
+    ensures none { IfErr result (λ refused. IsFault refused.refusal → (deck : Deck) → IsDeck bytes.now deck
+        → ⊥) }
+    ensures runnable { IfOk result CanBeRun }
+{
+    match read_whole(alloc, bytes) {
+        Ok(deck) => Ok(deck),
+        Err(refusal) => Err(DeckRefusal {
+            refusal,
+            wanted: wanted_of(alloc, bytes, refusal),
+        }),
+    }
 }
 
 /// No bytes are two decks.

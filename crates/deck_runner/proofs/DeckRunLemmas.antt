@@ -1,7 +1,7 @@
 -- What a run of the bytes of a deck tells.
 use Rattle.std.proofs.Common.{◌≡◌, ◌≢◌, ◌≤◌, ℕ, true, List, Option, sym, ap, ◌∙◌, subst, arith}
 use Rattle.deck_words.specs.declared.fault.Cause.{Cause}
-use Rattle.deck_words.specs.declared.fault.Cause.TheVariants.{BadWord}
+use Rattle.deck_words.specs.declared.fault.Cause.TheVariants.{BadWord, Expected, Unknown, Twice, NotAllowed, Limit, Layout}
 use Rattle.deck_words.specs.declared.fault.DeckFault.{DeckFault}
 use Rattle.deck_words.specs.declared.fault.Refusal.{Refusal}
 use Rattle.deck_words.specs.declared.fault.Refusal.TheVariants.{Memory as NoMemory, Fault}
@@ -39,7 +39,12 @@ exact library old new written written_after end deck run clean = λ honest shown
 
 code_within : (cause : Cause) → (1 ≤ cause_code cause) × (cause_code cause ≤ 7)
 code_within BadWord = (omega arith, omega arith)
-code_within cause = (omega arith, omega arith)
+code_within (Expected what) = (omega arith, omega arith)
+code_within (Unknown what) = (omega arith, omega arith)
+code_within (Twice what) = (omega arith, omega arith)
+code_within (NotAllowed what) = (omega arith, omega arith)
+code_within (Limit which) = (omega arith, omega arith)
+code_within (Layout what) = (omega arith, omega arith)
 
 refused_by :
     (bytes : List ℕ) (fault : DeckFault) (result : RunFault) (refusal : Refusal) → fault ≡ told refusal → (fault.code ≡ 8 → result ≡ Memory) → (fault.code ≢ 8 → result ≡ DeckRefused fault)
@@ -47,7 +52,7 @@ refused_by :
 refused_by bytes fault result NoMemory is memory deck none =
     let code : fault.code ≡ 8 = ap (λ (f : DeckFault). f.code) is in
     subst (IsRefusedDeck bytes) (sym (memory code)) tt
-refused_by bytes fault result (Fault line cause) is memory deck none =
+refused_by bytes fault result (Fault line place cause) is memory deck none =
     let code : fault.code ≡ cause_code cause = ap (λ (f : DeckFault). f.code) is in
     let within = code_within cause in
     let least = within.0 in

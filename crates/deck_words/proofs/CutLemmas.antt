@@ -5,6 +5,8 @@ use Rattle.deck_words.specs.Word.{Word}
 use Rattle.deck_words.specs.declared.fault.Cause.{Cause}
 use Rattle.deck_words.specs.declared.fault.Cause.TheVariants.{BadWord, Expected, Unknown, Twice, NotAllowed, Limit, Layout}
 use Rattle.deck_words.specs.declared.fault.Refusal.{Refusal}
+use Rattle.deck_words.specs.declared.place.WordPlace.{WordPlace}
+use Rattle.deck_words.specs.Fault.{cause_code, told, fault_of}
 use Rattle.deck_words.specs.declared.fault.Refusal.TheVariants.{Memory, Fault}
 use Rattle.deck_words.specs.Words.{Piece, written_piece, GivesWords, IsCutIntoWords, HasWordsUpTo, HasWords, IsStuck, RefusesWords}
 use Rattle.deck_words.specs.Front.{Next, piece_at, Rest, rest_of}
@@ -82,15 +84,15 @@ no_more (b ∷ bytes) e h = cc
 -- words and a fault exclude each other
 pub words_have_no_fault : (bytes : List ℕ) (words : List Word) (refusal : Refusal) → HasWords bytes words → RefusesWords bytes refusal → refusal ≡ Memory
 words_have_no_fault bytes words Memory h f = refl
-words_have_no_fault bytes words (Fault line Limit) h f = absurd (omega (arith, f.1, h.0))
-words_have_no_fault bytes words (Fault line BadWord) h f =
+words_have_no_fault bytes words (Fault line place (Limit which)) h f = absurd (omega (arith, f.1, h.0))
+words_have_no_fault bytes words (Fault line place BadWord) h f =
     let same = one_end_of bytes words f.0 (rest_of h.2 []) (rest_of line f.1) (up_to_end bytes words h) (none_at_end _ refl) f.2 (stuck_is_last _ f.3) in
     absurd (no_more f.1 (ap (λ (r : Rest). r.bytes) (sym same.1)) f.3.0)
-words_have_no_fault bytes words (Fault line Expected) h f = absurd f
-words_have_no_fault bytes words (Fault line Unknown) h f = absurd f
-words_have_no_fault bytes words (Fault line Twice) h f = absurd f
-words_have_no_fault bytes words (Fault line NotAllowed) h f = absurd f
-words_have_no_fault bytes words (Fault line Layout) h f = absurd f
+words_have_no_fault bytes words (Fault line place (Expected what)) h f = absurd f
+words_have_no_fault bytes words (Fault line place (Unknown what)) h f = absurd f
+words_have_no_fault bytes words (Fault line place (Twice what)) h f = absurd f
+words_have_no_fault bytes words (Fault line place (NotAllowed what)) h f = absurd f
+words_have_no_fault bytes words (Fault line place (Layout what)) h f = absurd f
 
 -- ---- the scanner
 
@@ -111,8 +113,8 @@ step bytes words rest next so e fewer = record {
   lines = omega (arith, fewer, so.lines);
 }
 
-pub refused : (bytes : List ℕ) (words : List Word) (rest : Rest) → SoFar bytes words rest → 0 < length rest.bytes → piece_at rest ≡ None → RefusesWords bytes (Fault rest.line BadWord)
-refused bytes words rest so more e = (words, rest.bytes, so.upto, last_is_stuck rest more e)
+pub refused : (bytes : List ℕ) (words : List Word) (rest : Rest) (place : WordPlace) → SoFar bytes words rest → 0 < length rest.bytes → piece_at rest ≡ None → RefusesWords bytes (Fault rest.line place BadWord)
+refused bytes words rest place so more e = (words, rest.bytes, so.upto, last_is_stuck rest more e)
 
 no_bytes : (rest : List ℕ) → length rest ≡ 0 → rest ≡ []
 no_bytes [] e = refl
@@ -123,39 +125,42 @@ done bytes words line rest so e = (so.upto.0, so.upto.1, line, subst (λ r. IsCu
 
 -- ---- faults
 
+-- a fault of words: the deck is too long, or bytes at a line are no word
 abbrev IsTooLong : List ℕ → ℕ → Cause → Type 0
-IsTooLong bytes line cause = (cause ≡ Limit) × (line ≡ 1) × (1048576 < length bytes)
+IsTooLong bytes line cause = (cause_code cause ≡ 6) × (line ≡ 1) × (1048576 < length bytes)
 
-abbrev IsBad : List ℕ → ℕ → Cause → Type 0
-IsBad bytes line cause = (cause ≡ BadWord) × RefusesWords bytes (Fault line BadWord)
+abbrev IsBad : List ℕ → ℕ → WordPlace → Cause → Type 0
+IsBad bytes line place cause = (cause_code cause ≡ 1) × RefusesWords bytes (Fault line place BadWord)
 
-one_or_other : (bytes : List ℕ) (line : ℕ) (cause : Cause) → RefusesWords bytes (Fault line cause) → IsTooLong bytes line cause ⊎ IsBad bytes line cause
-one_or_other bytes line Limit f = inl (refl, f.0, f.1)
-one_or_other bytes line BadWord f = inr (refl, f)
-one_or_other bytes line Expected f = absurd f
-one_or_other bytes line Unknown f = absurd f
-one_or_other bytes line Twice f = absurd f
-one_or_other bytes line NotAllowed f = absurd f
-one_or_other bytes line Layout f = absurd f
+one_or_other : (bytes : List ℕ) (line : ℕ) (place : WordPlace) (cause : Cause) → RefusesWords bytes (Fault line place cause) → IsTooLong bytes line cause ⊎ IsBad bytes line place cause
+one_or_other bytes line place (Limit which) f = inl (refl, f.0, f.1)
+one_or_other bytes line place BadWord f = inr (refl, f)
+one_or_other bytes line place (Expected what) f = absurd f
+one_or_other bytes line place (Unknown what) f = absurd f
+one_or_other bytes line place (Twice what) f = absurd f
+one_or_other bytes line place (NotAllowed what) f = absurd f
+one_or_other bytes line place (Layout what) f = absurd f
 
-bad_is_one : (bytes : List ℕ) (line other : ℕ) → RefusesWords bytes (Fault line BadWord) → RefusesWords bytes (Fault other BadWord) → line ≡ other
-bad_is_one bytes line other f g =
+bad_is_one : (bytes : List ℕ) (line other : ℕ) (place there : WordPlace) → RefusesWords bytes (Fault line place BadWord) → RefusesWords bytes (Fault other there BadWord) → line ≡ other
+bad_is_one bytes line other place there f g =
     ap (λ (r : Rest). r.line) (one_end_of bytes f.0 g.0 (rest_of line f.1) (rest_of other g.1) f.2 (stuck_is_last _ f.3) g.2 (stuck_is_last _ g.3)).1
 
-same_fault : (line other : ℕ) (cause another : Cause) → line ≡ other → cause ≡ another → Fault line cause ≡ Fault other another
-same_fault line other cause another e f = ap (λ l. Fault l cause) e ∙ ap (λ c. Fault other c) f
+same_told : (line other : ℕ) (place there : WordPlace) (cause another : Cause) → line ≡ other → cause_code cause ≡ cause_code another → told (Fault line place cause) ≡ told (Fault other there another)
+same_told line other place there cause another e f =
+    ap (λ (l : ℕ). fault_of l (cause_code cause)) e ∙ ap (λ (c : ℕ). fault_of other c) f
 
-pub faults_are_one : (bytes : List ℕ) (a b : Refusal) → RefusesWords bytes a → RefusesWords bytes b → (a ≡ Memory → ⊥) → (b ≡ Memory → ⊥) → a ≡ b
+-- two faults are told alike
+pub faults_are_one : (bytes : List ℕ) (a b : Refusal) → RefusesWords bytes a → RefusesWords bytes b → (a ≡ Memory → ⊥) → (b ≡ Memory → ⊥) → told a ≡ told b
 faults_are_one bytes Memory b f g p q = absurd (p refl)
-faults_are_one bytes (Fault line cause) Memory f g p q = absurd (q refl)
-faults_are_one bytes (Fault line cause) (Fault other another) f g p q =
-    elim (one_or_other bytes line cause f) [
-      | inl f ↦ elim (one_or_other bytes other another g) [
-        | inl g ↦ same_fault line other cause another (f.1 ∙ sym g.1) (f.0 ∙ sym g.0)
+faults_are_one bytes (Fault line place cause) Memory f g p q = absurd (q refl)
+faults_are_one bytes (Fault line place cause) (Fault other there another) f g p q =
+    elim (one_or_other bytes line place cause f) [
+      | inl f ↦ elim (one_or_other bytes other there another g) [
+        | inl g ↦ same_told line other place there cause another (f.1 ∙ sym g.1) (f.0 ∙ sym g.0)
         | inr g ↦ absurd (omega (arith, f.2, g.1.2.0))
       ]
-      | inr f ↦ elim (one_or_other bytes other another g) [
+      | inr f ↦ elim (one_or_other bytes other there another g) [
         | inl g ↦ absurd (omega (arith, g.2, f.1.2.0))
-        | inr g ↦ same_fault line other cause another (bad_is_one bytes line other f.1 g.1) (f.0 ∙ sym g.0)
+        | inr g ↦ same_told line other place there cause another (bad_is_one bytes line other place there f.1 g.1) (f.0 ∙ sym g.0)
       ]
     ]

@@ -10,21 +10,24 @@ use Rattle.deck_words.specs.Words.{RefusesWords}
 
 abbrev pub cause_code : Cause → ℕ
 cause_code BadWord = 1
-cause_code Expected = 2
-cause_code Unknown = 3
-cause_code Twice = 4
-cause_code NotAllowed = 5
-cause_code Limit = 6
-cause_code Layout = 7
+cause_code (Expected what) = 2
+cause_code (Unknown what) = 3
+cause_code (Twice what) = 4
+cause_code (NotAllowed what) = 5
+cause_code (Limit which) = 6
+cause_code (Layout what) = 7
+
+abbrev pub fault_of : ℕ → ℕ → DeckFault
+fault_of line code = record { line = line; code = code }
 
 -- a fault is told by its line and its code, and want of memory by line 0 and code 8
 abbrev pub told : Refusal → DeckFault
 told Memory = record { line = 0; code = 8 }
-told (Fault line cause) = record { line = line; code = cause_code cause }
+told (Fault line place cause) = fault_of line (cause_code cause)
 
 abbrev pub IsFault : Refusal → Type 0
 IsFault Memory = ⊥
-IsFault (Fault line cause) = Unit {0}
+IsFault (Fault line place cause) = Unit {0}
 
 -- the fault is told of a refusal
 abbrev pub IsTold : DeckFault → Type 0

@@ -14,3 +14,4 @@ pub mod Rule
 pub mod Notation
 pub mod Operand
 pub mod Reading
+pub mod Unfit

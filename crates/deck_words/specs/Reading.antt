@@ -11,7 +11,7 @@ use Rattle.deck_words.specs.Word.{Word}
 -- memory ran out, or there is nothing
 abbrev pub Refuses : {A : Type 0} → Option A → Refusal → Type 0
 Refuses found Memory = Unit {0}
-Refuses found (Fault line cause) = found ≡ None
+Refuses found (Fault line place cause) = found ≡ None
 
 -- the value and the words behind it are those that are read
 abbrev pub Reads : {A : Type 0} → Option (A × List Word) → Result A Refusal → List Word → Type 0

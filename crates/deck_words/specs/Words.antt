@@ -100,11 +100,11 @@ IsStuck line bytes =
 -- there was no memory
 abbrev pub RefusesWords : List ℕ → Refusal → Type 0
 RefusesWords bytes Memory = Unit {0}
-RefusesWords bytes (Fault line Limit) = (line ≡ 1) × (1048576 < length bytes)
-RefusesWords bytes (Fault line BadWord) =
+RefusesWords bytes (Fault line place (Limit which)) = (line ≡ 1) × (1048576 < length bytes)
+RefusesWords bytes (Fault line place BadWord) =
     (words : List Word) × (rest : List ℕ) × HasWordsUpTo bytes words line rest × IsStuck line rest
-RefusesWords bytes (Fault line Expected) = ⊥
-RefusesWords bytes (Fault line Unknown) = ⊥
-RefusesWords bytes (Fault line Twice) = ⊥
-RefusesWords bytes (Fault line NotAllowed) = ⊥
-RefusesWords bytes (Fault line Layout) = ⊥
+RefusesWords bytes (Fault line place (Expected what)) = ⊥
+RefusesWords bytes (Fault line place (Unknown what)) = ⊥
+RefusesWords bytes (Fault line place (Twice what)) = ⊥
+RefusesWords bytes (Fault line place (NotAllowed what)) = ⊥
+RefusesWords bytes (Fault line place (Layout what)) = ⊥

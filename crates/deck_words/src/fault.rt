@@ -2,6 +2,10 @@
 ghost use Rattle.std.specs.Prelude.{◌≡◌};
 ghost use Rattle.deck_words.specs.Fault.{cause_code, told};
 
+use crate::place::WordPlace;
+use crate::wanted::WantedClass;
+use io_state::OpenMode;
+use record_layout::{LayoutFault, SchemaFault};
 use std::alloc::{AllocError, AllocFailed};
 use thiserror::Error;
 
@@ -24,23 +28,114 @@ pub struct DeckFault {
     pub code: u8,
 }
 
-/// What is wrong at a line.
+/// What is wrong at a word.
 #[derive(Clone, Copy, Debug, PartialEq, Eq)]
 pub enum Cause {
     BadWord,
-    Expected,
-    Unknown,
-    Twice,
-    NotAllowed,
-    Limit,
-    Layout,
+    Expected(Expected),
+    Unknown(Unknown),
+    Twice(Twice),
+    NotAllowed(NotAllowed),
+    Limit(Limit),
+    Layout(LayoutCause),
 }
 
-/// Why nothing is read: want of memory, or a fault at a line.
+/// What is missing where a word does not fit.
+#[derive(Clone, Copy, Debug, PartialEq, Eq)]
+pub enum Expected {
+    /// One of the words and classes that a parser notes there. The last one is of this class.
+    Words(WantedClass),
+    /// The period of a paragraph, behind its name, which stands there.
+    Paragraph(WordPlace),
+    /// ORGANIZATION IS INDEXED, in an entry that ends here.
+    Indexed,
+    /// RECORD KEY, in an entry that ends here.
+    RecordKey,
+}
+
+/// Of what a name is none. A file is its place among the SELECT entries, from 0.
+#[derive(Clone, Copy, Debug, PartialEq, Eq)]
+pub enum Unknown {
+    /// A file with a SELECT entry, behind FD.
+    Selected,
+    /// A file with an FD, behind SELECT.
+    Described,
+    /// An item of the record of this file, which a key has to be.
+    Key(usize),
+    /// A 77-level item, behind DEPENDING ON in the FD of this file.
+    LengthItem(usize),
+    File,
+    Record,
+    /// An item of the record of this file, behind KEY IS.
+    KeyItem(usize),
+    /// What a MOVE can receive.
+    Receiver,
+}
+
+/// What is there already, and the line of the first one.
+#[derive(Clone, Copy, Debug, PartialEq, Eq)]
+pub enum Twice {
+    Clause(u64),
+    Selected(u64),
+    Assigned(u64),
+    Described(u64),
+    /// The name of an item of this file, which an earlier file has.
+    Item(usize),
+    /// The name of a 77-level item.
+    LengthItem,
+}
+
+/// What is not allowed where it stands. A file is its place among the SELECT entries, from 0.
+#[derive(Clone, Copy, Debug, PartialEq, Eq)]
+pub enum NotAllowed {
+    /// A literal that is no file name.
+    FileName,
+    /// OPEN in this mode, by the access of the file.
+    Open(usize, OpenMode),
+    Start(usize),
+    Next(usize),
+    /// KEY where the READ is sequential by the access of the file.
+    Key(usize),
+    /// KEY behind NEXT.
+    KeyWithNext,
+    /// An item that is no key of the file.
+    NoKey(usize),
+    /// An item that neither is a key of the file nor begins one.
+    NoLeadingKey(usize),
+    /// An item of so many digits, which does not take the source that stands there.
+    Source(WordPlace, u16),
+}
+
+/// Which limit is passed.
+#[derive(Clone, Copy, Debug, PartialEq, Eq)]
+pub enum Limit {
+    Bytes,
+    Files,
+    AlternateKeys,
+    Digits,
+}
+
+/// Why items or keys are none. A file is its place among the SELECT entries, from 0.
+#[derive(Clone, Copy, Debug, PartialEq, Eq)]
+pub enum LayoutCause {
+    /// The items of a file.
+    Items(usize, LayoutFault),
+    /// The lengths of an FD are not those of the record, which is so long by its items.
+    Length(usize, u16),
+    /// The item that has the length of a record of this file, up to this one.
+    LengthItem(usize, u64),
+    /// A 77-level item that is not of digits.
+    Digits,
+    /// The keys of a file.
+    Keys(usize, SchemaFault),
+}
+
+/// Why nothing is read: want of memory, or a fault, which is told at a line. The word that has the
+/// fault may stand in another line.
 #[derive(Clone, Copy, Debug, PartialEq, Eq)]
 pub enum Refusal {
     Memory,
-    Fault(u64, Cause),
+    Fault(u64, WordPlace, Cause),
 }
 
 impl Cause {
@@ -50,12 +145,12 @@ impl Cause {
     {
         match self {
             Cause::BadWord => 1,
-            Cause::Expected => 2,
-            Cause::Unknown => 3,
-            Cause::Twice => 4,
-            Cause::NotAllowed => 5,
-            Cause::Limit => 6,
-            Cause::Layout => 7,
+            Cause::Expected(_) => 2,
+            Cause::Unknown(_) => 3,
+            Cause::Twice(_) => 4,
+            Cause::NotAllowed(_) => 5,
+            Cause::Limit(_) => 6,
+            Cause::Layout(_) => 7,
         }
     }
 }
@@ -91,7 +186,7 @@ impl From<Refusal> for DeckFault {
     fn from(refusal: Refusal) -> DeckFault {
         match refusal {
             Refusal::Memory => DeckFault { line: 0, code: 8 },
-            Refusal::Fault(line, cause) => DeckFault {
+            Refusal::Fault(line, _place, cause) => DeckFault {
                 line,
                 code: cause.code(),
             },

@@ -14,16 +14,22 @@ mod literal;
 mod name;
 mod parser;
 mod piece;
+mod place;
 mod remaining;
 mod run;
 mod scanner;
 mod spelling;
 mod text;
+mod wanted;
 mod word;
 
-pub use fault::{Cause, DeckFault, Refusal};
+pub use fault::{
+    Cause, DeckFault, Expected, LayoutCause, Limit, NotAllowed, Refusal, Twice, Unknown,
+};
 pub use literal::Quoted;
 pub use parser::Parser;
+pub use place::WordPlace;
 pub use remaining::Words;
-pub use scanner::{DECK_LIMIT, one_reading, words};
+pub use scanner::{DECK_LIMIT, one_reading, scan, words};
+pub use wanted::{NameOf, Wanted, WantedClass, WantedList};
 pub use word::{Sign, Word, WordText};

@@ -18,6 +18,7 @@ const LITERAL_LIMIT: usize = 1_000;
 pub struct Quoted<'a> {
     mark: u8,
     bytes: &'a [u8],
+    written: usize,
 }
 
 impl<'a> Model for Quoted<'a> {
@@ -30,6 +31,11 @@ impl<'a> Model for Quoted<'a> {
 }
 
 impl<'a> Quoted<'a> {
+    /// How many bytes it has in the deck, its marks among them.
+    pub fn written_len(&self) -> usize {
+        self.written
+    }
+
     /// The text, in memory of its own.
     pub fn text(&self, alloc: Global) -> Result<Bytes, AllocError>
         ensures { IfOk result (λ text. text ≡ self.now) }
@@ -101,6 +107,18 @@ fn may_follow_literal(rest: &[u8]) -> bool
     }
 }
 
+/// How many bytes a literal has that is none: up to the mark that closes it, or to the end of its line.
+pub fn bad_literal_len(mark: u8, bytes: &[u8]) -> usize {
+    let behind = match length_before(mark, bytes) {
+        Some((_, rest)) => bytes.len().saturating_sub(rest.len()),
+        None => bytes
+            .iter()
+            .take_while(|byte| is_literal_byte(**byte))
+            .count(),
+    };
+    behind.saturating_add(1)
+}
+
 /// The literal that begins behind this mark.
 pub fn literal_piece(line: u64, mark: u8, bytes: &[u8]) -> Option<Piece<'_>>
     ensures { result ≡ literal_at line (cut_literal mark bytes.now) }
@@ -111,12 +129,17 @@ pub fn literal_piece(line: u64, mark: u8, bytes: &[u8]) -> Option<Piece<'_>>
     }
     let word = Spelling {
         line,
-        says: Spelled::Literal(Quoted { mark, bytes }),
+        says: Spelled::Literal(Quoted {
+            mark,
+            bytes,
+            written: (bytes.len() + 1).saturating_sub(rest.len()),
+        }),
     };
     Some(Piece {
         word: Some(word),
         period: false,
         line,
+        left: bytes.len() + 1,
         rest,
     })
 }

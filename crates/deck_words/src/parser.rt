@@ -1,17 +1,20 @@
 //! The words that are still to be read, and the steps that read one.
-ghost use Rattle.std.specs.Prelude.{◌≡◌, ◌≢◌, [], ◌∷◌, map, drop, Some, length, MatchResult};
+ghost use Rattle.std.specs.Prelude.{◌≡◌, ◌≢◌, [], ◌∷◌, map, drop, Some, length, MatchResult, IfErr};
 ghost use Rattle.std.specs.List.{list_any};
 ghost use Rattle.deck_words.specs.Class.{begins, is_in, this, names, numbers, levels, pictures, signs};
 ghost use Rattle.deck_words.specs.Class.{periods};
+ghost use Rattle.deck_words.specs.Unfit.{IsFirstLine, IsRefusedThere, IsUnfit, class_wanted};
 ghost use Rattle.deck_words.specs.Rule.{one};
 ghost use Rattle.deck_words.specs.Notation.{the, may, eaten, name, literal, period};
 ghost use Rattle.deck_words.specs.Operand.{sign, digits};
 ghost use Rattle.deck_words.specs.Reading.{Reads, ReadsAs, Eats};
 ghost use Rattle.deck_words.specs.Fault.{IsFault};
 
-use crate::fault::{Cause, Refusal};
+use crate::fault::{Cause, Expected, Limit, Refusal};
 use crate::name::{is_name_text, is_number_text};
+use crate::place::WordPlace;
 use crate::remaining::Words;
+use crate::wanted::{NameOf, Note, Wanted, WantedClass, WantedList};
 use crate::word::{Word, WordText};
 use io_state::Name;
 use record_layout::Bytes;
@@ -21,11 +24,14 @@ use std::marker::Model;
 /// The most digits of a number.
 const DIGIT_LIMIT: usize = 18;
 
-/// The words that are still to be read: the next one, and those behind it. Contracts see all of them.
+/// The words that are still to be read: the next one, and those behind it. Where a place is given,
+/// what is tried at the word there and does not fit is noted. Contracts see the words.
 #[derive(Drop)]
 pub struct Parser<'a> {
     next: Option<Word<'a>>,
     behind: Words<'a>,
+    noted_at: Option<u32>,
+    note: Note,
 }
 
 impl<'a> Model for Parser<'a> {
@@ -111,7 +117,26 @@ impl<'a> Parser<'a> {
     {
         let mut behind = words.copy();
         let next = behind.next();
-        Parser { next, behind }
+        Parser {
+            next,
+            behind,
+            noted_at: None,
+            note: Note::new(),
+        }
+    }
+
+    /// All of the words are to be read, and what is tried at the word of this place is noted.
+    pub fn noting(words: &Words<'a>, place: WordPlace) -> Self
+        ensures { result ≡ words.now }
+    {
+        let mut behind = words.copy();
+        let next = behind.next();
+        Parser {
+            next,
+            behind,
+            noted_at: Some(place.start),
+            note: Note::new(),
+        }
     }
 
     /// Goes on to the word behind the next one.
@@ -124,58 +149,123 @@ impl<'a> Parser<'a> {
     }
 
     /// The line of the next word, or of the last one.
-    pub fn line(&self) -> u64 {
+    pub fn line(&self) -> u64
+        ensures { IsFirstLine self.now result }
+    {
         match &self.next {
             Some(word) => word.line,
-            None => self.behind.last_line(),
+            None => self.behind.end().line,
+        }
+    }
+
+    /// Where the next word stands, or where the deck ends.
+    pub fn place(&self) -> WordPlace
+        ensures { IsFirstLine self.now result.line }
+    {
+        match &self.next {
+            Some(word) => word.place(),
+            None => self.behind.end(),
+        }
+    }
+
+    /// What was tried at the word of the place that was given, and did not fit.
+    pub fn wanted(&self) -> WantedList {
+        self.note.list()
+    }
+
+    /// Whether what is tried at the next word is noted.
+    fn is_noted(&self) -> bool {
+        match self.noted_at {
+            Some(start) => self.place().start == start,
+            None => false,
+        }
+    }
+
+    /// Notes what does not fit at the next word.
+    fn tried(&self, wanted: Wanted) {
+        if self.is_noted() {
+            self.note.add(wanted);
+        }
+    }
+
+    /// Notes words that do not fit at the next word.
+    fn tried_each(&self, texts: &[&'static [u8]]) {
+        if self.is_noted() {
+            for text in texts {
+                self.note.add(Wanted::Word(*text));
+            }
         }
     }
 
     /// A fault at the next word, or at the end.
     pub fn fault(&self, cause: Cause) -> Refusal
-        ensures { IsFault result }
+        ensures fault { IsFault result }
+        ensures at { IsRefusedThere self.now result }
     {
-        Refusal::Fault(self.line(), cause)
+        self.place().fault(cause)
+    }
+
+    /// The next word does not fit, nor does what is wanted there.
+    fn unfit(&self, wanted: Wanted) -> Refusal
+        ensures fault { IsFault result }
+        ensures unfit { IsUnfit (class_wanted wanted) self.now result }
+    {
+        self.tried(wanted);
+        self.place()
+            .fault(Cause::Expected(Expected::Words(wanted.class())))
     }
 
     /// Whether this word is next.
-    pub fn sees(&self, text: &[u8]) -> bool
+    pub fn sees(&self, text: &'static [u8]) -> bool
         ensures { result ≡ begins (this text.now ∷ []) self.now }
     {
         match &self.next {
-            Some(word) => is_this(word, text),
-            None => false,
+            Some(word) if is_this(word, text) => true,
+            _ => {
+                self.tried(Wanted::Word(text));
+                false
+            }
         }
     }
 
     /// Whether one of these words is next.
     #[tactic(auto, using(crate::proofs::ClassLemmas::any_of_map))]
-    pub fn sees_one_of(&self, texts: &[&[u8]]) -> bool
+    pub fn sees_one_of(&self, texts: &[&'static [u8]]) -> bool
         ensures { result ≡ begins (map (λ text. this text.now) texts.now) self.now }
     {
         match &self.next {
-            Some(word) => is_one_of(word, texts),
-            None => false,
+            Some(word) if is_one_of(word, texts) => true,
+            _ => {
+                self.tried_each(texts);
+                false
+            }
         }
     }
 
     /// Whether a name is next.
-    pub fn sees_name(&self) -> bool
+    pub fn sees_name(&self, of: NameOf) -> bool
         ensures { result ≡ begins (names ∷ []) self.now }
     {
         match &self.next {
-            Some(word) => is_name(word),
-            None => false,
+            Some(word) if is_name(word) => true,
+            _ => {
+                self.tried(Wanted::Name(of));
+                false
+            }
         }
     }
 
     /// Whether a name or this word is next.
-    pub fn sees_name_or(&self, text: &[u8]) -> bool
+    pub fn sees_name_or(&self, of: NameOf, text: &'static [u8]) -> bool
         ensures { result ≡ begins (names ∷ this text.now ∷ []) self.now }
     {
         match &self.next {
-            Some(word) => is_name(word) || is_this(word, text),
-            None => false,
+            Some(word) if is_name(word) || is_this(word, text) => true,
+            _ => {
+                self.tried(Wanted::Name(of));
+                self.tried(Wanted::Word(text));
+                false
+            }
         }
     }
 
@@ -184,8 +274,11 @@ impl<'a> Parser<'a> {
         ensures { result ≡ begins (levels ∷ []) self.now }
     {
         match &self.next {
-            Some(word) => is_level(word),
-            None => false,
+            Some(word) if is_level(word) => true,
+            _ => {
+                self.tried(Wanted::Level);
+                false
+            }
         }
     }
 
@@ -201,21 +294,22 @@ impl<'a> Parser<'a> {
 
     /// Takes this word.
     #[tactic(auto, unfolding(crate::specs::Notation::the))]
-    pub fn expect(&mut self, text: &[u8]) -> Result<(), Refusal>
-        ensures { Reads ((the text.now).reads self.old) result self.new }
+    pub fn expect(&mut self, text: &'static [u8]) -> Result<(), Refusal>
+        ensures reads { Reads ((the text.now).reads self.old) result self.new }
+        ensures unfit { IfErr result (IsUnfit WantedClass.Word self.old) }
     {
         match &self.next {
             Some(word) if is_this(word, text) => {
                 self.advance();
                 Ok(())
             }
-            _ => Err(self.fault(Cause::Expected)),
+            _ => Err(self.unfit(Wanted::Word(text))),
         }
     }
 
     /// Takes this word if it is next.
     #[tactic(auto, unfolding(crate::specs::Notation::the))]
-    pub fn eat(&mut self, text: &[u8]) -> bool
+    pub fn eat(&mut self, text: &'static [u8]) -> bool
         ensures may { (may text.now).reads self.old ≡ Some (eaten result, self.new) }
         ensures eats { Eats (this text.now) (the text.now) self.old self.new result }
     {
@@ -224,18 +318,21 @@ impl<'a> Parser<'a> {
                 self.advance();
                 true
             }
-            _ => false,
+            _ => {
+                self.tried(Wanted::Word(text));
+                false
+            }
         }
     }
 
     /// A name.
     #[tactic(auto, unfolding(crate::specs::Notation::name))]
-    pub fn name(&mut self) -> Result<Name, Refusal>
-        ensures { ReadsAs (λ name. name.bytes) name self.old result self.new }
+    pub fn name(&mut self, of: NameOf) -> Result<Name, Refusal>
+        ensures reads { ReadsAs (λ name. name.bytes) name self.old result self.new }
+        ensures unfit { IfErr result (IsUnfit WantedClass.Name self.old) }
     {
-        let fault = self.fault(Cause::Expected);
         let Some(word) = &self.next else {
-            return Err(fault);
+            return Err(self.unfit(Wanted::Name(of)));
         };
         match word.plain() {
             Some(text) if is_name(word) => {
@@ -243,17 +340,17 @@ impl<'a> Parser<'a> {
                 self.advance();
                 Ok(text)
             }
-            _ => Err(fault),
+            _ => Err(self.unfit(Wanted::Name(of))),
         }
     }
 
     /// The one or two digits of a level number.
     pub fn level(&mut self) -> Result<Name, Refusal>
-        ensures { ReadsAs (λ level. level.bytes) (one levels) self.old result self.new }
+        ensures reads { ReadsAs (λ level. level.bytes) (one levels) self.old result self.new }
+        ensures unfit { IfErr result (IsUnfit WantedClass.Level self.old) }
     {
-        let fault = self.fault(Cause::Expected);
         let Some(word) = &self.next else {
-            return Err(fault);
+            return Err(self.unfit(Wanted::Level));
         };
         match word.plain() {
             Some(text) if is_level(word) => {
@@ -261,17 +358,17 @@ impl<'a> Parser<'a> {
                 self.advance();
                 Ok(text)
             }
-            _ => Err(fault),
+            _ => Err(self.unfit(Wanted::Level)),
         }
     }
 
     /// Any plain word but IS.
     pub fn picture(&mut self) -> Result<Name, Refusal>
-        ensures { ReadsAs (λ text. text.bytes) (one pictures) self.old result self.new }
+        ensures reads { ReadsAs (λ text. text.bytes) (one pictures) self.old result self.new }
+        ensures unfit { IfErr result (IsUnfit WantedClass.Picture self.old) }
     {
-        let fault = self.fault(Cause::Expected);
         let Some(word) = &self.next else {
-            return Err(fault);
+            return Err(self.unfit(Wanted::Picture));
         };
         match word.plain() {
             Some(text) if is_picture(word) => {
@@ -279,44 +376,43 @@ impl<'a> Parser<'a> {
                 self.advance();
                 Ok(text)
             }
-            _ => Err(fault),
+            _ => Err(self.unfit(Wanted::Picture)),
         }
     }
 
     /// The digits of a number. A number of more than 18 of them is past the limit.
     #[tactic(auto, unfolding(crate::specs::Operand::digits))]
     pub fn digits(&mut self) -> Result<Name, Refusal>
-        ensures { ReadsAs (λ text. text.bytes) digits self.old result self.new }
+        ensures reads { ReadsAs (λ text. text.bytes) digits self.old result self.new }
+        ensures at { IfErr result (IsRefusedThere self.old) }
     {
-        let fault = self.fault(Cause::Expected);
-        let limit = self.fault(Cause::Limit);
         let Some(word) = &self.next else {
-            return Err(fault);
+            return Err(self.unfit(Wanted::Number));
         };
         match word.plain() {
             Some(text) if is_number(word) => {
                 let digits = *text;
                 if digits.as_str().len() > DIGIT_LIMIT {
-                    return Err(limit);
+                    return Err(self.fault(Cause::Limit(Limit::Digits)));
                 }
                 self.advance();
                 Ok(digits)
             }
-            _ => Err(fault),
+            _ => Err(self.unfit(Wanted::Number)),
         }
     }
 
     /// What stands between the marks of a literal, in memory of its own.
     #[tactic(auto, unfolding(crate::specs::Notation::literal))]
     pub fn literal(&mut self, alloc: Global) -> Result<Bytes, Refusal>
-        ensures { Reads (literal.reads self.old) result self.new }
+        ensures reads { Reads (literal.reads self.old) result self.new }
+        ensures unfit { IfErr result (IsUnfit WantedClass.Literal self.old) }
     {
-        let fault = self.fault(Cause::Expected);
         let Some(word) = &self.next else {
-            return Err(fault);
+            return Err(self.unfit(Wanted::Literal));
         };
         let Some(quoted) = word.literal() else {
-            return Err(fault);
+            return Err(self.unfit(Wanted::Literal));
         };
         let text = quoted.text(alloc)?;
         self.advance();
@@ -326,14 +422,15 @@ impl<'a> Parser<'a> {
     /// Takes a period.
     #[tactic(auto, unfolding(crate::specs::Notation::period))]
     pub fn period(&mut self) -> Result<(), Refusal>
-        ensures { Reads (period.reads self.old) result self.new }
+        ensures reads { Reads (period.reads self.old) result self.new }
+        ensures unfit { IfErr result (IsUnfit WantedClass.Period self.old) }
     {
         match &self.next {
             Some(word) if is_period(word) => {
                 self.advance();
                 Ok(())
             }
-            _ => Err(self.fault(Cause::Expected)),
+            _ => Err(self.unfit(Wanted::Period)),
         }
     }
 
@@ -343,8 +440,11 @@ impl<'a> Parser<'a> {
         ensures { result ≡ begins literal.starts self.now }
     {
         match &self.next {
-            Some(word) => matches!(&word.text, WordText::Literal(_)),
-            None => false,
+            Some(word) if matches!(&word.text, WordText::Literal(_)) => true,
+            _ => {
+                self.tried(Wanted::Literal);
+                false
+            }
         }
     }
 
@@ -354,28 +454,32 @@ impl<'a> Parser<'a> {
         ensures { result ≡ begins digits.starts self.now }
     {
         match &self.next {
-            Some(word) => is_number(word),
-            None => false,
+            Some(word) if is_number(word) => true,
+            _ => {
+                self.tried(Wanted::Number);
+                false
+            }
         }
     }
 
     /// Takes this sign.
     #[tactic(auto, unfolding(crate::specs::Operand::sign))]
-    pub fn expect_sign(&mut self, text: &[u8]) -> Result<(), Refusal>
-        ensures { Reads ((sign text.now).reads self.old) result self.new }
+    pub fn expect_sign(&mut self, text: &'static [u8]) -> Result<(), Refusal>
+        ensures reads { Reads ((sign text.now).reads self.old) result self.new }
+        ensures unfit { IfErr result (IsUnfit WantedClass.Sign self.old) }
     {
         match &self.next {
             Some(word) if is_sign(word, text) => {
                 self.advance();
                 Ok(())
             }
-            _ => Err(self.fault(Cause::Expected)),
+            _ => Err(self.unfit(Wanted::Sign(text))),
         }
     }
 
     /// Takes this sign if it is next.
     #[tactic(auto, unfolding(crate::specs::Operand::sign))]
-    pub fn eat_sign(&mut self, text: &[u8]) -> bool
+    pub fn eat_sign(&mut self, text: &'static [u8]) -> bool
         ensures { Eats (signs text.now) (sign text.now) self.old self.new result }
     {
         match &self.next {
@@ -383,18 +487,22 @@ impl<'a> Parser<'a> {
                 self.advance();
                 true
             }
-            _ => false,
+            _ => {
+                self.tried(Wanted::Sign(text));
+                false
+            }
         }
     }
 
-    /// All words have been read.
-    pub fn end(&self) -> Result<(), Refusal>
-        ensures { MatchResult result (λ _. self.now ≡ []) (λ _. self.now ≢ []) }
+    /// All words have been read: none is left, and what is wanted is not next.
+    pub fn end(&self, wanted: Wanted) -> Result<(), Refusal>
+        ensures end { MatchResult result (λ _. self.now ≡ []) (λ _. self.now ≢ []) }
+        ensures unfit { IfErr result (IsUnfit (class_wanted wanted) self.now) }
     {
         if self.next.is_none() {
             Ok(())
         } else {
-            Err(self.fault(Cause::Expected))
+            Err(self.unfit(wanted))
         }
     }
 }

@@ -3,18 +3,20 @@ ghost use Rattle.std.specs.Prelude.{◌≡◌, ◌^◌, ◌<◌};
 ghost use Rattle.deck_words.specs.Front.{piece_at, rest_of};
 
 use crate::byte_class::{is_mark_byte, is_space_byte};
-use crate::literal::literal_piece;
-use crate::run::run_piece;
+use crate::literal::{bad_literal_len, literal_piece};
+use crate::run::{run_len, run_piece};
 use crate::spelling::Spelling;
 use std::marker::Model;
 
 /// What a piece gives: a word, if there is one, a period behind it, if there is one, and what is
-/// left of the deck behind the piece, with its line. Contracts see the words and what is left.
+/// left of the deck behind the piece, with its line. `left` bytes are left before the piece.
+/// Contracts see the words and what is left behind it.
 #[derive(Drop)]
 pub struct Piece<'a> {
     pub word: Option<Spelling<'a>>,
     pub period: bool,
     pub line: u64,
+    pub left: usize,
     pub rest: &'a [u8],
 }
 
@@ -50,6 +52,7 @@ pub fn front_piece(line: u64, bytes: &[u8]) -> Option<Piece<'_>>
             word: None,
             period: false,
             line: if *first == b'\n' { line + 1 } else { line },
+            left: bytes.len(),
             rest: after,
         });
     }
@@ -57,4 +60,12 @@ pub fn front_piece(line: u64, bytes: &[u8]) -> Option<Piece<'_>>
         return literal_piece(line, *first, after);
     }
     run_piece(line, bytes)
+}
+
+/// How many bytes there are of what is no piece: of a literal that is none, or of a run.
+pub fn bad_piece_len(bytes: &[u8]) -> usize {
+    match bytes.split_first() {
+        Some((first, after)) if is_mark_byte(*first) => bad_literal_len(*first, after),
+        _ => run_len(bytes),
+    }
 }

@@ -4,6 +4,7 @@ ghost use Rattle.deck_words.specs.Front.{rest_of};
 ghost use Rattle.deck_words.specs.Remaining.{words_from, GivesFirstWords};
 
 use crate::piece::{Piece, front_piece};
+use crate::place::WordPlace;
 use crate::word::{Word, WordText};
 use std::marker::Model;
 
@@ -16,6 +17,7 @@ pub struct Words<'a> {
     period: bool,
     count: usize,
     last_line: u64,
+    deck_len: u32,
 }
 
 impl<'a> Model for Words<'a> {
@@ -52,6 +54,11 @@ fn first_words(line: u64, bytes: &[u8]) -> Option<Piece<'_>>
     None
 }
 
+/// How many bytes of a deck of this length stand before a place at which so many are left.
+fn place_before(deck_len: u32, left: usize) -> u32 {
+    (deck_len as usize).saturating_sub(left) as u32
+}
+
 impl<'a> Words<'a> {
     /// The words of a deck, of which there are so many, and the line of the last one.
     pub fn new(bytes: &'a [u8], count: usize, last_line: u64) -> Self
@@ -66,6 +73,7 @@ impl<'a> Words<'a> {
             period: false,
             count,
             last_line,
+            deck_len: bytes.len() as u32,
         }
     }
 
@@ -79,6 +87,7 @@ impl<'a> Words<'a> {
             period: self.period,
             count: self.count,
             last_line: self.last_line,
+            deck_len: self.deck_len,
         }
     }
 
@@ -90,9 +99,13 @@ impl<'a> Words<'a> {
         self.count
     }
 
-    /// The line of the last word of the deck, or 1.
-    pub fn last_line(&self) -> u64 {
-        self.last_line
+    /// Where the deck ends: at the line of its last word, and with no bytes.
+    pub fn end(&self) -> WordPlace {
+        WordPlace {
+            line: self.last_line,
+            start: self.deck_len,
+            end: self.deck_len,
+        }
     }
 
     /// Takes the next word.
@@ -105,6 +118,7 @@ impl<'a> Words<'a> {
             self.count -= 1;
             return Some(Word {
                 line: self.line,
+                start: place_before(self.deck_len, self.rest.len() + 1),
                 text: WordText::Period,
             });
         }
@@ -115,6 +129,7 @@ impl<'a> Words<'a> {
             word,
             period,
             line,
+            left,
             rest,
         } = piece;
         self.line = line;
@@ -123,10 +138,11 @@ impl<'a> Words<'a> {
         match word {
             Some(word) => {
                 self.period = period;
-                Some(word.word())
+                Some(word.word(place_before(self.deck_len, left)))
             }
             None => Some(Word {
                 line,
+                start: place_before(self.deck_len, left),
                 text: WordText::Period,
             }),
         }

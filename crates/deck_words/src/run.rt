@@ -77,7 +77,7 @@ fn words_of(line: u64, run: &[u8]) -> Option<(Option<Spelling<'_>>, bool)>
 }
 
 /// How many bytes at the front belong to a run.
-fn run_len(bytes: &[u8]) -> usize
+pub fn run_len(bytes: &[u8]) -> usize
     ensures run { result ≡ prefix_len is_of_run bytes.now }
     ensures within { result ≤ length bytes.now }
 {
@@ -110,6 +110,7 @@ pub fn run_piece(line: u64, bytes: &[u8]) -> Option<Piece<'_>>
         word,
         period,
         line,
+        left: bytes.len(),
         rest,
     })
 }

@@ -64,22 +64,25 @@ impl<'a> Model for Spelling<'a> {
 }
 
 impl<'a> Spelling<'a> {
-    /// The word, in capitals where it is plain.
-    pub fn word(self) -> Word<'a>
+    /// The word, in capitals where it is plain, whose first byte stands there.
+    pub fn word(self, start: u32) -> Word<'a>
         ensures { result ≡ self.entry }
     {
         let Spelling { line, says } = self;
         match says {
             Spelled::Plain(plain) => Word {
                 line,
+                start,
                 text: WordText::Plain(capitals_of(plain.bytes)),
             },
             Spelled::Literal(text) => Word {
                 line,
+                start,
                 text: WordText::Literal(text),
             },
             Spelled::Sign(sign) => Word {
                 line,
+                start,
                 text: WordText::Sign(sign),
             },
         }

@@ -3,6 +3,7 @@ ghost use Rattle.std.specs.Prelude.{◌≡◌, option_map};
 ghost use Rattle.deck_words.specs.Word.{sign_text, plain_text, literal_text};
 
 use crate::literal::Quoted;
+use crate::place::WordPlace;
 use io_state::Name;
 use std::marker::Model;
 
@@ -26,10 +27,12 @@ pub enum Sign {
     Less,
 }
 
-/// A word, and the line of its first byte, from 1. Contracts see its line, its kind and its text.
+/// A word, the line of its first byte, from 1, and how many bytes of the deck stand before it.
+/// Contracts see its line, its kind and its text.
 #[derive(Drop)]
 pub struct Word<'a> {
     pub line: u64,
+    pub start: u32,
     pub text: WordText<'a>,
 }
 
@@ -56,6 +59,30 @@ impl Sign {
 }
 
 impl<'a> Word<'a> {
+    /// How many bytes it has in its deck.
+    fn written_len(&self) -> usize {
+        match &self.text {
+            WordText::Plain(name) => name.as_str().len(),
+            WordText::Literal(text) => text.written_len(),
+            WordText::Sign(sign) => sign.text().len(),
+            WordText::Period => 1,
+        }
+    }
+
+    /// Where it stands.
+    pub fn place(&self) -> WordPlace
+        ensures { result.line ≡ self.now.line }
+    {
+        let end = usize::try_from(self.start)
+            .unwrap_or(0)
+            .saturating_add(self.written_len());
+        WordPlace {
+            line: self.line,
+            start: self.start,
+            end: u32::try_from(end).unwrap_or(self.start),
+        }
+    }
+
     /// The text of a plain word.
     pub fn plain(&self) -> Option<&Name>
         ensures { option_map (λ name. name.now.bytes) result ≡ plain_text self.now }

@@ -12,7 +12,9 @@ ghost use Rattle.file_control.specs.Described.{AreDescribed};
 use crate::data_names::DataNames;
 use crate::files::{FileList, ItemList, check_items, files_of, items_of};
 use deck_entries::{Divisions, read_divisions};
-use deck_words::{Cause, DeckFault, Parser, Refusal, Words};
+use deck_words::{
+    Cause, DeckFault, Expected, Parser, Refusal, WantedClass, WantedList, WordPlace, Words,
+};
 use std::alloc::Global;
 
 /// The files of a deck in the order of their SELECT entries, its 77-level items, and how many words
@@ -49,13 +51,15 @@ fn contents_of(alloc: Global, divisions: &Divisions) -> Result<Contents, Refusal
     Ok(Contents { files, items })
 }
 
-fn read(alloc: Global, words: &Words<'_>) -> Result<Description, Refusal>
+/// The description that the words up to PROCEDURE are, or why they are none, as `read_description`.
+pub fn describe(alloc: Global, words: &Words<'_>) -> Result<Description, Refusal>
     ensures { GivesOrRefuses (IsDescription words.now) result }
 {
     let mut parser = Parser::new(words);
     let divisions = read_divisions(&mut parser, alloc)?;
     if !parser.sees(b"PROCEDURE") {
-        return Err(parser.fault(Cause::Expected));
+        let wanted = Expected::Words(WantedClass::Word);
+        return Err(parser.fault(Cause::Expected(wanted)));
     }
     let contents = contents_of(alloc, &divisions)?;
     let Contents { files, items } = contents;
@@ -76,7 +80,16 @@ fn read(alloc: Global, words: &Words<'_>) -> Result<Description, Refusal>
 pub fn read_description(alloc: Global, words: &Words<'_>) -> Result<Description, DeckFault>
     ensures { GivesOrTells (IsDescription words.now) result }
 {
-    Ok(read(alloc, words)?)
+    Ok(describe(alloc, words)?)
+}
+
+/// What is tried at the word of a place and does not fit, where the words up to PROCEDURE are read.
+pub fn wanted_in_description(alloc: Global, words: &Words<'_>, place: WordPlace) -> WantedList {
+    let mut parser = Parser::noting(words, place);
+    if read_divisions(&mut parser, alloc).is_ok() {
+        let _ = parser.sees(b"PROCEDURE");
+    }
+    parser.wanted()
 }
 
 /// The files and items of a description are what a run can rely on.

@@ -16,7 +16,7 @@ use crate::field_places::{FieldPlaces, fields_by_name};
 use crate::keys::are_keys_named;
 use crate::length_item::length_item;
 use deck_entries::{Described, FileControlEntry, RecordLength, Selected, StorageItem};
-use deck_words::{Cause, Refusal};
+use deck_words::{Cause, LayoutCause, Refusal, Twice, Unknown, WordPlace};
 use io_state::{Access, FileName, Name};
 use record_layout::{Field, Item, Layout, LayoutFault, Schema, one_outcome};
 use std::alloc::Global;
@@ -71,40 +71,40 @@ impl FileDesc {
     }
 }
 
-/// Looks at the keys of an entry: each is an item.
-fn check_entry(selected: &Selected, described: &Described) -> Result<(), Refusal>
+/// Looks at the keys of the entry of a place: each is an item.
+fn check_entry(at: usize, selected: &Selected, described: &Described) -> Result<(), Refusal>
     ensures { OnErr result (are_keys_named described.now.items selected.now ≡ false) }
 {
     if !are_keys_named(described.items(), &selected.entry) {
-        return Err(Refusal::Fault(selected.line, Cause::Unknown));
+        return Err(selected.place.fault(Cause::Unknown(Unknown::Key(at))));
     }
     Ok(())
 }
 
-fn layout_refusal(line: u64, fault: LayoutFault) -> Refusal
+fn layout_refusal(at: usize, place: WordPlace, fault: LayoutFault) -> Refusal
     ensures { IsFault result → fault ≢ LayoutFault.Memory }
 {
     if fault == LayoutFault::Memory {
         Refusal::Memory
     } else {
-        Refusal::Fault(line, Cause::Layout)
+        place.fault(Cause::Layout(LayoutCause::Items(at, fault)))
     }
 }
 
-fn layout_of(alloc: Global, line: u64, items: &[Item]) -> Result<Layout, Refusal>
+fn layout_of(alloc: Global, at: usize, place: WordPlace, items: &[Item]) -> Result<Layout, Refusal>
     ensures { GivesOrRefuses (IsLayout (map entry_of_item items.now)) result }
 {
     one_outcome();
     match Layout::build(alloc, items) {
         Ok(layout) => Ok(layout),
-        Err(fault) => Err(layout_refusal(line, fault)),
+        Err(fault) => Err(layout_refusal(at, place, fault)),
     }
 }
 
-fn described_layout(alloc: Global, described: &Described) -> Result<Layout, Refusal>
+fn described_layout(alloc: Global, at: usize, described: &Described) -> Result<Layout, Refusal>
     ensures { GivesOrRefuses (IsLayout described.now.items) result }
 {
-    layout_of(alloc, described.line, described.items())
+    layout_of(alloc, at, described.place, described.items())
 }
 
 fn least_of(described: &Described, layout: &Layout) -> Option<u16>
@@ -120,12 +120,16 @@ fn are_names_new(names: &DataNames<'_>, described: &Described) -> bool
     are_new(names, described.items())
 }
 
-fn place_of(storage: &[StorageItem], described: &Described) -> Result<Option<usize>, Cause>
+fn place_of(
+    storage: &[StorageItem],
+    at: usize,
+    described: &Described,
+) -> Result<Option<usize>, Cause>
     ensures place { IfOk result (DependsOn storage.now described.now.lengths) }
     ensures none { IfErr result (λ cause. (place : Option ℕ)
         → DependsOn storage.now described.now.lengths place → ⊥) }
 {
-    depends_on(storage, &described.lengths)
+    depends_on(storage, at, &described.lengths)
 }
 
 /// The least length of the records, where the lengths that are described end with that of the record.
@@ -156,6 +160,7 @@ fn least_length(lengths: &Option<RecordLength>, greatest: u16) -> Option<u16>
 /// The place of the item that a record's length depends on, if its length varies.
 fn depends_on(
     storage: &[StorageItem],
+    at: usize,
     lengths: &Option<RecordLength>,
 ) -> Result<Option<usize>, Cause>
     ensures place { IfOk result (DependsOn storage.now lengths.now) }
@@ -164,6 +169,7 @@ fn depends_on(
     match lengths {
         Some(RecordLength::Varying(lengths)) => match length_item(
             storage,
+            at,
             lengths.item_bytes(),
             lengths.greatest,
         ) {
@@ -183,8 +189,8 @@ fn know(schema: &Schema)
 }
 
 fn schema_of(
-    alloc: Global,
-    line: u64,
+    at: usize,
+    place: WordPlace,
     layout: &Layout,
     least: u16,
     entry: &FileControlEntry,
@@ -200,7 +206,7 @@ fn schema_of(
             know(&schema);
             Ok(schema)
         }
-        Err(_) => Err(Refusal::Fault(line, Cause::Layout)),
+        Err(fault) => Err(place.fault(Cause::Layout(LayoutCause::Keys(at, fault)))),
     }
 }
 
@@ -240,7 +246,7 @@ fn file_of(
 }
 
 fn selected_schema(
-    alloc: Global,
+    at: usize,
     selected: &Selected,
     layout: &Layout,
     least: u16,
@@ -250,7 +256,7 @@ fn selected_schema(
     ensures given { IfOk result (λ schema. IsSchema schema × GivesKeys layout.now least selected.now schema) }
     ensures none { HasNoneIfRefused (GivesKeys layout.now least selected.now) result }
 {
-    schema_of(alloc, selected.line, layout, least, &selected.entry)
+    schema_of(at, selected.place, layout, least, &selected.entry)
 }
 
 fn whole_file(
@@ -274,12 +280,13 @@ fn whole_file(
     )
 }
 
-/// The file of an entry and its description, behind the data names of earlier files. The faults are
+/// The file of the entry of a place and its description, behind the data names of earlier files. The faults are
 /// looked for in this order: a key that names no item, items that are no layout, lengths that are
 /// not the record's, a data name that is there, an item that cannot hold a record's length, and any
 /// other fault of the keys.
 pub fn file(
     alloc: Global,
+    at: usize,
     selected: &Selected,
     described: &Described,
     storage: &[StorageItem],
@@ -287,19 +294,20 @@ pub fn file(
 ) -> Result<FileDesc, Refusal>
     ensures { GivesOrRefuses (IsFile names.now storage.now selected.now described.now) result }
 {
-    check_entry(selected, described)?;
-    let layout = described_layout(alloc, described)?;
+    check_entry(at, selected, described)?;
+    let layout = described_layout(alloc, at, described)?;
     let Some(least) = least_of(described, &layout) else {
-        return Err(Refusal::Fault(described.line, Cause::Layout));
+        let length = LayoutCause::Length(at, layout.length());
+        return Err(described.place.fault(Cause::Layout(length)));
     };
     if !are_names_new(names, described) {
-        return Err(Refusal::Fault(described.line, Cause::Twice));
+        return Err(described.place.fault(Cause::Twice(Twice::Item(at))));
     }
-    let place = match place_of(storage, described) {
+    let place = match place_of(storage, at, described) {
         Ok(place) => place,
-        Err(cause) => return Err(Refusal::Fault(described.line, cause)),
+        Err(cause) => return Err(described.place.fault(cause)),
     };
-    let schema = selected_schema(alloc, selected, &layout, least)?;
+    let schema = selected_schema(at, selected, &layout, least)?;
     let fields = fields_by_name(alloc, &layout)?;
     Ok(whole_file(selected, described, layout, fields, schema, place))
 }

@@ -10,7 +10,7 @@ use crate::data_names::DataNames;
 use crate::file::{FileDesc, file};
 use crate::length_item::digits_of_item;
 use deck_entries::{Described, Selected, StorageItem};
-use deck_words::{Cause, Refusal};
+use deck_words::{Cause, LayoutCause, Refusal, Twice, Unknown};
 use io_state::Name;
 use std::alloc::{AllocError, Global};
 use std::marker::Model;
@@ -144,9 +144,10 @@ pub fn files_of<'a>(
     let mut rest = entries;
     'more: while let Some((selected, after)) = rest.split_first() {
         let Some(described) = described_as(descriptions, selected.name()) else {
-            return Err(Refusal::Fault(selected.line, Cause::Unknown));
+            return Err(selected.place.fault(Cause::Unknown(Unknown::Described)));
         };
-        let next = file(alloc, selected, described, storage, names)?;
+        let at = files.as_slice().len();
+        let next = file(alloc, at, selected, described, storage, names)?;
         names.add_all(described.items())?;
         files.push(next)?;
         rest = after;
@@ -164,10 +165,10 @@ pub fn check_items<'a>(storage: &'a [StorageItem], names: DataNames<'a>) -> Resu
     let mut rest = storage;
     'more: while let Some((item, after)) = rest.split_first() {
         if names.has(item.name.as_str()) {
-            return Err(Refusal::Fault(item.line, Cause::Twice));
+            return Err(item.place.fault(Cause::Twice(Twice::LengthItem)));
         }
         let Some(_) = digits_of_item(item) else {
-            return Err(Refusal::Fault(item.line, Cause::Layout));
+            return Err(item.place.fault(Cause::Layout(LayoutCause::Digits)));
         };
         names.push(&item.name)?;
         rest = after;
@@ -183,7 +184,7 @@ pub fn items_of(alloc: Global, storage: &[StorageItem]) -> Result<ItemList, Refu
     let mut rest = storage;
     'more: while let Some((item, after)) = rest.split_first() {
         let Some(digits) = digits_of_item(item) else {
-            return Err(Refusal::Fault(item.line, Cause::Layout));
+            return Err(item.place.fault(Cause::Layout(LayoutCause::Digits)));
         };
         items.push(LengthItem {
             name: item.name,

@@ -5,7 +5,7 @@ ghost use Rattle.file_control.specs.Checks.{HasDigitsFor};
 ghost use Rattle.file_control.specs.Description.{HasDigits, digit_count, IsLengthItem};
 
 use deck_entries::StorageItem;
-use deck_words::Cause;
+use deck_words::{Cause, LayoutCause, Unknown};
 use io_state::Name;
 use record_layout::{Picture, one_picture};
 
@@ -65,21 +65,27 @@ fn has_room(item: &StorageItem, greatest: u64) -> bool
     }
 }
 
-/// The place of the item that a record's length depends on. It is unknown, or has too few digits or none.
-pub fn length_item(storage: &[StorageItem], name: &[u8], greatest: u64) -> Result<usize, Cause>
+/// The place of the item that the length of the records of a file depends on. It is unknown, or has
+/// too few digits or none.
+pub fn length_item(
+    storage: &[StorageItem],
+    at: usize,
+    name: &[u8],
+    greatest: u64,
+) -> Result<usize, Cause>
     ensures place { IfOk result (λ place. IsLengthItem storage.now name.now greatest place) }
     ensures none { IfErr result (λ cause. (place : ℕ) → IsLengthItem storage.now name.now greatest place
         → ⊥) }
 {
     let Some(place) = place_of(storage, name) else {
-        return Err(Cause::Unknown);
+        return Err(Cause::Unknown(Unknown::LengthItem(at)));
     };
     let Some(item) = storage.get(place) else {
-        return Err(Cause::Unknown);
+        return Err(Cause::Unknown(Unknown::LengthItem(at)));
     };
     if has_room(item, greatest) {
         Ok(place)
     } else {
-        Err(Cause::Layout)
+        Err(Cause::Layout(LayoutCause::LengthItem(at, greatest)))
     }
 }

@@ -19,6 +19,8 @@ mod keys;
 mod length_item;
 
 pub use deck_words::{DECK_LIMIT, DeckFault, Words, one_reading, words};
-pub use description::{Description, are_described, one_description, read_description};
+pub use description::{
+    Description, are_described, describe, one_description, read_description, wanted_in_description,
+};
 pub use file::FileDesc;
 pub use files::{FileList, ItemList, LengthItem};

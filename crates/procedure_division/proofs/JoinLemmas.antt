@@ -53,7 +53,7 @@ module _ (p : Rule (List Statement)) where
 -- what is not there is refused
 pub refused : {A : Type 0} (read : Option A) (refusal : Refusal) → read ≡ None → Refuses read refusal
 refused read Memory e = tt
-refused read (Fault line cause) e = e
+refused read (Fault line place cause) e = e
 
 -- ---- a rule behind a first one
 
@@ -87,7 +87,7 @@ module _ (p : Rule (List Statement)) (lawful : Lawful p) (fit : (many p).is_fit 
 
   pub not_further : (read : Option (List Statement × List Word)) (before : List Statement) (words : List Word) (refusal : Refusal) → read ≡ (onto joined_statements before p).reads words → begins p.starts words ≡ true → Refuses ((behind_statements before p).reads words) refusal → Refuses read refusal
   not_further read before words Memory so_far i r = tt
-  not_further read before words (Fault line cause) so_far i r = so_far ∙ refused_turn joined_statements p lawful before words i r
+  not_further read before words (Fault line place cause) so_far i r = so_far ∙ refused_turn joined_statements p lawful before words i r
 
   pub finished : (before : List Statement) (words : List Word) → begins p.starts words ≡ false → (onto joined_statements before p).reads words ≡ Some (before, words)
   finished before words i = no_turn joined_statements p lawful before words i

@@ -11,7 +11,7 @@ use crate::file_name::file;
 use crate::names::Names;
 use crate::statement::Statement;
 use crate::statement_list::StatementList;
-use deck_words::{Parser, Refusal};
+use deck_words::{NameOf, Parser, Refusal};
 use io_state::FileStatement;
 
 /// Whether a file is closed WITH LOCK.
@@ -38,12 +38,11 @@ fn closed(
 ) -> Result<StatementList, Refusal>
     ensures { AddsStatements (file_to_close names.now) statements parser.old result parser.new }
 {
+    let line = parser.line();
     let file = file(parser, names)?;
     let lock = lock(parser)?;
-    Ok(statements.with(Statement::Perform {
-        file,
-        statement: FileStatement::Close { lock },
-    })?)
+    let statement = FileStatement::Close { lock };
+    Ok(statements.with(Statement::Perform { file, statement }, line)?)
 }
 
 /// The files that are closed, one or more.
@@ -55,7 +54,7 @@ fn all_closed(
     ensures { AddsStatements (some_of (file_to_close names.now)) statements parser.old result parser.new }
 {
     let mut statements = closed(parser, names, statements)?;
-    'more: while parser.sees_name() {
+    'more: while parser.sees_name(NameOf::File) {
         statements = closed(parser, names, statements)?;
     }
     Ok(statements)

@@ -13,7 +13,7 @@ ghost use Rattle.procedure_division.specs.OnlyAllowed.{HaveOnlyAllowed};
 use crate::names::Names;
 use crate::sentence::{paragraph_or_sentence, sees_sentence};
 use crate::statement_list::StatementList;
-use deck_words::{DeckFault, Parser, Refusal, Words};
+use deck_words::{DeckFault, NameOf, Parser, Refusal, Wanted, WantedList, WordPlace, Words};
 use std::alloc::Global;
 
 /// How many words a statement has, or more, in most procedures. A period is one.
@@ -51,7 +51,8 @@ fn procedure_division(
     all_sentences(alloc, parser, names)
 }
 
-fn read_procedure(
+/// The statements that the words are, or why they are none, as `procedure`.
+pub fn read_procedure(
     alloc: Global,
     names: &Names<'_>,
     words: &Words<'_>,
@@ -60,7 +61,7 @@ fn read_procedure(
 {
     let mut parser = Parser::new(words);
     let statements = procedure_division(alloc, &mut parser, names)?;
-    parser.end()?;
+    parser.end(Wanted::Name(NameOf::Paragraph))?;
     Ok(statements)
 }
 
@@ -76,6 +77,18 @@ pub fn procedure(
     ensures { GivesOrTells (IsProcedure names.now words.now) result }
 {
     Ok(read_procedure(alloc, names, words)?)
+}
+
+/// What is tried at the word of a place and does not fit, where the words are read as a procedure.
+pub fn wanted_in_procedure(
+    alloc: Global,
+    names: &Names<'_>,
+    words: &Words<'_>,
+    place: WordPlace,
+) -> WantedList {
+    let mut parser = Parser::noting(words, place);
+    let _ = procedure_division(alloc, &mut parser, names);
+    parser.wanted()
 }
 
 /// No words are two procedures.

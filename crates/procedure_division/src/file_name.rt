@@ -4,18 +4,18 @@ ghost use Rattle.procedure_division.specs.StatementRules.{file};
 ghost use Rattle.procedure_division.specs.Parts.{record_named};
 
 use crate::names::Names;
-use deck_words::{Cause, Parser, Refusal};
+use deck_words::{Cause, NameOf, Parser, Refusal, Unknown};
 
 /// The name of a file.
 #[tactic(auto, unfolding(crate::specs::StatementRules::file))]
 pub fn file(parser: &mut Parser<'_>, names: &Names<'_>) -> Result<usize, Refusal>
     ensures { Reads ((file names.now).reads parser.old) result parser.new }
 {
-    let unknown = parser.fault(Cause::Unknown);
-    let name = parser.name()?;
+    let place = parser.place();
+    let name = parser.name(NameOf::File)?;
     match names.file(name.as_str()) {
         Some(file) => Ok(file),
-        None => Err(unknown),
+        None => Err(place.fault(Cause::Unknown(Unknown::File))),
     }
 }
 
@@ -24,10 +24,10 @@ pub fn file(parser: &mut Parser<'_>, names: &Names<'_>) -> Result<usize, Refusal
 pub fn record_name(parser: &mut Parser<'_>, names: &Names<'_>) -> Result<usize, Refusal>
     ensures { Reads ((record_named names.now).reads parser.old) result parser.new }
 {
-    let unknown = parser.fault(Cause::Unknown);
-    let name = parser.name()?;
+    let place = parser.place();
+    let name = parser.name(NameOf::Record)?;
     match names.record(name.as_str()) {
         Some(file) => Ok(file),
-        None => Err(unknown),
+        None => Err(place.fault(Cause::Unknown(Unknown::Record))),
     }
 }

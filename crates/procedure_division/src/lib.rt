@@ -14,6 +14,7 @@ mod file_name;
 mod moving;
 mod names;
 mod opening;
+mod places;
 mod reading;
 mod sentence;
 mod starting;
@@ -21,7 +22,8 @@ mod statement;
 mod statement_list;
 mod writing;
 
-pub use division::{one_procedure, only_allowed, procedure};
+pub use division::{one_procedure, only_allowed, procedure, read_procedure, wanted_in_procedure};
 pub use names::Names;
+pub use places::{Paragraph, StatementPlaces};
 pub use statement::Statement;
 pub use statement_list::StatementList;

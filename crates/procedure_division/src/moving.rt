@@ -13,7 +13,7 @@ ghost use Rattle.procedure_division.specs.StatementRules.{receiver, move_stateme
 use crate::names::Names;
 use crate::statement::Statement;
 use crate::statement_list::StatementList;
-use deck_words::{Cause, Parser, Refusal};
+use deck_words::{Cause, NameOf, NotAllowed, Parser, Refusal, Unknown, WordPlace};
 use record_layout::{Bytes, Figure, Source, takes};
 use std::alloc::{AllocError, Global};
 
@@ -90,6 +90,13 @@ fn copy_of(alloc: Global, source: &Source<&[u8]>) -> Result<Source<Bytes>, Alloc
     })
 }
 
+/// A MOVE: the line of its verb, and where its source stands.
+#[derive(Clone, Copy)]
+struct MovePlaces {
+    line: u64,
+    source: WordPlace,
+}
+
 /// An item that takes the source.
 #[tactic(auto, unfolding(crate::specs::StatementRules::receiver))]
 fn receiver(
@@ -98,31 +105,34 @@ fn receiver(
     names: &Names<'_>,
     source: &Source<&[u8]>,
     statements: StatementList,
+    places: MovePlaces,
 ) -> Result<StatementList, Refusal>
     ensures { AddsStatements (receiver names.now (sent source.now)) statements parser.old result parser.new }
 {
-    let unknown = parser.fault(Cause::Unknown);
-    let not_allowed = parser.fault(Cause::NotAllowed);
-    let name = parser.name()?;
+    let place = parser.place();
+    let name = parser.name(NameOf::Item)?;
     if let Some((file, field)) = names.item(&name) {
         if !takes(field, source) {
-            return Err(not_allowed);
+            let refused = NotAllowed::Source(places.source, field.length);
+            return Err(place.fault(Cause::NotAllowed(refused)));
         }
         let source = copy_of(alloc, source)?;
-        return Ok(statements.with(Statement::Move {
+        let moved = Statement::Move {
             file,
             field,
             source,
-        })?);
+        };
+        return Ok(statements.with(moved, places.line)?);
     }
     let Some(item) = names.length_item(name.as_str()) else {
-        return Err(unknown);
+        return Err(place.fault(Cause::Unknown(Unknown::Receiver)));
     };
     if !is_numeric(source) {
-        return Err(not_allowed);
+        let refused = NotAllowed::Source(places.source, names.digits(item));
+        return Err(place.fault(Cause::NotAllowed(refused)));
     }
     let source = copy_of(alloc, source)?;
-    Ok(statements.with(Statement::MoveLength { item, source })?)
+    Ok(statements.with(Statement::MoveLength { item, source }, places.line)?)
 }
 
 /// The items that take the source, one or more.
@@ -132,13 +142,14 @@ fn all_receivers(
     names: &Names<'_>,
     source: &Source<&[u8]>,
     statements: StatementList,
+    places: MovePlaces,
 ) -> Result<StatementList, Refusal>
     ensures { AddsStatements (some_of (receiver names.now (sent source.now))) statements parser.old result
         parser.new }
 {
-    let mut statements = receiver(alloc, parser, names, source, statements)?;
-    'more: while parser.sees_name() {
-        statements = receiver(alloc, parser, names, source, statements)?;
+    let mut statements = receiver(alloc, parser, names, source, statements, places)?;
+    'more: while parser.sees_name(NameOf::Item) {
+        statements = receiver(alloc, parser, names, source, statements, places)?;
     }
     Ok(statements)
 }
@@ -150,12 +161,13 @@ fn receivers(
     names: &Names<'_>,
     source: &Source<&[u8]>,
     statements: StatementList,
+    places: MovePlaces,
 ) -> Result<StatementList, Refusal>
     ensures { AddsStatements (the (codes "TO") ▸ some_of (receiver names.now (sent source.now))) statements
         parser.old result parser.new }
 {
     parser.expect(b"TO")?;
-    all_receivers(alloc, parser, names, source, statements)
+    all_receivers(alloc, parser, names, source, statements, places)
 }
 
 #[tactic(auto, unfolding(crate::specs::StatementRules::move_statement), using(crate::proofs::JoinLemmas::follower_behind, crate::proofs::JoinLemmas::second_behind))]
@@ -167,7 +179,12 @@ pub fn move_statement(
 ) -> Result<StatementList, Refusal>
     ensures { AddsStatements (move_statement names.now) statements parser.old result parser.new }
 {
+    let line = parser.line();
     parser.expect(b"MOVE")?;
+    let places = MovePlaces {
+        line,
+        source: parser.place(),
+    };
     let source = source(alloc, parser)?;
-    receivers(alloc, parser, names, &source.as_ref(), statements)
+    receivers(alloc, parser, names, &source.as_ref(), statements, places)
 }

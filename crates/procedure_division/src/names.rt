@@ -156,6 +156,14 @@ impl<'a> Names<'a> {
         self.item_places.get(name).copied()
     }
 
+    /// How many digits a 77-level item has.
+    pub fn digits(&self, item: usize) -> u16 {
+        match self.items.get(item) {
+            Some(item) => item.digits,
+            None => 0,
+        }
+    }
+
     /// The access mode of a file.
     pub fn access(&self, file: usize) -> Access
         ensures { result ≡ access_at self.now file }

@@ -10,7 +10,7 @@ use crate::file_name::file;
 use crate::names::Names;
 use crate::statement::Statement;
 use crate::statement_list::StatementList;
-use deck_words::{Cause, Parser, Refusal};
+use deck_words::{Cause, NameOf, NotAllowed, Parser, Refusal};
 use io_state::{FileStatement, OpenMode, Verb, permits};
 
 /// A file that is opened in a mode.
@@ -23,15 +23,13 @@ fn opened(
 ) -> Result<StatementList, Refusal>
     ensures { AddsStatements (name_to_open names.now mode) statements parser.old result parser.new }
 {
-    let not_allowed = parser.fault(Cause::NotAllowed);
+    let place = parser.place();
     let file = file(parser, names)?;
     if !permits(names.access(file), mode, Verb::Open) {
-        return Err(not_allowed);
+        return Err(place.fault(Cause::NotAllowed(NotAllowed::Open(file, mode))));
     }
-    Ok(statements.with(Statement::Perform {
-        file,
-        statement: FileStatement::Open(mode),
-    })?)
+    let statement = FileStatement::Open(mode);
+    Ok(statements.with(Statement::Perform { file, statement }, place.line)?)
 }
 
 /// The files that are opened in a mode, one or more.
@@ -44,7 +42,7 @@ fn all_opened(
     ensures { AddsStatements (some_of (name_to_open names.now mode)) statements parser.old result parser.new }
 {
     let mut statements = opened(parser, names, mode, statements)?;
-    'more: while parser.sees_name() {
+    'more: while parser.sees_name(NameOf::File) {
         statements = opened(parser, names, mode, statements)?;
     }
     Ok(statements)

@@ -15,20 +15,20 @@ use crate::file_name::file;
 use crate::names::Names;
 use crate::statement::Statement;
 use crate::statement_list::StatementList;
-use deck_words::{Cause, Parser, Refusal};
+use deck_words::{Cause, NameOf, NotAllowed, Parser, Refusal, Unknown};
 use io_state::{Access, FileStatement};
 
 /// Whether the READ is sequential: NEXT says so, and in sequential access it always is.
-fn next(parser: &mut Parser<'_>, access: Access) -> Result<bool, Refusal>
+fn next(parser: &mut Parser<'_>, file: usize, access: Access) -> Result<bool, Refusal>
     ensures { Reads ((where_it_gives (λ n. Some (is_sequential access || is_word_there n)) (optional
         (where_allowed (not (is_random access)) (the (codes "NEXT"))))).reads parser.old) result parser.new }
 {
-    let not_allowed = parser.fault(Cause::NotAllowed);
+    let place = parser.place();
     if !parser.eat(b"NEXT") {
         return Ok(access == Access::Sequential);
     }
     if access == Access::Random {
-        return Err(not_allowed);
+        return Err(place.fault(Cause::NotAllowed(NotAllowed::Next(file))));
     }
     Ok(true)
 }
@@ -38,15 +38,14 @@ fn next(parser: &mut Parser<'_>, access: Access) -> Result<bool, Refusal>
 fn key(parser: &mut Parser<'_>, names: &Names<'_>, file: usize) -> Result<u8, Refusal>
     ensures { Reads ((key names.now file).reads parser.old) result parser.new }
 {
-    let unknown = parser.fault(Cause::Unknown);
-    let not_allowed = parser.fault(Cause::NotAllowed);
-    let name = parser.name()?;
+    let place = parser.place();
+    let name = parser.name(NameOf::Item)?;
     let Some(field) = names.item_in(file, &name) else {
-        return Err(unknown);
+        return Err(place.fault(Cause::Unknown(Unknown::KeyItem(file))));
     };
     match names.key(file, field) {
         Some(key) => Ok(key),
-        None => Err(not_allowed),
+        None => Err(place.fault(Cause::NotAllowed(NotAllowed::NoKey(file)))),
     }
 }
 
@@ -57,6 +56,15 @@ fn read_by(sequential: bool, key: Option<u8>) -> FileStatement
         Some(key) => FileStatement::Read { key },
         None if sequential => FileStatement::ReadNext,
         None => FileStatement::Read { key: 0 },
+    }
+}
+
+/// Why KEY is not allowed in a sequential READ of a file: it is sequential by its access, or by NEXT.
+fn no_key_phrase(names: &Names<'_>, file: usize) -> NotAllowed {
+    if names.access(file) == Access::Sequential {
+        NotAllowed::Key(file)
+    } else {
+        NotAllowed::KeyWithNext
     }
 }
 
@@ -71,12 +79,12 @@ fn key_phrase(
     ensures { Reads ((optional (where_allowed (not sequential) (the (codes "KEY")) ▸ may (codes "IS")
         ▸ key names.now file)).reads parser.old) result parser.new }
 {
-    let not_allowed = parser.fault(Cause::NotAllowed);
+    let place = parser.place();
     if !parser.eat(b"KEY") {
         return Ok(None);
     }
     if sequential {
-        return Err(not_allowed);
+        return Err(place.fault(Cause::NotAllowed(no_key_phrase(names, file))));
     }
     parser.eat(b"IS");
     Ok(Some(key(parser, names, file)?))
@@ -90,16 +98,15 @@ fn read_operand(
     file: usize,
     sequential: bool,
     statements: StatementList,
+    line: u64,
 ) -> Result<StatementList, Refusal>
     ensures { AddsStatements (read_operand names.now file sequential) statements parser.old result
         parser.new }
 {
     parser.eat(b"RECORD");
     let key = key_phrase(parser, names, file, sequential)?;
-    Ok(statements.with(Statement::Perform {
-        file,
-        statement: read_by(sequential, key),
-    })?)
+    let statement = read_by(sequential, key);
+    Ok(statements.with(Statement::Perform { file, statement }, line)?)
 }
 
 #[tactic(auto, unfolding(crate::specs::StatementRules::read_statement), using(crate::proofs::JoinLemmas::follower_behind, crate::proofs::JoinLemmas::second_behind))]
@@ -110,8 +117,9 @@ pub fn read_statement(
 ) -> Result<StatementList, Refusal>
     ensures { AddsStatements (read_statement names.now) statements parser.old result parser.new }
 {
+    let line = parser.line();
     parser.expect(b"READ")?;
     let file = file(parser, names)?;
-    let sequential = next(parser, names.access(file))?;
-    read_operand(parser, names, file, sequential, statements)
+    let sequential = next(parser, file, names.access(file))?;
+    read_operand(parser, names, file, sequential, statements, line)
 }

@@ -2,7 +2,7 @@
 ghost use Rattle.std.specs.Prelude.{◌≡◌, Some, [], ◌∷◌, codes};
 ghost use Rattle.deck_words.specs.Class.{begins, names};
 ghost use Rattle.deck_words.specs.Notation.{the, name, period, ◌▸◌, ◌◂◌};
-ghost use Rattle.deck_words.specs.Reading.{Reads};
+ghost use Rattle.deck_words.specs.Reading.{Reads, ReadsAs};
 ghost use Rattle.deck_words.specs.Rule.{where_it_gives};
 ghost use Rattle.procedure_division.specs.Names.{Names};
 ghost use Rattle.procedure_division.specs.Reading.{AddsStatements};
@@ -20,7 +20,8 @@ use crate::starting::start_statement;
 use crate::statement::Statement;
 use crate::statement_list::StatementList;
 use crate::writing::{delete_statement, rewrite_statement, write_statement};
-use deck_words::{Parser, Refusal};
+use deck_words::{Cause, Expected, NameOf, Parser, Refusal};
+use io_state::Name;
 use std::alloc::Global;
 
 fn stop_statement(
@@ -30,9 +31,10 @@ fn stop_statement(
     ensures { AddsStatements (where_it_gives (λ _. Some (StopRun ∷ [])) (the (codes "STOP") ▸ the (codes
         "RUN"))) statements parser.old result parser.new }
 {
+    let line = parser.line();
     parser.expect(b"STOP")?;
     parser.expect(b"RUN")?;
-    Ok(statements.with(Statement::StopRun)?)
+    Ok(statements.with(Statement::StopRun, line)?)
 }
 
 /// Whether a statement is next.
@@ -111,19 +113,26 @@ fn sentence(
 }
 
 /// A paragraph's name, which has no effect.
-fn paragraph(parser: &mut Parser<'_>) -> Result<(), Refusal>
-    ensures { Reads ((name ▸ period).reads parser.old) result parser.new }
+fn paragraph(parser: &mut Parser<'_>) -> Result<Name, Refusal>
+    ensures { ReadsAs (λ paragraph. tt) (name ▸ period) parser.old result parser.new }
 {
-    parser.name()?;
-    parser.period()?;
-    Ok(())
+    let place = parser.place();
+    let paragraph = parser.name(NameOf::Paragraph)?;
+    match parser.period() {
+        Ok(()) => Ok(paragraph),
+        Err(Refusal::Memory) => Err(Refusal::Memory),
+        Err(Refusal::Fault(line, behind, _cause)) => {
+            let lacking = Cause::Expected(Expected::Paragraph(place));
+            Err(Refusal::Fault(line, behind, lacking))
+        }
+    }
 }
 
 /// Whether a paragraph's name is next. No word that begins a statement is a name, and to see one takes less.
 fn sees_paragraph(parser: &Parser<'_>) -> bool
     ensures { result ≡ begins (names ∷ []) parser.now }
 {
-    !sees_statement(parser) && parser.sees_name()
+    !sees_statement(parser) && parser.sees_name(NameOf::Paragraph)
 }
 
 #[tactic(auto, unfolding(crate::specs::Parts::paragraph_or_sentence), using(crate::proofs::ProcedureLemmas::paragraph_starts, crate::proofs::JoinLemmas::nothing_behind))]
@@ -136,8 +145,9 @@ pub fn paragraph_or_sentence(
     ensures { AddsStatements (paragraph_or_sentence names.now) statements parser.old result parser.new }
 {
     if sees_paragraph(parser) {
-        paragraph(parser)?;
-        return Ok(statements);
+        let line = parser.line();
+        let name = paragraph(parser)?;
+        return Ok(statements.with_paragraph(name, line)?);
     }
     sentence(alloc, parser, names, statements)
 }
@@ -147,5 +157,5 @@ pub fn paragraph_or_sentence(
 pub fn sees_sentence(parser: &Parser<'_>) -> bool
     ensures { (known : Names) → result ≡ begins (paragraph_or_sentence known).starts parser.now }
 {
-    sees_statement(parser) || parser.sees_name()
+    sees_statement(parser) || parser.sees_name(NameOf::Paragraph)
 }

@@ -16,7 +16,7 @@ use crate::file_name::file;
 use crate::names::Names;
 use crate::statement::Statement;
 use crate::statement_list::StatementList;
-use deck_words::{Cause, Parser, Refusal};
+use deck_words::{Cause, NameOf, NotAllowed, Parser, Refusal, Unknown};
 use io_state::{Access, FileStatement, Relation};
 
 /// The name of a file that START is for: its access is not random.
@@ -24,10 +24,10 @@ fn file_to_start(parser: &mut Parser<'_>, names: &Names<'_>) -> Result<usize, Re
     ensures { Reads ((where_it_gives (λ u. if is_random (access_at names.now u) then None else Some u) (file
         names.now)).reads parser.old) result parser.new }
 {
-    let not_allowed = parser.fault(Cause::NotAllowed);
+    let place = parser.place();
     let file = file(parser, names)?;
     if names.access(file) == Access::Random {
-        return Err(not_allowed);
+        return Err(place.fault(Cause::NotAllowed(NotAllowed::Start(file))));
     }
     Ok(file)
 }
@@ -37,15 +37,14 @@ fn file_to_start(parser: &mut Parser<'_>, names: &Names<'_>) -> Result<usize, Re
 fn led_key(parser: &mut Parser<'_>, names: &Names<'_>, file: usize) -> Result<(u8, u16), Refusal>
     ensures { Reads ((led_key names.now file).reads parser.old) result parser.new }
 {
-    let unknown = parser.fault(Cause::Unknown);
-    let not_allowed = parser.fault(Cause::NotAllowed);
-    let name = parser.name()?;
+    let place = parser.place();
+    let name = parser.name(NameOf::Item)?;
     let Some(field) = names.item_in(file, &name) else {
-        return Err(unknown);
+        return Err(place.fault(Cause::Unknown(Unknown::KeyItem(file))));
     };
     match names.led_key(file, field) {
         Some(led) => Ok(led),
-        None => Err(not_allowed),
+        None => Err(place.fault(Cause::NotAllowed(NotAllowed::NoLeadingKey(file)))),
     }
 }
 
@@ -148,16 +147,15 @@ fn start_operand(
     names: &Names<'_>,
     file: usize,
     statements: StatementList,
+    line: u64,
 ) -> Result<StatementList, Refusal>
     ensures { AddsStatements (where_it_gives (λ operand. Some (one_statement file (start_by names.now file
         operand))) (optional (the (codes "KEY") ▸ may (codes "IS") ▸ relation ⊗ led_key names.now file)))
         statements parser.old result parser.new }
 {
     let operand = start_phrase(parser, names, file)?;
-    Ok(statements.with(Statement::Perform {
-        file,
-        statement: start_by(names, file, operand),
-    })?)
+    let statement = start_by(names, file, operand);
+    Ok(statements.with(Statement::Perform { file, statement }, line)?)
 }
 
 #[tactic(auto, unfolding(crate::specs::StatementRules::start_statement), using(crate::proofs::JoinLemmas::follower_behind, crate::proofs::JoinLemmas::second_behind))]
@@ -168,7 +166,8 @@ pub fn start_statement(
 ) -> Result<StatementList, Refusal>
     ensures { AddsStatements (start_statement names.now) statements parser.old result parser.new }
 {
+    let line = parser.line();
     parser.expect(b"START")?;
     let file = file_to_start(parser, names)?;
-    start_operand(parser, names, file, statements)
+    start_operand(parser, names, file, statements, line)
 }

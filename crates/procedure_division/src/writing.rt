@@ -22,12 +22,11 @@ pub fn write_statement(
     ensures { AddsStatements (where_it_gives (λ u. Some (one_statement u Write)) (the (codes "WRITE")
         ▸ record_named names.now)) statements parser.old result parser.new }
 {
+    let line = parser.line();
     parser.expect(b"WRITE")?;
     let file = record_name(parser, names)?;
-    Ok(statements.with(Statement::Perform {
-        file,
-        statement: FileStatement::Write,
-    })?)
+    let statement = FileStatement::Write;
+    Ok(statements.with(Statement::Perform { file, statement }, line)?)
 }
 
 pub fn rewrite_statement(
@@ -38,12 +37,11 @@ pub fn rewrite_statement(
     ensures { AddsStatements (where_it_gives (λ u. Some (one_statement u Rewrite)) (the (codes "REWRITE")
         ▸ record_named names.now)) statements parser.old result parser.new }
 {
+    let line = parser.line();
     parser.expect(b"REWRITE")?;
     let file = record_name(parser, names)?;
-    Ok(statements.with(Statement::Perform {
-        file,
-        statement: FileStatement::Rewrite,
-    })?)
+    let statement = FileStatement::Rewrite;
+    Ok(statements.with(Statement::Perform { file, statement }, line)?)
 }
 
 pub fn delete_statement(
@@ -54,11 +52,10 @@ pub fn delete_statement(
     ensures { AddsStatements (where_it_gives (λ u. Some (one_statement u Delete)) (the (codes "DELETE") ▸ file
         names.now ◂ may (codes "RECORD"))) statements parser.old result parser.new }
 {
+    let line = parser.line();
     parser.expect(b"DELETE")?;
     let file = file(parser, names)?;
     parser.eat(b"RECORD");
-    Ok(statements.with(Statement::Perform {
-        file,
-        statement: FileStatement::Delete,
-    })?)
+    let statement = FileStatement::Delete;
+    Ok(statements.with(Statement::Perform { file, statement }, line)?)
 }

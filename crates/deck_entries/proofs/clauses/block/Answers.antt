@@ -13,7 +13,7 @@ use Rattle.deck_entries.proofs.clauses.block.Goals as goal
 -- what is not there is refused
 refuses : {A : Type 0} (found : Option A) (refusal : Refusal) → found ≡ None → Refuses found refusal
 refuses found Memory e = tt
-refuses found (Fault line cause) e = e
+refuses found (Fault line place cause) e = e
 
 twice : (clauses : Clauses) → clauses.block ≡ true → with_clause clauses Block ≡ None
 twice clauses e = rw e refl

@@ -5,7 +5,7 @@ use Rattle.deck_reader.proofs.deck.read.Goals as goal
 pub returns-in_err-description : goal.returns-in_err-description
 returns-in_err-description c =
     let p = err_from_is_err_and c.from_residual.result c.from_residual.ensures.1 in
-    rw (p.1, p.2) (record { given = tt; none = λ other deck s. c.in_err-description.ensures.none other s.0 s.1; told = c.in_err-description.ensures.told })
+    rw (p.1, p.2) (record { given = tt; none = λ other deck s. c.in_err-description.ensures.none other s.0 s.1 })
 
 pub returns-in_err-statements : goal.returns-in_err-statements
 returns-in_err-statements c =
@@ -14,5 +14,4 @@ returns-in_err-statements c =
       given = tt;
       none = λ other. no_deck c.one_description.ensures c.args.words.now c.in_ok-description.description c.in_ok-description.ensures.given
           (λ statements s. c.in_err-statements.ensures.none other statements (rw (c.as_slice.ensures, c.as_slice-2.ensures, c.skip-rest.ensures) s));
-      told = c.in_err-statements.ensures.told;
     })

@@ -1,18 +1,21 @@
-use Rattle.std.proofs.Common.{subst}
-use Rattle.std.proofs.lemmas.Result.{err_from_is_err_and, IfOk-weaker, IfErr-weaker}
-use Rattle.deck_reader.specs.Deck.{Spells}
-use Rattle.deck_reader.specs.CanBeRun.{CanBeRun}
+use Rattle.std.proofs.Common.{◌≡◌, ap}
+use Rattle.std.proofs.lemmas.Result.{err_from_is_err_and}
+use Rattle.deck_words.specs.Fault.{IsFault, told}
+use Rattle.deck_words.specs.declared.fault.DeckFault.{DeckFault}
+use Rattle.deck_words.specs.declared.fault.Refusal.{Refusal}
+use Rattle.deck_words.specs.declared.fault.Refusal.TheVariants.{Memory, Fault}
 use Rattle.deck_reader.proofs.deck.read_deck.Goals as goal
 
-pub returns-in_err-words-clause-none : goal.returns-in_err-words-clause-none
-returns-in_err-words-clause-none c =
+is_fault : (refusal : Refusal) (fault : DeckFault) → fault ≡ told refusal → (fault.code ≡ 8 → ⊥) → IsFault refusal
+is_fault Memory fault e other = absurd (other (ap (λ (f : DeckFault). f.code) e))
+is_fault (Fault line place cause) fault e other = tt
+
+pub returns-in_err-read_whole-clause-none : goal.returns-in_err-read_whole-clause-none
+returns-in_err-read_whole-clause-none c =
     let p = err_from_is_err_and c.from_residual.result c.from_residual.ensures.1 in
-    rw (p.1, p.2) (λ other deck d. other (c.one_reading.ensures.apart c.args.bytes.now d.0 c.in_err-words.field-0.0 d.1 c.in_err-words.ensures.fault))
+    rw (p.1) (λ other. c.in_err-read_whole.ensures.deck.none (is_fault _ p.0 p.2 other))
 
-pub returns-clause-none : goal.returns-clause-none
-returns-clause-none c =
-    IfErr-weaker c.read.result _ _ (λ fault none other deck d. none other deck
-    (subst (λ words. Spells words deck) (c.one_reading.ensures.words c.args.bytes.now d.0 c.in_ok-words.words d.1 c.in_ok-words.ensures.words) d.2)) c.read.ensures.none
-
-pub returns-clause-runnable : goal.returns-clause-runnable
-returns-clause-runnable c = IfOk-weaker c.read.result (Spells c.in_ok-words.words) CanBeRun (λ deck s. c.every_deck_can_be_run.ensures c.in_ok-words.words deck s) c.read.ensures.given
+pub returns-in_err-read_whole-clause-told : goal.returns-in_err-read_whole-clause-told
+returns-in_err-read_whole-clause-told c =
+    let p = err_from_is_err_and c.from_residual.result c.from_residual.ensures.1 in
+    rw (p.1) (c.in_err-read_whole.field-0.0, p.2)

@@ -11,5 +11,5 @@ returns c = record {
   faults = λ bytes a b f g p q.
       let same = faults_are_one bytes f.0 g.0 f.2 g.2
       (λ e. p (ap (λ (d : DeckFault). d.code) (f.1 ∙ ap told e))) (λ e. q (ap (λ (d : DeckFault). d.code) (g.1 ∙ ap told e))) in
-      f.1 ∙ (ap told same ∙ sym g.1);
+      f.1 ∙ (same ∙ sym g.1);
 }

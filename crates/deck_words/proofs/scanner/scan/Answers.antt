@@ -8,7 +8,7 @@ use Rattle.deck_words.proofs.scanner.scan.Goals as goal
 
 pub returns-in_default : goal.returns-in_default
 returns-in_default c =
-    refused c.args.bytes.now c.more.invariant.words (rest_of c.more.line c.more.rest.now) c.more.invariant.so (grind (arith, nat_tests)) (sym c.front_piece.ensures ∙ c.in_default.is)
+    refused c.args.bytes.now c.more.invariant.words (rest_of c.more.line c.more.rest.now) c.bad_place.result c.more.invariant.so (grind (arith, nat_tests)) (sym c.front_piece.ensures ∙ c.in_default.is)
 
 pub more-smaller : goal.more-smaller
 more-smaller c =

@@ -8,9 +8,9 @@ use Rattle.file_control.proofs.description.read_description.Goals as goal
 
 is_fault : (refusal : Refusal) (fault : DeckFault) → fault ≡ told refusal → (fault.code ≡ 8 → ⊥) → IsFault refusal
 is_fault Memory fault e other = absurd (other (ap (λ (f : DeckFault). f.code) e))
-is_fault (Fault line cause) fault e other = tt
+is_fault (Fault line place cause) fault e other = tt
 
-pub returns-in_err-read : goal.returns-in_err-read
-returns-in_err-read c =
+pub returns-in_err-describe : goal.returns-in_err-describe
+returns-in_err-describe c =
     let p = err_from_is_err_and c.from_residual.result c.from_residual.ensures.1 in
-    rw (p.1) (record { given = tt; none = λ other. c.in_err-read.ensures.none (is_fault _ p.0 p.2 other); told = (c.in_err-read.field-0.0, p.2) })
+    rw (p.1) (record { given = tt; none = λ other. c.in_err-describe.ensures.none (is_fault _ p.0 p.2 other); told = (c.in_err-describe.field-0.0, p.2) })

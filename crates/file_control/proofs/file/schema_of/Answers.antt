@@ -20,4 +20,4 @@ returns-in-Ok-clause-given c =
 
 pub returns-in-Err-clause-none : goal.returns-in-Err-clause-none
 returns-in-Err-clause-none c = λ f schema h.
-    none_both _ c.in-Err.field-0 h.0 (same_keys c.args.layout.now c.args.least _ _ _ _ (c.as_str-prime.ensures.value ∙ ap (λ (e : FileControlEntry). e.record_key) c.entry.view_is) (c.as_slice.ensures ∙ ap (λ (e : FileControlEntry). e.alternate_keys) c.entry.view_is) ∙ c.in-Err.ensures.fault) h.1
+    none_both _ c.in-Err.fault h.0 (same_keys c.args.layout.now c.args.least _ _ _ _ (c.as_str-prime.ensures.value ∙ ap (λ (e : FileControlEntry). e.record_key) c.entry.view_is) (c.as_slice.ensures ∙ ap (λ (e : FileControlEntry). e.alternate_keys) c.entry.view_is) ∙ c.in-Err.ensures.fault) h.1

@@ -8,7 +8,7 @@ use Rattle.procedure_division.proofs.division.procedure.Goals as goal
 
 is_fault : (refusal : Refusal) (fault : DeckFault) → fault ≡ told refusal → (fault.code ≡ 8 → ⊥) → IsFault refusal
 is_fault Memory fault e other = absurd (other (ap (λ (f : DeckFault). f.code) e))
-is_fault (Fault line cause) fault e other = tt
+is_fault (Fault line place cause) fault e other = tt
 
 pub returns-in_err-read_procedure : goal.returns-in_err-read_procedure
 returns-in_err-read_procedure c =

@@ -13,7 +13,7 @@ use Rattle.procedure_division.proofs.division.read_procedure.Goals as goal
 
 none_read : {A : Type 0} (refusal : Refusal) (read : Option A) → Refuses read refusal → IsFault refusal → read ≡ None
 none_read Memory read r f = absurd f
-none_read (Fault line cause) read r f = r
+none_read (Fault line place cause) read r f = r
 
 pub returns : goal.returns
 returns c =
@@ -21,14 +21,14 @@ returns c =
     let all = (lawful_procedure c.args.names.now).sound c.in_ok-statements.statements c.new-parser.result c.procedure_division.new.parser c.in_ok-statements.ensures in
     record {
       given = subst (λ words. rule.Spells c.in_ok-statements.statements words []) c.new-parser.ensures
-          (subst (λ rest. rule.Spells c.in_ok-statements.statements c.new-parser.result rest) c.in_ok-end.ensures all);
+          (subst (λ rest. rule.Spells c.in_ok-statements.statements c.new-parser.result rest) c.in_ok-end.ensures.end all);
       none = tt;
     }
 
 pub returns-in_err-end : goal.returns-in_err-end
 returns-in_err-end c =
     let rule = procedure c.args.names.now in
-    let none = not_all_spelled rule (lawful_procedure _) (procedure_is_fit _) c.in_ok-statements.statements c.new-parser.result c.procedure_division.new.parser c.in_ok-statements.ensures c.in_err-end.ensures in
+    let none = not_all_spelled rule (lawful_procedure _) (procedure_is_fit _) c.in_ok-statements.statements c.new-parser.result c.procedure_division.new.parser c.in_ok-statements.ensures c.in_err-end.ensures.end in
     let p = err_from_is_err_and c.from_residual-in_err-end.result c.from_residual-in_err-end.ensures.1 in
     rw (p.1) (record { given = tt; none = λ _. subst (λ (words : List Word). (statements : List Statement) → rule.Spells statements words [] → ⊥) c.new-parser.ensures none })
 

@@ -9,4 +9,4 @@ unfolding file
 returns-in-None c =
     let named = ap (λ text. position (λ known. bytes_eq known.name text) c.args.names.now.files) c.as_str.ensures.value in
     let none = sym named ∙ (sym c.file.ensures ∙ c.in-None.is) in
-    refused _ _ (rw (c.in_ok-name.ensures) (rw none refl))
+    refused _ _ (rw (c.in_ok-name.ensures.reads) (rw none refl))

@@ -10,4 +10,4 @@ unfolding record_named
 returns-in-None c =
     let named = ap (λ text. position (λ file. is_named text file.entry) c.args.names.now.files) c.as_str.ensures.value in
     let none = sym named ∙ (sym c.record.ensures ∙ c.in-None.is) in
-    refused _ _ (rw (c.in_ok-name.ensures) (rw none refl))
+    refused _ _ (rw (c.in_ok-name.ensures.reads) (rw none refl))

@@ -28,13 +28,13 @@ pub returns-in_default-length_item : goal.returns-in_default-length_item
 returns-in_default-length_item c =
     let none = sym c.item.ensures ∙ none_of _ (λ x e. c.in_default.not-Some x e) in
     let nowhere = none_of _ (λ x e. c.in_default-length_item.not-Some x e) in
-    let reads = no_item c.args.names.now (sent c.args.source.now) c.as_str.result.now c.in_ok-name.name.bytes None c.args.parser.now c.name.new.self c.in_ok-name.ensures none c.as_str.ensures.value (sym nowhere ∙ c.length_item.ensures) in
+    let reads = no_item c.args.names.now (sent c.args.source.now) c.as_str.result.now c.in_ok-name.name.bytes None c.args.parser.now c.name.new.self c.in_ok-name.ensures.reads none c.as_str.ensures.value (sym nowhere ∙ c.length_item.ensures) in
     refused _ _ (rw reads refl)
 
 pub returns : goal.returns
 returns c =
     let none = sym c.item.ensures ∙ none_of _ (λ x e. c.in_default.not-Some x e) in
-    let reads = no_item c.args.names.now (sent c.args.source.now) c.as_str.result.now c.in_ok-name.name.bytes (Some c.in-Some-length_item.item) c.args.parser.now c.name.new.self c.in_ok-name.ensures none c.as_str.ensures.value (sym c.in-Some-length_item.is ∙ c.length_item.ensures) in
+    let reads = no_item c.args.names.now (sent c.args.source.now) c.as_str.result.now c.in_ok-name.name.bytes (Some c.in-Some-length_item.item) c.args.parser.now c.name.new.self c.in_ok-name.ensures.reads none c.as_str.ensures.value (sym c.in-Some-length_item.is ∙ c.length_item.ensures) in
     let taken = sym c.is_numeric.ensures ∙ c.if-not-is_numeric.false in
     let all = c.in_ok-with-2.ensures ∙ ap (λ (s : Source (List ℕ)). c.args.statements ++ MoveLength c.in-Some-length_item.item s ∷ []) c.in_ok-source-2.ensures in
     rw (reads, taken) (ap (λ (statements : List Statement). Some (statements, c.name.new.self)) (sym all))

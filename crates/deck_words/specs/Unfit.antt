@@ -1,0 +1,53 @@
+-- Where a refusal stands, and what is wanted there.
+use Rattle.std.specs.Prelude.{◌≡◌, ℕ, List, [], ◌∷◌}
+use Rattle.deck_words.specs.Word.{Word as Seen}
+use Rattle.deck_words.specs.declared.fault.Cause.{Cause}
+use Rattle.deck_words.specs.declared.fault.Cause.TheVariants.{BadWord, Expected, Unknown, Twice, NotAllowed}
+use Rattle.deck_words.specs.declared.fault.Cause.TheVariants.{Limit, Layout}
+use Rattle.deck_words.specs.declared.fault.Expected.TheVariants.{Words, Paragraph, Indexed, RecordKey}
+use Rattle.deck_words.specs.declared.fault.Refusal.{Refusal}
+use Rattle.deck_words.specs.declared.fault.Refusal.TheVariants.{Memory, Fault}
+use Rattle.deck_words.specs.declared.wanted.Wanted.{Wanted}
+use Rattle.deck_words.specs.declared.wanted.Wanted.TheVariants as wanted
+use Rattle.deck_words.specs.declared.wanted.WantedClass.{WantedClass}
+use Rattle.deck_words.specs.declared.wanted.WantedClass.TheVariants as class
+
+-- the line of the first word, or any line where no word is left
+abbrev pub IsFirstLine : List Seen → ℕ → Type 0
+IsFirstLine [] line = Unit {0}
+IsFirstLine (word ∷ words) line = line ≡ word.line
+
+-- the refusal is for want of memory, or told at the line of the first of the words
+abbrev pub IsRefusedThere : List Seen → Refusal → Type 0
+IsRefusedThere words Memory = Unit {0}
+IsRefusedThere words (Fault line place cause) = IsFirstLine words line × (place.line ≡ line)
+
+-- the class of what is wanted
+abbrev pub class_wanted : Wanted → WantedClass
+class_wanted (wanted.Word text) = class.Word
+class_wanted (wanted.Sign text) = class.Sign
+class_wanted (wanted.Name of) = class.Name
+class_wanted wanted.Number = class.Number
+class_wanted wanted.Level = class.Level
+class_wanted wanted.Picture = class.Picture
+class_wanted wanted.Literal = class.Literal
+class_wanted wanted.Period = class.Period
+
+-- a word does not fit for want of one of this class
+abbrev pub IsWantOf : WantedClass → Cause → Type 0
+IsWantOf wants (Expected (Words class)) = class ≡ wants
+IsWantOf wants (Expected (Paragraph place)) = ⊥
+IsWantOf wants (Expected Indexed) = ⊥
+IsWantOf wants (Expected RecordKey) = ⊥
+IsWantOf wants BadWord = ⊥
+IsWantOf wants (Unknown what) = ⊥
+IsWantOf wants (Twice what) = ⊥
+IsWantOf wants (NotAllowed what) = ⊥
+IsWantOf wants (Limit which) = ⊥
+IsWantOf wants (Layout what) = ⊥
+
+-- the refusal is for want of memory, or of a word of this class where the first of the words stands
+abbrev pub IsUnfit : WantedClass → List Seen → Refusal → Type 0
+IsUnfit wants words Memory = Unit {0}
+IsUnfit wants words (Fault line place cause) =
+    IsFirstLine words line × (place.line ≡ line) × IsWantOf wants cause
