@@ -1,5 +1,5 @@
 -- A deck that is parted twice has a place between the two cuts.
-use Rattle.std.proofs.Common.{rules, ◌≡◌, ◌+◌, ℕ, List, ◌++◌, refl}
+use Rattle.std.proofs.Common.{◌≡◌, ◌+◌, ℕ, List, ◌++◌, refl}
 use Rattle.deck_diagnosis.specs.Place.{line_feeds, IsTextAtLine}
 
 pub stands : (before text rest : List ℕ) {deck behind : List ℕ} {feeds : ℕ} → before ++ behind ≡ deck → text ++ rest ≡ behind

@@ -1,5 +1,5 @@
 -- A place of a deck: a line, and bytes that begin there.
-use Rattle.std.specs.Prelude.{◌≡◌, ◌+◌, ◌==◌, ℕ, List, ◌++◌}
+use Rattle.std.specs.Prelude.{◌≡◌, ◌+◌, ◌==◌, ℕ, List, ◌++◌, length}
 use Rattle.std.specs.List.{count_by}
 use Rattle.deck_diagnosis.specs.declared.place.Place.{Place}
 
@@ -15,3 +15,8 @@ IsTextAtLine deck line text =
 -- the line is one of the deck, and the bytes stand there
 abbrev pub IsPlaceInDeck : List ℕ → Place → Type 0
 IsPlaceInDeck deck place = IsTextAtLine deck place.line place.text.now
+
+-- the bytes stand in the deck behind so many others
+abbrev pub StandsAt : List ℕ → ℕ → List ℕ → Type 0
+StandsAt deck start text =
+    (before behind : List ℕ) × (deck ≡ before ++ (text ++ behind)) × (length before ≡ start)

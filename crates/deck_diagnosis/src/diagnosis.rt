@@ -1,17 +1,24 @@
 //! Why a deck is refused, in words.
-ghost use Rattle.std.specs.Prelude.{◌≡◌, ◌≤◌, List, ℕ, length, IfOk};
-ghost use Rattle.deck_diagnosis.specs.Place.{IsPlaceInDeck};
+ghost use Rattle.std.specs.Prelude.{◌≡◌, ◌≢◌, ◌≤◌, [], List, ℕ, length, IfOk};
+ghost use Rattle.deck_diagnosis.specs.Place.{IsPlaceInDeck, StandsAt};
 ghost use Rattle.deck_diagnosis.specs.Told.{TellsOf};
 
 use crate::place::{Place, place_of};
+use crate::text::{Hint, Reason, fitted, told_reason};
 use arrayvec::ArrayVec;
-use deck_findings::{Finding, Hint, Reason, Shown, faulty_word, first_mistake, past_limit};
-use deck_names::{Operand, Outline, operands, outline_of, stands_twice, unknown_name};
-use deck_walk::{Step, Word, cut, walk_along};
-use deck_words::DeckFault;
-use layout_findings::{bad_layout, not_allowed};
+use deck_messages::message_of;
+use deck_reader::read_deck_told;
+use deck_words::WordPlace;
+use refused_deck::{Message, Shown};
 use std::alloc::{AllocError, Global};
 use std::fmt;
+
+/// Before the first word.
+const START: WordPlace = WordPlace {
+    line: 1,
+    start: 0,
+    end: 0,
+};
 
 /// The most bytes of a word that are told.
 const TOLD_LIMIT: usize = 31;
@@ -29,7 +36,7 @@ pub struct Diagnosis {
 }
 
 impl Diagnosis {
-    /// Whether nothing was found but the line.
+    /// Whether nothing is told but the line.
     pub fn says_nothing(&self) -> bool {
         self.why.as_str().is_empty()
     }
@@ -56,30 +63,6 @@ impl fmt::Display for Diagnosis {
     }
 }
 
-/// Where a line begins.
-fn line_start(bytes: &[u8], line: u64) -> usize {
-    let mut at_line = 1u64;
-    let mut start = 0;
-    for (at, byte) in bytes.iter().enumerate() {
-        if *byte == b'\n' && at_line < line {
-            at_line = at_line.saturating_add(1);
-            start = at.saturating_add(1);
-        }
-    }
-    start
-}
-
-/// The place of a deck that a finding tells.
-fn told_place<'a>(bytes: &'a [u8], finding: &Finding<'_>) -> Place<'a>
-    ensures place { IsPlaceInDeck bytes.now result }
-    ensures short { length result.text.now ≤ 31 }
-{
-    match &finding.word {
-        Some(word) => place_of(bytes, word.start, word.text.len().min(TOLD_LIMIT)),
-        None => place_of(bytes, line_start(bytes, finding.line), 0),
-    }
-}
-
 /// A few bytes, in memory of their own.
 fn copied(text: &[u8]) -> ArrayVec<u8, 31>
     requires { length text.now ≤ 31 }
@@ -90,87 +73,55 @@ fn copied(text: &[u8]) -> ArrayVec<u8, 31>
     bytes
 }
 
-/// A finding, told of a deck.
-fn diagnosis_of(bytes: &[u8], finding: Finding<'_>) -> Diagnosis
-    ensures { TellsOf bytes.now result }
+/// The further lines, as far as there is room for them.
+fn hints_of(hints: &[String]) -> ArrayVec<Hint, 2> {
+    let mut told = ArrayVec::new();
+    for hint in hints {
+        let _ = told.try_push(fitted(hint));
+    }
+    told
+}
+
+/// The place of a deck that a message tells.
+fn told_place(bytes: &[u8], place: WordPlace) -> Place<'_>
+    ensures place { IsPlaceInDeck bytes.now result }
+    ensures at { place.start ≤ length bytes.now → StandsAt bytes.now place.start result.text.now }
+    ensures short { length result.text.now ≤ 31 }
 {
-    let place = told_place(bytes, &finding);
+    let length = place.end.saturating_sub(place.start) as usize;
+    place_of(bytes, place.start as usize, length.min(TOLD_LIMIT))
+}
+
+/// A message, told of a deck.
+fn diagnosis_of(bytes: &[u8], message: &Message) -> Diagnosis
+    ensures tells { TellsOf bytes.now result }
+    ensures at { message.now.place.start ≤ length bytes.now
+        → StandsAt bytes.now message.now.place.start result.word.items }
+    ensures said { result.why.bytes ≢ [] }
+{
+    let place = told_place(bytes, message.place);
     Diagnosis {
         line: place.line,
         word: copied(place.text),
-        why: finding.why,
-        hints: finding.hints,
+        why: told_reason(&message.why),
+        hints: hints_of(&message.hints),
     }
 }
 
-/// What is found at the names that a deck describes, or in its statements.
-fn found_at_names<'a>(
-    alloc: Global,
-    steps: &[Step<'a>],
-    outline: &Outline<'a>,
-    operands: &[Operand<'a>],
-    fault: DeckFault,
-) -> Result<Option<Finding<'a>>, AllocError> {
-    match fault.code {
-        3 => Ok(unknown_name(outline, operands, fault.line)),
-        4 => Ok(stands_twice(outline, steps, fault.line)),
-        5 => not_allowed(alloc, outline, operands, fault.line),
-        7 => bad_layout(alloc, outline, fault.line),
-        _ => Ok(None),
+/// What is told of bytes that are read as a deck.
+fn message_for(alloc: Global, bytes: &[u8]) -> Result<Message, AllocError> {
+    let read = read_deck_told(alloc, bytes);
+    if let Err(refusal) = &read {
+        return message_of(alloc, bytes, refusal);
     }
+    Message::saying(alloc, START, "nothing is wrong with this deck")
 }
 
-/// What is found in the description or in the statements of a deck.
-fn found_in<'a>(
-    alloc: Global,
-    length: usize,
-    steps: &[Step<'a>],
-    fault: DeckFault,
-) -> Result<Option<Finding<'a>>, AllocError> {
-    let outline = outline_of(alloc, steps)?;
-    let operands = operands(alloc, &outline.statements)?;
-    match fault.code {
-        6 => Ok(past_limit(length, steps, fault.line)),
-        _ => found_at_names(alloc, steps, &outline, &operands, fault),
-    }
-}
-
-/// What is found in a deck of these words.
-fn found_along<'a>(
-    alloc: Global,
-    bytes: &[u8],
-    words: &[Word<'a>],
-    fault: DeckFault,
-) -> Result<Option<Finding<'a>>, AllocError> {
-    let walk = walk_along(alloc, words)?;
-    if fault.code == 2 {
-        return first_mistake(alloc, bytes, &walk);
-    }
-    found_in(alloc, bytes.len(), &walk.steps, fault)
-}
-
-/// What is found in a deck.
-fn found<'a>(
-    alloc: Global,
-    bytes: &'a [u8],
-    fault: DeckFault,
-) -> Result<Option<Finding<'a>>, AllocError> {
-    let words = cut(alloc, bytes)?;
-    if fault.code == 1 {
-        return Ok(faulty_word(&words, fault.line));
-    }
-    found_along(alloc, bytes, &words, fault)
-}
-
-/// Why a deck is refused with a fault, in words: what is told of the deck, or nothing but the line
-/// where nothing is found. It has to be the fault with which `read_deck` refuses the deck: of
-/// another one something is told that has nothing to do with it.
-pub fn diagnose(alloc: Global, bytes: &[u8], fault: DeckFault) -> Result<Diagnosis, AllocError>
-    ensures { IfOk result (TellsOf bytes.now) }
+/// Why a deck is refused, in words. It is read once more, for all that is known of its fault.
+pub fn diagnose(alloc: Global, bytes: &[u8]) -> Result<Diagnosis, AllocError>
+    ensures tells { IfOk result (TellsOf bytes.now) }
+    ensures said { IfOk result (λ told. told.why.bytes ≢ []) }
 {
-    let finding = match found(alloc, bytes, fault)? {
-        Some(finding) => finding,
-        None => Finding::of_line(fault.line),
-    };
-    Ok(diagnosis_of(bytes, finding))
+    let message = message_for(alloc, bytes)?;
+    Ok(diagnosis_of(bytes, &message))
 }

@@ -2,14 +2,15 @@
 //! there, and what was expected.
 //!
 //! What is proved: the line that is told is a line of the deck, and the word that is told stands
-//! there. No line of the text has more than 160 bytes, by the types of its texts. Which word is
-//! told, and what is said of it, is a heuristic, shown by cases. It decides nothing: that a deck is
-//! refused, and with which code, is for `deck_reader` to say.
+//! there. Something is said of each deck: a text whole, or a front of it with two points behind. No
+//! line has more than 180 bytes, by the types of its texts. What is said, and of which word,
+//! `deck_messages` finds; cases show it.
 //!
-//! Read `specs/Told.antt` and `specs/Place.antt`, then `diagnosis`.
+//! Read `specs/Told.antt`, `specs/Place.antt` and `specs/Text.antt`, then `diagnosis`.
 #![tactic(auto)]
 
 mod diagnosis;
 mod place;
+mod text;
 
 pub use diagnosis::{Diagnosis, diagnose};

@@ -1,0 +1,58 @@
+//! What is told of a refusal.
+
+use crate::bad_word::no_word;
+use crate::layout::bad_layout;
+use crate::limit::past_limit;
+use crate::not_allowed::not_allowed;
+use crate::twice::twice;
+use crate::unexpected::unexpected;
+use crate::unknown::unknown;
+use crate::wanted::WantedWords;
+use deck_reader::DeckRefusal;
+use deck_words::{Cause, Refusal, WordPlace};
+use refused_deck::{Message, Reading};
+use std::alloc::{AllocError, Global};
+
+/// What is told of bytes that are no word.
+fn bad_word(deck: &Reading<'_>, place: WordPlace) -> Result<Message, AllocError> {
+    let start = place.start as usize;
+    let (_, text) = deck.bytes.split_at(start.min(deck.bytes.len()));
+    let (length, why) = no_word(text);
+    let end = u32::try_from(start.saturating_add(length)).unwrap_or(place.end);
+    Message::saying(deck.alloc, WordPlace { end, ..place }, why)
+}
+
+/// What is told of a fault.
+fn message(
+    deck: &Reading<'_>,
+    place: WordPlace,
+    cause: Cause,
+    wanted: &WantedWords<'_>,
+) -> Result<Message, AllocError> {
+    match cause {
+        Cause::BadWord => bad_word(deck, place),
+        Cause::Expected(expected) => unexpected(deck, place, expected, wanted),
+        Cause::Unknown(what) => unknown(deck, place, what),
+        Cause::Twice(what) => twice(deck, place, what),
+        Cause::NotAllowed(what) => not_allowed(deck, place, what),
+        Cause::Limit(limit) => past_limit(deck, place, limit),
+        Cause::Layout(what) => bad_layout(deck, place, what),
+    }
+}
+
+/// What is told of these bytes, which the reader refuses so.
+pub fn message_of(
+    alloc: Global,
+    bytes: &[u8],
+    refusal: &DeckRefusal,
+) -> Result<Message, AllocError> {
+    match refusal.refusal {
+        Refusal::Fault(_, place, cause) => {
+            let wanted = WantedWords {
+                wanted: &refusal.wanted,
+            };
+            message(&Reading::of(alloc, bytes), place, cause, &wanted)
+        }
+        Refusal::Memory => Err(AllocError),
+    }
+}

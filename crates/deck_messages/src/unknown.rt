@@ -1,0 +1,175 @@
+//! Names that nothing has, or something else.
+
+use crate::lacking::without;
+use deck_words::{Unknown, WordPlace};
+use refused_deck::{Among, Message, Named, Reading, capitals};
+use std::alloc::AllocError;
+
+/// What a name is where something else is wanted, or that nothing has it.
+fn of_name(
+    deck: &Reading<'_>,
+    place: WordPlace,
+    wants: &str,
+    nothing: &str,
+) -> Result<Message, AllocError> {
+    let alloc = deck.alloc;
+    let why = match deck.known.named(capitals(deck.text(place)).as_str()) {
+        Some(Named::File) => format!(in alloc; "a file; {wants}")?,
+        Some(Named::RecordOf(file)) => format!(in alloc; "a record of {file}; {wants}")?,
+        Some(Named::ItemOf(file)) => format!(in alloc; "an item of {file}; {wants}")?,
+        Some(Named::StorageItem) => format!(in alloc; "a 77 item; {wants}")?,
+        None => String::from_str(alloc, nothing)?,
+    };
+    Ok(Message::new(alloc, place, why))
+}
+
+fn no_select(deck: &Reading<'_>, place: WordPlace) -> Result<Message, AllocError> {
+    let why = "no SELECT entry selects a file of this name";
+    Message::saying(deck.alloc, place, why)?
+        .with_hint(deck.perhaps(&Among::Files, deck.text(place))?)?
+        .with_hint(deck.listed("files: ", &Among::Files)?)
+}
+
+fn no_description(deck: &Reading<'_>, select: WordPlace) -> Result<Message, AllocError> {
+    let place = deck.subject(select)?;
+    Message::saying(deck.alloc, place, "this file has a SELECT entry and no FD")?.with_hint(
+        deck.perhaps(&Among::Descriptions, deck.text(place))?,
+    )
+}
+
+/// The first key of a SELECT entry that is no item of the record.
+fn unknown_key(deck: &Reading<'_>, select: WordPlace, file: &str) -> Result<WordPlace, AllocError> {
+    let items = deck.known.names(deck.alloc, &Among::ItemsOf(file))?;
+    let keys = deck.known.names(deck.alloc, &Among::KeysOf(file))?;
+    for key in &keys {
+        let key = *key;
+        if !items.contains(&key) {
+            return deck.named_in(select, key);
+        }
+    }
+    Ok(select)
+}
+
+fn no_key(deck: &Reading<'_>, select: WordPlace, file: usize) -> Result<Message, AllocError> {
+    let file = deck.known.file_name(file);
+    let place = unknown_key(deck, select, file)?;
+    let why = format!(in deck.alloc;
+        "a key has to be an item of the record of {file}, and none has this name"
+    )?;
+    Message::new(deck.alloc, place, why)
+        .with_hint(deck.perhaps(&Among::ItemsOf(file), deck.text(place))?)?
+        .with_hint(deck.listed("its items: ", &Among::ItemsOf(file))?)
+}
+
+fn no_length_item(deck: &Reading<'_>, fd: WordPlace, file: usize) -> Result<Message, AllocError> {
+    let name = deck.known.length_item(deck.known.file_name(file));
+    let place = deck.named_in(fd, name)?;
+    let nothing = "no 77 item of WORKING-STORAGE has this name";
+    of_name(deck, place, "DEPENDING ON wants a 77 item", nothing)?
+        .with_hint(deck.perhaps(&Among::Storage, deck.text(place))?)?
+        .with_hint(deck.listed("77 items: ", &Among::Storage)?)
+}
+
+/// A line with the file to which a name belongs, or one that is spelled nearly so.
+fn file_meant(deck: &Reading<'_>, place: WordPlace) -> Result<String, AllocError> {
+    match deck.known.named(capitals(deck.text(place)).as_str()) {
+        Some(Named::RecordOf(file) | Named::ItemOf(file)) => {
+            format!(in deck.alloc; "its file: {file}")
+        }
+        _ => deck.perhaps(&Among::Files, deck.text(place)),
+    }
+}
+
+fn no_file(deck: &Reading<'_>, place: WordPlace) -> Result<Message, AllocError> {
+    let verb = deck.verb(place);
+    let wants = format!(in deck.alloc; "{verb} wants a file")?;
+    let nothing = "no SELECT entry selects a file of this name";
+    of_name(deck, place, wants.as_str(), nothing)?
+        .with_hint(file_meant(deck, place)?)?
+        .with_hint(deck.listed("files: ", &Among::Files)?)
+}
+
+/// A line with the record of a file.
+fn record_of(deck: &Reading<'_>, verb: &str, file: &str) -> Result<String, AllocError> {
+    let heading = format!(in deck.alloc; "perhaps {verb} ")?;
+    deck.listed(heading.as_str(), &Among::RecordOf(file))
+}
+
+/// A line with the record of the file that a name belongs to, or one that is spelled nearly so.
+fn record_meant(deck: &Reading<'_>, place: WordPlace, verb: &str) -> Result<String, AllocError> {
+    let text = capitals(deck.text(place));
+    match deck.known.named(text.as_str()) {
+        Some(Named::File) => record_of(deck, verb, text.as_str()),
+        Some(Named::RecordOf(file) | Named::ItemOf(file)) => record_of(deck, verb, file),
+        Some(Named::StorageItem) => Ok(String::new(deck.alloc)),
+        None => deck.perhaps(&Among::Records, deck.text(place)),
+    }
+}
+
+fn no_record(deck: &Reading<'_>, place: WordPlace) -> Result<Message, AllocError> {
+    let verb = deck.verb(place);
+    let wants = format!(in deck.alloc; "{verb} wants a record")?;
+    of_name(
+        deck,
+        place,
+        wants.as_str(),
+        "no file has a record of this name",
+    )?
+    .with_hint(record_meant(deck, place, verb)?)?
+    .with_hint(deck.listed("records: ", &Among::Records)?)
+}
+
+fn no_key_item(deck: &Reading<'_>, place: WordPlace, file: usize) -> Result<Message, AllocError> {
+    let file = deck.known.file_name(file);
+    let wants = format!(in deck.alloc; "KEY IS wants an item of {file}")?;
+    of_name(deck, place, wants.as_str(), "no item has this name")?.with_hint(deck.listed(
+        "its keys: ",
+        &Among::KeysOf(file),
+    )?)
+}
+
+fn no_receiver(deck: &Reading<'_>, place: WordPlace) -> Result<Message, AllocError> {
+    let name = capitals(deck.text(place));
+    let record = Among::RecordOf(name.as_str());
+    of_name(
+        deck,
+        place,
+        "MOVE wants an item or a record",
+        "no item has this name",
+    )?
+    .with_hint(deck.perhaps(&Among::Targets, deck.text(place))?)?
+    .with_hint(deck.listed("its record: ", &record)?)
+}
+
+fn no_operand(
+    deck: &Reading<'_>,
+    place: WordPlace,
+    unknown: Unknown,
+) -> Result<Message, AllocError> {
+    if let Some(text) = without(deck.text(place)) {
+        return Message::not_read(deck.alloc, place, text);
+    }
+    match unknown {
+        Unknown::Record => no_record(deck, place),
+        Unknown::KeyItem(file) => no_key_item(deck, place, file),
+        Unknown::Receiver => no_receiver(deck, place),
+        _ => no_file(deck, place),
+    }
+}
+
+/// What is told of a name that nothing has.
+pub fn unknown(
+    deck: &Reading<'_>,
+    place: WordPlace,
+    unknown: Unknown,
+) -> Result<Message, AllocError> {
+    match unknown {
+        Unknown::Selected => no_select(deck, place),
+        Unknown::Described => no_description(deck, place),
+        Unknown::Key(file) => no_key(deck, place, file),
+        Unknown::LengthItem(file) => no_length_item(deck, place, file),
+        Unknown::File | Unknown::Record | Unknown::KeyItem(_) | Unknown::Receiver => {
+            no_operand(deck, place, unknown)
+        }
+    }
+}

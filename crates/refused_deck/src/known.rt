@@ -1,0 +1,296 @@
+//! What a deck describes, as far as it was read.
+
+use deck_entries::{
+    Described, Divisions, Entries, RecordLength, Selected, StorageItem, read_divisions,
+    read_file_control,
+};
+use deck_words::{Parser, WordPlace, words};
+use record_layout::Item;
+use std::alloc::{AllocError, Global};
+
+/// What stands before the procedure of a deck: all of it, where that was read; or the SELECT
+/// entries; or nothing.
+#[derive(Drop)]
+pub enum Known {
+    All(Divisions),
+    Entries(Entries),
+    Nothing,
+}
+
+/// What a name is the name of.
+#[derive(Clone, Copy)]
+pub enum Named<'a> {
+    File,
+    RecordOf(&'a str),
+    ItemOf(&'a str),
+    StorageItem,
+}
+
+/// The names among which one is looked for.
+#[derive(Clone, Copy)]
+pub enum Among<'a> {
+    Files,
+    /// The names of FDs.
+    Descriptions,
+    Records,
+    RecordOf(&'a str),
+    ItemsOf(&'a str),
+    KeysOf(&'a str),
+    Storage,
+    /// What a MOVE can receive.
+    Targets,
+}
+
+/// The names of items that have one.
+fn add_items<'a>(names: &mut Vec<&'a str>, items: &'a [Item]) -> Result<(), AllocError> {
+    for item in items {
+        if let Some(name) = &item.name {
+            names.push(name.as_str())?;
+        }
+    }
+    Ok(())
+}
+
+/// The name of the record, which is the first item.
+fn record_of(described: &Described) -> Option<&str> {
+    match described.items().first() {
+        Some(
+            Item {
+                level: _,
+                name: Some(name),
+                picture: _,
+            },
+        ) => Some(name.as_str()),
+        _ => None,
+    }
+}
+
+fn has_item_name(item: &Item, name: &str) -> bool {
+    matches!(&item.name, Some(own) if own.as_str() == name)
+}
+
+/// Where an FD stands, and which of its items has this name.
+fn item_named(described: &Described, name: &str) -> Option<(WordPlace, usize)> {
+    let mut items = described.items().iter();
+    let at = items.position(|item| has_item_name(item, name))?;
+    Some((described.place, at))
+}
+
+fn has_item(described: &Described, name: &str) -> bool {
+    described
+        .items()
+        .iter()
+        .any(|item| has_item_name(item, name))
+}
+
+impl Known {
+    /// What the bytes describe before the word at which they are refused.
+    pub fn of(alloc: Global, bytes: &[u8]) -> Known {
+        let Ok(words) = words(bytes) else {
+            return Known::Nothing;
+        };
+        let mut parser = Parser::new(&words);
+        if let Ok(divisions) = read_divisions(&mut parser, alloc) {
+            return Known::All(divisions);
+        }
+        let mut parser = Parser::new(&words);
+        match read_file_control(&mut parser, alloc) {
+            Ok(entries) => Known::Entries(entries),
+            Err(_) => Known::Nothing,
+        }
+    }
+
+    fn entries(&self) -> &[Selected] {
+        match self {
+            Known::All(divisions) => divisions.entries.as_slice(),
+            Known::Entries(entries) => entries.as_slice(),
+            Known::Nothing => &[],
+        }
+    }
+
+    fn descriptions(&self) -> &[Described] {
+        match self {
+            Known::All(divisions) => divisions.descriptions.as_slice(),
+            Known::Entries(_) | Known::Nothing => &[],
+        }
+    }
+
+    fn storage(&self) -> &[StorageItem] {
+        match self {
+            Known::All(divisions) => divisions.storage.as_slice(),
+            Known::Entries(_) | Known::Nothing => &[],
+        }
+    }
+
+    /// The entry of a file, by its place among them.
+    pub fn entry(&self, file: usize) -> Option<&Selected> {
+        self.entries().get(file)
+    }
+
+    /// The name of a file, by its place among the SELECT entries.
+    pub fn file_name(&self, file: usize) -> &str {
+        match self.entry(file) {
+            Some(selected) => selected.entry.name.as_str(),
+            None => "",
+        }
+    }
+
+    pub fn description(&self, file: &str) -> Option<&Described> {
+        self.descriptions()
+            .iter()
+            .find(|described| described.name.as_str() == file)
+    }
+
+    /// The name of the item on which the length of a file's records depends.
+    pub fn length_item(&self, file: &str) -> &str {
+        let Some(described) = self.description(file) else {
+            return "";
+        };
+        match &described.lengths {
+            Some(RecordLength::Varying(lengths)) => lengths.item.as_str(),
+            _ => "",
+        }
+    }
+
+    /// Where the first 77 item of a name stands.
+    pub fn storage_place(&self, name: &str) -> Option<WordPlace> {
+        let item = self
+            .storage()
+            .iter()
+            .find(|item| item.name.as_str() == name)?;
+        Some(item.place)
+    }
+
+    /// Where the FD of a file stands, and which of its items has this name.
+    pub fn item_of(&self, file: usize, name: &str) -> Option<(WordPlace, usize)> {
+        item_named(self.description(self.file_name(file))?, name)
+    }
+
+    /// The same of the first FD that has one.
+    pub fn item(&self, name: &str) -> Option<(WordPlace, usize)> {
+        for described in self.descriptions() {
+            if let Some(found) = item_named(described, name) {
+                return Some(found);
+            }
+        }
+        None
+    }
+
+    /// What a name is the name of.
+    pub fn named(&self, name: &str) -> Option<Named<'_>> {
+        if self
+            .entries()
+            .iter()
+            .any(|selected| selected.entry.name.as_str() == name)
+        {
+            return Some(Named::File);
+        }
+        for described in self.descriptions() {
+            if record_of(described) == Some(name) {
+                return Some(Named::RecordOf(described.name.as_str()));
+            }
+            if has_item(described, name) {
+                return Some(Named::ItemOf(described.name.as_str()));
+            }
+        }
+        if self.storage().iter().any(|item| item.name.as_str() == name) {
+            return Some(Named::StorageItem);
+        }
+        None
+    }
+
+    /// The picture of the item of a name.
+    pub fn picture(&self, name: &str) -> Option<&str> {
+        for described in self.descriptions() {
+            for item in described.items() {
+                if let (Some(own), Some(picture)) = (&item.name, &item.picture) {
+                    if own.as_str() == name {
+                        return Some(picture.as_str());
+                    }
+                }
+            }
+        }
+        let item = self
+            .storage()
+            .iter()
+            .find(|item| item.name.as_str() == name)?;
+        Some(item.picture.as_str())
+    }
+
+    /// The names of a kind, in the order in which the deck has them.
+    pub fn names(&self, alloc: Global, among: &Among<'_>) -> Result<Vec<&str>, AllocError> {
+        let mut names = Vec::new(alloc);
+        match among {
+            Among::Files => self.add_files(&mut names)?,
+            Among::Storage => self.add_storage(&mut names)?,
+            Among::KeysOf(file) => self.add_keys(&mut names, file)?,
+            _ => self.add_described(&mut names, among)?,
+        }
+        if matches!(among, Among::Targets) {
+            self.add_storage(&mut names)?;
+        }
+        Ok(names)
+    }
+
+    fn add_files<'a>(&'a self, names: &mut Vec<&'a str>) -> Result<(), AllocError> {
+        for selected in self.entries() {
+            names.push(selected.entry.name.as_str())?;
+        }
+        Ok(())
+    }
+
+    fn add_storage<'a>(&'a self, names: &mut Vec<&'a str>) -> Result<(), AllocError> {
+        for item in self.storage() {
+            names.push(item.name.as_str())?;
+        }
+        Ok(())
+    }
+
+    fn add_keys<'a>(&'a self, names: &mut Vec<&'a str>, file: &str) -> Result<(), AllocError> {
+        for selected in self.entries() {
+            if selected.entry.name.as_str() == file {
+                names.push(selected.entry.record_key.as_str())?;
+                for key in selected.entry.alternate_keys.as_slice() {
+                    names.push(key.0.as_str())?;
+                }
+            }
+        }
+        Ok(())
+    }
+
+    /// Adds the names of a kind that the FDs have.
+    fn add_described<'a>(
+        &'a self,
+        names: &mut Vec<&'a str>,
+        among: &Among<'_>,
+    ) -> Result<(), AllocError> {
+        for described in self.descriptions() {
+            add_names_of(names, described, among)?;
+        }
+        Ok(())
+    }
+}
+
+/// Adds the names of a kind that one FD has.
+fn add_names_of<'a>(
+    names: &mut Vec<&'a str>,
+    described: &'a Described,
+    among: &Among<'_>,
+) -> Result<(), AllocError> {
+    let own = described.name.as_str();
+    match among {
+        Among::Descriptions => Ok(names.push(own)?),
+        Among::Records => add_record(names, described),
+        Among::RecordOf(file) if own == *file => add_record(names, described),
+        Among::ItemsOf(file) if own == *file => add_items(names, described.items()),
+        Among::Targets => add_items(names, described.items()),
+        _ => Ok(()),
+    }
+}
+
+fn add_record<'a>(names: &mut Vec<&'a str>, described: &'a Described) -> Result<(), AllocError> {
+    if let Some(name) = record_of(described) {
+        names.push(name)?;
+    }
+    Ok(())
+}

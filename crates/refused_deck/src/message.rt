@@ -1,0 +1,44 @@
+//! What is told of a refused deck.
+
+use deck_words::WordPlace;
+use std::alloc::{AllocError, Global};
+
+/// What is told: of which bytes of the deck, why, and further lines.
+#[derive(Drop)]
+pub struct Message {
+    pub place: WordPlace,
+    pub why: String,
+    pub hints: Vec<String>,
+}
+
+impl Message {
+    pub fn new(alloc: Global, place: WordPlace, why: String) -> Self {
+        Message {
+            place,
+            why,
+            hints: Vec::new(alloc),
+        }
+    }
+
+    pub fn saying(alloc: Global, place: WordPlace, why: &str) -> Result<Self, AllocError> {
+        Ok(Message::new(alloc, place, String::from_str(alloc, why)?))
+    }
+
+    /// With a further line, unless that has no text.
+    pub fn with_hint(self, hint: String) -> Result<Self, AllocError> {
+        let mut message = self;
+        if !hint.as_str().is_empty() {
+            message.hints.push(hint)?;
+        }
+        Ok(message)
+    }
+
+    pub fn with_text(self, alloc: Global, text: &str) -> Result<Self, AllocError> {
+        self.with_hint(String::from_str(alloc, text)?)
+    }
+
+    /// What is told of a word that decks do not have, with what to do instead.
+    pub fn not_read(alloc: Global, place: WordPlace, text: &str) -> Result<Self, AllocError> {
+        Message::saying(alloc, place, "not read")?.with_text(alloc, text)
+    }
+}

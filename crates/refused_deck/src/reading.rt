@@ -1,0 +1,148 @@
+//! A deck that is refused, and what was read of it.
+
+use crate::known::{Among, Known};
+use crate::near::is_near;
+use crate::shown::Shown;
+use deck_words::{NameOf, Parser, Word, WordPlace, WordText, words};
+use io_state::Name;
+use std::alloc::{AllocError, Global};
+
+/// The verbs of a procedure.
+const VERBS: [&str; 9] = [
+    "OPEN", "CLOSE", "READ", "START", "WRITE", "REWRITE", "DELETE", "MOVE", "STOP",
+];
+
+/// The bytes of a deck that is refused, and what it describes.
+#[derive(Drop)]
+pub struct Reading<'a> {
+    pub alloc: Global,
+    pub bytes: &'a [u8],
+    pub known: Known,
+}
+
+/// Whether bytes are this word of the language, in capitals or small letters.
+pub fn says(text: &[u8], word: &str) -> bool {
+    text.eq_ignore_ascii_case(word.as_bytes())
+}
+
+/// Whether bytes are one of these words.
+pub fn says_one_of(text: &[u8], words: &[&str]) -> bool {
+    words.iter().any(|word| says(text, word))
+}
+
+/// A word in capitals.
+pub fn capitals(text: &[u8]) -> Name {
+    let mut name = Name::new();
+    for byte in text {
+        let _ = name.try_push(char::from(byte.to_ascii_uppercase()));
+    }
+    name
+}
+
+/// Whether bytes are a name.
+pub fn is_name(text: &[u8]) -> bool {
+    match words(text) {
+        Ok(words) => Parser::new(&words).sees_name(NameOf::Program),
+        Err(_) => false,
+    }
+}
+
+/// Whether bytes are a number.
+pub fn is_number(text: &[u8]) -> bool {
+    match words(text) {
+        Ok(words) => Parser::new(&words).sees_digits(),
+        Err(_) => false,
+    }
+}
+
+/// The word of the language that a word is, if it is one of these.
+fn one_of(word: &Word<'_>, texts: &[&'static str]) -> Option<&'static str> {
+    let WordText::Plain(name) = &word.text else {
+        return None;
+    };
+    texts.iter().find(|text| name.as_str() == **text).copied()
+}
+
+impl<'a> Reading<'a> {
+    /// What is known of bytes that are refused.
+    pub fn of(alloc: Global, bytes: &'a [u8]) -> Self {
+        Reading {
+            alloc,
+            bytes,
+            known: Known::of(alloc, bytes),
+        }
+    }
+
+    /// The bytes of a place.
+    pub fn text(&self, place: WordPlace) -> &'a [u8] {
+        match self.bytes.get(place.start as usize..place.end as usize) {
+            Some(text) => text,
+            None => &[],
+        }
+    }
+
+    /// The place of the last word; none where the deck has no word.
+    pub fn last_word(&self) -> Option<WordPlace> {
+        let mut words = words(self.bytes).ok()?;
+        let mut last = None;
+        for _ in 0..words.len() {
+            if let Some(word) = words.next() {
+                last = Some(word.place());
+            }
+        }
+        last
+    }
+
+    /// The verb of the statement in which a place is.
+    pub fn verb(&self, place: WordPlace) -> &'static str {
+        let mut verb = "";
+        let Ok(words) = words(self.bytes) else {
+            return verb;
+        };
+        let mut words = words;
+        for _ in 0..words.len() {
+            if let Some(word) = words.next() {
+                if word.start >= place.start {
+                    return verb;
+                }
+                if let Some(text) = one_of(&word, &VERBS) {
+                    verb = text;
+                }
+            }
+        }
+        verb
+    }
+
+    /// A line of the names of a kind, behind a heading; no text where there are none.
+    pub fn listed(&self, heading: &str, among: &Among<'_>) -> Result<String, AllocError> {
+        let mut list = String::new(self.alloc);
+        let names = self.known.names(self.alloc, among)?;
+        for name in &names {
+            let name = *name;
+            let before = if list.as_str().is_empty() {
+                heading
+            } else {
+                ", "
+            };
+            write!(list, "{before}{name}")?;
+        }
+        Ok(list)
+    }
+
+    /// A line with the first name of a kind that is spelled nearly as a word; no text where there is none.
+    pub fn perhaps(&self, among: &Among<'_>, word: &[u8]) -> Result<String, AllocError> {
+        let names = self.known.names(self.alloc, among)?;
+        for name in &names {
+            let name = *name;
+            if is_near(name.as_bytes(), word) {
+                return format!(in self.alloc; "perhaps {name}");
+            }
+        }
+        Ok(String::new(self.alloc))
+    }
+
+    /// A word as it is shown.
+    pub fn shown(&self, place: WordPlace) -> Shown<'a> {
+        Shown(self.text(place))
+    }
+}
