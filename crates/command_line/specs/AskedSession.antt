@@ -5,13 +5,15 @@ use Rattle.page_store.specs.declared.shelf.Shelf.{Ghosts}
 use Rattle.recorded_system.specs.Calls.{Call, entered}
 use Rattle.recorded_system.specs.SystemState.{SystemState}
 use Rattle.folder_shelf.specs.Replay.{Unseen}
+use Rattle.io_state.specs.declared.status.Status.{Status}
 use Rattle.indexed_file.specs.Shown.{Shown}
 use Rattle.standard_input.specs.declared.standard_input.StandardInput.{StandardInput}
 use Rattle.command_words.specs.Asks.{AskServe}
 use Rattle.command_words.specs.declared.limits.Limits.{Limits}
-use Rattle.serve.specs.Serving.{Streams}
+use Rattle.serve.specs.Serving.{Exchange, Streams}
 use Rattle.command_line.specs.CallsMade.{CallsMade, BeginsNothing, folder_behind, streams_first}
-use Rattle.command_line.specs.Session.{shown_over, keeps_over, IsNewOver, IsLeftIn, streams_of, ServedOver}
+use Rattle.command_line.specs.Session.{shown_over, keeps_over, IsNewOver, IsLeftIn, IsExactOver, streams_of}
+use Rattle.command_line.specs.Session.{ServedOver}
 use Rattle.command_line.specs.declared.session.ServedEnd.{ServedEnd}
 use Rattle.command_outcomes.specs.declared.fault.Fault.{Fault}
 use Rattle.command_outcomes.specs.declared.fault.Fault.TheVariants.{Memory}
@@ -31,12 +33,14 @@ pub record EndsUnread (s : Streams) (folder : List ℕ) (system : SystemState) (
   pub unwritten : s.output_after ≡ s.output
   pub unasked : system.calls ≡ entered folder ∷ []
 
--- the requests were answered over one library that was new at first
+-- the requests were answered over one library that was new at first, and they and the closes behind
+-- them are exact
 pub record EndsRequests {S : Type 0} (shown : Shown S) (keeps_open : S → ℕ → Bool) (IsNew IsLeft : S → Type 0)
-    (s : Streams) (session : ServedEnd) : Type 0 where
+    (IsExact : List Exchange → List Status → Type 0) (s : Streams) (session : ServedEnd) : Type 0 where
   pub start : S
   pub is_new : IsNew start
   pub served : ServedOver shown keeps_open start s IsLeft session
+  pub exact : IsExact served.ends.session.served.exchanges served.ends.session.closes
 
 -- a session was begun, behind what was asked before: it was told that the folder is one, and the session
 -- came to this, which is what was done
@@ -47,7 +51,7 @@ pub record BeginsSession {X : Type 0} (base : List Call) (shelf : Ghosts X) (kee
   pub session : ServedEnd
   pub came : EndsUnread s folder made.system session
       ⊎ EndsRequests (shown_over shelf) (keeps_over shelf keeps_open) (IsNewOver shelf disk folder pages frames)
-      (IsLeftIn shelf disk made.system) s session
+      (IsLeftIn shelf disk made.system) (IsExactOver disk folder made.system) s session
   pub unclosed_are : unclosed ≡ session.unclosed
   pub told : outcome ≡ outcome_of_end session.requests
 

@@ -4,6 +4,7 @@ use Rattle.std.specs.NonZero.{non_zero_usize_get}
 use Rattle.page_store.specs.declared.shelf.Shelf.{Ghosts}
 use Rattle.recorded_system.specs.SystemState.{SystemState}
 use Rattle.folder_shelf.specs.Replay.{Unseen, folder_state}
+use Rattle.io_state.specs.declared.status.Status.{Status}
 use Rattle.indexed_file.specs.Shown.{Shown}
 use Rattle.shelf_library.specs.Library.{shown_by}
 use Rattle.shelf_library.specs.State.{LibraryState}
@@ -11,13 +12,14 @@ use Rattle.shelf_library.specs.declared.library.ShelfLibrary.{ShelfLibrary}
 use Rattle.shelf_run.specs.ShelfRun.{over_shelf}
 use Rattle.standard_input.specs.Source.{source_of}
 use Rattle.standard_input.specs.declared.standard_input.StandardInput.{StandardInput}
-use Rattle.serve.specs.Serving.{Streams, streams, IsServedToEnd}
+use Rattle.shelf_session.specs.SessionOnShelf.{IsExactSessionOn}
+use Rattle.serve.specs.Serving.{Exchange, Streams, streams, IsServedToEnd}
 use Rattle.serve.specs.declared.end.SessionEnd.{SessionEnd}
 use Rattle.serve.specs.declared.fault.ServeFault.{ServeFault}
 use Rattle.serve.specs.declared.fault.ServeFault.TheVariants.{Input as NotRead, Output as NotWritten}
 use Rattle.serve.specs.declared.fault.ServeFault.TheVariants.{Memory as NoMemory}
 use Rattle.command_words.specs.declared.limits.Limits.{Limits}
-use Rattle.command_line.specs.Folder.{folder_at_first}
+use Rattle.command_line.specs.Folder.{folder_at_first, OverFolder}
 use Rattle.command_line.specs.declared.session.ServedEnd.{ServedEnd}
 use Rattle.command_outcomes.specs.declared.fault.Fault.{Fault}
 use Rattle.command_outcomes.specs.declared.fault.Fault.TheVariants.{Input, Output, Memory}
@@ -71,14 +73,21 @@ pub record ServedOver {S : Type 0} (shown : Shown S) (keeps_open : S → ℕ →
   pub unclosed : session.unclosed ≡ end.unclosed
   pub told : session.requests ≡ session_end_as end.requests
 
+-- these requests, and the closes behind them, are exact where none of them was answered with a fault:
+-- between what the folder of this path held before the first call, and what it holds after the calls
+abbrev pub IsExactOver : Unseen → (path : List ℕ) → SystemState → List Exchange → List Status → Type 0
+IsExactOver disk path system exchanges closes =
+    OverFolder disk path system (λ first last. IsExactSessionOn first last exchanges closes)
+
 -- unless memory was wanted before the first request: requests were answered over a library that is
 -- new at first, over the folder of this path, and how that ended is told; the library left what the
--- folder of the system holds
+-- folder of the system holds, and the session is exact over the folder
 abbrev pub ServedAt : {X I W : Type 0} → (shelf : Ghosts X) → (X → ℕ → Bool) → Unseen → (path : List ℕ) → Limits
     → (I → Option (List ℕ)) → (W → Option (List ℕ)) → (input input_after : StandardInput I)
     → (out out_after : W) → SystemState → ServedEnd → Type 0
 ServedAt {X} shelf keeps_open disk path limits left contents input input_after out out_after system session =
     session.requests ≢ Err Memory → (start : ShelfLibrary X shelf)
     × IsNewOver shelf disk path limits.pages (non_zero_usize_get limits.frames) start
-    × ServedOver (shown_over shelf) (keeps_over shelf keeps_open) start
-    (streams_of left contents input input_after out out_after) (IsLeftIn shelf disk system) session
+    × (served : ServedOver (shown_over shelf) (keeps_over shelf keeps_open) start
+    (streams_of left contents input input_after out out_after) (IsLeftIn shelf disk system) session)
+    × IsExactOver disk path system served.ends.session.served.exchanges served.ends.session.closes

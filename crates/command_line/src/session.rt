@@ -12,6 +12,7 @@ use page_store::Shelf;
 use recorded_system::System;
 use serve::{ServeFault, serve};
 use shelf_library::ShelfLibrary;
+use shelf_session::exact_on_shelf;
 use standard_input::{ReadsAhead, StandardInput};
 use std::alloc::Global;
 use std::io::{Read, Write};
@@ -47,9 +48,9 @@ fn ended(requests: Result<(), ServeFault>) -> Result<(), Fault>
 }
 
 /// Answers the requests of an input over the files of a folder of a system whose record is empty: as the
-/// definitions say of them, over one library, which is new at first. The system that it gives back has
-/// what was asked and answered, and what the input gave is noted in it. `Memory`: nothing was read or
-/// written.
+/// definitions say of them, over one library, which is new at first; and exactly so, from what the folder
+/// held, where no answer and no close at the end tells of a fault. The system that it gives back has what
+/// was asked and answered, and what the input gave is noted in it. `Memory`: nothing was read or written.
 pub fn serve_folder<S: System + Drop, D: Disk, I: Read + ReadsAhead, W: Write>(
     system: S,
     alloc: Global,
@@ -66,6 +67,8 @@ pub fn serve_folder<S: System + Drop, D: Disk, I: Read + ReadsAhead, W: Write>(
         × ((S.state result.0).calls ≡ entered (string_bytes folder) ∷ []) }
     ensures fault { IfErr result.1.requests (λ fault. status_of fault ≡ 4) }
 {
+    // Brings the law that such sessions are exact.
+    exact_on_shelf::<FolderShelf<S, D>>();
     let shelf: FolderShelf<S, D> = FolderShelf::new(system, folder);
     let library = ShelfLibrary::new(alloc, shelf, limits.pages, limits.frames);
     let end = serve(alloc, library, input, out);
