@@ -267,6 +267,31 @@ def calls_are_interrupted(room, name):
     interrupted(room, COMMANDS[name](room), INTERRUPTIBLE)
 
 
+# ---- closes at the end of a session that fail
+
+LEFT_OPEN = [it for it in SENT if it not in (performs(0, CLOSE), releases(0), performs(1, CLOSE))]
+WRITTEN = {"cust.dat": [*BEFORE, record(6), record(7)], "twin.dat": TWINS}
+LAST_SYNCS = {"cust.dat": (3, 2), "twin.dat": (1, 0)}  # of the closes at the end, from the last one: of the pages, then of the gate
+
+
+def closes_fail_at_the_end(room):
+    """A sync of the closes at the end of a session fails, once, and then with all after it. The answers are those of a session in which none fails; the exit status is 4, and the files whose close failed are told and counted. The others are sound."""
+    command = command_of_a_session(room)
+    command.stdin = b"".join(LEFT_OPEN)
+    whole, syncs, _, _ = command.ends(Calls("sync"), "whole")
+    wants((whole.returncode, whole.stderr, len(frames_in(whole.stdout)[0])), (0, b"", len(LEFT_OPEN)), "exit status, standard error and how many answers, where no sync fails")
+    for behind in range(4):
+        for count in (1, -1):
+            calls = Calls("sync", syncs - behind, count)
+            ended, _, _, place = command.ends(calls, f"{behind}-behind-{count}")
+            failed = [name for name, those in LAST_SYNCS.items() if (behind in those if count == 1 else behind >= min(those))]
+            told = "".join(f"cobix: {it}: input/output error\n" for it in failed) + f"cobix: CLOSE failed at the end of the session, of files: {len(failed)}\n"
+            wants((ended.returncode, ended.stderr.decode()), (4, told), f"exit status and standard error, with {calls}")
+            wants(ended.stdout == whole.stdout, True, f"whether the answers are the same, with {calls}")
+            for name in WRITTEN.keys() - failed:
+                wants(records_of(room, place / name), listed(WRITTEN[name]), f"the records of {name}, with {calls}")
+
+
 # ---- cases whose device or writer fails: the folders of cases that have a file `needs`
 
 
@@ -586,6 +611,7 @@ def trials():
     for name in COMMANDS:
         yield f"{name}: each call of the system fails in turn", lambda room, name=name: each_call_fails(room, name)
         yield f"{name}: calls of the system are interrupted", lambda room, name=name: calls_are_interrupted(room, name)
+    yield "serve: closes at the end of a session fail", closes_fail_at_the_end
     for name, perform in DEVICE_CASES.items():
         yield name, lambda room, name=name, perform=perform: perform(room, HERE / name)
     yield "each case that needs a failing device is performed", each_case_is_performed
