@@ -1,11 +1,12 @@
 //! A shelf over a folder of a system: a unit is the file of that name in the folder.
-ghost use Rattle.std.specs.Prelude.{◌≡◌, ◌+◌, ◌-◌, ◌^◌, min, string_bytes, IsErrOf};
+ghost use Rattle.std.specs.Prelude.{◌≡◌, ◌+◌, ◌-◌, ◌^◌, min, [], string_bytes, IsErrOf};
 ghost use Rattle.std.proofs.Props.{props};
 ghost use Rattle.io_state.specs.declared.fault.Fault.TheVariants.{Device};
 ghost use Rattle.page_store.specs.ShelfState.{FaultHasCause};
 ghost use Rattle.recorded_system.specs.SystemState.{entered_at};
 ghost use Rattle.folder_shelf.specs.FailedCalls.{failed_calls};
 ghost use Rattle.folder_shelf.specs.Replay.{folder_state};
+ghost use Rattle.folder_shelf.specs.Within.{StaysWithin};
 
 use crate::disk::Disk;
 use growing_shelf::GrowingShelf;
@@ -22,11 +23,14 @@ pub struct FolderShelf<S: System + Drop, D: Disk> {
     faults: u64,
     disk: PhantomData<D>,
     ghost counted: { faults ≡ failed_calls (S.state system).calls } by { Prim.hlevel props },
+    ghost within: { StaysWithin (S.state system) } by { Prim.hlevel props },
 }
 
 impl<S: System + Drop, D: Disk> FolderShelf<S, D> {
-    /// A shelf with no unit over the folder of this path. It has the system until it gives it back.
+    /// A shelf with no unit over the folder of this path. It has the system, whose record is empty,
+    /// until it gives it back.
     pub fn new(system: S, folder: String) -> FolderShelf<S, D>
+        requires unasked { (S.state system).calls ≡ [] }
         ensures entered { S.state result.system ≡ entered_at (string_bytes folder) (S.state system) }
         ensures faults { result.faults ≡ 0 }
     {
@@ -39,9 +43,11 @@ impl<S: System + Drop, D: Disk> FolderShelf<S, D> {
         }
     }
 
-    /// The system, whose record has the calls of this shelf behind the earlier ones.
+    /// The system, whose record has the calls of this shelf: that a folder was entered, and calls on
+    /// files of that folder.
     pub fn into_system(self) -> S
-        ensures { result ≡ self.system }
+        ensures same { result ≡ self.system }
+        ensures within { StaysWithin (S.state result) }
     {
         self.system
     }
