@@ -7,6 +7,7 @@ use Rattle.recorded_system.specs.Reading.{ByReads}
 use Rattle.recorded_system.specs.SystemState.{SystemState}
 use Rattle.recorded_system.proofs.ReadingLemmas.{by_both}
 use Rattle.folder_shelf.specs.Replay.{Unseen, folder_state}
+use Rattle.folder_shelf.specs.Within.{StaysWithin}
 use Rattle.page_store.specs.ShelfState.{ShelfState}
 use Rattle.record_layout.specs.Schema.{Schema}
 use Rattle.shelf_run.specs.ShelfRun.{LeavesFiles}
@@ -41,18 +42,20 @@ module _ (disk : Unseen) (path : List ℕ) (calls : List Call) (at_first : Syste
   from_first : (IsSo : ShelfState → ShelfState → Type 0) → IsSo first last → IsSo (folder_at_first disk path) last
   from_first IsSo = subst (λ (old : ShelfState). IsSo old last) (untouched disk path calls at_first enters no_calls)
 
-  pub load_ended : (end : ShelfEnd) → EndsLoad name schema load list first end last → KeepsOtherNames name first last → IsSafeLoad name first last
+  pub load_ended : StaysWithin system → (end : ShelfEnd) → EndsLoad name schema load list first end last → KeepsOtherNames name first last → IsSafeLoad name first last
       → LoadsFolder disk path name schema load list system (Ok end)
-  load_ended end ends others safe = record {
+  load_ended within end ends others safe = record {
+    within = within;
     ends = from_first (λ old new. EndsLoad name schema load list old end new) ends;
     nothing = tt;
     others = from_first (KeepsOtherNames name) others;
     safe = from_first (IsSafeLoad name) safe;
   }
 
-  pub load_failed : (fault : Fault) → LeavesFiles first last → KeepsOtherNames name first last → IsSafeLoad name first last
+  pub load_failed : StaysWithin system → (fault : Fault) → LeavesFiles first last → KeepsOtherNames name first last → IsSafeLoad name first last
       → LoadsFolder disk path name schema load list system (Err fault)
-  load_failed fault nothing others safe = record {
+  load_failed within fault nothing others safe = record {
+    within = within;
     ends = tt;
     nothing = from_first LeavesFiles nothing;
     others = from_first (KeepsOtherNames name) others;

@@ -5,6 +5,7 @@ use Rattle.page_store.specs.declared.shelf.Shelf.{Ghosts}
 use Rattle.recorded_system.specs.Calls.{Call, entered}
 use Rattle.recorded_system.specs.SystemState.{SystemState}
 use Rattle.folder_shelf.specs.Replay.{Unseen}
+use Rattle.folder_shelf.specs.Within.{StaysWithin}
 use Rattle.io_state.specs.declared.status.Status.{Status}
 use Rattle.indexed_file.specs.Shown.{Shown}
 use Rattle.standard_input.specs.declared.standard_input.StandardInput.{StandardInput}
@@ -48,6 +49,7 @@ pub record BeginsSession {X : Type 0} (base : List Call) (shelf : Ghosts X) (kee
     (disk : Unseen) (made : CallsMade) (folder : List ℕ) (pages frames : ℕ) (s : Streams) (unclosed : ℕ)
     (outcome : Result Outcome Fault) : Type 0 where
   pub before : made.before ≡ folder_behind folder [] base
+  pub within : StaysWithin made.system
   pub session : ServedEnd
   pub came : EndsUnread s folder made.system session
       ⊎ EndsRequests (shown_over shelf) (keeps_over shelf keeps_open) (IsNewOver shelf disk folder pages frames)

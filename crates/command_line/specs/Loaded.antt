@@ -7,6 +7,7 @@ use Rattle.std.specs.Io.KnownBytes.{Appends}
 use Rattle.recorded_system.specs.Calls.{Call}
 use Rattle.recorded_system.specs.SystemState.{SystemState}
 use Rattle.folder_shelf.specs.Replay.{Unseen}
+use Rattle.folder_shelf.specs.Within.{StaysWithin}
 use Rattle.record_layout.specs.Schema.{Schema}
 use Rattle.file_control.specs.Description.{FileDesc}
 use Rattle.deck_reader.specs.declared.deck.Deck.{Deck}
@@ -39,11 +40,12 @@ abbrev pub load_of : Bool → Load
 load_of true = Into
 load_of false = New
 
--- a load of a text into the file of a name in the folder of this path, which the system entered: how it
--- ended, and what it left where it came to nothing; all other names stand for what they stood for; and
+-- a load of a text into the file of a name in the folder of this path, which the system entered, and of
+-- whose files alone it was asked since: how it ended, and what it left where it came to nothing; all other names stand for what they stood for; and
 -- no crash leaves a false file
 pub record LoadsFolder (disk : Unseen) (folder name : List ℕ) (schema : Schema) (load : Load)
     (list : Listing) (system : SystemState) (result : Result ShelfEnd Fault) : Type 0 where
+  pub within : StaysWithin system
   pub ends : OverFolder disk folder system (λ first last.
       IfOk result (λ end. EndsLoad name schema load list first end last))
   pub nothing : OverFolder disk folder system (λ first last. OnErr result (LeavesFiles first last))

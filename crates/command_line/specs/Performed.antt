@@ -9,6 +9,7 @@ use Rattle.clap.specs.declared.error.Error.{Error}
 use Rattle.recorded_system.specs.SystemState.{SystemState, with_call}
 use Rattle.folder_shelf.specs.FailedCalls.{failed_calls}
 use Rattle.folder_shelf.specs.Replay.{Unseen}
+use Rattle.folder_shelf.specs.Within.{StaysWithin}
 use Rattle.deck_words.specs.declared.fault.DeckFault.{DeckFault}
 use Rattle.deck_runner.specs.DeckRun.{IsNoDeck}
 use Rattle.deck_runner.specs.RunEnd.{TellsLines, ToldInPart}
@@ -115,13 +116,15 @@ pub record ReadsInputs (input : Option (List ℕ)) (deck folder : List ℕ) (old
   pub fault : IfErr result (λ fault. status_of fault ≡ 4)
 
 -- a run was begun, behind what was asked before: the bytes of its deck were read of the path, or of the
--- input where the path is a hyphen; it was told that the folder is one; and so the run came to this
+-- input where the path is a hyphen; it was told that the folder is one; since then the system was asked
+-- of the files of the folder that it entered, and of nothing else; and so the run came to this
 pub record BeginsRun (base : List Call) (input : Option (List ℕ)) (deck folder : Text) (limit frames : ℕ)
     (disk : Unseen) (made : CallsMade) (bytes : List ℕ) (out : Written)
     (outcome : Result Outcome Fault) : Type 0 where
   pub reads : List Call
   pub is_deck : IsDeckNamed reads input deck bytes
   pub before : made.before ≡ folder_behind folder reads base
+  pub within : StaysWithin made.system
   pub came : CameTo folder limit frames (begun disk bytes made.system) out outcome
   pub told : IsRunOutcome outcome
 

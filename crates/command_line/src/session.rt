@@ -1,6 +1,7 @@
 //! The answering of requests over the files of a folder.
 ghost use Rattle.std.specs.Prelude.{◌≡◌, [], ◌∷◌, Err, string_bytes, IfErr};
 ghost use Rattle.recorded_system.specs.Calls.{entered};
+ghost use Rattle.folder_shelf.specs.Within.{StaysWithin};
 ghost use Rattle.command_outcomes.specs.Status.{status_of};
 ghost use Rattle.command_line.specs.Session.{ServedAt, session_told_as, session_end_as};
 
@@ -66,6 +67,7 @@ pub fn serve_folder<S: System + Drop, D: Disk, I: Read + ReadsAhead, W: Write>(
     ensures memory { result.1.requests ≡ Err Fault.Memory → (input.new ≡ input.old) × (out.new ≡ out.old)
         × ((S.state result.0).calls ≡ entered (string_bytes folder) ∷ []) }
     ensures fault { IfErr result.1.requests (λ fault. status_of fault ≡ 4) }
+    ensures within { StaysWithin (S.state result.0) }
 {
     // Brings the law that such sessions are exact.
     exact_on_shelf::<FolderShelf<S, D>>();

@@ -19,10 +19,10 @@ returns-in-Ok-clause-loads g c =
     let system = g.S.System.state shelf.system in
     let first = folder_state g.D.Disk.unseen (g.S.System.state c.new-shelf.result.system) in
     let last = folder_state g.D.Disk.unseen system in
-    rw c.into_system-system.ensures
+    rw c.into_system-system.ensures.same
     (subst (λ (file : FileDesc). LoadsFolder g.D.Disk.unseen (string_bytes c.args.folder) file.file file.schema c.args.load (listing c.args.form.now c.args.text.now) system (Ok c.in-Ok.end)) c.file.view_is
     (load_ended g.D.Disk.unseen (string_bytes c.args.folder) _ _ c.new-shelf.ensures.entered c.requires.unasked
-    system c.file.inside.file.bytes c.file.inside.schema c.args.load (listing c.args.form.now c.args.text.now) c.in-Ok.end
+    system c.file.inside.file.bytes c.file.inside.schema c.args.load (listing c.args.form.now c.args.text.now) shelf.within c.in-Ok.end
     (IfOk-at_ok (λ end. EndsLoad c.file.inside.file.bytes c.file.inside.schema c.args.load (listing c.args.form.now c.args.text.now) first end last) c.in-Ok.is c.load_on_shelf-shelf.ensures.ends) c.load_on_shelf-shelf.ensures.others c.load_on_shelf-shelf.ensures.safe))
 
 pub returns-in-Err-clause-loads : goal.returns-in-Err-clause-loads
@@ -31,8 +31,8 @@ returns-in-Err-clause-loads g c =
     let system = g.S.System.state shelf.system in
     let first = folder_state g.D.Disk.unseen (g.S.System.state c.new-shelf.result.system) in
     let last = folder_state g.D.Disk.unseen system in
-    rw c.into_system-system.ensures
+    rw c.into_system-system.ensures.same
     (subst (λ (file : FileDesc). LoadsFolder g.D.Disk.unseen (string_bytes c.args.folder) file.file file.schema c.args.load (listing c.args.form.now c.args.text.now) system (Err c.told_fault.result)) c.file.view_is
     (load_failed g.D.Disk.unseen (string_bytes c.args.folder) _ _ c.new-shelf.ensures.entered c.requires.unasked
-    system c.file.inside.file.bytes c.file.inside.schema c.args.load (listing c.args.form.now c.args.text.now) c.told_fault.result
+    system c.file.inside.file.bytes c.file.inside.schema c.args.load (listing c.args.form.now c.args.text.now) shelf.within c.told_fault.result
     (IfErr-at_err (λ _. LeavesFiles first last) c.in-Err.is c.load_on_shelf-shelf.ensures.nothing) c.load_on_shelf-shelf.ensures.others c.load_on_shelf-shelf.ensures.safe))

@@ -39,6 +39,7 @@ returns-clause-came g c =
         reads = given.1;
         is_deck = given.2;
         before = c.exchange_record.ensures.other ∙ given.3;
+        within = done.ensures.within;
         came = rw c.ended.ensures
             (subst (λ (folder : List ℕ). came_of folder inputs.0.items) given.0 (subst (came_of (string_bytes inputs.1)) c.as_slice.ensures.value came));
         told = rw c.ended.ensures (run_outcome done.result.1 done.ensures.fault);

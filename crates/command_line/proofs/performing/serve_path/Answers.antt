@@ -30,6 +30,7 @@ returns-clause-came g c =
     rw (sym given.0)
     (inr (record {
       before = c.exchange_record.ensures.other ∙ ap (λ system. system.calls) given.1 ∙ ap (λ folder. asked_of_folder folder (Some true) ∷ base) (sym given.0);
+      within = done.ensures.within;
       session = session;
       came = session_ends _ _ _ _ _ _ (streams_of g.I.Read.remaining g.W.Write.contents c.args.input.now done.new.input c.args.out.now done.new.out) (g.S.System.state done.result.0) session
           done.ensures.served (λ is. let no = done.ensures.memory is in (ap (source_of g.I.Read.remaining) no.0, ap g.W.Write.contents no.1, no.2));

@@ -14,7 +14,7 @@ returns-clause-served g c differs =
     served_exactly _ _ g.D.Disk.unseen (string_bytes c.args.folder) c.args.limits.pages c.args.limits.frames.value s (g.S.System.state c.into_system.result) _ c.exact_on_shelf.ensures c.new-library.result (search rules) (record {
       end = end;
       ends = c.serve-end.ensures.served (λ (is : end.requests ≡ Err Memory). differs (c.ended.ensures.told ∙ ap session_end_as is));
-      left = ap (λ system. folder_state g.D.Disk.unseen (g.S.System.state system)) (sym (c.into_system.ensures ∙ ap (λ shelf. shelf.system) c.into_shelf.ensures));
+      left = ap (λ system. folder_state g.D.Disk.unseen (g.S.System.state system)) (sym (c.into_system.ensures.same ∙ ap (λ shelf. shelf.system) c.into_shelf.ensures));
       unclosed = refl;
       told = c.ended.ensures.told;
     })
@@ -24,6 +24,6 @@ returns-clause-memory g c is =
     let no = c.serve-end.ensures.memory (no_memory c.serve-end.result.requests (sym c.ended.ensures.told ∙ is)) in (
       no.0,
       no.1,
-      rw c.into_system.ensures (rw c.into_shelf.ensures (rw no.2 (rw c.new-library.ensures.shelf
+      rw c.into_system.ensures.same (rw c.into_shelf.ensures (rw no.2 (rw c.new-library.ensures.shelf
           (ap (λ system. system.calls) c.new-shelf.ensures.entered ∙ ap (λ calls. entered (string_bytes c.args.folder) ∷ calls) c.requires.unasked)))),
     )

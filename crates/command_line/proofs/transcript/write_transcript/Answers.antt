@@ -17,7 +17,7 @@ pub returns-in-Ok-clause-exact : goal.returns-in-Ok-clause-exact
 returns-in-Ok-clause-exact g c =
     let shelf = c.run_on_shelf-shelf.result.0 in
     let last = folder_state g.D.Disk.unseen (g.S.System.state shelf.system) in
-    rw c.into_system-system.ensures
+    rw c.into_system-system.ensures.same
     (subst (λ (first : ShelfState). c.in-Ok.end.clean ≡ true → IsExactRun c.args.bytes.now first last (g.W.Write.contents c.args.out.now) (g.W.Write.contents c.run_on_shelf-shelf.new.out) c.in-Ok.end)
     (untouched g.D.Disk.unseen (string_bytes c.args.folder) _ _ c.new-shelf.ensures.entered c.requires.unasked)
     (IfOk-at_ok _ c.in-Ok.is c.run_on_shelf-shelf.ensures.exact))
@@ -31,7 +31,7 @@ returns-in-Ok-clause-run g c =
     let written_after = g.W.Write.contents c.run_on_shelf-shelf.new.out in
     let runs = IfOk-at_ok _ c.in-Ok.is c.run_on_shelf-shelf.ensures.run in
     let frames = non_zero_usize_get c.args.limits.frames in
-    rw c.into_system-system.ensures
+    rw c.into_system-system.ensures.same
     (subst (λ (faults : ℕ). OnShelf c.args.bytes.now at_first last (λ deck. TellsLines written written_after c.in-Ok.end (Runs c.args.limits.pages frames at_first last 0 faults deck))) shelf.counted
     (subst (λ (faults : ℕ). OnShelf c.args.bytes.now at_first last (λ deck. TellsLines written written_after c.in-Ok.end (Runs c.args.limits.pages frames at_first last faults shelf.faults deck))) c.new-shelf.ensures.faults
     (subst (λ (first : ShelfState). OnShelf c.args.bytes.now first last (λ deck. TellsLines written written_after c.in-Ok.end (Runs c.args.limits.pages frames first last c.new-shelf.result.faults shelf.faults deck)))
@@ -40,7 +40,7 @@ returns-in-Ok-clause-run g c =
 pub returns-in-Ok-clause-sound : goal.returns-in-Ok-clause-sound
 returns-in-Ok-clause-sound g c =
     let shelf = c.run_on_shelf-shelf.result.0 in
-    rw c.into_system-system.ensures
+    rw c.into_system-system.ensures.same
     (sound_from_first g.D.Disk.unseen (string_bytes c.args.folder) _ _ c.new-shelf.ensures.entered c.requires.unasked
     (folder_state g.D.Disk.unseen (g.S.System.state shelf.system)) c.run_on_shelf-shelf.ensures.sound)
 
@@ -52,7 +52,7 @@ returns-in-Err-clause-output g c =
     let written = g.W.Write.contents c.args.out.now in
     let written_after = g.W.Write.contents c.run_on_shelf-shelf.new.out in
     let frames = non_zero_usize_get c.args.limits.frames in
-    rw c.into_system-system.ensures
+    rw c.into_system-system.ensures.same
     (λ is.
     let runs = IfErr-at_err _ c.in-Err.is c.run_on_shelf-shelf.ensures.output (line_refused c.in-Err.fault (sym c.of_run.ensures ∙ is)) in
     subst (λ (faults : ℕ). OnShelf c.args.bytes.now at_first last (λ deck. ToldInPart written written_after (BreaksOff c.args.limits.pages frames at_first last 0 faults deck))) shelf.counted
@@ -63,7 +63,7 @@ returns-in-Err-clause-output g c =
 pub returns-in-Err-clause-nothing : goal.returns-in-Err-clause-nothing
 returns-in-Err-clause-nothing g c =
     let shelf = c.run_on_shelf-shelf.result.0 in
-    rw c.into_system-system.ensures
+    rw c.into_system-system.ensures.same
     (λ other.
     let nothing = (IfErr-at_err _ c.in-Err.is c.run_on_shelf-shelf.ensures.refused).nothing (λ is. other (c.of_run.ensures ∙ ap told_as is)) in (
       nothing.0,
@@ -81,6 +81,6 @@ returns-in-Err-clause-fault g c = rw c.of_run.ensures (run_fault c.in-Err.fault)
 pub returns-in-Err-clause-sound : goal.returns-in-Err-clause-sound
 returns-in-Err-clause-sound g c =
     let shelf = c.run_on_shelf-shelf.result.0 in
-    rw c.into_system-system.ensures
+    rw c.into_system-system.ensures.same
     (sound_from_first g.D.Disk.unseen (string_bytes c.args.folder) _ _ c.new-shelf.ensures.entered c.requires.unasked
     (folder_state g.D.Disk.unseen (g.S.System.state shelf.system)) c.run_on_shelf-shelf.ensures.sound)
