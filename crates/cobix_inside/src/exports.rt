@@ -18,6 +18,7 @@ use growing_library::GrowingLibrary;
 use inside_session::{AskedLibrary, Limits, asked_library};
 use page_store::Shelf;
 use recorded_system::RecordedSystem;
+use request_frames::AnswerFrame;
 use serve::{answer_into, close_all, exact_in_requests, no_false_file_in_requests};
 use shelf_session::exact_on_shelf;
 use std::alloc::Global;
@@ -27,7 +28,8 @@ use std::io::{Stdin, Stdout};
 fn boxed(alloc: Global, session: Session<AskedLibrary<EmptyDisk>>) -> Option<Box<OpenSession>>
     ensures { IfSome result (λ made. made.value.session ≡ session) }
 {
-    Box::new(alloc, OpenSession { session }).ok()
+    let frame = AnswerFrame::new();
+    Box::new(alloc, OpenSession { session, frame }).ok()
 }
 
 // A session in which no file is described. None where the path is no text, or memory was refused.
@@ -87,7 +89,7 @@ fn answer_in(opened: &mut OpenSession, body: &[u8], room: &mut [u8]) -> usize
         (⟦<AskedLibrary<EmptyDisk> as GrowingLibrary>⟧).keeps_open
         body.now opened.old.session opened.new.session room.old room.new result }
 {
-    answer_into(&mut opened.session, body, room)
+    answer_into(&mut opened.session, &mut opened.frame, body, room)
 }
 
 /// Does what the body of a frame asks for, and puts the frame of the answer into the room. How many

@@ -17,9 +17,11 @@ fn put_first(room: &mut [u8], bytes: &[u8])
 }
 
 /// Does what the body of a frame asks for, and puts the frame of the answer into the room, which
-/// is long enough for any. How many bytes the frame has.
+/// is long enough for any. How many bytes the frame has. It is made in `frame`, in the place of
+/// whatever was there, so that no memory is filled for each request.
 pub fn answer_into<L: GrowingLibrary + Drop>(
     session: &mut Session<L>,
+    frame: &mut AnswerFrame,
     body: &[u8],
     room: &mut [u8],
 ) -> usize
@@ -30,8 +32,7 @@ pub fn answer_into<L: GrowingLibrary + Drop>(
     // Brings the laws that an answered request leaves no false file, and what is exact.
     no_false_file_in_requests::<L>();
     exact_in_requests::<L>();
-    let mut frame = AnswerFrame::new();
-    answer_request(session, body, &mut frame);
+    answer_request(session, body, frame);
     put_first(room, frame.as_slice());
     frame.len()
 }
