@@ -1,5 +1,6 @@
 pub mod Marks
 pub mod Refused
+pub mod Told
 pub mod PageList
 pub mod Parted
 pub mod PartLaw

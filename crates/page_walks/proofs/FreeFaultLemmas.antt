@@ -7,7 +7,7 @@ use Rattle.page_marks.specs.declared.walk_fault.WalkFault.{WalkFault}
 use Rattle.page_marks.specs.declared.walk_fault.WalkFault.TheVariants.{At}
 use Rattle.page_marks.specs.Marks.{IsUnmarked, marked_in}
 use Rattle.page_walks.specs.FreeWalk.{FreeFront, IsFreeFault, TellsOfNext}
-use Rattle.page_walks.specs.Told.{TellsOfFault}
+use Rattle.page_marks.specs.Told.{TellsOfFault}
 use Rattle.page_walks.proofs.FileLemmas.{among_outside}
 
 module _ (list : List (List ℕ)) (first count from at passed : ℕ) (marks now : List Bool) (front : FreeFront list first from at passed (marked_in marks) (marked_in now)) where

@@ -6,6 +6,5 @@ pub mod FileLemmas
 pub mod FreeAheadLemmas
 pub mod OrderAheadLemmas
 pub mod TreeAheadLemmas
-pub mod ToldLemmas
 pub mod TreeFaultLemmas
 pub mod FreeFaultLemmas

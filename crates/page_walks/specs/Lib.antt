@@ -1,4 +1,3 @@
-pub mod Told
 pub mod Order
 pub mod Spots
 pub mod TreeWalk

@@ -10,7 +10,7 @@ ghost use Rattle.page_marks.specs.Marks.{marked_in};
 ghost use Rattle.page_marks.specs.Refused.{RefusesRightly};
 ghost use Rattle.page_walks.specs.FreeWalk.{FreeAhead, FreeWalked, IsFreeFault, IsFreePage, IsFreePageAt};
 ghost use Rattle.page_walks.specs.FreeWalk.{TellsOfNext};
-ghost use Rattle.page_walks.specs.Told.{TellsOfFault};
+ghost use Rattle.page_marks.specs.Told.{TellsOfFault};
 
 use byteorder::{BigEndian, ByteOrder};
 use page_bytes::PAGE_SIZE;

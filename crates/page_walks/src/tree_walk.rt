@@ -7,7 +7,7 @@ ghost use Rattle.tree_node.specs.Leaf.{IsLeaf, leaf_room};
 ghost use Rattle.node_balance.specs.Fill.{least_entries};
 ghost use Rattle.page_marks.specs.Refused.{RefusesRightly};
 ghost use Rattle.page_walks.specs.Spots.{IsLeafThere};
-ghost use Rattle.page_walks.specs.Told.{TellsOfFault};
+ghost use Rattle.page_marks.specs.Told.{TellsOfFault};
 ghost use Rattle.page_walks.specs.TreeAhead.{AwaitsBelow, TreeUnmarked};
 ghost use Rattle.page_walks.specs.TreeFaults.{IsNodeFault, IsSomewhereBelow, IsTreeFault, MarksBelow};
 ghost use Rattle.page_walks.specs.TreeFaults.{node_place, root_place};

@@ -1,5 +1,5 @@
 -- A heap that a walk has yet to find.
-use Rattle.std.proofs.Common.{◌≡◌, ◌≢◌, ◌⊎◌, ℕ, zero, suc, ◌-◌, ◌*◌, ◌^◌, ◌<◌, ◌≤◌, Bool, true, false, List, [], ◌∷◌, length, take, drop, get_or, replicate, Option, Some, None, refl, ap, sym, subst, ◌∙◌, arith, inl, inr}
+use Rattle.std.proofs.Common.{◌≡◌, ◌≢◌, ◌⊎◌, ℕ, zero, suc, ◌*◌, ◌^◌, ◌<◌, ◌≤◌, Bool, true, false, List, [], ◌∷◌, length, take, drop, get_or, replicate, Option, Some, None, refl, ap, sym, subst, ◌∙◌, arith, inl, inr}
 use Rattle.std.specs.Prelude.{nat_lt}
 use Rattle.std.proofs.lemmas.Bool.{false≢true, ltb-true}
 use Rattle.byteorder.specs.Endian.{big_number}
@@ -130,7 +130,7 @@ chains_same pages first (n ∷ ns) (m ∷ ms) one two some some' low low' =
 
 -- ---- the slots
 
-page_inside : (list : List (List ℕ)) (n : ℕ) (bytes : List ℕ) → pages_in list n ≡ Some bytes → n < length list
+pub page_inside : (list : List (List ℕ)) (n : ℕ) (bytes : List ℕ) → pages_in list n ≡ Some bytes → n < length list
 page_inside list n bytes is = go (nat_lt n (length list)) refl
   where
     go : (b : Bool) → nat_lt n (length list) ≡ b → n < length list

@@ -11,3 +11,4 @@ pub mod SlotWalkLemmas
 pub mod PigeonLemmas
 pub mod MarkAheadLemmas
 pub mod HeapAheadLemmas
+pub mod FaultLemmas

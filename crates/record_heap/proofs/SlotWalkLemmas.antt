@@ -147,7 +147,7 @@ slots_more shape pages first at next m0 m m' free walked takes =
     moved p below d (inl on) = inl (takes.sets.others p d ∙ on)
     moved p below d (inr of) = inr (one_more free at p of)
 
-path_chain : (behind : Place → Option Place) (first at : Place) (free : List Place) → IsFreePath behind first free at → at.page ≡ 0 → IsFreeChain behind first free
+pub path_chain : (behind : Place → Option Place) (first at : Place) (free : List Place) → IsFreePath behind first free at → at.page ≡ 0 → IsFreeChain behind first free
 path_chain behind first at [] path end = ap (λ (p : Place). p.page) path ∙ end
 path_chain behind first at (p ∷ ps) path end = (path.0, (path.1.0, path.1.1, path_chain behind path.1.0 at ps path.1.2 end))
 

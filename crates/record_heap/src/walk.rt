@@ -1,10 +1,15 @@
 //! The heap of a file whose pages were read into a list.
 
-ghost use Rattle.std.specs.Prelude.{◌≡◌, false, ◌≤◌, IfErr, IfOk, OnOk, length};
+ghost use Rattle.std.specs.Prelude.{◌≡◌, false, ◌<◌, ◌≤◌, IfErr, IfOk, OnOk, length};
 ghost use Rattle.record_heap.specs.Slot.{room, size};
 ghost use Rattle.record_heap.specs.Calls.{IsHeapAt};
 ghost use Rattle.page_marks.specs.PageList.{pages_in};
 ghost use Rattle.page_marks.specs.Refused.{RefusesRightly};
+ghost use Rattle.page_marks.specs.Told.{TellsOfFault};
+ghost use Rattle.record_heap.specs.Chain.{IsOneOf};
+ghost use Rattle.record_heap.specs.Faults.{AreOwnPages, IsChainFault, IsHeapFault, IsLinkFault, IsSlotFault};
+ghost use Rattle.record_heap.specs.Faults.{IsWrongOfPage, IsWrongSlot, TellsOfChain, TellsOfPage};
+ghost use Rattle.record_heap.specs.Faults.{TellsOfSlot, slot_place};
 ghost use Rattle.record_heap.specs.Walk.{WalksChain, WalksHeap, EmptiesChain, SlotsKept, AreMarked};
 ghost use Rattle.record_heap.specs.Walk.{PageMarked, SlotMarked, TakesMark};
 ghost use Rattle.record_heap.specs.Walk.{ChainAhead, FreeSlotsAhead, HeapAhead, IsFreeOrUsed, IsHeapPageAt};
@@ -22,7 +27,9 @@ use page_marks::{FaultPlace, PageFault, WalkFault, mark};
 use std::alloc::Global;
 
 /// The place of a slot.
-fn place_of(slot: Place) -> FaultPlace {
+fn place_of(slot: Place) -> FaultPlace
+    ensures { result ≡ slot_place slot }
+{
     FaultPlace::Entry {
         page: slot.page,
         entry: u32::from(slot.slot),
@@ -33,6 +40,7 @@ fn place_of(slot: Place) -> FaultPlace {
 fn page_behind(pages: &[[u8; PAGE_SIZE]], from: u32, n: u32) -> Result<u32, WalkFault>
     ensures leads { IfOk result (λ next. IsHeapAt (pages_in pages.now) n next) }
     ensures refused { IfErr result (RefusesRightly (IsHeapPageAt (pages_in pages.now) n)) }
+    ensures told { IfErr result (TellsOfPage pages.now from n) }
 {
     if n as usize >= pages.len() {
         return Err(WalkFault::of_page(PageFault::Chain, from));
@@ -54,6 +62,7 @@ fn walk_pages(
 ) -> Result<Vec<u32>, WalkFault>
     ensures walked { WalksChain pages.now first reached.old reached.new result }
     ensures refused { IfErr result (RefusesRightly (ChainAhead (pages_in pages.now) first reached.old)) }
+    ensures told { IfErr result (TellsOfFault (IsChainFault pages.now first reached.old)) }
 {
     let mut own = Vec::new(alloc);
     let mut from = 0;
@@ -88,6 +97,7 @@ fn mark_slot(
     requires size { size shape ≤ length bytes.now }
     ensures marked { OnOk result (SlotMarked shape bytes.now place marks.old marks.new) }
     ensures refused { IfErr result (RefusesRightly (HasMark marks.old place × IsFreeOrUsed shape bytes.now)) }
+    ensures told { IfErr result (λ fault. fault ≡ WalkFault.At PageFault.Chain (slot_place place)) }
     ensures same { SameSlots marks.old marks.new }
 {
     match behind(bytes) {
@@ -115,6 +125,7 @@ fn mark_page(
 ) -> Result<(), WalkFault>
     ensures marked { OnOk result (PageMarked shape page.now n (room shape) marks.old marks.new) }
     ensures refused { IfErr result (RefusesRightly (SlotsAhead shape page.now n (room shape) marks.old)) }
+    ensures told { IfErr result (TellsOfChain (IsWrongOfPage shape page.now n marks.old)) }
     ensures same { SameSlots marks.old marks.new }
 {
     let room = shape.room();
@@ -138,6 +149,9 @@ fn mark_free(
     requires none { (p : Place) → marked_slot marks.old p ≡ false }
     ensures marked { OnOk result (AreMarked shape (pages_in pages.now) own.now marks.new) }
     ensures refused { IfErr result (RefusesRightly (OwnAhead shape pages.now own.now marks.old)) }
+    ensures told { IfErr result (λ fault. AreOwnPages pages.now own.now
+        → ((p : Place) → IsOneOf own.now p.page → p.slot < room shape → HasMark marks.old p)
+        → TellsOfChain (IsWrongSlot shape pages.now own.now) fault) }
     ensures same { SameSlots marks.old marks.new }
 {
     for &n in own {
@@ -159,6 +173,7 @@ fn take_mark(
 ) -> Result<Place, WalkFault>
     ensures taken { IfOk result (λ next. TakesMark shape (pages_in pages.now) at next marks.old marks.new) }
     ensures refused { IfErr result (RefusesRightly (IsMarkedFree shape pages.now marks.old at)) }
+    ensures told { IfErr result (TellsOfSlot shape pages.now marks.old from at) }
     ensures same { SameSlots marks.old marks.new }
 {
     if at.slot as usize >= shape.room() || at.page as usize >= pages.len() {
@@ -183,6 +198,7 @@ fn walk_slots(
     ensures emptied { OnOk result (EmptiesChain shape (pages_in pages.now) first marks.old marks.new) }
     ensures refused { IfErr result
         (RefusesRightly (FreeSlotsAhead shape pages.now first marks.old.slots marks.old)) }
+    ensures told { IfErr result (TellsOfChain (IsLinkFault shape pages.now first marks.old)) }
     ensures same { SameSlots marks.old marks.new }
 {
     let mut from = FaultPlace::Page(0);
@@ -210,6 +226,8 @@ fn walk_own(
 ) -> Result<(), WalkFault>
     ensures kept { OnOk result (SlotsKept heap.now (pages_in pages.now) own.now) }
     ensures refused { IfErr result (RefusesRightly (OwnStands heap.now pages.now own.now)) }
+    ensures told { IfErr result (λ fault. AreOwnPages pages.now own.now
+        → TellsOfChain (IsSlotFault heap.now pages.now own.now) fault) }
 {
     let room = heap.shape.room() as u16;
     let mut marks = SlotMarks::none(alloc, pages.len(), own, room)?;
@@ -239,6 +257,7 @@ pub fn walk_heap(
 ) -> Result<Vec<u32>, WalkFault>
     ensures walked { WalksHeap heap.now pages.now reached.old reached.new result }
     ensures refused { IfErr result (RefusesRightly (HeapAhead heap.now pages.now reached.old)) }
+    ensures told { IfErr result (TellsOfFault (IsHeapFault heap.now pages.now reached.old)) }
 {
     let own = walk_pages(alloc, pages, heap.first, reached)?;
     walk_own(alloc, pages, heap, &own)?;

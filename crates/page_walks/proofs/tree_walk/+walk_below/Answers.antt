@@ -14,9 +14,9 @@ use Rattle.page_walks.proofs.TreeAheadLemmas.{ahead_as, ahead_children, ahead_in
 use Rattle.tree_search.specs.Tree.{Bound}
 use Rattle.page_marks.specs.declared.fault_place.FaultPlace.TheVariants.{Page}
 use Rattle.page_marks.specs.declared.page_fault.PageFault.TheVariants.{Node, Shared}
-use Rattle.page_walks.specs.Told.{TellsOfFault}
+use Rattle.page_marks.specs.Told.{TellsOfFault}
 use Rattle.page_walks.specs.TreeFaults.{IsNodeFault, IsSomewhereBelow, MarksBelow, NodePlace, child_place, node_place}
-use Rattle.page_walks.proofs.ToldLemmas.{err_tells_more, handed_told, never_free, only_memory_told, tells_on, told}
+use Rattle.page_marks.proofs.ToldLemmas.{err_tells_more, handed_told, never_free, only_memory_told, tells_on, told}
 use Rattle.page_walks.proofs.TreeFaultLemmas.{behind_inside, behind_last, below_child, beyond_the_list, child_is, inner_there, leaf_there, marks_done, marks_first, marks_next, marks_page, reached_before, wrong_there}
 use Rattle.page_walks.proofs.tree_walk.+walk_below.Goals as goal
 

@@ -12,7 +12,7 @@ use Rattle.page_walks.proofs.TreeAheadLemmas.{whole_ahead, whole_count}
 use Rattle.page_marks.specs.declared.fault_place.FaultPlace.TheVariants.{Page}
 use Rattle.page_marks.specs.declared.page_fault.PageFault.TheVariants.{Count}
 use Rattle.page_walks.specs.TreeFaults.{IsSomewhereBelow, IsTreeFault, root_place}
-use Rattle.page_walks.proofs.ToldLemmas.{tells_on, told}
+use Rattle.page_marks.proofs.ToldLemmas.{tells_on, told}
 use Rattle.page_walks.proofs.TreeFaultLemmas.{in_tree, other_count}
 use Rattle.page_walks.proofs.tree_walk.walk_tree.Goals as goal
 

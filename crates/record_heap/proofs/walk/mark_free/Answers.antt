@@ -4,7 +4,12 @@ use Rattle.page_marks.specs.PageList.{pages_in}
 use Rattle.page_marks.proofs.RefusedLemmas.{handed_on, refused}
 use Rattle.record_heap.specs.Chain.{IsOneOf}
 use Rattle.record_heap.specs.Slot.{room}
+use Rattle.record_heap.specs.declared.shape.Place.{Place}
+use Rattle.page_marks.specs.declared.walk_fault.WalkFault.{WalkFault}
+use Rattle.record_heap.specs.SlotMarks.{HasMark}
 use Rattle.record_heap.specs.Walk.{AreMarked, IsFreeOrUsed, OwnAhead, SlotsAhead}
+use Rattle.record_heap.specs.Faults.{AreOwnPages, IsWrongSlot, TellsOfChain}
+use Rattle.record_heap.proofs.FaultLemmas.{fault_on, wrong_of_own}
 use Rattle.record_heap.proofs.HeapAheadLemmas.{each_one, one_of_at}
 use Rattle.record_heap.proofs.MarkAheadLemmas.{same_on, still_has}
 use Rattle.record_heap.proofs.StandLemmas.{slot_there}
@@ -46,3 +51,19 @@ returns-in_err-mark_page-clause-refused c =
       still_has c.args.marks.now c.loop-n.marks p c.loop-n.invariant.same h.0,
       subst (IsFreeOrUsed c.args.shape) (slot_there c.args.shape (pages_in list) p n (get_or list n []) on (page_there list n inside)) h.1,
     ))) c.in_err-mark_page.ensures.refused
+
+pub returns-then-n-pages-clause-told : goal.returns-then-n-pages-clause-told
+returns-then-n-pages-clause-told c pages has =
+    let n = get_or c.args.own.now c.loop-n.n-index 0 in
+    let inside : n < length c.args.pages.now = each_one (λ m. m < length c.args.pages.now) c.args.own.now n pages.there (one_of_at c.args.own.now c.loop-n.n-index 0 c.loop-n-test.true) in
+    absurd (omega (arith, inside, c.if-n-pages.true))
+
+pub returns-in_err-mark_page-clause-told : goal.returns-in_err-mark_page-clause-told
+returns-in_err-mark_page-clause-told c =
+    let list = c.args.pages.now in
+    let own = c.args.own.now in
+    let n = get_or own c.loop-n.n-index 0 in
+    let inside : n < length list = omega (arith, c.if-n-pages.false) in
+    fault_on (λ (fault : WalkFault). AreOwnPages list own → ((p : Place) → IsOneOf own p.page → p.slot < room c.args.shape → HasMark c.args.marks.now p) → TellsOfChain (IsWrongSlot c.args.shape list own) fault)
+    c.from_residual.result _ c.from_residual.ensures.1
+    (λ pages has. wrong_of_own c.args.shape list own n c.args.marks.now c.loop-n.marks _ (one_of_at own c.loop-n.n-index 0 c.loop-n-test.true) inside c.loop-n.invariant.same has c.in_err-mark_page.ensures.told)

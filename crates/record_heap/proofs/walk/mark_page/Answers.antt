@@ -3,7 +3,10 @@ use Rattle.record_heap.specs.declared.shape.Place.{Place}
 use Rattle.record_heap.specs.Slot.{room}
 use Rattle.page_marks.proofs.RefusedLemmas.{handed_on}
 use Rattle.record_heap.specs.SlotMarks.{HasMark}
+use Rattle.page_marks.specs.Refused.{RefusesRightly}
 use Rattle.record_heap.specs.Walk.{IsFreeOrUsed, SlotMarked, SlotsAhead}
+use Rattle.record_heap.specs.Faults.{IsWrongOfPage, TellsOfChain}
+use Rattle.record_heap.proofs.FaultLemmas.{fault_on, wrong_of_page}
 use Rattle.record_heap.proofs.MarkAheadLemmas.{same_on, still_has}
 use Rattle.record_heap.proofs.SlotWalkLemmas.{page_more}
 use Rattle.record_heap.proofs.walk.mark_page.Goals as goal
@@ -29,3 +32,11 @@ returns-in_err-mark_slot-clause-refused c =
     c.from_residual.ensures.1
     (λ a. (let h = a place refl within in (still_has c.args.marks.now c.loop-i.marks place c.loop-i.invariant.same h.0, subst (IsFreeOrUsed c.args.shape) (sym c.slot.ensures.value) h.1)))
     c.in_err-mark_slot.ensures.refused
+
+pub returns-in_err-mark_slot-clause-told : goal.returns-in_err-mark_slot-clause-told
+returns-in_err-mark_slot-clause-told c =
+    let place : Place = record { page = c.args.n; slot = c.loop-i.i } in
+    let within : c.loop-i.i < room c.args.shape = subst (λ (k : ℕ). c.loop-i.i < k) c.room-room.ensures.value c.loop-i-test.true in
+    fault_on (TellsOfChain (IsWrongOfPage c.args.shape c.args.page.now c.args.n c.args.marks.now)) c.from_residual.result _ c.from_residual.ensures.1
+    (wrong_of_page c.args.shape c.args.page.now c.args.n c.args.marks.now c.loop-i.marks place _ refl within c.loop-i.invariant.same c.in_err-mark_slot.ensures.told
+    (subst (λ (bytes : List ℕ). RefusesRightly (HasMark c.loop-i.marks place × IsFreeOrUsed c.args.shape bytes) c.in_err-mark_slot.field-0.0) c.slot.ensures.value c.in_err-mark_slot.ensures.refused))

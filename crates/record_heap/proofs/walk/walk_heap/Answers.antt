@@ -5,6 +5,9 @@ use Rattle.page_marks.proofs.RefusedLemmas.{handed_on}
 use Rattle.record_heap.specs.Walk.{ChainAhead, HeapAhead, OwnStands, SlotsKept}
 use Rattle.record_heap.proofs.HeapAheadLemmas.{own_is}
 use Rattle.record_heap.proofs.WalkLemmas.{path_ends}
+use Rattle.page_marks.proofs.ToldLemmas.{handed_told, tells_on}
+use Rattle.record_heap.specs.Faults.{AreOwnPages, IsChainFault, IsHeapFault, IsSlotFault, TellsOfChain}
+use Rattle.record_heap.proofs.FaultLemmas.{in_chain, in_heap, own_pages}
 use Rattle.record_heap.proofs.walk.walk_heap.Goals as goal
 
 pub returns-clause-walked : goal.returns-clause-walked
@@ -34,3 +37,21 @@ returns-in_err-walk_own-clause-refused c =
     (λ a. (let same = own_is heap list a.own (record { slots = a.slots; stands = a.stands; some = a.some }) own (path_ends (pages_in list) heap.first own w.path) w.some a.low w.low in
     subst (OwnStands heap list) (sym same) (record { slots = a.slots; stands = a.stands; some = a.some })))
     (subst (λ (ns : List ℕ). RefusesRightly (OwnStands heap list ns) c.in_err-walk_own.field-0.0) c.deref.ensures.value c.in_err-walk_own.ensures.refused)
+
+pub returns-in_err-own-clause-told : goal.returns-in_err-own-clause-told
+returns-in_err-own-clause-told c =
+    let heap = c.args.heap.now in
+    let list = c.args.pages.now in
+    tells_on (IsChainFault list heap.first c.args.reached.now) (IsHeapFault heap list c.args.reached.now) c.from_residual.result _ c.from_residual.ensures.1 (in_chain heap list c.args.reached.now) c.in_err-own.ensures.told
+
+pub returns-in_err-walk_own-clause-told : goal.returns-in_err-walk_own-clause-told
+returns-in_err-walk_own-clause-told c =
+    let heap = c.args.heap.now in
+    let list = c.args.pages.now in
+    let marks = c.args.reached.now in
+    let now = c.walk_pages.new.reached in
+    let own = c.in_ok-own.own.items in
+    let w = c.in_ok-own.ensures.walked in
+    handed_told (IsHeapFault heap list marks) c.from_residual-in_err-walk_own.result _ c.from_residual-in_err-walk_own.ensures.1
+    (in_heap heap list marks now own _ w
+    (subst (λ (ns : List ℕ). AreOwnPages list ns → TellsOfChain (IsSlotFault heap list ns) c.in_err-walk_own.field-0.0) c.deref.ensures.value c.in_err-walk_own.ensures.told (own_pages heap list marks now own w)))

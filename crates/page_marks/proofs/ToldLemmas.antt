@@ -7,7 +7,7 @@ use Rattle.page_marks.specs.declared.page_fault.PageFault.TheVariants.{Shared}
 use Rattle.page_marks.specs.declared.walk_fault.WalkFault.{WalkFault}
 use Rattle.page_marks.specs.declared.walk_fault.WalkFault.TheVariants.{Memory, At}
 use Rattle.page_marks.specs.Refused.{RefusesRightly}
-use Rattle.page_walks.specs.Told.{TellsOfFault}
+use Rattle.page_marks.specs.Told.{TellsOfFault}
 
 module _ (P : PageFault → FaultPlace → Type 0) where
   -- a fault of which this holds

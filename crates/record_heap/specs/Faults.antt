@@ -1,0 +1,163 @@
+-- What is wrong with a heap, and where.
+use Rattle.std.specs.Prelude.{◌≡◌, ◌≢◌, ◌⊎◌, ℕ, ◌<◌, ◌≤◌, Bool, true, List, [], ◌∷◌, length, ⊤}
+use Rattle.page_bytes.specs.Each.{Each}
+use Rattle.page_marks.specs.declared.fault_place.FaultPlace.{FaultPlace}
+use Rattle.page_marks.specs.declared.fault_place.FaultPlace.TheVariants.{Page, Entry}
+use Rattle.page_marks.specs.declared.page_fault.PageFault.{PageFault}
+use Rattle.page_marks.specs.declared.page_fault.PageFault.TheVariants.{Shared, Node, Order, Chain, Count}
+use Rattle.page_marks.specs.declared.walk_fault.WalkFault.{WalkFault}
+use Rattle.page_marks.specs.declared.walk_fault.WalkFault.TheVariants.{Memory, At}
+use Rattle.page_marks.specs.Marks.{IsUnmarked}
+use Rattle.page_marks.specs.PageList.{pages_in}
+use Rattle.pages.specs.Owners.{AreApart}
+use Rattle.record_heap.specs.declared.shape.Shape.{Shape}
+use Rattle.record_heap.specs.declared.shape.Place.{Place}
+use Rattle.record_heap.specs.declared.heap.Heap.{Heap}
+use Rattle.record_heap.specs.declared.slot_marks.SlotMarks.{SlotMarks}
+use Rattle.record_heap.specs.Slot.{room}
+use Rattle.record_heap.specs.Slots.{slot_at}
+use Rattle.record_heap.specs.Chain.{AreOnce, IsOneOf, IsFreeChain}
+use Rattle.record_heap.specs.Calls.{behind_at, slot_of}
+use Rattle.record_heap.specs.SlotMarks.{HasMark, marked_slot}
+use Rattle.record_heap.specs.Standing.{IsPageChain}
+use Rattle.record_heap.specs.Walk.{IsFreeAt, IsFreeOrUsed, IsFreePath, IsHeapPageAt, IsMarkedFree, IsPagePath}
+
+-- where a slot is told
+abbrev pub slot_place : Place → FaultPlace
+slot_place p = Entry p.page p.slot
+
+-- the last of some heap pages, or page 0
+abbrev pub last_heap_page : List ℕ → ℕ
+last_heap_page [] = 0
+last_heap_page (n ∷ []) = n
+last_heap_page (n ∷ m ∷ ns) = last_heap_page (m ∷ ns)
+
+-- the last of some slots, or page 0
+abbrev pub last_slot_place : List Place → FaultPlace
+last_slot_place [] = Page 0
+last_slot_place (p ∷ []) = slot_place p
+last_slot_place (p ∷ q ∷ ps) = last_slot_place (q ∷ ps)
+
+-- the page that leads to page n is told where n is none of the list; or n is, where it is no heap page
+abbrev pub TellsOfPage : List (List ℕ) → (from n : ℕ) → WalkFault → Type 0
+TellsOfPage list from n fault = ((fault ≡ At Chain (Page from)) × (length list ≤ n))
+    ⊎ ((fault ≡ At Chain (Page n)) × (n < length list) × (IsHeapPageAt (pages_in list) n → ⊥))
+
+-- This is wrong behind heap pages that lead from the first one to page n: n had its mark before, or is
+-- one of them; it is none of the list, or no heap page; or they are as many as there are marks.
+abbrev pub IsFaultBehindPages : List (List ℕ) → List Bool → List ℕ → ℕ → PageFault → FaultPlace → Type 0
+IsFaultBehindPages list marks own n Shared place =
+    (place ≡ Page n) × (n < length list) × (IsUnmarked marks n → IsOneOf own n)
+IsFaultBehindPages list marks own n Chain place = TellsOfPage list (last_heap_page own) n (At Chain place)
+    ⊎ ((length own ≡ length marks) × (place ≡ Page (last_heap_page own)))
+IsFaultBehindPages list marks own n Node place = ⊥
+IsFaultBehindPages list marks own n Order place = ⊥
+IsFaultBehindPages list marks own n Count place = ⊥
+
+-- so it is with the chain of heap pages, some pages of the list having their marks before
+abbrev pub IsChainFault : List (List ℕ) → (first : ℕ) → List Bool → PageFault → FaultPlace → Type 0
+IsChainFault list first marks fault place = (own : List ℕ) × (n : ℕ)
+    × IsPagePath (pages_in list) first own n × (n ≢ 0) × IsFaultBehindPages list marks own n fault place
+
+-- that memory ran out, or that a chain is broken, and where, of which this holds
+abbrev pub TellsOfChain : (FaultPlace → Type 0) → WalkFault → Type 0
+TellsOfChain Holds Memory = ⊤
+TellsOfChain Holds (At fault place) = (fault ≡ Chain) × Holds place
+
+-- slot p is neither free nor in use, where it has its mark, and is one of page n
+pub record IsWrongOfPage (shape : Shape) (page : List ℕ) (n : ℕ) (marks : SlotMarks)
+    (place : FaultPlace) : Type 0 where
+  pub slot : Place
+  pub on : slot.page ≡ n
+  pub within : slot.slot < room shape
+  pub told : place ≡ slot_place slot
+  pub wrong : HasMark marks slot → IsFreeOrUsed shape (slot_at shape page slot.slot) → ⊥
+
+-- a slot of these pages is neither free nor in use
+pub record IsWrongSlot (shape : Shape) (list : List (List ℕ)) (own : List ℕ)
+    (place : FaultPlace) : Type 0 where
+  pub slot : Place
+  pub page : IsOneOf own slot.page
+  pub within : slot.slot < room shape
+  pub told : place ≡ slot_place slot
+  pub wrong : IsFreeOrUsed shape (slot_of shape (pages_in list) slot) → ⊥
+
+-- the place that leads to a slot is told; or the slot is, where it has a mark and is not free
+abbrev pub TellsOfSlot : Shape → List (List ℕ) → SlotMarks → FaultPlace → Place → WalkFault → Type 0
+TellsOfSlot shape list marks from at fault = (fault ≡ At Chain from)
+    ⊎ ((fault ≡ At Chain (slot_place at)) × (at.slot < room shape) × (marked_slot marks at ≡ true)
+    × (IsFreeAt shape (pages_in list) at → ⊥))
+
+-- This is wrong with a slot behind marked slots of a chain: it has no mark, or is one of them; or they
+-- are as many as there are marks; or it has a mark, and is not free.
+abbrev pub IsFaultBehindSlots : Shape → List (List ℕ) → SlotMarks → List Place → Place → FaultPlace → Type 0
+IsFaultBehindSlots shape list marks free at place =
+    ((place ≡ last_slot_place free) × (IsMarkedFree shape list marks at → IsOneOf free at))
+    ⊎ (((place ≡ last_slot_place free) × (length free ≡ marks.slots))
+    ⊎ ((place ≡ slot_place at) × (at.slot < room shape) × (marked_slot marks at ≡ true)
+    × (IsFreeAt shape (pages_in list) at → ⊥)))
+
+-- so it is with the chain of slots from the first one on
+pub record IsLinkFault (shape : Shape) (list : List (List ℕ)) (first : Place) (marks : SlotMarks)
+    (place : FaultPlace) : Type 0 where
+  pub free : List Place
+  pub at : Place
+  pub path : IsFreePath (behind_at shape (pages_in list)) first free at
+  pub once : AreOnce free
+  pub were : Each (λ p. (p.slot < room shape) × (marked_slot marks p ≡ true)) free
+  pub some : at.page ≢ 0
+  pub wrong : IsFaultBehindSlots shape list marks free at place
+
+-- the slot is a free one of these pages
+pub record IsFreeSlotOf (shape : Shape) (list : List (List ℕ)) (own : List ℕ) (p : Place) : Type 0 where
+  pub page : IsOneOf own p.page
+  pub within : p.slot < room shape
+  pub free : IsFreeAt shape (pages_in list) p
+
+-- Free slots of these pages lead from the first one to a place that is no free slot of them, or is one
+-- of those that lead there. The last of these is told, or page 0 where there is none.
+pub record BreaksFreeChain (shape : Shape) (list : List (List ℕ)) (own : List ℕ) (first : Place)
+    (place : FaultPlace) : Type 0 where
+  pub free : List Place
+  pub at : Place
+  pub path : IsFreePath (behind_at shape (pages_in list)) first free at
+  pub each : Each (IsFreeSlotOf shape list own) free
+  pub some : at.page ≢ 0
+  pub told : place ≡ last_slot_place free
+  pub wrong : IsFreeSlotOf shape list own at → IsOneOf free at
+
+-- a free slot of these pages is none of the chain of free slots
+pub record IsLeftOut (shape : Shape) (list : List (List ℕ)) (own : List ℕ) (first : Place)
+    (place : FaultPlace) : Type 0 where
+  pub slot : Place
+  pub is : IsFreeSlotOf shape list own slot
+  pub told : place ≡ slot_place slot
+  pub free : List Place
+  pub chain : IsFreeChain (behind_at shape (pages_in list)) first free
+  pub out : IsOneOf free slot → ⊥
+
+-- one of these is wrong with the slots of these pages
+abbrev pub IsSlotFault : Heap → List (List ℕ) → List ℕ → FaultPlace → Type 0
+IsSlotFault heap list own place = IsWrongSlot heap.shape list own place
+    ⊎ (BreaksFreeChain heap.shape list own heap.free place ⊎ IsLeftOut heap.shape list own heap.free place)
+
+-- these pages are there, and none stands twice among them
+pub record AreOwnPages (list : List (List ℕ)) (own : List ℕ) : Type 0 where
+  pub there : Each (λ n. n < length list) own
+  pub apart : AreApart own
+
+-- the heap pages are a chain, and so it is with their slots
+pub record HasSlotFault (heap : Heap) (list : List (List ℕ)) (place : FaultPlace) : Type 0 where
+  pub own : List ℕ
+  pub chain : IsPageChain (pages_in list) heap.first own
+  pub pages : AreOwnPages list own
+  pub wrong : IsSlotFault heap list own place
+
+-- this is wrong with a heap, some pages of the list having their marks before
+abbrev pub IsHeapFault : Heap → List (List ℕ) → List Bool → PageFault → FaultPlace → Type 0
+IsHeapFault heap list marks Shared place = IsChainFault list heap.first marks Shared place
+IsHeapFault heap list marks Chain place =
+    IsChainFault list heap.first marks Chain place ⊎ HasSlotFault heap list place
+IsHeapFault heap list marks Node place = ⊥
+IsHeapFault heap list marks Order place = ⊥
+IsHeapFault heap list marks Count place = ⊥
