@@ -9,3 +9,4 @@ pub mod AlternateLemmas
 pub mod LawLemmas
 pub mod SearchLemmas
 pub mod AheadLemmas
+pub mod FaultLemmas

@@ -4,3 +4,4 @@ pub mod Alternate
 pub mod Search
 pub mod Ahead
 pub mod Laws
+pub mod Faults

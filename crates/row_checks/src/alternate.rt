@@ -2,11 +2,12 @@
 
 ghost use Rattle.std.specs.Prelude.{◌≡◌, OnOk, OnErr, IfErr, IsTrue, All, length};
 ghost use Rattle.page_bytes.specs.Each.{Each};
-ghost use Rattle.page_walks.specs.Spots.{spots_in};
+ghost use Rattle.page_walks.specs.Spots.{spots_below, spots_in};
 ghost use Rattle.row_checks.specs.Alternate.{IsIndexFor, IsEntryFor, EntriesAscend, AlternateStands};
 ghost use Rattle.row_checks.specs.Leading.{HasRow, IsEntryOf, OfEachEntry};
 ghost use Rattle.row_checks.specs.Ahead.{AlternateAhead, HasItsRow, HasRowAhead, PrimesLead};
 ghost use Rattle.row_checks.specs.Ahead.{RefusesRows};
+ghost use Rattle.row_checks.specs.Faults.{IsAlternateFault, IsEntryFault, TellsOfRows};
 
 use crate::entry::{entry, entry_near, place_in};
 use crate::record::stored_at;
@@ -82,6 +83,9 @@ fn check_leaf(
         (OfEachEntry (HasRow file.now pages.now (spots_in primes.now) index) leaf) }
     ensures refused { OnErr result (PrimesLead file.now pages.now primes.now
         → OfEachEntry (HasRowAhead file.now pages.now (spots_in primes.now) index) leaf → ⊥) }
+    ensures told { IfErr result (λ fault. PrimesLead file.now pages.now primes.now
+        → TellsOfRows (IsEntryFault (spots_below leaf.page leaf.count)
+        (HasRowAhead file.now pages.now (spots_in primes.now) index)) fault) }
 {
     for place in 0..leaf.count {
         let spot = Spot {
@@ -108,6 +112,8 @@ fn check_leaves(
         (All (OfEachEntry (HasRow file.now pages.now (spots_in primes.now) index)) leaves.now) }
     ensures refused { OnErr result (PrimesLead file.now pages.now primes.now
         → Each (HasRowAhead file.now pages.now (spots_in primes.now) index) (spots_in leaves.now) → ⊥) }
+    ensures told { IfErr result (λ fault. PrimesLead file.now pages.now primes.now
+        → TellsOfRows (IsAlternateFault file.now pages.now primes.now index leaves.now) fault) }
 {
     for &leaf in leaves {
         check_leaf(pages, file, primes, index, leaf)?;
@@ -134,6 +140,8 @@ pub fn check_alternate(
         (spots_in leaves.now)) }
     ensures refused { IfErr result
         (RefusesRows (AlternateAhead file.now pages.now primes.now index leaves.now)) }
+    ensures told { IfErr result (λ fault. PrimesLead file.now pages.now primes.now
+        → TellsOfRows (IsAlternateFault file.now pages.now primes.now index leaves.now) fault) }
 {
     check_leaves(pages, file, primes, index, leaves)?;
     Ok(())

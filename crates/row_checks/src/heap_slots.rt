@@ -1,6 +1,6 @@
 //! The slots of the heap, each of which an entry of the prime index leads to, if it is in use.
 
-ghost use Rattle.std.specs.Prelude.{◌≡◌, IsTrue, OnOk, OnErr};
+ghost use Rattle.std.specs.Prelude.{◌≡◌, [], ◌∷◌, IfErr, IsTrue, OnOk, OnErr};
 ghost use Rattle.page_walks.specs.Spots.{IsSpotThere, spots_in};
 ghost use Rattle.open_file.specs.Stands.{IsShaped};
 ghost use Rattle.open_file.specs.Fields.{prime_index_of};
@@ -8,6 +8,7 @@ ghost use Rattle.bplus_tree.specs.Fields.{tree_shape};
 ghost use Rattle.row_checks.specs.Rows.{place_at};
 ghost use Rattle.row_checks.specs.Leading.{HasEntry, PageHasEntries, PagesHaveEntries};
 ghost use Rattle.row_checks.specs.Ahead.{PrimesLead};
+ghost use Rattle.row_checks.specs.Faults.{HasNoEntry, TellsOfRows};
 
 use crate::entry::{entry, entry_near, place_in};
 use crate::record::stored_at;
@@ -57,6 +58,8 @@ fn check_page(
     ensures entries { OnOk result (PageHasEntries file.now pages.now (spots_in primes.now) n) }
     ensures refused { OnErr result (PrimesLead file.now pages.now primes.now
         → PageHasEntries file.now pages.now (spots_in primes.now) n → ⊥) }
+    ensures told { IfErr result (λ fault. PrimesLead file.now pages.now primes.now
+        → TellsOfRows (HasNoEntry file.now pages.now (spots_in primes.now) (n ∷ [])) fault) }
 {
     for i in 0..file.heap().shape().room() {
         let place = Place {
@@ -81,6 +84,8 @@ pub fn check_slots(
     ensures entries { OnOk result (PagesHaveEntries file.now pages.now (spots_in primes.now) own.now) }
     ensures refused { OnErr result (PrimesLead file.now pages.now primes.now
         → PagesHaveEntries file.now pages.now (spots_in primes.now) own.now → ⊥) }
+    ensures told { IfErr result (λ fault. PrimesLead file.now pages.now primes.now
+        → TellsOfRows (HasNoEntry file.now pages.now (spots_in primes.now) own.now) fault) }
 {
     for &n in own {
         check_page(pages, file, primes, n)?;

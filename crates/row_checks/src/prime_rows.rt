@@ -4,12 +4,14 @@ ghost use Rattle.std.specs.Prelude.{◌≡◌, ◌≢◌, ◌<◌, ◌↔◌, �
 ghost use Rattle.std.specs.Prelude.{OnErr, IsTrue, length};
 ghost use Rattle.page_bytes.specs.Each.{Each};
 ghost use Rattle.page_marks.specs.Marks.{marked_in};
-ghost use Rattle.page_walks.specs.Spots.{spots_in};
+ghost use Rattle.page_walks.specs.Spots.{spots_below, spots_in};
 ghost use Rattle.record_heap.specs.Walk.{is_in_list};
 ghost use Rattle.open_file.specs.Stands.{IsShaped};
 ghost use Rattle.row_checks.specs.Rows.{EntriesRise, MayCompareRows, RowsStand};
 ghost use Rattle.row_checks.specs.Leading.{LeadsToRow, OfEachEntry};
 ghost use Rattle.row_checks.specs.Ahead.{LeadsAhead, RefusesRows, RowsAhead};
+ghost use Rattle.row_checks.specs.Faults.{IsEntryFault, IsRowFault, TellsOfRows};
+ghost use Rattle.row_checks.specs.Search.{IsPrimeLeaf};
 
 use crate::entry::{entry, place_in};
 use crate::heap_slots::check_slots;
@@ -90,6 +92,8 @@ fn check_leaf(
     requires { IsShaped file.now }
     ensures lead { OnOk result (OfEachEntry (LeadsToRow file.now pages.now marks.now) leaf) }
     ensures refused { OnErr result (OfEachEntry (LeadsAhead file.now pages.now marks.now) leaf → ⊥) }
+    ensures told { IfErr result (TellsOfRows (IsEntryFault (spots_below leaf.page leaf.count)
+        (LeadsAhead file.now pages.now marks.now))) }
 {
     for place in 0..leaf.count {
         let spot = Spot {
@@ -116,6 +120,8 @@ fn check_leaves(
         (All (OfEachEntry (LeadsToRow file.now pages.now marks.now)) primes.now) }
     ensures refused { OnErr result
         (Each (LeadsAhead file.now pages.now marks.now) (spots_in primes.now) → ⊥) }
+    ensures told { IfErr result (TellsOfRows (IsEntryFault (spots_in primes.now)
+        (LeadsAhead file.now pages.now marks.now))) }
 {
     for &leaf in primes {
         check_leaf(pages, file, marks, leaf)?;
@@ -134,6 +140,8 @@ fn compare(
     requires { MayCompareRows file.now pages.now (spots_in primes.now) marks.old }
     ensures stand { OnOk result (RowsStand file.now pages.now own.now (spots_in primes.now)) }
     ensures refused { OnErr result (RowsAhead file.now pages.now own.now primes.now → ⊥) }
+    ensures told { IfErr result (λ fault. Each (IsPrimeLeaf file.now pages.now) primes.now
+        → TellsOfRows (IsRowFault file.now pages.now own.now primes.now) fault) }
 {
     mark_all(marks, own);
     check_leaves(pages, file, marks, primes)?;
@@ -158,6 +166,8 @@ pub fn check_rows(
     ensures stand { OnOk result (RowsStand file.now pages.now own.now (spots_in primes.now)) }
     ensures refused { IfErr result
         (RefusesRows (RowsAhead file.now pages.now own.now primes.now)) }
+    ensures told { IfErr result (λ fault. Each (IsPrimeLeaf file.now pages.now) primes.now
+        → TellsOfRows (IsRowFault file.now pages.now own.now primes.now) fault) }
 {
     let mut marks = no_marks(alloc, pages.len())?;
     compare(pages, file, own, primes, &mut marks)

@@ -16,8 +16,12 @@ pub enum RowFault {
 }
 
 impl RowFault {
+    ghost use Rattle.std.specs.Prelude.{◌≡◌};
+
     /// The entry that stands there is that of no row.
-    pub fn of_entry(spot: Spot) -> RowFault {
+    pub fn of_entry(spot: Spot) -> RowFault
+        ensures { result ≡ RowFault.Index (FaultPlace.Entry spot.page spot.place) }
+    {
         RowFault::Index(FaultPlace::Entry {
             page: spot.page,
             entry: u32::from(spot.place),
@@ -25,7 +29,9 @@ impl RowFault {
     }
 
     /// The slot is in use, and has no entry.
-    pub fn of_slot(place: Place) -> RowFault {
+    pub fn of_slot(place: Place) -> RowFault
+        ensures { result ≡ RowFault.Index (FaultPlace.Entry place.page place.slot) }
+    {
         RowFault::Index(FaultPlace::Entry {
             page: place.page,
             entry: u32::from(place.slot),

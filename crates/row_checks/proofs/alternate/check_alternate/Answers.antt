@@ -3,6 +3,10 @@ use Rattle.row_checks.specs.Ahead.{AlternateAhead}
 use Rattle.row_checks.specs.Leading.{HasRow}
 use Rattle.row_checks.proofs.SpotLemmas.{each_in}
 use Rattle.row_checks.proofs.AheadLemmas.{on_err, refuses_rows, rows_ahead}
+use Rattle.row_checks.specs.declared.row_fault.RowFault.{RowFault}
+use Rattle.row_checks.specs.Ahead.{PrimesLead}
+use Rattle.row_checks.specs.Faults.{IsAlternateFault, TellsOfRows}
+use Rattle.row_checks.proofs.FaultLemmas.{rows_on}
 use Rattle.row_checks.proofs.AlternateLemmas.{alternate_stands}
 use Rattle.row_checks.proofs.alternate.check_alternate.Goals as goal
 
@@ -20,3 +24,8 @@ returns-clause-stands c =
     let primes = spots_in c.args.primes.now in
     let spots = spots_in c.args.leaves.now in
     alternate_stands file list primes c.args.index spots (each_in (HasRow file list primes c.args.index) c.args.leaves.now c.in_ok-check_leaves.ensures.rows) c.requires.many c.requires.rises
+
+pub returns-in_err-check_leaves-clause-told : goal.returns-in_err-check_leaves-clause-told
+returns-in_err-check_leaves-clause-told c =
+    rows_on (λ (fault : RowFault). PrimesLead c.args.file.now c.args.pages.now c.args.primes.now → TellsOfRows (IsAlternateFault c.args.file.now c.args.pages.now c.args.primes.now c.args.index c.args.leaves.now) fault)
+    c.from_residual.result _ c.from_residual.ensures.1 c.in_err-check_leaves.ensures.told

@@ -1,10 +1,11 @@
 use Rattle.std.proofs.Common.{refl}
-use Rattle.page_walks.specs.Spots.{spots_in}
+use Rattle.page_walks.specs.Spots.{spots_below, spots_in}
+use Rattle.row_checks.proofs.FaultLemmas.{entry_told}
 use Rattle.row_checks.specs.Ahead.{HasRowAhead}
 use Rattle.row_checks.specs.Leading.{HasRow}
 use Rattle.row_checks.proofs.AheadLemmas.{never}
 use Rattle.row_checks.proofs.SearchLemmas.{each_place}
-use Rattle.row_checks.proofs.SpotLemmas.{each_below}
+use Rattle.row_checks.proofs.SpotLemmas.{each_below, one_below}
 use Rattle.row_checks.proofs.alternate.check_leaf.Goals as goal
 
 pub loop-place-preserved : goal.loop-place-preserved
@@ -15,3 +16,8 @@ pub returns-then-not-has_row-clause-refused : goal.returns-then-not-has_row-clau
 returns-then-not-has_row-clause-refused c = λ lead all.
     never (c.if-not-has_row.ensures.refused lead
     (each_place (HasRowAhead c.args.file.now c.args.pages.now (spots_in c.args.primes.now) c.args.index) c.args.leaf.page c.args.leaf.count c.loop-place.place c.loop-place-test.true all))
+
+pub returns-then-not-has_row-clause-told : goal.returns-then-not-has_row-clause-told
+returns-then-not-has_row-clause-told c = λ lead.
+    entry_told (spots_below c.args.leaf.page c.args.leaf.count) (HasRowAhead c.args.file.now c.args.pages.now (spots_in c.args.primes.now) c.args.index) (record { page = c.args.leaf.page; place = c.loop-place.place }) _
+    c.of_entry.ensures (one_below c.args.leaf.page c.args.leaf.count c.loop-place.place c.loop-place-test.true) (λ ahead. never (c.if-not-has_row.ensures.refused lead ahead))

@@ -6,6 +6,12 @@ use Rattle.row_checks.specs.Leading.{HasRow}
 use Rattle.row_checks.proofs.AheadLemmas.{on_err}
 use Rattle.row_checks.proofs.SearchLemmas.{each_of_leaf}
 use Rattle.row_checks.proofs.SpotLemmas.{each_more}
+use Rattle.std.proofs.Common.{slice_index_or}
+use Rattle.page_walks.specs.Spots.{spots_below}
+use Rattle.page_walks.specs.declared.leaf.Leaf.{Leaf}
+use Rattle.row_checks.specs.declared.row_fault.RowFault.{RowFault}
+use Rattle.row_checks.specs.Faults.{IsEntryFault, TellsOfRows}
+use Rattle.row_checks.proofs.FaultLemmas.{entry_more, one_of_leaf, rows_more, rows_on}
 use Rattle.row_checks.proofs.alternate.check_leaves.Goals as goal
 
 pub loop-leaf-init : goal.loop-leaf-init
@@ -23,3 +29,14 @@ returns-in_err-check_leaf-clause-refused c =
 
 pub returns-clause-rows : goal.returns-clause-rows
 returns-clause-rows c = λ k d within. c.loop-leaf.invariant k d (let end = c.loop-leaf-test.false in omega (arith, end, within))
+
+pub returns-in_err-check_leaf-clause-told : goal.returns-in_err-check_leaf-clause-told
+returns-in_err-check_leaf-clause-told c =
+    let leaves = c.args.leaves.now in
+    let i = c.loop-leaf.leaf-index in
+    let none : Leaf = record { page = 0; count = 0 } in
+    let leaf = slice_index_or leaves i none in
+    let Ahead = HasRowAhead c.args.file.now c.args.pages.now (spots_in c.args.primes.now) c.args.index in
+    rows_on (λ (fault : RowFault). PrimesLead c.args.file.now c.args.pages.now c.args.primes.now → TellsOfRows (IsEntryFault (spots_in leaves) Ahead) fault) c.from_residual.result _ c.from_residual.ensures.1
+    (λ lead. rows_more (IsEntryFault (spots_below leaf.page leaf.count) Ahead) (IsEntryFault (spots_in leaves) Ahead) _
+    (entry_more (spots_below leaf.page leaf.count) (spots_in leaves) Ahead Ahead (one_of_leaf leaves i none c.loop-leaf-test.true) (λ spot a. a)) (c.in_err-check_leaf.ensures.told lead))

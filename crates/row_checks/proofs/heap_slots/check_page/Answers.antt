@@ -4,6 +4,7 @@ use Rattle.page_walks.specs.Spots.{spots_in}
 use Rattle.record_heap.specs.Standing.{slot_shape}
 use Rattle.row_checks.specs.Leading.{HasEntry}
 use Rattle.row_checks.proofs.AheadLemmas.{never}
+use Rattle.row_checks.proofs.FaultLemmas.{slot_told}
 use Rattle.row_checks.proofs.SlotLemmas.{slots_more}
 use Rattle.row_checks.proofs.heap_slots.check_page.Goals as goal
 use Rattle.open_file.specs.Fields.{heap_of}
@@ -23,3 +24,10 @@ returns-then-not-has_entry-clause-refused c = λ lead all.
 
 pub returns-clause-entries : goal.returns-clause-entries
 returns-clause-entries c = λ p is within. c.loop-i.invariant p is (let end = c.loop-i-test.false in let many = c.room-i-end.ensures.value ∙ ap room (c.shape.ensures ∙ ap slot_shape c.heap.ensures) in omega (arith, end, many, within))
+
+pub returns-then-not-has_entry-clause-told : goal.returns-then-not-has_entry-clause-told
+returns-then-not-has_entry-clause-told c = λ lead.
+    let many = c.room-i-end.ensures.value ∙ ap room (c.shape.ensures ∙ ap slot_shape c.heap.ensures) in
+    let within = c.loop-i-test.true in
+    slot_told c.args.file.now c.args.pages.now (spots_in c.args.primes.now) (record { page = c.args.n; slot = c.loop-i.i }) _ c.of_slot.ensures (omega (arith, many, within))
+    (λ has. never (c.if-not-has_entry.ensures.refused lead has))

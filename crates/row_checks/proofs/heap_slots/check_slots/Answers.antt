@@ -10,6 +10,10 @@ use Rattle.page_walks.specs.Spots.{spots_in}
 use Rattle.row_checks.specs.Ahead.{PrimesLead}
 use Rattle.row_checks.specs.Leading.{HasEntry, PagesHaveEntries}
 use Rattle.row_checks.proofs.AheadLemmas.{in_list_at, on_err, page_has}
+use Rattle.std.proofs.Common.{[], ◌∷◌}
+use Rattle.row_checks.specs.declared.row_fault.RowFault.{RowFault}
+use Rattle.row_checks.specs.Faults.{HasNoEntry, TellsOfRows}
+use Rattle.row_checks.proofs.FaultLemmas.{rows_more, rows_on, slot_more}
 use Rattle.row_checks.proofs.SlotLemmas.{pages_more, own_slot}
 use Rattle.row_checks.proofs.heap_slots.check_slots.Goals as goal
 use Rattle.open_file.specs.Fields.{heap_of}
@@ -38,3 +42,13 @@ pub returns-clause-entries : goal.returns-clause-entries
 returns-clause-entries c = λ p some.
     let own = own_slot (slot_shape (heap_of c.args.file.now)) (pages_in c.args.pages.now) c.args.own.now p some in
     c.loop-n.invariant p (subst (λ (ms : List ℕ). is_in_list ms p.page ≡ true) (sym (take_all c.loop-n.n-index c.args.own.now c.loop-n-test.false)) own.0) own.1 own.2
+
+pub returns-in_err-check_page-clause-told : goal.returns-in_err-check_page-clause-told
+returns-in_err-check_page-clause-told c =
+    let file = c.args.file.now in
+    let list = c.args.pages.now in
+    let spots = spots_in c.args.primes.now in
+    let own = c.args.own.now in
+    let n = get_or own c.loop-n.n-index 0 in
+    rows_on (λ (fault : RowFault). PrimesLead file list c.args.primes.now → TellsOfRows (HasNoEntry file list spots own) fault) c.from_residual.result _ c.from_residual.ensures.1
+    (λ lead. rows_more (HasNoEntry file list spots (n ∷ [])) (HasNoEntry file list spots own) _ (slot_more file list spots own n (in_list_at own c.loop-n.n-index 0 c.loop-n-test.true)) (c.in_err-check_page.ensures.told lead))

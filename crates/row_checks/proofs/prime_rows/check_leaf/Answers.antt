@@ -3,7 +3,9 @@ use Rattle.row_checks.specs.Ahead.{LeadsAhead}
 use Rattle.row_checks.specs.Leading.{LeadsToRow}
 use Rattle.row_checks.proofs.AheadLemmas.{never}
 use Rattle.row_checks.proofs.SearchLemmas.{each_place}
-use Rattle.row_checks.proofs.SpotLemmas.{each_below}
+use Rattle.page_walks.specs.Spots.{spots_below}
+use Rattle.row_checks.proofs.FaultLemmas.{entry_told}
+use Rattle.row_checks.proofs.SpotLemmas.{each_below, one_below}
 use Rattle.row_checks.proofs.prime_rows.check_leaf.Goals as goal
 
 pub loop-place-preserved : goal.loop-place-preserved
@@ -14,3 +16,8 @@ pub returns-then-not-leads_to_row-clause-refused : goal.returns-then-not-leads_t
 returns-then-not-leads_to_row-clause-refused c = λ all.
     never (c.if-not-leads_to_row.ensures.refused
     (each_place (LeadsAhead c.args.file.now c.args.pages.now c.args.marks.now) c.args.leaf.page c.args.leaf.count c.loop-place.place c.loop-place-test.true all))
+
+pub returns-then-not-leads_to_row-clause-told : goal.returns-then-not-leads_to_row-clause-told
+returns-then-not-leads_to_row-clause-told c =
+    entry_told (spots_below c.args.leaf.page c.args.leaf.count) (LeadsAhead c.args.file.now c.args.pages.now c.args.marks.now) (record { page = c.args.leaf.page; place = c.loop-place.place }) _ c.of_entry.ensures
+    (one_below c.args.leaf.page c.args.leaf.count c.loop-place.place c.loop-place-test.true) (λ ahead. never (c.if-not-leads_to_row.ensures.refused ahead))

@@ -6,6 +6,11 @@ use Rattle.row_checks.specs.Leading.{LeadsToRow}
 use Rattle.row_checks.proofs.AheadLemmas.{on_err}
 use Rattle.row_checks.proofs.SearchLemmas.{each_of_leaf}
 use Rattle.row_checks.proofs.SpotLemmas.{each_more}
+use Rattle.std.proofs.Common.{slice_index_or}
+use Rattle.page_walks.specs.Spots.{spots_below}
+use Rattle.page_walks.specs.declared.leaf.Leaf.{Leaf}
+use Rattle.row_checks.specs.Faults.{IsEntryFault, TellsOfRows}
+use Rattle.row_checks.proofs.FaultLemmas.{entry_more, one_of_leaf, rows_more, rows_on}
 use Rattle.row_checks.proofs.prime_rows.check_leaves.Goals as goal
 
 pub loop-leaf-init : goal.loop-leaf-init
@@ -23,3 +28,14 @@ returns-in_err-check_leaf-clause-refused c =
 
 pub returns-clause-lead : goal.returns-clause-lead
 returns-clause-lead c = λ k d within. c.loop-leaf.invariant k d (let end = c.loop-leaf-test.false in omega (arith, end, within))
+
+pub returns-in_err-check_leaf-clause-told : goal.returns-in_err-check_leaf-clause-told
+returns-in_err-check_leaf-clause-told c =
+    let primes = c.args.primes.now in
+    let i = c.loop-leaf.leaf-index in
+    let none : Leaf = record { page = 0; count = 0 } in
+    let leaf = slice_index_or primes i none in
+    let Ahead = LeadsAhead c.args.file.now c.args.pages.now c.args.marks.now in
+    rows_on (TellsOfRows (IsEntryFault (spots_in primes) Ahead)) c.from_residual.result _ c.from_residual.ensures.1
+    (rows_more (IsEntryFault (spots_below leaf.page leaf.count) Ahead) (IsEntryFault (spots_in primes) Ahead) _
+    (entry_more (spots_below leaf.page leaf.count) (spots_in primes) Ahead Ahead (one_of_leaf primes i none c.loop-leaf-test.true) (λ spot a. a)) c.in_err-check_leaf.ensures.told)

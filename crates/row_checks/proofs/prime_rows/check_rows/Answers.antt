@@ -1,4 +1,10 @@
 use Rattle.row_checks.proofs.AheadLemmas.{memory_handed_on, refuses_rows}
+use Rattle.std.proofs.Common.{sym, subst}
+use Rattle.page_bytes.specs.Each.{Each}
+use Rattle.row_checks.specs.declared.row_fault.RowFault.{RowFault}
+use Rattle.row_checks.specs.Search.{IsPrimeLeaf}
+use Rattle.row_checks.specs.Faults.{IsRowFault, TellsOfRows}
+use Rattle.row_checks.proofs.FaultLemmas.{rows_on}
 use Rattle.row_checks.proofs.prime_rows.check_rows.Goals as goal
 
 pub returns-in_err-marks-clause-refused : goal.returns-in_err-marks-clause-refused
@@ -6,3 +12,8 @@ returns-in_err-marks-clause-refused c = memory_handed_on _ c.from_residual.resul
 
 pub returns-clause-refused : goal.returns-clause-refused
 returns-clause-refused c = refuses_rows _ _ c.compare.ensures.refused
+
+pub returns-in_err-marks-clause-told : goal.returns-in_err-marks-clause-told
+returns-in_err-marks-clause-told c =
+    let Told = λ (fault : RowFault). Each (IsPrimeLeaf c.args.file.now c.args.pages.now) c.args.primes.now → TellsOfRows (IsRowFault c.args.file.now c.args.pages.now c.args.own.now c.args.primes.now) fault in
+    rows_on Told c.from_residual.result _ c.from_residual.ensures.1 (subst Told (sym c.in_err-marks.ensures.memory) (λ there. tt))
