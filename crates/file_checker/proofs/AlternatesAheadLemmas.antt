@@ -25,10 +25,8 @@ use Rattle.row_checks.specs.Rows.{rows_in}
 use Rattle.file_header.specs.declared.header.Header.{Header}
 use Rattle.file_checker.specs.declared.stop.Stop.{Stop}
 use Rattle.file_checker.specs.declared.stop.Stop.TheVariants.{Memory, Unsound}
-use Rattle.file_checker.specs.declared.verdict.Reason.{Reason}
-use Rattle.file_checker.specs.declared.verdict.Reason.TheVariants.{Short, Gate, Header as NoHeader, Shared, Node, Order, Heap, Index as TheIndex, Lost}
 use Rattle.file_checker.specs.Ahead.{AlternatesAhead, StopsRightly}
-use Rattle.file_checker.specs.Later.{ChecksPages, IsMet, IsMetIn, StopsIn, StopsWalk, stop_by_rows, stop_by_walk}
+use Rattle.file_checker.specs.Later.{ChecksPages, StopsIn, StopsWalk, stop_by_rows, stop_by_walk}
 use Rattle.file_checker.specs.Parts.{PagesStand}
 use Rattle.file_checker.proofs.AheadLemmas.{one_tree}
 
@@ -54,26 +52,11 @@ stopped_by_rows S T (Err stop) fault was f never = subst (StopsRightly T) (sym w
 
 -- where a walk stops, a check of the pages does
 module _ (header : Header) (list : List (List ℕ)) where
-  met_in : (reason : Reason) → IsMet reason → IsMetIn header list reason
-  met_in Short met = met
-  met_in Gate met = met
-  met_in NoHeader met = met
-  met_in Shared met = tt
-  met_in Node met = tt
-  met_in Order met = tt
-  met_in Heap met = tt
-  met_in TheIndex met = tt
-  met_in Lost met = absurd met
-
-  stops_in : (stop : Stop) → StopsWalk stop → StopsIn header list stop
-  stops_in Memory met = tt
-  stops_in (Unsound reason place) met = met_in reason met
-
-  pub checks_stopped : (T : Type 0) (r : Result Unit Stop) (stop : Stop) → IsErrAnd r (λ e. e ≡ stop) → StopsWalk stop → (PagesStand header list → T) → StopsRightly T stop → ChecksPages header list r
+  pub checks_stopped : (T : Type 0) (r : Result Unit Stop) (stop : Stop) → IsErrAnd r (λ e. e ≡ stop) → StopsIn header list stop → (PagesStand header list → T) → StopsRightly T stop → ChecksPages header list r
   checks_stopped T (Ok x) stop was met f never = absurd was
   checks_stopped T (Err e) stop was met f never = record {
     stand = tt;
-    stop = subst (StopsIn header list) (sym was) (stops_in stop met);
+    stop = subst (StopsIn header list) (sym was) met;
     refused = subst (StopsRightly (PagesStand header list)) (sym was) (more stop never);
   }
     where
@@ -82,14 +65,14 @@ module _ (header : Header) (list : List (List ℕ)) where
       more (Unsound reason place) h = λ stands. h (f stands)
 
   pub checks_by_walk : (S : Type 0) (r : Result Unit Stop) (fault : WalkFault) → IsErrAnd r (λ stop. (stop ≡ stop_by_walk fault) × StopsWalk stop) → (PagesStand header list → S) → RefusesRightly S fault
-      → ChecksPages header list r
-  checks_by_walk S (Ok x) fault was f never = absurd was
-  checks_by_walk S (Err stop) fault was f never = checks_stopped S (Err stop) stop refl was.1 f (subst (StopsRightly S) (sym was.0) (stops_by_walk S S fault (λ s. s) never))
+      → StopsIn header list (stop_by_walk fault) → ChecksPages header list r
+  checks_by_walk S (Ok x) fault was f never told = absurd was
+  checks_by_walk S (Err stop) fault was f never told = checks_stopped S (Err stop) stop refl (subst (StopsIn header list) (sym was.0) told) f (subst (StopsRightly S) (sym was.0) (stops_by_walk S S fault (λ s. s) never))
 
   pub checks_by_rows : (S : Type 0) (r : Result Unit Stop) (fault : RowFault) → IsErrAnd r (λ stop. (stop ≡ stop_by_rows fault) × StopsWalk stop) → (PagesStand header list → S) → RefusesRows S fault
-      → ChecksPages header list r
-  checks_by_rows S (Ok x) fault was f never = absurd was
-  checks_by_rows S (Err stop) fault was f never = checks_stopped S (Err stop) stop refl was.1 f (subst (StopsRightly S) (sym was.0) (stops_by_rows S S fault (λ s. s) never))
+      → StopsIn header list (stop_by_rows fault) → ChecksPages header list r
+  checks_by_rows S (Ok x) fault was f never told = absurd was
+  checks_by_rows S (Err stop) fault was f never told = checks_stopped S (Err stop) stop refl (subst (StopsIn header list) (sym was.0) told) f (subst (StopsRightly S) (sym was.0) (stops_by_rows S S fault (λ s. s) never))
 
 -- ---- one index after another
 

@@ -1,6 +1,7 @@
 pub mod ReadLemmas
 pub mod AlternateLemmas
 pub mod StandLemmas
+pub mod FaultLemmas
 pub mod RowsAheadLemmas
 pub mod AheadLemmas
 pub mod AlternatesAheadLemmas

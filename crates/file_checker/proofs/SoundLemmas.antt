@@ -8,6 +8,8 @@ use Rattle.std.specs.Io.KnownBytes.{Consumes}
 use Rattle.pages.specs.PageMap.{PageMap}
 use Rattle.page_store.specs.DeviceFile.{page_of_bytes}
 use Rattle.page_alloc.specs.Chain.{chain, used}
+use Rattle.page_marks.specs.declared.fault_place.FaultPlace.{FaultPlace}
+use Rattle.page_marks.specs.declared.fault_place.FaultPlace.TheVariants.{File as TheFile}
 use Rattle.page_walks.specs.FreeWalk.{page_in}
 use Rattle.page_walks.specs.WholeFile.{pages_used_in}
 use Rattle.file_header.specs.declared.header.Header.{Header}
@@ -21,6 +23,9 @@ use Rattle.shelf_file.specs.ClosedFile.{IsAcceptedBy, StandsIn, live_in, free_in
 use Rattle.shelf_file.proofs.PagesLemmas.{AreAlike, same_chain, same_live}
 use Rattle.file_checker.specs.declared.verdict.Reason.{Reason}
 use Rattle.file_checker.specs.declared.verdict.Reason.TheVariants.{Short, Gate, Header as NoHeader, Shared, Node, Order, Heap, Index, Lost}
+use Rattle.file_checker.specs.declared.finding.Finding.{Finding}
+use Rattle.file_checker.specs.declared.finding.Finding.TheVariants.{Sound as FoundSound, Unsound as FoundUnsound}
+use Rattle.file_checker.specs.Findings.{verdict_of}
 use Rattle.file_checker.specs.declared.verdict.Verdict.{Verdict}
 use Rattle.file_checker.specs.declared.verdict.Verdict.TheVariants.{Unsound}
 use Rattle.file_checker.specs.Bytes.{HasLess, HasGiven, HasGivenLess, HasGivenPages, AreRead, AreFirstPages, ReadingBreaksOff, bytes_of_pages}
@@ -28,7 +33,7 @@ use Rattle.file_checker.specs.Later.{IsMetIn}
 use Rattle.file_checker.specs.Parts.{PagesStand}
 use Rattle.file_checker.specs.declared.verdict.CheckFault.{CheckFault}
 use Rattle.file_checker.specs.declared.verdict.CheckFault.TheVariants.{Input, Memory}
-use Rattle.file_checker.specs.Sound.{IsSound, IsUnsound, IsLong, HasPages, HasReason, CheckGivesUp, ExaminesBehind, counted_in, asked_in}
+use Rattle.file_checker.specs.Sound.{IsSound, IsUnsound, IsLong, IsShort, IsUnsoundAt, HasPages, HoldsAt, CheckGivesUp, ExaminesBehind, IsRight, IsRightFinding, counted_in, asked_in}
 use Rattle.file_checker.proofs.ReadLemmas.{consumes_on, less_given, pages_long}
 
 -- what holds of the bytes that are known, if they are
@@ -37,14 +42,23 @@ of_known None P f = tt
 of_known (Some bytes) P f = f bytes refl
 
 -- a fault is told as it was met, and nothing else
-pub no_verdict : {X : Type 0} {first : List ℕ} {verdict : X → Verdict} {before after : Option (List ℕ)} (r : Result X CheckFault) (fault : CheckFault) → IsErrAnd r (λ e. e ≡ fault)
-    → ((bytes : List ℕ) → Consumes (Some bytes) before first → CheckGivesUp bytes after fault) → ExaminesBehind first verdict before after r
+pub no_verdict : {X : Type 0} {first : List ℕ} {Right : List ℕ → X → Type 0} {verdict : X → Verdict} {before after : Option (List ℕ)} (r : Result X CheckFault) (fault : CheckFault) → IsErrAnd r (λ e. e ≡ fault)
+    → ((bytes : List ℕ) → Consumes (Some bytes) before first → CheckGivesUp bytes after fault) → ExaminesBehind first Right verdict before after r
 no_verdict (Ok x) fault is up = absurd is
 no_verdict {after = after} (Err e) fault is up = record {
   right = λ bytes came. tt;
   read = λ bytes came. tt;
   fault = λ bytes came. subst (CheckGivesUp bytes after) (sym is) (up bytes came);
 }
+
+-- a finding that is right tells a verdict that is
+pub verdict_right : (bytes : List ℕ) (finding : Finding) → IsRightFinding bytes finding → IsRight bytes (verdict_of finding)
+verdict_right bytes (FoundSound records pages) sound = sound
+verdict_right bytes (FoundUnsound reason place) h = ((place, h.0), h.1)
+
+pub some_right : (known : Option (List ℕ)) (finding : Finding) (verdict : Verdict) → verdict ≡ verdict_of finding → IfSome known (λ bytes. IsRightFinding bytes finding) → IfSome known (λ bytes. IsRight bytes verdict)
+some_right None finding verdict is right = tt
+some_right (Some bytes) finding verdict is right = subst (IsRight bytes) (sym is) (verdict_right bytes finding right)
 
 -- ---- the first page
 
@@ -65,7 +79,7 @@ header_is bytes records pages s = first_read s.header (page_of_bytes bytes 0) s.
 pub unsound_by_header : (bytes : List ℕ) → header_in (page_of_bytes bytes 0) ≡ None → IsUnsound bytes
 unsound_by_header bytes none records pages s = let bad : Some s.header ≡ None = sym (header_is bytes records pages s) ∙ none in cc
 
-pub unsound_by_length : (bytes : List ℕ) → HasReason bytes Short → IsUnsound bytes
+pub unsound_by_length : (bytes : List ℕ) → IsShort bytes → IsUnsound bytes
 unfolding numbers_in
 unsound_by_length bytes short records pages s = go short
   where
@@ -112,13 +126,13 @@ module _ (bytes first : List ℕ) (after end : Option (List ℕ)) (count : ℕ) 
       subst (λ (n : ℕ). HasGivenLess (Some bytes) end (4096 + 4096 * (n - 1))) (sym told)
       (less_given (Some bytes) after end first (4096 * (count - 1)) (4096 + 4096 * (count - 1)) came less (omega arith))
 
-  pub is_short : HasLess (4096 * (count - 1)) after → HasReason bytes Short × IsUnsound bytes
+  pub is_short : HasLess (4096 * (count - 1)) after → IsUnsoundAt TheFile bytes Short
   is_short less =
       let there = behind bytes first after came long in
       let few : length there.0 < 4096 * (count - 1) = subst (HasLess (4096 * (count - 1))) there.1 less in
       let e = told in let all = there.2 in
-      let short = inr (subst (λ (n : ℕ). length bytes < 4096 * n) (sym e) (omega arith)) in
-      (short, unsound_by_length bytes short)
+      let short : IsShort bytes = inr (subst (λ (n : ℕ). length bytes < 4096 * n) (sym e) (omega arith)) in
+      ((refl, short), unsound_by_length bytes short)
 
   -- nothing stands behind a first page that has no header
   pub no_header : header_in first ≡ None → IsUnsound bytes
@@ -138,32 +152,34 @@ module _ (bytes first : List ℕ) (after end : Option (List ℕ)) (count : ℕ) 
 -- ---- a file that is accepted
 
 -- it is no want of bytes
-pub not_short : (header : Header) (list : List (List ℕ)) (reason : Reason) → IsMetIn header list reason → Unsound reason ≡ Unsound Short → ⊥
-not_short header list Short met is = met
-not_short header list Gate met is = met
-not_short header list NoHeader met is = met
-not_short header list Shared met is = cc is
-not_short header list Node met is = cc is
-not_short header list Order met is = cc is
-not_short header list Heap met is = cc is
-not_short header list Index met is = cc is
-not_short header list Lost met is = cc is
+pub not_short : (header : Header) (list : List (List ℕ)) (reason : Reason) (place : FaultPlace) → IsMetIn header list reason place → Unsound reason ≡ Unsound Short → ⊥
+not_short header list Short place met is = met
+not_short header list Gate place met is = met
+not_short header list NoHeader place met is = met
+not_short header list Shared place met is = cc is
+not_short header list Node place met is = cc is
+not_short header list Order place met is = cc is
+not_short header list Heap place met is = cc is
+not_short header list Index place met is = cc is
+not_short header list Lost place met is = cc is
 
 -- what the reason says of the pages, it says of the bytes
-pub shown : (bytes : List ℕ) (header : Header) (list : List (List ℕ)) (reason : Reason) → HasPages bytes header list → IsMetIn header list reason → HasReason bytes reason
-shown bytes header list Short all met = absurd met
-shown bytes header list Gate all met = absurd met
-shown bytes header list NoHeader all met = absurd met
-shown bytes header list Shared all met = (header, all.accepted)
-shown bytes header list Node all met = (header, all.accepted)
-shown bytes header list Order all met = (header, all.accepted)
-shown bytes header list Heap all met = (header, all.accepted)
-shown bytes header list Index all met = (header, all.accepted)
-shown bytes header list Lost all met = (header, list, all, met)
+pub shown : (bytes : List ℕ) (header : Header) (list : List (List ℕ)) (reason : Reason) (place : FaultPlace) → HasPages bytes header list → IsMetIn header list reason place → HoldsAt bytes reason place
+shown bytes header list Short place all met = absurd met
+shown bytes header list Gate place all met = absurd met
+shown bytes header list NoHeader place all met = absurd met
+shown bytes header list Shared place all met = (header, list, all, met)
+shown bytes header list Node place all met = (header, list, all, met)
+shown bytes header list Order place all met = (header, list, all, met)
+shown bytes header list Heap place all met = (header, list, all, met)
+shown bytes header list Index place all met = (header, list, all, met)
+shown bytes header list Lost place all met = (header, list, all, met)
 
 module _ (bytes first : List ℕ) (header : Header) (page : page_of_bytes bytes 0 ≡ first) (is : IsFirstPage header first) where
-  pub too_few : HasLess (4096 * header.pages) (Some bytes) → HasReason bytes Short × IsUnsound bytes
-  too_few less = let short = inr (subst (λ (n : ℕ). length bytes < 4096 * n) (sym (counted_is bytes first header page is)) less) in (short, unsound_by_length bytes short)
+  pub too_few : HasLess (4096 * header.pages) (Some bytes) → IsUnsoundAt TheFile bytes Short
+  too_few less =
+      let short : IsShort bytes = inr (subst (λ (n : ℕ). length bytes < 4096 * n) (sym (counted_is bytes first header page is)) less) in
+      ((refl, short), unsound_by_length bytes short)
 
   counted : 1 ≤ header.pages
   counted = let c = is.allowed.within.counted in omega arith

@@ -1,5 +1,9 @@
 -- Why the walks of a file that can be opened stop.
-use Rattle.std.specs.Prelude.{ℕ, List, ⊤, Result, OnOk, IfErr}
+use Rattle.std.specs.Prelude.{◌≡◌, ◌⊎◌, ℕ, Bool, true, List, length, ⊤, Result, OnOk, IfErr}
+use Rattle.page_marks.specs.declared.fault_place.FaultPlace.{FaultPlace}
+use Rattle.page_marks.specs.Marks.{marked_in}
+use Rattle.page_walks.specs.declared.leaf.Leaf.{Leaf}
+use Rattle.open_file.specs.declared.open_file.OpenFile.{OpenFile}
 use Rattle.page_marks.specs.declared.page_fault.PageFault.{PageFault}
 use Rattle.page_marks.specs.declared.page_fault.PageFault.TheVariants.{Shared as SharedPage}
 use Rattle.page_marks.specs.declared.page_fault.PageFault.TheVariants.{Node as WrongNode}
@@ -16,7 +20,9 @@ use Rattle.file_checker.specs.declared.verdict.Reason.TheVariants.{Shared, Node,
 use Rattle.file_checker.specs.declared.verdict.Reason.TheVariants.{Lost}
 use Rattle.file_checker.specs.declared.stop.Stop.{Stop}
 use Rattle.file_checker.specs.declared.stop.Stop.TheVariants.{Memory, Unsound}
-use Rattle.file_checker.specs.Lost.{HasLostPage}
+use Rattle.file_checker.specs.Lost.{IsLostAt}
+use Rattle.file_checker.specs.Faults.{HasIndexFault, HasWalkFault, IsAlternateReached}
+use Rattle.file_checker.specs.Faults.{IsAlternateTreeFault, IsAlternateWrong}
 use Rattle.file_checker.specs.Parts.{PagesStand}
 use Rattle.file_checker.specs.Ahead.{StopsRightly}
 
@@ -54,21 +60,36 @@ abbrev pub StopsWalk : Stop → Type 0
 StopsWalk Memory = ⊤
 StopsWalk (Unsound reason place) = IsMet reason
 
--- what is known of the pages by the reason
-abbrev pub IsMetIn : Header → List (List ℕ) → Reason → Type 0
-IsMetIn header list Short = ⊥
-IsMetIn header list Gate = ⊥
-IsMetIn header list NoHeader = ⊥
-IsMetIn header list Shared = ⊤
-IsMetIn header list Node = ⊤
-IsMetIn header list Order = ⊤
-IsMetIn header list Heap = ⊤
-IsMetIn header list Index = ⊤
-IsMetIn header list Lost = HasLostPage header list
+-- the reason holds of the pages, at this place
+abbrev pub IsMetIn : Header → List (List ℕ) → Reason → FaultPlace → Type 0
+IsMetIn header list Short place = ⊥
+IsMetIn header list Gate place = ⊥
+IsMetIn header list NoHeader place = ⊥
+IsMetIn header list Shared place = HasWalkFault header list SharedPage place
+IsMetIn header list Node place = HasWalkFault header list WrongNode place
+IsMetIn header list Order place = HasWalkFault header list WrongOrder place
+IsMetIn header list Heap place = HasWalkFault header list Chain place
+IsMetIn header list Index place =
+    HasWalkFault header list Count place ⊎ HasIndexFault header list place
+IsMetIn header list Lost place = IsLostAt header list place
 
 abbrev pub StopsIn : Header → List (List ℕ) → Stop → Type 0
 StopsIn header list Memory = ⊤
-StopsIn header list (Unsound reason place) = IsMetIn header list reason
+StopsIn header list (Unsound reason place) = IsMetIn header list reason place
+
+-- the pages that have their marks, and those of the alternate indexes before number j
+abbrev pub IsMarkedBefore : OpenFile → List (List ℕ) → List Bool → (j n : ℕ) → Type 0
+IsMarkedBefore opened list marks j n =
+    (marked_in marks n ≡ true) ⊎ IsAlternateReached opened list j n
+
+-- what is told of alternate indexes, where some pages have their marks before: that memory ran out;
+-- or why one of them does not stand, and where; or where it is not that of the rows
+abbrev pub TellsOfIndexes : OpenFile → List (List ℕ) → List Leaf → List Bool → Stop → Type 0
+TellsOfIndexes opened list primes marks Memory = ⊤
+TellsOfIndexes opened list primes marks (Unsound reason place) =
+    ((fault : PageFault) × (reason ≡ reason_by_walk fault) × IsAlternateTreeFault
+    (IsMarkedBefore opened list marks) (length marks) opened list fault place)
+    ⊎ ((reason ≡ Index) × IsAlternateWrong opened list primes place)
 
 -- what a check of the pages tells: that they stand, or why it stops, and then they do not stand
 pub record ChecksPages (header : Header) (list : List (List ℕ)) (result : Result Unit Stop) : Type 0 where

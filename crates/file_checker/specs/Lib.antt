@@ -2,6 +2,7 @@ pub mod Numbers
 pub mod Bytes
 pub mod Parts
 pub mod Lost
+pub mod Faults
 pub mod Ahead
 pub mod Later
 pub mod Findings

@@ -1,8 +1,10 @@
 -- A page that nothing reaches.
-use Rattle.std.specs.Prelude.{◌≡◌, ℕ, ◌+◌, ◌<◌, ◌≤◌, Bool, false, List, [], Some, length, slice_index_or}
+use Rattle.std.specs.Prelude.{◌≡◌, ℕ, ◌+◌, ◌<◌, ◌≤◌, Bool, not, List, [], Option, Some, length, position}
+use Rattle.std.specs.Prelude.{slice_index_or}
 use Rattle.pages.specs.Owners.{IsOutside}
 use Rattle.page_alloc.specs.Chain.{chain}
-use Rattle.page_marks.specs.Marks.{marked_in}
+use Rattle.page_marks.specs.declared.fault_place.FaultPlace.{FaultPlace}
+use Rattle.page_marks.specs.declared.fault_place.FaultPlace.TheVariants.{Page}
 use Rattle.page_marks.specs.PageList.{pages_in}
 use Rattle.page_marks.specs.Parted.{all_of}
 use Rattle.open_file.specs.Parts.{heap_pages, prime_pages, alternate_pages}
@@ -40,9 +42,10 @@ pub record LeavesOut (header : Header) (list : List (List ℕ)) (n : ℕ) : Type
       → IsTreeInList index.tree list (alternate_pages owns j)
   pub outside : IsOutside (all_of owns) n
 
-abbrev pub HasLostPage : Header → List (List ℕ) → Type 0
-HasLostPage header list = (n : ℕ) × LeavesOut header list n
+-- a page that is told is such a page
+abbrev pub IsLostAt : Header → List (List ℕ) → FaultPlace → Type 0
+IsLostAt header list place = (n : ℕ) × LeavesOut header list n × (place ≡ Page n)
 
--- some page has no mark
-abbrev pub HasUnmarked : List Bool → Type 0
-HasUnmarked marks = (n : ℕ) × (n < length marks) × (marked_in marks n ≡ false)
+-- the first page without a mark
+abbrev pub first_unmarked : List Bool → Option ℕ
+first_unmarked marks = position (λ is_marked. not is_marked) marks

@@ -5,6 +5,8 @@ use Rattle.std.specs.Option.{IfSome}
 use Rattle.std.specs.Io.KnownBytes.{Consumes, IsAtEnd}
 use Rattle.indexed_file.specs.File.{File}
 use Rattle.page_store.specs.DeviceFile.{page_of_bytes}
+use Rattle.page_marks.specs.declared.fault_place.FaultPlace.{FaultPlace}
+use Rattle.page_marks.specs.declared.fault_place.FaultPlace.TheVariants.{File as TheFile}
 use Rattle.file_header.specs.declared.header.Header.{Header}
 use Rattle.file_header.specs.Reading.{header_in, number_in}
 use Rattle.shelf_file.specs.ClosedFile.{IsAcceptedBy, StandsIn}
@@ -12,12 +14,15 @@ use Rattle.file_checker.specs.declared.verdict.Reason.{Reason}
 use Rattle.file_checker.specs.declared.verdict.Reason.TheVariants.{Short, Gate, Header as NoHeader}
 use Rattle.file_checker.specs.declared.verdict.Reason.TheVariants.{Shared, Node, Order, Heap, Index}
 use Rattle.file_checker.specs.declared.verdict.Reason.TheVariants.{Lost}
+use Rattle.file_checker.specs.declared.finding.Finding.{Finding}
+use Rattle.file_checker.specs.declared.finding.Finding.TheVariants.{Sound as FoundSound}
+use Rattle.file_checker.specs.declared.finding.Finding.TheVariants.{Unsound as FoundUnsound}
 use Rattle.file_checker.specs.declared.verdict.Verdict.{Verdict}
 use Rattle.file_checker.specs.declared.verdict.Verdict.TheVariants.{Sound, Unsound}
 use Rattle.file_checker.specs.declared.verdict.CheckFault.{CheckFault}
 use Rattle.file_checker.specs.declared.verdict.CheckFault.TheVariants.{Input, Memory}
 use Rattle.file_checker.specs.Bytes.{HasGiven, HasGivenLess, HasGivenPages, AreFirstPages}
-use Rattle.file_checker.specs.Lost.{HasLostPage}
+use Rattle.file_checker.specs.Later.{IsMetIn}
 
 -- a file of these bytes can be opened, and stands for so many records; its first page counts so many pages
 pub record IsSound (bytes : List ℕ) (records pages : ℕ) : Type 0 where
@@ -27,10 +32,6 @@ pub record IsSound (bytes : List ℕ) (records pages : ℕ) : Type 0 where
   pub file : File
   pub stands : StandsIn header bytes file
   pub records_are : length file.rows ≡ records
-
--- a file of these bytes can be opened
-abbrev pub IsAccepted : List ℕ → Type 0
-IsAccepted bytes = (header : Header) × IsAcceptedBy header bytes
 
 -- how many pages the first page counts, whether or not it is accepted
 abbrev pub counted_in : List ℕ → ℕ
@@ -51,19 +52,27 @@ pub record HasPages (bytes : List ℕ) (header : Header) (list : List (List ℕ)
 abbrev pub IsShown : List ℕ → (Header → List (List ℕ) → Type 0) → Type 0
 IsShown bytes P = (header : Header) × (list : List (List ℕ)) × HasPages bytes header list × P header list
 
--- What is known of the bytes by the reason that is told: the first three are those of a file that
--- cannot be opened, and tell why in this order.
-abbrev pub HasReason : List ℕ → Reason → Type 0
-HasReason bytes Short = (length bytes < 4096) ⊎ (length bytes < 4096 * counted_in bytes)
-HasReason bytes Gate = IsLong bytes × (slice_index bytes 0 ≢ 67)
-HasReason bytes NoHeader = IsLong bytes × (slice_index bytes 0 ≡ 67)
+-- there are fewer bytes than a page has, or than the page count needs
+abbrev pub IsShort : List ℕ → Type 0
+IsShort bytes = (length bytes < 4096) ⊎ (length bytes < 4096 * counted_in bytes)
+
+-- The reason holds of the bytes, at this place. The first three are those of a file that cannot be
+-- opened, tell why in this order, and are told of the file as a whole.
+abbrev pub HoldsAt : List ℕ → Reason → FaultPlace → Type 0
+HoldsAt bytes Short place = (place ≡ TheFile) × IsShort bytes
+HoldsAt bytes Gate place = (place ≡ TheFile) × IsLong bytes × (slice_index bytes 0 ≢ 67)
+HoldsAt bytes NoHeader place = (place ≡ TheFile) × IsLong bytes × (slice_index bytes 0 ≡ 67)
     × (header_in (page_of_bytes bytes 0) ≡ None)
-HasReason bytes Shared = IsAccepted bytes
-HasReason bytes Node = IsAccepted bytes
-HasReason bytes Order = IsAccepted bytes
-HasReason bytes Heap = IsAccepted bytes
-HasReason bytes Index = IsAccepted bytes
-HasReason bytes Lost = IsShown bytes HasLostPage
+HoldsAt bytes Shared place = IsShown bytes (λ header list. IsMetIn header list Shared place)
+HoldsAt bytes Node place = IsShown bytes (λ header list. IsMetIn header list Node place)
+HoldsAt bytes Order place = IsShown bytes (λ header list. IsMetIn header list Order place)
+HoldsAt bytes Heap place = IsShown bytes (λ header list. IsMetIn header list Heap place)
+HoldsAt bytes Index place = IsShown bytes (λ header list. IsMetIn header list Index place)
+HoldsAt bytes Lost place = IsShown bytes (λ header list. IsMetIn header list Lost place)
+
+-- it holds at some place
+abbrev pub HasReason : List ℕ → Reason → Type 0
+HasReason bytes reason = (place : FaultPlace) × HoldsAt bytes reason place
 
 -- the bytes are those of no sound file
 abbrev pub IsUnsound : List ℕ → Type 0
@@ -74,6 +83,15 @@ IsUnsound bytes = (records pages : ℕ) → IsSound bytes records pages → ⊥
 abbrev pub IsRight : List ℕ → Verdict → Type 0
 IsRight bytes (Sound records pages) = IsSound bytes records pages
 IsRight bytes (Unsound reason) = HasReason bytes reason × IsUnsound bytes
+
+-- bytes of no sound file, of which the reason holds at this place
+abbrev pub IsUnsoundAt : FaultPlace → List ℕ → Reason → Type 0
+IsUnsoundAt place bytes reason = HoldsAt bytes reason place × IsUnsound bytes
+
+-- a finding that is right: so, with the place of the reason
+abbrev pub IsRightFinding : List ℕ → Finding → Type 0
+IsRightFinding bytes (FoundSound records pages) = IsSound bytes records pages
+IsRightFinding bytes (FoundUnsound reason place) = IsUnsoundAt place bytes reason
 
 -- how many bytes are asked for: those of the first page, and of the others that it counts
 abbrev pub asked_in : List ℕ → ℕ
@@ -94,17 +112,16 @@ CheckGivesUp bytes after Memory = HasGivenPages (Some bytes) after (counted_in b
 
 -- What a call tells of a file whose bytes are known, where what it finds tells the verdict: it is
 -- right, and what was read is what it asks for; a fault tells where the reading ended.
-pub record Examines {X : Type 0} (verdict : X → Verdict) (before after : Option (List ℕ))
-    (result : Result X CheckFault) : Type 0 where
-  pub right : IfSome before (λ bytes. IfOk result (λ found. IsRight bytes (verdict found)))
+pub record Examines {X : Type 0} (Right : List ℕ → X → Type 0) (verdict : X → Verdict)
+    (before after : Option (List ℕ)) (result : Result X CheckFault) : Type 0 where
+  pub right : IfSome before (λ bytes. IfOk result (Right bytes))
   pub read : IfSome before (λ bytes. IfOk result (λ found. IsReadFor bytes after (verdict found)))
   pub fault : IfSome before (λ bytes. IfErr result (CheckGivesUp bytes after))
 
 -- the same where the first page was read already
-pub record ExaminesBehind {X : Type 0} (first : List ℕ) (verdict : X → Verdict)
-    (before after : Option (List ℕ)) (result : Result X CheckFault) : Type 0 where
-  pub right : (bytes : List ℕ) → Consumes (Some bytes) before first
-      → IfOk result (λ found. IsRight bytes (verdict found))
+pub record ExaminesBehind {X : Type 0} (first : List ℕ) (Right : List ℕ → X → Type 0)
+    (verdict : X → Verdict) (before after : Option (List ℕ)) (result : Result X CheckFault) : Type 0 where
+  pub right : (bytes : List ℕ) → Consumes (Some bytes) before first → IfOk result (Right bytes)
   pub read : (bytes : List ℕ) → Consumes (Some bytes) before first
       → IfOk result (λ found. IsReadFor bytes after (verdict found))
   pub fault : (bytes : List ℕ) → Consumes (Some bytes) before first → IfErr result (CheckGivesUp bytes after)
@@ -113,4 +130,4 @@ pub record ExaminesBehind {X : Type 0} (first : List ℕ) (verdict : X → Verdi
 abbrev pub RefusesBehind : (first : List ℕ) → (before after : Option (List ℕ)) → Result Reason CheckFault
     → Type 0
 RefusesBehind first before after result =
-    ExaminesBehind first (λ reason. Unsound reason) before after result
+    ExaminesBehind first (IsUnsoundAt TheFile) (λ reason. Unsound reason) before after result

@@ -4,7 +4,8 @@ ghost use Rattle.std.specs.Prelude.{◌≡◌, None};
 ghost use Rattle.file_header.specs.Reading.{header_in};
 ghost use Rattle.file_header.specs.FirstPage.{IsFirstPage};
 ghost use Rattle.file_checker.specs.Findings.{verdict_of};
-ghost use Rattle.file_checker.specs.Sound.{Examines, ExaminesBehind, RefusesBehind};
+ghost use Rattle.file_checker.specs.Sound.{Examines, ExaminesBehind, IsRight, IsRightFinding};
+ghost use Rattle.file_checker.specs.Sound.{RefusesBehind};
 
 use crate::finding::Finding;
 use crate::parts::check_pages;
@@ -49,7 +50,7 @@ fn examine_accepted<R: Read>(
     header: &Header,
 ) -> Result<Finding, CheckFault>
     requires { IsFirstPage header.now first.now }
-    ensures { ExaminesBehind first.now verdict_of
+    ensures { ExaminesBehind first.now IsRightFinding verdict_of
         (R.remaining reader.old) (R.remaining reader.new) result }
 {
     let mut pages = Vec::new(alloc);
@@ -67,10 +68,10 @@ fn examine_accepted<R: Read>(
     }
 }
 
-/// Examines a file: answers what `check_file` answers of it, and where a reason was met. It reads
-/// as `check_file` does, and has its faults.
+/// Examines a file: answers what `check_file` answers of it, and the place at which the reason that
+/// it tells holds. It reads as `check_file` does, and has its faults.
 pub fn examine_file<R: Read>(alloc: Global, reader: &mut R) -> Result<Finding, CheckFault>
-    ensures { Examines verdict_of (R.remaining reader.old) (R.remaining reader.new) result }
+    ensures { Examines IsRightFinding verdict_of (R.remaining reader.old) (R.remaining reader.new) result }
 {
     let mut first = [0; PAGE_SIZE];
     if !read_page(reader, &mut first)? {
@@ -88,7 +89,7 @@ pub fn examine_file<R: Read>(alloc: Global, reader: &mut R) -> Result<Finding, C
 ///
 /// Input where the reader fails, or is interrupted a thousand times in a row; Memory.
 pub fn check_file<R: Read>(alloc: Global, reader: &mut R) -> Result<Verdict, CheckFault>
-    ensures { Examines (λ verdict. verdict) (R.remaining reader.old) (R.remaining reader.new) result }
+    ensures { Examines IsRight (λ verdict. verdict) (R.remaining reader.old) (R.remaining reader.new) result }
 {
     let finding = examine_file(alloc, reader)?;
     Ok(finding.verdict())

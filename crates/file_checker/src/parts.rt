@@ -1,13 +1,13 @@
 //! The parts of a file whose pages were read into a list.
 
-ghost use Rattle.std.specs.Prelude.{◌≡◌, ℕ, ◌<◌, true, false, IfErr, OnOk, IsTrue, length};
-ghost use Rattle.page_marks.specs.Marks.{marked_in};
+ghost use Rattle.std.specs.Prelude.{◌≡◌, IfErr, OnOk, length};
 ghost use Rattle.page_walks.specs.Spots.{spots_in};
 ghost use Rattle.file_header.specs.Bounds.{IsHeader};
 ghost use Rattle.open_file.specs.Stands.{IsShaped};
 ghost use Rattle.file_checker.specs.Ahead.{AlternatesAhead, StopsRightly};
-ghost use Rattle.file_checker.specs.Later.{ChecksPages, StopsWalk};
-ghost use Rattle.file_checker.specs.Lost.{HasUnmarked};
+ghost use Rattle.file_checker.specs.Later.{ChecksPages, StopsWalk, TellsOfIndexes};
+ghost use Rattle.row_checks.specs.Ahead.{PrimesLead};
+ghost use Rattle.file_checker.specs.Lost.{first_unmarked};
 ghost use Rattle.file_checker.specs.Parts.{AllFound, AlternatesCount, MayCheckParts};
 
 use crate::stop::Stop;
@@ -37,6 +37,8 @@ fn check_alternates(
     ensures stop { IfErr result StopsWalk }
     ensures refused { IfErr result
         (StopsRightly (AlternatesAhead file.now pages.now primes.now 0 reached.old)) }
+    ensures told { IfErr result (λ stop. PrimesLead file.now pages.now primes.now
+        → TellsOfIndexes file.now pages.now primes.now reached.old stop) }
 {
     for &index in file.alternates() {
         let leaves = walk_tree(alloc, pages, &index.tree, reached)?;
@@ -45,20 +47,11 @@ fn check_alternates(
     Ok(())
 }
 
-/// Some page has no mark.
-fn is_page_lost(reached: &[bool]) -> bool
-    ensures lost { IsTrue result → HasUnmarked reached.now }
-    ensures none { result ≡ false → (n : ℕ) → n < length reached.now → marked_in reached.now n ≡ true }
+/// The first page without a mark, if there is one.
+fn first_lost(reached: &[bool]) -> Option<usize>
+    ensures { result ≡ first_unmarked reached.now }
 {
-    reached.contains(&false)
-}
-
-/// The first page without a mark, or the file where there is none.
-fn first_lost(reached: &[bool]) -> FaultPlace {
-    match reached.iter().position(|is_reached| !*is_reached) {
-        Some(n) => u32::try_from(n).map_or(FaultPlace::File, FaultPlace::Page),
-        None => FaultPlace::File,
-    }
+    reached.iter().position(|is_reached| !*is_reached)
 }
 
 /// Checks the pages of a file, all that its header counts, where none is marked yet. Each part is
@@ -79,10 +72,10 @@ fn check_parts(
     let primes = walk_tree(alloc, pages, &file.prime().tree, reached)?;
     check_rows(alloc, pages, &file, &own, &primes)?;
     check_alternates(alloc, pages, &file, &primes, reached)?;
-    if is_page_lost(reached) {
-        return Err(Stop::Unsound(Reason::Lost, first_lost(reached)));
+    match first_lost(reached) {
+        Some(n) => Err(Stop::Unsound(Reason::Lost, FaultPlace::Page(n as u32))),
+        None => Ok(()),
     }
-    Ok(())
 }
 
 /// Checks the pages of a file, all that its header counts.

@@ -54,7 +54,7 @@ returns-in-Err-Unsound g c =
           let all = c.in_ok-read_pages.ensures.read c.if-not-branch.false (Some bytes) (subst (AreRead (Some bytes) (g.R.Read.remaining c.args.reader.now)) (sym items) alone) in
           let page = first_is bytes c.args.first.now (g.R.Read.remaining c.args.reader.now) came c.told-first in
           let pages = first_pages bytes (g.R.Read.remaining c.read_pages.new.reader) c.read_pages.new.pages.items all in (
-            shown bytes c.args.header.now c.deref.result.now c.in-Err-Unsound.reason
+            shown bytes c.args.header.now c.deref.result.now c.in-Err-Unsound.reason c.in-Err-Unsound.place
                 (subst (HasPages bytes c.args.header.now) (sym c.deref.ensures.value)
                 (all_pages bytes c.args.first.now c.args.header.now page c.requires c.read_pages.new.pages.items pages many)) met,
             unsound_by_pages bytes c.args.first.now c.args.header.now page c.requires c.read_pages.new.pages.items pages many
@@ -66,7 +66,7 @@ returns-in-Err-Unsound g c =
           record {
             whole = λ other. pages_read bytes c.args.first.now c.args.header.now (first_is bytes c.args.first.now (g.R.Read.remaining c.args.reader.now) came c.told-first) c.requires
                 (g.R.Read.remaining c.read_pages.new.reader) c.read_pages.new.pages.items all many;
-            short = λ is. absurd (not_short c.args.header.now c.deref.result.now c.in-Err-Unsound.reason met is);
+            short = λ is. absurd (not_short c.args.header.now c.deref.result.now c.in-Err-Unsound.reason c.in-Err-Unsound.place met is);
           };
       fault = λ bytes came. tt;
     }

@@ -20,6 +20,7 @@ returns-then-first-ne-CLOSED g c =
     record {
       right = λ bytes came. (
         (
+          refl,
           is_long bytes c.args.first.now (g.R.Read.remaining c.args.reader.now) (g.R.Read.remaining c.skip_pages.new.reader) c.read_u32-pages.result came c.told-first c.read_u32-pages.ensures given,
           (λ closed. c.if-first-ne-CLOSED.true (sym (first_byte bytes c.args.first.now (g.R.Read.remaining c.args.reader.now) came c.told-first) ∙ closed)),
         ),
@@ -38,6 +39,7 @@ returns g c =
     record {
       right = λ bytes came. (
         (
+          refl,
           is_long bytes c.args.first.now (g.R.Read.remaining c.args.reader.now) (g.R.Read.remaining c.skip_pages.new.reader) c.read_u32-pages.result came c.told-first c.read_u32-pages.ensures given,
           first_byte bytes c.args.first.now (g.R.Read.remaining c.args.reader.now) came c.told-first ∙ c.if-first-ne-CLOSED.false,
           ap header_in (first_is bytes c.args.first.now (g.R.Read.remaining c.args.reader.now) came c.told-first) ∙ c.requires,

@@ -1,4 +1,18 @@
-use Rattle.std.proofs.Common.{◌≡◌, ℕ, ◌<◌, true, List, length, refl, sym, ap, subst, ◌∙◌, arith}
+use Rattle.std.proofs.Common.{◌≡◌, ℕ, ◌<◌, true, List, length, inl, inr, refl, sym, ap, subst, ◌∙◌, arith}
+use Rattle.page_bytes.specs.Each.{Each}
+use Rattle.page_marks.specs.declared.fault_place.FaultPlace.TheVariants.{Page}
+use Rattle.page_marks.specs.Marks.{IsUnmarked}
+use Rattle.page_marks.proofs.ToldLemmas.{never_free}
+use Rattle.page_walks.specs.FreeWalk.{IsFreeFault}
+use Rattle.page_walks.specs.TreeFaults.{IsTreeFault}
+use Rattle.page_walks.specs.TreeWalk.{TreeWalked}
+use Rattle.record_heap.specs.Faults.{IsHeapFault}
+use Rattle.record_heap.specs.Standing.{HeapStands}
+use Rattle.row_checks.specs.Ahead.{PrimesLead}
+use Rattle.row_checks.specs.Faults.{IsRowFault, TellsOfRows}
+use Rattle.row_checks.specs.Search.{IsPrimeLeaf}
+use Rattle.file_checker.specs.Later.{TellsOfIndexes}
+use Rattle.file_checker.proofs.FaultLemmas.{all_are_marked, before_alternates, before_free, before_heap, before_prime, is_unmarked, tells_indexes, tells_rows, tells_walk}
 use Rattle.page_marks.specs.Marks.{marked_in}
 use Rattle.page_marks.specs.PageList.{pages_in}
 use Rattle.page_walks.specs.declared.leaf.Leaf.{Leaf}
@@ -55,7 +69,7 @@ returns c =
       alternates = alternates;
     } in
     let all : (n : ℕ) → n < length list → marked_in c.check_alternates.new.reached n ≡ true = λ n within.
-    c.is_page_lost.ensures.none c.if-is_page_lost.false n (let a = c.mark.auto.reached in let b = c.walk_free.auto.reached in let d = c.walk_heap.auto.reached in let e = c.walk_tree.auto.reached in
+    all_are_marked c.check_alternates.new.reached (sym c.first_lost.ensures ∙ c.in-None.is) n (let a = c.mark.auto.reached in let b = c.walk_free.auto.reached in let d = c.walk_heap.auto.reached in let e = c.walk_tree.auto.reached in
     let f = c.check_alternates.auto.reached in let many = c.requires.many in omega arith) in
     record {
       stand = pages_stand c.args.header.now list file c.in_ok-own.own.items (spots_in c.in_ok-primes.primes.items) (marked_in c.args.reached.now) (marked_in c.mark.new.reached) (marked_in c.walk_free.new.reached)
@@ -70,6 +84,7 @@ returns-in_err-mark c =
     let counted = c.requires.counted in
     let some = c.requires.header.within.counted in
     checks_by_walk c.args.header.now c.args.pages.now _ c.from_residual.result _ c.from_residual.ensures.1 (λ p. (omega (arith, many, counted, some), c.requires.clear 0)) c.in_err-mark.ensures.refused
+    (absurd (never_free (IsUnmarked c.args.reached.now 0) _ _ c.in_err-mark.ensures.told c.in_err-mark.ensures.refused (omega (arith, many, counted, some), c.requires.clear 0)))
 
 pub returns-in_err-walk_free : goal.returns-in_err-walk_free
 returns-in_err-walk_free c =
@@ -80,6 +95,15 @@ returns-in_err-walk_free c =
     let zero_long : length c.mark.new.reached ≡ length list = (let a = c.mark.auto.reached in omega (arith, a, many)) in
     checks_by_walk header list _ c.from_residual-in_err-walk_free.result _ c.from_residual-in_err-walk_free.ensures.1
     (λ p. free_ahead header list (marked_in c.args.reached.now) c.requires.clear c.mark.new.reached zero_long c.in_ok-mark.ensures.marked p.sound) c.in_err-walk_free.ensures.refused
+    (tells_walk header list (IsFreeFault list header.first_free header.free c.mark.new.reached) _ (λ what place h. record {
+      opened = file;
+      by_header = c.from_header-file.ensures;
+      wrong = inl (record {
+        marks = c.mark.new.reached;
+        are = record { many = zero_long; each = before_free header list (marked_in c.args.reached.now) c.requires.clear c.mark.new.reached c.in_ok-mark.ensures.marked };
+        wrong = h;
+      });
+    }) c.in_err-walk_free.ensures.told)
 
 pub returns-in_err-own : goal.returns-in_err-own
 returns-in_err-own c =
@@ -91,6 +115,15 @@ returns-in_err-own c =
     let start_long : length c.walk_free.new.reached ≡ length list = (let b = c.walk_free.auto.reached in omega (arith, b, zero_long)) in
     checks_by_walk header list _ c.from_residual-in_err-own.result _ c.from_residual-in_err-own.ensures.1
     (λ p. heap_ahead header list (marked_in c.args.reached.now) c.requires.clear c.mark.new.reached zero_long c.in_ok-mark.ensures.marked c.walk_free.new.reached start_long c.in_ok-walk_free.ensures.walked c.requires.header c.requires.counted file c.from_header-file.ensures p) (rw c.heap.ensures at c.in_err-own.ensures.refused)
+    (tells_walk header list (IsHeapFault (heap_of file) list c.walk_free.new.reached) _ (λ what place h. record {
+      opened = file;
+      by_header = c.from_header-file.ensures;
+      wrong = inr (inl (record {
+        marks = c.walk_free.new.reached;
+        are = record { many = start_long; each = before_heap header list (marked_in c.args.reached.now) c.requires.clear c.mark.new.reached c.in_ok-mark.ensures.marked c.walk_free.new.reached c.in_ok-walk_free.ensures.walked };
+        wrong = h;
+      }));
+    }) (rw c.heap.ensures at c.in_err-own.ensures.told))
 
 pub returns-in_err-primes : goal.returns-in_err-primes
 returns-in_err-primes c =
@@ -105,6 +138,19 @@ returns-in_err-primes c =
     (λ p. prime_ahead header list (marked_in c.args.reached.now) c.requires.clear c.mark.new.reached zero_long c.in_ok-mark.ensures.marked c.walk_free.new.reached start_long c.in_ok-walk_free.ensures.walked c.requires.header c.requires.counted file c.from_header-file.ensures p c.walk_heap.new.reached heap_long c.in_ok-own.own.items
     (slots_of (slot_shape (heap_of file)) (pages_in list) c.in_ok-own.own.items) (rw c.heap.ensures at c.in_ok-own.ensures.walked.stands) c.in_ok-own.ensures.walked.marks)
     (rw c.prime.ensures at c.in_err-primes.ensures.refused)
+    (tells_walk header list (IsTreeFault (prime_index_of file).tree list c.walk_heap.new.reached) _ (λ what place h. record {
+      opened = file;
+      by_header = c.from_header-file.ensures;
+      wrong = inr (inr (inl (record {
+        marks = c.walk_heap.new.reached;
+        are = record {
+          many = heap_long ∙ start_long;
+          each = before_prime header list (marked_in c.args.reached.now) c.requires.clear c.mark.new.reached c.in_ok-mark.ensures.marked c.walk_free.new.reached c.in_ok-walk_free.ensures.walked file c.walk_heap.new.reached c.in_ok-own.own.items
+              (rw c.heap.ensures at c.in_ok-own.ensures.walked.stands).chain c.in_ok-own.ensures.walked.marks;
+        };
+        wrong = h;
+      })));
+    }) (rw c.prime.ensures at c.in_err-primes.ensures.told))
 
 pub returns-in_err-check_rows : goal.returns-in_err-check_rows
 returns-in_err-check_rows c =
@@ -122,6 +168,21 @@ returns-in_err-check_rows c =
     (rows_ahead header list (marked_in c.args.reached.now) c.requires.clear c.mark.new.reached zero_long c.in_ok-mark.ensures.marked c.walk_free.new.reached start_long c.in_ok-walk_free.ensures.walked c.requires.header c.requires.counted file c.from_header-file.ensures p c.walk_heap.new.reached heap_long c.in_ok-own.own.items
     (slots_of (slot_shape (heap_of file)) (pages_in list) c.in_ok-own.own.items) (rw c.heap.ensures at c.in_ok-own.ensures.walked.stands) c.in_ok-own.ensures.walked.marks c.walk_tree.new.reached prime_long c.in_ok-primes.primes.items (rw c.prime.ensures at c.in_ok-primes.ensures.walked)
     refl (rw c.prime.ensures at c.in_ok-primes.ensures.there)))) c.in_err-check_rows.ensures.refused
+    (let heap : HeapStands (heap_of file) (pages_in list) (slots_of (slot_shape (heap_of file)) (pages_in list) c.in_ok-own.own.items) c.in_ok-own.own.items = rw c.heap.ensures at c.in_ok-own.ensures.walked.stands in
+    let walked : TreeWalked (prime_index_of file).tree list (marked_in c.walk_heap.new.reached) (marked_in c.walk_tree.new.reached) (spots_in c.in_ok-primes.primes.items) = rw c.prime.ensures at c.in_ok-primes.ensures.walked in
+    let there : Each (IsPrimeLeaf file list) c.in_ok-primes.primes.items = rw c.prime.ensures at c.in_ok-primes.ensures.there in
+    tells_rows header list (IsRowFault file list c.in_ok-own.own.items c.in_ok-primes.primes.items) _ (λ place h. record {
+      opened = file;
+      by_header = c.from_header-file.ensures;
+      wrong = inl (record {
+        own = c.in_ok-own.own.items;
+        chain_is = heap.chain;
+        primes = c.in_ok-primes.primes.items;
+        are = record { own = walked.own; stands = walked.stands; there = there };
+        wrong = h;
+      });
+    }) (subst (λ (own : List ℕ). TellsOfRows (IsRowFault file list own c.in_ok-primes.primes.items) c.in_err-check_rows.field-0.0) c.deref.ensures.value
+    (subst (λ (primes : List Leaf). Each (IsPrimeLeaf file list) primes → TellsOfRows (IsRowFault file list c.deref.result.now primes) c.in_err-check_rows.field-0.0) c.deref-2.ensures.value c.in_err-check_rows.ensures.told there)))
 
 pub returns-in_err-check_alternates : goal.returns-in_err-check_alternates
 returns-in_err-check_alternates c =
@@ -134,7 +195,18 @@ returns-in_err-check_alternates c =
     let heap_long : length c.walk_heap.new.reached ≡ length c.walk_free.new.reached = (let d = c.walk_heap.auto.reached in omega (arith, d)) in
     let prime_long : length c.walk_tree.new.reached ≡ length c.walk_heap.new.reached = (let d = c.walk_tree.auto.reached in omega (arith, d)) in
     let rise = prime_rise file list (marked_in c.walk_heap.new.reached) (marked_in c.walk_tree.new.reached) (spots_in c.in_ok-primes.primes.items) (rw c.prime.ensures at c.in_ok-primes.ensures.walked) in
-    checks_stopped header list _ c.from_residual-in_err-check_alternates.result _ c.from_residual-in_err-check_alternates.ensures.1 c.in_err-check_alternates.ensures.stop
+    checks_stopped header list _ c.from_residual-in_err-check_alternates.result _ c.from_residual-in_err-check_alternates.ensures.1
+    (let heap : HeapStands (heap_of file) (pages_in list) (slots_of (slot_shape (heap_of file)) (pages_in list) c.in_ok-own.own.items) c.in_ok-own.own.items = rw c.heap.ensures at c.in_ok-own.ensures.walked.stands in
+    let walked : TreeWalked (prime_index_of file).tree list (marked_in c.walk_heap.new.reached) (marked_in c.walk_tree.new.reached) (spots_in c.in_ok-primes.primes.items) = rw c.prime.ensures at c.in_ok-primes.ensures.walked in
+    let there : Each (IsPrimeLeaf file list) c.in_ok-primes.primes.items = rw c.prime.ensures at c.in_ok-primes.ensures.there in
+    let stand : RowsStand file list c.in_ok-own.own.items (spots_in c.in_ok-primes.primes.items) =
+    subst (λ (own : List ℕ). RowsStand file list own (spots_in c.in_ok-primes.primes.items)) c.deref.ensures.value
+    (subst (λ (primes : List Leaf). RowsStand file list c.deref.result.now (spots_in primes)) c.deref-2.ensures.value c.in_ok-check_rows.ensures.stand) in
+    tells_indexes header list file c.from_header-file.ensures c.in_ok-primes.primes.items (record { own = walked.own; stands = walked.stands; there = there }) c.walk_tree.new.reached (prime_long ∙ heap_long ∙ start_long)
+    (before_alternates header list (marked_in c.args.reached.now) c.requires.clear c.mark.new.reached c.in_ok-mark.ensures.marked c.walk_free.new.reached c.in_ok-walk_free.ensures.walked file c.walk_heap.new.reached c.in_ok-own.own.items
+    heap.chain c.in_ok-own.ensures.walked.marks c.walk_tree.new.reached prime_long (rw c.prime.ensures at c.in_ok-primes.ensures.marks)) _
+    (subst (λ (primes : List Leaf). PrimesLead file list primes → TellsOfIndexes file list primes c.walk_tree.new.reached c.in_err-check_alternates.field-0.0) c.deref-3.ensures.value c.in_err-check_alternates.ensures.told
+    (primes_lead file list c.in_ok-own.own.items c.in_ok-primes.primes.items rise (record { there = there; stand = stand }))))
     (λ p. subst (λ (primes : List Leaf). AlternatesAhead file list primes 0 c.walk_tree.new.reached) (sym c.deref-3.ensures.value)
     (alternates_ahead header list (marked_in c.args.reached.now) c.requires.clear c.mark.new.reached zero_long c.in_ok-mark.ensures.marked c.walk_free.new.reached start_long c.in_ok-walk_free.ensures.walked c.requires.header c.requires.counted file c.from_header-file.ensures p c.walk_heap.new.reached heap_long c.in_ok-own.own.items
     (slots_of (slot_shape (heap_of file)) (pages_in list) c.in_ok-own.own.items) (rw c.heap.ensures at c.in_ok-own.ensures.walked.stands) c.in_ok-own.ensures.walked.marks c.walk_tree.new.reached prime_long c.in_ok-primes.primes.items (rw c.prime.ensures at c.in_ok-primes.ensures.walked)
@@ -143,8 +215,8 @@ returns-in_err-check_alternates c =
     (slots_of (slot_shape (heap_of file)) (pages_in list) c.in_ok-own.own.items) (rw c.heap.ensures at c.in_ok-own.ensures.walked.stands) c.in_ok-own.ensures.walked.marks c.walk_tree.new.reached prime_long c.in_ok-primes.primes.items (rw c.prime.ensures at c.in_ok-primes.ensures.walked)
     refl (rw c.prime.ensures at c.in_ok-primes.ensures.there))))) c.in_err-check_alternates.ensures.refused
 
-pub returns-then-is_page_lost : goal.returns-then-is_page_lost
-returns-then-is_page_lost c =
+pub returns-in-Some : goal.returns-in-Some
+returns-in-Some c =
     let file = c.from_header-file.result in
     let list = c.args.pages.now in
     let rows : RowsStand file list c.in_ok-own.own.items (spots_in c.in_ok-primes.primes.items) =
@@ -170,17 +242,19 @@ returns-then-is_page_lost c =
     let start_long : length c.walk_free.new.reached ≡ length list = (let b = c.walk_free.auto.reached in omega (arith, b, zero_long)) in
     let heap_long : length c.walk_heap.new.reached ≡ length c.walk_free.new.reached = (let d = c.walk_heap.auto.reached in omega (arith, d)) in
     let prime_long : length c.walk_tree.new.reached ≡ length c.walk_heap.new.reached = (let d = c.walk_tree.auto.reached in omega (arith, d)) in
-    let lost = c.is_page_lost.ensures.lost c.if-is_page_lost.true in
-    let within : lost.0 < length list = (let some = lost.1 in let a = c.mark.auto.reached in let b = c.walk_free.auto.reached in let d = c.walk_heap.auto.reached in let e = c.walk_tree.auto.reached in
+    let n = c.in-Some.n in
+    let lost = is_unmarked c.check_alternates.new.reached n (sym c.first_lost.ensures ∙ c.in-Some.is) in
+    let within : n < length list = (let some = lost.0 in let a = c.mark.auto.reached in let b = c.walk_free.auto.reached in let d = c.walk_heap.auto.reached in let e = c.walk_tree.auto.reached in
     let f = c.check_alternates.auto.reached in let many = c.requires.many in omega arith) in
     record {
       stand = tt;
       stop = (
-        lost.0,
+        n,
         leaves_out c.args.header.now list file c.in_ok-own.own.items (spots_in c.in_ok-primes.primes.items) (marked_in c.args.reached.now) (marked_in c.mark.new.reached) (marked_in c.walk_free.new.reached)
-            (marked_in c.walk_heap.new.reached) (marked_in c.walk_tree.new.reached) (marked_in c.check_alternates.new.reached) c.requires.header c.from_header-file.ensures found lost.0 within lost.2,
+            (marked_in c.walk_heap.new.reached) (marked_in c.walk_tree.new.reached) (marked_in c.check_alternates.new.reached) c.requires.header c.from_header-file.ensures found n within lost.1,
+        ap Page (let low = c.requires.header.room.pages in let counted = c.requires.counted in omega arith),
       );
       refused = λ p. none_lost c.args.header.now list (marked_in c.args.reached.now) c.requires.clear c.mark.new.reached zero_long c.in_ok-mark.ensures.marked c.walk_free.new.reached start_long c.in_ok-walk_free.ensures.walked c.requires.header c.requires.counted file c.from_header-file.ensures p c.walk_heap.new.reached heap_long c.in_ok-own.own.items
           (slots_of (slot_shape (heap_of file)) (pages_in list) c.in_ok-own.own.items) (rw c.heap.ensures at c.in_ok-own.ensures.walked.stands) c.in_ok-own.ensures.walked.marks c.walk_tree.new.reached prime_long c.in_ok-primes.primes.items (rw c.prime.ensures at c.in_ok-primes.ensures.walked) c.check_alternates.new.reached
-          alternates lost.0 within lost.2;
+          alternates n within lost.1;
     }
