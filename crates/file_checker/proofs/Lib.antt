@@ -7,3 +7,4 @@ pub mod AheadLemmas
 pub mod AlternatesAheadLemmas
 pub mod SoundLemmas
 pub mod ToldLemmas
+pub mod HeldLemmas

@@ -1,5 +1,5 @@
 -- The pages of a file that were read into a list, one after another.
-use Rattle.std.specs.Prelude.{◌≡◌, ℕ, ◌<◌, ◌≤◌, ◌*◌, Bool, true, false, List, [], Option, Result}
+use Rattle.std.specs.Prelude.{◌≡◌, ℕ, ◌<◌, ◌≤◌, ◌+◌, ◌*◌, Bool, true, false, List, [], Option, Result}
 use Rattle.std.specs.Prelude.{IfOk, IfErr, length, take, flat_map, slice_index_or}
 use Rattle.std.specs.Option.{IfSome}
 use Rattle.std.specs.Io.KnownBytes.{Consumes, IsAtEnd, Keeps}
@@ -109,3 +109,13 @@ BreaksOffAt count before after old result =
 pub record AreFirstPages (bytes : List ℕ) (list : List (List ℕ)) : Type 0 where
   pub enough : 4096 * length list ≤ length bytes
   pub each : (n : ℕ) → n < length list → page_of_bytes bytes n ≡ slice_index_or list n []
+
+-- these are all whole pages of a file
+pub record AreAllPages (bytes : List ℕ) (list : List (List ℕ)) : Type 0 where
+  pub first : AreFirstPages bytes list
+  pub all : length bytes < 4096 + 4096 * length list
+
+-- these are so many of the first pages of a list
+pub record AreFrontOf (list : List (List ℕ)) (count : ℕ) (front : List (List ℕ)) : Type 0 where
+  pub front_is : front ≡ take count list
+  pub enough : count ≤ length list

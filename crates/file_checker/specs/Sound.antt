@@ -93,6 +93,11 @@ abbrev pub IsRightFinding : List ℕ → Finding → Type 0
 IsRightFinding bytes (FoundSound records pages) = IsSound bytes records pages
 IsRightFinding bytes (FoundUnsound reason place) = IsUnsoundAt place bytes reason
 
+-- the finding is right of each file with this header that has these pages
+abbrev pub IsRightOfPages : Header → List (List ℕ) → Finding → Type 0
+IsRightOfPages header list finding =
+    (bytes : List ℕ) → HasPages bytes header list → IsRightFinding bytes finding
+
 -- how many bytes are asked for: those of the first page, and of the others that it counts
 abbrev pub asked_in : List ℕ → ℕ
 asked_in bytes = 4096 + 4096 * (counted_in bytes - 1)

@@ -18,7 +18,6 @@ fn fault_of(fault: StatisticsFault) -> Fault
     ensures { status_of result ≡ 4 }
 {
     match fault {
-        StatisticsFault::Input => Fault::Input,
         StatisticsFault::Output => Fault::Output,
         StatisticsFault::Memory => Fault::Memory,
     }

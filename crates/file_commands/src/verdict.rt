@@ -12,7 +12,7 @@ ghost use Rattle.file_commands.specs.Verdicts.{WritesFound};
 use crate::file_bytes::{fault_of, read_counted};
 use crate::verdict_lines::{named_line, unread_line, verdict_line};
 use command_outcomes::{Fault, Outcome, WorstCheck};
-use file_checker::{Verdict, check_file};
+use file_checker::{Verdict, check_bytes};
 use progress::Progress;
 use recorded_system::System;
 use std::alloc::Global;
@@ -49,9 +49,7 @@ fn check(alloc: Global, bytes: &[u8]) -> Result<Verdict, NoVerdict>
     ensures right { IfOk result (IsRight bytes.now) }
     ensures memory { IfErr result (λ why. why ≡ NoVerdict.Memory) }
 {
-    let mut reader = bytes;
-    // Bytes that are there always come: what may lack is memory.
-    match check_file(alloc, &mut reader) {
+    match check_bytes(alloc, bytes) {
         Ok(verdict) => Ok(verdict),
         Err(_) => Err(NoVerdict::Memory),
     }

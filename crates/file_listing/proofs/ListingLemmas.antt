@@ -13,7 +13,6 @@ use Rattle.file_checker.specs.Sound.{IsSound, IsRight}
 use Rattle.file_checker.specs.declared.verdict.Reason.{Reason}
 use Rattle.file_checker.specs.declared.verdict.Verdict.{Verdict}
 use Rattle.file_checker.specs.declared.verdict.Verdict.TheVariants.{Unsound}
-use Rattle.file_checker.specs.declared.verdict.CheckFault.{CheckFault}
 use Rattle.record_forms.specs.declared.form.Form.{Form}
 use Rattle.record_listing.specs.declared.asked.Asked.{Asked}
 use Rattle.record_listing.specs.declared.end.ListEnd.{ListEnd}
@@ -71,7 +70,7 @@ meant form shelf held name bytes records pages sound none empty same unnamed ask
     (subst (λ (n : Named). EndsNamed form asked n before behind result) stands_for (ends shown))
 
 -- a check that tells this reason is right of the bytes
-pub refused : (bytes : List ℕ) (reason : Reason) (verdict : Verdict) (result : Result Verdict CheckFault)
+pub refused : {E : Type 0} (bytes : List ℕ) (reason : Reason) (verdict : Verdict) (result : Result Verdict E)
     → IfOk result (IsRight bytes) → result ≡ Ok verdict → verdict ≡ Unsound reason
     → IsRight bytes (Unsound reason)
 refused bytes reason verdict result right is told =

@@ -4,7 +4,7 @@ ghost use Rattle.file_checker.specs.Sound.{IsSound};
 ghost use Rattle.file_listing.specs.Listing.{EndsFileList, EndsIn};
 
 use crate::file_bytes::FileBytes;
-use file_checker::{CheckFault, Reason, Verdict, check_file};
+use file_checker::{Reason, Verdict, check_bytes};
 use io_state::FileName;
 use record_forms::Form;
 use record_listing::{Asked, ListEnd, ListFault, list_records};
@@ -56,7 +56,7 @@ fn list_sound<W: Write>(
 /// once a check has found them sound.
 ///
 /// `Output`: the writer refused a line; a front of the list may have been written. `Memory`: the
-/// same, or nothing was written. `Input` never comes of bytes that are there.
+/// same, or nothing was written. `Input` never comes: the bytes are there.
 pub fn list_file_as<W: Write>(
     alloc: Global,
     bytes: Vec<u8>,
@@ -66,11 +66,10 @@ pub fn list_file_as<W: Write>(
 ) -> Result<FileList, ListFault>
     ensures ends { EndsIn form.now bytes.items asked (W.contents out.old) (W.contents out.new) result }
 {
-    match check_file(alloc, &mut bytes.as_slice()) {
+    match check_bytes(alloc, bytes.as_slice()) {
         Ok(Verdict::Sound { .. }) => list_sound(alloc, bytes, asked, form, out),
         Ok(Verdict::Unsound(reason)) => Ok(FileList::Unsound(reason)),
-        Err(CheckFault::Input) => Err(ListFault::Input),
-        Err(CheckFault::Memory) => Err(ListFault::Memory),
+        Err(_) => Err(ListFault::Memory),
     }
 }
 

@@ -5,8 +5,7 @@ use Rattle.record_layout.specs.Schema.{Schema}
 use Rattle.indexed_file.specs.File.{File}
 use Rattle.page_store.specs.DeviceFile.{page_of_bytes}
 use Rattle.shelf_file.specs.ClosedFile.{AreClosed}
-use Rattle.file_checker.specs.Sound.{IsSound, IsRight}
-use Rattle.file_checker.specs.declared.verdict.Verdict.TheVariants.{Unsound as IsRefused}
+use Rattle.file_checker.specs.Sound.{IsSound, IsUnsoundAt}
 use Rattle.file_statistics.specs.declared.statistics.FileStatistics.{FileStatistics}
 use Rattle.file_statistics.specs.declared.listing.FileStatisticsEnd.{FileStatisticsEnd}
 use Rattle.file_statistics.specs.declared.listing.FileStatisticsEnd.TheVariants.{Listed, Unsound}
@@ -30,8 +29,8 @@ WritesText bytes before behind = (text : List ℕ) × IsTextFor bytes text × Ap
 abbrev pub AreSound : List ℕ → Type 0
 AreSound bytes = (records : ℕ) × (pages : ℕ) × IsSound bytes records pages
 
--- It ends so: the text of a sound file was written; or nothing was, since a check tells this reason.
+-- It ends so: the text of a sound file was written; or nothing was, since this reason holds, there.
 abbrev pub EndsStatisticsWith : List ℕ → (before behind : Option (List ℕ)) → FileStatisticsEnd → Type 0
 EndsStatisticsWith bytes before behind Listed = WritesText bytes before behind
-EndsStatisticsWith bytes before behind (Unsound reason place) = IsRight bytes (IsRefused reason)
+EndsStatisticsWith bytes before behind (Unsound reason place) = IsUnsoundAt place bytes reason
     × (behind ≡ before)

@@ -4,7 +4,7 @@ ghost use Rattle.file_statistics.specs.Listing.{AreSound, IsTextFor, WritesText,
 
 use crate::counting::count_file;
 use crate::lines::statistics_lines;
-use file_checker::{CheckFault, Finding, Reason, examine_file};
+use file_checker::{Finding, Reason, examine_bytes};
 use file_header::Header;
 use page_bytes::PAGE_SIZE;
 use page_marks::FaultPlace;
@@ -24,8 +24,6 @@ pub enum FileStatisticsEnd {
 /// Why nothing is told of a file, or not all.
 #[derive(Clone, Copy, Debug, PartialEq, Eq, Error)]
 pub enum StatisticsFault {
-    #[error("the file cannot be read")]
-    Input,
     #[error("the lines cannot be written")]
     Output,
     #[error("out of memory")]
@@ -67,7 +65,7 @@ fn write_lines<W: Write>(alloc: Global, bytes: &[u8], out: &mut W) -> Result<(),
 /// pages by their kinds, its slots, and the levels of its trees.
 ///
 /// `Output`: the writer refused the lines; a part of them may have been written. `Memory`: nothing
-/// was written. `Input` never comes of bytes that are there.
+/// was written.
 pub fn list_statistics<W: Write>(
     alloc: Global,
     bytes: &[u8],
@@ -77,14 +75,12 @@ pub fn list_statistics<W: Write>(
     ensures fault { IfErr result (λ fault. fault ≢ StatisticsFault.Output
         → W.contents out.new ≡ W.contents out.old) }
 {
-    let mut reader = bytes;
-    match examine_file(alloc, &mut reader) {
+    match examine_bytes(alloc, bytes) {
         Ok(Finding::Sound { .. }) => {
             write_lines(alloc, bytes, out)?;
             Ok(FileStatisticsEnd::Listed)
         }
         Ok(Finding::Unsound(reason, place)) => Ok(FileStatisticsEnd::Unsound(reason, place)),
-        Err(CheckFault::Input) => Err(StatisticsFault::Input),
-        Err(CheckFault::Memory) => Err(StatisticsFault::Memory),
+        Err(_) => Err(StatisticsFault::Memory),
     }
 }

@@ -7,8 +7,8 @@ pub returns-in-Ok-Unsound : goal.returns-in-Ok-Unsound
 returns-in-Ok-Unsound g c =
     record {
       ends = (
-        refused c.args.bytes.items c.in-Ok-Unsound.reason c.in-Ok-Unsound.field-0 c.check_file.result
-            (subst (λ (bytes : List ℕ). IfOk c.check_file.result (IsRight bytes)) c.as_slice.ensures.value c.check_file.ensures.right)
+        refused c.args.bytes.items c.in-Ok-Unsound.reason c.in-Ok-Unsound.field-0 c.check_bytes.result
+            (subst (λ (bytes : List ℕ). IfOk c.check_bytes.result (IsRight bytes)) c.as_slice.ensures.value c.check_bytes.ensures)
             c.in-Ok-Unsound.is c.in-Ok-Unsound.field-0-is,
         refl,
       );
