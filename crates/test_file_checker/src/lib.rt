@@ -19,6 +19,8 @@ mod drawn_files;
 #[cfg(test)]
 mod files;
 #[cfg(test)]
+mod held;
+#[cfg(test)]
 mod made;
 #[cfg(test)]
 mod readers;
