@@ -7,7 +7,8 @@ use Rattle.io_state.specs.declared.fault.Fault.TheVariants.{Memory}
 use Rattle.indexed_file.specs.World.{World, FileUnit, Shut, named_in}
 use Rattle.indexed_file.specs.Shown.{Shown}
 use Rattle.indexed_file.specs.Images.{AllStay}
-use Rattle.indexed_file.specs.Calls.{Keeps, SamePages}
+use Rattle.indexed_file.specs.Calls.{Keeps}
+use Rattle.indexed_file.specs.Others.{SameUnit}
 
 -- a unit of the world has the name
 abbrev pub has_unit_named : World → List ℕ → Bool
@@ -23,12 +24,6 @@ shut_unit world name = record { name = name; named = named_in world name; holdin
 -- the units, and one of this name behind them
 abbrev pub with_added_unit : World → List ℕ → List FileUnit
 with_added_unit world name = world.units ++ shut_unit world name ∷ []
-
--- the pages of a unit's file, its room and its frames stay, and so does the count of the pages asked
-pub record SameUnit {S : Type 0} (shown : Shown S) (u : ℕ) (old new : S) : Type 0 where
-  pub pages : SamePages shown u old new
-  pub frames : shown.unit_frames new u ≡ shown.unit_frames old u
-  pub asked : shown.pages_asked new u ≡ shown.pages_asked old u
 
 -- a unit of this name was added, unless memory was lacking. Every other unit stays, open or not,
 -- every name stands for what it stood for, and so it is with all images

@@ -3,7 +3,7 @@ use Rattle.std.specs.Prelude.{◌≡◌, ◌≢◌, ℕ, ◌≤◌, ◌⊎◌, L
 use Rattle.std.specs.Prelude.{OnErr, IfOk, IfErr, IsOkUnless, IsTrue, IsFalse}
 use Rattle.arrayvec.specs.ArrayVec.{ArrayVec}
 use Rattle.io_state.specs.declared.fault.Fault.{Fault}
-use Rattle.io_state.specs.declared.fault.Fault.TheVariants.{Memory, Full, Broken as BrokenUnit}
+use Rattle.io_state.specs.declared.fault.Fault.TheVariants.{Memory, Full, Damage, Broken as BrokenUnit}
 use Rattle.io_state.specs.declared.modes.Relation.{Relation}
 use Rattle.io_state.specs.declared.position.Position.{Position}
 use Rattle.record_layout.specs.Schema.{Schema}
@@ -23,6 +23,7 @@ use Rattle.indexed_file.specs.Believed.{Believed}
 use Rattle.indexed_file.specs.Images.{Trace, AllStay, CallGoes, untouched, trace_of_change, trace_of_shut}
 use Rattle.indexed_file.specs.Calls.{Keeps, OnlyReads, MayAnswer, MayAnswerShut, LeavesBroken, SamePages}
 use Rattle.indexed_file.specs.Calls.{StaysOrUnsound, NamesFile, is_unmade, AsksAtMost}
+use Rattle.indexed_file.specs.Others.{LeavesOthers}
 
 -- the count of a unit's pages begins again, and nothing else changes
 pub record RestartsCount {S : Type 0} (shown : Shown S) (u : ℕ) (old new : S) : Type 0 where
@@ -38,14 +39,17 @@ pub record RestartsCount {S : Type 0} (shown : Shown S) (u : ℕ) (old new : S) 
   pub frames : shown.frames new ≡ shown.frames old
   pub images : AllStay shown.moments old new
 
--- a call that opens unit u, or looks whether it can be opened: a fault leaves it shut
+-- a call that opens unit u, or looks whether it can be opened: a fault leaves it shut. It is no
+-- Damage where the library is honest, since a first page that is not right is refused
 pub record OpensUnit {S X : Type 0} (shown : Shown S) (u : ℕ) (trace : Trace) (old new : S)
     (result : Result X Fault) : Type 0 where
   pub err : OnErr result (holding_at (shown.world new) u ≡ Shut)
   pub unbroken : OnOk result (IsFalse (is_broken (holding_at (shown.world new) u)))
   pub only : OnlyAt u (shown.world old) (shown.world new)
   pub fault : IfErr result (MayAnswerShut shown u old new)
+  pub undamaged : IsTrue (shown.is_honest new) → IfErr result (λ fault. fault ≢ Damage)
   pub images : CallGoes shown u trace old new
+  pub others : LeavesOthers shown u old new
   pub keeps : Keeps shown old new
 
 -- a call that only reads the open unit u, and asks for so many of its pages at most: the count of
@@ -59,6 +63,7 @@ pub record ReadsUnit {S X : Type 0} (shown : Shown S) (u most : ℕ) (old new : 
   pub broken : IsTrue (is_broken (holding_at (shown.world old) u)) → result ≡ Err BrokenUnit
   pub fault : IfErr result (MayAnswer shown u old new)
   pub images : CallGoes shown u untouched old new
+  pub others : LeavesOthers shown u old new
   pub keeps : Keeps shown old new
 
 -- a call that looks in the open unit u for this row by key k, and reads its record into the front of the area
@@ -101,6 +106,7 @@ pub record ChangesUnit {S X : Type 0} (shown : Shown S) (u : ℕ) (change : File
   pub schema : schema_at (shown.world new) u ≡ schema_at (shown.world old) u
   pub unmade : IsTrue (is_unmade change.is_made result) → SamePages shown u old new
   pub images : CallGoes shown u (trace_of_change change.is_made result) old new
+  pub others : LeavesOthers shown u old new
   pub keeps : Keeps shown old new
 
 -- a call that shuts the open unit u, whatever it answers
@@ -111,6 +117,7 @@ pub record ShutsUnit {S X : Type 0} (shown : Shown S) (u : ℕ) (old new : S)
   pub fault : IfErr result (MayAnswer shown u old new)
   pub images : CallGoes shown u (trace_of_shut (named_at (shown.world old) u)
       (holding_at (shown.world old) u) result) old new
+  pub others : LeavesOthers shown u old new
   pub keeps : Keeps shown old new
 
 -- the file of unit u is new: it is open without rows and shown truly, its name is unsound until it

@@ -17,7 +17,7 @@ use Rattle.list_library.specs.ListWorld.{list_world_of, shown_in_memory}
 use Rattle.list_library.specs.Units.{named_among, unit_changed, ChangesHeld}
 use Rattle.indexed_file.proofs.TestLemmas.{either}
 use Rattle.list_library.proofs.KeptLemmas.{IsKept, change_keeps, unit_set, only_set}
-use Rattle.list_library.proofs.ListWorldLemmas.{keeps_all, goes_in_memory}
+use Rattle.list_library.proofs.ListWorldLemmas.{keeps_all, goes_in_memory, others_stay_in_memory}
 use Rattle.list_library.proofs.UnitWorldLemmas.{unit_read, same_world, changed_world}
 
 -- a broken unit is broken with its schema
@@ -96,5 +96,6 @@ module _
     schema = rw (is, was) kept.schema;
     unmade = λ none. record { room = refl; counts = refl };
     images = λ honest shown. goes_in_memory _ _ _ _;
+    others = others_stay_in_memory u old new;
     keeps = keeps_all old new;
   }

@@ -3,6 +3,7 @@ use Rattle.std.proofs.Common.{ℕ, List, [], ◌∷◌, Option, Some, None, refl
 use Rattle.list_library.specs.declared.library.ListLibrary.{ListLibrary}
 use Rattle.list_library.specs.ListWorld.{list_world_of, shown_in_memory}
 use Rattle.indexed_file.specs.Calls.{Keeps}
+use Rattle.indexed_file.specs.Others.{LeavesOthers}
 use Rattle.indexed_file.specs.Images.{Trace, Stays, AllStay, LibraryMayLeave, LeavesOnly, ImagesGo}
 use Rattle.indexed_file.specs.World.{Named}
 use Rattle.indexed_file.specs.SoundWorld.{ShowsFiles}
@@ -21,6 +22,13 @@ stays_in_memory old new name = record { within = λ real. (tt, λ image is. absu
 
 pub all_stay_in_memory : (old new : ListLibrary) → AllStay shown_in_memory.moments old new
 all_stay_in_memory old new name = stays_in_memory old new name
+
+-- no file has pages, whatever is done with one unit
+pub others_stay_in_memory : (u : ℕ) (old new : ListLibrary) → LeavesOthers shown_in_memory u old new
+others_stay_in_memory u old new = record {
+  units = λ v within other. record { pages = record { room = refl; counts = refl }; frames = refl; asked = refl };
+  images = λ name apart. stays_in_memory old new name;
+}
 
 may_in_memory : (these : List Named) (old new : ListLibrary) (name : List ℕ) → LibraryMayLeave shown_in_memory.moments these old new name
 may_in_memory [] old new name = stays_in_memory old new name

@@ -93,7 +93,7 @@ fn exchange(units: &mut [ListUnit], others: &mut [ListUnit])
     }
 }
 
-#[tactic(auto, using(crate::proofs::ShownLemmas::sound_set, crate::proofs::ListWorldLemmas::keeps_all, crate::proofs::ListWorldLemmas::all_stay_in_memory, crate::proofs::ListWorldLemmas::goes_in_memory))]
+#[tactic(auto, using(crate::proofs::ShownLemmas::sound_set, crate::proofs::ListWorldLemmas::keeps_all, crate::proofs::ListWorldLemmas::all_stay_in_memory, crate::proofs::ListWorldLemmas::goes_in_memory, crate::proofs::ListWorldLemmas::others_stay_in_memory))]
 impl Library for ListLibrary {
     ghost use Rattle.std.specs.Prelude.{refl};
     ghost use Rattle.list_library.specs.ListWorld.{shown_in_memory};

@@ -4,7 +4,8 @@ use Rattle.std.specs.List.{IsDistinct, list_any}
 use Rattle.std.proofs.lemmas.Cmp.{nat_list_eq_equiv}
 use Rattle.std.proofs.lemmas.Map.Keys.{IsDistinct-push}
 use Rattle.growing_shelf.specs.AddedUnit.{with_added}
-use Rattle.growing_library.specs.Growing.{IsNewName, AddsUnit, SameUnit, LetsFileGo, with_added_unit}
+use Rattle.growing_library.specs.Growing.{IsNewName, AddsUnit, LetsFileGo, with_added_unit}
+use Rattle.indexed_file.specs.Others.{SameUnit}
 use Rattle.indexed_file.specs.World.{named_in}
 use Rattle.shelf_library.specs.Adding.{AddsName}
 use Rattle.shelf_library.specs.Units.{unit_of, counts_of_held, frames_of_held, pages_asked_of, room_of_held}

@@ -11,7 +11,7 @@ use Rattle.shelf_library.proofs.Terms.{FileChange, ImagesGo, Trace, unfinished, 
 use Rattle.shelf_library.proofs.Terms.{times_asked, pages_behind, schema_behind, ShelfFile, ChangesFile, MovesAt, shown_by, IsTrulyHeld}
 use Rattle.shelf_library.proofs.Terms.{LibraryState, held_at, pages_asked_of, room_of_held, world_of, Held, Opened}
 use Rattle.shelf_library.proofs.AsideLemmas.{only_here}
-use Rattle.shelf_library.proofs.UnitLemmas.{keeps_at}
+use Rattle.shelf_library.proofs.UnitLemmas.{keeps_at, others_at}
 use Rattle.shelf_library.proofs.ReadsLemmas.{reads_images, reads_pages}
 use Rattle.shelf_library.proofs.MovingLemmas.{changes_at, reads_at, goes_unfinished}
 use Rattle.shelf_library.proofs.ChangingLemmas.{broken_now, schema_before, schema_now, open_now, held_now, broken_told, truly_after, fault_after, answers, done_at_ok, told_at_ok, told_at_full, takes_at_full, rests_at_full}
@@ -117,5 +117,6 @@ module _
     schema = schema_now u file after old new call ∙ change.changes.keeps.schema ∙ sym (schema_before u file after old new call);
     unmade = as_shown (λ schema. IsTrue (is_unmade (change_of schema).is_made result) → SamePages (shown_by state) u a b) (unmade_after result change);
     images = λ honest shown. as_shown (λ schema. Images (trace_of_change (change_of schema).is_made result)) (images_after result change honest);
+    others = others_at state u (Opened after) a b call.units (changes_at u file after old new call);
     keeps = keeps_after result change;
   }

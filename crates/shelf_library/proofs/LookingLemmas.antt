@@ -1,16 +1,16 @@
 -- A unit that was looked at.
-use Rattle.std.proofs.Common.{◌≡◌, inl, inr, ℕ, Bool, false, List, Option, Some, None, IsTrue, IsFalse, IfOk, IfErr, OnOk, OnErr, Result, Ok, Err, refl, sym, ap, subst, ◌∙◌}
+use Rattle.std.proofs.Common.{◌≡◌, ◌≢◌, inl, inr, ℕ, Bool, false, List, Option, Some, None, IsTrue, IsFalse, IfOk, IfErr, OnOk, OnErr, Result, Ok, Err, refl, sym, ap, subst, ◌∙◌}
 use Rattle.page_store.specs.ShelfState.{FaultHasCause}
 use Rattle.shelf_file.specs.Shelves.{HasHeader}
 use Rattle.shelf_library.specs.Told.{held_by, seen_by, seen_after}
-use Rattle.shelf_library.proofs.Terms.{Fault, Device, Memory, looked_at, seen_of, MayFail, untouched, OpensUnit, Shut, holding_at}
+use Rattle.shelf_library.proofs.Terms.{Fault, Damage, Device, Memory, looked_at, seen_of, MayFail, untouched, OpensUnit, Shut, holding_at}
 use Rattle.shelf_library.proofs.Terms.{is_broken, named_at, Seen, DeviceFile, ShelfState, unit_file, unit_name, Header, look_of, named_by}
 use Rattle.shelf_library.proofs.Terms.{named_of, Look, Accepted, NoFile, Refused, ShelfFile, shown_by, LooksAt, AreUnits, ChangesAt}
 use Rattle.shelf_library.proofs.Terms.{FitsItsFile, IsTrulyHeld, LibraryState, held_at, held_after, IsTrulyClosed, holding_of, world_of}
 use Rattle.shelf_library.proofs.Terms.{Looked, Opened}
 use Rattle.shelf_library.proofs.AsideLemmas.{only_here, holding_after, named_before, named_after, are_after, images_aside}
 use Rattle.shelf_library.proofs.FaultLemmas.{has_risen}
-use Rattle.shelf_library.proofs.UnitLemmas.{keeps_at, images_at}
+use Rattle.shelf_library.proofs.UnitLemmas.{keeps_at, images_at, others_at}
 
 -- what is told of a look is what the name stands for
 seen_named : (c : Option (List ℕ)) → seen_by (look_of c) ≡ seen_of (named_of c)
@@ -105,6 +105,13 @@ module _ (u : ℕ) (look : Result Look Fault) (old new : LibraryState) (call : L
       by_told (Ok found) is = is ∙ held_told new.shelf found
       by_told (Err fault) is = tt
 
+look_spares : (old new : ℕ) (look : Result Look Fault) → FaultHasCause old new look → IfErr (seen_after look) (λ fault. fault ≢ Damage)
+look_spares old new (Ok found) cause = tt
+look_spares old new (Err fault) cause = elim cause.kinds [
+  | inl is ↦ λ damage. cc
+  | inr is ↦ λ damage. cc
+]
+
 -- what a look promises
 pub look_opens : {S : Type 0} (state : S → LibraryState) (u : ℕ) (look : Result Look Fault) (old new : S) → LooksAt u look (state old) (state new)
     → (told : Result Seen Fault) → told ≡ seen_after look → OpensUnit (shown_by state) u untouched old new told
@@ -117,8 +124,10 @@ look_opens {S} state u look old new call told is =
       unbroken = unbroken look (holds_now u look (state old) (state new) call);
       only = only_here u one (state old).shelf (state new).shelf (state old).held (state new).held call.units changes;
       fault = look_fault (state new).shelf.is_honest _ (state old).faults (state new).faults look call.looks.cause;
+      undamaged = λ honest. look_spares (state old).faults (state new).faults look call.looks.cause;
       images = λ honest truly.
           images_at state u one old new call.units changes untouched (images_aside state old new name (ap (λ file. file name) call.looks.only.file)) tt;
+      others = others_at state u one old new call.units changes;
       keeps = keeps_at state u one old new call.units changes call.limit call.frames call.looks.cause.no_fewer (λ honest truly. still_true u look (state old) (state new) call truly);
     })
   where

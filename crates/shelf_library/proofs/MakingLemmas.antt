@@ -120,6 +120,7 @@ module _ {S : Type 0} (state : S → LibraryState) (u : ℕ) (schema : Schema) (
       (unbroken u schema r (state old) (state new) call r call.make.made)
       (faults_are false (state new).shelf.is_honest (IsShownTruly (state old).shelf (state old).held (name_at (world_of (state old).shelf (state old).held) u)) (state old).faults (state new).faults r
       call.make.cause (λ e. absurd (let clash : false ≡ true = e in cc)) (λ honest shown. call.make.damage honest))
+      call.make.damage
       (λ honest shown. images_at state u (held_open r) old new call.units at unfinished
       (λ real. was_or_refused ((state old).shelf.file (unit_name (state old).shelf u)) ((state new).shelf.file (unit_name (state old).shelf u))
       (passed u schema r (state old) (state new) call honest) real)

@@ -1,12 +1,12 @@
 -- The file of a unit, opened by the header that a look had accepted.
-use Rattle.std.proofs.Common.{◌≡◌, ℕ, false, Bool, List, IsTrue, IsFalse, IfOk, IfErr, OnOk, OnErr, Result, Ok, Err, refl, sym, ap, subst}
+use Rattle.std.proofs.Common.{◌≡◌, ◌≢◌, ℕ, false, Bool, List, IsTrue, IsFalse, IfOk, IfErr, OnOk, OnErr, Result, Ok, Err, refl, sym, ap, subst}
 use Rattle.std.proofs.Common.{◌∙◌, arith}
 use Rattle.std.specs.Prelude.{Option}
 use Rattle.indexed_file.specs.Room.{PageCounts}
 use Rattle.page_store.specs.ShelfState.{HasUnit}
 use Rattle.shelf_file.specs.Shelves.{IsOpened, HasAccepted}
 use Rattle.shelf_library.specs.Units.{counts_by}
-use Rattle.shelf_library.proofs.Terms.{Fault, Memory, Schema, MayFail, untouched, OpensUnit, Holding, Named, HasOpened, holding_at, is_open, content}
+use Rattle.shelf_library.proofs.Terms.{Fault, Damage, Memory, Schema, MayFail, untouched, OpensUnit, Holding, Named, HasOpened, holding_at, is_open, content}
 use Rattle.shelf_library.proofs.Terms.{name_at, named_at, opened_from, schema_at, schema_in, DeviceFile, KeepsOthers, ShelfState, unit_file}
 use Rattle.shelf_library.proofs.Terms.{unit_name, pages_counted, pages_free, counts_of, Header, look_of, named_of, is_broken_file}
 use Rattle.shelf_library.proofs.Terms.{pages_behind, schema_behind, Accepted, ShelfFile, shown_by, AreUnits, ChangesAt, FitsItsFile}
@@ -25,6 +25,10 @@ want_of_memory is_honest truly old new (Ok file) is = tt
 want_of_memory is_honest truly old new (Err fault) is =
     let same : fault ≡ Memory = cc in
     subst (λ (e : Fault). MayFail false is_honest truly old new e) (sym same) refl
+
+memory_alone : (r : Result ShelfFile Fault) → OnErr r (r ≡ Err Memory) → IfErr r (λ fault. fault ≢ Damage)
+memory_alone (Ok file) is = tt
+memory_alone (Err fault) is = λ damage. cc
 
 module _ (u : ℕ) (shelf : ShelfState) (header : Header) (has : HasUnit shelf u) (accepted : IsTrue shelf.is_honest → HasAccepted shelf u header) where
   pub opened_fits : (r : Result ShelfFile Fault) → IfOk r (λ held. IsOpened held u header) → FitsItsFile u (held_open r) shelf
@@ -155,6 +159,7 @@ open_opens {S} state u header r old new call answer is =
     subst (λ (x : Result (Unit {0}) Fault). OpensUnit (shown_by state) u untouched old new x) (sym is) (opens_unit state u old new r call.units at untouched
     (opened_unbroken u (state new).shelf header (has_unit u header r (state old) (state new) call) (accepted_now u header r (state old) (state new) call) r call.by_header.opened)
     (want_of_memory (state new).shelf.is_honest (IsShownTruly (state old).shelf (state old).held (name_at (world_of (state old).shelf (state old).held) u)) (state old).faults (state new).faults r call.by_header.memory)
+    (λ honest. memory_alone r call.by_header.memory)
     (λ honest truly. images_at state u (held_open r) old new call.units at untouched
     (images_aside state old new (unit_name (state old).shelf u) (ap (λ (s : ShelfState). s.file (unit_name (state old).shelf u)) call.shelf)) tt)
     (keeps_at state u (held_open r) old new call.units at call.limit call.frames (omega (arith, same)) (truly_now u header r (state old) (state new) call)))

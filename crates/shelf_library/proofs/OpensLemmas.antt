@@ -1,13 +1,14 @@
 -- What a call that opens a unit promises, from what it leaves of the unit.
-use Rattle.std.proofs.Common.{◌≡◌, ℕ, true, false, Bool, IsTrue, IsFalse, IfOk, IfErr, OnOk, OnErr, Result, Ok, Err, refl, sym, ap, subst, ◌∙◌, if◌then◌else◌}
+use Rattle.std.proofs.Common.{◌≡◌, ◌≢◌, ℕ, true, false, Bool, IsTrue, IsFalse, IfOk, IfErr, OnOk, OnErr, Result, Ok, Err, refl, sym, ap, subst, ◌∙◌, if◌then◌else◌}
 use Rattle.indexed_file.specs.Images.{CallGoes}
 use Rattle.indexed_file.specs.Calls.{MayAnswerShut}
-use Rattle.shelf_library.proofs.Terms.{Fault, Schema, Keeps, Trace, OpensUnit, Broken, HasOpened, Shut, World, holding_at, is_broken}
+use Rattle.shelf_library.proofs.Terms.{Fault, Damage, Schema, Keeps, Trace, OpensUnit, Broken, HasOpened, Shut, World, holding_at, is_broken}
 use Rattle.shelf_library.proofs.Terms.{is_looked, is_open, schema_at, schema_in, ShelfState, Header, file_read_off, is_broken_file}
 use Rattle.shelf_library.proofs.Terms.{schema_behind, ShelfFile, shown_by, AreUnits, ChangesAt, FitsItsFile, IsReadyAt, LibraryState}
 use Rattle.shelf_library.proofs.Terms.{answer_open, held_open, holding_of, world_of, Held, Looked, Nothing, Opened}
 use Rattle.shelf_library.proofs.WorldLemmas.{same_open}
 use Rattle.shelf_library.proofs.AsideLemmas.{only_here, holding_after}
+use Rattle.shelf_library.proofs.UnitLemmas.{others_at}
 
 -- ---- what a unit holds
 
@@ -65,13 +66,20 @@ module _ {S : Type 0} (state : S → LibraryState) (u : ℕ) (old new : S) (r : 
   faulted (Ok file) may = tt
   faulted (Err fault) may = may
 
+  spared : (x : Result ShelfFile Fault) → IfErr x (λ fault. fault ≢ Damage) → IfErr (answer_open x) (λ fault. fault ≢ Damage)
+  spared (Ok file) other = tt
+  spared (Err fault) other = other
+
   pub opens_unit : (trace : Trace) → IfOk r (λ file. IsFalse (is_broken_file file)) → IfErr r (MayAnswerShut (shown_by state) u old new)
+      → (IsTrue (state new).shelf.is_honest → IfErr r (λ fault. fault ≢ Damage))
       → CallGoes (shown_by state) u trace old new → Keeps (shown_by state) old new → OpensUnit (shown_by state) u trace old new (answer_open r)
-  opens_unit trace fine may images keeps = record {
+  opens_unit trace fine may undamaged images keeps = record {
     err = shut r holding_now;
     unbroken = unbroken r refl fine;
     only = only_here u (held_open r) (state old).shelf (state new).shelf (state old).held (state new).held are call;
     fault = faulted r may;
+    undamaged = λ honest. spared r (undamaged honest);
     images = images;
+    others = others_at state u (held_open r) old new are call;
     keeps = keeps;
   }

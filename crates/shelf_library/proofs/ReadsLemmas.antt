@@ -15,7 +15,7 @@ use Rattle.shelf_library.proofs.ReadingLemmas.{reads_units, changes_at, was_hone
 use Rattle.shelf_library.proofs.ReadingLemmas.{same_broken, truly_held}
 use Rattle.shelf_library.proofs.FaultLemmas.{faults_are}
 use Rattle.shelf_library.proofs.ShownLemmas.{schema_shown, open_shown, broken_shown}
-use Rattle.shelf_library.proofs.UnitLemmas.{keeps_at, images_at}
+use Rattle.shelf_library.proofs.UnitLemmas.{keeps_at, images_at, others_at}
 
 module _ {S : Type 0} (state : S → LibraryState) (a b : S) (u : ℕ) (file after : ShelfFile) (call : ReadsAt u file after (state a) (state b)) where
   abbrev old : LibraryState
@@ -115,6 +115,7 @@ module _ {S : Type 0} (state : S → LibraryState) (a b : S) (u : ℕ) (file aft
     fault = subst (λ (fails : Bool). IfErr result (MayFail fails new.shelf.is_honest (IsShownTruly old.shelf old.held (name_at (world_of old.shelf old.held) u)) old.faults new.faults)) (sym broken_is)
         (faults_are (is_broken_file file) new.shelf.is_honest (IsShownTruly old.shelf old.held (name_at (world_of old.shelf old.held) u)) old.faults new.faults result cause broken no_damage);
     images = λ honest truly. reads_images honest;
+    others = others_at state u (Opened after) a b call.units at;
     keeps = reads_keeps;
   }
     where

@@ -14,7 +14,7 @@ use Rattle.shelf_library.proofs.AsideLemmas.{lies, name_before, are_after, only_
 use Rattle.shelf_library.proofs.ShownLemmas.{holding_shown, broken_shown}
 use Rattle.shelf_library.proofs.FaultLemmas.{faults_are}
 use Rattle.shelf_library.proofs.OpensLemmas.{nothing_fits, open_holding}
-use Rattle.shelf_library.proofs.UnitLemmas.{keeps_at, images_at}
+use Rattle.shelf_library.proofs.UnitLemmas.{keeps_at, images_at, others_at}
 use Rattle.shelf_library.proofs.ClosingLemmas.{IsLeft, closing_reads, settled_reads, closing_named, on_more, changes, still, was_unsound, closes_here, ends_closed, named_closed, named_before, closes_truly}
 
 if_any : {X : Type 0} (result : Result X Fault) (P : Fault → Type 0) → ((fault : Fault) → P fault) → IfErr result P
@@ -195,5 +195,6 @@ module _ {S : Type 0} (state : S → LibraryState) (u : ℕ) (file : ShelfFile) 
         (faults_are (is_broken_file file) (state new).shelf.is_honest (IsShownTruly (state old).shelf (state old).held name) (state old).faults (state new).faults result
         call.close.cause call.close.broken (λ honest truly. call.close.damage));
     images = images;
+    others = others_at state u Nothing old new call.units changed_at;
     keeps = keeps_at state u Nothing old new call.units changed_at call.limit call.frames call.close.count (closes_truly u file result (state old) (state new) call);
   }

@@ -1,7 +1,7 @@
 use Rattle.std.proofs.Common.{rules, arith, refl}
 use Rattle.std.proofs.lemmas.Grind.{common_steps}
 use Rattle.list_library.proofs.ShownLemmas.{sound_set, all_show_files}
-use Rattle.list_library.proofs.ListWorldLemmas.{keeps_all, goes_in_memory}
+use Rattle.list_library.proofs.ListWorldLemmas.{keeps_all, goes_in_memory, others_stay_in_memory}
 use Rattle.list_library.proofs.library.ListLibraryLibrary.create.Goals as goal
 
 pub returns-clause-made : goal.returns-clause-made
@@ -18,6 +18,8 @@ returns-clause-opens c = record {
   unbroken = first_of (search rules, grind (arith, common_steps));
   only = first_of (search rules, grind (arith, common_steps));
   fault = first_of (search rules, grind (arith, common_steps));
+  undamaged = first_of (search rules, grind (arith, common_steps));
   images = λ honest shown. goes_in_memory _ _ _ _;
+  others = others_stay_in_memory _ _ _;
   keeps = keeps_all _ _;
 }

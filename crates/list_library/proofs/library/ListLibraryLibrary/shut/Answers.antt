@@ -1,6 +1,6 @@
 use Rattle.std.proofs.Common.{rules, arith}
 use Rattle.std.proofs.lemmas.Grind.{common_steps}
-use Rattle.list_library.proofs.ListWorldLemmas.{keeps_all, goes_in_memory}
+use Rattle.list_library.proofs.ListWorldLemmas.{keeps_all, goes_in_memory, others_stay_in_memory}
 use Rattle.list_library.proofs.library.ListLibraryLibrary.shut.Goals as goal
 
 pub returns-clause-shuts : goal.returns-clause-shuts
@@ -9,5 +9,6 @@ returns-clause-shuts c = record {
   only = first_of (search rules, grind (arith, common_steps));
   fault = first_of (search rules, grind (arith, common_steps));
   images = λ honest shown. goes_in_memory _ _ _ _;
+  others = others_stay_in_memory _ _ _;
   keeps = keeps_all _ _;
 }
