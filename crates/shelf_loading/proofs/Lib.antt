@@ -1,2 +1,3 @@
 pub mod LoadedLemmas
 pub mod SameLemmas
+pub mod OfSchemaLemmas

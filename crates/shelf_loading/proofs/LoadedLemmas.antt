@@ -22,6 +22,7 @@ use Rattle.record_loading.specs.declared.end.LoadEnd.{LoadEnd}
 use Rattle.record_loading.specs.declared.end.LoadFault.{LoadFault}
 use Rattle.shelf_loading.specs.declared.end.ShelfEnd.{ShelfEnd}
 use Rattle.shelf_loading.specs.declared.end.ShelfEnd.TheVariants.{Loaded}
+use Rattle.shelf_loading.proofs.OfSchemaLemmas.{of_schema}
 use Rattle.shelf_loading.specs.Loaded.{LeavesLoaded, KeepsOtherNames, IsSafeLoad, load_end_of, file_at_first}
 
 -- a library over a shelf before a load, which holds nothing, and after it
@@ -41,9 +42,12 @@ module _ (old new : LibraryState) (none : old.shelf.names ≡ []) (empty : old.h
       let sound = sound_of (reads_of old.shelf name) named is in
       let done = loads honest (truly sound) in
       let was : named_in (world_of old.shelf old.held) name ≡ named = ap (λ (world : World). named_in world name) first_world ∙ named_is (reads_of old.shelf name) named is in
+      let done_from : Loads schema (mode_of load) list (file_at_first named schema) end done.after =
+      subst (λ (n : Named). Loads schema (mode_of load) list (file_at_first n schema) end done.after) was done.loads in
       record {
         after = done.after;
-        loads = subst (λ (n : Named). Loads schema (mode_of load) list (file_at_first n schema) end done.after) was done.loads;
+        loads = done_from;
+        of_schema = of_schema schema load list named end done.after done_from;
         represents =
             subst (λ (n : Named). Represents (reads_of new.shelf name) n) (sym (named_anywhere new.shelf new.held name many) ∙ done.named)
             (represents_sound (reads_of new.shelf name) (stays_sound old new none empty many keeps an_image honest name sound));

@@ -1,11 +1,13 @@
 -- What a load over the files of a shelf leaves. All of this is ours.
-use Rattle.std.specs.Prelude.{◌≡◌, ℕ, Bool, List, Option, None, is_some, bytes_eq, false, replicate}
-use Rattle.std.specs.Prelude.{IsTrue, IfOk, OnErr, Result, Ok, Err}
+use Rattle.std.specs.Prelude.{◌≡◌, ℕ, Bool, List, Option, None, is_some, bytes_eq, true, false, replicate}
+use Rattle.std.specs.Prelude.{IsTrue, IfOk, OnErr, Result, Ok, Err, ⊤}
 use Rattle.io_state.specs.declared.fault.Fault.{Fault}
 use Rattle.io_state.specs.declared.fault.Fault.TheVariants.{Device, Memory as NoMemory, Full, Damage, Broken}
 use Rattle.io_state.specs.declared.modes.Access.TheVariants.{Dynamic}
-use Rattle.record_layout.specs.Schema.{Schema}
-use Rattle.indexed_file.specs.World.{Named, Absent, named_in}
+use Rattle.io_state.specs.declared.status.Status.{Status}
+use Rattle.io_state.specs.declared.status.Status.TheVariants.{AttributeConflict}
+use Rattle.record_layout.specs.Schema.{Schema, same_schema}
+use Rattle.indexed_file.specs.World.{Named, Absent, Closed, Unsound, named_in}
 use Rattle.page_store.specs.ShelfState.{ShelfState}
 use Rattle.verbs.specs.Connector.{FileState, closed_connector}
 use Rattle.shelf_run.specs.Soundness.{files_of, AllSound, AreSoundThroughout}
@@ -15,6 +17,7 @@ use Rattle.record_loading.specs.Loading.{Listing, Loads, mode_of}
 use Rattle.record_loading.specs.declared.end.Load.{Load}
 use Rattle.record_loading.specs.declared.end.Load.TheVariants.{New, Into}
 use Rattle.record_loading.specs.declared.end.LoadEnd.{LoadEnd}
+use Rattle.record_loading.specs.declared.end.LoadEnd.TheVariants.{NotOpened, Opened}
 use Rattle.record_loading.specs.declared.end.LoadFault.{LoadFault}
 use Rattle.shelf_loading.specs.declared.end.ShelfEnd.{ShelfEnd}
 use Rattle.shelf_loading.specs.declared.end.ShelfEnd.TheVariants.{IsThere, Loaded}
@@ -49,12 +52,21 @@ file_at_first named schema = record {
   area = replicate schema.greatest 32;
 }
 
+-- records were loaded into the file that is there only where that is one of the same schema
+abbrev pub IsOfSchema : Schema → Load → Named → LoadEnd → Type 0
+IsOfSchema schema load named (NotOpened status) = ⊤
+IsOfSchema schema New named (Opened lines closed) = ⊤
+IsOfSchema schema Into (Closed other file) (Opened lines closed) = IsTrue (same_schema other schema)
+IsOfSchema schema Into Unsound (Opened lines closed) = ⊥
+IsOfSchema schema Into Absent (Opened lines closed) = ⊥
+
 -- OPEN, the WRITEs and CLOSE of a load of the lines of a text, where the name stood for this, leave
 -- what a read then gives
 pub record LeavesFile (schema : Schema) (load : Load) (list : Listing) (named : Named) (end : LoadEnd)
     (seen : Option (List ℕ)) : Type 0 where
   pub after : FileState
   pub loads : Loads schema (mode_of load) list (file_at_first named schema) end after
+  pub of_schema : IsOfSchema schema load named end
   pub represents : Represents seen after.named
 
 -- so it leaves the file of a name, whatever that represented, over a shelf that has not lied by then
@@ -108,3 +120,15 @@ pub record LoadsInto (name : List ℕ) (EndsSo : ShelfState → ShelfEnd → She
   pub nothing : OnErr result (LeavesFiles old new)
   pub others : KeepsOtherNames name old new
   pub safe : IsSafeLoad name old new
+
+-- 39
+abbrev pub is_conflict : Status → Bool
+is_conflict AttributeConflict = true
+is_conflict status = false
+
+-- whether the schema of the file is held against that of the load behind it: where OPEN found it to be
+-- another, and where a new file was wanted and the name has one
+abbrev pub is_compared : ShelfEnd → Bool
+is_compared IsThere = true
+is_compared (Loaded (NotOpened status)) = is_conflict status
+is_compared (Loaded (Opened lines closed)) = false

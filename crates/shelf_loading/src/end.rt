@@ -1,8 +1,8 @@
 //! How a load over the files of a shelf ends.
 ghost use Rattle.std.specs.Prelude.{◌≡◌};
-ghost use Rattle.shelf_loading.specs.Loaded.{load_end_of, fault_by};
+ghost use Rattle.shelf_loading.specs.Loaded.{load_end_of, fault_by, is_compared};
 
-use io_state::Fault;
+use io_state::{Fault, Status};
 use record_loading::{LoadEnd, LoadFault};
 use thiserror::Error;
 
@@ -42,5 +42,19 @@ pub fn fault_by(fault: Fault) -> ShelfFault
     match fault {
         Fault::Memory => ShelfFault::Memory,
         Fault::Device | Fault::Full | Fault::Damage | Fault::Broken => ShelfFault::Input,
+    }
+}
+
+/// Whether the schema of the file is to be held against that of the load: OPEN answered 39, or a new
+/// file was wanted and the name has one.
+pub fn is_compared(end: ShelfEnd) -> bool
+    ensures { result ≡ is_compared end }
+{
+    match end {
+        ShelfEnd::IsThere => true,
+        ShelfEnd::Loaded(LoadEnd::NotOpened { status }) => {
+            matches!(status, Status::AttributeConflict)
+        }
+        ShelfEnd::Loaded(LoadEnd::Opened { .. }) => false,
     }
 }

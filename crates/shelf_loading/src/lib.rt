@@ -13,5 +13,5 @@ mod end;
 mod loading;
 
 pub use answer::{add_answer, is_loaded};
-pub use end::{ShelfEnd, ShelfFault};
+pub use end::{ShelfEnd, ShelfFault, is_compared};
 pub use loading::load_on_shelf;
