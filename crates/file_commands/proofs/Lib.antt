@@ -6,3 +6,4 @@ pub mod FormLemmas
 pub mod ListLemmas
 pub mod VerdictLemmas
 pub mod RecordsLemmas
+pub mod DifferingLemmas

@@ -7,3 +7,4 @@ pub mod Listed
 pub mod Verdicts
 pub mod Schema
 pub mod Counted
+pub mod Differing

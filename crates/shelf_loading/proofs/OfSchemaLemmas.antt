@@ -10,7 +10,7 @@ use Rattle.record_loading.specs.declared.end.Load.{Load}
 use Rattle.record_loading.specs.declared.end.Load.TheVariants.{New, Into}
 use Rattle.record_loading.specs.declared.end.LoadEnd.{LoadEnd}
 use Rattle.record_loading.specs.declared.end.LoadEnd.TheVariants.{NotOpened, Opened}
-use Rattle.shelf_loading.specs.Loaded.{IsOfSchema, file_at_first}
+use Rattle.shelf_loading.specs.Loaded.{HasSameSchema, file_at_first}
 
 -- what is a success was the first of two, of which the other is none
 success_of_first : (first : Bool) (x y : Outcome) → is_successful y.status ≡ false → IsTrue (is_successful (cond first x y).status) → IsTrue first
@@ -18,7 +18,7 @@ success_of_first true x y fails is = refl
 success_of_first false x y fails is = absurd (true≢false (sym is ∙ fails))
 
 pub of_schema : (schema : Schema) (load : Load) (list : Listing) (named : Named) (end : LoadEnd) (after : FileState) → Loads schema (mode_of load) list (file_at_first named schema) end after
-    → IsOfSchema schema load named end
+    → HasSameSchema schema load named end
 of_schema schema load list named (NotOpened status) after is = tt
 of_schema schema New list named (Opened lines closed) after is = tt
 of_schema schema Into list (Closed other file) (Opened lines closed) after is = success_of_first (same_schema other schema) _ _ refl is.opened

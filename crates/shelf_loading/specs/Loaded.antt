@@ -53,12 +53,12 @@ file_at_first named schema = record {
 }
 
 -- records were loaded into the file that is there only where that is one of the same schema
-abbrev pub IsOfSchema : Schema → Load → Named → LoadEnd → Type 0
-IsOfSchema schema load named (NotOpened status) = ⊤
-IsOfSchema schema New named (Opened lines closed) = ⊤
-IsOfSchema schema Into (Closed other file) (Opened lines closed) = IsTrue (same_schema other schema)
-IsOfSchema schema Into Unsound (Opened lines closed) = ⊥
-IsOfSchema schema Into Absent (Opened lines closed) = ⊥
+abbrev pub HasSameSchema : Schema → Load → Named → LoadEnd → Type 0
+HasSameSchema schema load named (NotOpened status) = ⊤
+HasSameSchema schema New named (Opened lines closed) = ⊤
+HasSameSchema schema Into (Closed other file) (Opened lines closed) = IsTrue (same_schema other schema)
+HasSameSchema schema Into Unsound (Opened lines closed) = ⊥
+HasSameSchema schema Into Absent (Opened lines closed) = ⊥
 
 -- OPEN, the WRITEs and CLOSE of a load of the lines of a text, where the name stood for this, leave
 -- what a read then gives
@@ -66,7 +66,7 @@ pub record LeavesFile (schema : Schema) (load : Load) (list : Listing) (named : 
     (seen : Option (List ℕ)) : Type 0 where
   pub after : FileState
   pub loads : Loads schema (mode_of load) list (file_at_first named schema) end after
-  pub of_schema : IsOfSchema schema load named end
+  pub of_schema : HasSameSchema schema load named end
   pub represents : Represents seen after.named
 
 -- so it leaves the file of a name, whatever that represented, over a shelf that has not lied by then
