@@ -104,7 +104,7 @@ load_done_by : {W : Type 0} (old : SystemState) (made : CallsMade) (out out_afte
     (deck folder file text form : Text) (into : Bool) (disk : Unseen)
     → BeginsLoadOfDeck base input deck folder file text form into disk made before behind outcome → IfOk outcome (λ o. (end : ShelfEnd) × (o ≡ LoadEnded end))
 load_done_by old made out out_after before behind outcome base input deck folder file text form into disk is =
-    let loads = is.3.2 in told_end loads.end before behind outcome loads.told
+    let loads = is.3.2 in told_end _ _ loads.end loads.calls before behind outcome loads.told
 
 pub load_did : {W : Type 0} (words : List Text) (load : AskForLoad words) {old : SystemState} {made : CallsMade} {out out_after : W} {before behind : Option (List ℕ)} {base : List Call}
     {input : Option (List ℕ)} {disk : Unseen} (outcome : Result Outcome Fault)

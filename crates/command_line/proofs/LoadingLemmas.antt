@@ -88,25 +88,31 @@ loads_as so known = record {
   text = known.text;
   is_text = so known.text known.is_text;
   end = known.end;
+  left = known.left;
   loads = known.loads;
+  calls = known.calls;
+  behind_load = known.behind_load;
   told = known.told;
 }
 
 -- ---- what is told of a load
 
 -- a fault that is told is of the output, the input or memory
-pub told_fault : (end : Result ShelfEnd Fault) (before behind : Option (List ℕ)) (outcome : Result Outcome Fault) → TellsLoad end before behind outcome → IfErr outcome (λ fault. status_of fault ≡ 4)
-told_fault (Ok end) before behind outcome (inl told) = subst (λ (o : Result Outcome Fault). IfErr o (λ fault. status_of fault ≡ 4)) (sym told.0) tt
-told_fault (Ok end) before behind outcome (inr told) = subst (λ (o : Result Outcome Fault). IfErr o (λ fault. status_of fault ≡ 4)) (sym told) refl
-told_fault (Err fault) before behind outcome told =
+pub told_fault : (path : List ℕ) (schema : Schema) (end : Result ShelfEnd Fault) (calls : List Call) (before behind : Option (List ℕ)) (outcome : Result Outcome Fault)
+    → TellsLoad path schema end calls before behind outcome → IfErr outcome (λ fault. status_of fault ≡ 4)
+told_fault path schema (Ok end) calls before behind outcome (inl told) = subst (λ (o : Result Outcome Fault). IfErr o (λ fault. status_of fault ≡ 4)) (sym told.0) tt
+told_fault path schema (Ok end) calls before behind outcome (inr (inl told)) = subst (λ (o : Result Outcome Fault). IfErr o (λ fault. status_of fault ≡ 4)) (sym told) refl
+told_fault path schema (Ok end) calls before behind outcome (inr (inr told)) = subst (λ (o : Result Outcome Fault). IfErr o (λ fault. status_of fault ≡ 4)) (sym told.0) refl
+told_fault path schema (Err fault) calls before behind outcome told =
     subst (λ (o : Result Outcome Fault). IfErr o (λ f. status_of f ≡ 4)) (sym told.0) (elim told.1 [ inl input ↦ ap status_of input | inr memory ↦ ap status_of memory ])
 
 -- and what was done is a load
-pub told_end : (end : Result ShelfEnd Fault) (before behind : Option (List ℕ)) (outcome : Result Outcome Fault) → TellsLoad end before behind outcome
-    → IfOk outcome (λ o. (e : ShelfEnd) × (o ≡ LoadEnded e))
-told_end (Ok end) before behind outcome (inl told) = subst (λ (o : Result Outcome Fault). IfOk o (λ o. (e : ShelfEnd) × (o ≡ LoadEnded e))) (sym told.0) (end, refl)
-told_end (Ok end) before behind outcome (inr told) = subst (λ (o : Result Outcome Fault). IfOk o (λ o. (e : ShelfEnd) × (o ≡ LoadEnded e))) (sym told) tt
-told_end (Err fault) before behind outcome told = subst (λ (o : Result Outcome Fault). IfOk o (λ o. (e : ShelfEnd) × (o ≡ LoadEnded e))) (sym told.0) tt
+pub told_end : (path : List ℕ) (schema : Schema) (end : Result ShelfEnd Fault) (calls : List Call) (before behind : Option (List ℕ)) (outcome : Result Outcome Fault)
+    → TellsLoad path schema end calls before behind outcome → IfOk outcome (λ o. (e : ShelfEnd) × (o ≡ LoadEnded e))
+told_end path schema (Ok end) calls before behind outcome (inl told) = subst (λ (o : Result Outcome Fault). IfOk o (λ o. (e : ShelfEnd) × (o ≡ LoadEnded e))) (sym told.0) (end, refl)
+told_end path schema (Ok end) calls before behind outcome (inr (inl told)) = subst (λ (o : Result Outcome Fault). IfOk o (λ o. (e : ShelfEnd) × (o ≡ LoadEnded e))) (sym told) tt
+told_end path schema (Ok end) calls before behind outcome (inr (inr told)) = subst (λ (o : Result Outcome Fault). IfOk o (λ o. (e : ShelfEnd) × (o ≡ LoadEnded e))) (sym told.0) tt
+told_end path schema (Err fault) calls before behind outcome told = subst (λ (o : Result Outcome Fault). IfOk o (λ o. (e : ShelfEnd) × (o ≡ LoadEnded e))) (sym told.0) tt
 
 -- so it is of a load that was begun or not
 pub load_done : {W : Type 0} (old : SystemState) (made : CallsMade) (out out_after : W) (outcome : Result Outcome Fault) (IsBegun : Type 0)

@@ -1,11 +1,12 @@
 -- What is loaded into a file of a deck over a folder. All of this is ours.
-use Rattle.std.specs.Prelude.{◌≡◌, ◌≢◌, ◌⊎◌, ℕ, Bool, true, false, List, ◌++◌, Option, Result, Ok, Err, IfOk}
-use Rattle.std.specs.Prelude.{IfErr, OnErr}
+use Rattle.std.specs.Prelude.{◌≡◌, ◌≢◌, ◌⊎◌, ℕ, Bool, true, false, List, [], ◌++◌, Option, IsTrue}
+use Rattle.std.specs.Prelude.{Result, Ok, Err, IfOk, IfErr, OnErr}
 use Rattle.std.specs.Prelude.{String, string_bytes}
 use Rattle.std.specs.Global.{Global}
 use Rattle.std.specs.Io.KnownBytes.{Appends}
 use Rattle.recorded_system.specs.Calls.{Call}
-use Rattle.recorded_system.specs.SystemState.{SystemState}
+use Rattle.recorded_system.specs.Reading.{with_calls}
+use Rattle.recorded_system.specs.SystemState.{SystemState, file_path}
 use Rattle.folder_shelf.specs.Replay.{Unseen}
 use Rattle.folder_shelf.specs.Within.{StaysWithin}
 use Rattle.record_layout.specs.Schema.{Schema}
@@ -18,13 +19,14 @@ use Rattle.record_loading.specs.Loading.{Listing, listing}
 use Rattle.record_loading.specs.declared.end.Load.{Load}
 use Rattle.record_loading.specs.declared.end.Load.TheVariants.{New, Into}
 use Rattle.shelf_loading.specs.Answer.{answer_of}
-use Rattle.shelf_loading.specs.Loaded.{EndsLoad, KeepsOtherNames, IsSafeLoad}
+use Rattle.shelf_loading.specs.Loaded.{EndsLoad, KeepsOtherNames, IsSafeLoad, is_compared}
 use Rattle.shelf_loading.specs.declared.end.ShelfEnd.{ShelfEnd}
 use Rattle.shelf_loading.specs.declared.end.ShelfEnd.TheVariants.{IsThere, Loaded}
 use Rattle.command_line.specs.CallsMade.{CallsMade, BeginsNothing, folder_behind}
 use Rattle.command_line.specs.Folder.{OverFolder}
 use Rattle.command_line.specs.LoadForm.{IsFormOf, IsLoadFault, form_word}
 use Rattle.file_commands.specs.DeckFile.{IsFileOf, IsDeckFault}
+use Rattle.file_commands.specs.Differing.{AreDifferencesOf}
 use Rattle.file_commands.specs.Front.{IsTextNamed, IsDeckNamed}
 use Rattle.standard_input.specs.declared.standard_input.StandardInput.{StandardInput}
 use Rattle.command_line.specs.declared.load_form.FormKind.{FormKind}
@@ -62,22 +64,50 @@ LoadsDescribed disk path file load form text system result =
 abbrev pub IsShelfFault : Fault → Type 0
 IsShelfFault fault = (fault ≡ Input) ⊎ (fault ≡ Memory)
 
--- the lines that tell of a load were written; or nothing was, where the name has a file already
-abbrev pub WritesAnswer : ShelfEnd → (before behind : Option (List ℕ)) → Type 0
-WritesAnswer IsThere before behind = behind ≡ before
-WritesAnswer (Loaded end) before behind = Appends before behind (answer_of end)
+-- the lines that tell of a load; nothing is told of it where the name has a file already
+abbrev pub told_of_load : ShelfEnd → List ℕ
+told_of_load IsThere = []
+told_of_load (Loaded end) = answer_of end
 
--- it was told how a load ended; or the output took not all of that; or it is told why nothing was
--- loaded, and nothing was written
-abbrev pub TellsLoad : Result ShelfEnd Fault → (before behind : Option (List ℕ)) → Result Outcome Fault
+-- the lines of what the file of a path differs from a deck in, by the calls behind a load; none, and no
+-- such call, where its schema is not held against that of the deck
+abbrev pub AreToldBy : (is_compared : Bool) → (path : List ℕ) → Schema → List Call → (lines : List ℕ)
     → Type 0
-TellsLoad (Ok end) before behind outcome =
-    ((outcome ≡ Ok (LoadEnded end)) × WritesAnswer end before behind) ⊎ (outcome ≡ Err Output)
-TellsLoad (Err fault) before behind outcome =
-    (outcome ≡ Err fault) × IsShelfFault fault × (behind ≡ before)
+AreToldBy true path schema calls lines = AreDifferencesOf path schema calls lines
+AreToldBy false path schema calls lines = (calls ≡ []) × (lines ≡ [])
+
+-- the lines that tell of a load were written, and those of the differences behind them
+abbrev pub WritesAnswer : (path : List ℕ) → Schema → ShelfEnd → List Call → (before behind : Option (List ℕ))
+    → Type 0
+WritesAnswer path schema end calls before behind = (lines : List ℕ)
+    × AreToldBy (is_compared end) path schema calls lines
+    × Appends before behind (told_of_load end ++ lines)
+
+-- the lines that tell of a load were written, and these behind them; or the output took not all of that
+abbrev pub WritesEnd : ShelfEnd → (lines : List ℕ) → (before behind : Option (List ℕ))
+    → Result Outcome Fault → Type 0
+WritesEnd end lines before behind outcome =
+    ((outcome ≡ Ok (LoadEnded end)) × Appends before behind (told_of_load end ++ lines))
+    ⊎ (outcome ≡ Err Output)
+
+-- memory was lacking for the lines of the differences, and nothing was written
+abbrev pub LacksMemoryFor : ShelfEnd → (before behind : Option (List ℕ)) → Result Outcome Fault → Type 0
+LacksMemoryFor end before behind outcome =
+    (outcome ≡ Err Memory) × IsTrue (is_compared end) × (behind ≡ before)
+
+-- it was told how a load ended into the file of a path, and by the calls behind it how that differs; or
+-- the output took not all of that, or memory was lacking; or it is told why nothing was loaded, and
+-- nothing was written
+abbrev pub TellsLoad : (path : List ℕ) → Schema → Result ShelfEnd Fault → List Call
+    → (before behind : Option (List ℕ)) → Result Outcome Fault → Type 0
+TellsLoad path schema (Ok end) calls before behind outcome =
+    ((outcome ≡ Ok (LoadEnded end)) × WritesAnswer path schema end calls before behind)
+    ⊎ (outcome ≡ Err Output) ⊎ LacksMemoryFor end before behind outcome
+TellsLoad path schema (Err fault) calls before behind outcome =
+    (outcome ≡ Err fault) × IsShelfFault fault × (calls ≡ []) × (behind ≡ before)
 
 -- the bytes are a deck that has a file of this name, a text was loaded into that file in this folder,
--- in the form that a word asks for, and it was told how that ended
+-- in the form that a word asks for, which left this system, and it was told how that ended
 pub record LoadsDeck
     (disk : Unseen) (system : SystemState) (IsTheText : List ℕ → Type 0) (bytes folder name word : List ℕ)
     (into : Bool) (before behind : Option (List ℕ)) (outcome : Result Outcome Fault) : Type 0 where
@@ -90,8 +120,11 @@ pub record LoadsDeck
   pub text : List ℕ
   pub is_text : IsTheText text
   pub end : Result ShelfEnd Fault
-  pub loads : LoadsFolder disk folder file.file file.schema (load_of into) (listing form text) system end
-  pub told : TellsLoad end before behind outcome
+  pub left : SystemState
+  pub loads : LoadsFolder disk folder file.file file.schema (load_of into) (listing form text) left end
+  pub calls : List Call
+  pub behind_load : system ≡ with_calls calls left
+  pub told : TellsLoad (file_path folder file.file) file.schema end calls before behind outcome
 
 -- a load was begun of which this is so; or none was; a fault is one of these, and if it is none of the
 -- input, the output and memory, nothing was written

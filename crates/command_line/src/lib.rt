@@ -21,6 +21,7 @@ mod missed;
 mod performing;
 mod session;
 mod streams;
+mod told_load;
 mod transcript;
 
 pub use explaining::every_reason_is_explained;

@@ -1,10 +1,11 @@
 //! The loading of a text into a file of a deck over a folder.
-ghost use Rattle.std.specs.Prelude.{◌≡◌, [], true, false, codes, string_bytes, Ok, IfErr};
+ghost use Rattle.std.specs.Prelude.{◌≡◌, [], true, false, codes, string_bytes, IfErr};
 ghost use Rattle.record_reading.specs.Whole.{IsWholeForm};
 ghost use Rattle.command_line.specs.CallsMade.{calls_made};
-ghost use Rattle.command_line.specs.Loaded.{load_of, LoadsDescribed, IsShelfFault, TellsLoad, LoadsBytes};
+ghost use Rattle.command_line.specs.Loaded.{load_of, LoadsDescribed, IsShelfFault, LoadsBytes};
 
 use crate::load_form::{FormKind, form_of};
+use crate::told_load::{room_and_path, tell_end};
 use command_outcomes::{Fault, Outcome};
 use command_words::Limits;
 use file_commands::{deck_of, file_named, read_text};
@@ -15,13 +16,10 @@ use record_forms::Form;
 use record_loading::Load;
 use record_reading::items_are_whole;
 use recorded_system::{CallRecord, System};
-use shelf_loading::{ShelfEnd, ShelfFault, add_answer, load_on_shelf};
+use shelf_loading::{ShelfEnd, ShelfFault, load_on_shelf};
 use standard_input::StandardInput;
 use std::alloc::Global;
 use std::io::{Read, Write};
-
-/// The most bytes of an answer: two lines, with a number and two statuses.
-const MOST_BYTES: usize = 64;
 
 /// What is asked of a load: the name of a file in the deck, the path of a text, the word for its
 /// form, whether the file is there, and the limits of its pages.
@@ -99,24 +97,6 @@ fn load_over_folder<S: System + Drop, D: Disk, P: Progress>(
     }
 }
 
-/// Writes the lines that tell of a load, for which there is room; or nothing, where the name has a
-/// file already. Records are loaded by then, so that no other fault is told than that of the output.
-fn write_answer<W: Write>(room: Vec<u8>, end: ShelfEnd, out: &mut W) -> Result<Outcome, Fault>
-    requires { room.items ≡ [] }
-    ensures { TellsLoad (Ok end) (W.contents out.old) (W.contents out.new) result }
-{
-    let mut answer = room;
-    if let ShelfEnd::Loaded(loaded) = end {
-        if add_answer(&mut answer, loaded).is_err() {
-            return Err(Fault::Output);
-        }
-        if out.write_all(&answer).is_err() {
-            return Err(Fault::Output);
-        }
-    }
-    Ok(Outcome::Loaded(end))
-}
-
 #[tactic(auto, using(file_commands::proofs::DeckLemmas::not_there))]
 /// Loads a text of this kind into a file of the deck that the bytes are, over the files of a folder,
 /// and tells how that ended. What was asked before the folder is entered is set aside. `Deck`,
@@ -156,12 +136,12 @@ pub fn load_deck<S: System + Drop, D: Disk, I: Read, P: Progress, W: Write>(
         Ok(text) => text,
         Err(fault) => return (system, Err(fault)),
     };
-    let room = match Vec::with_capacity(alloc, MOST_BYTES) {
-        Ok(room) => room,
-        Err(_) => return (system, Err(Fault::Memory)),
+    let (room, path) = match room_and_path(alloc, folder.as_str(), file) {
+        Ok(had) => had,
+        Err(fault) => return (system, Err(fault)),
     };
     system.exchange_record(aside);
-    let (system, end) = load_over_folder::<S, D, P>(
+    let (mut system, end) = load_over_folder::<S, D, P>(
         system,
         alloc,
         folder,
@@ -173,7 +153,18 @@ pub fn load_deck<S: System + Drop, D: Disk, I: Read, P: Progress, W: Write>(
         progress,
     );
     match end {
-        Ok(end) => (system, write_answer(room, end, out)),
+        Ok(end) => {
+            let told = tell_end(
+                &mut system,
+                alloc,
+                path.as_str(),
+                &file.schema,
+                room,
+                end,
+                out,
+            );
+            (system, told)
+        }
         Err(fault) => (system, Err(fault)),
     }
 }

@@ -1,17 +1,17 @@
-use Rattle.std.proofs.Common.{◌≡◌, ◌≢◌, ℕ, List, find, Some, Ok, Err, IfOk, IfErr, string_bytes, refl, sym, ap, ◌∙◌, inl, inr, subst}
+use Rattle.std.proofs.Common.{◌≡◌, ℕ, List, [], find, Some, Ok, Err, string_bytes, refl, sym, ap, ◌∙◌, inr, subst}
 use Rattle.std.proofs.Common.{Result}
 use Rattle.std.proofs.lemmas.Result.{IfErr-at_err}
 use Rattle.shelf_loading.specs.declared.end.ShelfEnd.{ShelfEnd}
 use Rattle.command_outcomes.specs.declared.fault.Fault.{Fault}
 use Rattle.file_control.specs.Description.{FileDesc}
+use Rattle.record_layout.specs.Schema.{Schema}
 use Rattle.record_loading.specs.Loading.{listing}
+use Rattle.recorded_system.specs.SystemState.{file_path}
 use Rattle.record_loading.specs.declared.end.Load.{Load}
-use Rattle.file_commands.specs.DeckFile.{is_named_in_deck, IsFileOf, IsDeckFault}
+use Rattle.file_commands.specs.DeckFile.{is_named_in_deck, IsFileOf}
 use Rattle.command_line.specs.LoadForm.{form_word}
 use Rattle.command_line.proofs.LoadFormLemmas.{laid_in, form_is_whole}
 use Rattle.command_line.proofs.LoadingLemmas.{told_fault, deck_fault, untouched_unless}
-use Rattle.command_line.proofs.CallsMadeLemmas.{only_reads, asked_reads, asked_nothing}
-use Rattle.file_commands.proofs.DeckLemmas.{not_there}
 use Rattle.command_line.specs.Loaded.{LoadsFolder, TellsLoad, IsShelfFault, load_of}
 use Rattle.command_line.proofs.loading.load_deck.Goals as goal
 
@@ -32,8 +32,8 @@ returns-in-Ok-end g c =
     let end = c.in-Ok-end.end in
     let file = c.in-Some.file.now in
     let before = g.W.Write.contents c.args.out.now in
-    let behind = g.W.Write.contents c.write_answer.new.out in
-    let outcome = c.write_answer.result in
+    let behind = g.W.Write.contents c.tell_end-told.new.out in
+    let outcome = c.tell_end-told.result in
     let system = g.S.System.state c.load_over_folder-system.result.0 in
     let reads = c.in-Ok-read_text.ensures in
     let named : IsFileOf c.in-Ok.deck.files c.args.asked.file.now file =
@@ -41,7 +41,12 @@ returns-in-Ok-end g c =
     let loads_as : Load → List ℕ → Type 0 = λ load text. LoadsFolder g.D.Disk.unseen (string_bytes c.args.folder) file.file file.schema load (listing c.in-Ok-form_of.form text) system (Ok end) in
     let loads : loads_as (load_of c.args.asked.into) c.in-Ok-read_text.text.items =
     subst (loads_as (load_of c.args.asked.into)) c.as_slice-2.ensures.value (subst (λ (load : Load). loads_as load c.as_slice-2.result.now) c.load_of.ensures (subst (λ (r : Result ShelfEnd Fault). LoadsFolder g.D.Disk.unseen (string_bytes c.args.folder) file.file file.schema c.load_of.result (listing c.in-Ok-form_of.form c.as_slice-2.result.now) system r) c.in-Ok-end.is c.load_over_folder-system.ensures.loads)) in
-    let failed = told_fault (Ok end) before behind outcome c.write_answer.ensures in record {
+    let path = file_path (string_bytes c.args.folder) file.file in
+    let calls = c.tell_end-told.ensures.calls in
+    let told_at : List ℕ → Schema → Type 0 = λ at schema. TellsLoad at schema (Ok end) calls before behind outcome in
+    let path_is : c.as_str-in-Ok-end.result.now ≡ path = c.as_str-in-Ok-end.ensures.value ∙ c.in-Ok-room_and_path.ensures.path ∙ ap (λ (of : List ℕ). file_path of file.file) c.as_str.ensures.value in
+    let told : told_at path file.schema = subst (λ (at : List ℕ). told_at at file.schema) path_is (subst (λ (x : FileDesc). told_at c.as_str-in-Ok-end.result.now x.schema) c.file.view_is c.tell_end-told.ensures.so) in
+    let failed = told_fault path file.schema (Ok end) calls before behind outcome told in record {
       came = inr (
         reads.calls,
         c.exchange_record.ensures.other ∙ ap (λ state. state.calls) reads.noted,
@@ -55,11 +60,14 @@ returns-in-Ok-end g c =
           text = c.in-Ok-read_text.text.items;
           is_text = reads.so.text;
           end = Ok end;
+          left = system;
           loads = loads;
-          told = c.write_answer.ensures;
+          calls = calls;
+          behind_load = c.tell_end-told.ensures.noted;
+          told = told;
         },
       );
-      untouched = untouched_unless (c.write_answer.new.out ≡ c.args.out.now) outcome failed;
+      untouched = untouched_unless (c.tell_end-told.new.out ≡ c.args.out.now) outcome failed;
       fault = deck_fault outcome failed;
     }
 
@@ -76,8 +84,9 @@ returns g c =
     let loads_as : Load → List ℕ → Type 0 = λ load text. LoadsFolder g.D.Disk.unseen (string_bytes c.args.folder) file.file file.schema load (listing c.in-Ok-form_of.form text) system (Err fault) in
     let loads : loads_as (load_of c.args.asked.into) c.in-Ok-read_text.text.items =
     subst (loads_as (load_of c.args.asked.into)) c.as_slice-2.ensures.value (subst (λ (load : Load). loads_as load c.as_slice-2.result.now) c.load_of.ensures (subst (λ (r : Result ShelfEnd Fault). LoadsFolder g.D.Disk.unseen (string_bytes c.args.folder) file.file file.schema c.load_of.result (listing c.in-Ok-form_of.form c.as_slice-2.result.now) system r) c.in-Err-end.is c.load_over_folder-system.ensures.loads)) in
-    let told : TellsLoad (Err fault) before before (Err fault) = (refl, IfErr-at_err IsShelfFault c.in-Err-end.is c.load_over_folder-system.ensures.fault, refl) in
-    let failed = told_fault (Err fault) before before (Err fault) told in record {
+    let path = file_path (string_bytes c.args.folder) file.file in
+    let told : TellsLoad path file.schema (Err fault) [] before before (Err fault) = (refl, IfErr-at_err IsShelfFault c.in-Err-end.is c.load_over_folder-system.ensures.fault, refl, refl) in
+    let failed = told_fault path file.schema (Err fault) [] before before (Err fault) told in record {
       came = inr (
         reads.calls,
         c.exchange_record.ensures.other ∙ ap (λ state. state.calls) reads.noted,
@@ -91,7 +100,10 @@ returns g c =
           text = c.in-Ok-read_text.text.items;
           is_text = reads.so.text;
           end = Err fault;
+          left = system;
           loads = loads;
+          calls = [];
+          behind_load = refl;
           told = told;
         },
       );
