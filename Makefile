@@ -1,4 +1,5 @@
-# cobix: `make try` runs a deck over the files of DIR without the proofs, in one to two minutes;
+# cobix: `make try` runs a deck over the files of DIR without the proofs: the program is built in minutes, and kept;
+# `make quick` tries cases, edges and sessions over that program;
 # `make run` proves and builds the program, JOBS crates side by side, and runs a deck;
 # `make test` proves and tests everything,
 # runs the examples, the cases and some of them out of memory, tries the library and, where cobc is there,
@@ -8,7 +9,7 @@
 # `make bench` measures its verbs beside those of GnuCOBOL, where cobc is there;
 # `make install` puts the program that `make run` or `make test` built into PREFIX/bin, its manual page,
 # its completion for bash and its line for file(1) into PREFIX/share.
-.PHONY: try run test install library gnucobol bench
+.PHONY: try quick run test install library gnucobol bench
 
 SHELL = /bin/bash -o pipefail
 DECK = examples/payroll.deck
@@ -16,12 +17,16 @@ DIR = files
 PREFIX = /usr/local
 PROGRAM = crates/cobix/out/cobix
 LISTS = crates/decks_over_lists/out/decks_over_lists
+QUICK = examples cases 'command lines' mistakes edges sessions scripts
 JOBS = 2
 # How many crates the gate proves side by side, each by one process: one a processor, as far as there are four gigabytes for each.
 LANES = $(shell awk -v most=$$(nproc) '/^MemAvailable/ { few = int($$2 / 4000000); print (few < 1 ? 1 : few < most ? few : most) }' /proc/meminfo)
 
 try: | $(DIR)
-	@cd crates/cobix && rt try --data deck=$(abspath $(DECK)) -- run deck --folder $(abspath $(DIR))
+	@program=$$(cases/build-unproved) && $$program run $(DECK) --folder $(DIR)
+
+quick:
+	program=$$(cases/build-unproved) && cases/run $$program $(QUICK)
 
 run: | $(DIR)
 	@cd crates/cobix && rt all check --jobs $(JOBS) >&2 && rt run -- run $(abspath $(DECK)) --folder $(abspath $(DIR))

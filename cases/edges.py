@@ -305,7 +305,7 @@ def runs_at_once(room):
         started = []
         for n in numbers:
             words = room.words(deck("OPEN I-O CUST", "READ CUST NEXT", *added(n, n + 1), "CLOSE CUST"))
-            started.append(subprocess.Popen(words, stdin=subprocess.DEVNULL, stdout=subprocess.PIPE))
+            started.append(subprocess.Popen(words, stdin=subprocess.DEVNULL, stdout=subprocess.PIPE, stderr=subprocess.DEVNULL))
             time.sleep(chosen.choice([0, 0, 0.001, 0.003]))
         told = [it.communicate(timeout=SECONDS)[0].decode().splitlines() for it in started]
         for n, lines in zip(numbers, told):
