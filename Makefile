@@ -7,9 +7,10 @@
 # `make library` proves and builds the library for C and Python (see docs/LIBRARY.md);
 # `make gnucobol` tries COBOL programs at length;
 # `make bench` measures its verbs beside those of GnuCOBOL, where cobc is there;
+# `make dist` and `make deb` pack what `make test` has passed: an archive, and a package for Debian (see docs/INSTALL.md);
 # `make install` puts the program that `make run` or `make test` built into PREFIX/bin, its manual page,
 # its completion for bash and its line for file(1) into PREFIX/share.
-.PHONY: try quick run test install library gnucobol bench
+.PHONY: try quick run test install library gnucobol bench dist deb
 
 SHELL = /bin/bash -o pipefail
 DECK = examples/payroll.deck
@@ -17,6 +18,7 @@ DIR = files
 PREFIX = /usr/local
 PROGRAM = crates/cobix/out/cobix
 LISTS = crates/decks_over_lists/out/decks_over_lists
+PROVED = crates/cobix_inside/out/libcobix_inside.a
 QUICK = examples cases 'command lines' mistakes edges sessions scripts
 JOBS = 2
 # How many crates the gate proves side by side, each by one process: one a processor, as far as there are four gigabytes for each.
@@ -34,12 +36,14 @@ run: | $(DIR)
 $(DIR):
 	mkdir -p $@
 
-# A gate that passes leaves the program that it built in crates/cobix/out.
+# A gate that passes leaves the program that it built in crates/cobix/out, and a note of it in out/gate.
 test:
+	rm -f out/gate
+	mkdir -p out
 	edits/run
 	docs/believed
 	share/write --check
-	RT_JOBS=$(LANES) rt ci
+	RT_JOBS=$(LANES) rt ci | tee out/rt-ci
 	cases/run $(PROGRAM)
 	cases/run-out-of-memory $(PROGRAM) $(LISTS)
 	library/build-proved cobix_inside
@@ -47,6 +51,9 @@ test:
 	make -s -C library
 	gnucobol/test $(PROGRAM) 20
 	docs/check $(PROGRAM)
+	package/gate out/rt-ci $(PROGRAM) $(PROVED) > out/gate.new
+	package/test $(PROGRAM) $(PROVED) out/gate.new
+	mv out/gate.new out/gate
 
 # The proved part is a static library, which the gate proves and does not build.
 library:
@@ -62,6 +69,13 @@ gnucobol: $(PROGRAM) library
 bench: $(PROGRAM)
 	benchmarks/decks/run $(PROGRAM) 10000 20 5 64
 	benchmarks/decks/run $(PROGRAM) 10000 20 5 4096
+
+# To be used without the kit: see docs/INSTALL.md.
+dist:
+	package/archive
+
+deb:
+	package/debian
 
 install: $(PROGRAM)
 	install -D $(PROGRAM) $(PREFIX)/bin/cobix

@@ -2,12 +2,15 @@
 import base64
 import hashlib
 import os
+import re
 import sysconfig
 import zipfile
 
 HERE = os.path.dirname(os.path.abspath(__file__))
 LIBRARY = os.environ.get("COBIX_LIBRARY") or os.path.join(HERE, "..", "out", "libcobix.so.0")
-NAME, VERSION = "cobix", "0.1.0"
+NAME = "cobix"
+with open(os.path.join(HERE, "cobix", "__init__.py"), encoding="utf-8") as _text:
+    VERSION = re.search(r'^__version__ = "(.*)"$', _text.read(), re.M)[1]
 INFO = f"{NAME}-{VERSION}.dist-info"
 TAG = "py3-none-" + sysconfig.get_platform().replace("-", "_").replace(".", "_")
 

@@ -62,6 +62,7 @@ from collections import namedtuple
 from ctypes import POINTER, byref, c_bool, c_char_p, c_int, c_size_t, c_uint, c_uint16, c_uint32, c_void_p
 
 __all__ = ["Session", "File", "Field", "Key", "Error", "EndOfFile", "Clash", "NotFound", "NotPermitted", "Fault", "Unsound", "Misuse"]
+__version__ = "0.1.0"
 
 
 class Error(Exception):
