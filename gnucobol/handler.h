@@ -7,6 +7,10 @@
 #include <stdint.h>
 #include <sys/types.h>
 
+#if !defined ANY_LIBCOB && (!defined __LIBCOB_RELEASE || __LIBCOB_RELEASE < 30100 || __LIBCOB_RELEASE >= 30200)
+#error "this handler is for GnuCOBOL 3.1: other versions have other records of files (see README)"
+#endif
+
 #ifndef HAS_INSIDE
 #define HAS_INSIDE 1
 #endif

@@ -1,7 +1,10 @@
-      *> A month's payroll. Hours that were worked come as lines of text, and wages go to an indexed file, by month and number.
-      *> Then two reports are printed: the wages by department, the highest first; and staff by name, with their department's title.
+      *> A month's payroll. The hours come as lines of text, and wages
+      *> go to an indexed file, by month and number. Then wages are
+      *> printed by department, the highest first; staff by name; and
+      *> the wages of one department, by an alternate key.
       *>
-      *>     cobc -x -fcallfh=cobixfh payroll.cob -L $HOME/.local/lib -lcobixfh
+      *>     cobc -x -fcallfh=cobixfh payroll.cob \
+      *>         -L $HOME/.local/lib -lcobixfh
       *>     ./payroll < hours.txt
        identification division.
        program-id. payroll.
