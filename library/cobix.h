@@ -119,6 +119,9 @@ int cobix_open(const char *folder, const cobix_limits *limits, cobix **session);
    another call is on its way, and nothing was done. */
 int cobix_close(cobix *session);
 
+/* Sequential: WRITE is by rising prime keys, after OPEN OUTPUT or EXTEND; REWRITE and DELETE are of the record that was read just
+   before. Random, dynamic: they are by the prime key, after OPEN OUTPUT (WRITE) or I-O, and not after EXTEND. READ, READ NEXT and START
+   are performed in each of them: a deck or a compiler refuses some (docs/FORMAT.md), and the library does not. */
 typedef enum { COBIX_SEQUENTIAL, COBIX_RANDOM, COBIX_DYNAMIC } cobix_access;
 
 typedef struct {
@@ -129,10 +132,11 @@ typedef struct {
 typedef struct {
     const char *name; /* in the folder: 1 to 64 letters, digits, points, hyphens and underscores; a letter or digit first */
     cobix_access access;
-    bool optional;            /* OPEN of an absent file succeeds */
+    bool optional;            /* OPEN of an absent file succeeds (5): I-O and EXTEND make it, INPUT finds no record in it */
     uint16_t least, greatest; /* the lengths of records in bytes, at most 4,000; all keys are within the least */
     unsigned key_count;       /* 1 to 9 */
-    const cobix_key *keys;    /* the prime key, and then the alternates by rising offset; at most 250 bytes each */
+    const cobix_key *keys;    /* the prime key, and then the alternates by rising offset; at most 250 bytes each, and no two of
+                                 them begin at the same place */
 } cobix_description;
 
 /* Describes a file. Nothing is read or written yet. Up to 64 in a session. *file is NULL where it fails. */
