@@ -9,13 +9,14 @@ use Rattle.file_control.specs.Whole.{IsDescription}
 use Rattle.procedure_division.specs.Procedure.{procedure}
 use Rattle.deck_reader.specs.declared.deck.Deck.{Deck}
 
--- the words are a description, and behind it, from the word PROCEDURE to the end, a procedure
+-- the words are a description, and behind it, from the word PROCEDURE to the end, a procedure of the
+-- deck's statements, which stand at their places
 abbrev pub Spells : List Word → Deck → Type 0
 Spells words deck =
     (description : Description) × IsDescription words description
     × (deck.files ≡ description.files) × (deck.items ≡ description.items)
-    × (procedure (record { files = deck.files; items = deck.items })).Spells deck.statements
-    (drop description.words words) []
+    × (procedure (record { files = deck.files; items = deck.items })).Spells
+    (record { statements = deck.statements; places = deck.places }) (drop description.words words) []
 
 -- the bytes give words, and these spell the deck
 abbrev pub IsDeck : List ℕ → Deck → Type 0

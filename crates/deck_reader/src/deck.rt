@@ -15,25 +15,29 @@ use file_control::{
     DeckFault, Description, FileDesc, FileList, ItemList, LengthItem, Words, are_described,
     describe, one_description, one_reading,
 };
-use procedure_division::{Names, StatementList, one_procedure, only_allowed, read_procedure};
+use procedure_division::{
+    Names, PlacedStatements, StatementList, StatementPlaces, one_procedure, only_allowed,
+    read_procedure,
+};
 use std::alloc::Global;
 
 /// The files of a deck in the order of their SELECT entries, its 77-level items in the order of
-/// their entries, and its statements in their order.
+/// their entries, and its statements in their order and where they stand.
 #[derive(Drop)]
 pub struct Deck {
     pub files: FileList,
     pub items: ItemList,
     pub statements: StatementList,
+    pub places: StatementPlaces,
 }
 
-/// The statements that the words spell, with the names of these files and items.
+/// The statements that the words spell, with the names of these files and items, and their places.
 fn statements_of(
     alloc: Global,
     files: &[FileDesc],
     items: &[LengthItem],
     words: &Words<'_>,
-) -> Result<StatementList, Refusal>
+) -> Result<PlacedStatements, Refusal>
     ensures { GivesOrRefuses (IsProcedure (names_of files.now items.now) words.now) result }
 {
     let names = Names::new(alloc, files, items)?;
@@ -52,11 +56,13 @@ fn read(alloc: Global, words: &Words<'_>) -> Result<Deck, Refusal>
         words: count,
     } = description;
     let rest = words.skip(count);
-    let statements = statements_of(alloc, files.as_slice(), items.as_slice(), &rest)?;
+    let placed = statements_of(alloc, files.as_slice(), items.as_slice(), &rest)?;
+    let PlacedStatements { statements, places } = placed;
     Ok(Deck {
         files,
         items,
         statements,
+        places,
     })
 }
 

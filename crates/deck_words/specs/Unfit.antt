@@ -12,6 +12,11 @@ use Rattle.deck_words.specs.declared.wanted.Wanted.TheVariants as wanted
 use Rattle.deck_words.specs.declared.wanted.WantedClass.{WantedClass}
 use Rattle.deck_words.specs.declared.wanted.WantedClass.TheVariants as class
 
+-- the line of the first word, and 0 where no word is left
+abbrev pub first_line : List Seen → ℕ
+first_line [] = 0
+first_line (word ∷ words) = word.line
+
 -- the line of the first word, or any line where no word is left
 abbrev pub IsFirstLine : List Seen → ℕ → Type 0
 IsFirstLine [] line = Unit {0}

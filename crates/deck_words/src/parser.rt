@@ -3,7 +3,7 @@ ghost use Rattle.std.specs.Prelude.{◌≡◌, ◌≢◌, [], ◌∷◌, map, dr
 ghost use Rattle.std.specs.List.{list_any};
 ghost use Rattle.deck_words.specs.Class.{begins, is_in, this, names, numbers, levels, pictures, signs};
 ghost use Rattle.deck_words.specs.Class.{periods};
-ghost use Rattle.deck_words.specs.Unfit.{IsFirstLine, IsRefusedThere, IsUnfit, class_wanted};
+ghost use Rattle.deck_words.specs.Unfit.{first_line, IsFirstLine, IsRefusedThere, IsUnfit, class_wanted};
 ghost use Rattle.deck_words.specs.Rule.{one};
 ghost use Rattle.deck_words.specs.Notation.{the, may, eaten, name, literal, period};
 ghost use Rattle.deck_words.specs.Operand.{sign, digits};
@@ -148,13 +148,13 @@ impl<'a> Parser<'a> {
         }
     }
 
-    /// The line of the next word, or of the last one.
+    /// The line of the next word, or 0 where none is left.
     pub fn line(&self) -> u64
-        ensures { IsFirstLine self.now result }
+        ensures { result ≡ first_line self.now }
     {
         match &self.next {
             Some(word) => word.line,
-            None => self.behind.end().line,
+            None => 0,
         }
     }
 

@@ -1,7 +1,8 @@
 -- The statements of a procedure are allowed.
-use Rattle.std.proofs.Common.{◌≡◌, ℕ, cond, ◌+◌, ◌<◌, ◌≤◌, ◌==◌, Bool, true, false, not, ◌&&◌, ◌||◌, List, [], ◌∷◌, length, Option, Some, None, refl, sym, ap, ◌∙◌, subst, arith}
+use Rattle.std.proofs.Common.{◌≡◌, ℕ, cond, ◌+◌, ◌<◌, ◌≤◌, ◌==◌, Bool, true, false, not, ◌&&◌, ◌||◌, List, length, Option, Some, None, refl, sym, ap, ◌∙◌, subst, arith}
 use Rattle.std.specs.Prelude.{codes, nat_le, bytes_eq, is_some, position, slice_get, option_and_then, All, IsFalse}
 use Rattle.std.specs.Option.{option_map, option_map_or}
+use Rattle.std.proofs.lemmas.List.Elements.{All-append}
 use Rattle.std.proofs.lemmas.Bool.{false≢true}
 use Rattle.std.proofs.lemmas.Option.{get_or_from_slice_get, slice_get_within, same_Some}
 use Rattle.deck_words.specs.Rule.{Rule, optional, onto, where_it_gives}
@@ -30,12 +31,15 @@ use Rattle.file_control.specs.Description.{FileDesc}
 use Rattle.file_control.specs.Described.{IsDescribedFile, AreDescribed}
 use Rattle.procedure_division.specs.Allowed.{IsAllowedOn, IsAllowed}
 use Rattle.procedure_division.specs.Following.{followed, where_allowed}
+use Rattle.procedure_division.specs.Located.{with_line}
+use Rattle.procedure_division.specs.Placed.{nothing_placed, placed_statement, placed_paragraph, placed_behind}
+use Rattle.procedure_division.specs.declared.placed.PlacedStatements.{PlacedStatements}
 use Rattle.procedure_division.specs.Names.{Names, item_in, item_named, access_at}
-use Rattle.procedure_division.specs.Procedure.{statement, procedure}
-use Rattle.procedure_division.specs.StatementRules.{joined_statements, some_of, one_statement, file, open_statement, close_statement, key, read_operand, read_statement, relation, led_key, start_by, start_statement, source, receiver, move_statement}
+use Rattle.procedure_division.specs.Procedure.{one_statement, statement, paragraph, procedure}
+use Rattle.procedure_division.specs.StatementRules.{joined_statements, some_of, in_its_line, file, open_statement, close_statement, key, read_operand, read_statement, relation, led_key, start_by, start_statement, source, receiver, moved_source, move_statement}
 use Rattle.procedure_division.specs.Parts.{record_named, name_to_open, opening, file_to_close, paragraph_or_sentence}
-use Rattle.procedure_division.proofs.ProcedureLemmas.{next, read_phrases, file_to_start, start_operand, moved_to, receivers, write_statement, rewrite_statement, delete_statement, stop_statement, paragraph, sentence}
-use Rattle.procedure_division.proofs.GivesLemmas.{Gives, gives_second, gives_first, gives_pair, gives_either, gives_as, gives_followed, IfThere, gives_optional, joined_all, gives_some, found, all_at, one_all, field_found, keys_there}
+use Rattle.procedure_division.proofs.ProcedureLemmas.{next, read_phrases, file_to_start, start_operand, moved_to, receivers, write_statement, rewrite_statement, delete_statement, stop_statement, sentence}
+use Rattle.procedure_division.proofs.GivesLemmas.{Gives, gives_with_line, gives_second, gives_first, gives_pair, gives_either, gives_as, gives_one, gives_followed, IfThere, gives_optional, joined_all, gives_some, found, all_at, one_all, field_found, keys_there}
 use Rattle.procedure_division.proofs.SourceLemmas.{HasDigits, gives_source, taken_is_number}
 
 -- by this key, or by the prime key where no KEY phrase stands
@@ -72,7 +76,7 @@ abbrev led_key_named : Names → ℕ → List ℕ → Option (ℕ × ℕ)
 led_key_named names u name = option_and_then (led_key_of names u) (item_in names u name)
 
 -- the MOVE to the item of this name
-abbrev moved_to_named : Names → Source (List ℕ) → List ℕ → Option (List Statement)
+abbrev pub moved_to_named : Names → Source (List ℕ) → List ℕ → Option Statement
 moved_to_named names sent name = moved_to sent (item_named names name) (length_item_of names name)
 
 -- ---- the file of a place
@@ -88,35 +92,49 @@ pub gives_record_name : (names : Names) → Gives (IsFileOf names) (record_named
 unfolding record_named
 gives_record_name names = gives_as (λ _. Unit {0}) (IsFileOf names) (λ text. position (λ known. is_named text known.entry) names.files) name (λ _ _ _ _. tt) (λ text u _ e. let f = found (λ known. is_named text known.entry) names.files u e in (f.0, f.1))
 
--- a rule whose value is one statement
-gives_one : {A : Type 0} (names : Names) (P : A → Type 0) (g : A → Statement) (p : Rule A) → Gives P p → ((x : A) → P x → IsAllowed names (g x)) → Gives (All (IsAllowed names)) (where_it_gives (λ x. Some (g x ∷ [])) p)
-gives_one names P g p h k =
-    gives_as P (All (IsAllowed names)) (λ x. Some (g x ∷ [])) p h (λ x y px e. subst (All (IsAllowed names)) (same_Some (g x ∷ []) y e) (one_all (IsAllowed names) (g x) (k x px)))
+-- all of these statements are allowed
+abbrev pub AreAllowed : Names → PlacedStatements → Type 0
+AreAllowed names placed = All (IsAllowed names) placed.statements
+
+nothing_all : (names : Names) → AreAllowed names nothing_placed
+nothing_all names i d within = absurd (omega (arith, within))
+
+join_all : (names : Names) (before after : PlacedStatements) → AreAllowed names before → AreAllowed names after → AreAllowed names (placed_behind before after)
+join_all names before after all more = All-append (IsAllowed names) before.statements after.statements all more
+
+some_all : (names : Names) (p : Rule PlacedStatements) → Gives (AreAllowed names) p → Gives (AreAllowed names) (some_of p)
+some_all names p h = gives_some (AreAllowed names) (nothing_all names) (join_all names) p h
+
+-- an allowed statement, in its line
+pub gives_placed : (names : Names) (p : Rule Statement) → Gives (IsAllowed names) p → Gives (AreAllowed names) (in_its_line p)
+gives_placed names p h =
+    gives_one (λ (s : ℕ × Statement). IsAllowed names s.1) (AreAllowed names) (λ (s : ℕ × Statement). placed_statement s.0 s.1) (with_line p) (gives_with_line (IsAllowed names) p h) (λ s a. one_all (IsAllowed names) s.1 a)
 
 access_is : (names : Names) (u : ℕ) (known : FileDesc) → slice_get names.files u ≡ Some known → access_at names u ≡ known.access
 access_is names u known e = ap (λ o. option_map_or (λ file. file.access) o Sequential) e
 
 -- ---- OPEN and CLOSE
 
-open_allowed : (names : Names) (mode : OpenMode) (u : ℕ) (statements : List Statement) → IsFileOf names u → cond (may_open (access_at names u) mode) (Some (one_statement u (Open mode))) None ≡ Some statements → All (IsAllowed names) statements
-open_allowed names mode u statements f e =
-    let t = then_some (may_open (access_at names u) mode) (Some (one_statement u (Open mode))) statements e in
-    subst (All (IsAllowed names)) (same_Some (one_statement u (Open mode)) statements t.1)
-    (one_all (IsAllowed names) (Perform u (Open mode)) (f.0, f.1, subst (λ access. may_open access mode ≡ true) (access_is names u f.0 f.1) t.0))
+open_allowed : (names : Names) (mode : OpenMode) (u : ℕ) (statement : Statement) → IsFileOf names u → cond (may_open (access_at names u) mode) (Some (Perform u (Open mode))) None ≡ Some statement → IsAllowed names statement
+open_allowed names mode u statement f e =
+    let t = then_some (may_open (access_at names u) mode) (Some (Perform u (Open mode))) statement e in
+    subst (IsAllowed names) (same_Some (Perform u (Open mode)) statement t.1)
+    (f.0, f.1, subst (λ access. may_open access mode ≡ true) (access_is names u f.0 f.1) t.0)
 
-pub gives_opened : (names : Names) (mode : OpenMode) → Gives (All (IsAllowed names)) (name_to_open names mode)
+pub gives_opened : (names : Names) (mode : OpenMode) → Gives (AreAllowed names) (name_to_open names mode)
 unfolding name_to_open
 gives_opened names mode =
-    gives_as (IsFileOf names) (All (IsAllowed names)) (λ u. cond (may_open (access_at names u) mode) (Some (one_statement u (Open mode))) None) (file names) (gives_file names) (open_allowed names mode)
+    let test = λ (u : ℕ). cond (may_open (access_at names u) mode) (Some (Perform u (Open mode))) None in
+    gives_placed names (where_it_gives test (file names)) (gives_as (IsFileOf names) (IsAllowed names) test (file names) (gives_file names) (open_allowed names mode))
 
-opened_all : (names : Names) (text : List ℕ) (mode : OpenMode) → Gives (All (IsAllowed names)) (the text ▸ some_of (name_to_open names mode))
+opened_all : (names : Names) (text : List ℕ) (mode : OpenMode) → Gives (AreAllowed names) (the text ▸ some_of (name_to_open names mode))
 opened_all names text mode =
-    gives_second (All (IsAllowed names)) (the text) (some_of (name_to_open names mode)) (gives_some (IsAllowed names) (name_to_open names mode) (gives_opened names mode))
+    gives_second (AreAllowed names) (the text) (some_of (name_to_open names mode)) (some_all names (name_to_open names mode) (gives_opened names mode))
 
-pub gives_opening : (names : Names) → Gives (All (IsAllowed names)) (opening names)
+pub gives_opening : (names : Names) → Gives (AreAllowed names) (opening names)
 unfolding opening
 gives_opening names =
-    let P = All (IsAllowed names) in
+    let P = AreAllowed names in
     let input = the (codes "INPUT") ▸ some_of (name_to_open names Input) in
     let output = the (codes "OUTPUT") ▸ some_of (name_to_open names Output) in
     let update = the (codes "I-O") ▸ some_of (name_to_open names InputOutput) in
@@ -125,42 +143,43 @@ gives_opening names =
     (gives_either P output (update ∣ extend) (opened_all names (codes "OUTPUT") Output)
     (gives_either P update extend (opened_all names (codes "I-O") InputOutput) (opened_all names (codes "EXTEND") Extend)))
 
-pub gives_open : (names : Names) → Gives (All (IsAllowed names)) (open_statement names)
+pub gives_open : (names : Names) → Gives (AreAllowed names) (open_statement names)
 unfolding open_statement opening name_to_open
 gives_open names =
-    gives_second (All (IsAllowed names)) (the (codes "OPEN")) (some_of (opening names)) (gives_some (IsAllowed names) (opening names) (gives_opening names))
+    gives_second (AreAllowed names) (the (codes "OPEN")) (some_of (opening names)) (some_all names (opening names) (gives_opening names))
 
-pub gives_closed : (names : Names) → Gives (All (IsAllowed names)) (file_to_close names)
+pub gives_closed : (names : Names) → Gives (AreAllowed names) (file_to_close names)
 unfolding file_to_close
 gives_closed names =
-    gives_one names (λ c. IsFileOf names c.0 × Unit {0}) (λ c. Perform c.0 (Close c.1)) (file names ⊗ lock)
-    (gives_pair (IsFileOf names) (λ _. Unit {0}) (file names) lock (gives_file names) (λ _ _ _ _. tt)) (λ c p. (p.0.0, p.0.1, tt))
+    gives_placed names ((λ c. Perform c.0 (Close c.1)) <$> file names ⊗ lock)
+    (gives_one (λ (c : ℕ × Bool). IsFileOf names c.0 × Unit {0}) (IsAllowed names) (λ (c : ℕ × Bool). Perform c.0 (Close c.1)) (file names ⊗ lock)
+    (gives_pair (IsFileOf names) (λ _. Unit {0}) (file names) lock (gives_file names) (λ _ _ _ _. tt)) (λ c p. (p.0.0, p.0.1, tt)))
 
-pub gives_close : (names : Names) → Gives (All (IsAllowed names)) (close_statement names)
+pub gives_close : (names : Names) → Gives (AreAllowed names) (close_statement names)
 unfolding close_statement file_to_close
 gives_close names =
-    gives_second (All (IsAllowed names)) (the (codes "CLOSE")) (some_of (file_to_close names)) (gives_some (IsAllowed names) (file_to_close names) (gives_closed names))
+    gives_second (AreAllowed names) (the (codes "CLOSE")) (some_of (file_to_close names)) (some_all names (file_to_close names) (gives_closed names))
 
 -- ---- WRITE, REWRITE, DELETE and STOP
 
-pub gives_write : (names : Names) → Gives (All (IsAllowed names)) (write_statement names)
+pub gives_write : (names : Names) → Gives (IsAllowed names) (write_statement names)
 gives_write names =
-    gives_one names (IsFileOf names) (λ u. Perform u Write) (the (codes "WRITE") ▸ record_named names)
+    gives_one (IsFileOf names) (IsAllowed names) (λ u. Perform u Write) (the (codes "WRITE") ▸ record_named names)
     (gives_second (IsFileOf names) (the (codes "WRITE")) (record_named names) (gives_record_name names)) (λ u p. (p.0, p.1, tt))
 
-pub gives_rewrite : (names : Names) → Gives (All (IsAllowed names)) (rewrite_statement names)
+pub gives_rewrite : (names : Names) → Gives (IsAllowed names) (rewrite_statement names)
 gives_rewrite names =
-    gives_one names (IsFileOf names) (λ u. Perform u Rewrite) (the (codes "REWRITE") ▸ record_named names)
+    gives_one (IsFileOf names) (IsAllowed names) (λ u. Perform u Rewrite) (the (codes "REWRITE") ▸ record_named names)
     (gives_second (IsFileOf names) (the (codes "REWRITE")) (record_named names) (gives_record_name names)) (λ u p. (p.0, p.1, tt))
 
-pub gives_delete : (names : Names) → Gives (All (IsAllowed names)) (delete_statement names)
+pub gives_delete : (names : Names) → Gives (IsAllowed names) (delete_statement names)
 gives_delete names =
-    gives_one names (IsFileOf names) (λ u. Perform u Delete) (the (codes "DELETE") ▸ file names ◂ may (codes "RECORD"))
+    gives_one (IsFileOf names) (IsAllowed names) (λ u. Perform u Delete) (the (codes "DELETE") ▸ file names ◂ may (codes "RECORD"))
     (gives_second (IsFileOf names) (the (codes "DELETE")) (file names ◂ may (codes "RECORD"))
     (gives_first (IsFileOf names) (file names) (may (codes "RECORD")) (gives_file names))) (λ u p. (p.0, p.1, tt))
 
-pub gives_stop : (names : Names) → Gives (All (IsAllowed names)) stop_statement
-gives_stop names = gives_one names (λ _. Unit {0}) (λ _. StopRun) (the (codes "STOP") ▸ the (codes "RUN")) (λ _ _ _ _. tt) (λ _ _. tt)
+pub gives_stop : (names : Names) → Gives (IsAllowed names) stop_statement
+gives_stop names = gives_one (λ _. Unit {0}) (IsAllowed names) (λ _. StopRun) (the (codes "STOP") ▸ the (codes "RUN")) (λ _ _ _ _. tt) (λ _ _. tt)
 
 -- ---- READ
 
@@ -219,27 +238,27 @@ module _ (names : Names) (u : ℕ) (known : FileDesc) (at : slice_get names.file
   read_allowed keys true (Some k) way h = absurd (false≢true (sym h.0))
   read_allowed keys false (Some k) way h = (way, h.1)
 
-  pub gives_read_operand : AreKeys known.schema.keys → (sequential : Bool) → IsWay known.access sequential → Gives (All (IsAllowed names)) (read_operand names u sequential)
+  pub gives_read_operand : AreKeys known.schema.keys → (sequential : Bool) → IsWay known.access sequential → Gives (IsAllowed names) (read_operand names u sequential)
   unfolding read_operand
   gives_read_operand keys sequential way =
       let Q = IfThere (λ (k : ℕ). (sequential ≡ false) × (k < length known.schema.keys)) in
-      gives_one names Q (λ k. Perform u (read_by sequential k)) (may (codes "RECORD") ▸ key_phrase sequential)
+      gives_one Q (IsAllowed names) (λ k. Perform u (read_by sequential k)) (may (codes "RECORD") ▸ key_phrase sequential)
       (gives_second Q (may (codes "RECORD")) (key_phrase sequential) (gives_key_phrase sequential))
       (λ k h. (known, at, read_allowed keys sequential k way h))
 
-  pub gives_read_phrases : AreKeys known.schema.keys → Gives (All (IsAllowed names)) (read_phrases names u)
+  pub gives_read_phrases : AreKeys known.schema.keys → Gives (IsAllowed names) (read_phrases names u)
   gives_read_phrases keys =
-      gives_followed (IsWay (access_at names u)) (All (IsAllowed names)) false (next (access_at names u)) (read_operand names u) (gives_next (access_at names u))
+      gives_followed (IsWay (access_at names u)) (IsAllowed names) false (next (access_at names u)) (read_operand names u) (gives_next (access_at names u))
       (λ sequential way. gives_read_operand keys sequential (subst (λ access. IsWay access sequential) (access_is names u known at) way))
 
 keys_of : (names : Names) → AreDescribed names.files names.items → (u : ℕ) (known : FileDesc) → slice_get names.files u ≡ Some known → IsSchema known.schema
 keys_of names described u known at = (all_at (IsDescribedFile (length names.items)) names.files u known described.files_are at).schema
 
-pub gives_read : (names : Names) → AreDescribed names.files names.items → Gives (All (IsAllowed names)) (read_statement names)
+pub gives_read : (names : Names) → AreDescribed names.files names.items → Gives (IsAllowed names) (read_statement names)
 unfolding read_statement
 gives_read names described =
-    gives_second (All (IsAllowed names)) (the (codes "READ")) (followed 0 (file names) (read_phrases names))
-    (gives_followed (IsFileOf names) (All (IsAllowed names)) 0 (file names) (read_phrases names) (gives_file names)
+    gives_second (IsAllowed names) (the (codes "READ")) (followed 0 (file names) (read_phrases names))
+    (gives_followed (IsFileOf names) (IsAllowed names) 0 (file names) (read_phrases names) (gives_file names)
     (λ u f. gives_read_phrases names u f.0 f.1 (keys_of names described u f.0 f.1).keys))
 
 -- ---- START
@@ -307,23 +326,23 @@ module _ (names : Names) (u : ℕ) (known : FileDesc) (at : slice_get names.file
   start_allowed described way None h = let p = prime_led described in (way, p.0, p.1, p.2)
   start_allowed described way (Some operand) h = (way, h.0, h.1, h.2)
 
-  pub gives_start_operand : IsRecord known.layout → IsSchema known.schema → IsFalse (is_random known.access) → Gives (All (IsAllowed names)) (start_operand names u)
+  pub gives_start_operand : IsRecord known.layout → IsSchema known.schema → IsFalse (is_random known.access) → Gives (IsAllowed names) (start_operand names u)
   gives_start_operand record_is schema_is way =
-      gives_one names (IfThere (λ operand. IsLed known operand.1.0 operand.1.1)) (λ operand. Perform u (start_by names u operand)) start_phrase (gives_start_phrase record_is)
+      gives_one (IfThere (λ operand. IsLed known operand.1.0 operand.1.1)) (IsAllowed names) (λ operand. Perform u (start_by names u operand)) start_phrase (gives_start_phrase record_is)
       (λ operand h. (known, at, start_allowed schema_is way operand h))
 
-pub gives_start : (names : Names) → AreDescribed names.files names.items → Gives (All (IsAllowed names)) (start_statement names)
+pub gives_start : (names : Names) → AreDescribed names.files names.items → Gives (IsAllowed names) (start_statement names)
 unfolding start_statement
 gives_start names described =
-    gives_second (All (IsAllowed names)) (the (codes "START")) (followed 0 (file_to_start names) (start_operand names))
-    (gives_followed (λ u. (known : FileDesc) × (slice_get names.files u ≡ Some known) × IsFalse (is_random known.access)) (All (IsAllowed names)) 0 (file_to_start names) (start_operand names) (gives_file_to_start names)
+    gives_second (IsAllowed names) (the (codes "START")) (followed 0 (file_to_start names) (start_operand names))
+    (gives_followed (λ u. (known : FileDesc) × (slice_get names.files u ≡ Some known) × IsFalse (is_random known.access)) (IsAllowed names) 0 (file_to_start names) (start_operand names) (gives_file_to_start names)
     (λ u f. let d = all_at (IsDescribedFile (length names.items)) names.files u f.0 described.files_are f.1 in gives_start_operand names u f.0 f.1 d.layout d.schema f.2))
 
 -- ---- MOVE
 
-move_allowed : (names : Names) → AreDescribed names.files names.items → (sent : Source (List ℕ)) → HasDigits sent → (text : List ℕ) (item : Option (ℕ × Field)) (place : Option ℕ) (statements : List Statement) → item_named names text ≡ item → length_item_of names text ≡ place → moved_to sent item place ≡ Some statements → All (IsAllowed names) statements
-move_allowed names described sent numeral text (Some item) place statements e p m =
-    let t = then_some (is_taken_by item.1.numeric sent) (Some (Move item.0 item.1 sent ∷ [])) statements m in
+move_allowed : (names : Names) → AreDescribed names.files names.items → (sent : Source (List ℕ)) → HasDigits sent → (text : List ℕ) (item : Option (ℕ × Field)) (place : Option ℕ) (statement : Statement) → item_named names text ≡ item → length_item_of names text ≡ place → moved_to sent item place ≡ Some statement → IsAllowed names statement
+move_allowed names described sent numeral text (Some item) place statement e p m =
+    let t = then_some (is_taken_by item.1.numeric sent) (Some (Move item.0 item.1 sent)) statement m in
     let a = bind_some (λ u. option_map {U = ℕ × Field} (λ field. (u, field)) (item_in names u text)) (position (λ known. is_some (field_of known.layout text)) names.files) item e in
     let b = map_some (λ field. (a.0, field)) (item_in names a.0 text) item a.2 in
     let f = found (λ known. is_some (field_of known.layout text)) names.files a.0 a.1 in
@@ -331,76 +350,80 @@ move_allowed names described sent numeral text (Some item) place statements e p 
     let fits = item_fits f.0.layout d.layout text b.0 (sym (item_in_is names a.0 f.0 f.1 text) ∙ b.1) in
     let at : slice_get names.files item.0 ≡ Some f.0 = subst (λ (item : ℕ × Field). slice_get names.files item.0 ≡ Some f.0) b.2 f.1 in
     let within : item.1.offset + item.1.length ≤ length_of f.0.layout = subst (λ (item : ℕ × Field). item.1.offset + item.1.length ≤ length_of f.0.layout) b.2 fits.1 in
-    subst (All (IsAllowed names)) (same_Some (Move item.0 item.1 sent ∷ []) statements t.1) (one_all (IsAllowed names) (Move item.0 item.1 sent) (f.0, at, within, t.0))
-move_allowed names described sent numeral text None (Some i) statements e p m =
-    let t = then_some (is_taken_by true sent) (Some (MoveLength i sent ∷ [])) statements m in
+    subst (IsAllowed names) (same_Some (Move item.0 item.1 sent) statement t.1) (f.0, at, within, t.0)
+move_allowed names described sent numeral text None (Some i) statement e p m =
+    let t = then_some (is_taken_by true sent) (Some (MoveLength i sent)) statement m in
     let f = found (λ item. bytes_eq item.name text) names.items i p in
-    subst (All (IsAllowed names)) (same_Some (MoveLength i sent ∷ []) statements t.1) (one_all (IsAllowed names) (MoveLength i sent) (slice_get_within names.items i f.0 f.1, taken_is_number sent numeral t.0))
-move_allowed names described sent numeral text None None statements e p m = absurd (cc)
+    subst (IsAllowed names) (same_Some (MoveLength i sent) statement t.1) (slice_get_within names.items i f.0 f.1, taken_is_number sent numeral t.0)
+move_allowed names described sent numeral text None None statement e p m = absurd (cc)
 
-pub gives_receiver : (names : Names) → AreDescribed names.files names.items → (sent : Source (List ℕ)) → HasDigits sent → Gives (All (IsAllowed names)) (receiver names sent)
+pub gives_receiver : (names : Names) → AreDescribed names.files names.items → (line : ℕ) (sent : Source (List ℕ)) → HasDigits sent → Gives (AreAllowed names) (receiver names line sent)
 unfolding receiver
-gives_receiver names described sent numeral =
-    gives_as (λ _. Unit {0}) (All (IsAllowed names)) (moved_to_named names sent) name (λ _ _ _ _. tt)
-    (λ text statements _ e. move_allowed names described sent numeral text (item_named names text) (length_item_of names text) statements refl refl e)
+gives_receiver names described line sent numeral =
+    gives_one (IsAllowed names) (AreAllowed names) (placed_statement line) (where_it_gives (moved_to_named names sent) name)
+    (gives_as (λ _. Unit {0}) (IsAllowed names) (moved_to_named names sent) name (λ _ _ _ _. tt)
+    (λ text statement _ e. move_allowed names described sent numeral text (item_named names text) (length_item_of names text) statement refl refl e))
+    (λ statement a. one_all (IsAllowed names) statement a)
 
-pub gives_receivers : (names : Names) → AreDescribed names.files names.items → (sent : Source (List ℕ)) → HasDigits sent → Gives (All (IsAllowed names)) (receivers names sent)
-gives_receivers names described sent numeral =
-    gives_second (All (IsAllowed names)) (the (codes "TO")) (some_of (receiver names sent)) (gives_some (IsAllowed names) (receiver names sent) (gives_receiver names described sent numeral))
+pub gives_receivers : (names : Names) → AreDescribed names.files names.items → (move : ℕ × Source (List ℕ)) → HasDigits move.1 → Gives (AreAllowed names) (receivers names move)
+gives_receivers names described move numeral =
+    gives_second (AreAllowed names) (the (codes "TO")) (some_of (receiver names move.0 move.1)) (some_all names (receiver names move.0 move.1) (gives_receiver names described move.0 move.1 numeral))
 
-pub gives_move : (names : Names) → AreDescribed names.files names.items → Gives (All (IsAllowed names)) (move_statement names)
+gives_moved_source : Gives HasDigits moved_source
+unfolding moved_source
+gives_moved_source = gives_second HasDigits (the (codes "MOVE")) source gives_source
+
+pub gives_move : (names : Names) → AreDescribed names.files names.items → Gives (AreAllowed names) (move_statement names)
 unfolding move_statement
 gives_move names described =
-    gives_second (All (IsAllowed names)) (the (codes "MOVE")) (followed (Fill Zero) source (receivers names))
-    (gives_followed HasDigits (All (IsAllowed names)) (Fill Zero) source (receivers names) gives_source (gives_receivers names described))
+    gives_followed (λ (move : ℕ × Source (List ℕ)). HasDigits move.1) (AreAllowed names) (0, Fill Zero) (with_line moved_source) (receivers names) (gives_with_line HasDigits moved_source gives_moved_source) (gives_receivers names described)
 
 -- ---- the procedure
 
-pub gives_statement : (names : Names) → AreDescribed names.files names.items → Gives (All (IsAllowed names)) (statement names)
-unfolding statement record_named
+pub gives_one_statement : (names : Names) → AreDescribed names.files names.items → Gives (IsAllowed names) (one_statement names)
+unfolding one_statement record_named
+gives_one_statement names described =
+    let P = IsAllowed names in
+    let five = delete_statement names ∣ stop_statement in
+    let four = rewrite_statement names ∣ five in
+    let three = write_statement names ∣ four in
+    let two = start_statement names ∣ three in
+    gives_either P (read_statement names) two (gives_read names described)
+    (gives_either P (start_statement names) three (gives_start names described)
+    (gives_either P (write_statement names) four (gives_write names)
+    (gives_either P (rewrite_statement names) five (gives_rewrite names)
+    (gives_either P (delete_statement names) stop_statement (gives_delete names) (gives_stop names)))))
+
+pub gives_statement : (names : Names) → AreDescribed names.files names.items → Gives (AreAllowed names) (statement names)
+unfolding statement
 gives_statement names described =
-    let P = All (IsAllowed names) in
-    let last = stop_statement in
-    let eight = move_statement names ∣ last in
-    let seven = delete_statement names ∣ eight in
-    let six = rewrite_statement names ∣ seven in
-    let five = write_statement names ∣ six in
-    let four = start_statement names ∣ five in
-    let three = read_statement names ∣ four in
-    let two = close_statement names ∣ three in
-    gives_either P (open_statement names) two (gives_open names)
-    (gives_either P (close_statement names) three (gives_close names)
-    (gives_either P (read_statement names) four (gives_read names described)
-    (gives_either P (start_statement names) five (gives_start names described)
-    (gives_either P (write_statement names) six (gives_write names)
-    (gives_either P (rewrite_statement names) seven (gives_rewrite names)
-    (gives_either P (delete_statement names) eight (gives_delete names)
-    (gives_either P (move_statement names) last (gives_move names described) (gives_stop names))))))))
+    let P = AreAllowed names in
+    let last = in_its_line (one_statement names) in
+    gives_either P (open_statement names) (close_statement names ∣ move_statement names ∣ last) (gives_open names)
+    (gives_either P (close_statement names) (move_statement names ∣ last) (gives_close names)
+    (gives_either P (move_statement names) last (gives_move names described) (gives_placed names (one_statement names) (gives_one_statement names described))))
 
-pub gives_sentence : (names : Names) → AreDescribed names.files names.items → Gives (All (IsAllowed names)) (sentence names)
+pub gives_sentence : (names : Names) → AreDescribed names.files names.items → Gives (AreAllowed names) (sentence names)
 gives_sentence names described =
-    gives_first (All (IsAllowed names)) (some_of (statement names)) period (gives_some (IsAllowed names) (statement names) (gives_statement names described))
+    gives_first (AreAllowed names) (some_of (statement names)) period (some_all names (statement names) (gives_statement names described))
 
-nothing_all : (P : Statement → Type 0) → All P []
-nothing_all P = λ i d within. absurd (omega (arith, within))
-
-pub gives_paragraph : (names : Names) → Gives (All (IsAllowed names)) paragraph
+pub gives_paragraph : (names : Names) → Gives (AreAllowed names) paragraph
+unfolding paragraph
 gives_paragraph names =
-    gives_as (λ _. Unit {0}) (All (IsAllowed names)) (λ _. Some []) (name ▸ period) (λ _ _ _ _. tt)
-    (λ _ statements _ e. subst (All (IsAllowed names)) (same_Some {A = List Statement} [] statements e) (nothing_all (IsAllowed names)))
+    gives_one (λ _. Unit {0}) (AreAllowed names) (λ (p : ℕ × List ℕ). placed_paragraph p.0 p.1) (with_line (name ◂ period)) (λ _ _ _ _. tt) (λ _ _. nothing_all names)
 
-pub gives_turn : (names : Names) → AreDescribed names.files names.items → Gives (All (IsAllowed names)) (paragraph_or_sentence names)
+pub gives_turn : (names : Names) → AreDescribed names.files names.items → Gives (AreAllowed names) (paragraph_or_sentence names)
 unfolding paragraph_or_sentence
 gives_turn names described =
-    gives_either (All (IsAllowed names)) paragraph (sentence names) (gives_paragraph names) (gives_sentence names described)
+    gives_either (AreAllowed names) paragraph (sentence names) (gives_paragraph names) (gives_sentence names described)
 
 -- every statement of a procedure is allowed
-pub all_allowed : (names : Names) → AreDescribed names.files names.items → Gives (All (IsAllowed names)) (procedure names)
+pub all_allowed : (names : Names) → AreDescribed names.files names.items → Gives (AreAllowed names) (procedure names)
 unfolding procedure paragraph_or_sentence
 all_allowed names described =
-    let P = All (IsAllowed names) in
-    let turns = onto joined_statements [] (paragraph_or_sentence names) in
+    let P = AreAllowed names in
+    let turns = onto joined_statements nothing_placed (paragraph_or_sentence names) in
     gives_second P (the (codes "PROCEDURE")) (the (codes "DIVISION") ▸ period ▸ turns)
     (gives_second P (the (codes "DIVISION")) (period ▸ turns)
     (gives_second P period turns (λ statements words rest s.
-    joined_all (IsAllowed names) (paragraph_or_sentence names) (gives_turn names described) [] statements s.0 words rest (nothing_all (IsAllowed names)) s.1)))
+    joined_all P (nothing_all names) (join_all names) (paragraph_or_sentence names) (gives_turn names described) nothing_placed statements s.0 words rest (nothing_all names) s.1)))

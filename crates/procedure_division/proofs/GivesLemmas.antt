@@ -1,8 +1,7 @@
 -- What is true of the values of a rule, and of what stands at a place.
-use Rattle.std.proofs.Common.{◌≡◌, ℕ, zero, suc, cond, ◌<◌, Bool, true, false, inl, inr, List, [], ◌∷◌, ◌++◌, length, Option, Some, None, refl, sym, subst, arith}
+use Rattle.std.proofs.Common.{◌≡◌, ℕ, zero, suc, cond, ◌<◌, Bool, true, false, inl, inr, List, [], ◌∷◌, length, Option, Some, None, refl, sym, subst, arith}
 use Rattle.std.specs.Prelude.{position, slice_get, All}
 use Rattle.std.proofs.Math.ListN.{get_or}
-use Rattle.std.proofs.lemmas.List.Elements.{All-append}
 use Rattle.std.proofs.lemmas.List.Quantifiers.{position-Some}
 use Rattle.std.proofs.lemmas.Option.{slice_get-get_or, get_or_from_slice_get, slice_get_within, same_Some}
 use Rattle.deck_words.specs.Word.{Word}
@@ -12,8 +11,10 @@ use Rattle.record_layout.specs.declared.item.Field.{Field}
 use Rattle.record_layout.specs.declared.schema.KeyPart.{KeyPart}
 use Rattle.record_layout.specs.Layout.{Placed, is_named, field_of}
 use Rattle.record_layout.specs.Schema.{AreKeys}
-use Rattle.procedure_division.specs.declared.statement.Statement.{Statement}
+use Rattle.procedure_division.specs.declared.placed.PlacedStatements.{PlacedStatements}
 use Rattle.procedure_division.specs.Following.{followed}
+use Rattle.procedure_division.specs.Located.{with_line}
+use Rattle.procedure_division.specs.Placed.{nothing_placed, placed_behind}
 use Rattle.procedure_division.specs.StatementRules.{joined_statements, some_of, key}
 
 -- ---- what a rule's values are
@@ -36,6 +37,10 @@ gives_either P p q h k x words rest s = elim s [ inl s ↦ h x words rest s | in
 pub gives_as : {A B : Type 0} (P : A → Type 0) (Q : B → Type 0) (f : A → Option B) (p : Rule A) → Gives P p → ((x : A) (y : B) → P x → f x ≡ Some y → Q y) → Gives Q (where_it_gives f p)
 gives_as P Q f p h k y words rest s = k s.0 y (h s.0 words rest s.2) s.1
 
+-- what a function makes of a rule's value
+pub gives_one : {A B : Type 0} (P : A → Type 0) (Q : B → Type 0) (g : A → B) (p : Rule A) → Gives P p → ((x : A) → P x → Q (g x)) → Gives Q (where_it_gives (λ x. Some (g x)) p)
+gives_one P Q g p h k = gives_as P Q (λ x. Some (g x)) p h (λ x y px e. subst Q (same_Some (g x) y e) (k x px))
+
 pub gives_followed : {A B : Type 0} (P : A → Type 0) (Q : B → Type 0) (sample : A) (p : Rule A) (q : A → Rule B) → Gives P p → ((x : A) → P x → Gives Q (q x)) → Gives Q (followed sample p q)
 gives_followed P Q sample p q h k y words rest s = k s.0 (h s.0 words s.1 s.2) y s.1 rest s.3
 
@@ -47,14 +52,18 @@ pub gives_optional : {A : Type 0} (P : A → Type 0) (p : Rule A) → Gives P p 
 gives_optional P p h None words rest s = tt
 gives_optional P p h (Some x) words rest s = h x words rest s
 
-module _ (P : Statement → Type 0) (p : Rule (List Statement)) (h : Gives (All P) p) where
-  pub joined_all : (before after : List Statement) (us : List (List Statement)) (words rest : List Word) → All P before → SpellsTurns (λ u. where_it_gives (joined_statements u) p) before us after words rest → All P after
-  joined_all before after [] words rest all s = subst (All P) s.0 all
+-- of no statements it is true, and of those behind others where it is of both
+module _ (P : PlacedStatements → Type 0) (nothing : P nothing_placed) (join : (before after : PlacedStatements) → P before → P after → P (placed_behind before after)) (p : Rule PlacedStatements) (h : Gives P p) where
+  pub joined_all : (before after : PlacedStatements) (us : List PlacedStatements) (words rest : List Word) → P before → SpellsTurns (λ u. where_it_gives (joined_statements u) p) before us after words rest → P after
+  joined_all before after [] words rest all s = subst P s.0 all
   joined_all before after (u ∷ us) words rest all s =
-      joined_all u after us s.0 rest (subst (All P) (same_Some (before ++ s.1.0) u s.1.1) (All-append P before s.1.0 all (h s.1.0 words s.0 s.1.2))) s.2
+      joined_all u after us s.0 rest (subst P (same_Some (placed_behind before s.1.0) u s.1.1) (join before s.1.0 all (h s.1.0 words s.0 s.1.2))) s.2
 
-  pub gives_some : Gives (All P) (some_of p)
-  gives_some after words rest s = joined_all [] after (s.0 ∷ s.1) words rest (λ i d within. absurd (omega (arith, within))) s.2
+  pub gives_some : Gives P (some_of p)
+  gives_some after words rest s = joined_all nothing_placed after (s.0 ∷ s.1) words rest nothing s.2
+
+pub gives_with_line : {A : Type 0} (P : A → Type 0) (p : Rule A) → Gives P p → Gives (λ x. P x.1) (with_line p)
+gives_with_line P p h x words rest s = h x.1 words rest s.1
 
 -- ---- places
 

@@ -1,8 +1,7 @@
 -- Statements that are read behind others: a repeated rule goes on from those that there are.
-use Rattle.std.proofs.Common.{◌≡◌, ℕ, ◌<◌, zero, suc, Bool, true, false, cond, List, [], ◌++◌, length, Option, Some, None, refl, sym, ap, ◌∙◌}
+use Rattle.std.proofs.Common.{◌≡◌, ℕ, ◌<◌, zero, suc, Bool, true, false, cond, List, length, Option, Some, None, refl, sym, ap, ◌∙◌}
 use Rattle.std.specs.Prelude.{option_and_then}
 use Rattle.std.specs.Option.{option_map}
-use Rattle.std.proofs.lemmas.List.{append-nil, append_assoc}
 use Rattle.deck_words.specs.Word.{Word}
 use Rattle.deck_words.specs.Class.{begins}
 use Rattle.deck_words.specs.Rule.{Rule, many, onto, some_onto, reads_onto_from}
@@ -12,42 +11,45 @@ use Rattle.deck_words.specs.declared.fault.Refusal.{Refusal}
 use Rattle.deck_words.specs.declared.fault.Refusal.TheVariants.{Memory, Fault}
 use Rattle.deck_words.proofs.RuleLemmas.{Lawful}
 use Rattle.deck_words.proofs.RepeatLemmas.{first_turn, no_first_turn, next_turn, turn_takes_a_word, refused_turn, no_turn}
-use Rattle.procedure_division.specs.declared.statement.Statement.{Statement}
+use Rattle.procedure_division.specs.declared.placed.PlacedStatements.{PlacedStatements}
 use Rattle.procedure_division.specs.Following.{followed}
+use Rattle.procedure_division.specs.Placed.{nothing_placed, placed_behind}
 use Rattle.procedure_division.specs.StatementRules.{joined_statements, some_of}
 use Rattle.procedure_division.specs.Reading.{behind_statements}
+use Rattle.procedure_division.proofs.PlacedLemmas.{nothing_behind, behind_nothing, behind_assoc}
 
 -- what is read, behind these statements
-abbrev put_behind : List Statement → Option (List Statement × List Word) → Option (List Statement × List Word)
-put_behind before read = option_map {U = List Statement × List Word} (λ r. (before ++ r.0, r.1)) read
+abbrev put_behind : PlacedStatements → Option (PlacedStatements × List Word) → Option (PlacedStatements × List Word)
+put_behind before read = option_map {U = PlacedStatements × List Word} (λ r. (placed_behind before r.0, r.1)) read
 
-put_behind_twice : (a b : List Statement) (read : Option (List Statement × List Word)) → put_behind (a ++ b) read ≡ put_behind a (put_behind b read)
+put_behind_twice : (a b : PlacedStatements) (read : Option (PlacedStatements × List Word)) → put_behind (placed_behind a b) read ≡ put_behind a (put_behind b read)
 put_behind_twice a b None = refl
-put_behind_twice a b (Some r) = ap (λ (t : List Statement). Some (t, r.1)) (append_assoc a b r.0)
+put_behind_twice a b (Some r) = ap (λ (t : PlacedStatements). Some (t, r.1)) (behind_assoc a b r.0)
 
-module _ (p : Rule (List Statement)) where
-  onto_behind_by : (turns : ℕ) → ((before : List Statement) (words : List Word) → reads_onto_from joined_statements p turns before words ≡ put_behind before (reads_onto_from joined_statements p turns [] words)) → (before : List Statement) (words : List Word) (b : Bool) (r : Option (List Statement × List Word)) → cond b (option_and_then {U = List Statement × List Word} (λ a. reads_onto_from joined_statements p turns (before ++ a.0) a.1) r) (Some (before, words)) ≡ put_behind before (cond b (option_and_then {U = List Statement × List Word} (λ a. reads_onto_from joined_statements p turns a.0 a.1) r) (Some ([], words)))
+module _ (p : Rule PlacedStatements) where
+  onto_behind_by : (turns : ℕ) → ((before : PlacedStatements) (words : List Word) → reads_onto_from joined_statements p turns before words ≡ put_behind before (reads_onto_from joined_statements p turns nothing_placed words)) → (before : PlacedStatements) (words : List Word) (b : Bool) (r : Option (PlacedStatements × List Word)) → cond b (option_and_then {U = PlacedStatements × List Word} (λ a. reads_onto_from joined_statements p turns (placed_behind before a.0) a.1) r) (Some (before, words)) ≡ put_behind before (cond b (option_and_then {U = PlacedStatements × List Word} (λ a. reads_onto_from joined_statements p turns (placed_behind nothing_placed a.0) a.1) r) (Some (nothing_placed, words)))
   onto_behind_by turns again before words true None = refl
   onto_behind_by turns again before words true (Some x) =
-      again (before ++ x.0) x.1 ∙ (put_behind_twice before x.0 (reads_onto_from joined_statements p turns [] x.1) ∙ ap (put_behind before) (sym (again x.0 x.1)))
-  onto_behind_by turns again before words false r = ap (λ (t : List Statement). Some (t, words)) (sym (append-nil before))
+      again (placed_behind before x.0) x.1 ∙ (put_behind_twice before x.0 (reads_onto_from joined_statements p turns nothing_placed x.1) ∙ ap (put_behind before) (sym (again x.0 x.1) ∙ ap (λ (t : PlacedStatements). reads_onto_from joined_statements p turns t x.1) (sym (nothing_behind x.0))))
+  onto_behind_by turns again before words false r = ap (λ (t : PlacedStatements). Some (t, words)) (sym (behind_nothing before))
 
-  onto_behind : (turns : ℕ) (before : List Statement) (words : List Word) → reads_onto_from joined_statements p turns before words ≡ put_behind before (reads_onto_from joined_statements p turns [] words)
-  onto_behind zero before words = ap (λ (t : List Statement). Some (t, words)) (sym (append-nil before))
+  onto_behind : (turns : ℕ) (before : PlacedStatements) (words : List Word) → reads_onto_from joined_statements p turns before words ≡ put_behind before (reads_onto_from joined_statements p turns nothing_placed words)
+  onto_behind zero before words = ap (λ (t : PlacedStatements). Some (t, words)) (sym (behind_nothing before))
   onto_behind (suc turns) before words = onto_behind_by turns (onto_behind turns) before words (begins p.starts words) (p.reads words)
 
-  then_put : (before : List Statement) (read : Option (List Statement × List Word)) → option_and_then {U = List Statement × List Word} (λ a. Some (before ++ a.0, a.1)) read ≡ put_behind before read
+  then_put : (before : PlacedStatements) (read : Option (PlacedStatements × List Word)) → option_and_then {U = PlacedStatements × List Word} (λ a. Some (placed_behind before a.0, a.1)) read ≡ put_behind before read
   then_put before None = refl
   then_put before (Some x) = refl
 
-  some_behind_by : (before : List Statement) (r : Option (List Statement × List Word)) → option_and_then {U = List Statement × List Word} (λ a. Some (before ++ a.0, a.1)) (option_and_then {U = List Statement × List Word} (λ a. reads_onto_from joined_statements p (length a.1) a.0 a.1) r) ≡ option_and_then {U = List Statement × List Word} (λ a. reads_onto_from joined_statements p (length a.1) (before ++ a.0) a.1) r
+  some_behind_by : (before : PlacedStatements) (r : Option (PlacedStatements × List Word)) → option_and_then {U = PlacedStatements × List Word} (λ a. Some (placed_behind before a.0, a.1)) (option_and_then {U = PlacedStatements × List Word} (λ a. reads_onto_from joined_statements p (length a.1) (placed_behind nothing_placed a.0) a.1) r) ≡ option_and_then {U = PlacedStatements × List Word} (λ a. reads_onto_from joined_statements p (length a.1) (placed_behind before a.0) a.1) r
   some_behind_by before None = refl
   some_behind_by before (Some x) =
-      then_put before (reads_onto_from joined_statements p (length x.1) x.0 x.1) ∙ (ap (put_behind before) (onto_behind (length x.1) x.0 x.1)
-      ∙ (sym (put_behind_twice before x.0 (reads_onto_from joined_statements p (length x.1) [] x.1)) ∙ sym (onto_behind (length x.1) (before ++ x.0) x.1)))
+      then_put before (reads_onto_from joined_statements p (length x.1) (placed_behind nothing_placed x.0) x.1)
+      ∙ (ap (put_behind before) (ap (λ (t : PlacedStatements). reads_onto_from joined_statements p (length x.1) t x.1) (nothing_behind x.0) ∙ onto_behind (length x.1) x.0 x.1)
+      ∙ (sym (put_behind_twice before x.0 (reads_onto_from joined_statements p (length x.1) nothing_placed x.1)) ∙ sym (onto_behind (length x.1) (placed_behind before x.0) x.1)))
 
   -- a rule once or more behind some statements is one that goes on from them
-  pub some_behind : (before : List Statement) (words : List Word) → (behind_statements before (some_of p)).reads words ≡ (some_onto joined_statements before p).reads words
+  pub some_behind : (before : PlacedStatements) (words : List Word) → (behind_statements before (some_of p)).reads words ≡ (some_onto joined_statements before p).reads words
   some_behind before words = some_behind_by before (p.reads words)
 
 -- what is not there is refused
@@ -57,37 +59,34 @@ refused read (Fault line place cause) e = e
 
 -- ---- a rule behind a first one
 
-pub nothing_behind : (before : List Statement) → before ++ [] ≡ before
-nothing_behind before = append-nil before
-
-behind_of_pair : (before : List Statement) (read : Option (List Statement × List Word)) → option_and_then {U = List Statement × List Word} (λ a. Some (before ++ a.0, a.1)) (option_map {U = List Statement × List Word} (λ b. (b.0, b.1)) read) ≡ option_and_then {U = List Statement × List Word} (λ a. Some (before ++ a.0, a.1)) read
+behind_of_pair : (before : PlacedStatements) (read : Option (PlacedStatements × List Word)) → option_and_then {U = PlacedStatements × List Word} (λ a. Some (placed_behind before a.0, a.1)) (option_map {U = PlacedStatements × List Word} (λ b. (b.0, b.1)) read) ≡ option_and_then {U = PlacedStatements × List Word} (λ a. Some (placed_behind before a.0, a.1)) read
 behind_of_pair before None = refl
 behind_of_pair before (Some x) = refl
 
-pub second_behind : {A : Type 0} (before : List Statement) (p : Rule A) (q : Rule (List Statement)) (x : A) (words middle : List Word) → p.reads words ≡ Some (x, middle) → (behind_statements before (p ▸ q)).reads words ≡ (behind_statements before q).reads middle
+pub second_behind : {A : Type 0} (before : PlacedStatements) (p : Rule A) (q : Rule PlacedStatements) (x : A) (words middle : List Word) → p.reads words ≡ Some (x, middle) → (behind_statements before (p ▸ q)).reads words ≡ (behind_statements before q).reads middle
 second_behind before p q x words middle e = rw e (behind_of_pair before (q.reads middle))
 
-pub follower_behind : {A : Type 0} (before : List Statement) (sample : A) (p : Rule A) (q : A → Rule (List Statement)) (x : A) (words middle : List Word) → p.reads words ≡ Some (x, middle) → (behind_statements before (followed sample p q)).reads words ≡ (behind_statements before (q x)).reads middle
+pub follower_behind : {A : Type 0} (before : PlacedStatements) (sample : A) (p : Rule A) (q : A → Rule PlacedStatements) (x : A) (words middle : List Word) → p.reads words ≡ Some (x, middle) → (behind_statements before (followed sample p q)).reads words ≡ (behind_statements before (q x)).reads middle
 follower_behind before sample p q x words middle e = rw e
 
 -- ---- how a loop over such a rule goes on
 
-module _ (p : Rule (List Statement)) (lawful : Lawful p) (fit : (many p).is_fit ≡ true) where
-  pub begun : (before after : List Statement) (words rest : List Word) → (behind_statements before p).reads words ≡ Some (after, rest) → (behind_statements before (some_of p)).reads words ≡ (onto joined_statements after p).reads rest
+module _ (p : Rule PlacedStatements) (lawful : Lawful p) (fit : (many p).is_fit ≡ true) where
+  pub begun : (before after : PlacedStatements) (words rest : List Word) → (behind_statements before p).reads words ≡ Some (after, rest) → (behind_statements before (some_of p)).reads words ≡ (onto joined_statements after p).reads rest
   begun before after words rest e = some_behind p before words ∙ first_turn joined_statements p lawful before after words rest e
 
-  pub not_begun : (before : List Statement) (words : List Word) → (behind_statements before p).reads words ≡ None → (behind_statements before (some_of p)).reads words ≡ None
+  pub not_begun : (before : PlacedStatements) (words : List Word) → (behind_statements before p).reads words ≡ None → (behind_statements before (some_of p)).reads words ≡ None
   not_begun before words e = some_behind p before words ∙ no_first_turn joined_statements p lawful before words e
 
-  pub further : (before after : List Statement) (words rest : List Word) → begins p.starts words ≡ true → (behind_statements before p).reads words ≡ Some (after, rest) → (onto joined_statements before p).reads words ≡ (onto joined_statements after p).reads rest
+  pub further : (before after : PlacedStatements) (words rest : List Word) → begins p.starts words ≡ true → (behind_statements before p).reads words ≡ Some (after, rest) → (onto joined_statements before p).reads words ≡ (onto joined_statements after p).reads rest
   further before after words rest i e = next_turn joined_statements p lawful fit before words rest after i e
 
-  pub shorter : (before after : List Statement) (words rest : List Word) → (behind_statements before p).reads words ≡ Some (after, rest) → length rest < length words
+  pub shorter : (before after : PlacedStatements) (words rest : List Word) → (behind_statements before p).reads words ≡ Some (after, rest) → length rest < length words
   shorter before after words rest e = turn_takes_a_word joined_statements p lawful fit before after words rest e
 
-  pub not_further : (read : Option (List Statement × List Word)) (before : List Statement) (words : List Word) (refusal : Refusal) → read ≡ (onto joined_statements before p).reads words → begins p.starts words ≡ true → Refuses ((behind_statements before p).reads words) refusal → Refuses read refusal
+  pub not_further : (read : Option (PlacedStatements × List Word)) (before : PlacedStatements) (words : List Word) (refusal : Refusal) → read ≡ (onto joined_statements before p).reads words → begins p.starts words ≡ true → Refuses ((behind_statements before p).reads words) refusal → Refuses read refusal
   not_further read before words Memory so_far i r = tt
   not_further read before words (Fault line place cause) so_far i r = so_far ∙ refused_turn joined_statements p lawful before words i r
 
-  pub finished : (before : List Statement) (words : List Word) → begins p.starts words ≡ false → (onto joined_statements before p).reads words ≡ Some (before, words)
+  pub finished : (before : PlacedStatements) (words : List Word) → begins p.starts words ≡ false → (onto joined_statements before p).reads words ≡ Some (before, words)
   finished before words i = no_turn joined_statements p lawful before words i

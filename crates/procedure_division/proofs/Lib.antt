@@ -1,7 +1,11 @@
 pub mod PlaceLemmas
 pub mod FollowLemmas
 pub mod ProcedureLemmas
+pub mod EitherLemmas
+pub mod PlacedLemmas
+pub mod LocatedLemmas
 pub mod JoinLemmas
 pub mod GivesLemmas
 pub mod SourceLemmas
 pub mod AllowedLemmas
+pub mod LineLemmas

@@ -1,5 +1,5 @@
 -- The procedure is read as it is spelled: one word of look-ahead is enough.
-use Rattle.std.proofs.Common.{◌≡◌, ◌||◌, ℕ, Bool, true, false, not, cond, refl, List, [], ◌∷◌, Option, Some, None}
+use Rattle.std.proofs.Common.{◌≡◌, ◌||◌, ℕ, Bool, true, false, not, cond, refl, sym, ap, ◌∙◌, List, [], ◌∷◌, ◌++◌, Option, Some, None}
 use Rattle.std.specs.Prelude.{codes, option_and_then}
 use Rattle.std.specs.Option.{option_map_or}
 use Rattle.io_state.specs.declared.modes.OpenMode.{OpenMode}
@@ -7,7 +7,8 @@ use Rattle.io_state.specs.declared.modes.Access.{Access}
 use Rattle.io_state.specs.Permission.{is_sequential, is_random}
 use Rattle.io_state.specs.declared.statement.FileStatement.TheVariants.{Write, Rewrite, Delete}
 use Rattle.procedure_division.specs.declared.statement.Statement.{Statement}
-use Rattle.procedure_division.specs.declared.statement.Statement.TheVariants.{Move, MoveLength, StopRun}
+use Rattle.procedure_division.specs.declared.statement.Statement.TheVariants.{Perform, Move, MoveLength, StopRun}
+use Rattle.procedure_division.specs.declared.placed.PlacedStatements.{PlacedStatements}
 use Rattle.record_layout.specs.declared.item.Field.{Field}
 use Rattle.record_layout.specs.Area.{is_taken_by}
 use Rattle.record_layout.specs.declared.area.Source.{Source}
@@ -27,12 +28,14 @@ use Rattle.deck_words.proofs.NotationLemmas.{lawful_the, lawful_name, lawful_lit
 use Rattle.deck_words.proofs.OperandLemmas.{lawful_sign, lawful_digits}
 use Rattle.procedure_division.specs.Names.{Names, access_at}
 use Rattle.procedure_division.specs.Following.{followed, where_allowed}
-use Rattle.procedure_division.specs.StatementRules.{some_of, one_statement, file, open_statement, close_statement, key, read_operand, read_statement, relation, led_key, start_by, start_statement, figure, source, receiver, move_statement}
+use Rattle.procedure_division.specs.Located.{with_line}
+use Rattle.procedure_division.specs.StatementRules.{some_of, file, open_statement, close_statement, key, read_operand, read_statement, relation, led_key, start_by, start_statement, figure, source, receiver, moved_source, move_statement}
 use Rattle.procedure_division.specs.Parts.{record_named, name_to_open, opening, file_to_close, paragraph_or_sentence}
-use Rattle.procedure_division.specs.Procedure.{statement, procedure}
+use Rattle.procedure_division.specs.Procedure.{one_statement, statement, paragraph, procedure}
 use Rattle.procedure_division.proofs.FollowLemmas.{AreAlike, lawful_followed}
+use Rattle.procedure_division.proofs.LocatedLemmas.{lawful_with_line}
 
-pub ruleset steps = (lawful_the, lawful_name, lawful_literal, lawful_period, lawful_sign, lawful_digits, lawful_turn, lawful_optional, lawful_either, lawful_onto, lawful_some, lawful_as)
+pub ruleset steps = (lawful_with_line, lawful_the, lawful_name, lawful_literal, lawful_period, lawful_sign, lawful_digits, lawful_turn, lawful_optional, lawful_either, lawful_onto, lawful_some, lawful_as)
 
 -- ---- parts of rules
 
@@ -41,7 +44,7 @@ abbrev pub next : Access → Rule Bool
 next access = (λ n. is_sequential access || is_word_there n) <$> optional (where_allowed (not (is_random access)) (the (codes "NEXT")))
 
 -- [NEXT] [RECORD] [KEY [IS] name]
-abbrev pub read_phrases : Names → ℕ → Rule (List Statement)
+abbrev pub read_phrases : Names → ℕ → Rule Statement
 read_phrases names u = followed false (next (access_at names u)) (read_operand names u)
 
 -- the name of a file that START is for
@@ -49,37 +52,33 @@ abbrev pub file_to_start : Names → Rule ℕ
 file_to_start names = where_it_gives (λ u. cond (is_random (access_at names u)) None (Some u)) (file names)
 
 -- [KEY [IS] relation name]
-abbrev pub start_operand : Names → ℕ → Rule (List Statement)
-start_operand names u = (λ operand. one_statement u (start_by names u operand)) <$> optional (the (codes "KEY") ▸ may (codes "IS") ▸ relation ⊗ led_key names u)
+abbrev pub start_operand : Names → ℕ → Rule Statement
+start_operand names u = (λ operand. Perform u (start_by names u operand)) <$> optional (the (codes "KEY") ▸ may (codes "IS") ▸ relation ⊗ led_key names u)
 
 -- the MOVE to an item of a file, or else to a length item
-abbrev pub moved_to : Source (List ℕ) → Option (ℕ × Field) → Option ℕ → Option (List Statement)
+abbrev pub moved_to : Source (List ℕ) → Option (ℕ × Field) → Option ℕ → Option Statement
 moved_to sent item place =
-    option_map_or (λ item. cond (is_taken_by item.1.numeric sent) (Some (Move item.0 item.1 sent ∷ [])) None) item
-    (option_and_then (λ i. cond (is_taken_by true sent) (Some (MoveLength i sent ∷ [])) None) place)
+    option_map_or (λ item. cond (is_taken_by item.1.numeric sent) (Some (Move item.0 item.1 sent)) None) item
+    (option_and_then (λ i. cond (is_taken_by true sent) (Some (MoveLength i sent)) None) place)
 
 -- TO {name}..
-abbrev pub receivers : Names → Source (List ℕ) → Rule (List Statement)
-receivers names sent = the (codes "TO") ▸ some_of (receiver names sent)
+abbrev pub receivers : Names → ℕ × Source (List ℕ) → Rule PlacedStatements
+receivers names move = the (codes "TO") ▸ some_of (receiver names move.0 move.1)
 
-abbrev pub write_statement : Names → Rule (List Statement)
-write_statement names = (λ u. one_statement u Write) <$> the (codes "WRITE") ▸ record_named names
+abbrev pub write_statement : Names → Rule Statement
+write_statement names = (λ u. Perform u Write) <$> the (codes "WRITE") ▸ record_named names
 
-abbrev pub rewrite_statement : Names → Rule (List Statement)
-rewrite_statement names = (λ u. one_statement u Rewrite) <$> the (codes "REWRITE") ▸ record_named names
+abbrev pub rewrite_statement : Names → Rule Statement
+rewrite_statement names = (λ u. Perform u Rewrite) <$> the (codes "REWRITE") ▸ record_named names
 
-abbrev pub delete_statement : Names → Rule (List Statement)
-delete_statement names = (λ u. one_statement u Delete) <$> the (codes "DELETE") ▸ file names ◂ may (codes "RECORD")
+abbrev pub delete_statement : Names → Rule Statement
+delete_statement names = (λ u. Perform u Delete) <$> the (codes "DELETE") ▸ file names ◂ may (codes "RECORD")
 
-abbrev pub stop_statement : Rule (List Statement)
-stop_statement = (λ _. StopRun ∷ []) <$> the (codes "STOP") ▸ the (codes "RUN")
-
--- name .
-abbrev pub paragraph : Rule (List Statement)
-paragraph = (λ _. []) <$> name ▸ period
+abbrev pub stop_statement : Rule Statement
+stop_statement = (λ _. StopRun) <$> the (codes "STOP") ▸ the (codes "RUN")
 
 -- {statement}.. .
-abbrev pub sentence : Names → Rule (List Statement)
+abbrev pub sentence : Names → Rule PlacedStatements
 sentence names = some_of (statement names) ◂ period
 
 -- ---- files
@@ -180,21 +179,25 @@ pub lawful_source : Lawful source
 unfolding source
 lawful_source = search (steps, lawful_figure) depth 12
 
-pub lawful_receiver : (names : Names) (sent : Source (List ℕ)) → Lawful (receiver names sent)
+pub lawful_receiver : (names : Names) (line : ℕ) (sent : Source (List ℕ)) → Lawful (receiver names line sent)
 unfolding receiver
-lawful_receiver names sent = search steps depth 12
+lawful_receiver names line sent = search steps depth 12
 
-pub lawful_receivers : (names : Names) (sent : Source (List ℕ)) → Lawful (receivers names sent)
-lawful_receivers names sent = search (steps, lawful_receiver) depth 12
+pub lawful_receivers : (names : Names) (move : ℕ × Source (List ℕ)) → Lawful (receivers names move)
+lawful_receivers names move = search (steps, lawful_receiver) depth 12
 
-pub receivers_alike : (names : Names) (sent : Source (List ℕ)) → AreAlike (receivers names sent) (receivers names (Fill Zero))
+pub receivers_alike : (names : Names) (move : ℕ × Source (List ℕ)) → AreAlike (receivers names move) (receivers names (0, Fill Zero))
 unfolding receiver
-receivers_alike names sent = record { starts = refl; goes_on = refl; may_be_empty = refl; is_fit = refl }
+receivers_alike names move = record { starts = refl; goes_on = refl; may_be_empty = refl; is_fit = refl }
+
+pub lawful_moved_source : Lawful moved_source
+unfolding moved_source
+lawful_moved_source = search (steps, lawful_source) depth 12
 
 pub lawful_move : (names : Names) → Lawful (move_statement names)
 unfolding move_statement
 lawful_move names =
-    lawful_turn _ _ _ (lawful_the _) (lawful_followed (Fill Zero) source (receivers names) lawful_source (lawful_receivers names) (receivers_alike names))
+    lawful_followed (0, Fill Zero) (with_line moved_source) (receivers names) (lawful_with_line moved_source lawful_moved_source) (lawful_receivers names) (receivers_alike names)
 
 -- ---- STOP
 
@@ -203,15 +206,19 @@ lawful_stop = search steps depth 12
 
 -- ---- the procedure
 
+pub lawful_one_statement : (names : Names) → Lawful (one_statement names)
+unfolding one_statement
+lawful_one_statement names = search (steps, lawful_read, lawful_start, lawful_delete, lawful_stop) depth 24
+
 pub lawful_statement : (names : Names) → Lawful (statement names)
 unfolding statement
-lawful_statement names =
-    search (steps, lawful_open, lawful_close, lawful_read, lawful_start, lawful_delete, lawful_move, lawful_stop) depth 24
+lawful_statement names = search (steps, lawful_open, lawful_close, lawful_move, lawful_one_statement) depth 24
 
 pub lawful_sentence : (names : Names) → Lawful (sentence names)
 lawful_sentence names = search (steps, lawful_statement) depth 12
 
 pub lawful_paragraph : Lawful paragraph
+unfolding paragraph
 lawful_paragraph = search steps depth 12
 
 pub lawful_paragraph_or_sentence : (names : Names) → Lawful (paragraph_or_sentence names)
@@ -220,20 +227,20 @@ lawful_paragraph_or_sentence names = search (steps, lawful_paragraph, lawful_sen
 
 pub lawful_procedure : (names : Names) → Lawful (procedure names)
 unfolding procedure
-lawful_procedure names = search (steps, lawful_statement) depth 20
+lawful_procedure names = search (steps, lawful_statement, lawful_paragraph) depth 20
 
 -- ---- one word of look-ahead
 
 pub procedure_is_fit : (names : Names) → (procedure names).is_fit ≡ true
-unfolding procedure statement open_statement close_statement file read_statement read_operand key start_statement relation led_key move_statement source figure receiver the name literal period sign digits is_reserved
+unfolding procedure paragraph statement one_statement open_statement close_statement file read_statement read_operand key start_statement relation led_key move_statement moved_source source figure receiver the name literal period sign digits is_reserved
 procedure_is_fit names = refl
 
 pub sentences_are_fit : (names : Names) → (many (paragraph_or_sentence names)).is_fit ≡ true
-unfolding paragraph_or_sentence statement open_statement close_statement file read_statement read_operand key start_statement relation led_key move_statement source figure receiver the name literal period sign digits is_reserved
+unfolding paragraph_or_sentence paragraph statement one_statement open_statement close_statement file read_statement read_operand key start_statement relation led_key move_statement moved_source source figure receiver the name literal period sign digits is_reserved
 sentences_are_fit names = refl
 
 pub statements_are_fit : (names : Names) → (many (statement names)).is_fit ≡ true
-unfolding statement open_statement close_statement file read_statement read_operand key start_statement relation led_key move_statement source figure receiver the name literal sign digits is_reserved
+unfolding statement one_statement open_statement close_statement file read_statement read_operand key start_statement relation led_key move_statement moved_source source figure receiver the name literal sign digits is_reserved
 statements_are_fit names = refl
 
 pub openings_are_fit : (names : Names) → (many (opening names)).is_fit ≡ true
@@ -248,9 +255,9 @@ pub closed_are_fit : (names : Names) → (many (file_to_close names)).is_fit ≡
 unfolding file_to_close file the name is_reserved
 closed_are_fit names = refl
 
-pub receivers_are_fit : (names : Names) (sent : Source (List ℕ)) → (many (receiver names sent)).is_fit ≡ true
+pub receivers_are_fit : (names : Names) (line : ℕ) (sent : Source (List ℕ)) → (many (receiver names line sent)).is_fit ≡ true
 unfolding receiver name
-receivers_are_fit names sent = refl
+receivers_are_fit names line sent = refl
 
 -- ---- how repeated rules begin
 
@@ -262,9 +269,9 @@ pub closed_starts : (names : Names) (words : List Word) → begins (file_to_clos
 unfolding file_to_close file name
 closed_starts names words = refl
 
-pub receiver_starts : (names : Names) (sent : Source (List ℕ)) (words : List Word) → begins (receiver names sent).starts words ≡ begins (class.names ∷ []) words
+pub receiver_starts : (names : Names) (line : ℕ) (sent : Source (List ℕ)) (words : List Word) → begins (receiver names line sent).starts words ≡ begins (class.names ∷ []) words
 unfolding receiver name
-receiver_starts names sent words = refl
+receiver_starts names line sent words = refl
 
 pub open_starts : (names : Names) (words : List Word) → begins (open_statement names).starts words ≡ begins (class.this (codes "OPEN") ∷ []) words
 unfolding open_statement the
@@ -295,18 +302,36 @@ unfolding the
 delete_starts names words = refl
 
 pub move_starts : (names : Names) (words : List Word) → begins (move_statement names).starts words ≡ begins (class.this (codes "MOVE") ∷ []) words
-unfolding move_statement the
+unfolding move_statement moved_source the
 move_starts names words = refl
 
+or_swap : (a b c d : Bool) → (a || (b || (c || d))) ≡ (a || (c || (b || d)))
+or_swap true b c d = refl
+or_swap false true true d = refl
+or_swap false true false d = refl
+or_swap false false c d = refl
+
+-- the words that begin statements, in the order in which they are tried
+pub statements_start : (names : Names) (words : List Word) → begins (class.this (codes "OPEN") ∷ class.this (codes "CLOSE") ∷ class.this (codes "READ") ∷ class.this (codes "START") ∷ class.this (codes "WRITE") ∷ class.this (codes "REWRITE") ∷ class.this (codes "DELETE") ∷ class.this (codes "MOVE") ∷ class.this (codes "STOP") ∷ []) words ≡ begins (statement names).starts words
+unfolding statement one_statement open_statement close_statement read_statement start_statement move_statement moved_source the
+statements_start names words =
+    let several = class.this (codes "OPEN") ∷ class.this (codes "CLOSE") ∷ [] in
+    let one = class.this (codes "READ") ∷ class.this (codes "START") ∷ class.this (codes "WRITE") ∷ class.this (codes "REWRITE") ∷ class.this (codes "DELETE") ∷ [] in
+    let move = class.this (codes "MOVE") ∷ [] in
+    let stop = class.this (codes "STOP") ∷ [] in
+    let tried = begins-append several (one ++ (move ++ stop)) words ∙ ap (λ v. begins several words || v) (begins-append one (move ++ stop) words ∙ ap (λ v. begins one words || v) (begins-append move stop words)) in
+    let ruled = begins-append several (move ++ (one ++ stop)) words ∙ ap (λ v. begins several words || v) (begins-append move (one ++ stop) words ∙ ap (λ v. begins move words || v) (begins-append one stop words)) in
+    tried ∙ (or_swap (begins several words) (begins one words) (begins move words) (begins stop words) ∙ sym ruled)
+
 pub paragraph_starts : (words : List Word) → begins paragraph.starts words ≡ begins (class.names ∷ []) words
-unfolding name
+unfolding paragraph name
 paragraph_starts words = refl
 
 pub sentences_start : (names : Names) (words : List Word) → begins (paragraph_or_sentence names).starts words ≡ (begins (class.names ∷ []) words || begins (statement names).starts words)
-unfolding paragraph_or_sentence name
+unfolding paragraph_or_sentence paragraph name
 sentences_start names words = begins-append (class.names ∷ []) (statement names).starts words
 
 -- a word that begins a statement is no name
 pub no_name_begins : (known : Names) (words : List Word) → begins (statement known).starts words ≡ true → begins (class.names ∷ []) words ≡ false
-unfolding statement open_statement close_statement read_statement start_statement move_statement the is_reserved
+unfolding statement one_statement open_statement close_statement read_statement start_statement move_statement moved_source the is_reserved
 no_name_begins known words e = begins_apart (statement known).starts (class.names ∷ []) words refl e

@@ -1,9 +1,13 @@
 pub mod Names
 pub mod Places
 pub mod Following
+pub mod Located
+pub mod StatementPlaces
+pub mod Placed
 pub mod StatementRules
 pub mod Procedure
 pub mod Parts
 pub mod Allowed
 pub mod OnlyAllowed
 pub mod Reading
+pub mod EachHasItsLine

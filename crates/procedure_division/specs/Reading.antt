@@ -4,14 +4,14 @@ use Rattle.deck_words.specs.Rule.{Rule, where_it_gives}
 use Rattle.deck_words.specs.Reading.{Reads}
 use Rattle.deck_words.specs.declared.fault.Refusal.{Refusal}
 use Rattle.deck_words.specs.Word.{Word}
-use Rattle.procedure_division.specs.declared.statement.Statement.{Statement}
+use Rattle.procedure_division.specs.declared.placed.PlacedStatements.{PlacedStatements}
 use Rattle.procedure_division.specs.StatementRules.{joined_statements}
 
 -- the statements of a rule, behind others
-abbrev pub behind_statements : List Statement → Rule (List Statement) → Rule (List Statement)
+abbrev pub behind_statements : PlacedStatements → Rule PlacedStatements → Rule PlacedStatements
 behind_statements before rule = where_it_gives (joined_statements before) rule
 
 -- the statements that are read are added to those before
-abbrev pub AddsStatements : Rule (List Statement) → List Statement → List Word
-    → Result (List Statement) Refusal → List Word → Type 0
+abbrev pub AddsStatements : Rule PlacedStatements → PlacedStatements → List Word
+    → Result PlacedStatements Refusal → List Word → Type 0
 AddsStatements rule before words result rest = Reads ((behind_statements before rule).reads words) result rest

@@ -1,7 +1,7 @@
 -- The statements of the procedure division: how they are written, and what they say. ANSI
 -- X3.23-1985, Indexed I-O module, general formats of the CLOSE, OPEN, READ and START statements;
 -- Nucleus module, that of the MOVE statement. Which phrases there are is ours.
-use Rattle.std.specs.Prelude.{ℕ, Bool, true, false, not, ◌||◌, List, [], ◌∷◌, ◌++◌, if◌then◌else◌, codes}
+use Rattle.std.specs.Prelude.{ℕ, Bool, true, false, not, ◌||◌, List, if◌then◌else◌, codes}
 use Rattle.std.specs.Prelude.{Option, Some, None, option_and_then, option_map, bytes_eq, position, is_some}
 use Rattle.std.specs.Prelude.{slice_get}
 use Rattle.std.specs.List.{list_all}
@@ -27,21 +27,24 @@ use Rattle.io_state.specs.declared.statement.FileStatement.TheVariants.{Open, Cl
 use Rattle.procedure_division.specs.declared.statement.Statement.{Statement}
 use Rattle.procedure_division.specs.declared.statement.Statement.TheVariants.{Perform, Move, MoveLength}
 use Rattle.procedure_division.specs.Following.{followed, where_allowed}
+use Rattle.procedure_division.specs.Located.{with_line}
 use Rattle.procedure_division.specs.Names.{Names, item_in, item_named, access_at}
+use Rattle.procedure_division.specs.Placed.{nothing_placed, placed_statement, placed_behind}
+use Rattle.procedure_division.specs.declared.placed.PlacedStatements.{PlacedStatements}
 
--- ---- lists of statements
+-- ---- statements and their lines
 
 -- these statements, and then those
-abbrev pub joined_statements : List Statement → List Statement → Option (List Statement)
-joined_statements before statements = Some (before ++ statements)
+abbrev pub joined_statements : PlacedStatements → PlacedStatements → Option PlacedStatements
+joined_statements before statements = Some (placed_behind before statements)
 
 -- the statements of a rule, once or more
-abbrev pub some_of : Rule (List Statement) → Rule (List Statement)
-some_of rule = some_onto joined_statements [] rule
+abbrev pub some_of : Rule PlacedStatements → Rule PlacedStatements
+some_of rule = some_onto joined_statements nothing_placed rule
 
--- one statement
-abbrev pub one_statement : ℕ → FileStatement → List Statement
-one_statement u statement = Perform u statement ∷ []
+-- the statement of a rule, in the line of the first of its words
+abbrev pub in_its_line : Rule Statement → Rule PlacedStatements
+in_its_line rule = (λ s. placed_statement s.0 s.1) <$> with_line rule
 
 -- ---- files
 
@@ -51,23 +54,24 @@ file names = where_it_gives (λ text. position (λ file. bytes_eq file.name text
 
 -- ---- OPEN and CLOSE: a statement for each file, in order
 
--- OPEN {(INPUT | OUTPUT | I-O | EXTEND) {name}..}.., where the files' access modes permit the open modes
-unfoldable pub open_statement : Names → Rule (List Statement)
+-- OPEN {(INPUT | OUTPUT | I-O | EXTEND) {name}..}.., where the files' access modes permit the open
+-- modes; a statement stands in the line of its file's name
+unfoldable pub open_statement : Names → Rule PlacedStatements
 open_statement names =
-    let name_to_open : OpenMode → Rule (List Statement) = λ mode. where_it_gives
-    (λ u. if may_open (access_at names u) mode then Some (one_statement u (Open mode)) else None)
-    (file names) in
+    let name_to_open : OpenMode → Rule PlacedStatements = λ mode. in_its_line (where_it_gives
+    (λ u. if may_open (access_at names u) mode then Some (Perform u (Open mode)) else None)
+    (file names)) in
     the (codes "OPEN") ▸ some_of
     ((the (codes "INPUT") ▸ some_of (name_to_open Input))
     ∣ (the (codes "OUTPUT") ▸ some_of (name_to_open Output))
     ∣ (the (codes "I-O") ▸ some_of (name_to_open InputOutput))
     ∣ (the (codes "EXTEND") ▸ some_of (name_to_open Extend)))
 
--- CLOSE {name [[WITH] LOCK]}..
-unfoldable pub close_statement : Names → Rule (List Statement)
+-- CLOSE {name [[WITH] LOCK]}.., each statement in the line of its file's name
+unfoldable pub close_statement : Names → Rule PlacedStatements
 close_statement names =
     let lock = is_word_there <$> optional (may (codes "WITH") ▸ the (codes "LOCK")) in
-    the (codes "CLOSE") ▸ some_of ((λ c. one_statement c.0 (Close c.1)) <$> file names ⊗ lock)
+    the (codes "CLOSE") ▸ some_of (in_its_line ((λ c. Perform c.0 (Close c.1)) <$> file names ⊗ lock))
 
 -- ---- READ
 
@@ -79,15 +83,15 @@ key names u = where_it_gives (λ text. option_and_then
 
 -- [RECORD] [KEY [IS] name], where KEY stands in no sequential READ. ANSI X3.23-1985, Indexed I-O
 -- module, READ statement, general rules: by this key, or by the prime key where no KEY phrase stands
-unfoldable pub read_operand : Names → ℕ → Bool → Rule (List Statement)
+unfoldable pub read_operand : Names → ℕ → Bool → Rule Statement
 read_operand names u sequential =
-    (λ k. one_statement u (option_map_or (λ k. Read k) k (if sequential then ReadNext else Read 0)))
+    (λ k. Perform u (option_map_or (λ k. Read k) k (if sequential then ReadNext else Read 0)))
     <$> may (codes "RECORD")
     ▸ optional (where_allowed (not sequential) (the (codes "KEY")) ▸ may (codes "IS") ▸ key names u)
 
 -- READ name [NEXT] [RECORD] [KEY [IS] name]: sequential by NEXT, which random access has not, and
 -- always in sequential access
-unfoldable pub read_statement : Names → Rule (List Statement)
+unfoldable pub read_statement : Names → Rule Statement
 read_statement names =
     let next : Access → Rule Bool = λ access. (λ n. is_sequential access || is_word_there n)
     <$> optional (where_allowed (not (is_random access)) (the (codes "NEXT"))) in
@@ -123,12 +127,12 @@ start_by names u None =
 start_by names u (Some operand) = Start operand.1.0 operand.1.1 operand.0
 
 -- START name [KEY [IS] relation name], where the access of the file is not random
-unfoldable pub start_statement : Names → Rule (List Statement)
+unfoldable pub start_statement : Names → Rule Statement
 start_statement names =
     let file_to_start = where_it_gives
     (λ u. if is_random (access_at names u) then None else Some u) (file names) in
     the (codes "START") ▸ followed 0 file_to_start
-    (λ u. (λ operand. one_statement u (start_by names u operand))
+    (λ u. (λ operand. Perform u (start_by names u operand))
     <$> optional (the (codes "KEY") ▸ may (codes "IS") ▸ relation ⊗ led_key names u))
 
 -- ---- MOVE: a statement for each receiver, in order
@@ -147,17 +151,20 @@ source =
     ((λ text. if list_all is_ascii_digit text then Digits text else Text text) <$> literal)
     ∣ (Digits <$> digits) ∣ (Fill <$> figure)
 
--- the name of an item that takes the source: one of a file, or else a length item, which takes what a
--- numeric item takes
-unfoldable pub receiver : Names → Source (List ℕ) → Rule (List Statement)
-receiver names sent = where_it_gives (λ text. option_map_or
-    (λ item. if is_taken_by item.1.numeric sent then Some (Move item.0 item.1 sent ∷ []) else None)
+-- the name of an item that takes the source of a MOVE in this line: one of a file, or else a length
+-- item, which takes what a numeric item takes
+unfoldable pub receiver : Names → ℕ → Source (List ℕ) → Rule PlacedStatements
+receiver names line sent = placed_statement line <$> where_it_gives (λ text. option_map_or
+    (λ item. if is_taken_by item.1.numeric sent then Some (Move item.0 item.1 sent) else None)
     (item_named names text)
-    (option_and_then (λ i. if is_taken_by true sent then Some (MoveLength i sent ∷ []) else None)
+    (option_and_then (λ i. if is_taken_by true sent then Some (MoveLength i sent) else None)
     (position (λ item. bytes_eq item.name text) names.items))) name
 
--- MOVE source TO {name}..
-unfoldable pub move_statement : Names → Rule (List Statement)
-move_statement names =
-    the (codes "MOVE") ▸ followed (Fill Zero) source
-    (λ sent. the (codes "TO") ▸ some_of (receiver names sent))
+-- MOVE source
+unfoldable pub moved_source : Rule (Source (List ℕ))
+moved_source = the (codes "MOVE") ▸ source
+
+-- MOVE source TO {name}.., each statement in the line of MOVE
+unfoldable pub move_statement : Names → Rule PlacedStatements
+move_statement names = followed (0, Fill Zero) (with_line moved_source)
+    (λ move. the (codes "TO") ▸ some_of (receiver names move.0 move.1))

@@ -9,8 +9,8 @@ ghost use Rattle.procedure_division.specs.Parts.{file_to_close};
 
 use crate::file_name::file;
 use crate::names::Names;
+use crate::placed::PlacedStatements;
 use crate::statement::Statement;
-use crate::statement_list::StatementList;
 use deck_words::{NameOf, Parser, Refusal};
 use io_state::FileStatement;
 
@@ -34,8 +34,8 @@ fn lock(parser: &mut Parser<'_>) -> Result<bool, Refusal>
 fn closed(
     parser: &mut Parser<'_>,
     names: &Names<'_>,
-    statements: StatementList,
-) -> Result<StatementList, Refusal>
+    statements: PlacedStatements,
+) -> Result<PlacedStatements, Refusal>
     ensures { AddsStatements (file_to_close names.now) statements parser.old result parser.new }
 {
     let line = parser.line();
@@ -49,8 +49,8 @@ fn closed(
 fn all_closed(
     parser: &mut Parser<'_>,
     names: &Names<'_>,
-    statements: StatementList,
-) -> Result<StatementList, Refusal>
+    statements: PlacedStatements,
+) -> Result<PlacedStatements, Refusal>
     ensures { AddsStatements (some_of (file_to_close names.now)) statements parser.old result parser.new }
 {
     let mut statements = closed(parser, names, statements)?;
@@ -64,8 +64,8 @@ fn all_closed(
 pub fn close_statement(
     parser: &mut Parser<'_>,
     names: &Names<'_>,
-    statements: StatementList,
-) -> Result<StatementList, Refusal>
+    statements: PlacedStatements,
+) -> Result<PlacedStatements, Refusal>
     ensures { AddsStatements (close_statement names.now) statements parser.old result parser.new }
 {
     parser.expect(b"CLOSE")?;

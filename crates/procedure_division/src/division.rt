@@ -1,18 +1,19 @@
 //! The procedure division.
-ghost use Rattle.std.specs.Prelude.{[]};
 ghost use Rattle.deck_words.specs.Fault.{GivesOrRefuses, GivesOrTells};
 ghost use Rattle.deck_words.specs.OneReading.{Determines};
 ghost use Rattle.deck_words.specs.Reading.{Reads};
 ghost use Rattle.deck_words.specs.Rule.{onto};
 ghost use Rattle.procedure_division.specs.Names.{Names};
+ghost use Rattle.procedure_division.specs.Placed.{nothing_placed};
 ghost use Rattle.procedure_division.specs.StatementRules.{joined_statements};
 ghost use Rattle.procedure_division.specs.Procedure.{procedure, IsProcedure};
 ghost use Rattle.procedure_division.specs.Parts.{paragraph_or_sentence};
 ghost use Rattle.procedure_division.specs.OnlyAllowed.{HaveOnlyAllowed};
+ghost use Rattle.procedure_division.specs.EachHasItsLine.{EachHasItsLine};
 
 use crate::names::Names;
+use crate::placed::PlacedStatements;
 use crate::sentence::{paragraph_or_sentence, sees_sentence};
-use crate::statement_list::StatementList;
 use deck_words::{DeckFault, NameOf, Parser, Refusal, Wanted, WantedList, WordPlace, Words};
 use std::alloc::Global;
 
@@ -25,11 +26,11 @@ fn all_sentences(
     alloc: Global,
     parser: &mut Parser<'_>,
     names: &Names<'_>,
-) -> Result<StatementList, Refusal>
-    ensures { Reads ((onto joined_statements [] (paragraph_or_sentence names.now)).reads parser.old) result
+) -> Result<PlacedStatements, Refusal>
+    ensures { Reads ((onto joined_statements nothing_placed (paragraph_or_sentence names.now)).reads parser.old) result
         parser.new }
 {
-    let none = StatementList::with_capacity(alloc, parser.left() / WORDS_OF_STATEMENT)?;
+    let none = PlacedStatements::with_capacity(alloc, parser.left() / WORDS_OF_STATEMENT)?;
     let mut statements = none;
     'more: while sees_sentence(parser) {
         statements = paragraph_or_sentence(alloc, parser, names, statements)?;
@@ -42,7 +43,7 @@ fn procedure_division(
     alloc: Global,
     parser: &mut Parser<'_>,
     names: &Names<'_>,
-) -> Result<StatementList, Refusal>
+) -> Result<PlacedStatements, Refusal>
     ensures { Reads ((procedure names.now).reads parser.old) result parser.new }
 {
     parser.expect(b"PROCEDURE")?;
@@ -56,7 +57,7 @@ pub fn read_procedure(
     alloc: Global,
     names: &Names<'_>,
     words: &Words<'_>,
-) -> Result<StatementList, Refusal>
+) -> Result<PlacedStatements, Refusal>
     ensures { GivesOrRefuses (IsProcedure names.now words.now) result }
 {
     let mut parser = Parser::new(words);
@@ -73,7 +74,7 @@ pub fn procedure(
     alloc: Global,
     names: &Names<'_>,
     words: &Words<'_>,
-) -> Result<StatementList, DeckFault>
+) -> Result<PlacedStatements, DeckFault>
     ensures { GivesOrTells (IsProcedure names.now words.now) result }
 {
     Ok(read_procedure(alloc, names, words)?)
@@ -99,4 +100,9 @@ pub fn one_procedure()
 /// The statements of a procedure are for files, items and keys of the deck, and the access modes allow them.
 pub fn only_allowed()
     ensures { HaveOnlyAllowed }
+{}
+
+/// Each statement of a procedure has a line.
+pub fn each_has_its_line()
+    ensures { EachHasItsLine }
 {}

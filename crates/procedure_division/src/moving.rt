@@ -5,14 +5,14 @@ ghost use Rattle.std.specs.Char.{is_ascii_digit};
 ghost use Rattle.record_layout.specs.Area.{is_taken_by, sent};
 ghost use Rattle.record_layout.specs.declared.area.Source.TheVariants.{Text, Digits};
 ghost use Rattle.deck_words.specs.Notation.{the, ◌▸◌};
-ghost use Rattle.deck_words.specs.Reading.{Reads};
+ghost use Rattle.deck_words.specs.Reading.{Reads, ReadsAs};
 ghost use Rattle.procedure_division.specs.Reading.{AddsStatements};
-ghost use Rattle.procedure_division.specs.StatementRules.{some_of, figure, source};
+ghost use Rattle.procedure_division.specs.StatementRules.{some_of, figure, source, moved_source};
 ghost use Rattle.procedure_division.specs.StatementRules.{receiver, move_statement};
 
 use crate::names::Names;
+use crate::placed::PlacedStatements;
 use crate::statement::Statement;
-use crate::statement_list::StatementList;
 use deck_words::{Cause, NameOf, NotAllowed, Parser, Refusal, Unknown, WordPlace};
 use record_layout::{Bytes, Figure, Source, takes};
 use std::alloc::{AllocError, Global};
@@ -104,10 +104,10 @@ fn receiver(
     parser: &mut Parser<'_>,
     names: &Names<'_>,
     source: &Source<&[u8]>,
-    statements: StatementList,
+    statements: PlacedStatements,
     places: MovePlaces,
-) -> Result<StatementList, Refusal>
-    ensures { AddsStatements (receiver names.now (sent source.now)) statements parser.old result parser.new }
+) -> Result<PlacedStatements, Refusal>
+    ensures { AddsStatements (receiver names.now places.line (sent source.now)) statements parser.old result parser.new }
 {
     let place = parser.place();
     let name = parser.name(NameOf::Item)?;
@@ -141,10 +141,10 @@ fn all_receivers(
     parser: &mut Parser<'_>,
     names: &Names<'_>,
     source: &Source<&[u8]>,
-    statements: StatementList,
+    statements: PlacedStatements,
     places: MovePlaces,
-) -> Result<StatementList, Refusal>
-    ensures { AddsStatements (some_of (receiver names.now (sent source.now))) statements parser.old result
+) -> Result<PlacedStatements, Refusal>
+    ensures { AddsStatements (some_of (receiver names.now places.line (sent source.now))) statements parser.old result
         parser.new }
 {
     let mut statements = receiver(alloc, parser, names, source, statements, places)?;
@@ -160,14 +160,28 @@ fn receivers(
     parser: &mut Parser<'_>,
     names: &Names<'_>,
     source: &Source<&[u8]>,
-    statements: StatementList,
+    statements: PlacedStatements,
     places: MovePlaces,
-) -> Result<StatementList, Refusal>
-    ensures { AddsStatements (the (codes "TO") ▸ some_of (receiver names.now (sent source.now))) statements
+) -> Result<PlacedStatements, Refusal>
+    ensures { AddsStatements (the (codes "TO") ▸ some_of (receiver names.now places.line (sent source.now))) statements
         parser.old result parser.new }
 {
     parser.expect(b"TO")?;
     all_receivers(alloc, parser, names, source, statements, places)
+}
+
+/// The source of a MOVE.
+#[tactic(auto, unfolding(crate::specs::StatementRules::moved_source))]
+fn moved_source(
+    alloc: Global,
+    parser: &mut Parser<'_>,
+) -> Result<(WordPlace, Source<Bytes>), Refusal>
+    ensures { ReadsAs (λ moved. moved.1) moved_source parser.old result parser.new }
+{
+    parser.expect(b"MOVE")?;
+    let place = parser.place();
+    let source = source(alloc, parser)?;
+    Ok((place, source))
 }
 
 #[tactic(auto, unfolding(crate::specs::StatementRules::move_statement), using(crate::proofs::JoinLemmas::follower_behind, crate::proofs::JoinLemmas::second_behind))]
@@ -175,16 +189,15 @@ pub fn move_statement(
     alloc: Global,
     parser: &mut Parser<'_>,
     names: &Names<'_>,
-    statements: StatementList,
-) -> Result<StatementList, Refusal>
+    statements: PlacedStatements,
+) -> Result<PlacedStatements, Refusal>
     ensures { AddsStatements (move_statement names.now) statements parser.old result parser.new }
 {
     let line = parser.line();
-    parser.expect(b"MOVE")?;
+    let (place, source) = moved_source(alloc, parser)?;
     let places = MovePlaces {
         line,
-        source: parser.place(),
+        source: place,
     };
-    let source = source(alloc, parser)?;
     receivers(alloc, parser, names, &source.as_ref(), statements, places)
 }

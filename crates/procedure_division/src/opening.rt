@@ -8,8 +8,8 @@ ghost use Rattle.procedure_division.specs.Parts.{name_to_open, opening};
 
 use crate::file_name::file;
 use crate::names::Names;
+use crate::placed::PlacedStatements;
 use crate::statement::Statement;
-use crate::statement_list::StatementList;
 use deck_words::{Cause, NameOf, NotAllowed, Parser, Refusal};
 use io_state::{FileStatement, OpenMode, Verb, permits};
 
@@ -19,17 +19,18 @@ fn opened(
     parser: &mut Parser<'_>,
     names: &Names<'_>,
     mode: OpenMode,
-    statements: StatementList,
-) -> Result<StatementList, Refusal>
+    statements: PlacedStatements,
+) -> Result<PlacedStatements, Refusal>
     ensures { AddsStatements (name_to_open names.now mode) statements parser.old result parser.new }
 {
     let place = parser.place();
+    let line = parser.line();
     let file = file(parser, names)?;
     if !permits(names.access(file), mode, Verb::Open) {
         return Err(place.fault(Cause::NotAllowed(NotAllowed::Open(file, mode))));
     }
     let statement = FileStatement::Open(mode);
-    Ok(statements.with(Statement::Perform { file, statement }, place.line)?)
+    Ok(statements.with(Statement::Perform { file, statement }, line)?)
 }
 
 /// The files that are opened in a mode, one or more.
@@ -37,8 +38,8 @@ fn all_opened(
     parser: &mut Parser<'_>,
     names: &Names<'_>,
     mode: OpenMode,
-    statements: StatementList,
-) -> Result<StatementList, Refusal>
+    statements: PlacedStatements,
+) -> Result<PlacedStatements, Refusal>
     ensures { AddsStatements (some_of (name_to_open names.now mode)) statements parser.old result parser.new }
 {
     let mut statements = opened(parser, names, mode, statements)?;
@@ -53,8 +54,8 @@ fn all_opened(
 fn opening(
     parser: &mut Parser<'_>,
     names: &Names<'_>,
-    statements: StatementList,
-) -> Result<StatementList, Refusal>
+    statements: PlacedStatements,
+) -> Result<PlacedStatements, Refusal>
     ensures { AddsStatements (opening names.now) statements parser.old result parser.new }
 {
     if parser.eat(b"INPUT") {
@@ -82,8 +83,8 @@ fn sees_mode(parser: &Parser<'_>) -> bool
 fn all_openings(
     parser: &mut Parser<'_>,
     names: &Names<'_>,
-    statements: StatementList,
-) -> Result<StatementList, Refusal>
+    statements: PlacedStatements,
+) -> Result<PlacedStatements, Refusal>
     ensures { AddsStatements (some_of (opening names.now)) statements parser.old result parser.new }
 {
     let mut statements = opening(parser, names, statements)?;
@@ -97,8 +98,8 @@ fn all_openings(
 pub fn open_statement(
     parser: &mut Parser<'_>,
     names: &Names<'_>,
-    statements: StatementList,
-) -> Result<StatementList, Refusal>
+    statements: PlacedStatements,
+) -> Result<PlacedStatements, Refusal>
     ensures { AddsStatements (open_statement names.now) statements parser.old result parser.new }
 {
     parser.expect(b"OPEN")?;

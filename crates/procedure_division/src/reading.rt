@@ -7,14 +7,12 @@ ghost use Rattle.deck_words.specs.Notation.{the, may, is_word_there, ◌▸◌};
 ghost use Rattle.deck_words.specs.Reading.{Reads};
 ghost use Rattle.deck_words.specs.Rule.{optional, where_it_gives};
 ghost use Rattle.procedure_division.specs.Following.{where_allowed};
-ghost use Rattle.procedure_division.specs.Reading.{AddsStatements};
 ghost use Rattle.procedure_division.specs.StatementRules.{key, read_operand};
 ghost use Rattle.procedure_division.specs.StatementRules.{read_statement};
 
 use crate::file_name::file;
 use crate::names::Names;
 use crate::statement::Statement;
-use crate::statement_list::StatementList;
 use deck_words::{Cause, NameOf, NotAllowed, Parser, Refusal, Unknown};
 use io_state::{Access, FileStatement};
 
@@ -97,29 +95,21 @@ fn read_operand(
     names: &Names<'_>,
     file: usize,
     sequential: bool,
-    statements: StatementList,
-    line: u64,
-) -> Result<StatementList, Refusal>
-    ensures { AddsStatements (read_operand names.now file sequential) statements parser.old result
-        parser.new }
+) -> Result<Statement, Refusal>
+    ensures { Reads ((read_operand names.now file sequential).reads parser.old) result parser.new }
 {
     parser.eat(b"RECORD");
     let key = key_phrase(parser, names, file, sequential)?;
     let statement = read_by(sequential, key);
-    Ok(statements.with(Statement::Perform { file, statement }, line)?)
+    Ok(Statement::Perform { file, statement })
 }
 
-#[tactic(auto, unfolding(crate::specs::StatementRules::read_statement), using(crate::proofs::JoinLemmas::follower_behind, crate::proofs::JoinLemmas::second_behind))]
-pub fn read_statement(
-    parser: &mut Parser<'_>,
-    names: &Names<'_>,
-    statements: StatementList,
-) -> Result<StatementList, Refusal>
-    ensures { AddsStatements (read_statement names.now) statements parser.old result parser.new }
+#[tactic(auto, unfolding(crate::specs::StatementRules::read_statement))]
+pub fn read_statement(parser: &mut Parser<'_>, names: &Names<'_>) -> Result<Statement, Refusal>
+    ensures { Reads ((read_statement names.now).reads parser.old) result parser.new }
 {
-    let line = parser.line();
     parser.expect(b"READ")?;
     let file = file(parser, names)?;
     let sequential = next(parser, file, names.access(file))?;
-    read_operand(parser, names, file, sequential, statements, line)
+    read_operand(parser, names, file, sequential)
 }

@@ -8,37 +8,32 @@ ghost use Rattle.procedure_division.specs.Names.{Names};
 ghost use Rattle.procedure_division.specs.Reading.{AddsStatements};
 ghost use Rattle.procedure_division.specs.StatementRules.{some_of};
 ghost use Rattle.procedure_division.specs.declared.statement.Statement.TheVariants.{StopRun};
-ghost use Rattle.procedure_division.specs.Procedure.{statement};
-ghost use Rattle.procedure_division.specs.Parts.{paragraph_or_sentence};
+ghost use Rattle.procedure_division.specs.Procedure.{one_statement, statement, paragraph};
+ghost use Rattle.procedure_division.specs.Parts.{one_in_its_line, paragraph_or_sentence};
 
 use crate::closing::close_statement;
 use crate::moving::move_statement;
 use crate::names::Names;
 use crate::opening::open_statement;
+use crate::placed::PlacedStatements;
 use crate::reading::read_statement;
 use crate::starting::start_statement;
 use crate::statement::Statement;
-use crate::statement_list::StatementList;
 use crate::writing::{delete_statement, rewrite_statement, write_statement};
 use deck_words::{Cause, Expected, NameOf, Parser, Refusal};
 use io_state::Name;
 use std::alloc::Global;
 
-fn stop_statement(
-    parser: &mut Parser<'_>,
-    statements: StatementList,
-) -> Result<StatementList, Refusal>
-    ensures { AddsStatements (where_it_gives (λ _. Some (StopRun ∷ [])) (the (codes "STOP") ▸ the (codes
-        "RUN"))) statements parser.old result parser.new }
+fn stop_statement(parser: &mut Parser<'_>) -> Result<Statement, Refusal>
+    ensures { Reads ((where_it_gives (λ _. Some StopRun) (the (codes "STOP") ▸ the (codes "RUN"))).reads
+        parser.old) result parser.new }
 {
-    let line = parser.line();
     parser.expect(b"STOP")?;
     parser.expect(b"RUN")?;
-    Ok(statements.with(Statement::StopRun, line)?)
+    Ok(Statement::StopRun)
 }
 
 /// Whether a statement is next.
-#[tactic(auto, unfolding(crate::specs::Procedure::statement, crate::specs::StatementRules::open_statement, crate::specs::StatementRules::close_statement, crate::specs::StatementRules::read_statement, crate::specs::StatementRules::start_statement, crate::specs::StatementRules::move_statement, deck_words::specs::Notation::the))]
 fn sees_statement(parser: &Parser<'_>) -> bool
     ensures { (known : Names) → result ≡ begins (statement known).starts parser.now }
 {
@@ -47,12 +42,48 @@ fn sees_statement(parser: &Parser<'_>) -> bool
     ])
 }
 
+/// A statement that is one, and not several.
+fn one_statement(parser: &mut Parser<'_>, names: &Names<'_>) -> Result<Statement, Refusal>
+    ensures { Reads ((one_statement names.now).reads parser.old) result parser.new }
+{
+    if parser.sees(b"READ") {
+        return read_statement(parser, names);
+    }
+    if parser.sees(b"START") {
+        return start_statement(parser, names);
+    }
+    if parser.sees(b"WRITE") {
+        return write_statement(parser, names);
+    }
+    if parser.sees(b"REWRITE") {
+        return rewrite_statement(parser, names);
+    }
+    if parser.sees(b"DELETE") {
+        return delete_statement(parser, names);
+    }
+    stop_statement(parser)
+}
+
+/// The same, in the line of its verb.
+#[tactic(auto, unfolding(crate::specs::Parts::one_in_its_line))]
+fn one_in_its_line(
+    parser: &mut Parser<'_>,
+    names: &Names<'_>,
+    statements: PlacedStatements,
+) -> Result<PlacedStatements, Refusal>
+    ensures { AddsStatements (one_in_its_line names.now) statements parser.old result parser.new }
+{
+    let line = parser.line();
+    let statement = one_statement(parser, names)?;
+    Ok(statements.with(statement, line)?)
+}
+
 fn statement(
     alloc: Global,
     parser: &mut Parser<'_>,
     names: &Names<'_>,
-    statements: StatementList,
-) -> Result<StatementList, Refusal>
+    statements: PlacedStatements,
+) -> Result<PlacedStatements, Refusal>
     ensures { AddsStatements (statement names.now) statements parser.old result parser.new }
 {
     if parser.sees(b"OPEN") {
@@ -61,25 +92,10 @@ fn statement(
     if parser.sees(b"CLOSE") {
         return close_statement(parser, names, statements);
     }
-    if parser.sees(b"READ") {
-        return read_statement(parser, names, statements);
-    }
-    if parser.sees(b"START") {
-        return start_statement(parser, names, statements);
-    }
-    if parser.sees(b"WRITE") {
-        return write_statement(parser, names, statements);
-    }
-    if parser.sees(b"REWRITE") {
-        return rewrite_statement(parser, names, statements);
-    }
-    if parser.sees(b"DELETE") {
-        return delete_statement(parser, names, statements);
-    }
     if parser.sees(b"MOVE") {
         return move_statement(alloc, parser, names, statements);
     }
-    stop_statement(parser, statements)
+    one_in_its_line(parser, names, statements)
 }
 
 /// Statements, one or more.
@@ -87,8 +103,8 @@ fn all_statements(
     alloc: Global,
     parser: &mut Parser<'_>,
     names: &Names<'_>,
-    statements: StatementList,
-) -> Result<StatementList, Refusal>
+    statements: PlacedStatements,
+) -> Result<PlacedStatements, Refusal>
     ensures { AddsStatements (some_of (statement names.now)) statements parser.old result parser.new }
 {
     let mut statements = statement(alloc, parser, names, statements)?;
@@ -102,8 +118,8 @@ fn sentence(
     alloc: Global,
     parser: &mut Parser<'_>,
     names: &Names<'_>,
-    statements: StatementList,
-) -> Result<StatementList, Refusal>
+    statements: PlacedStatements,
+) -> Result<PlacedStatements, Refusal>
     ensures { AddsStatements (some_of (statement names.now) ◂ period) statements parser.old result
         parser.new }
 {
@@ -113,8 +129,8 @@ fn sentence(
 }
 
 /// A paragraph's name, which has no effect.
-fn paragraph(parser: &mut Parser<'_>) -> Result<Name, Refusal>
-    ensures { ReadsAs (λ paragraph. tt) (name ▸ period) parser.old result parser.new }
+fn paragraph_name(parser: &mut Parser<'_>) -> Result<Name, Refusal>
+    ensures { ReadsAs (λ paragraph. paragraph.bytes) (name ◂ period) parser.old result parser.new }
 {
     let place = parser.place();
     let paragraph = parser.name(NameOf::Paragraph)?;
@@ -135,25 +151,36 @@ fn sees_paragraph(parser: &Parser<'_>) -> bool
     !sees_statement(parser) && parser.sees_name(NameOf::Paragraph)
 }
 
-#[tactic(auto, unfolding(crate::specs::Parts::paragraph_or_sentence), using(crate::proofs::ProcedureLemmas::paragraph_starts, crate::proofs::JoinLemmas::nothing_behind))]
+/// A paragraph's name, in its line.
+#[tactic(auto, unfolding(crate::specs::Procedure::paragraph))]
+fn paragraph(
+    parser: &mut Parser<'_>,
+    statements: PlacedStatements,
+) -> Result<PlacedStatements, Refusal>
+    ensures { AddsStatements paragraph statements parser.old result parser.new }
+{
+    let line = parser.line();
+    let name = paragraph_name(parser)?;
+    Ok(statements.with_paragraph(name, line)?)
+}
+
+#[tactic(auto, unfolding(crate::specs::Parts::paragraph_or_sentence), using(crate::proofs::ProcedureLemmas::paragraph_starts))]
 pub fn paragraph_or_sentence(
     alloc: Global,
     parser: &mut Parser<'_>,
     names: &Names<'_>,
-    statements: StatementList,
-) -> Result<StatementList, Refusal>
+    statements: PlacedStatements,
+) -> Result<PlacedStatements, Refusal>
     ensures { AddsStatements (paragraph_or_sentence names.now) statements parser.old result parser.new }
 {
     if sees_paragraph(parser) {
-        let line = parser.line();
-        let name = paragraph(parser)?;
-        return Ok(statements.with_paragraph(name, line)?);
+        return paragraph(parser, statements);
     }
     sentence(alloc, parser, names, statements)
 }
 
 /// Whether a paragraph or a sentence is next.
-#[tactic(auto, unfolding(crate::specs::Parts::paragraph_or_sentence, deck_words::specs::Notation::name))]
+#[tactic(auto, unfolding(crate::specs::Parts::paragraph_or_sentence, crate::specs::Procedure::paragraph, deck_words::specs::Notation::name))]
 pub fn sees_sentence(parser: &Parser<'_>) -> bool
     ensures { (known : Names) → result ≡ begins (paragraph_or_sentence known).starts parser.now }
 {

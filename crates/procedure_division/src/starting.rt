@@ -7,15 +7,14 @@ ghost use Rattle.deck_words.specs.Operand.{sign};
 ghost use Rattle.deck_words.specs.Reading.{Reads};
 ghost use Rattle.deck_words.specs.Rule.{optional, where_it_gives};
 ghost use Rattle.procedure_division.specs.Names.{access_at};
-ghost use Rattle.procedure_division.specs.Reading.{AddsStatements};
-ghost use Rattle.procedure_division.specs.StatementRules.{one_statement, file};
+ghost use Rattle.procedure_division.specs.StatementRules.{file};
 ghost use Rattle.procedure_division.specs.StatementRules.{relation, led_key, start_by};
 ghost use Rattle.procedure_division.specs.StatementRules.{start_statement};
+ghost use Rattle.procedure_division.specs.declared.statement.Statement.TheVariants.{Perform};
 
 use crate::file_name::file;
 use crate::names::Names;
 use crate::statement::Statement;
-use crate::statement_list::StatementList;
 use deck_words::{Cause, NameOf, NotAllowed, Parser, Refusal, Unknown};
 use io_state::{Access, FileStatement, Relation};
 
@@ -146,28 +145,21 @@ fn start_operand(
     parser: &mut Parser<'_>,
     names: &Names<'_>,
     file: usize,
-    statements: StatementList,
-    line: u64,
-) -> Result<StatementList, Refusal>
-    ensures { AddsStatements (where_it_gives (λ operand. Some (one_statement file (start_by names.now file
-        operand))) (optional (the (codes "KEY") ▸ may (codes "IS") ▸ relation ⊗ led_key names.now file)))
-        statements parser.old result parser.new }
+) -> Result<Statement, Refusal>
+    ensures { Reads ((where_it_gives (λ operand. Some (Perform file (start_by names.now file operand)))
+        (optional (the (codes "KEY") ▸ may (codes "IS") ▸ relation ⊗ led_key names.now file))).reads
+        parser.old) result parser.new }
 {
     let operand = start_phrase(parser, names, file)?;
     let statement = start_by(names, file, operand);
-    Ok(statements.with(Statement::Perform { file, statement }, line)?)
+    Ok(Statement::Perform { file, statement })
 }
 
-#[tactic(auto, unfolding(crate::specs::StatementRules::start_statement), using(crate::proofs::JoinLemmas::follower_behind, crate::proofs::JoinLemmas::second_behind))]
-pub fn start_statement(
-    parser: &mut Parser<'_>,
-    names: &Names<'_>,
-    statements: StatementList,
-) -> Result<StatementList, Refusal>
-    ensures { AddsStatements (start_statement names.now) statements parser.old result parser.new }
+#[tactic(auto, unfolding(crate::specs::StatementRules::start_statement))]
+pub fn start_statement(parser: &mut Parser<'_>, names: &Names<'_>) -> Result<Statement, Refusal>
+    ensures { Reads ((start_statement names.now).reads parser.old) result parser.new }
 {
-    let line = parser.line();
     parser.expect(b"START")?;
     let file = file_to_start(parser, names)?;
-    start_operand(parser, names, file, statements, line)
+    start_operand(parser, names, file)
 }

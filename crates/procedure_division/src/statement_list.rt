@@ -1,28 +1,23 @@
 //! Statements in their order.
 ghost use Rattle.std.specs.Prelude.{◌≡◌, ◌++◌, ◌∷◌, [], length, IfOk};
 
-use crate::places::{Paragraph, StatementPlaces};
 use crate::statement::Statement;
-use io_state::Name;
 use std::alloc::{AllocError, Global};
 use std::marker::Model;
 
-/// The statements of a procedure, which contracts see as a list, and where each of them stands.
+/// The statements of a procedure, which contracts see as a list.
 #[derive(Drop)]
 pub struct StatementList {
     statements: Vec<Statement>,
-    places: StatementPlaces,
 }
 
 impl Model for StatementList {
-    ghost use Rattle.std.specs.Prelude.{◌≡◌, List, length};
+    ghost use Rattle.std.specs.Prelude.{List};
     ghost use Rattle.procedure_division.specs.declared.statement.Statement.{Statement};
 
     ghost Value = { List Statement };
 
     ghost view = { λ s. s.statements.items };
-
-    ghost invariant = { λ s. length s.places.lines.items ≡ length s.statements.items };
 }
 
 impl StatementList {
@@ -32,10 +27,6 @@ impl StatementList {
     {
         Ok(StatementList {
             statements: Vec::with_capacity(alloc, capacity)?,
-            places: StatementPlaces {
-                lines: Vec::with_capacity(alloc, capacity)?,
-                paragraphs: Vec::new(alloc),
-            },
         })
     }
 
@@ -46,36 +37,19 @@ impl StatementList {
         self.statements.as_slice()
     }
 
-    /// Where each of them stands.
-    pub fn places(&self) -> &StatementPlaces
-        ensures { length result.now.lines.items ≡ length self.now }
+    /// How many statements there are.
+    pub fn len(&self) -> usize
+        ensures { result ≡ length self.now }
     {
-        &self.places
+        self.statements.len()
     }
 
-    /// The statements, and one more at the end, which stands in this line.
-    pub fn with(self, statement: Statement, line: u64) -> Result<Self, AllocError>
+    /// The statements, and one more at the end.
+    pub fn with(self, statement: Statement) -> Result<Self, AllocError>
         ensures { IfOk result (λ statements. statements ≡ self ++ statement ∷ []) }
     {
-        let StatementList {
-            mut statements,
-            mut places,
-        } = self;
-        places.lines.push(line)?;
+        let StatementList { mut statements } = self;
         statements.push(statement)?;
-        Ok(StatementList { statements, places })
-    }
-
-    /// The statements, behind which a paragraph begins.
-    pub fn with_paragraph(self, name: Name, line: u64) -> Result<Self, AllocError>
-        ensures { IfOk result (λ statements. statements ≡ self) }
-    {
-        let StatementList {
-            statements,
-            mut places,
-        } = self;
-        let at = statements.len();
-        places.paragraphs.push(Paragraph { name, line, at })?;
-        Ok(StatementList { statements, places })
+        Ok(StatementList { statements })
     }
 }

@@ -7,7 +7,7 @@ use Rattle.deck_words.specs.declared.fault.Refusal.{Refusal}
 use Rattle.deck_words.specs.declared.fault.Refusal.TheVariants.{Memory, Fault}
 use Rattle.deck_words.specs.Word.{Word}
 use Rattle.procedure_division.specs.Procedure.{procedure}
-use Rattle.procedure_division.specs.declared.statement.Statement.{Statement}
+use Rattle.procedure_division.specs.declared.placed.PlacedStatements.{PlacedStatements}
 use Rattle.procedure_division.proofs.ProcedureLemmas.{lawful_procedure, procedure_is_fit}
 use Rattle.procedure_division.proofs.division.read_procedure.Goals as goal
 
@@ -30,7 +30,7 @@ returns-in_err-end c =
     let rule = procedure c.args.names.now in
     let none = not_all_spelled rule (lawful_procedure _) (procedure_is_fit _) c.in_ok-statements.statements c.new-parser.result c.procedure_division.new.parser c.in_ok-statements.ensures c.in_err-end.ensures.end in
     let p = err_from_is_err_and c.from_residual-in_err-end.result c.from_residual-in_err-end.ensures.1 in
-    rw (p.1) (record { given = tt; none = λ _. subst (λ (words : List Word). (statements : List Statement) → rule.Spells statements words [] → ⊥) c.new-parser.ensures none })
+    rw (p.1) (record { given = tt; none = λ _. subst (λ (words : List Word). (statements : PlacedStatements) → rule.Spells statements words [] → ⊥) c.new-parser.ensures none })
 
 pub returns-in_err-statements : goal.returns-in_err-statements
 returns-in_err-statements c =
@@ -38,6 +38,6 @@ returns-in_err-statements c =
     let p = err_from_is_err_and c.from_residual.result c.from_residual.ensures.1 in
     rw (p.1, p.2) (record {
       given = tt;
-      none = λ f. subst (λ (words : List Word). (statements : List Statement) → rule.Spells statements words [] → ⊥) c.new-parser.ensures
+      none = λ f. subst (λ (words : List Word). (statements : PlacedStatements) → rule.Spells statements words [] → ⊥) c.new-parser.ensures
           (nothing_spelled rule (lawful_procedure _) (procedure_is_fit _) c.new-parser.result (none_read _ _ c.in_err-statements.ensures f));
     })

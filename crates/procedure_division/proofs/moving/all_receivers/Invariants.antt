@@ -8,7 +8,7 @@ use Rattle.procedure_division.proofs.moving.all_receivers.Given as goal
 -- the reading goes on from the statements so far
 abbrev pub invariant-more : goal.invariant-more
 invariant-more l =
-    (behind_statements l.fn.statements (some_of (receiver l.fn.names (sent l.fn.source)))).reads l.fn.parser ≡ (onto joined_statements l.statements (receiver l.fn.names (sent l.fn.source))).reads l.parser
+    (behind_statements l.fn.statements (some_of (receiver l.fn.names l.fn.places.line (sent l.fn.source)))).reads l.fn.parser ≡ (onto joined_statements l.statements (receiver l.fn.names l.fn.places.line (sent l.fn.source))).reads l.parser
 
 abbrev pub decreases-more : goal.decreases-more
 decreases-more l = length l.parser

@@ -1,5 +1,5 @@
-use Rattle.std.proofs.Common.{◌≡◌, ℕ, List, [], ◌∷◌, ◌++◌, Option, Some, None, refl, sym, ap, ◌∙◌}
-use Rattle.std.specs.Prelude.{bytes_eq, position}
+use Rattle.std.proofs.Common.{◌≡◌, ℕ, List, Option, Some, None, refl, sym, ap, ◌∙◌}
+use Rattle.std.specs.Prelude.{bytes_eq, position, option_and_then}
 use Rattle.std.specs.Option.{option_map}
 use Rattle.deck_words.specs.Notation.{name}
 use Rattle.deck_words.specs.Word.{Word}
@@ -7,6 +7,8 @@ use Rattle.record_layout.specs.Area.{sent}
 use Rattle.record_layout.specs.declared.area.Source.{Source}
 use Rattle.procedure_division.specs.declared.statement.Statement.{Statement}
 use Rattle.procedure_division.specs.declared.statement.Statement.TheVariants.{MoveLength}
+use Rattle.procedure_division.specs.declared.placed.PlacedStatements.{PlacedStatements}
+use Rattle.procedure_division.specs.Placed.{placed_statement, placed_behind}
 use Rattle.procedure_division.specs.Names.{Names, item_named}
 use Rattle.procedure_division.specs.StatementRules.{receiver}
 use Rattle.procedure_division.proofs.ProcedureLemmas.{moved_to}
@@ -17,24 +19,29 @@ none_of : {A : Type 0} (o : Option A) → ((x : A) → o ≡ Some x → ⊥) →
 none_of None h = refl
 none_of (Some x) h = absurd (h x refl)
 
+-- a statement that is read, in its line
+placed_each : (moved : Option Statement) (line : ℕ) (rest : List Word) → option_and_then {U = PlacedStatements × List Word} (λ (a : Statement × List Word). Some (placed_statement line a.0, a.1)) (option_map {U = Statement × List Word} (λ y. (y, rest)) moved) ≡ option_map {U = PlacedStatements × List Word} (λ statement. (placed_statement line statement, rest)) moved
+placed_each None line rest = refl
+placed_each (Some statement) line rest = refl
+
 -- where no item of a file has the name that is read, a length item takes the source
-no_item : (names : Names) (source : Source (List ℕ)) (text bytes : List ℕ) (place : Option ℕ) (words rest : List Word) → name.reads words ≡ Some (bytes, rest) → item_named names bytes ≡ None → text ≡ bytes → place ≡ position (λ item. bytes_eq item.name text) names.items → (receiver names source).reads words ≡ option_map {U = List Statement × List Word} (λ statements. (statements, rest)) (moved_to source None place)
+no_item : (names : Names) (line : ℕ) (source : Source (List ℕ)) (text bytes : List ℕ) (place : Option ℕ) (words rest : List Word) → name.reads words ≡ Some (bytes, rest) → item_named names bytes ≡ None → text ≡ bytes → place ≡ position (λ item. bytes_eq item.name text) names.items → (receiver names line source).reads words ≡ option_map {U = PlacedStatements × List Word} (λ statement. (placed_statement line statement, rest)) (moved_to source None place)
 unfolding receiver
-no_item names source text bytes place words rest read none same at =
+no_item names line source text bytes place words rest read none same at =
     let here = sym (at ∙ ap (λ t. position (λ item. bytes_eq item.name t) names.items) same) in
-    rw (read, none, here) refl
+    rw (read, none, here) (placed_each (moved_to source None place) line rest)
 
 pub returns-in_default-length_item : goal.returns-in_default-length_item
 returns-in_default-length_item c =
     let none = sym c.item.ensures ∙ none_of _ (λ x e. c.in_default.not-Some x e) in
     let nowhere = none_of _ (λ x e. c.in_default-length_item.not-Some x e) in
-    let reads = no_item c.args.names.now (sent c.args.source.now) c.as_str.result.now c.in_ok-name.name.bytes None c.args.parser.now c.name.new.self c.in_ok-name.ensures.reads none c.as_str.ensures.value (sym nowhere ∙ c.length_item.ensures) in
+    let reads = no_item c.args.names.now c.args.places.line (sent c.args.source.now) c.as_str.result.now c.in_ok-name.name.bytes None c.args.parser.now c.name.new.self c.in_ok-name.ensures.reads none c.as_str.ensures.value (sym nowhere ∙ c.length_item.ensures) in
     refused _ _ (rw reads refl)
 
 pub returns : goal.returns
 returns c =
     let none = sym c.item.ensures ∙ none_of _ (λ x e. c.in_default.not-Some x e) in
-    let reads = no_item c.args.names.now (sent c.args.source.now) c.as_str.result.now c.in_ok-name.name.bytes (Some c.in-Some-length_item.item) c.args.parser.now c.name.new.self c.in_ok-name.ensures.reads none c.as_str.ensures.value (sym c.in-Some-length_item.is ∙ c.length_item.ensures) in
+    let reads = no_item c.args.names.now c.args.places.line (sent c.args.source.now) c.as_str.result.now c.in_ok-name.name.bytes (Some c.in-Some-length_item.item) c.args.parser.now c.name.new.self c.in_ok-name.ensures.reads none c.as_str.ensures.value (sym c.in-Some-length_item.is ∙ c.length_item.ensures) in
     let taken = sym c.is_numeric.ensures ∙ c.if-not-is_numeric.false in
-    let all = c.in_ok-with-2.ensures ∙ ap (λ (s : Source (List ℕ)). c.args.statements ++ MoveLength c.in-Some-length_item.item s ∷ []) c.in_ok-source-2.ensures in
-    rw (reads, taken) (ap (λ (statements : List Statement). Some (statements, c.name.new.self)) (sym all))
+    let all = c.in_ok-with-2.ensures ∙ ap (λ (s : Source (List ℕ)). placed_behind c.args.statements (placed_statement c.args.places.line (MoveLength c.in-Some-length_item.item s))) c.in_ok-source-2.ensures in
+    rw (reads, taken) (ap (λ (statements : PlacedStatements). Some (statements, c.name.new.self)) (sym all))
