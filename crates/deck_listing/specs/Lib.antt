@@ -1,4 +1,3 @@
-pub mod Places
 pub mod Verbs
 pub mod Lines
 pub mod Listing

@@ -104,11 +104,6 @@ verb_line line verb =
     ++ (decimal line ++ (codes " " ++ (listed_verb_text verb.statement
     ++ (codes " " ++ (verb.file ++ codes "\n")))))))
 
--- the same without a line
-abbrev pub lineless_verb : Verb → List ℕ
-lineless_verb verb = codes "verb " ++ (decimal verb.number
-    ++ (codes " " ++ (listed_verb_text verb.statement ++ (codes " " ++ (verb.file ++ codes "\n")))))
-
 -- a paragraph has the name of a statement that other COBOLs have, and a deck has not
 abbrev pub is_statement_elsewhere : List ℕ → Bool
 is_statement_elsewhere name = bytes_eq name (codes "GOBACK") || bytes_eq name (codes "EXIT")

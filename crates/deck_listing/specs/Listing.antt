@@ -1,21 +1,19 @@
--- The list of a deck: its files with their items and keys, and its verbs and paragraphs in the
--- order of their lines. All of this is ours.
-use Rattle.std.specs.Prelude.{◌≡◌, ℕ, ◌+◌, List, [], ◌∷◌, ◌++◌, flat_map, Option, Some, None}
+-- The list of a deck: its files with their items and keys, and its verbs and paragraphs in their
+-- order, each with its line. All of this is ours.
+use Rattle.std.specs.Prelude.{◌≡◌, ℕ, ◌+◌, List, [], ◌∷◌, ◌++◌, take, drop, flat_map, slice_get, nat_le}
+use Rattle.std.specs.Prelude.{Option, is_some, if◌then◌else◌}
+use Rattle.std.specs.List.{prefix_len}
+use Rattle.std.specs.Option.{option_map_or}
 use Rattle.record_layout.specs.Layout.{Placed}
 use Rattle.record_layout.specs.declared.schema.KeyPart.{KeyPart}
 use Rattle.file_control.specs.Description.{FileDesc}
-use Rattle.deck_words.specs.Word.{Word, plain_text}
-use Rattle.deck_words.specs.Words.{HasWords}
+use Rattle.procedure_division.specs.declared.statement.Statement.{Statement}
+use Rattle.procedure_division.specs.StatementPlaces.{Paragraph}
 use Rattle.deck_reader.specs.declared.deck.Deck.{Deck}
 use Rattle.deck_reader.specs.Deck.{IsDeck}
-use Rattle.deck_listing.specs.declared.place.Place.{Place}
-use Rattle.deck_listing.specs.declared.place.Place.TheVariants.{Description}
-use Rattle.deck_listing.specs.declared.place.Mark.{Mark}
-use Rattle.deck_listing.specs.declared.place.Mark.TheVariants.{Nothing, VerbWord, Paragraph}
-use Rattle.deck_listing.specs.Places.{role_of, place_behind, mark_of}
-use Rattle.deck_listing.specs.Verbs.{Verb, verbs_behind}
+use Rattle.deck_listing.specs.Verbs.{Verb, verb_of}
 use Rattle.deck_listing.specs.Lines.{item_line, key_name, key_line, heading, lengths_text, access_word}
-use Rattle.deck_listing.specs.Lines.{optional_word, verb_line, lineless_verb, paragraph_line}
+use Rattle.deck_listing.specs.Lines.{optional_word, verb_line, paragraph_line}
 
 -- ---- files
 
@@ -35,41 +33,37 @@ file_lines file = heading_of file ++ (flat_map item_line file.layout
 
 -- ---- the procedure
 
--- the line of a paragraph, whose name is a plain word
-abbrev pub name_line : ℕ → Option (List ℕ) → List ℕ
-name_line line None = []
-name_line line (Some name) = paragraph_line line name
+-- the paragraphs before a statement, where those before it in their order have been listed
+abbrev pub count_before : ℕ → List Paragraph → ℕ
+count_before at paragraphs = prefix_len (λ paragraph. nat_le paragraph.at at) paragraphs
 
--- what is listed at a word, where these verbs are still to come
-abbrev pub line_at : Mark → Word → List Verb → List ℕ
-line_at Nothing word verbs = []
-line_at Paragraph word verbs = name_line word.line (plain_text word)
-line_at VerbWord word [] = []
-line_at VerbWord word (verb ∷ verbs) = verb_line word.line verb
+abbrev pub paragraph_lines : List Paragraph → List ℕ
+paragraph_lines paragraphs = flat_map (λ paragraph. paragraph_line paragraph.line paragraph.name) paragraphs
 
--- the verbs that are still to come behind it
-abbrev pub left_at : Mark → List Verb → List Verb
-left_at VerbWord [] = []
-left_at VerbWord (verb ∷ verbs) = verbs
-left_at Nothing verbs = verbs
-left_at Paragraph verbs = verbs
+-- the line of a verb, if there is one, and how many verbs there are with it
+abbrev pub line_of_verb : (line : ℕ) → Option Verb → List ℕ
+line_of_verb line verb = option_map_or (verb_line line) verb []
 
--- the lines of the words from a place on, where these verbs are still to come: the n-th verb of the
--- deck stands at the n-th word at which a verb stands
-abbrev pub procedure_lines : Place → List Word → List Verb → List ℕ
-procedure_lines place [] verbs = flat_map lineless_verb verbs
-procedure_lines place (word ∷ words) verbs =
-    line_at (mark_of place (role_of word)) word verbs
-    ++ procedure_lines (place_behind place (role_of word)) words
-    (left_at (mark_of place (role_of word)) verbs)
+abbrev pub verbs_with : ℕ → Option Verb → ℕ
+verbs_with before verb = if is_some verb then before + 1 else before
+
+-- the statements from one on, behind so many statements and verbs: before each the paragraphs that
+-- stand there, and the line of a verb is that of its statement
+abbrev pub procedure_lines : List FileDesc → List ℕ → (at before : ℕ) → List Paragraph → List Statement
+    → List ℕ
+procedure_lines files lines at before paragraphs [] = paragraph_lines paragraphs
+procedure_lines files lines at before paragraphs (statement ∷ statements) =
+    let count = count_before at paragraphs in
+    let verb = verb_of files before statement in
+    paragraph_lines (take count paragraphs) ++ (line_of_verb (option_map_or (λ line. line) (slice_get lines at) 0) verb
+    ++ procedure_lines files lines (at + 1) (verbs_with before verb) (drop count paragraphs) statements)
 
 -- ---- decks
 
-abbrev pub deck_listing_text : Deck → List Word → List ℕ
-deck_listing_text deck words = flat_map file_lines deck.files
-    ++ procedure_lines Description words (verbs_behind deck.files [] deck.statements)
+abbrev pub deck_listing_text : Deck → List ℕ
+deck_listing_text deck = flat_map file_lines deck.files
+    ++ procedure_lines deck.files deck.places.lines 0 0 deck.places.paragraphs deck.statements
 
 -- the text is the list of the deck that the bytes are
 abbrev pub Lists : List ℕ → List ℕ → Type 0
-Lists bytes text = (deck : Deck) × IsDeck bytes deck
-    × ((words : List Word) × HasWords bytes words × (text ≡ deck_listing_text deck words))
+Lists bytes text = (deck : Deck) × IsDeck bytes deck × (text ≡ deck_listing_text deck)

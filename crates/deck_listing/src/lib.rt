@@ -2,16 +2,14 @@
 //!
 //! `list_deck` answers exactly the list of the deck that the bytes are, or a fault exactly where
 //! they are none. A verb has the number of its line in the transcript. It stands at the line of its
-//! word, and that of an OPEN or a CLOSE at the line of the file's name.
+//! word, and that of an OPEN or a CLOSE at the line of the file's name, as the deck was read.
 //!
-//! Read `specs/Lines.antt` for the lines, `specs/Places.antt` for the words at which a verb stands,
-//! `specs/Listing.antt` for the list, and then `listing`.
+//! Read `specs/Lines.antt` for the lines, `specs/Listing.antt` for the list, and then `listing`.
 #![tactic(auto)]
 
 mod key_name;
 mod lines;
 mod listing;
-mod place;
 mod procedure;
 mod verbs;
 

@@ -4,7 +4,7 @@ ghost use Rattle.record_layout.specs.Layout.{item_of};
 ghost use Rattle.deck_listing.specs.Lines.{name_or_filler, digits_word, item_line, key_kind, key_line};
 ghost use Rattle.deck_listing.specs.Lines.{access_word, optional_word, lengths_text, heading_with};
 ghost use Rattle.deck_listing.specs.Lines.{listed_verb_text};
-ghost use Rattle.deck_listing.specs.Lines.{verb_line, lineless_verb, paragraph_note, paragraph_line};
+ghost use Rattle.deck_listing.specs.Lines.{verb_line, paragraph_note, paragraph_line};
 
 use crate::verbs::Verb;
 use io_state::{Access, FileStatement, Name, OpenMode};
@@ -141,16 +141,6 @@ pub fn add_verb(text: &mut String, line: u64, verb: &Verb) -> Result<(), AllocEr
     let does = verb_text(&verb.statement);
     let file = verb.file.as_str();
     writeln!(text, "verb {number} line {line} {does} {file}")
-}
-
-/// Adds the line of a verb whose line is not known.
-pub fn add_lineless_verb(text: &mut String, verb: &Verb) -> Result<(), AllocError>
-    ensures { OnOk result (string_bytes text.new ≡ string_bytes text.old ++ lineless_verb verb.now) }
-{
-    let number = verb.number;
-    let does = verb_text(&verb.statement);
-    let file = verb.file.as_str();
-    writeln!(text, "verb {number} {does} {file}")
 }
 
 /// What is said of a paragraph that has the name of a statement of other COBOLs.

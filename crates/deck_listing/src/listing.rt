@@ -10,10 +10,9 @@ ghost use Rattle.deck_listing.specs.Listing.{key_lines, file_lines, deck_listing
 use crate::key_name::key_name;
 use crate::lines::{add_heading, add_item, add_key};
 use crate::procedure::add_procedure;
-use crate::verbs::verbs_of;
 use deck_reader::{Deck, read_deck};
-use deck_words::{Refusal, Words, words};
-use file_control::{DeckFault, FileDesc, one_reading};
+use deck_words::Refusal;
+use file_control::{DeckFault, FileDesc};
 use record_layout::{KeyPart, Placed};
 use std::alloc::{AllocError, Global};
 
@@ -70,15 +69,14 @@ fn add_files(text: &mut String, files: &[FileDesc]) -> Result<(), AllocError>
     Ok(())
 }
 
-/// The list of a deck that these words are.
-fn listing(alloc: Global, deck: &Deck, words: &Words<'_>) -> Result<String, AllocError>
-    ensures { IfOk result (λ text. string_bytes text ≡ deck_listing_text deck.now words.now) }
+/// The list of a deck.
+fn listing(alloc: Global, deck: &Deck) -> Result<String, AllocError>
+    ensures { IfOk result (λ text. string_bytes text ≡ deck_listing_text deck.now) }
 {
     let files = deck.files.as_slice();
-    let verbs = verbs_of(alloc, files, deck.statements.as_slice())?;
     let mut text = String::new(alloc);
     add_files(&mut text, files)?;
-    add_procedure(&mut text, words, verbs.as_slice())?;
+    add_procedure(&mut text, files, deck.statements.as_slice(), &deck.places)?;
     Ok(text)
 }
 
@@ -89,11 +87,6 @@ pub fn list_deck(alloc: Global, bytes: &[u8]) -> Result<String, DeckFault>
     ensures none { IfErr result (λ fault. fault.code ≢ 8 → (deck : ReadDeck) → IsDeck bytes.now deck → ⊥) }
     ensures told { IfErr result IsTold }
 {
-    one_reading();
-    let words = words(bytes)?;
     let deck = read_deck(alloc, bytes)?;
-    match listing(alloc, &deck, &words) {
-        Ok(text) => Ok(text),
-        Err(error) => Err(Refusal::from(error).into()),
-    }
+    Ok(listing(alloc, &deck).map_err(Refusal::from)?)
 }

@@ -1,75 +1,92 @@
-//! The verbs and paragraphs of a deck, in the order of its words.
-ghost use Rattle.std.specs.Prelude.{◌≡◌, ◌++◌, flat_map, string_bytes, OnOk, IfOk};
-ghost use Rattle.deck_words.specs.Word.{plain_text};
-ghost use Rattle.deck_listing.specs.Lines.{lineless_verb};
-ghost use Rattle.deck_listing.specs.Listing.{name_line, line_at, left_at, procedure_lines};
+//! The verbs and paragraphs of a deck, in their order.
+ghost use Rattle.std.specs.Prelude.{◌≡◌, ◌++◌, ◌^◌, ◌<◌, ◌≤◌, length, slice_get, string_bytes, OnOk, IfOk};
+ghost use Rattle.std.specs.Option.{option_map_or};
+ghost use Rattle.deck_listing.specs.Verbs.{verb_of};
+ghost use Rattle.deck_listing.specs.Listing.{count_before, paragraph_lines, line_of_verb, verbs_with};
+ghost use Rattle.deck_listing.specs.Listing.{procedure_lines};
 
-use crate::lines::{add_lineless_verb, add_paragraph, add_verb};
-use crate::place::{Mark, Place, role_of};
-use crate::verbs::Verb;
-use deck_words::{Word, Words};
+use crate::lines::{add_paragraph, add_verb};
+use crate::verbs::verb_of;
+use file_control::FileDesc;
+use procedure_division::{Paragraph, Statement, StatementPlaces};
 use std::alloc::AllocError;
 
-/// Adds the lines of the verbs for which there is no word.
-fn add_lineless(text: &mut String, verbs: &[Verb]) -> Result<(), AllocError>
-    ensures { OnOk result (string_bytes text.new ≡ string_bytes text.old
-        ++ flat_map lineless_verb verbs.now) }
+/// Adds the lines of paragraphs.
+fn add_paragraphs(text: &mut String, paragraphs: &[Paragraph]) -> Result<(), AllocError>
+    ensures { OnOk result (string_bytes text.new ≡ string_bytes text.old ++ paragraph_lines paragraphs.now) }
 {
-    for verb in verbs {
-        add_lineless_verb(text, verb)?;
+    for paragraph in paragraphs {
+        add_paragraph(text, paragraph.line, paragraph.name.as_str())?;
     }
     Ok(())
 }
 
-/// Adds the line of a paragraph's name.
-fn add_name(text: &mut String, word: &Word<'_>) -> Result<(), AllocError>
-    ensures { OnOk result (string_bytes text.new ≡ string_bytes text.old
-        ++ name_line word.now.line (plain_text word.now)) }
+/// How many of the paragraphs, of which none was listed, stand before a statement.
+fn count_before(at: usize, paragraphs: &[Paragraph]) -> usize
+    ensures count { result ≡ count_before at paragraphs.now }
+    ensures within { result ≤ length paragraphs.now }
 {
-    match word.plain() {
-        Some(name) => add_paragraph(text, word.line, name.as_str()),
-        None => Ok(()),
+    paragraphs
+        .iter()
+        .take_while(|paragraph| paragraph.at <= at)
+        .count()
+}
+
+/// The line of a statement.
+fn line_at(lines: &[u64], at: usize) -> u64
+    ensures { result ≡ option_map_or (λ line. line) (slice_get lines.now at) 0 }
+{
+    match lines.get(at) {
+        Some(line) => *line,
+        None => 0,
     }
 }
 
-/// Adds what is listed at a word, and answers the verbs that are still to come.
-fn add_at<'v>(
+/// Adds the line of a statement behind so many verbs, if it is a verb, and counts it.
+fn add_statement(
     text: &mut String,
-    mark: Mark,
-    word: &Word<'_>,
-    verbs: &'v [Verb],
-) -> Result<&'v [Verb], AllocError>
-    ensures { IfOk result (λ left. (left.now ≡ left_at mark verbs.now)
-        × (string_bytes text.new ≡ string_bytes text.old ++ line_at mark word.now verbs.now)) }
+    files: &[FileDesc],
+    line: u64,
+    before: usize,
+    statement: &Statement,
+) -> Result<usize, AllocError>
+    requires { before < 2 ^ 63 }
+    ensures line { OnOk result (string_bytes text.new ≡ string_bytes text.old
+        ++ line_of_verb line (verb_of files.now before statement.now)) }
+    ensures count { IfOk result (λ count. count ≡ verbs_with before (verb_of files.now before
+        statement.now)) }
 {
-    match mark {
-        Mark::Nothing => Ok(verbs),
-        Mark::Paragraph => {
-            add_name(text, word)?;
-            Ok(verbs)
+    match verb_of(files, before, statement) {
+        Some(verb) => {
+            add_verb(text, line, &verb)?;
+            Ok(before + 1)
         }
-        Mark::VerbWord => {
-            let Some((verb, left)) = verbs.split_first() else {
-                return Ok(verbs);
-            };
-            add_verb(text, word.line, verb)?;
-            Ok(left)
-        }
+        None => Ok(before),
     }
 }
 
 /// Adds the lines of a procedure.
-pub fn add_procedure(text: &mut String, words: &Words<'_>, verbs: &[Verb]) -> Result<(), AllocError>
+pub fn add_procedure(
+    text: &mut String,
+    files: &[FileDesc],
+    statements: &[Statement],
+    places: &StatementPlaces,
+) -> Result<(), AllocError>
     ensures { OnOk result (string_bytes text.new ≡ string_bytes text.old
-        ++ procedure_lines Place.Description words.now verbs.now) }
+        ++ procedure_lines files.now places.now.lines 0 0 places.now.paragraphs statements.now) }
 {
-    let mut words = words.copy();
-    let mut place = Place::Description;
-    let mut left = verbs;
-    'more: while let Some(word) = words.next() {
-        let role = role_of(&word);
-        left = add_at(text, place.mark(role), &word, left)?;
-        place = place.behind(role);
+    let mut at = 0;
+    let mut verbs = 0;
+    let mut paragraphs = places.paragraphs();
+    let mut left = statements;
+    'more: while let Some((statement, more)) = left.split_first() {
+        let (here, behind) = paragraphs.split_at(count_before(at, paragraphs));
+        add_paragraphs(text, here)?;
+        let line = line_at(places.lines(), at);
+        verbs = add_statement(text, files, line, verbs, statement)?;
+        paragraphs = behind;
+        at += 1;
+        left = more;
     }
-    add_lineless(text, left)
+    add_paragraphs(text, paragraphs)
 }

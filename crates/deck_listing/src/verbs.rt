@@ -1,11 +1,10 @@
-//! The verbs of a deck, in their order.
-ghost use Rattle.std.specs.Prelude.{◌≡◌, [], OnOk, IfOk};
-ghost use Rattle.deck_listing.specs.Verbs.{file_name_at, with_verb, verbs_behind};
+//! The verbs of a deck.
+ghost use Rattle.std.specs.Prelude.{◌≡◌, ◌^◌, ◌<◌};
+ghost use Rattle.deck_listing.specs.Verbs.{file_name_at, verb_of};
 
 use file_control::FileDesc;
 use io_state::{FileStatement, Name};
 use procedure_division::Statement;
-use std::alloc::{AllocError, Global};
 use std::marker::Model;
 
 /// A verb: its number in the transcript, from 1, the name of its file, and what it does there.
@@ -34,42 +33,17 @@ fn name_at(files: &[FileDesc], place: usize) -> Name
     }
 }
 
-/// Adds the verb that a statement is, if it is one.
-fn add_verb(
-    verbs: &mut Vec<Verb>,
-    files: &[FileDesc],
-    statement: &Statement,
-) -> Result<(), AllocError>
-    ensures { OnOk result (verbs.new.items ≡ with_verb files.now verbs.old.items statement.now) }
+/// The verb that a statement is, if it is one, behind so many verbs.
+pub fn verb_of(files: &[FileDesc], before: usize, statement: &Statement) -> Option<Verb>
+    requires { before < 2 ^ 63 }
+    ensures { result ≡ verb_of files.now before statement.now }
 {
     match statement {
-        Statement::Perform { file, statement } => {
-            let number = verbs.len() + 1;
-            let file = name_at(files, *file);
-            verbs.push(Verb {
-                number,
-                file,
-                statement: *statement,
-            })?;
-            Ok(())
-        }
-        _ => Ok(()),
+        Statement::Perform { file, statement } => Some(Verb {
+            number: before + 1,
+            file: name_at(files, *file),
+            statement: *statement,
+        }),
+        _ => None,
     }
-}
-
-/// The verbs that the statements are.
-pub fn verbs_of(
-    alloc: Global,
-    files: &[FileDesc],
-    statements: &[Statement],
-) -> Result<Vec<Verb>, AllocError>
-    ensures { IfOk result (λ verbs. verbs.items ≡ verbs_behind files.now [] statements.now) }
-{
-    let mut verbs = Vec::new(alloc);
-    let mut rest = statements;
-    'more: while let Some((statement, more)) = rest.split_first() {
-        add_verb(&mut verbs, files, statement)?;
-        rest = more;
-    }
-    Ok(verbs)
 }
