@@ -1,3 +1,4 @@
+pub mod RunByteLemmas
 pub mod TestLemmas
 pub mod LiteralLemmas
 pub mod RunLemmas
@@ -12,3 +13,4 @@ pub mod NotationLemmas
 pub mod OperandLemmas
 pub mod RestLemmas
 pub mod SignLemmas
+pub mod LengthLemmas

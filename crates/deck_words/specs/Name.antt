@@ -9,9 +9,9 @@ use Rattle.std.specs.List.{list_all, list_any}
 use Rattle.std.specs.Str.{bytes_eq}
 use Rattle.io_state.specs.FileName.{is_capital}
 
--- a text that no name may be: the words of the divisions, and those that the procedure alone has
-unfoldable pub is_reserved : List ℕ → Bool
-is_reserved text = list_any (λ word. bytes_eq word text) (
+-- the words of the divisions, and those that the procedure alone has
+abbrev pub reserved_words : List (List ℕ)
+reserved_words =
     codes "ACCESS" ∷ codes "ALTERNATE" ∷ codes "ARE" ∷ codes "ASSIGN" ∷ codes "BLOCK" ∷ codes "CHARACTERS" ∷
     codes "CONTAINS" ∷ codes "DATA" ∷ codes "DEPENDING" ∷ codes "DIVISION" ∷ codes "DUPLICATES" ∷
     codes "DYNAMIC" ∷ codes "ENVIRONMENT" ∷ codes "FD" ∷ codes "FILE" ∷ codes "FILE-CONTROL" ∷
@@ -26,7 +26,11 @@ is_reserved text = list_any (λ word. bytes_eq word text) (
     codes "LOW-VALUES" ∷ codes "MOVE" ∷ codes "NEXT" ∷ codes "NOT" ∷ codes "OPEN" ∷ codes "OR" ∷
     codes "OUTPUT" ∷ codes "READ" ∷ codes "REWRITE" ∷ codes "RUN" ∷ codes "SPACE" ∷ codes "SPACES" ∷
     codes "START" ∷ codes "STOP" ∷ codes "THAN" ∷ codes "WRITE" ∷ codes "ZERO" ∷ codes "ZEROES" ∷
-    codes "ZEROS" ∷ [])
+    codes "ZEROS" ∷ []
+
+-- a text that no name may be
+unfoldable pub is_reserved : List ℕ → Bool
+is_reserved text = list_any (λ word. bytes_eq word text) reserved_words
 
 -- capitals, digits and hyphens, at least one capital, no hyphen first or last, and no reserved word
 abbrev pub is_name : List ℕ → Bool

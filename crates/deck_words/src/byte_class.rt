@@ -17,11 +17,12 @@ pub fn is_mark_byte(byte: u8) -> bool
     byte == b'"' || byte == b'\''
 }
 
-/// Neither white space nor a mark.
+/// Neither white space nor a mark. No byte above the apostrophe is one.
+#[tactic(auto, using(crate::proofs::RunByteLemmas::above_marks))]
 pub fn is_run_byte(byte: u8) -> bool
     ensures { result ≡ is_of_run byte }
 {
-    !is_space_byte(byte) && !is_mark_byte(byte)
+    byte > b'\'' || (!is_space_byte(byte) && !is_mark_byte(byte))
 }
 
 /// Neither line feed nor carriage return.

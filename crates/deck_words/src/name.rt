@@ -6,87 +6,52 @@ ghost use Rattle.std.specs.Str.{bytes_eq};
 ghost use Rattle.io_state.specs.FileName.{is_capital};
 ghost use Rattle.deck_words.specs.Name.{is_reserved, is_name, is_number};
 
-/// The reserved words: of the divisions before the procedure and its heading, and behind them those
-/// that the procedure alone has.
-pub const RESERVED_WORDS: [&[u8]; 78] = [
-    b"ACCESS",
+/// The reserved words by their length, so that a text is compared with few of them.
+const OF_TWO: [&[u8]; 6] = [b"FD", b"IN", b"IS", b"ON", b"TO", b"OR"];
+
+const OF_THREE: [&[u8]; 6] = [b"ARE", b"KEY", b"PIC", b"I-O", b"NOT", b"RUN"];
+
+const OF_FOUR: [&[u8]; 15] = [
+    b"DATA", b"FILE", b"FROM", b"MODE", b"SIZE", b"WITH", b"LESS", b"LOCK", b"MOVE", b"NEXT",
+    b"OPEN", b"READ", b"STOP", b"THAN", b"ZERO",
+];
+
+const OF_FIVE: [&[u8]; 9] = [
+    b"BLOCK", b"LABEL", b"CLOSE", b"EQUAL", b"INPUT", b"SPACE", b"START", b"WRITE", b"ZEROS",
+];
+
+const OF_SIX: [&[u8]; 12] = [
+    b"ACCESS", b"ASSIGN", b"FILLER", b"RANDOM", b"RECORD", b"SELECT", b"STATUS", b"DELETE",
+    b"EXTEND", b"OUTPUT", b"SPACES", b"ZEROES",
+];
+
+const OF_SEVEN: [&[u8]; 9] = [
+    b"DYNAMIC", b"INDEXED", b"OMITTED", b"PICTURE", b"RECORDS", b"SECTION", b"VARYING", b"GREATER",
+    b"REWRITE",
+];
+
+const LONGER: [&[u8]; 21] = [
     b"ALTERNATE",
-    b"ARE",
-    b"ASSIGN",
-    b"BLOCK",
     b"CHARACTERS",
     b"CONTAINS",
-    b"DATA",
     b"DEPENDING",
     b"DIVISION",
     b"DUPLICATES",
-    b"DYNAMIC",
     b"ENVIRONMENT",
-    b"FD",
-    b"FILE",
     b"FILE-CONTROL",
-    b"FILLER",
-    b"FROM",
     b"IDENTIFICATION",
-    b"IN",
-    b"INDEXED",
     b"INPUT-OUTPUT",
-    b"IS",
-    b"KEY",
-    b"LABEL",
-    b"MODE",
-    b"OMITTED",
-    b"ON",
     b"OPTIONAL",
     b"ORGANIZATION",
-    b"PIC",
-    b"PICTURE",
     b"PROCEDURE",
     b"PROGRAM-ID",
-    b"RANDOM",
-    b"RECORD",
-    b"RECORDS",
-    b"SECTION",
-    b"SELECT",
     b"SEQUENTIAL",
-    b"SIZE",
     b"STANDARD",
-    b"STATUS",
-    b"TO",
-    b"VARYING",
-    b"WITH",
     b"WORKING-STORAGE",
-    b"CLOSE",
-    b"DELETE",
-    b"EQUAL",
-    b"EXTEND",
-    b"GREATER",
     b"HIGH-VALUE",
     b"HIGH-VALUES",
-    b"I-O",
-    b"INPUT",
-    b"LESS",
-    b"LOCK",
     b"LOW-VALUE",
     b"LOW-VALUES",
-    b"MOVE",
-    b"NEXT",
-    b"NOT",
-    b"OPEN",
-    b"OR",
-    b"OUTPUT",
-    b"READ",
-    b"REWRITE",
-    b"RUN",
-    b"SPACE",
-    b"SPACES",
-    b"START",
-    b"STOP",
-    b"THAN",
-    b"WRITE",
-    b"ZERO",
-    b"ZEROES",
-    b"ZEROS",
 ];
 
 fn is_in(table: &[&[u8]], text: &[u8]) -> bool
@@ -100,7 +65,22 @@ fn is_in(table: &[&[u8]], text: &[u8]) -> bool
 fn is_reserved_text(text: &[u8]) -> bool
     ensures { result ≡ is_reserved text.now }
 {
-    is_in(&RESERVED_WORDS, text)
+    let length = text.len();
+    if length == 2 {
+        is_in(&OF_TWO, text)
+    } else if length == 3 {
+        is_in(&OF_THREE, text)
+    } else if length == 4 {
+        is_in(&OF_FOUR, text)
+    } else if length == 5 {
+        is_in(&OF_FIVE, text)
+    } else if length == 6 {
+        is_in(&OF_SIX, text)
+    } else if length == 7 {
+        is_in(&OF_SEVEN, text)
+    } else {
+        is_in(&LONGER, text)
+    }
 }
 
 fn has_letter(text: &[u8]) -> bool
