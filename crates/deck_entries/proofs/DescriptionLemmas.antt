@@ -1,12 +1,12 @@
 -- A file description is read as it is spelled: one word of look-ahead is enough.
 use Rattle.std.proofs.Common.{◌≡◌, true, refl, List}
-use Rattle.deck_words.specs.Name.{is_reserved}
-use Rattle.deck_words.specs.Rule.{many}
-use Rattle.deck_words.specs.Notation.{the, name, period}
-use Rattle.deck_words.specs.Operand.{digits}
-use Rattle.deck_words.proofs.RuleLemmas.{Lawful, lawful_as}
-use Rattle.deck_words.proofs.NotationLemmas.{steps}
-use Rattle.deck_words.proofs.OperandLemmas.{lawful_digits}
+use Rattle.deck_parser.specs.Name.{is_reserved}
+use Rattle.deck_parser.specs.Rule.{many}
+use Rattle.deck_parser.specs.Notation.{the, name, period}
+use Rattle.deck_parser.specs.Operand.{digits}
+use Rattle.deck_parser.proofs.RuleLemmas.{Lawful, lawful_as}
+use Rattle.deck_parser.proofs.NotationLemmas.{steps}
+use Rattle.deck_parser.proofs.OperandLemmas.{lawful_digits}
 use Rattle.deck_entries.specs.FileDescription.{count, length_clause, description_clause, picture_clause, item, FileDescription, description_behind, storage_item}
 use Rattle.deck_entries.specs.FileControlEntry.{FileControlEntry}
 

@@ -1,19 +1,19 @@
 -- The divisions are read as they are spelled.
 use Rattle.std.proofs.Common.{◌≡◌, true, refl, List, []}
-use Rattle.deck_words.specs.Name.{is_reserved}
-use Rattle.deck_words.specs.Class.{this, levels}
-use Rattle.deck_words.specs.Rule.{each_behind, where_it_gives}
-use Rattle.deck_words.specs.Notation.{the, name, literal, period}
+use Rattle.deck_parser.specs.Name.{is_reserved}
+use Rattle.deck_parser.specs.Class.{this, levels}
+use Rattle.deck_parser.specs.Rule.{each_behind, where_it_gives}
+use Rattle.deck_parser.specs.Notation.{the, name, literal, period}
 use Rattle.deck_entries.specs.FileControlEntry.{mode, clause, select_behind}
 use Rattle.deck_entries.specs.FileControlEntry.{FileControlEntry}
-use Rattle.deck_words.proofs.RuleLemmas.{Lawful, lawful_as}
+use Rattle.deck_parser.proofs.RuleLemmas.{Lawful, lawful_as}
 use Rattle.deck_entries.proofs.EntryLemmas.{lawful_select_behind}
-use Rattle.deck_words.proofs.TurnLemmas.{AreAlike, lawful_each}
+use Rattle.deck_parser.proofs.TurnLemmas.{AreAlike, lawful_each}
 use Rattle.deck_entries.specs.FileDescription.{count, length_clause, description_clause, picture_clause, item, FileDescription, description_behind, storage_item, with_one}
 use Rattle.deck_entries.specs.Divisions.{more_entry, file_control_paragraph, more_description, data_division}
 use Rattle.std.specs.Prelude.{codes, ◌∷◌}
-use Rattle.deck_words.specs.Operand.{digits}
-use Rattle.deck_words.proofs.NotationLemmas.{steps}
+use Rattle.deck_parser.specs.Operand.{digits}
+use Rattle.deck_parser.proofs.NotationLemmas.{steps}
 use Rattle.deck_entries.proofs.DescriptionLemmas.{lawful_description_behind, lawful_storage_item}
 
 -- ---- file control

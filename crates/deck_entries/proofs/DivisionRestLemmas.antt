@@ -3,11 +3,11 @@ use Rattle.std.proofs.Common.{◌≡◌, ℕ, ◌≤◌, ◌-◌, List, [], leng
 use Rattle.std.proofs.Math.Seq.{drop-append_seam}
 use Rattle.std.proofs.lemmas.List.{length-append, length-drop}
 use Rattle.deck_entries.specs.FileControlEntry.{FileControlEntry, select_behind}
-use Rattle.deck_words.specs.Rule.{each_behind, where_it_gives}
+use Rattle.deck_parser.specs.Rule.{each_behind, where_it_gives}
 use Rattle.deck_words.specs.Word.{Word}
-use Rattle.deck_words.proofs.RestLemmas.{LeavesRest, EndsWith, end_of_end, rest_each, rest_as, steps}
+use Rattle.deck_parser.proofs.RestLemmas.{LeavesRest, EndsWith, end_of_end, rest_each, rest_as, steps}
 use Rattle.deck_entries.proofs.EntryRestLemmas.{rest_select_behind}
-use Rattle.deck_words.specs.Operand.{digits}
+use Rattle.deck_parser.specs.Operand.{digits}
 use Rattle.deck_entries.specs.declared.divisions.Divisions.{Divisions}
 use Rattle.deck_entries.specs.FileDescription.{count, length_clause, description_clause, picture_clause, item, FileDescription, description_behind, storage_item, with_one}
 use Rattle.deck_entries.specs.Divisions.{more_entry, file_control_paragraph, more_description, data_division, SpellsDivisions}

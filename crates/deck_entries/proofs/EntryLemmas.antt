@@ -1,12 +1,12 @@
 -- A file control entry is read as it is spelled: one word of look-ahead is enough.
 use Rattle.std.proofs.Common.{◌≡◌, true, refl, List}
-use Rattle.deck_words.specs.Name.{is_reserved}
-use Rattle.deck_words.specs.Rule.{many}
-use Rattle.deck_words.specs.Notation.{the, name, literal, period}
+use Rattle.deck_parser.specs.Name.{is_reserved}
+use Rattle.deck_parser.specs.Rule.{many}
+use Rattle.deck_parser.specs.Notation.{the, name, literal, period}
 use Rattle.deck_entries.specs.FileControlEntry.{mode, clause, select_behind}
 use Rattle.deck_entries.specs.FileControlEntry.{FileControlEntry}
-use Rattle.deck_words.proofs.RuleLemmas.{Lawful}
-use Rattle.deck_words.proofs.NotationLemmas.{steps}
+use Rattle.deck_parser.proofs.RuleLemmas.{Lawful}
+use Rattle.deck_parser.proofs.NotationLemmas.{steps}
 
 pub lawful_mode : Lawful mode
 unfolding mode

@@ -1,6 +1,6 @@
 -- A file control entry leaves the words behind it.
 use Rattle.std.proofs.Common.{List}
-use Rattle.deck_words.proofs.RestLemmas.{LeavesRest, steps}
+use Rattle.deck_parser.proofs.RestLemmas.{LeavesRest, steps}
 use Rattle.deck_entries.specs.FileControlEntry.{FileControlEntry, mode, clause, select_behind}
 
 rest_clause : LeavesRest clause

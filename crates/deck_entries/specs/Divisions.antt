@@ -2,8 +2,8 @@
 -- storage. ANSI X3.23-1985, Nucleus and Indexed I-O modules: identification, environment and data
 -- divisions. Which paragraphs and sections there are is ours.
 use Rattle.std.specs.Prelude.{ℕ, List, [], codes, Option, unwrap_or, option_map, option_and_then}
-use Rattle.deck_words.specs.Rule.{Rule, optional, onto, where_it_gives, each_behind}
-use Rattle.deck_words.specs.Notation.{the, name, period, ◌▸◌, ◌⊗◌, ◌<$>◌}
+use Rattle.deck_parser.specs.Rule.{Rule, optional, onto, where_it_gives, each_behind}
+use Rattle.deck_parser.specs.Notation.{the, name, period, ◌▸◌, ◌⊗◌, ◌<$>◌}
 use Rattle.deck_entries.specs.FileControlEntry.{select_behind}
 use Rattle.deck_entries.specs.FileControlEntry.{FileControlEntry}
 use Rattle.deck_words.specs.Word.{Word}

@@ -8,8 +8,8 @@ use Rattle.std.specs.Str.{bytes_eq}
 use Rattle.io_state.specs.declared.modes.Access.{Access}
 use Rattle.io_state.specs.declared.modes.Access.TheVariants.{Sequential, Random, Dynamic}
 use Rattle.io_state.specs.FileName.{is_file_name}
-use Rattle.deck_words.specs.Rule.{Rule, optional, some_onto, where_it_gives}
-use Rattle.deck_words.specs.Notation.{the, name, literal, period, ◌▸◌, ◌◂◌, ◌⊗◌, ◌∣◌, ◌<$>◌, may}
+use Rattle.deck_parser.specs.Rule.{Rule, optional, some_onto, where_it_gives}
+use Rattle.deck_parser.specs.Notation.{the, name, literal, period, ◌▸◌, ◌◂◌, ◌⊗◌, ◌∣◌, ◌<$>◌, may}
 use Rattle.record_layout.specs.SchemaFault.{KeyClause}
 
 -- a file, as its entry describes it: its name in the program, the name of its file in the folder,

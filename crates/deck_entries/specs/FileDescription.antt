@@ -8,10 +8,10 @@ use Rattle.std.specs.Str.{bytes_eq}
 use Rattle.record_layout.specs.Layout.{Entry}
 use Rattle.record_layout.specs.Picture.{number}
 use Rattle.record_layout.specs.Reading.{capped_size}
-use Rattle.deck_words.specs.Class.{levels, pictures}
-use Rattle.deck_words.specs.Rule.{Rule, one, optional, onto, some_onto, where_it_gives}
-use Rattle.deck_words.specs.Operand.{digits}
-use Rattle.deck_words.specs.Notation.{the, name, period, ◌▸◌, ◌◂◌, ◌⊗◌, ◌∣◌, ◌<$>◌, may}
+use Rattle.deck_parser.specs.Class.{levels, pictures}
+use Rattle.deck_parser.specs.Rule.{Rule, one, optional, onto, some_onto, where_it_gives}
+use Rattle.deck_parser.specs.Operand.{digits}
+use Rattle.deck_parser.specs.Notation.{the, name, period, ◌▸◌, ◌◂◌, ◌⊗◌, ◌∣◌, ◌<$>◌, may}
 use Rattle.deck_entries.specs.FileControlEntry.{FileControlEntry, is_selected}
 use Rattle.deck_entries.specs.declared.record_length.RecordLength.{RecordLength}
 use Rattle.deck_entries.specs.declared.record_length.RecordLength.TheVariants.{Fixed, Varying}

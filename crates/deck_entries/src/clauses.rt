@@ -1,15 +1,16 @@
 //! The clauses of a file description.
 ghost use Rattle.std.specs.Prelude.{◌≡◌};
-ghost use Rattle.deck_words.specs.Class.{begins};
-ghost use Rattle.deck_words.specs.Rule.{onto};
-ghost use Rattle.deck_words.specs.Reading.{Reads};
+ghost use Rattle.deck_parser.specs.Class.{begins};
+ghost use Rattle.deck_parser.specs.Rule.{onto};
+ghost use Rattle.deck_parser.specs.Reading.{Reads};
 ghost use Rattle.deck_entries.specs.FileDescription.{label as label_clause, block as block_clause};
 ghost use Rattle.deck_entries.specs.FileDescription.{record_clause, description_clause};
 ghost use Rattle.deck_entries.specs.FileDescription.{no_clauses, with_clause, added_to};
 
 use crate::record_length::{RecordLength, count, length_clause};
 use crate::words::{eat_one, expect_one};
-use deck_words::{Cause, Parser, Refusal, Twice};
+use deck_parser::Parser;
+use deck_words::{Cause, Refusal, Twice};
 
 /// What the clauses of a file description say together.
 #[derive(Drop)]
@@ -27,7 +28,7 @@ struct ClauseLines {
     lengths: u64,
 }
 
-#[tactic(auto, unfolding(crate::specs::FileDescription::label), using(deck_words::proofs::RepeatLemmas::never_added))]
+#[tactic(auto, unfolding(crate::specs::FileDescription::label), using(deck_parser::proofs::RepeatLemmas::never_added))]
 fn label(
     parser: &mut Parser<'_>,
     clauses: Clauses,
@@ -48,7 +49,7 @@ fn label(
     Ok(clauses)
 }
 
-#[tactic(auto, unfolding(crate::specs::FileDescription::block, deck_words::specs::Notation::the), using(deck_words::proofs::RepeatLemmas::never_added))]
+#[tactic(auto, unfolding(crate::specs::FileDescription::block, deck_parser::specs::Notation::the), using(deck_parser::proofs::RepeatLemmas::never_added))]
 fn block(
     parser: &mut Parser<'_>,
     clauses: Clauses,
@@ -72,7 +73,7 @@ fn block(
     Ok(clauses)
 }
 
-#[tactic(auto, unfolding(crate::specs::FileDescription::record_clause), using(deck_words::proofs::RepeatLemmas::never_added))]
+#[tactic(auto, unfolding(crate::specs::FileDescription::record_clause), using(deck_parser::proofs::RepeatLemmas::never_added))]
 fn record_clause(
     parser: &mut Parser<'_>,
     clauses: Clauses,
@@ -91,7 +92,7 @@ fn record_clause(
 }
 
 /// Whether a clause comes next.
-#[tactic(auto, unfolding(crate::specs::FileDescription::description_clause, deck_words::specs::Notation::the))]
+#[tactic(auto, unfolding(crate::specs::FileDescription::description_clause, deck_parser::specs::Notation::the))]
 fn sees_clause(parser: &Parser<'_>) -> bool
     ensures { result ≡ begins description_clause.starts parser.now }
 {

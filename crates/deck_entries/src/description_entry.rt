@@ -1,8 +1,8 @@
 //! A file description: FD, its clauses, and the items of the records.
 ghost use Rattle.std.specs.Prelude.{◌≡◌, []};
-ghost use Rattle.deck_words.specs.Class.{begins};
-ghost use Rattle.deck_words.specs.Rule.{each_behind};
-ghost use Rattle.deck_words.specs.Reading.{Reads, ReadsAs};
+ghost use Rattle.deck_parser.specs.Class.{begins};
+ghost use Rattle.deck_parser.specs.Rule.{each_behind};
+ghost use Rattle.deck_parser.specs.Reading.{Reads, ReadsAs};
 ghost use Rattle.deck_entries.specs.FileDescription.{is_described, described_name, description_behind};
 ghost use Rattle.deck_entries.specs.Divisions.{more_description};
 
@@ -11,7 +11,8 @@ use crate::entry::Selected;
 use crate::item::{Items, read_items};
 use crate::record_length::RecordLength;
 use crate::select::is_selected_name;
-use deck_words::{Cause, NameOf, Parser, Refusal, Twice, Unknown, WordPlace};
+use deck_parser::Parser;
+use deck_words::{Cause, NameOf, Refusal, Twice, Unknown, WordPlace};
 use io_state::Name;
 use record_layout::Item;
 use std::alloc::{AllocError, Global};
@@ -178,7 +179,7 @@ fn one_more(
 }
 
 /// Whether a description comes next.
-#[tactic(auto, unfolding(crate::specs::Divisions::more_description, crate::specs::FileDescription::description_behind, deck_words::specs::Notation::the))]
+#[tactic(auto, unfolding(crate::specs::Divisions::more_description, crate::specs::FileDescription::description_behind, deck_parser::specs::Notation::the))]
 fn sees_description(parser: &Parser<'_>, entries: &[Selected], earlier: &Descriptions) -> bool
     ensures { result ≡ begins (more_description entries.now earlier.now).starts parser.now }
 {

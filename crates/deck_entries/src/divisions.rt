@@ -1,9 +1,9 @@
 //! The divisions before the procedure.
 ghost use Rattle.std.specs.Prelude.{◌≡◌, [], codes};
-ghost use Rattle.deck_words.specs.Class.{begins};
-ghost use Rattle.deck_words.specs.Rule.{optional, each_behind};
-ghost use Rattle.deck_words.specs.Notation.{the, name, period, ◌▸◌, eaten};
-ghost use Rattle.deck_words.specs.Reading.{Reads, ReadsAs};
+ghost use Rattle.deck_parser.specs.Class.{begins};
+ghost use Rattle.deck_parser.specs.Rule.{optional, each_behind};
+ghost use Rattle.deck_parser.specs.Notation.{the, name, period, ◌▸◌, eaten};
+ghost use Rattle.deck_parser.specs.Reading.{Reads, ReadsAs};
 ghost use Rattle.deck_entries.specs.Divisions.{division_heading, more_entry};
 ghost use Rattle.deck_entries.specs.Divisions.{file_control_paragraph, reads_divisions};
 
@@ -12,7 +12,8 @@ use crate::entry::Selected;
 use crate::select::select;
 use crate::storage::{StorageItems, storage_section};
 use crate::words::heading;
-use deck_words::{NameOf, Parser, Refusal};
+use deck_parser::Parser;
+use deck_words::{NameOf, Refusal};
 use std::alloc::{AllocError, Global};
 use std::marker::Model;
 
@@ -66,7 +67,7 @@ impl Entries {
 }
 
 /// The identification division, if it comes next: whether it did.
-#[tactic(auto, unfolding(deck_words::specs::Notation::the, deck_words::specs::Notation::name))]
+#[tactic(auto, unfolding(deck_parser::specs::Notation::the, deck_parser::specs::Notation::name))]
 fn may_identification(parser: &mut Parser<'_>) -> Result<bool, Refusal>
     ensures { ReadsAs eaten (optional (division_heading (codes "IDENTIFICATION") (codes "DIVISION")
         ▸ the (codes "PROGRAM-ID") ▸ period ▸ name ▸ period)) parser.old result parser.new }
@@ -94,7 +95,7 @@ fn one_more(parser: &mut Parser<'_>, alloc: Global, earlier: Entries) -> Result<
 }
 
 /// Whether an entry comes next.
-#[tactic(auto, unfolding(crate::specs::Divisions::more_entry, crate::specs::FileControlEntry::select_behind, deck_words::specs::Notation::the))]
+#[tactic(auto, unfolding(crate::specs::Divisions::more_entry, crate::specs::FileControlEntry::select_behind, deck_parser::specs::Notation::the))]
 fn sees_entry(parser: &Parser<'_>, earlier: &Entries) -> bool
     ensures { result ≡ begins (more_entry earlier.now).starts parser.now }
 {

@@ -1,7 +1,7 @@
 //! A file control entry: SELECT, ASSIGN, and the clauses of an indexed file.
 ghost use Rattle.std.specs.Prelude.{◌≡◌};
 ghost use Rattle.deck_entries.specs.FileControlEntry.{no_clauses, control_entry_of};
-ghost use Rattle.deck_words.specs.Reading.{Makes};
+ghost use Rattle.deck_parser.specs.Reading.{Makes};
 
 use deck_words::{Cause, Expected, Refusal, WordPlace};
 use io_state::{Access, FileName, Name};
@@ -158,7 +158,7 @@ impl Model for Clauses {
 impl Clauses {
     ghost use Rattle.std.specs.Prelude.{◌≡◌};
     ghost use Rattle.deck_entries.specs.FileControlEntry.{no_clauses, control_entry_of};
-    ghost use Rattle.deck_words.specs.Reading.{Makes};
+    ghost use Rattle.deck_parser.specs.Reading.{Makes};
 
     pub fn new(alloc: Global) -> Self
         ensures { result ≡ no_clauses }

@@ -1,15 +1,16 @@
 //! The items of a record, as they are described.
 ghost use Rattle.std.specs.Prelude.{◌≡◌, [], option_map};
 ghost use Rattle.record_layout.specs.Layout.{entry_of_item};
-ghost use Rattle.deck_words.specs.Class.{begins};
-ghost use Rattle.deck_words.specs.Rule.{optional, some_onto, where_it_gives};
-ghost use Rattle.deck_words.specs.Reading.{Reads, ReadsAs};
+ghost use Rattle.deck_parser.specs.Class.{begins};
+ghost use Rattle.deck_parser.specs.Rule.{optional, some_onto, where_it_gives};
+ghost use Rattle.deck_parser.specs.Reading.{Reads, ReadsAs};
 ghost use Rattle.deck_entries.specs.FileDescription.{level, item_name, may_item_name, picture_clause};
 ghost use Rattle.deck_entries.specs.FileDescription.{item, with_one};
 
 use crate::record_length::number_of;
 use crate::words::expect_one;
-use deck_words::{Cause, Expected, NameOf, Parser, Refusal, WantedClass};
+use deck_parser::Parser;
+use deck_words::{Cause, Expected, NameOf, Refusal, WantedClass};
 use io_state::Name;
 use record_layout::Item;
 use std::alloc::{AllocError, Global};
@@ -80,7 +81,7 @@ fn level(parser: &mut Parser<'_>) -> Result<u8, Refusal>
     Ok(level as u8)
 }
 
-#[tactic(auto, unfolding(crate::specs::FileDescription::item_name, deck_words::specs::Notation::the, deck_words::specs::Notation::name))]
+#[tactic(auto, unfolding(crate::specs::FileDescription::item_name, deck_parser::specs::Notation::the, deck_parser::specs::Notation::name))]
 fn item_name(parser: &mut Parser<'_>) -> Result<Option<Name>, Refusal>
     ensures { ReadsAs (option_map (λ name. name.bytes)) item_name parser.old result parser.new }
 {
@@ -92,7 +93,7 @@ fn item_name(parser: &mut Parser<'_>) -> Result<Option<Name>, Refusal>
     Ok(None)
 }
 
-#[tactic(auto, unfolding(crate::specs::FileDescription::may_item_name, crate::specs::FileDescription::item_name, deck_words::specs::Notation::the, deck_words::specs::Notation::name))]
+#[tactic(auto, unfolding(crate::specs::FileDescription::may_item_name, crate::specs::FileDescription::item_name, deck_parser::specs::Notation::the, deck_parser::specs::Notation::name))]
 fn may_item_name(parser: &mut Parser<'_>) -> Result<Option<Name>, Refusal>
     ensures { ReadsAs (option_map (λ name. name.bytes)) may_item_name parser.old result parser.new }
 {
@@ -111,7 +112,7 @@ pub fn picture_clause(parser: &mut Parser<'_>) -> Result<Name, Refusal>
     parser.picture()
 }
 
-#[tactic(auto, unfolding(crate::specs::FileDescription::picture_clause, deck_words::specs::Notation::the))]
+#[tactic(auto, unfolding(crate::specs::FileDescription::picture_clause, deck_parser::specs::Notation::the))]
 fn may_picture_clause(parser: &mut Parser<'_>) -> Result<Option<Name>, Refusal>
     ensures { ReadsAs (option_map (λ name. name.bytes)) (optional picture_clause) parser.old result
         parser.new }

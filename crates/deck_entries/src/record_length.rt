@@ -2,10 +2,11 @@
 ghost use Rattle.std.specs.Prelude.{◌≡◌};
 ghost use Rattle.record_layout.specs.Picture.{number};
 ghost use Rattle.record_layout.specs.Reading.{capped_size};
-ghost use Rattle.deck_words.specs.Reading.{Reads};
+ghost use Rattle.deck_parser.specs.Reading.{Reads};
 ghost use Rattle.deck_entries.specs.FileDescription.{count, length_clause};
 
-use deck_words::{NameOf, Parser, Refusal};
+use deck_parser::Parser;
+use deck_words::{NameOf, Refusal};
 use io_state::Name;
 use std::marker::Model;
 
@@ -68,7 +69,7 @@ pub fn count(parser: &mut Parser<'_>) -> Result<u64, Refusal>
 }
 
 /// What stands behind RECORD.
-#[tactic(auto, unfolding(crate::specs::FileDescription::length_clause, deck_words::specs::Notation::the))]
+#[tactic(auto, unfolding(crate::specs::FileDescription::length_clause, deck_parser::specs::Notation::the))]
 pub fn length_clause(parser: &mut Parser<'_>) -> Result<RecordLength, Refusal>
     ensures { Reads (length_clause.reads parser.old) result parser.new }
 {

@@ -1,8 +1,8 @@
 //! The words of a file control entry.
 ghost use Rattle.std.specs.Prelude.{◌≡◌};
-ghost use Rattle.deck_words.specs.Class.{begins};
-ghost use Rattle.deck_words.specs.Rule.{some_onto};
-ghost use Rattle.deck_words.specs.Reading.{Reads, ReadsAs};
+ghost use Rattle.deck_parser.specs.Class.{begins};
+ghost use Rattle.deck_parser.specs.Rule.{some_onto};
+ghost use Rattle.deck_parser.specs.Reading.{Reads, ReadsAs};
 ghost use Rattle.deck_entries.specs.FileControlEntry.{indexed, mode, access, record_key};
 ghost use Rattle.deck_entries.specs.FileControlEntry.{duplicates, alternate, status, clause};
 ghost use Rattle.deck_entries.specs.FileControlEntry.{no_clauses, with_clause, added_to, select_behind};
@@ -10,7 +10,8 @@ ghost use Rattle.deck_entries.specs.FileControlEntry.{select_word, new_name, new
 ghost use Rattle.deck_entries.specs.FileControlEntry.{is_selected, is_assigned};
 
 use crate::entry::{Clauses, Selected};
-use deck_words::{Cause, Limit, NameOf, NotAllowed, Parser, Refusal, Twice};
+use deck_parser::Parser;
+use deck_words::{Cause, Limit, NameOf, NotAllowed, Refusal, Twice};
 use io_state::{Access, FileName, Name, file_name_of};
 use std::alloc::Global;
 
@@ -20,7 +21,7 @@ const ALTERNATE_LIMIT: usize = 8;
 /// The most files of a deck.
 const FILE_LIMIT: usize = 8;
 
-#[tactic(auto, unfolding(crate::specs::FileControlEntry::indexed, deck_words::specs::Notation::the), using(deck_words::proofs::RepeatLemmas::never_added))]
+#[tactic(auto, unfolding(crate::specs::FileControlEntry::indexed, deck_parser::specs::Notation::the), using(deck_parser::proofs::RepeatLemmas::never_added))]
 fn indexed(parser: &mut Parser<'_>, clauses: Clauses) -> Result<Clauses, Refusal>
     ensures { Reads ((added_to clauses indexed).reads parser.old) result parser.new }
 {
@@ -38,7 +39,7 @@ fn indexed(parser: &mut Parser<'_>, clauses: Clauses) -> Result<Clauses, Refusal
     Ok(clauses)
 }
 
-#[tactic(auto, unfolding(crate::specs::FileControlEntry::mode, deck_words::specs::Notation::the))]
+#[tactic(auto, unfolding(crate::specs::FileControlEntry::mode, deck_parser::specs::Notation::the))]
 fn mode(parser: &mut Parser<'_>) -> Result<Access, Refusal>
     ensures { Reads (mode.reads parser.old) result parser.new }
 {
@@ -52,7 +53,7 @@ fn mode(parser: &mut Parser<'_>) -> Result<Access, Refusal>
     Ok(Access::Dynamic)
 }
 
-#[tactic(auto, unfolding(crate::specs::FileControlEntry::access), using(deck_words::proofs::RepeatLemmas::never_added))]
+#[tactic(auto, unfolding(crate::specs::FileControlEntry::access), using(deck_parser::proofs::RepeatLemmas::never_added))]
 fn access(parser: &mut Parser<'_>, clauses: Clauses) -> Result<Clauses, Refusal>
     ensures { Reads ((added_to clauses access).reads parser.old) result parser.new }
 {
@@ -69,7 +70,7 @@ fn access(parser: &mut Parser<'_>, clauses: Clauses) -> Result<Clauses, Refusal>
     Ok(clauses)
 }
 
-#[tactic(auto, unfolding(crate::specs::FileControlEntry::record_key), using(deck_words::proofs::RepeatLemmas::never_added))]
+#[tactic(auto, unfolding(crate::specs::FileControlEntry::record_key), using(deck_parser::proofs::RepeatLemmas::never_added))]
 fn record_key(parser: &mut Parser<'_>, clauses: Clauses) -> Result<Clauses, Refusal>
     ensures { Reads ((added_to clauses record_key).reads parser.old) result parser.new }
 {
@@ -86,7 +87,7 @@ fn record_key(parser: &mut Parser<'_>, clauses: Clauses) -> Result<Clauses, Refu
     Ok(clauses)
 }
 
-#[tactic(auto, unfolding(crate::specs::FileControlEntry::duplicates, deck_words::specs::Notation::the))]
+#[tactic(auto, unfolding(crate::specs::FileControlEntry::duplicates, deck_parser::specs::Notation::the))]
 fn duplicates(parser: &mut Parser<'_>) -> Result<bool, Refusal>
     ensures { Reads (duplicates.reads parser.old) result parser.new }
 {
@@ -99,7 +100,7 @@ fn duplicates(parser: &mut Parser<'_>) -> Result<bool, Refusal>
     }
 }
 
-#[tactic(auto, unfolding(crate::specs::FileControlEntry::alternate), using(deck_words::proofs::RepeatLemmas::never_added))]
+#[tactic(auto, unfolding(crate::specs::FileControlEntry::alternate), using(deck_parser::proofs::RepeatLemmas::never_added))]
 fn alternate(parser: &mut Parser<'_>, clauses: Clauses) -> Result<Clauses, Refusal>
     ensures { Reads ((added_to clauses alternate).reads parser.old) result parser.new }
 {
@@ -117,7 +118,7 @@ fn alternate(parser: &mut Parser<'_>, clauses: Clauses) -> Result<Clauses, Refus
     Ok(clauses)
 }
 
-#[tactic(auto, unfolding(crate::specs::FileControlEntry::status), using(deck_words::proofs::RepeatLemmas::never_added))]
+#[tactic(auto, unfolding(crate::specs::FileControlEntry::status), using(deck_parser::proofs::RepeatLemmas::never_added))]
 fn status(parser: &mut Parser<'_>, clauses: Clauses) -> Result<Clauses, Refusal>
     ensures { Reads ((added_to clauses status).reads parser.old) result parser.new }
 {
@@ -136,7 +137,7 @@ fn status(parser: &mut Parser<'_>, clauses: Clauses) -> Result<Clauses, Refusal>
 }
 
 /// Whether a clause comes next.
-#[tactic(auto, unfolding(crate::specs::FileControlEntry::clause, deck_words::specs::Notation::the))]
+#[tactic(auto, unfolding(crate::specs::FileControlEntry::clause, deck_parser::specs::Notation::the))]
 fn sees_clause(parser: &Parser<'_>) -> bool
     ensures { result ≡ begins clause.starts parser.now }
 {
@@ -180,7 +181,7 @@ fn all_clauses(parser: &mut Parser<'_>, alloc: Global) -> Result<Clauses, Refusa
     Ok(clauses)
 }
 
-#[tactic(auto, unfolding(crate::specs::FileControlEntry::select_word, deck_words::specs::Notation::the))]
+#[tactic(auto, unfolding(crate::specs::FileControlEntry::select_word, deck_parser::specs::Notation::the))]
 fn select_word(parser: &mut Parser<'_>, earlier: &[Selected]) -> Result<(), Refusal>
     ensures { Reads ((select_word earlier.now).reads parser.old) result parser.new }
 {

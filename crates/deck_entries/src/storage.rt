@@ -1,14 +1,15 @@
 //! The items of the working storage.
 ghost use Rattle.std.specs.Prelude.{◌≡◌, []};
-ghost use Rattle.deck_words.specs.Class.{begins};
-ghost use Rattle.deck_words.specs.Rule.{onto, where_it_gives};
-ghost use Rattle.deck_words.specs.Reading.{Reads};
+ghost use Rattle.deck_parser.specs.Class.{begins};
+ghost use Rattle.deck_parser.specs.Rule.{onto, where_it_gives};
+ghost use Rattle.deck_parser.specs.Reading.{Reads};
 ghost use Rattle.deck_entries.specs.FileDescription.{storage_item, with_one};
 ghost use Rattle.deck_entries.specs.Divisions.{storage_section};
 
 use crate::item::picture_clause;
 use crate::words::heading;
-use deck_words::{NameOf, Parser, Refusal, WordPlace};
+use deck_parser::Parser;
+use deck_words::{NameOf, Refusal, WordPlace};
 use io_state::Name;
 use std::alloc::{AllocError, Global};
 use std::marker::Model;
@@ -107,7 +108,7 @@ fn one_more(parser: &mut Parser<'_>, items: StorageItems) -> Result<StorageItems
 }
 
 /// Whether an item comes next.
-#[tactic(auto, unfolding(crate::specs::FileDescription::storage_item, deck_words::specs::Notation::the))]
+#[tactic(auto, unfolding(crate::specs::FileDescription::storage_item, deck_parser::specs::Notation::the))]
 fn sees_item(parser: &Parser<'_>) -> bool
     ensures { result ≡ begins storage_item.starts parser.now }
 {
@@ -126,7 +127,7 @@ fn items(parser: &mut Parser<'_>, alloc: Global) -> Result<StorageItems, Refusal
 }
 
 /// The working storage, if it comes next.
-#[tactic(auto, unfolding(crate::specs::Divisions::storage_section, deck_words::specs::Notation::the))]
+#[tactic(auto, unfolding(crate::specs::Divisions::storage_section, deck_parser::specs::Notation::the))]
 pub fn storage_section(parser: &mut Parser<'_>, alloc: Global) -> Result<StorageItems, Refusal>
     ensures { Reads (storage_section.reads parser.old) result parser.new }
 {

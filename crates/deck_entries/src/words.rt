@@ -1,13 +1,14 @@
 //! Words that stand for one another.
-ghost use Rattle.deck_words.specs.Rule.{optional};
-ghost use Rattle.deck_words.specs.Notation.{the, ◌∣◌, eaten};
-ghost use Rattle.deck_words.specs.Reading.{Reads, ReadsAs};
+ghost use Rattle.deck_parser.specs.Rule.{optional};
+ghost use Rattle.deck_parser.specs.Notation.{the, ◌∣◌, eaten};
+ghost use Rattle.deck_parser.specs.Reading.{Reads, ReadsAs};
 ghost use Rattle.deck_entries.specs.Divisions.{division_heading};
 
-use deck_words::{Parser, Refusal};
+use deck_parser::Parser;
+use deck_words::Refusal;
 
 /// Takes one of two words.
-#[tactic(auto, unfolding(deck_words::specs::Notation::the))]
+#[tactic(auto, unfolding(deck_parser::specs::Notation::the))]
 pub fn expect_one(
     parser: &mut Parser<'_>,
     first: &'static [u8],
@@ -22,7 +23,7 @@ pub fn expect_one(
 }
 
 /// Takes one of two words if it is next.
-#[tactic(auto, unfolding(deck_words::specs::Notation::the))]
+#[tactic(auto, unfolding(deck_parser::specs::Notation::the))]
 pub fn eat_one(
     parser: &mut Parser<'_>,
     first: &'static [u8],
@@ -38,7 +39,7 @@ pub fn eat_one(
 }
 
 /// Takes the heading of a division or section.
-#[tactic(auto, unfolding(deck_words::specs::Notation::the))]
+#[tactic(auto, unfolding(deck_parser::specs::Notation::the))]
 pub fn heading(
     parser: &mut Parser<'_>,
     first: &'static [u8],

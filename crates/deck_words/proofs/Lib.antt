@@ -5,12 +5,4 @@ pub mod RunLemmas
 pub mod FrontLemmas
 pub mod CutLemmas
 pub mod RemainingLemmas
-pub mod ClassLemmas
-pub mod RuleLemmas
-pub mod RepeatLemmas
-pub mod TurnLemmas
-pub mod NotationLemmas
-pub mod OperandLemmas
-pub mod RestLemmas
 pub mod SignLemmas
-pub mod LengthLemmas

@@ -1,5 +1,5 @@
 -- A word of a deck, as contracts see it.
-use Rattle.std.specs.Prelude.{ℕ, Bool, true, false, if◌then◌else◌, List, codes, Option, Some, None}
+use Rattle.std.specs.Prelude.{ℕ, Bool, true, false, if◌then◌else◌, List, [], ◌∷◌, codes, Option, Some, None}
 use Rattle.deck_words.specs.declared.word.Sign.{Sign as SignOf}
 use Rattle.deck_words.specs.declared.word.Sign.TheVariants.{Equal, Greater, GreaterOrEqual, Less}
 use Rattle.deck_words.specs.declared.word.WordText.{WordText}
@@ -52,3 +52,8 @@ plain_text word = if is_same_kind Plain word.kind then Some word.text else None
 
 abbrev pub literal_text : Word → Option (List ℕ)
 literal_text word = if is_same_kind Literal word.kind then Some word.text else None
+
+-- the line of the first word, and 0 where no word is left
+abbrev pub first_line : List Word → ℕ
+first_line [] = 0
+first_line (word ∷ words) = word.line

@@ -1,18 +1,14 @@
-//! The words of a deck, and the parser and the rules by which the divisions are read.
+//! The words of a deck.
 //!
 //! `words` answers exactly the words of the bytes, or the first fault with its line. No deck has
-//! two readings. A rule of the grammar says which words spell a value, and how they are read with
-//! one word of look-ahead; a step of the parser reads what its rule does.
+//! two readings. What can be wrong at a word, and what is wanted there, is said here, too.
 //!
-//! Read `specs/Words.antt` for the rules of words, `specs/Rule.antt` and `specs/Notation.antt` for
-//! the rules of a grammar, and then `scanner` and `parser`.
+//! Read `specs/Words.antt` for the rules of words, and then `scanner`.
 #![tactic(auto)]
 
 mod byte_class;
 mod fault;
 mod literal;
-mod name;
-mod parser;
 mod piece;
 mod place;
 mod remaining;
@@ -27,9 +23,8 @@ pub use fault::{
     Cause, DeckFault, Expected, LayoutCause, Limit, NotAllowed, Refusal, Twice, Unknown,
 };
 pub use literal::Quoted;
-pub use parser::Parser;
 pub use place::WordPlace;
 pub use remaining::Words;
 pub use scanner::{DECK_LIMIT, one_reading, scan, words};
-pub use wanted::{NameOf, Wanted, WantedClass, WantedList};
+pub use wanted::{NameOf, Note, Wanted, WantedClass, WantedList};
 pub use word::{Sign, Word, WordText};

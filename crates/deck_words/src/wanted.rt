@@ -32,7 +32,7 @@ pub enum WantedClass {
 
 impl Wanted {
     ghost use Rattle.std.specs.Prelude.{◌≡◌};
-    ghost use Rattle.deck_words.specs.Unfit.{class_wanted};
+    ghost use Rattle.deck_words.specs.Wanted.{class_wanted};
 
     /// The class of the words that would have fitted.
     pub fn class(self) -> WantedClass

@@ -4,15 +4,15 @@ use Rattle.std.specs.Prelude.{codes}
 use Rattle.std.specs.Option.{option_map}
 use Rattle.std.proofs.lemmas.Bool.{false≢true}
 use Rattle.std.proofs.lemmas.Option.{some_pair_parts}
-use Rattle.deck_words.specs.Name.{is_reserved}
-use Rattle.deck_words.specs.Class.{this, begins, all_apart}
-use Rattle.deck_words.specs.Operand.{digits}
-use Rattle.deck_words.specs.Notation.{the, name, literal, period}
+use Rattle.deck_parser.specs.Name.{is_reserved}
+use Rattle.deck_parser.specs.Class.{this, begins, all_apart}
+use Rattle.deck_parser.specs.Operand.{digits}
+use Rattle.deck_parser.specs.Notation.{the, name, literal, period}
 use Rattle.deck_entries.specs.FileControlEntry.{FileControlEntry}
 use Rattle.deck_words.specs.Word.{Word}
 use Rattle.deck_entries.specs.FileControlEntry.{mode, clause, select_behind}
 use Rattle.deck_words.proofs.TestLemmas.{bind_some, bind_is, map_some}
-use Rattle.deck_words.proofs.ClassLemmas.{begins_apart}
+use Rattle.deck_parser.proofs.ClassLemmas.{begins_apart}
 use Rattle.deck_entries.specs.declared.divisions.Divisions.{Divisions}
 use Rattle.deck_entries.specs.FileDescription.{count, length_clause, description_clause, picture_clause, item, FileDescription, StorageEntry, description_behind, storage_item}
 use Rattle.deck_entries.specs.Divisions.{file_control_paragraph, data_division, SpellsDivisions, reads_divisions}

@@ -2,7 +2,7 @@
 -- ANSI X3.23-1985, Nucleus module, environment and data divisions. That the description ends before
 -- the word PROCEDURE is ours.
 use Rattle.std.specs.Prelude.{◌≡◌, ◌≤◌, ℕ, true, List, [], ◌∷◌, length, drop, codes}
-use Rattle.deck_words.specs.Class.{this, begins}
+use Rattle.deck_parser.specs.Class.{this, begins}
 use Rattle.deck_words.specs.Word.{Word}
 use Rattle.file_control.specs.declared.description.Description.{Description}
 use Rattle.deck_entries.specs.declared.divisions.Divisions.{Divisions}

@@ -12,9 +12,8 @@ ghost use Rattle.file_control.specs.Described.{AreDescribed};
 use crate::data_names::DataNames;
 use crate::files::{FileList, ItemList, check_items, files_of, items_of};
 use deck_entries::{Divisions, read_divisions};
-use deck_words::{
-    Cause, DeckFault, Expected, Parser, Refusal, WantedClass, WantedList, WordPlace, Words,
-};
+use deck_parser::Parser;
+use deck_words::{Cause, DeckFault, Expected, Refusal, WantedClass, WantedList, WordPlace, Words};
 use std::alloc::Global;
 
 /// The files of a deck in the order of their SELECT entries, its 77-level items, and how many words

@@ -25,7 +25,7 @@ fn some_called(items: &[Item], name: &[u8]) -> bool
 }
 
 /// Whether one of the items has this name.
-#[tactic(auto, using(deck_words::proofs::ClassLemmas::any_of_map))]
+#[tactic(auto, using(deck_parser::proofs::ClassLemmas::any_of_map))]
 fn is_item(items: &[Item], name: &[u8]) -> bool
     ensures { result ≡ is_name_of (map entry_of_item items.now) (Some name.now) }
 {

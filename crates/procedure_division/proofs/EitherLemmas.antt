@@ -1,8 +1,8 @@
 -- Which of two rules is read.
 use Rattle.std.proofs.Common.{◌≡◌, true, false, List, refl}
-use Rattle.deck_words.specs.Class.{begins}
-use Rattle.deck_words.specs.Rule.{Rule}
-use Rattle.deck_words.specs.Notation.{◌∣◌}
+use Rattle.deck_parser.specs.Class.{begins}
+use Rattle.deck_parser.specs.Rule.{Rule}
+use Rattle.deck_parser.specs.Notation.{◌∣◌}
 use Rattle.deck_words.specs.Word.{Word}
 
 -- the words begin the first rule, which is read

@@ -3,14 +3,14 @@ use Rattle.std.proofs.Common.{◌≡◌, ℕ, ◌<◌, zero, suc, Bool, true, fa
 use Rattle.std.specs.Prelude.{option_and_then}
 use Rattle.std.specs.Option.{option_map}
 use Rattle.deck_words.specs.Word.{Word}
-use Rattle.deck_words.specs.Class.{begins}
-use Rattle.deck_words.specs.Rule.{Rule, many, onto, some_onto, reads_onto_from}
-use Rattle.deck_words.specs.Notation.{◌▸◌}
-use Rattle.deck_words.specs.Reading.{Refuses}
+use Rattle.deck_parser.specs.Class.{begins}
+use Rattle.deck_parser.specs.Rule.{Rule, many, onto, some_onto, reads_onto_from}
+use Rattle.deck_parser.specs.Notation.{◌▸◌}
+use Rattle.deck_parser.specs.Reading.{Refuses}
 use Rattle.deck_words.specs.declared.fault.Refusal.{Refusal}
 use Rattle.deck_words.specs.declared.fault.Refusal.TheVariants.{Memory, Fault}
-use Rattle.deck_words.proofs.RuleLemmas.{Lawful}
-use Rattle.deck_words.proofs.RepeatLemmas.{first_turn, no_first_turn, next_turn, turn_takes_a_word, refused_turn, no_turn}
+use Rattle.deck_parser.proofs.RuleLemmas.{Lawful}
+use Rattle.deck_parser.proofs.RepeatLemmas.{first_turn, no_first_turn, next_turn, turn_takes_a_word, refused_turn, no_turn}
 use Rattle.procedure_division.specs.declared.placed.PlacedStatements.{PlacedStatements}
 use Rattle.procedure_division.specs.Following.{followed}
 use Rattle.procedure_division.specs.Placed.{nothing_placed, placed_behind}

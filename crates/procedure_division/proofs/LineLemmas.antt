@@ -1,8 +1,8 @@
 -- Each statement of a procedure has a line.
 use Rattle.std.proofs.Common.{ℕ, cond, List, Some, None, refl, arith, length-append}
 use Rattle.std.specs.Prelude.{codes}
-use Rattle.deck_words.specs.Rule.{Rule, optional, onto, where_it_gives}
-use Rattle.deck_words.specs.Notation.{the, name, period, may, is_word_there, ◌▸◌, ◌◂◌, ◌⊗◌, ◌∣◌, ◌<$>◌}
+use Rattle.deck_parser.specs.Rule.{Rule, optional, onto, where_it_gives}
+use Rattle.deck_parser.specs.Notation.{the, name, period, may, is_word_there, ◌▸◌, ◌◂◌, ◌⊗◌, ◌∣◌, ◌<$>◌}
 use Rattle.io_state.specs.declared.modes.OpenMode.{OpenMode}
 use Rattle.io_state.specs.declared.modes.OpenMode.TheVariants.{Input, Output, InputOutput, Extend}
 use Rattle.io_state.specs.Permission.{may_open}

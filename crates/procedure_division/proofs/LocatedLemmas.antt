@@ -1,9 +1,9 @@
 -- A rule that gives its line is read as it is spelled.
 use Rattle.std.proofs.Common.{◌≡◌, ℕ, List, Some, sym, ap, ◌∙◌, subst}
-use Rattle.deck_words.specs.Rule.{Rule}
-use Rattle.deck_words.specs.Unfit.{first_line}
+use Rattle.deck_parser.specs.Rule.{Rule}
+use Rattle.deck_words.specs.Word.{first_line}
 use Rattle.deck_words.specs.Word.{Word}
-use Rattle.deck_words.proofs.RuleLemmas.{Lawful}
+use Rattle.deck_parser.proofs.RuleLemmas.{Lawful}
 use Rattle.deck_words.proofs.TestLemmas.{map_some}
 use Rattle.procedure_division.specs.Located.{with_line}
 

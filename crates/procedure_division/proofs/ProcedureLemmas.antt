@@ -14,18 +14,18 @@ use Rattle.record_layout.specs.Area.{is_taken_by}
 use Rattle.record_layout.specs.declared.area.Source.{Source}
 use Rattle.record_layout.specs.declared.area.Source.TheVariants.{Fill}
 use Rattle.record_layout.specs.declared.area.Figure.TheVariants.{Zero}
-use Rattle.deck_words.specs.Name.{is_reserved}
-use Rattle.deck_words.specs.Class as class
-use Rattle.deck_words.specs.Class.{begins}
+use Rattle.deck_parser.specs.Name.{is_reserved}
+use Rattle.deck_parser.specs.Class as class
+use Rattle.deck_parser.specs.Class.{begins}
 use Rattle.deck_words.specs.Word.{Word}
-use Rattle.deck_words.specs.Rule.{Rule, many, optional, where_it_gives}
-use Rattle.deck_words.specs.Notation.{the, name, literal, period, may, is_word_there, ◌▸◌, ◌◂◌, ◌⊗◌, ◌<$>◌}
-use Rattle.deck_words.specs.Operand.{sign, digits}
-use Rattle.deck_words.proofs.ClassLemmas.{begins-append, begins_apart}
-use Rattle.deck_words.proofs.RuleLemmas.{Lawful, lawful_turn, lawful_optional, lawful_either, lawful_as}
-use Rattle.deck_words.proofs.RepeatLemmas.{lawful_onto, lawful_some}
-use Rattle.deck_words.proofs.NotationLemmas.{lawful_the, lawful_name, lawful_literal, lawful_period}
-use Rattle.deck_words.proofs.OperandLemmas.{lawful_sign, lawful_digits}
+use Rattle.deck_parser.specs.Rule.{Rule, many, optional, where_it_gives}
+use Rattle.deck_parser.specs.Notation.{the, name, literal, period, may, is_word_there, ◌▸◌, ◌◂◌, ◌⊗◌, ◌<$>◌}
+use Rattle.deck_parser.specs.Operand.{sign, digits}
+use Rattle.deck_parser.proofs.ClassLemmas.{begins-append, begins_apart}
+use Rattle.deck_parser.proofs.RuleLemmas.{Lawful, lawful_turn, lawful_optional, lawful_either, lawful_as}
+use Rattle.deck_parser.proofs.RepeatLemmas.{lawful_onto, lawful_some}
+use Rattle.deck_parser.proofs.NotationLemmas.{lawful_the, lawful_name, lawful_literal, lawful_period}
+use Rattle.deck_parser.proofs.OperandLemmas.{lawful_sign, lawful_digits}
 use Rattle.procedure_division.specs.Names.{Names, access_at}
 use Rattle.procedure_division.specs.Following.{followed, where_allowed}
 use Rattle.procedure_division.specs.Located.{with_line}

@@ -5,11 +5,11 @@ use Rattle.std.specs.List.{list_all}
 use Rattle.std.specs.Char.{is_ascii_digit}
 use Rattle.std.proofs.lemmas.Bool.{false≢true}
 use Rattle.std.proofs.lemmas.Option.{same_Some}
-use Rattle.deck_words.specs.Class.{numbers}
-use Rattle.deck_words.specs.Name.{is_number as is_number_text}
-use Rattle.deck_words.specs.Notation.{literal, ◌∣◌, ◌<$>◌}
-use Rattle.deck_words.specs.Operand.{digits}
-use Rattle.deck_words.specs.Rule.{one}
+use Rattle.deck_parser.specs.Class.{numbers}
+use Rattle.deck_parser.specs.Name.{is_number as is_number_text}
+use Rattle.deck_parser.specs.Notation.{literal, ◌∣◌, ◌<$>◌}
+use Rattle.deck_parser.specs.Operand.{digits}
+use Rattle.deck_parser.specs.Rule.{one}
 use Rattle.deck_words.specs.Word.{Word, is_same_kind}
 use Rattle.deck_words.specs.Word as kind
 use Rattle.deck_words.proofs.TestLemmas.{both_true, then_some}

@@ -1,7 +1,7 @@
 -- Rules that depend on the value of the rule before them.
 use Rattle.std.specs.Prelude.{Bool, ◌&&◌, if◌then◌else◌, List, ◌++◌, Some, None, option_and_then}
-use Rattle.deck_words.specs.Class.{all_apart}
-use Rattle.deck_words.specs.Rule.{Rule, where_it_gives}
+use Rattle.deck_parser.specs.Class.{all_apart}
+use Rattle.deck_parser.specs.Rule.{Rule, where_it_gives}
 use Rattle.deck_words.specs.Word.{Word}
 
 -- the first rule, and then the one that its value gives, whose value counts; that one looks ahead

@@ -4,8 +4,8 @@ use Rattle.io_state.specs.declared.modes.OpenMode.{OpenMode}
 use Rattle.io_state.specs.declared.modes.OpenMode.TheVariants.{Input, Output, InputOutput, Extend}
 use Rattle.io_state.specs.Permission.{may_open}
 use Rattle.record_layout.specs.Layout.{is_named}
-use Rattle.deck_words.specs.Rule.{Rule, optional, where_it_gives}
-use Rattle.deck_words.specs.Notation.{the, name, period, ◌▸◌, ◌◂◌, ◌⊗◌, ◌∣◌, ◌<$>◌, is_word_there, may}
+use Rattle.deck_parser.specs.Rule.{Rule, optional, where_it_gives}
+use Rattle.deck_parser.specs.Notation.{the, name, period, ◌▸◌, ◌◂◌, ◌⊗◌, ◌∣◌, ◌<$>◌, is_word_there, may}
 use Rattle.io_state.specs.declared.statement.FileStatement.TheVariants.{Open, Close}
 use Rattle.procedure_division.specs.declared.placed.PlacedStatements.{PlacedStatements}
 use Rattle.procedure_division.specs.declared.statement.Statement.TheVariants.{Perform}

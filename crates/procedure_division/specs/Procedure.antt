@@ -4,8 +4,8 @@
 -- paragraphs have no effect, which is ours.
 use Rattle.std.specs.Prelude.{List, [], codes, position}
 use Rattle.deck_words.specs.Word.{Word}
-use Rattle.deck_words.specs.Rule.{Rule, onto, where_it_gives}
-use Rattle.deck_words.specs.Notation.{the, name, period, ◌▸◌, ◌◂◌, ◌∣◌, ◌<$>◌, may}
+use Rattle.deck_parser.specs.Rule.{Rule, onto, where_it_gives}
+use Rattle.deck_parser.specs.Notation.{the, name, period, ◌▸◌, ◌◂◌, ◌∣◌, ◌<$>◌, may}
 use Rattle.record_layout.specs.Layout.{is_named}
 use Rattle.io_state.specs.declared.statement.FileStatement.TheVariants.{Write, Rewrite, Delete}
 use Rattle.procedure_division.specs.declared.statement.Statement.{Statement}

@@ -1,7 +1,7 @@
 -- How statements are read, behind those before them.
 use Rattle.std.specs.Prelude.{List, Result}
-use Rattle.deck_words.specs.Rule.{Rule, where_it_gives}
-use Rattle.deck_words.specs.Reading.{Reads}
+use Rattle.deck_parser.specs.Rule.{Rule, where_it_gives}
+use Rattle.deck_parser.specs.Reading.{Reads}
 use Rattle.deck_words.specs.declared.fault.Refusal.{Refusal}
 use Rattle.deck_words.specs.Word.{Word}
 use Rattle.procedure_division.specs.declared.placed.PlacedStatements.{PlacedStatements}

@@ -19,9 +19,9 @@ use Rattle.record_layout.specs.declared.area.Figure.{Figure}
 use Rattle.record_layout.specs.declared.area.Figure.TheVariants.{Space, Zero, Low, High}
 use Rattle.record_layout.specs.Area.{is_taken_by}
 use Rattle.record_layout.specs.Schema.{key_at, key_of_field, key_led_by}
-use Rattle.deck_words.specs.Rule.{Rule, optional, some_onto, where_it_gives}
-use Rattle.deck_words.specs.Notation.{the, name, literal, ◌▸◌, ◌◂◌, ◌⊗◌, ◌∣◌, ◌<$>◌, is_word_there, may}
-use Rattle.deck_words.specs.Operand.{sign, digits}
+use Rattle.deck_parser.specs.Rule.{Rule, optional, some_onto, where_it_gives}
+use Rattle.deck_parser.specs.Notation.{the, name, literal, ◌▸◌, ◌◂◌, ◌⊗◌, ◌∣◌, ◌<$>◌, is_word_there, may}
+use Rattle.deck_parser.specs.Operand.{sign, digits}
 use Rattle.io_state.specs.declared.statement.FileStatement.{FileStatement}
 use Rattle.io_state.specs.declared.statement.FileStatement.TheVariants.{Open, Close, ReadNext, Read, Start}
 use Rattle.procedure_division.specs.declared.statement.Statement.{Statement}

@@ -1,8 +1,8 @@
 //! The CLOSE statement.
 ghost use Rattle.std.specs.Prelude.{Some, codes};
-ghost use Rattle.deck_words.specs.Reading.{Reads};
-ghost use Rattle.deck_words.specs.Notation.{the, may, is_word_there, ◌▸◌};
-ghost use Rattle.deck_words.specs.Rule.{optional, where_it_gives};
+ghost use Rattle.deck_parser.specs.Reading.{Reads};
+ghost use Rattle.deck_parser.specs.Notation.{the, may, is_word_there, ◌▸◌};
+ghost use Rattle.deck_parser.specs.Rule.{optional, where_it_gives};
 ghost use Rattle.procedure_division.specs.Reading.{AddsStatements};
 ghost use Rattle.procedure_division.specs.StatementRules.{some_of, close_statement};
 ghost use Rattle.procedure_division.specs.Parts.{file_to_close};
@@ -11,11 +11,12 @@ use crate::file_name::file;
 use crate::names::Names;
 use crate::placed::PlacedStatements;
 use crate::statement::Statement;
-use deck_words::{NameOf, Parser, Refusal};
+use deck_parser::Parser;
+use deck_words::{NameOf, Refusal};
 use io_state::FileStatement;
 
 /// Whether a file is closed WITH LOCK.
-#[tactic(auto, unfolding(deck_words::specs::Notation::the))]
+#[tactic(auto, unfolding(deck_parser::specs::Notation::the))]
 fn lock(parser: &mut Parser<'_>) -> Result<bool, Refusal>
     ensures { Reads ((where_it_gives (λ there. Some (is_word_there there)) (optional (may (codes "WITH")
         ▸ the (codes "LOCK")))).reads parser.old) result parser.new }

@@ -1,8 +1,8 @@
 //! The procedure division.
 ghost use Rattle.deck_words.specs.Fault.{GivesOrRefuses, GivesOrTells};
 ghost use Rattle.deck_words.specs.OneReading.{Determines};
-ghost use Rattle.deck_words.specs.Reading.{Reads};
-ghost use Rattle.deck_words.specs.Rule.{onto};
+ghost use Rattle.deck_parser.specs.Reading.{Reads};
+ghost use Rattle.deck_parser.specs.Rule.{onto};
 ghost use Rattle.procedure_division.specs.Names.{Names};
 ghost use Rattle.procedure_division.specs.Placed.{nothing_placed};
 ghost use Rattle.procedure_division.specs.StatementRules.{joined_statements};
@@ -14,7 +14,8 @@ ghost use Rattle.procedure_division.specs.EachHasItsLine.{EachHasItsLine};
 use crate::names::Names;
 use crate::placed::PlacedStatements;
 use crate::sentence::{paragraph_or_sentence, sees_sentence};
-use deck_words::{DeckFault, NameOf, Parser, Refusal, Wanted, WantedList, WordPlace, Words};
+use deck_parser::Parser;
+use deck_words::{DeckFault, NameOf, Refusal, Wanted, WantedList, WordPlace, Words};
 use std::alloc::Global;
 
 /// How many words a statement has, or more, in most procedures. A period is one.

@@ -1,10 +1,11 @@
 //! Names of files and of their records.
-ghost use Rattle.deck_words.specs.Reading.{Reads};
+ghost use Rattle.deck_parser.specs.Reading.{Reads};
 ghost use Rattle.procedure_division.specs.StatementRules.{file};
 ghost use Rattle.procedure_division.specs.Parts.{record_named};
 
 use crate::names::Names;
-use deck_words::{Cause, NameOf, Parser, Refusal, Unknown};
+use deck_parser::Parser;
+use deck_words::{Cause, NameOf, Refusal, Unknown};
 
 /// The name of a file.
 #[tactic(auto, unfolding(crate::specs::StatementRules::file))]

@@ -4,8 +4,8 @@ ghost use Rattle.std.specs.List.{list_all};
 ghost use Rattle.std.specs.Char.{is_ascii_digit};
 ghost use Rattle.record_layout.specs.Area.{is_taken_by, sent};
 ghost use Rattle.record_layout.specs.declared.area.Source.TheVariants.{Text, Digits};
-ghost use Rattle.deck_words.specs.Notation.{the, ◌▸◌};
-ghost use Rattle.deck_words.specs.Reading.{Reads, ReadsAs};
+ghost use Rattle.deck_parser.specs.Notation.{the, ◌▸◌};
+ghost use Rattle.deck_parser.specs.Reading.{Reads, ReadsAs};
 ghost use Rattle.procedure_division.specs.Reading.{AddsStatements};
 ghost use Rattle.procedure_division.specs.StatementRules.{some_of, figure, source, moved_source};
 ghost use Rattle.procedure_division.specs.StatementRules.{receiver, move_statement};
@@ -13,12 +13,13 @@ ghost use Rattle.procedure_division.specs.StatementRules.{receiver, move_stateme
 use crate::names::Names;
 use crate::placed::PlacedStatements;
 use crate::statement::Statement;
-use deck_words::{Cause, NameOf, NotAllowed, Parser, Refusal, Unknown, WordPlace};
+use deck_parser::Parser;
+use deck_words::{Cause, NameOf, NotAllowed, Refusal, Unknown, WordPlace};
 use record_layout::{Bytes, Figure, Source, takes};
 use std::alloc::{AllocError, Global};
 
 /// A figurative constant.
-#[tactic(auto, unfolding(crate::specs::StatementRules::figure, deck_words::specs::Notation::the))]
+#[tactic(auto, unfolding(crate::specs::StatementRules::figure, deck_parser::specs::Notation::the))]
 fn figure(parser: &mut Parser<'_>) -> Result<Figure, Refusal>
     ensures { Reads (figure.reads parser.old) result parser.new }
 {
@@ -194,10 +195,7 @@ pub fn move_statement(
     ensures { AddsStatements (move_statement names.now) statements parser.old result parser.new }
 {
     let line = parser.line();
-    let (place, source) = moved_source(alloc, parser)?;
-    let places = MovePlaces {
-        line,
-        source: place,
-    };
-    receivers(alloc, parser, names, &source.as_ref(), statements, places)
+    let (source, sent) = moved_source(alloc, parser)?;
+    let places = MovePlaces { line, source };
+    receivers(alloc, parser, names, &sent.as_ref(), statements, places)
 }

@@ -1,6 +1,6 @@
 //! The OPEN statement.
 ghost use Rattle.std.specs.Prelude.{◌≡◌};
-ghost use Rattle.deck_words.specs.Class.{begins};
+ghost use Rattle.deck_parser.specs.Class.{begins};
 ghost use Rattle.procedure_division.specs.Names.{Names};
 ghost use Rattle.procedure_division.specs.Reading.{AddsStatements};
 ghost use Rattle.procedure_division.specs.StatementRules.{some_of, open_statement};
@@ -10,7 +10,8 @@ use crate::file_name::file;
 use crate::names::Names;
 use crate::placed::PlacedStatements;
 use crate::statement::Statement;
-use deck_words::{Cause, NameOf, NotAllowed, Parser, Refusal};
+use deck_parser::Parser;
+use deck_words::{Cause, NameOf, NotAllowed, Refusal};
 use io_state::{FileStatement, OpenMode, Verb, permits};
 
 /// A file that is opened in a mode.
@@ -50,7 +51,7 @@ fn all_opened(
 }
 
 /// A mode, and the files that are opened in it.
-#[tactic(auto, unfolding(crate::specs::Parts::opening, deck_words::specs::Notation::the), using(crate::proofs::JoinLemmas::second_behind))]
+#[tactic(auto, unfolding(crate::specs::Parts::opening, deck_parser::specs::Notation::the), using(crate::proofs::JoinLemmas::second_behind))]
 fn opening(
     parser: &mut Parser<'_>,
     names: &Names<'_>,
@@ -72,7 +73,7 @@ fn opening(
 }
 
 /// Whether a mode is next.
-#[tactic(auto, unfolding(crate::specs::Parts::opening, deck_words::specs::Notation::the))]
+#[tactic(auto, unfolding(crate::specs::Parts::opening, deck_parser::specs::Notation::the))]
 fn sees_mode(parser: &Parser<'_>) -> bool
     ensures { (known : Names) → result ≡ begins (opening known).starts parser.now }
 {

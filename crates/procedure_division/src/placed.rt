@@ -45,7 +45,7 @@ impl PlacedStatements {
         ensures { IfOk result (λ placed. placed ≡ placed_behind self (placed_paragraph line name.bytes)) }
     {
         let PlacedStatements { statements, places } = self;
-        let at = statements.len();
+        let at = statements.as_slice().len();
         let places = places.with_paragraph(Paragraph { name, line, at })?;
         Ok(PlacedStatements { statements, places })
     }

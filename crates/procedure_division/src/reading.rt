@@ -3,9 +3,9 @@ ghost use Rattle.std.specs.Prelude.{◌≡◌, not, ◌||◌, Some, codes, if◌
 ghost use Rattle.std.specs.Option.{option_map_or};
 ghost use Rattle.io_state.specs.Permission.{is_sequential, is_random};
 ghost use Rattle.io_state.specs.declared.statement.FileStatement.TheVariants.{Read, ReadNext};
-ghost use Rattle.deck_words.specs.Notation.{the, may, is_word_there, ◌▸◌};
-ghost use Rattle.deck_words.specs.Reading.{Reads};
-ghost use Rattle.deck_words.specs.Rule.{optional, where_it_gives};
+ghost use Rattle.deck_parser.specs.Notation.{the, may, is_word_there, ◌▸◌};
+ghost use Rattle.deck_parser.specs.Reading.{Reads};
+ghost use Rattle.deck_parser.specs.Rule.{optional, where_it_gives};
 ghost use Rattle.procedure_division.specs.Following.{where_allowed};
 ghost use Rattle.procedure_division.specs.StatementRules.{key, read_operand};
 ghost use Rattle.procedure_division.specs.StatementRules.{read_statement};
@@ -13,7 +13,8 @@ ghost use Rattle.procedure_division.specs.StatementRules.{read_statement};
 use crate::file_name::file;
 use crate::names::Names;
 use crate::statement::Statement;
-use deck_words::{Cause, NameOf, NotAllowed, Parser, Refusal, Unknown};
+use deck_parser::Parser;
+use deck_words::{Cause, NameOf, NotAllowed, Refusal, Unknown};
 use io_state::{Access, FileStatement};
 
 /// Whether the READ is sequential: NEXT says so, and in sequential access it always is.
@@ -67,7 +68,7 @@ fn no_key_phrase(names: &Names<'_>, file: usize) -> NotAllowed {
 }
 
 /// The key that KEY says, which a sequential READ may not have.
-#[tactic(auto, unfolding(deck_words::specs::Notation::the))]
+#[tactic(auto, unfolding(deck_parser::specs::Notation::the))]
 fn key_phrase(
     parser: &mut Parser<'_>,
     names: &Names<'_>,

@@ -1,9 +1,9 @@
 //! Statements, sentences and paragraphs.
 ghost use Rattle.std.specs.Prelude.{◌≡◌, Some, [], ◌∷◌, codes};
-ghost use Rattle.deck_words.specs.Class.{begins, names};
-ghost use Rattle.deck_words.specs.Notation.{the, name, period, ◌▸◌, ◌◂◌};
-ghost use Rattle.deck_words.specs.Reading.{Reads, ReadsAs};
-ghost use Rattle.deck_words.specs.Rule.{where_it_gives};
+ghost use Rattle.deck_parser.specs.Class.{begins, names};
+ghost use Rattle.deck_parser.specs.Notation.{the, name, period, ◌▸◌, ◌◂◌};
+ghost use Rattle.deck_parser.specs.Reading.{Reads, ReadsAs};
+ghost use Rattle.deck_parser.specs.Rule.{where_it_gives};
 ghost use Rattle.procedure_division.specs.Names.{Names};
 ghost use Rattle.procedure_division.specs.Reading.{AddsStatements};
 ghost use Rattle.procedure_division.specs.StatementRules.{some_of};
@@ -20,7 +20,8 @@ use crate::reading::read_statement;
 use crate::starting::start_statement;
 use crate::statement::Statement;
 use crate::writing::{delete_statement, rewrite_statement, write_statement};
-use deck_words::{Cause, Expected, NameOf, Parser, Refusal};
+use deck_parser::Parser;
+use deck_words::{Cause, Expected, NameOf, Refusal};
 use io_state::Name;
 use std::alloc::Global;
 
@@ -180,7 +181,7 @@ pub fn paragraph_or_sentence(
 }
 
 /// Whether a paragraph or a sentence is next.
-#[tactic(auto, unfolding(crate::specs::Parts::paragraph_or_sentence, crate::specs::Procedure::paragraph, deck_words::specs::Notation::name))]
+#[tactic(auto, unfolding(crate::specs::Parts::paragraph_or_sentence, crate::specs::Procedure::paragraph, deck_parser::specs::Notation::name))]
 pub fn sees_sentence(parser: &Parser<'_>) -> bool
     ensures { (known : Names) → result ≡ begins (paragraph_or_sentence known).starts parser.now }
 {

@@ -2,10 +2,10 @@
 ghost use Rattle.std.specs.Prelude.{◌≡◌, Some, None, is_some, codes, if◌then◌else◌};
 ghost use Rattle.io_state.specs.Permission.{is_random};
 ghost use Rattle.io_state.specs.declared.modes.Relation.TheVariants.{Greater, NotLess};
-ghost use Rattle.deck_words.specs.Notation.{the, may, ◌▸◌, ◌◂◌, ◌⊗◌, ◌∣◌};
-ghost use Rattle.deck_words.specs.Operand.{sign};
-ghost use Rattle.deck_words.specs.Reading.{Reads};
-ghost use Rattle.deck_words.specs.Rule.{optional, where_it_gives};
+ghost use Rattle.deck_parser.specs.Notation.{the, may, ◌▸◌, ◌◂◌, ◌⊗◌, ◌∣◌};
+ghost use Rattle.deck_parser.specs.Operand.{sign};
+ghost use Rattle.deck_parser.specs.Reading.{Reads};
+ghost use Rattle.deck_parser.specs.Rule.{optional, where_it_gives};
 ghost use Rattle.procedure_division.specs.Names.{access_at};
 ghost use Rattle.procedure_division.specs.StatementRules.{file};
 ghost use Rattle.procedure_division.specs.StatementRules.{relation, led_key, start_by};
@@ -15,7 +15,8 @@ ghost use Rattle.procedure_division.specs.declared.statement.Statement.TheVarian
 use crate::file_name::file;
 use crate::names::Names;
 use crate::statement::Statement;
-use deck_words::{Cause, NameOf, NotAllowed, Parser, Refusal, Unknown};
+use deck_parser::Parser;
+use deck_words::{Cause, NameOf, NotAllowed, Refusal, Unknown};
 use io_state::{Access, FileStatement, Relation};
 
 /// The name of a file that START is for: its access is not random.
@@ -48,7 +49,7 @@ fn led_key(parser: &mut Parser<'_>, names: &Names<'_>, file: usize) -> Result<(u
 }
 
 /// GREATER, or GREATER OR EQUAL.
-#[tactic(auto, unfolding(deck_words::specs::Notation::the))]
+#[tactic(auto, unfolding(deck_parser::specs::Notation::the))]
 fn greater(parser: &mut Parser<'_>) -> Result<Relation, Refusal>
     ensures { Reads ((where_it_gives (λ or_equal. Some (if is_some or_equal then NotLess else Greater))
         (the (codes "GREATER") ▸ may (codes "THAN") ▸ optional (the (codes "OR") ▸ the (codes "EQUAL")
@@ -66,7 +67,7 @@ fn greater(parser: &mut Parser<'_>) -> Result<Relation, Refusal>
 }
 
 /// NOT LESS.
-#[tactic(auto, unfolding(deck_words::specs::Notation::the))]
+#[tactic(auto, unfolding(deck_parser::specs::Notation::the))]
 fn not_less(parser: &mut Parser<'_>) -> Result<(), Refusal>
     ensures { Reads ((the (codes "NOT") ▸ ((the (codes "LESS") ◂ may (codes "THAN")) ∣ sign (codes
         "<"))).reads parser.old) result parser.new }
@@ -79,7 +80,7 @@ fn not_less(parser: &mut Parser<'_>) -> Result<(), Refusal>
     parser.expect_sign(b"<")
 }
 
-#[tactic(auto, unfolding(crate::specs::StatementRules::relation, deck_words::specs::Notation::the, deck_words::specs::Operand::sign))]
+#[tactic(auto, unfolding(crate::specs::StatementRules::relation, deck_parser::specs::Notation::the, deck_parser::specs::Operand::sign))]
 fn relation(parser: &mut Parser<'_>) -> Result<Relation, Refusal>
     ensures { Reads (relation.reads parser.old) result parser.new }
 {
@@ -105,7 +106,7 @@ fn relation(parser: &mut Parser<'_>) -> Result<Relation, Refusal>
 }
 
 /// What KEY says: a relation, a key, and how much of it.
-#[tactic(auto, unfolding(deck_words::specs::Notation::the))]
+#[tactic(auto, unfolding(deck_parser::specs::Notation::the))]
 fn start_phrase(
     parser: &mut Parser<'_>,
     names: &Names<'_>,

@@ -1,5 +1,5 @@
 //! Statements in their order.
-ghost use Rattle.std.specs.Prelude.{◌≡◌, ◌++◌, ◌∷◌, [], length, IfOk};
+ghost use Rattle.std.specs.Prelude.{◌≡◌, ◌++◌, ◌∷◌, [], IfOk};
 
 use crate::statement::Statement;
 use std::alloc::{AllocError, Global};
@@ -35,13 +35,6 @@ impl StatementList {
         ensures { result.now ≡ self.now }
     {
         self.statements.as_slice()
-    }
-
-    /// How many statements there are.
-    pub fn len(&self) -> usize
-        ensures { result ≡ length self.now }
-    {
-        self.statements.len()
     }
 
     /// The statements, and one more at the end.

@@ -1,9 +1,9 @@
 //! The WRITE, REWRITE and DELETE statements.
 ghost use Rattle.std.specs.Prelude.{Some, codes};
 ghost use Rattle.io_state.specs.declared.statement.FileStatement.TheVariants.{Write, Rewrite, Delete};
-ghost use Rattle.deck_words.specs.Notation.{the, may, ◌▸◌, ◌◂◌};
-ghost use Rattle.deck_words.specs.Rule.{where_it_gives};
-ghost use Rattle.deck_words.specs.Reading.{Reads};
+ghost use Rattle.deck_parser.specs.Notation.{the, may, ◌▸◌, ◌◂◌};
+ghost use Rattle.deck_parser.specs.Rule.{where_it_gives};
+ghost use Rattle.deck_parser.specs.Reading.{Reads};
 ghost use Rattle.procedure_division.specs.StatementRules.{file};
 ghost use Rattle.procedure_division.specs.declared.statement.Statement.TheVariants.{Perform};
 ghost use Rattle.procedure_division.specs.Parts.{record_named};
@@ -11,7 +11,8 @@ ghost use Rattle.procedure_division.specs.Parts.{record_named};
 use crate::file_name::{file, record_name};
 use crate::names::Names;
 use crate::statement::Statement;
-use deck_words::{Parser, Refusal};
+use deck_parser::Parser;
+use deck_words::Refusal;
 use io_state::FileStatement;
 
 pub fn write_statement(parser: &mut Parser<'_>, names: &Names<'_>) -> Result<Statement, Refusal>

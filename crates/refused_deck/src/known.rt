@@ -4,7 +4,8 @@ use deck_entries::{
     Described, Divisions, Entries, RecordLength, Selected, StorageItem, read_divisions,
     read_file_control,
 };
-use deck_words::{Parser, WordPlace, words};
+use deck_parser::Parser;
+use deck_words::{WordPlace, words};
 use record_layout::Item;
 use std::alloc::{AllocError, Global};
 

@@ -3,7 +3,8 @@
 use crate::known::{Among, Known};
 use crate::near::is_near;
 use crate::shown::Shown;
-use deck_words::{NameOf, Parser, Word, WordPlace, WordText, words};
+use deck_parser::Parser;
+use deck_words::{NameOf, Word, WordPlace, WordText, words};
 use io_state::Name;
 use std::alloc::{AllocError, Global};
 

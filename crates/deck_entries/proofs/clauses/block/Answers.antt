@@ -1,11 +1,11 @@
 use Rattle.std.proofs.Common.{◌≡◌, true, Option, None, refl}
 use Rattle.std.specs.Prelude.{codes}
-use Rattle.deck_words.specs.Rule.{optional}
-use Rattle.deck_words.specs.Notation.{the, may, ◌▸◌, ◌∣◌}
-use Rattle.deck_words.specs.Reading.{Refuses}
+use Rattle.deck_parser.specs.Rule.{optional}
+use Rattle.deck_parser.specs.Notation.{the, may, ◌▸◌, ◌∣◌}
+use Rattle.deck_parser.specs.Reading.{Refuses}
 use Rattle.deck_words.specs.declared.fault.Refusal.{Refusal}
 use Rattle.deck_words.specs.declared.fault.Refusal.TheVariants.{Memory, Fault}
-use Rattle.deck_words.proofs.RepeatLemmas.{never_added}
+use Rattle.deck_parser.proofs.RepeatLemmas.{never_added}
 use Rattle.deck_entries.specs.declared.clauses.Clauses.{Clauses}
 use Rattle.deck_entries.specs.FileDescription.{Block, count, block, with_clause}
 use Rattle.deck_entries.proofs.clauses.block.Goals as goal

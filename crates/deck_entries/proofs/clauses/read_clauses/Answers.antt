@@ -1,5 +1,5 @@
 use Rattle.std.proofs.Common.{◌∙◌, sym}
-use Rattle.deck_words.proofs.RepeatLemmas.{next_turn, turn_takes_a_word}
+use Rattle.deck_parser.proofs.RepeatLemmas.{next_turn, turn_takes_a_word}
 use Rattle.deck_entries.specs.FileDescription.{with_clause, description_clause}
 use Rattle.deck_entries.proofs.DescriptionLemmas.{lawful_description_clause, clauses_are_fit}
 use Rattle.deck_entries.proofs.clauses.read_clauses.Goals as goal

@@ -1,5 +1,5 @@
 use Rattle.std.proofs.Common.{◌≡◌, length}
-use Rattle.deck_words.specs.Rule.{onto}
+use Rattle.deck_parser.specs.Rule.{onto}
 use Rattle.deck_entries.specs.FileDescription.{with_clause, no_clauses, description_clause}
 use Rattle.deck_entries.proofs.clauses.read_clauses.Given as goal
 

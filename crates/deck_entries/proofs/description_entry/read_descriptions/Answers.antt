@@ -1,5 +1,5 @@
 use Rattle.std.proofs.Common.{◌∙◌, sym}
-use Rattle.deck_words.proofs.TurnLemmas.{next_further, turn_takes_some}
+use Rattle.deck_parser.proofs.TurnLemmas.{next_further, turn_takes_some}
 use Rattle.deck_entries.specs.Divisions.{more_description}
 use Rattle.deck_entries.proofs.DivisionLemmas.{alike_descriptions}
 use Rattle.deck_entries.proofs.description_entry.read_descriptions.Goals as goal

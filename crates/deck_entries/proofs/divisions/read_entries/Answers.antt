@@ -1,5 +1,5 @@
 use Rattle.std.proofs.Common.{◌∙◌, sym}
-use Rattle.deck_words.proofs.TurnLemmas.{next_further, turn_takes_some}
+use Rattle.deck_parser.proofs.TurnLemmas.{next_further, turn_takes_some}
 use Rattle.deck_entries.specs.Divisions.{more_entry}
 use Rattle.deck_entries.proofs.DivisionLemmas.{alike_entries}
 use Rattle.deck_entries.proofs.divisions.read_entries.Goals as goal

@@ -1,5 +1,5 @@
 use Rattle.std.proofs.Common.{◌≡◌, [], length}
-use Rattle.deck_words.proofs.TurnLemmas.{reads_in_turn, reads_further}
+use Rattle.deck_parser.proofs.TurnLemmas.{reads_in_turn, reads_further}
 use Rattle.deck_entries.specs.Divisions.{more_entry}
 use Rattle.deck_entries.proofs.divisions.read_entries.Given as goal
 

@@ -1,5 +1,5 @@
 use Rattle.std.proofs.Common.{◌∙◌, sym}
-use Rattle.deck_words.proofs.RepeatLemmas.{next_turn, turn_takes_a_word}
+use Rattle.deck_parser.proofs.RepeatLemmas.{next_turn, turn_takes_a_word}
 use Rattle.deck_entries.specs.FileDescription.{with_one, item}
 use Rattle.deck_entries.proofs.DescriptionLemmas.{lawful_item, items_are_fit}
 use Rattle.deck_entries.proofs.item.read_items.Goals as goal

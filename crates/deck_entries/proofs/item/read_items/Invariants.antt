@@ -1,5 +1,5 @@
 use Rattle.std.proofs.Common.{◌≡◌, [], length}
-use Rattle.deck_words.specs.Rule.{some_onto, onto}
+use Rattle.deck_parser.specs.Rule.{some_onto, onto}
 use Rattle.deck_entries.specs.FileDescription.{with_one, item}
 use Rattle.deck_entries.proofs.item.read_items.Given as goal
 

@@ -1,6 +1,6 @@
 use Rattle.std.proofs.Common.{◌∙◌, sym}
 use Rattle.deck_entries.specs.FileControlEntry.{with_clause, clause}
-use Rattle.deck_words.proofs.RepeatLemmas.{next_turn, turn_takes_a_word}
+use Rattle.deck_parser.proofs.RepeatLemmas.{next_turn, turn_takes_a_word}
 use Rattle.deck_entries.proofs.EntryLemmas.{lawful_clause, clauses_are_fit}
 use Rattle.deck_entries.proofs.select.all_clauses.Goals as goal
 

@@ -1,5 +1,5 @@
 use Rattle.std.proofs.Common.{◌≡◌, length}
-use Rattle.deck_words.specs.Rule.{some_onto, onto}
+use Rattle.deck_parser.specs.Rule.{some_onto, onto}
 use Rattle.deck_entries.specs.FileControlEntry.{with_clause, no_clauses, clause}
 use Rattle.deck_entries.proofs.select.all_clauses.Given as goal
 

@@ -1,10 +1,10 @@
 use Rattle.std.proofs.Common.{◌≡◌, true, false, List, ◌∷◌, [], Option, refl, sym, subst, ◌∙◌}
 use Rattle.std.specs.Prelude.{codes, option_and_then, Result}
 use Rattle.std.specs.Option.{option_map}
-use Rattle.deck_words.specs.Class.{begins, this}
-use Rattle.deck_words.specs.Rule.{Rule}
-use Rattle.deck_words.specs.Notation.{the, ◌∣◌}
-use Rattle.deck_words.specs.Reading.{Reads}
+use Rattle.deck_parser.specs.Class.{begins, this}
+use Rattle.deck_parser.specs.Rule.{Rule}
+use Rattle.deck_parser.specs.Notation.{the, ◌∣◌}
+use Rattle.deck_parser.specs.Reading.{Reads}
 use Rattle.deck_words.specs.Word.{Word}
 use Rattle.deck_words.specs.declared.fault.Refusal.{Refusal}
 use Rattle.deck_entries.specs.FileControlEntry.{Clause, Clauses, indexed, access, record_key, duplicates, alternate, status, clause, with_clause, added_to}

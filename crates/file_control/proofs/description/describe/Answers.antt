@@ -1,14 +1,14 @@
 use Rattle.std.proofs.Common.{◌≡◌, ◌-◌, ◌∙◌, ◌∷◌, length, drop, ap, arith, sym, subst, [], Option, None}
 use Rattle.std.proofs.lemmas.Result.{err_from_is_err_and}
 use Rattle.deck_words.specs.Fault.{IsFault}
-use Rattle.deck_words.specs.Reading.{Refuses}
+use Rattle.deck_parser.specs.Reading.{Refuses}
 use Rattle.deck_words.specs.declared.fault.Refusal.{Refusal}
 use Rattle.deck_words.specs.declared.fault.Refusal.TheVariants.{Memory, Fault}
 use Rattle.file_control.specs.declared.description.Description.{Description}
 use Rattle.deck_entries.specs.Divisions.{SpellsDivisions}
 use Rattle.file_control.specs.Whole.{IsDescription}
 use Rattle.std.specs.Prelude.{codes}
-use Rattle.deck_words.specs.Class.{this, begins}
+use Rattle.deck_parser.specs.Class.{this, begins}
 use Rattle.deck_entries.proofs.DivisionRestLemmas.{rest_is}
 use Rattle.file_control.proofs.WholeLemmas.{reads_sound, nothing_described, no_end, no_contents}
 use Rattle.file_control.proofs.description.describe.Goals as goal

@@ -1,5 +1,5 @@
 use Rattle.std.proofs.Common.{◌≡◌, length}
-use Rattle.deck_words.specs.Rule.{onto}
+use Rattle.deck_parser.specs.Rule.{onto}
 use Rattle.procedure_division.specs.Parts.{file_to_close}
 use Rattle.procedure_division.specs.StatementRules.{joined_statements, some_of}
 use Rattle.procedure_division.specs.Reading.{behind_statements}

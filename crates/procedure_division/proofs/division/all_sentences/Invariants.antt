@@ -1,5 +1,5 @@
 use Rattle.std.proofs.Common.{◌≡◌, length}
-use Rattle.deck_words.specs.Rule.{onto}
+use Rattle.deck_parser.specs.Rule.{onto}
 use Rattle.procedure_division.specs.Parts.{paragraph_or_sentence}
 use Rattle.procedure_division.specs.Placed.{nothing_placed}
 use Rattle.procedure_division.specs.StatementRules.{joined_statements}

@@ -1,4 +1,4 @@
-use Rattle.deck_words.proofs.RuleLemmas.{only_one}
+use Rattle.deck_parser.proofs.RuleLemmas.{only_one}
 use Rattle.procedure_division.specs.Procedure.{procedure}
 use Rattle.procedure_division.proofs.ProcedureLemmas.{lawful_procedure, procedure_is_fit}
 use Rattle.procedure_division.proofs.division.one_procedure.Goals as goal

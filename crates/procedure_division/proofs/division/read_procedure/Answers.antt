@@ -1,8 +1,8 @@
 use Rattle.std.proofs.Common.{◌≡◌, [], subst, List, Option, None}
 use Rattle.std.proofs.lemmas.Result.{err_from_is_err_and}
-use Rattle.deck_words.proofs.RuleLemmas.{nothing_spelled, not_all_spelled}
+use Rattle.deck_parser.proofs.RuleLemmas.{nothing_spelled, not_all_spelled}
 use Rattle.deck_words.specs.Fault.{IsFault}
-use Rattle.deck_words.specs.Reading.{Refuses}
+use Rattle.deck_parser.specs.Reading.{Refuses}
 use Rattle.deck_words.specs.declared.fault.Refusal.{Refusal}
 use Rattle.deck_words.specs.declared.fault.Refusal.TheVariants.{Memory, Fault}
 use Rattle.deck_words.specs.Word.{Word}

@@ -1,7 +1,7 @@
 use Rattle.std.proofs.Common.{◌≡◌, ℕ, List, Option, Some, None, refl, sym, ap, ◌∙◌}
 use Rattle.std.specs.Prelude.{bytes_eq, position, option_and_then}
 use Rattle.std.specs.Option.{option_map}
-use Rattle.deck_words.specs.Notation.{name}
+use Rattle.deck_parser.specs.Notation.{name}
 use Rattle.deck_words.specs.Word.{Word}
 use Rattle.record_layout.specs.Area.{sent}
 use Rattle.record_layout.specs.declared.area.Source.{Source}

@@ -1,9 +1,9 @@
 use Rattle.std.proofs.Common.{◌≡◌, false, List, ◌∷◌, [], sym, subst, ◌∙◌}
 use Rattle.std.specs.Prelude.{codes, Result}
-use Rattle.deck_words.specs.Class.{begins, this}
-use Rattle.deck_words.specs.Rule.{Rule}
-use Rattle.deck_words.specs.Notation.{◌∣◌}
-use Rattle.deck_words.specs.Reading.{Reads}
+use Rattle.deck_parser.specs.Class.{begins, this}
+use Rattle.deck_parser.specs.Rule.{Rule}
+use Rattle.deck_parser.specs.Notation.{◌∣◌}
+use Rattle.deck_parser.specs.Reading.{Reads}
 use Rattle.deck_words.specs.Word.{Word}
 use Rattle.deck_words.specs.declared.fault.Refusal.{Refusal}
 use Rattle.procedure_division.specs.declared.statement.Statement.{Statement}

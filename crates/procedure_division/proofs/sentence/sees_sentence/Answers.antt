@@ -1,5 +1,5 @@
 use Rattle.std.proofs.Common.{◌≡◌, ◌||◌, ◌∙◌, sym, ap, [], ◌∷◌, Bool, true, false, refl}
-use Rattle.deck_words.specs.Class.{begins, names}
+use Rattle.deck_parser.specs.Class.{begins, names}
 use Rattle.procedure_division.proofs.ProcedureLemmas.{sentences_start}
 use Rattle.procedure_division.proofs.sentence.sees_sentence.Goals as goal
 

@@ -1,10 +1,10 @@
 use Rattle.std.proofs.Common.{◌≡◌, false, List, ◌∷◌, [], Option, sym, subst, ◌∙◌}
 use Rattle.std.specs.Prelude.{codes, option_and_then, Result}
 use Rattle.std.specs.Option.{option_map}
-use Rattle.deck_words.specs.Class.{begins, this}
-use Rattle.deck_words.specs.Rule.{Rule}
-use Rattle.deck_words.specs.Notation.{◌∣◌}
-use Rattle.deck_words.specs.Reading.{Reads}
+use Rattle.deck_parser.specs.Class.{begins, this}
+use Rattle.deck_parser.specs.Rule.{Rule}
+use Rattle.deck_parser.specs.Notation.{◌∣◌}
+use Rattle.deck_parser.specs.Reading.{Reads}
 use Rattle.deck_words.specs.Word.{Word}
 use Rattle.deck_words.specs.declared.fault.Refusal.{Refusal}
 use Rattle.procedure_division.specs.declared.placed.PlacedStatements.{PlacedStatements}

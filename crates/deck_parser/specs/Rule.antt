@@ -3,7 +3,7 @@
 use Rattle.std.specs.Prelude.{◌≡◌, ℕ, zero, suc, Bool, true, false, not, ◌&&◌, if◌then◌else◌, List, []}
 use Rattle.std.specs.Prelude.{◌∷◌, ◌++◌, length, Option, Some, None, option_and_then, option_map, IsTrue}
 use Rattle.std.specs.Prelude.{MatchOption}
-use Rattle.deck_words.specs.Class.{Class, is_in, begins, all_apart}
+use Rattle.deck_parser.specs.Class.{Class, is_in, begins, all_apart}
 use Rattle.deck_words.specs.Word.{Word}
 
 -- a rule of the grammar, whose words spell a value

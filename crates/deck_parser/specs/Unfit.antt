@@ -7,15 +7,7 @@ use Rattle.deck_words.specs.declared.fault.Cause.TheVariants.{Limit, Layout}
 use Rattle.deck_words.specs.declared.fault.Expected.TheVariants.{Words, Paragraph, Indexed, RecordKey}
 use Rattle.deck_words.specs.declared.fault.Refusal.{Refusal}
 use Rattle.deck_words.specs.declared.fault.Refusal.TheVariants.{Memory, Fault}
-use Rattle.deck_words.specs.declared.wanted.Wanted.{Wanted}
-use Rattle.deck_words.specs.declared.wanted.Wanted.TheVariants as wanted
 use Rattle.deck_words.specs.declared.wanted.WantedClass.{WantedClass}
-use Rattle.deck_words.specs.declared.wanted.WantedClass.TheVariants as class
-
--- the line of the first word, and 0 where no word is left
-abbrev pub first_line : List Seen → ℕ
-first_line [] = 0
-first_line (word ∷ words) = word.line
 
 -- the line of the first word, or any line where no word is left
 abbrev pub IsFirstLine : List Seen → ℕ → Type 0
@@ -26,17 +18,6 @@ IsFirstLine (word ∷ words) line = line ≡ word.line
 abbrev pub IsRefusedThere : List Seen → Refusal → Type 0
 IsRefusedThere words Memory = Unit {0}
 IsRefusedThere words (Fault line place cause) = IsFirstLine words line × (place.line ≡ line)
-
--- the class of what is wanted
-abbrev pub class_wanted : Wanted → WantedClass
-class_wanted (wanted.Word text) = class.Word
-class_wanted (wanted.Sign text) = class.Sign
-class_wanted (wanted.Name of) = class.Name
-class_wanted wanted.Number = class.Number
-class_wanted wanted.Level = class.Level
-class_wanted wanted.Picture = class.Picture
-class_wanted wanted.Literal = class.Literal
-class_wanted wanted.Period = class.Period
 
 -- a word does not fit for want of one of this class
 abbrev pub IsWantOf : WantedClass → Cause → Type 0

@@ -10,8 +10,8 @@ use Rattle.std.proofs.lemmas.Option.{same_Some}
 use Rattle.std.proofs.lemmas.Bool.{false≢true}
 use Rattle.std.proofs.lemmas.Bool.Decides.{nat_tests}
 use Rattle.io_state.specs.FileName.{is_capital}
-use Rattle.deck_words.specs.Name.{is_name, is_number}
-use Rattle.deck_words.specs.Class.{Class, this, names, numbers, levels, pictures, literals, signs, periods, is_in, begins, kind_of, has_text, only_text, has_capitals, lacks_text, differ, are_texts_apart, are_classes_apart, all_apart}
+use Rattle.deck_parser.specs.Name.{is_name, is_number}
+use Rattle.deck_parser.specs.Class.{Class, this, names, numbers, levels, pictures, literals, signs, periods, is_in, begins, kind_of, has_text, only_text, has_capitals, lacks_text, differ, are_texts_apart, are_classes_apart, all_apart}
 use Rattle.deck_words.specs.Word.{Word, WordKind, is_same_kind}
 use Rattle.deck_words.specs.Word as kind
 use Rattle.deck_words.proofs.TestLemmas.{both_true, either_true, neither_true, not_is}

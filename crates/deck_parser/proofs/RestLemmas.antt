@@ -1,9 +1,9 @@
 -- What a rule spells ends with the rest that it leaves.
 use Rattle.std.proofs.Common.{◌≡◌, ℕ, List, [], ◌∷◌, ◌++◌, Option, Some, None, sym, ap, ◌∙◌, inl, inr, append_assoc}
 use Rattle.deck_words.specs.Word.{Word}
-use Rattle.deck_words.specs.Class.{Class, this, names, literals, periods}
-use Rattle.deck_words.specs.Rule.{Rule, one, in_turn, optional, onto, some_onto, SpellsTurns, each_behind, where_it_gives}
-use Rattle.deck_words.specs.Notation.{the, name, literal, period, ◌∣◌}
+use Rattle.deck_parser.specs.Class.{Class, this, names, literals, periods}
+use Rattle.deck_parser.specs.Rule.{Rule, one, in_turn, optional, onto, some_onto, SpellsTurns, each_behind, where_it_gives}
+use Rattle.deck_parser.specs.Notation.{the, name, literal, period, ◌∣◌}
 
 abbrev pub EndsWith : List Word → List Word → Type 0
 EndsWith words rest = (front : List Word) × (words ≡ front ++ rest)

@@ -1,11 +1,11 @@
 -- What the steps of the parser answer, beside what a rule reads.
 use Rattle.std.specs.Prelude.{◌≡◌, Bool, List, [], ◌∷◌, Option, Some, None, Result, Ok, Err}
 use Rattle.std.specs.Bool.{OnTrue, OnFalse}
-use Rattle.deck_words.specs.Class.{Class, begins}
+use Rattle.deck_parser.specs.Class.{Class, begins}
 use Rattle.deck_words.specs.declared.fault.Refusal.{Refusal}
 use Rattle.deck_words.specs.declared.fault.Refusal.TheVariants.{Memory, Fault}
-use Rattle.deck_words.specs.Rule.{Rule}
-use Rattle.deck_words.specs.Scanning.{map_result}
+use Rattle.deck_parser.specs.Rule.{Rule}
+use Rattle.deck_parser.specs.Scanning.{map_result}
 use Rattle.deck_words.specs.Word.{Word}
 
 -- memory ran out, or there is nothing

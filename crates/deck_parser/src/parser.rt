@@ -1,21 +1,22 @@
 //! The words that are still to be read, and the steps that read one.
 ghost use Rattle.std.specs.Prelude.{◌≡◌, ◌≢◌, [], ◌∷◌, map, drop, Some, length, MatchResult, IfErr};
 ghost use Rattle.std.specs.List.{list_any};
-ghost use Rattle.deck_words.specs.Class.{begins, is_in, this, names, numbers, levels, pictures, signs};
-ghost use Rattle.deck_words.specs.Class.{periods};
-ghost use Rattle.deck_words.specs.Unfit.{first_line, IsFirstLine, IsRefusedThere, IsUnfit, class_wanted};
-ghost use Rattle.deck_words.specs.Rule.{one};
-ghost use Rattle.deck_words.specs.Notation.{the, may, eaten, name, literal, period};
-ghost use Rattle.deck_words.specs.Operand.{sign, digits};
-ghost use Rattle.deck_words.specs.Reading.{Reads, ReadsAs, Eats};
+ghost use Rattle.deck_parser.specs.Class.{begins, is_in, this, names, numbers, levels, pictures, signs};
+ghost use Rattle.deck_parser.specs.Class.{periods};
+ghost use Rattle.deck_parser.specs.Unfit.{IsFirstLine, IsRefusedThere, IsUnfit};
+ghost use Rattle.deck_words.specs.Word.{first_line};
+ghost use Rattle.deck_words.specs.Wanted.{class_wanted};
+ghost use Rattle.deck_parser.specs.Rule.{one};
+ghost use Rattle.deck_parser.specs.Notation.{the, may, eaten, name, literal, period};
+ghost use Rattle.deck_parser.specs.Operand.{sign, digits};
+ghost use Rattle.deck_parser.specs.Reading.{Reads, ReadsAs, Eats};
 ghost use Rattle.deck_words.specs.Fault.{IsFault};
 
-use crate::fault::{Cause, Expected, Limit, Refusal};
 use crate::name::{is_name_text, is_number_text};
-use crate::place::WordPlace;
-use crate::remaining::Words;
-use crate::wanted::{NameOf, Note, Wanted, WantedClass, WantedList};
-use crate::word::{Word, WordText};
+use deck_words::{
+    Cause, Expected, Limit, NameOf, Note, Refusal, Wanted, WantedClass, WantedList, Word,
+    WordPlace, WordText, Words,
+};
 use io_state::Name;
 use record_layout::Bytes;
 use std::alloc::Global;

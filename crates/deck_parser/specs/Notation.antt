@@ -1,8 +1,8 @@
 -- How rules are written: as in the grammar's own notation.
 use Rattle.std.specs.Prelude.{ℕ, Bool, true, false, not, ◌&&◌, ◌⊎◌, if◌then◌else◌, List, ◌++◌, Option, Some}
 use Rattle.std.specs.Prelude.{None, is_some}
-use Rattle.deck_words.specs.Class.{this, names, literals, periods, begins, all_apart}
-use Rattle.deck_words.specs.Rule.{Rule, one, in_turn, optional, where_it_gives}
+use Rattle.deck_parser.specs.Class.{this, names, literals, periods, begins, all_apart}
+use Rattle.deck_parser.specs.Rule.{Rule, one, in_turn, optional, where_it_gives}
 
 -- this word
 unfoldable pub the : List ℕ → Rule (Unit {0})

@@ -1,9 +1,9 @@
 -- The steps that read one word are read as they are spelled.
 use Rattle.std.proofs.Common.{◌≡◌, ℕ, Bool, true, false, refl, List}
-use Rattle.deck_words.specs.Class.{this, names, literals, periods}
-use Rattle.deck_words.specs.Notation.{the, name, literal, period, is_word_there, eaten}
-use Rattle.deck_words.proofs.RuleLemmas.{Lawful, lawful_one, lawful_turn, lawful_optional, lawful_either, lawful_as}
-use Rattle.deck_words.proofs.RepeatLemmas.{lawful_onto, lawful_some}
+use Rattle.deck_parser.specs.Class.{this, names, literals, periods}
+use Rattle.deck_parser.specs.Notation.{the, name, literal, period, is_word_there, eaten}
+use Rattle.deck_parser.proofs.RuleLemmas.{Lawful, lawful_one, lawful_turn, lawful_optional, lawful_either, lawful_as}
+use Rattle.deck_parser.proofs.RepeatLemmas.{lawful_onto, lawful_some}
 
 pub lawful_the : (text : List ℕ) → Lawful (the text)
 unfolding the

@@ -4,7 +4,7 @@ ghost use Rattle.std.specs.Char.{is_ascii_digit};
 ghost use Rattle.std.specs.List.{list_all, list_any};
 ghost use Rattle.std.specs.Str.{bytes_eq};
 ghost use Rattle.io_state.specs.FileName.{is_capital};
-ghost use Rattle.deck_words.specs.Name.{is_reserved, is_name, is_number};
+ghost use Rattle.deck_parser.specs.Name.{is_reserved, is_name, is_number};
 
 /// The reserved words by their length, so that a text is compared with few of them.
 const OF_TWO: [&[u8]; 6] = [b"FD", b"IN", b"IS", b"ON", b"TO", b"OR"];

@@ -4,11 +4,11 @@ use Rattle.std.specs.Prelude.{option_and_then}
 use Rattle.std.proofs.lemmas.Option.{some_pair_parts}
 use Rattle.std.proofs.lemmas.Bool.{false≢true}
 use Rattle.deck_words.specs.Word.{Word}
-use Rattle.deck_words.specs.Class.{Class, begins, all_apart}
-use Rattle.deck_words.specs.Rule.{Rule, SpellsTurns, reads_further_from, each_behind}
+use Rattle.deck_parser.specs.Class.{Class, begins, all_apart}
+use Rattle.deck_parser.specs.Rule.{Rule, SpellsTurns, reads_further_from, each_behind}
 use Rattle.deck_words.proofs.TestLemmas.{bind_some, bind_is}
-use Rattle.deck_words.proofs.ClassLemmas.{begins_apart, neither_begins}
-use Rattle.deck_words.proofs.RuleLemmas.{Lawful}
+use Rattle.deck_parser.proofs.ClassLemmas.{begins_apart, neither_begins}
+use Rattle.deck_parser.proofs.RuleLemmas.{Lawful}
 
 -- the words spell values up to a last one, in any number of turns
 abbrev pub SpellsFurther : {S : Type 0} → (S → Rule S) → S → S → List Word → List Word → Type 0

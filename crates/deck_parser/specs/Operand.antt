@@ -1,7 +1,7 @@
 -- The words of operands that are neither names nor literals: signs, and numbers.
 use Rattle.std.specs.Prelude.{ℕ, List, length, nat_le, if◌then◌else◌, Some, None}
-use Rattle.deck_words.specs.Class.{signs, numbers}
-use Rattle.deck_words.specs.Rule.{Rule, one, where_it_gives}
+use Rattle.deck_parser.specs.Class.{signs, numbers}
+use Rattle.deck_parser.specs.Rule.{Rule, one, where_it_gives}
 
 -- this sign
 unfoldable pub sign : List ℕ → Rule (Unit {0})

@@ -1,7 +1,7 @@
 use Rattle.std.proofs.Common.{◌==◌, length, sym, ◌∙◌}
-use Rattle.deck_words.specs.Name.{is_reserved, reserved_words}
-use Rattle.deck_words.proofs.LengthLemmas.{by_length, is_length, is_longer, longer}
-use Rattle.deck_words.proofs.name.is_reserved_text.Goals as goal
+use Rattle.deck_parser.specs.Name.{is_reserved, reserved_words}
+use Rattle.deck_parser.proofs.LengthLemmas.{by_length, is_length, is_longer, longer}
+use Rattle.deck_parser.proofs.name.is_reserved_text.Goals as goal
 
 pub returns-then-length-eq2 : goal.returns-then-length-eq2
 unfolding is_reserved

@@ -1,8 +1,8 @@
 -- Signs and numbers are read as they are spelled.
 use Rattle.std.proofs.Common.{ℕ, List}
-use Rattle.deck_words.specs.Class.{signs, numbers}
-use Rattle.deck_words.specs.Operand.{sign, digits}
-use Rattle.deck_words.proofs.RuleLemmas.{Lawful, lawful_one, lawful_as}
+use Rattle.deck_parser.specs.Class.{signs, numbers}
+use Rattle.deck_parser.specs.Operand.{sign, digits}
+use Rattle.deck_parser.proofs.RuleLemmas.{Lawful, lawful_one, lawful_as}
 
 pub lawful_sign : (text : List ℕ) → Lawful (sign text)
 unfolding sign
