@@ -113,10 +113,7 @@ pub fn not_allowed(
         NotAllowed::Key(file) => {
             of_access(deck, place, file, "READ with KEY", "RANDOM or DYNAMIC")
         }
-        NotAllowed::KeyWithNext => {
-            let why = "a READ has NEXT or KEY, and not both";
-            Message::saying(deck.alloc, place, why)
-        }
+        NotAllowed::KeyWithNext => Message::saying(deck.alloc, place, ""),
         NotAllowed::NoKey(file) => no_key_of(deck, place, file),
         NotAllowed::NoLeadingKey(file) => no_leading_key_of(deck, place, file),
         NotAllowed::Source(source, _) => not_taken(deck, place, source),

@@ -1,15 +1,18 @@
 //! What is told of a refusal.
+ghost use Rattle.std.specs.Prelude.{IfOk, string_bytes};
+ghost use Rattle.deck_messages.specs.Texts.{SaysCause, SaysWhy};
 
 use crate::bad_word::no_word;
-use crate::layout::bad_layout;
-use crate::limit::past_limit;
+use crate::limit::too_many_digits;
 use crate::not_allowed::not_allowed;
+use crate::texts::text_of_cause;
 use crate::twice::twice;
 use crate::unexpected::unexpected;
 use crate::unknown::unknown;
 use crate::wanted::WantedWords;
 use deck_reader::DeckRefusal;
 use deck_words::{Cause, Refusal, WordPlace};
+use layout_messages::bad_layout;
 use refused_deck::{Message, Reading};
 use std::alloc::{AllocError, Global};
 
@@ -22,8 +25,8 @@ fn bad_word(deck: &Reading<'_>, place: WordPlace) -> Result<Message, AllocError>
     Message::saying(deck.alloc, WordPlace { end, ..place }, why)
 }
 
-/// What is told of a fault.
-fn message(
+/// What is told of a fault whose text is that of its deck.
+fn message_by_deck(
     deck: &Reading<'_>,
     place: WordPlace,
     cause: Cause,
@@ -35,17 +38,30 @@ fn message(
         Cause::Unknown(what) => unknown(deck, place, what),
         Cause::Twice(what) => twice(deck, place, what),
         Cause::NotAllowed(what) => not_allowed(deck, place, what),
-        Cause::Limit(limit) => past_limit(deck, place, limit),
+        Cause::Limit(_) => too_many_digits(deck, place),
         Cause::Layout(what) => bad_layout(deck, place, what),
     }
 }
 
+/// What is told of a fault.
+fn message(
+    deck: &Reading<'_>,
+    place: WordPlace,
+    cause: Cause,
+    wanted: &WantedWords<'_>,
+) -> Result<Message, AllocError>
+    ensures { IfOk result (λ message. SaysCause cause (string_bytes message.why)) }
+{
+    match text_of_cause(cause) {
+        Some(text) => Message::saying(deck.alloc, place, text),
+        None => message_by_deck(deck, place, cause, wanted),
+    }
+}
+
 /// What is told of these bytes, which the reader refuses so.
-pub fn message_of(
-    alloc: Global,
-    bytes: &[u8],
-    refusal: &DeckRefusal,
-) -> Result<Message, AllocError> {
+pub fn message_of(alloc: Global, bytes: &[u8], refusal: &DeckRefusal) -> Result<Message, AllocError>
+    ensures { IfOk result (λ message. SaysWhy refusal.now.refusal (string_bytes message.why)) }
+{
     match refusal.refusal {
         Refusal::Fault(_, place, cause) => {
             let wanted = WantedWords {

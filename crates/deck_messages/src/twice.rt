@@ -1,7 +1,7 @@
 //! What stands a second time.
 
-use crate::items::item_word;
 use deck_words::{Twice, WordPlace};
+use layout_messages::item_word;
 use refused_deck::{Among, Message, Reading};
 use std::alloc::AllocError;
 

@@ -216,18 +216,9 @@ pub fn unexpected(
     expected: Expected,
     wanted: &WantedWords<'_>,
 ) -> Result<Message, AllocError> {
-    let alloc = deck.alloc;
     match expected {
-        Expected::Indexed => {
-            let why = "this SELECT entry ends without ORGANIZATION IS INDEXED";
-            Message::saying(alloc, place, why)
-        }
-        Expected::RecordKey => {
-            let why = "this SELECT entry ends without RECORD KEY IS and the name of an item";
-            Message::saying(alloc, place, why)
-        }
         Expected::Paragraph(name) => of_paragraph(deck, place, name, wanted),
-        Expected::Words(_) if deck.text(place).is_empty() => of_end(deck, wanted),
-        Expected::Words(_) => of_word(deck, place, wanted),
+        _ if deck.text(place).is_empty() => of_end(deck, wanted),
+        _ => of_word(deck, place, wanted),
     }
 }

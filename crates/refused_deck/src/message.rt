@@ -1,4 +1,5 @@
 //! What is told of a refused deck.
+ghost use Rattle.std.specs.Prelude.{◌≡◌, IfOk, string_bytes};
 
 use deck_words::WordPlace;
 use std::alloc::{AllocError, Global};
@@ -12,7 +13,9 @@ pub struct Message {
 }
 
 impl Message {
-    pub fn new(alloc: Global, place: WordPlace, why: String) -> Self {
+    pub fn new(alloc: Global, place: WordPlace, why: String) -> Self
+        ensures { string_bytes result.why ≡ string_bytes why }
+    {
         Message {
             place,
             why,
@@ -20,7 +23,9 @@ impl Message {
         }
     }
 
-    pub fn saying(alloc: Global, place: WordPlace, why: &str) -> Result<Self, AllocError> {
+    pub fn saying(alloc: Global, place: WordPlace, why: &str) -> Result<Self, AllocError>
+        ensures { IfOk result (λ message. string_bytes message.why ≡ why.now) }
+    {
         Ok(Message::new(alloc, place, String::from_str(alloc, why)?))
     }
 
