@@ -6,20 +6,20 @@ ghost use Rattle.command_outcomes.specs.Told.{told_as, words_told_as};
 
 use crate::form_fault::FormFault;
 use command_words::WordsFault;
-use deck_diagnosis::Diagnosis;
+use deck_diagnosis::DeckFaults;
 use deck_runner::RunFault;
-use explanations::{FAULT_LINES, FAULT_NUMBERS, REASON_NUMBERS, STATUS_NUMBERS};
+use explanations::{FAULT_NUMBERS, REASON_NUMBERS, STATUS_NUMBERS};
 use file_control::DeckFault;
 use std::alloc::{AllocError, AllocFailed};
 use std::fmt;
 use std::io::{self, ErrorKind, Write};
 use thiserror::Error;
 
-/// A deck that is refused: with which fault, and why, in words.
+/// A deck that is refused: with which fault, and why, in words, with further faults.
 #[derive(Debug, Drop)]
 pub struct RefusedDeck {
     pub fault: DeckFault,
-    pub diagnosis: Diagnosis,
+    pub faults: DeckFaults,
 }
 
 impl fmt::Display for RefusedDeck {
@@ -34,7 +34,7 @@ impl fmt::Display for RefusedDeck {
 /// | Fault | Exit status | On standard error |
 /// |---|---|---|
 /// | the deck is refused | 2 | `cobix: line L: fault C` |
-/// | a deck to be listed, or written in COBOL, is refused | 2 | the same, then line, word and reason |
+/// | a deck to be listed, or written in COBOL, is refused | 2 | the same, then line, word and reason, and those of further faults |
 /// | the command line is not understood | 3 | why, and the usage |
 /// | a deck has no such file | 3 | `cobix: the deck has no file of this name` |
 /// | there is no such form of a list, or `--deck` or `--file` is alone | 3 | `cobix: `, and why |
@@ -67,23 +67,15 @@ pub enum Fault {
     Memory,
 }
 
-/// Tells what the fault of a deck means.
-fn tell_meaning<E: Write>(fault: &DeckFault, err: &mut E) -> io::Result<()> {
-    match FAULT_LINES.get(usize::from(fault.code).saturating_sub(1)) {
-        Some((_, meaning)) => writeln!(err, "{fault}: {meaning}"),
-        None => Ok(()),
-    }
-}
-
-/// Tells the fault of a deck, and why, in words, or what the fault means where there are none.
+/// Tells the fault of a deck, and why, in words, and then further faults.
 fn tell_refused<E: Write>(refused: &RefusedDeck, err: &mut E) -> io::Result<()> {
-    let diagnosis = &refused.diagnosis;
     writeln!(err, "cobix: {refused}")?;
-    if diagnosis.says_nothing() {
-        tell_meaning(&refused.fault, err)
-    } else {
-        writeln!(err, "{diagnosis}")
+    let first = &refused.faults.first;
+    writeln!(err, "{first}")?;
+    for further in &refused.faults.further {
+        writeln!(err, "{further}")?;
     }
+    Ok(())
 }
 
 /// Tells which numbers are explained.

@@ -1,24 +1,14 @@
-//! Why a deck is refused, in words.
-ghost use Rattle.std.specs.Prelude.{◌≡◌, ◌≢◌, ◌≤◌, [], List, ℕ, length, IfOk};
+//! Why a word of a deck is refused, in words.
+ghost use Rattle.std.specs.Prelude.{◌≡◌, ◌≢◌, ◌≤◌, [], List, ℕ, length, string_bytes};
 ghost use Rattle.deck_diagnosis.specs.Place.{IsPlaceInDeck, StandsAt};
 ghost use Rattle.deck_diagnosis.specs.Told.{TellsOf};
 
 use crate::place::{Place, place_of};
 use crate::text::{Hint, Reason, fitted, told_reason};
 use arrayvec::ArrayVec;
-use deck_messages::message_of;
-use deck_reader::read_deck_told;
 use deck_words::WordPlace;
 use refused_deck::{Message, Shown};
-use std::alloc::{AllocError, Global};
 use std::fmt;
-
-/// Before the first word.
-const START: WordPlace = WordPlace {
-    line: 1,
-    start: 0,
-    end: 0,
-};
 
 /// The most bytes of a word that are told.
 const TOLD_LIMIT: usize = 31;
@@ -36,11 +26,6 @@ pub struct Diagnosis {
 }
 
 impl Diagnosis {
-    /// Whether nothing is told but the line.
-    pub fn says_nothing(&self) -> bool {
-        self.why.as_str().is_empty()
-    }
-
     /// Writes all but the hints.
     fn write_reason<W: fmt::Write>(&self, f: &mut fmt::Formatter<W>) -> fmt::Result {
         let line = self.line;
@@ -93,8 +78,10 @@ fn told_place(bytes: &[u8], place: WordPlace) -> Place<'_>
 }
 
 /// A message, told of a deck.
-fn diagnosis_of(bytes: &[u8], message: &Message) -> Diagnosis
+pub fn diagnosis_of(bytes: &[u8], message: &Message) -> Diagnosis
     ensures tells { TellsOf bytes.now result }
+    ensures why { string_bytes message.now.why ≢ [] → length (string_bytes message.now.why) ≤ 110
+        → result.why.bytes ≡ string_bytes message.now.why }
     ensures at { message.now.place.start ≤ length bytes.now
         → StandsAt bytes.now message.now.place.start result.word.items }
     ensures said { result.why.bytes ≢ [] }
@@ -106,22 +93,4 @@ fn diagnosis_of(bytes: &[u8], message: &Message) -> Diagnosis
         why: told_reason(&message.why),
         hints: hints_of(&message.hints),
     }
-}
-
-/// What is told of bytes that are read as a deck.
-fn message_for(alloc: Global, bytes: &[u8]) -> Result<Message, AllocError> {
-    let read = read_deck_told(alloc, bytes);
-    if let Err(refusal) = &read {
-        return message_of(alloc, bytes, refusal);
-    }
-    Message::saying(alloc, START, "nothing is wrong with this deck")
-}
-
-/// Why a deck is refused, in words. It is read once more, for all that is known of its fault.
-pub fn diagnose(alloc: Global, bytes: &[u8]) -> Result<Diagnosis, AllocError>
-    ensures tells { IfOk result (TellsOf bytes.now) }
-    ensures said { IfOk result (λ told. told.why.bytes ≢ []) }
-{
-    let message = message_for(alloc, bytes)?;
-    Ok(diagnosis_of(bytes, &message))
 }

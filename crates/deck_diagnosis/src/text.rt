@@ -49,7 +49,8 @@ pub fn fitted<const N: usize>(text: &str) -> ArrayString<N>
 
 /// The text that is told of a word, whole or cut; where there is none, what is true of each refusal.
 pub fn told_reason(why: &str) -> Reason
-    ensures { result.bytes ≢ [] }
+    ensures said { result.bytes ≢ [] }
+    ensures whole { why.now ≢ [] → length why.now ≤ 110 → result.bytes ≡ why.now }
 {
     if why.is_empty() {
         fitted("no deck has this here")

@@ -6,7 +6,7 @@ use Rattle.std.specs.Io.KnownBytes.{Appends}
 use Rattle.deck_reader.specs.declared.deck.Deck.{Deck}
 use Rattle.deck_reader.specs.Deck.{IsDeck}
 use Rattle.deck_listing.specs.Listing.{Lists}
-use Rattle.deck_diagnosis.specs.Told.{TellsOf}
+use Rattle.deck_diagnosis.specs.Told.{AreTold}
 use Rattle.cobol_program.specs.Layout.{IsLaidOut}
 use Rattle.cobol_program.specs.declared.form.Form.{Form}
 use Rattle.cobol_program.specs.declared.form.Form.TheVariants.{Free, Fixed}
@@ -23,11 +23,11 @@ use Rattle.command_outcomes.specs.declared.fault.Fault.TheVariants.{NotListed, I
 abbrev pub WritesList : List ℕ → (before behind : Option (List ℕ)) → Type 0
 WritesList bytes before behind = (text : List ℕ) × Lists bytes text × Appends before behind text
 
--- the bytes are no deck, the fault is not want of memory, and the word that is told stands in them,
--- at the line that is told
+-- the bytes are no deck, the fault is not want of memory, and it is told first, with further faults
+-- behind it, each by a word that stands in the bytes, at the line that is told
 abbrev pub IsDeckRefused : List ℕ → RefusedDeck → Type 0
 IsDeckRefused bytes refused =
-    (refused.fault.code ≢ 8) × ((deck : Deck) → IsDeck bytes deck → ⊥) × TellsOf bytes refused.diagnosis
+    (refused.fault.code ≢ 8) × ((deck : Deck) → IsDeck bytes deck → ⊥) × AreTold bytes refused.fault refused.faults
 
 -- the form that a flag asks for
 abbrev pub form_of : Bool → Form

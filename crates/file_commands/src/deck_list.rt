@@ -28,8 +28,8 @@ pub fn refused(alloc: Global, bytes: &[u8], fault: DeckFault) -> Fault
     if fault.code == MEMORY_CODE {
         return Fault::Memory;
     }
-    match diagnose(alloc, bytes) {
-        Ok(diagnosis) => Fault::NotListed(RefusedDeck { fault, diagnosis }),
+    match diagnose(alloc, bytes, fault) {
+        Ok(faults) => Fault::NotListed(RefusedDeck { fault, faults }),
         Err(_) => Fault::Memory,
     }
 }

@@ -5,7 +5,7 @@ use Rattle.file_commands.proofs.deck_list.refused.Goals as goal
 
 pub returns-in-Ok-clause-refused : goal.returns-in-Ok-clause-refused
 returns-in-Ok-clause-refused c told is =
-    let refused : RefusedDeck = record { fault = c.args.fault; diagnosis = c.in-Ok.diagnosis } in
+    let refused : RefusedDeck = record { fault = c.args.fault; faults = c.in-Ok.faults } in
     let same : refused ≡ told = cc in
     subst (IsDeckRefused c.args.bytes.now) same
-    (c.if-fault-eq-MEMORY_CODE.false, c.requires.none c.if-fault-eq-MEMORY_CODE.false, c.in-Ok.ensures.tells)
+    (c.if-fault-eq-MEMORY_CODE.false, c.requires.none c.if-fault-eq-MEMORY_CODE.false, c.in-Ok.ensures)
