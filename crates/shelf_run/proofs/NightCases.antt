@@ -48,16 +48,18 @@ first_night = record {
   files = file (codes "CUST") (codes "cust.dat") ∷ [];
   items = [];
   statements = on (Open Output) ∷ move cust_id (Digits (codes "1")) ∷ move cust_name (Text (codes "SMITH")) ∷ on Write ∷ [];
+  places = record { lines = []; paragraphs = [] };
 }
 
 abbrev second_night : Deck
-second_night = record { files = file (codes "STOCK") (codes "stock.dat") ∷ []; items = []; statements = on (Open Input) ∷ [] }
+second_night = record { files = file (codes "STOCK") (codes "stock.dat") ∷ []; items = []; statements = on (Open Input) ∷ []; places = record { lines = []; paragraphs = [] } }
 
 abbrev third_night : Deck
 third_night = record {
   files = file (codes "STOCK") (codes "stock.dat") ∷ file (codes "OLD") (codes "cust.dat") ∷ [];
   items = [];
   statements = on_file 1 (Open Input) ∷ on_file 1 ReadNext ∷ on_file 1 ReadNext ∷ [];
+  places = record { lines = []; paragraphs = [] };
 }
 
 abbrev lines : List (List ℕ) → List ℕ
@@ -93,7 +95,7 @@ abbrev changes : List Statement
 changes = on (Open InputOutput) ∷ move cust_id (Digits (codes "2")) ∷ move cust_name (Text (codes "JONES")) ∷ on Write ∷ []
 
 abbrev change_night : Deck
-change_night = record { files = record (file (codes "CUST") (codes "cust.dat")) { access = Dynamic } ∷ []; items = []; statements = changes }
+change_night = record { files = record (file (codes "CUST") (codes "cust.dat")) { access = Dynamic } ∷ []; items = []; statements = changes; places = record { lines = []; paragraphs = [] } }
 
 abbrev first_world : World
 first_world = world_after no_files first_night
