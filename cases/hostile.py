@@ -484,7 +484,7 @@ def raced(room, texts, chosen):
     """Two runs that are started at once, and the statuses of each."""
     started = []
     for it in texts:
-        started.append(subprocess.Popen(room.words(it), stdin=subprocess.DEVNULL, stdout=subprocess.PIPE))
+        started.append(subprocess.Popen(room.words(it), stdin=subprocess.DEVNULL, stdout=subprocess.PIPE, stderr=subprocess.DEVNULL))
         if chosen.random() < 0.5:
             subprocess.run(["sleep", str(chosen.choice([0.001, 0.002, 0.004]))])
     told = [it.communicate(timeout=SECONDS)[0].decode() for it in started]
