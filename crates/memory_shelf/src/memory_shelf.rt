@@ -1,5 +1,7 @@
 //! A shelf in memory.
 ghost use Rattle.std.specs.Prelude.{◌≡◌, ◌+◌, ◌<◌, ◌≤◌, length, take, drop, IfSome, OnOk, IsOkUnless};
+ghost use Rattle.std.specs.Prelude.{IsErrOf};
+ghost use Rattle.page_store.specs.ShelfState.{FaultHasCause};
 ghost use Rattle.io_state.specs.declared.fault.Fault.TheVariants.{Memory};
 ghost use Rattle.memory_shelf.specs.MemFiles.{index_of};
 ghost use Rattle.memory_shelf.specs.MemShelves.{AddsCrashed, KeepsOthersThan};
@@ -11,12 +13,13 @@ use io_state::{Fault, FileName};
 use page_store::Shelf;
 use std::alloc::Global;
 
-/// Files in memory. The device never fails; memory may run out.
+/// Files in memory. The device never fails; memory may run out, which is counted.
 #[derive(Drop)]
 pub struct MemShelf {
     alloc: Global,
     units: Vec<FileName>,
     files: Vec<MemFile>,
+    refused: u64,
 }
 
 impl MemShelf {
@@ -35,6 +38,7 @@ impl MemShelf {
             alloc,
             units: Vec::new(alloc),
             files: Vec::new(alloc),
+            refused: 0,
         }
     }
 
@@ -56,6 +60,7 @@ impl MemShelf {
             alloc,
             units: Vec::new(alloc),
             files,
+            refused: 0,
         })
     }
 
@@ -80,12 +85,12 @@ impl Shelf for MemShelf {
 
     ghost state = { mem_state_of };
 
-    ghost fault_count = { λ _. 0 };
+    ghost fault_count = { λ shelf. shelf.refused };
 
     ghost reads_an_image = { λ shelf name _. files_sound shelf.files.items name };
 
     fn faults(&self) -> u64 {
-        0
+        self.refused
     }
 
     fn exists(&mut self, unit: usize) -> Result<bool, Fault>
@@ -96,8 +101,12 @@ impl Shelf for MemShelf {
     }
 
     fn create(&mut self, unit: usize) -> Result<(), Fault> {
-        let file = MemFile::new(self.alloc, self.units[unit])?;
-        self.files.push(file).map_err(|_| Fault::Memory)?;
+        let Ok(file) = MemFile::new(self.alloc, self.units[unit]) else {
+            return refuse(&mut self.refused);
+        };
+        if self.files.push(file).is_err() {
+            return refuse(&mut self.refused);
+        }
         Ok(())
     }
 
@@ -128,7 +137,8 @@ impl Shelf for MemShelf {
         match self.place(unit) {
             Some(place) => {
                 let file = &mut self.files[place];
-                file.write(at as usize, bytes)
+                let done = file.write(at as usize, bytes);
+                counted(&mut self.refused, done)
             }
             None => unreachable!(),
         }
@@ -138,7 +148,8 @@ impl Shelf for MemShelf {
         match self.place(unit) {
             Some(place) => {
                 let file = &mut self.files[place];
-                file.sync(self.alloc)
+                let done = file.sync(self.alloc);
+                counted(&mut self.refused, done)
             }
             None => unreachable!(),
         }
@@ -162,6 +173,27 @@ impl GrowingShelf for MemShelf {
     }
 
     fn let_go(&mut self, _unit: usize) {}
+}
+
+// Counts a call that found no memory.
+fn refuse(refused: &mut u64) -> Result<(), Fault>
+    ensures memory { IsErrOf result Memory }
+    ensures cause { FaultHasCause refused.old refused.new result }
+{
+    *refused = refused.saturating_add(1);
+    Err(Fault::Memory)
+}
+
+// Counts a call, where it found no memory.
+fn counted(refused: &mut u64, done: Result<(), Fault>) -> Result<(), Fault>
+    requires { IsOkUnless done Memory }
+    ensures same { result ≡ done }
+    ensures cause { FaultHasCause refused.old refused.new result }
+{
+    match done {
+        Ok(()) => Ok(()),
+        Err(_) => refuse(refused),
+    }
 }
 
 // Adds what a crash leaves of a file, if it leaves the file.

@@ -195,7 +195,7 @@ damaged failed full = record { device = λ e. absurd (cc); full = λ e. absurd (
 pub fails_as : (x : Fault) (i j : ℕ) (P full : Type 0) → FaultHasCause {T = Unit {0}} i j (Err x) → CallFails P (FaultsRose i j) full x
 fails_as x i j P full cause = record {
   caused = record {
-    device = λ is. cause.device (ap Err is);
+    device = λ is. cause.counted;
     full = λ is. absurd (neither Full is (λ e. cc) (λ e. cc));
     not_broken = λ is. neither Broken is (λ e. cc) (λ e. cc);
   };

@@ -1,12 +1,16 @@
 -- A file that is open, and what its making and its closing leave.
 use Rattle.std.specs.Prelude.{◌≡◌, ◌⊎◌, ℕ, ◌*◌, ◌≤◌, if◌then◌else◌, List, [], ◌∷◌, length, drop, true, false}
-use Rattle.std.specs.Prelude.{Bool, IsTrue, Some}
+use Rattle.std.specs.Prelude.{Bool, IsTrue, Some, Result, Err, OnErr}
+use Rattle.io_state.specs.declared.fault.Fault.{Fault}
+use Rattle.io_state.specs.declared.fault.Fault.TheVariants.{Memory}
+use Rattle.page_cache.specs.HeaderCalls.{MayRefuse}
 use Rattle.page_store.specs.DeviceFile.{DeviceFile, content, page_of_bytes}
 use Rattle.page_store.specs.Images.{IsSettled}
 use Rattle.page_store.specs.Moments.{Throughout}
 use Rattle.page_store.specs.Gate.{IsClosed, IsRefused, AllOpen, AllRefused, SameOrRefused}
 use Rattle.page_store.specs.Pages.{HoldsPages}
-use Rattle.page_store.specs.ShelfState.{ShelfState, HasUnit, unit_file, WhereHonest}
+use Rattle.page_store.specs.ShelfState.{ShelfState, HasUnit, unit_file, WhereHonest, FileGoes, KeepsOthers}
+use Rattle.page_store.specs.ShelfState.{FaultHasCause}
 use Rattle.page_store.specs.declared.store.Store.{Store}
 use Rattle.page_cache.specs.declared.cache.Cache.{Cache}
 use Rattle.page_cache.specs.Cached.{store_of, pages_asked, most_frames, count_restarted}
@@ -60,6 +64,19 @@ pub record IsNewPagedFile (held : PagedFile) (unit limit : ℕ) : Type 0 where
 -- what reads give is as it was, or is refused, or the file is refused after every crash
 abbrev pub IsKeptOrRefused : DeviceFile → DeviceFile → Type 0
 IsKeptOrRefused old new = SameOrRefused old new ⊎ AllRefused new
+
+-- of shelves that show this state and count their faults so: a call that makes this unit's file and
+-- changes no other. At each moment a crash leaves what it could leave before, or a refused file, and
+-- after a fault the file has gone so. It gives up where a call on the unit failed, or where memory
+-- lacked before the first
+pub record MakesPagedFile {H X : Type 0} (state : H → ShelfState) (count : H → ℕ) (unit : ℕ) (before after : H)
+    (result : Result X Fault) : Type 0 where
+  pub images : MayRefuse unit (state before) (state after)
+  pub failed : OnErr result (IsTrue (state after).is_honest
+      → FileGoes unit (state before) (state after) IsKeptOrRefused)
+  pub others : KeepsOthers unit (state before) (state after)
+  pub no_fewer : count before ≤ count after
+  pub cause : FaultHasCause (count before) (count after) result ⊎ ((result ≡ Err Memory) × (after ≡ before))
 
 -- these bytes have a closed gate, this header, and the pages that the cache showed, each of them whole
 pub record IsClosedWith (page : List ℕ) (cache : Cache) (shelf : ShelfState) (bytes : List ℕ) : Type 0 where

@@ -3,8 +3,7 @@ ghost use Rattle.std.specs.Prelude.{◌≡◌, ◌<◌, ◌≤◌, true, false, 
 ghost use Rattle.std.specs.NonZero.{non_zero_usize_get};
 ghost use Rattle.page_store.specs.ShelfState.{HasUnit, KeepsOthers, FaultHasCause};
 ghost use Rattle.page_cache.specs.Calls.{ShowsSame};
-ghost use Rattle.page_cache.specs.HeaderCalls.{OpensGate};
-ghost use Rattle.page_alloc.specs.PagedFile.{IsOpenOver, IsNewPagedFile, IsOldPagedFile, IsKeptOrRefused};
+ghost use Rattle.page_alloc.specs.PagedFile.{IsOpenOver, IsNewPagedFile, IsOldPagedFile, MakesPagedFile};
 ghost use Rattle.page_alloc.specs.PagedFile.{MayShut, IsShut, cache_of, counts_of, is_begun, begun_from};
 ghost use Rattle.page_alloc.specs.PagedFile.{unit_of_pages, most_held, asked_anew};
 ghost use Rattle.page_alloc.specs.Joining.{pages_counted};
@@ -28,7 +27,9 @@ pub struct PagedFile {
 
 impl PagedFile {
     /// Makes the file, or makes it anew, with this header and no other page; at most `frames` pages
-    /// are held later. Its gate is open. A fault leaves the file as it was, or one that is refused.
+    /// are held later, for which it has the memory from now on. Its gate is open. Where that memory
+    /// lacks, nothing is asked of the shelf; any other fault is one of the shelf, and leaves the file
+    /// as it was, or one that is refused.
     pub fn create<S: Shelf>(
         alloc: Global,
         shelf: &mut S,
@@ -41,21 +42,21 @@ impl PagedFile {
         ensures made { IfOk result (λ held. IsNewPagedFile held unit limit) }
         ensures ready { IfOk result (λ held. IsOpenOver held (S.state shelf.new)) }
         ensures frames { IfOk result (λ held. most_held held ≡ non_zero_usize_get frames) }
-        ensures opens { OpensGate S.state S.fault_count unit IsKeptOrRefused shelf.old shelf.new result }
+        ensures opens { MakesPagedFile S.state S.fault_count unit shelf.old shelf.new result }
     {
+        let cache = Cache::new(alloc, Store { unit, pages: 0 }, frames)?;
         let mut store = Store::make(shelf, unit)?;
         store.write_page(shelf, 0, header)?;
-        let cache = Cache::new(alloc, store, frames)?;
         Ok(PagedFile {
-            cache,
+            cache: cache.over(store),
             pager: Pager::fresh(limit),
             changed: true,
         })
     }
 
     /// The pages of a file that is there, of which the pager was read from its header; at most
-    /// `frames` are held later. Nothing is read, and its gate stays as it is. Memory is the only
-    /// fault.
+    /// `frames` are held later, for which it has the memory from now on. Nothing is read, and its gate
+    /// stays as it is. Memory is the only fault.
     pub fn open(
         alloc: Global,
         store: Store,
@@ -95,8 +96,8 @@ impl PagedFile {
         self.cache.restart_count();
     }
 
-    /// Opens the gate before the first change; later it does nothing. A fault leaves all pages as they were,
-    /// and the file as it was or refused; the call may be made again.
+    /// Opens the gate before the first change; later it does nothing. A fault is one of the shelf, and leaves
+    /// all pages as they were, and the file as it was or refused; the call may be made again.
     pub fn begin<S: Shelf>(&mut self, shelf: &mut S) -> Result<(), Fault>
         requires ready { IsOpenOver self.old (S.state shelf.old) }
         ensures begun { MatchResult result (λ _. self.new ≡ begun_from self.old)

@@ -1,5 +1,5 @@
 -- What a page of zeros that is added leaves of the list of pages.
-use Rattle.std.proofs.Common.{◌-◌, ◌≤◌, zero, suc, ◌≡◌, ◌≢◌, inl, inr, ℕ, ◌+◌, ◌<◌, max, ltb, ◌&&◌, true, false, if◌then◌else◌, List, [], length, get_or, replicate, Option, Some, None, refl, sym, ◌∙◌, ap, subst, arith, IsTrue, Result, Ok, Err, OnOk, OnErr, nat_eq, slice_get}
+use Rattle.std.proofs.Common.{◌≤◌, zero, suc, ◌≡◌, ◌≢◌, inl, inr, ℕ, ◌+◌, ◌<◌, max, ltb, ◌&&◌, true, false, if◌then◌else◌, List, [], length, get_or, replicate, Option, Some, None, refl, sym, ◌∙◌, ap, subst, arith, IsTrue, Result, Ok, Err, OnOk, OnErr, slice_get}
 use Rattle.std.specs.Prelude.{MatchResult}
 use Rattle.std.specs.Option.{option_map_or}
 use Rattle.std.proofs.lemmas.Bool.{cases_Bool, and_parts, and_from, ltb-true, ltb-false, lt-ltb, le-ltb, both_ways, and_right}
@@ -7,21 +7,18 @@ use Rattle.page_store.specs.DeviceFile.{DeviceFile, content, page_of_bytes}
 use Rattle.page_store.specs.Pages.{HoldsPages, PageWritten, PageFails}
 use Rattle.page_store.proofs.PageLemmas.{written_is_read, others_read, others_kept}
 use Rattle.io_state.specs.declared.fault.Fault.{Fault}
-use Rattle.page_cache.proofs.WriteLemmas.{over_positive, same_unit}
+use Rattle.page_cache.proofs.WriteLemmas.{over_positive, same_unit, held_at}
 use Rattle.page_store.specs.ShelfState.{ShelfState, HasUnit, unit_file, WhereHonest, ChangesOnly}
 use Rattle.page_store.specs.declared.store.Store.{Store}
-use Rattle.page_cache.specs.declared.frame.Frame.{Frame}
 use Rattle.page_cache.specs.declared.cache.Cache.{Cache}
 use Rattle.page_cache.specs.Cached.{frame_of, is_counted_page, cached_pages_of, IsOver}
 use Rattle.page_cache.specs.Calls.{KeepsPages, Zeroed, MayGoOn}
 use Rattle.page_cache.specs.Quietly.{GoesQuietly}
 use Rattle.page_cache.proofs.QuietLemmas.{goes_then}
-use Rattle.page_cache.specs.Turning.{HasRoom}
+use Rattle.page_cache.specs.HeldFrames.{Frame, held_frames, put_at, IsSeated}
+use Rattle.page_cache.specs.Room.{HasRoom}
 use Rattle.page_cache.specs.Rewrites.{Extends, AddsPage, IsZeros}
-use Rattle.page_cache.proofs.PutLemmas.{Brought, brought, cap_kept}
-use Rattle.lru.specs.LruCache.{IsValid, lru_cache, put_entries}
-use Rattle.std.specs.Cmp.{nat_eq_equiv}
-use Rattle.std.proofs.lemmas.Map.Entries.{lookup_from_place}
+use Rattle.page_cache.proofs.PutLemmas.{Brought, brought}
 
 parts : (c : Cache) (k : ℕ) → is_counted_page c k ≡ true → (0 < k) × (k < c.store.pages)
 parts c k is = let p = and_parts (ltb 0 k) (ltb k c.store.pages) is in (ltb-true 0 k p.0, ltb-true k c.store.pages p.1)
@@ -45,8 +42,8 @@ module _ (c d : Cache) (s t : ShelfState) (frames : d.frames ≡ c.frames) (ext 
   -- a page that both count, or neither
   pub page_kept : IsTrue t.is_honest → (k : ℕ) → is_counted_page d k ≡ is_counted_page c k → cached_pages_of d t k ≡ cached_pages_of c s k
   page_kept h k both =
-      ap (λ o. option_map_or (λ (f : Frame). f.page.value) o (if is_counted_page d k then page_of_bytes (content (unit_file t d.store.unit)) k else [])) (same_frame k)
-      ∙ ap (option_map_or (λ (f : Frame). f.page.value) (frame_of c k)) stored
+      ap (λ o. option_map_or (λ (f : Frame). f.page) o (if is_counted_page d k then page_of_bytes (content (unit_file t d.store.unit)) k else [])) (same_frame k)
+      ∙ ap (option_map_or (λ (f : Frame). f.page) (frame_of c k)) stored
     where
       stored : (if is_counted_page d k then page_of_bytes (content (unit_file t d.store.unit)) k else []) ≡ (if is_counted_page c k then page_of_bytes (content (unit_file s c.store.unit)) k else [])
       stored = elim (cases_Bool (is_counted_page c k)) [
@@ -147,23 +144,28 @@ all_added c d s t n low last frames ext over goes (Err x) added kept zeros =
       goes_on = record { over = here; cap = ap (λ f. f.cap) frames; goes = goes };
     }
 
--- the frames were given room, a page was added to the store, and put in front of them where memory sufficed
-module _ (c e d : Cache) (t u : ShelfState) (n : ℕ) (frame : Frame) (low : 0 < n) (last : n ≡ c.store.pages) (over : IsOver c t) (room : HasRoom c t) (valid : IsValid nat_eq c.frames)
-    (frames : e.frames ≡ c.frames) (ext : Extends c.store e.store t u) (goes : GoesQuietly c.store.unit t u) (adds : AddsPage n frame.page.value c.store e.store u) (zeros : IsZeros frame.page.value) (unchanged : frame.changed ≡ false)
-    (store : d.store ≡ e.store) (r : Result (Unit {0}) Fault) (put : OnOk r (d.frames ≡ lru_cache (put_entries nat_eq e.frames n frame) e.frames.cap)) (kept : OnErr r (d.frames ≡ e.frames)) where
+-- a page was added to the store, and put at a place that has room
+module _ (c e d : Cache) (t u : ShelfState) (place n : ℕ) (frame : Frame) (low : 0 < n) (last : n ≡ c.store.pages) (over : IsOver c t) (room : HasRoom place c t)
+    (frames : e.frames ≡ c.frames) (ext : Extends c.store e.store t u) (goes : GoesQuietly c.store.unit t u) (adds : AddsPage n frame.page c.store e.store u) (zeros : IsZeros frame.page) (unchanged : frame.changed ≡ false)
+    (store : d.store ≡ e.store) (put : d.frames ≡ held_frames (put_at place (n, frame) e.frames.entries) e.frames.cap) where
   added : Added n (Ok tt) c e t u
   added = all_added c e t u n low last frames ext over goes (Ok tt) adds.store tt (λ h. subst IsZeros (sym (adds.written h)) zeros)
 
   unit : e.store.unit ≡ c.store.unit
   unit = ap (λ x. x.unit) adds.store
 
-  room_kept : HasRoom e u
+  room_kept : HasRoom place e u
   room_kept = record {
-    settled = λ honest m other is.
-        let was = ap (λ f. slice_get f.entries (f.cap - 1)) (sym frames) ∙ is in
-        let held = lookup_from_place nat_eq_equiv c.frames.entries (c.frames.cap - 1) m other valid.0 was in
-        let below = (parts c m (over.counted m other held)).1 in
-        room.settled (goes.others.honest honest) m other was ∙ sym (ext.others honest m below) ∙ ap (λ x. page_of_bytes (content (unit_file u x)) m) (sym unit);
+    written = record {
+      settled = λ honest m other is.
+          let was = ap (λ f. slice_get f.entries place) (sym frames) ∙ is in
+          let held = held_at c place m other room.seated was in
+          let below = (parts c m (over.counted m other held)).1 in
+          room.written.settled (goes.others.honest honest) m other was ∙ sym (ext.others honest m below) ∙ ap (λ x. page_of_bytes (content (unit_file u x)) m) (sym unit);
+    };
+    seated = subst IsSeated (sym frames) room.seated;
+    next = subst (λ f. place ≤ length f.entries) (sym frames) room.next;
+    room = subst (λ f. place < f.cap) (sym frames) room.room;
   }
 
   pages : e.store.pages ≡ n + 1
@@ -173,15 +175,11 @@ module _ (c e d : Cache) (t u : ShelfState) (n : ℕ) (frame : Frame) (low : 0 <
   counted = rw pages (and_from (ltb 0 n) (ltb n (n + 1)) (lt-ltb 0 n low) (lt-ltb n (n + 1) (omega arith)))
 
   absent : frame_of e n ≡ None
-  absent = go (frame_of c n) refl
-    where
-      go : (o : Option Frame) → frame_of c n ≡ o → frame_of e n ≡ None
-      go None is = ap (λ f. frame_of (record c { frames = f }) n) frames ∙ is
-      go (Some other) is = let below = (parts c n (over.counted n other is)).1 in absurd (omega arith)
+  absent = ap (λ f. frame_of (record c { frames = f }) n) frames ∙ absent_past c t n over last
 
-  held : Brought n r e d u u
-  held = brought e d u u n frame added.goes_on.over room_kept (subst (λ f. length f.entries ≤ f.cap) (sym frames) valid.1) counted absent store (record { names = refl; file = refl; honest = λ h. h }) unchanged
-      (λ h. sym (adds.written h) ∙ ap (λ x. page_of_bytes (content (unit_file u x)) n) (sym unit)) r put kept
+  held : Brought n e d u u
+  held = brought e d u u place n frame added.goes_on.over room_kept counted absent store (record { names = refl; file = refl; honest = λ h. h }) unchanged
+      (λ h. sym (adds.written h) ∙ ap (λ x. page_of_bytes (content (unit_file u x)) n) (sym unit)) put
 
   pub zeroed_put : Zeroed n c d t u
   zeroed_put = record {
@@ -191,7 +189,7 @@ module _ (c e d : Cache) (t u : ShelfState) (n : ℕ) (frame : Frame) (low : 0 <
   }
 
   pub goes_on_put : MayGoOn c d t u
-  goes_on_put = record { over = held.over; cap = cap_kept e.frames e.frames d.frames _ r refl put kept ∙ added.goes_on.cap; goes = goes }
+  goes_on_put = record { over = held.over; cap = ap (λ f. f.cap) put ∙ added.goes_on.cap; goes = goes }
 
 pub zeroed_then : (n : ℕ) (old c d : Cache) (s t u : ShelfState) → KeepsPages old c s t → GoesQuietly c.store.unit t u → Zeroed n c d t u → Zeroed n old d s u
 zeroed_then n old c d s t u before goes z = record {

@@ -1,20 +1,21 @@
--- The cause of a fault that memory is, or that is handed on.
-use Rattle.std.proofs.Common.{◌≡◌, inl, inr, ℕ, ◌≤◌, Result, Ok, Err, OnErr, ap, arith}
+-- The cause of a fault that is handed on.
+use Rattle.std.proofs.Common.{◌≡◌, inl, inr, ℕ, ◌≤◌, Result, Ok, Err, ap, arith}
 use Rattle.std.specs.Prelude.{IsErrAnd}
 use Rattle.std.proofs.lemmas.Result.{err_from_is_err_and}
 use Rattle.io_state.specs.declared.fault.Fault.{Fault}
 use Rattle.io_state.specs.declared.fault.Fault.TheVariants.{Device, Memory}
 use Rattle.page_store.specs.ShelfState.{FaultHasCause}
 
-pub memory_cause : {X : Type 0} (r : Result X Fault) (i j : ℕ) → i ≤ j → OnErr r (r ≡ Err Memory) → FaultHasCause i j r
-memory_cause (Ok x) i j le is = record { no_fewer = le; device = λ d. absurd (cc); kinds = tt }
-memory_cause (Err e) i j le is = record { no_fewer = le; device = λ d. absurd (cc); kinds = inr is }
+-- a call that did not fail
+pub no_cause : {X : Type 0} (x : X) (i j : ℕ) → i ≤ j → FaultHasCause i j (Ok x)
+no_cause x i j le = record { no_fewer = le; counted = tt; kinds = tt }
 
 -- it has its cause since before
 pub cause_since : {X : Type 0} (r : Result X Fault) (i j k : ℕ) → i ≤ j → FaultHasCause j k r → FaultHasCause i k r
-cause_since r i j k le cause = record {
+cause_since (Ok x) i j k le cause = no_cause x i k (let a = cause.no_fewer in omega arith)
+cause_since (Err e) i j k le cause = record {
   no_fewer = let a = cause.no_fewer in omega arith;
-  device = λ d. let a = cause.device d in omega arith;
+  counted = let a = cause.counted in omega arith;
   kinds = cause.kinds;
 }
 
@@ -27,6 +28,6 @@ handed_on r fault i j was cause =
     let p = err_from_is_err_and r was in
     rw (p.1, p.2) (record {
       no_fewer = cause.no_fewer;
-      device = λ d. cause.device (ap Err (bare fault Device d));
+      counted = cause.counted;
       kinds = elim cause.kinds [ inl d ↦ inl (ap Err (bare fault Device d)) | inr m ↦ inr (ap Err (bare fault Memory m)) ];
     })

@@ -9,7 +9,7 @@ use Rattle.page_store.specs.Pages.{HoldsPages, PageWritten, PageFails}
 use Rattle.page_store.proofs.PageLemmas.{others_read, others_kept}
 use Rattle.page_store.specs.ShelfState.{ShelfState, HasUnit, unit_file, WhereHonest, KeepsOthers, ChangesOnly}
 use Rattle.page_store.specs.declared.store.Store.{Store}
-use Rattle.page_cache.specs.declared.frame.Frame.{Frame}
+use Rattle.page_cache.specs.HeldFrames.{Frame}
 use Rattle.page_cache.specs.declared.cache.Cache.{Cache}
 use Rattle.page_cache.specs.Cached.{frame_of, is_counted_page, cached_pages_of, IsOver}
 use Rattle.page_cache.specs.Calls.{ShowsSame}
@@ -35,7 +35,7 @@ module _ (c : Cache) (s t : ShelfState) (keeps : HeaderKept c.store s t) where
   }
 
   pub pages_kept : IsTrue t.is_honest → cached_pages_of c t ≡ cached_pages_of c s
-  pages_kept honest = λ i k. ap (option_map_or (λ (f : Frame). f.page.value) (frame_of c k)) (stored k) i
+  pages_kept honest = λ i k. ap (option_map_or (λ (f : Frame). f.page) (frame_of c k)) (stored k) i
     where
       stored : (k : ℕ) → (if is_counted_page c k then page_of_bytes (content (unit_file t c.store.unit)) k else []) ≡ (if is_counted_page c k then page_of_bytes (content (unit_file s c.store.unit)) k else [])
       stored k = elim (cases_Bool (is_counted_page c k)) [

@@ -5,12 +5,12 @@ use Rattle.std.proofs.lemmas.Bool.{cases_eq, both_ways}
 use Rattle.page_store.specs.DeviceFile.{content, page_of_bytes}
 use Rattle.page_store.specs.Pages.{HoldsPages}
 use Rattle.page_store.specs.ShelfState.{ShelfState, HasUnit, unit_name, unit_file, OnlyAnswers}
-use Rattle.page_cache.specs.declared.frame.Frame.{Frame}
+use Rattle.page_cache.specs.HeldFrames.{Frame}
 use Rattle.page_cache.specs.declared.cache.Cache.{Cache}
 use Rattle.page_cache.specs.Lending.{FrameSet}
 use Rattle.page_cache.specs.Cached.{frame_of, bytes_held, is_counted_page, cached_pages_of, IsOver, IsClean}
 use Rattle.page_cache.specs.Calls.{KeepsPages}
-use Rattle.page_cache.proofs.QuietLemmas.{goes_nowhere}
+use Rattle.page_cache.proofs.QuietLemmas.{goes_nowhere, reads_quietly}
 
 pub counted_same : (c d : Cache) (n : ℕ) → d.store ≡ c.store → IsTrue (is_counted_page c n) → IsTrue (is_counted_page d n)
 counted_same c d n same is = subst (λ x. IsTrue (is_counted_page (record c { store = x }) n)) (sym same) is
@@ -28,14 +28,14 @@ clean_same c d same clean = record { clean = λ n frame is. clean.clean n frame 
 
 pages_same_at : (c d : Cache) (s : ShelfState) (k : ℕ) → d.store ≡ c.store → frame_of d k ≡ frame_of c k → cached_pages_of d s k ≡ cached_pages_of c s k
 pages_same_at c d s k store same =
-    ap (λ o. option_map_or (λ (frame : Frame). frame.page.value) o (if is_counted_page d k then page_of_bytes (content (unit_file s d.store.unit)) k else [])) same
-    ∙ ap (λ x. option_map_or (λ (frame : Frame). frame.page.value) (frame_of c k) (if ltb 0 k && ltb k x.pages then page_of_bytes (content (unit_file s x.unit)) k else [])) store
+    ap (λ o. option_map_or (λ (frame : Frame). frame.page) o (if is_counted_page d k then page_of_bytes (content (unit_file s d.store.unit)) k else [])) same
+    ∙ ap (λ x. option_map_or (λ (frame : Frame). frame.page) (frame_of c k) (if ltb 0 k && ltb k x.pages then page_of_bytes (content (unit_file s x.unit)) k else [])) store
 
 -- the same frames show the same pages
 pub pages_same : (c d : Cache) (s : ShelfState) → d.store ≡ c.store → ((k : ℕ) → frame_of d k ≡ frame_of c k) → cached_pages_of d s ≡ cached_pages_of c s
 pages_same c d s store same = λ i k. pages_same_at c d s k store (same k) i
 
-mapped : (o : Option Frame) (w rest : List ℕ) → option_map (λ frame. frame.page.value) o ≡ Some w → option_map_or (λ frame. frame.page.value) o rest ≡ w
+mapped : (o : Option Frame) (w rest : List ℕ) → option_map (λ frame. frame.page) o ≡ Some w → option_map_or (λ frame. frame.page) o rest ≡ w
 mapped None w rest is = absurd (cc)
 mapped (Some frame) w rest is = cc
 
@@ -80,7 +80,7 @@ module _ (c : Cache) (t u : ShelfState) (only : OnlyAnswers t u) where
   file_read = ap (λ file. file (unit_name u c.store.unit)) only.file ∙ ap (λ names. t.file (unit_name (record t { names = names }) c.store.unit)) only.names
 
   pub pages_read : cached_pages_of c u ≡ cached_pages_of c t
-  pages_read = λ i k. option_map_or (λ (f : Frame). f.page.value) (frame_of c k) (if is_counted_page c k then page_of_bytes (content (file_read i)) k else [])
+  pages_read = λ i k. option_map_or (λ (f : Frame). f.page) (frame_of c k) (if is_counted_page c k then page_of_bytes (content (file_read i)) k else [])
 
   pub over_read : IsOver c t → IsOver c u
   over_read over = record {
@@ -102,3 +102,14 @@ keeps_frames c d s store same cap over = record {
 -- nothing but the count of pages asked has changed
 pub keeps_same : (c d : Cache) (s : ShelfState) → d.store ≡ c.store → d.frames ≡ c.frames → IsOver c s → KeepsPages c d s s
 keeps_same c d s store frames over = keeps_frames c d s store (λ k. ap (λ f. frame_of (record c { frames = f }) k) frames) (ap (λ f. f.cap) frames) over
+
+-- the shelf only answered, and the frames are the same
+pub keeps_read : (c d : Cache) (s t : ShelfState) → d.store ≡ c.store → d.frames ≡ c.frames → OnlyAnswers s t → IsOver c s → KeepsPages c d s t
+keeps_read c d s t store frames only over =
+    let same : (k : ℕ) → frame_of d k ≡ frame_of c k = λ k. ap (λ f. frame_of (record c { frames = f }) k) frames in
+    record {
+      over = over_same c d t store same (over_read c s t only over);
+      pages = λ honest. pages_same c d t store same ∙ pages_read c s t only;
+      keeps = record { store = store; cap = ap (λ f. f.cap) frames };
+      goes = reads_quietly c.store.unit s t only;
+    }

@@ -1,286 +1,250 @@
--- What the frames in their places are to a look-up, and how they go along with the order of the pages.
-use Rattle.std.proofs.Common.{zero, suc, ◌≡◌, ◌≢◌, inl, inr, ℕ, ◌+◌, ◌-◌, ◌<◌, ◌≤◌, Bool, true, false, nat_eq, Option, Some, None, option_map, List, [], ◌∷◌, ◌++◌, length, map, take, slice_get, refl, sym, ◌∙◌, ap, subst, arith, is_some, Contains}
+-- What the rows of numbers and frames are to a look-up.
+use Rattle.std.proofs.Common.{zero, suc, ◌≡◌, ◌≢◌, inl, inr, ℕ, ◌+◌, ◌<◌, ◌≤◌, Bool, true, false, is_some, nat_eq, Some, None, List, [], ◌∷◌, ◌++◌, length, get_or, set, slice_get, option_map, refl, sym, ◌∙◌, ap, subst, arith}
 use Rattle.std.specs.List.{IsDistinct, AllByRecursion}
-use Rattle.std.specs.Prelude.{slice_index_or, slice_set}
-use Rattle.std.specs.Map.{keys_of, lookup, lookup_entry, remove_entry, set_value}
-use Rattle.std.specs.Option.{option_map_or}
-use Rattle.std.proofs.lemmas.Bool.{cases_Bool, eqb-false}
-use Rattle.std.proofs.lemmas.List.{map-append, length-map, length-set, length-append, get_or_default, get_or-set_same, get_or-set_other, get_or_append_left, take-map, take_all, length-take}
-use Rattle.std.proofs.lemmas.Option.{slice_get-map}
-use Rattle.std.proofs.lemmas.Map.Made.{lookup-map_values, keys_of-map_values}
-use Rattle.std.proofs.lemmas.Map.Keys.{IsDistinct-head, IsDistinct-tail}
-use Rattle.lru.specs.LruCache.{LruCache, lru_cache, put_entries, promoted, demoted, IsValid, last_entry}
-use Rattle.lru.proofs.CallerLemmas.{Contains-promoted, Contains-demoted, Contains-take}
-use Rattle.lru.proofs.Splits.{Contains-head, Contains-tail, Contains-cons, Contains-nil}
-use Rattle.page_cache.specs.Places.{framed, IsPlaced}
-use Rattle.page_cache.proofs.FrameLemmas.{put_front}
+use Rattle.std.specs.Cmp.{nat_eq_equiv}
+use Rattle.std.specs.Map.{keys_of, lookup, set_value}
+use Rattle.std.proofs.lemmas.Bool.{cases_Bool, eqb-false, eq-eqb, ne_eqb}
+use Rattle.std.proofs.lemmas.List.{length-set, length-append, get_or_default}
+use Rattle.std.proofs.lemmas.Map.Entries.{lookup_from_place}
+use Rattle.std.proofs.lemmas.Map.Keys.{IsDistinct-head, IsDistinct-tail, IsDistinct-cons}
+use Rattle.page_cache.specs.HeldFrames.{Frame, put_at, settled}
+use Rattle.page_cache.specs.Places.{marked, paired, ArePaired}
 
-at_place : {Y : Type 0} (es : List Y) (i : ℕ) (e : Y) → slice_get es i ≡ Some e → Contains es e
-at_place [] i e is = absurd (cc)
-at_place (f ∷ es) zero e is = let same : f ≡ e = ap (λ (o : Option _). option_map_or (λ q. q) o f) is in subst (Contains (f ∷ es)) same (Contains-head f es)
-at_place (f ∷ es) (suc i) e is = Contains-tail f es e (at_place es i e is)
+-- page n stands nowhere
+abbrev pub Absent : ℕ → List ℕ → Type 0
+Absent n ns = (p : ℕ) → p < length ns → get_or ns p 0 ≢ n
 
-length_removed : (test : ℕ → Bool) (es : List (ℕ × ℕ)) (e : ℕ × ℕ) → lookup_entry test es ≡ Some e → length (remove_entry test es) + 1 ≡ length es
-length_removed test [] e is = absurd (cc)
-length_removed test (f ∷ es) e is = elim (cases_Bool (test f.0)) [
-  | inl hit ↦ rw hit (omega arith)
-  | inr miss ↦ let rest = length_removed test es e (rw miss at is) in rw miss (omega arith)
+all_at : (P : ℕ → Type 0) (ns : List ℕ) (p : ℕ) → AllByRecursion P ns → p < length ns → P (get_or ns p 0)
+all_at P [] p all low = absurd (omega arith)
+all_at P (n ∷ ns) zero all low = all.0
+all_at P (n ∷ ns) (suc p) all low = all_at P ns p all.1 (omega arith)
+
+absent_tail : (n m : ℕ) (ns : List ℕ) → Absent n (m ∷ ns) → Absent n ns
+absent_tail n m ns absent p low = absent (suc p) (omega arith)
+
+absent_head : (n m : ℕ) (ns : List ℕ) → Absent n (m ∷ ns) → m ≢ n
+absent_head n m ns absent = absent 0 (omega arith)
+
+apart_all : (n : ℕ) (ns : List ℕ) → Absent n ns → AllByRecursion (λ y. nat_eq n y ≡ false) ns
+apart_all n [] absent = tt
+apart_all n (m ∷ ns) absent = (ne_eqb n m (λ same. absent_head n m ns absent (sym same)), apart_all n ns (absent_tail n m ns absent))
+
+apart_set : (m n : ℕ) (ns : List ℕ) (p : ℕ) → m ≢ n → AllByRecursion (λ y. nat_eq m y ≡ false) ns → AllByRecursion (λ y. nat_eq m y ≡ false) (set ns p n)
+apart_set m n [] p differs all = tt
+apart_set m n (k ∷ ns) zero differs all = (ne_eqb m n differs, all.1)
+apart_set m n (k ∷ ns) (suc p) differs all = (all.0, apart_set m n ns p differs all.1)
+
+apart_push : (m n : ℕ) (ns : List ℕ) → m ≢ n → AllByRecursion (λ y. nat_eq m y ≡ false) ns → AllByRecursion (λ y. nat_eq m y ≡ false) (ns ++ n ∷ [])
+apart_push m n [] differs all = (ne_eqb m n differs, tt)
+apart_push m n (k ∷ ns) differs all = (all.0, apart_push m n ns differs all.1)
+
+-- a page that stands nowhere, put at a place or behind the last
+pub distinct_set : (n : ℕ) (ns : List ℕ) (p : ℕ) → IsDistinct nat_eq ns → Absent n ns → IsDistinct nat_eq (set ns p n)
+distinct_set n [] p distinct absent = distinct
+distinct_set n (m ∷ ns) zero distinct absent = IsDistinct-cons nat_eq n ns (apart_all n ns (absent_tail n m ns absent)) (IsDistinct-tail nat_eq m ns distinct)
+distinct_set n (m ∷ ns) (suc p) distinct absent =
+    IsDistinct-cons nat_eq m (set ns p n) (apart_set m n ns p (absent_head n m ns absent) (IsDistinct-head nat_eq m ns distinct))
+    (distinct_set n ns p (IsDistinct-tail nat_eq m ns distinct) (absent_tail n m ns absent))
+
+pub distinct_push : (n : ℕ) (ns : List ℕ) → IsDistinct nat_eq ns → Absent n ns → IsDistinct nat_eq (ns ++ n ∷ [])
+distinct_push n [] distinct absent = IsDistinct-cons nat_eq n [] tt distinct
+distinct_push n (m ∷ ns) distinct absent =
+    IsDistinct-cons nat_eq m (ns ++ n ∷ []) (apart_push m n ns (absent_head n m ns absent) (IsDistinct-head nat_eq m ns distinct))
+    (distinct_push n ns (IsDistinct-tail nat_eq m ns distinct) (absent_tail n m ns absent))
+
+pub paired_length : (ns : List ℕ) (xs : List Frame) → length xs ≡ length ns → length (paired ns xs) ≡ length ns
+paired_length [] xs long = refl
+paired_length (n ∷ ns) [] long = absurd (omega arith)
+paired_length (n ∷ ns) (x ∷ xs) long = ap suc (paired_length ns xs (omega arith))
+
+pub paired_keys : (ns : List ℕ) (xs : List Frame) → length xs ≡ length ns → keys_of (paired ns xs) ≡ ns
+paired_keys [] xs long = refl
+paired_keys (n ∷ ns) [] long = absurd (omega arith)
+paired_keys (n ∷ ns) (x ∷ xs) long = ap (λ l. n ∷ l) (paired_keys ns xs (omega arith))
+
+pub paired_at : (ns : List ℕ) (xs : List Frame) (p : ℕ) (x : Frame) → length xs ≡ length ns → p < length ns → x ≡ get_or xs p x → slice_get (paired ns xs) p ≡ Some (get_or ns p 0, x)
+paired_at [] xs p x long low is = absurd (omega arith)
+paired_at (n ∷ ns) [] p x long low is = absurd (omega arith)
+paired_at (n ∷ ns) (y ∷ xs) zero x long low is = ap (λ v. Some (n, v)) (sym is)
+paired_at (n ∷ ns) (y ∷ xs) (suc p) x long low is = paired_at ns xs p x (omega arith) (omega arith) is
+
+pub paired_none : (n : ℕ) (ns : List ℕ) (xs : List Frame) → Absent n ns → lookup (nat_eq n) (paired ns xs) ≡ None
+paired_none n [] xs absent = refl
+paired_none n (m ∷ ns) [] absent = refl
+paired_none n (m ∷ ns) (x ∷ xs) absent = rw (ne_eqb n m (λ same. absent_head n m ns absent (sym same))) (paired_none n ns xs (absent_tail n m ns absent))
+
+pub paired_found : (n : ℕ) (ns : List ℕ) (xs : List Frame) (p : ℕ) (x : Frame) → IsDistinct nat_eq ns → length xs ≡ length ns → p < length ns → get_or ns p 0 ≡ n → x ≡ get_or xs p x → lookup (nat_eq n) (paired ns xs) ≡ Some x
+paired_found n ns xs p x distinct long low number is =
+    lookup_from_place nat_eq_equiv (paired ns xs) p n x (subst (IsDistinct nat_eq) (sym (paired_keys ns xs long)) distinct)
+    (paired_at ns xs p x long low is ∙ ap (λ m. Some (m, x)) number)
+
+pub paired_held : (n : ℕ) (ns : List ℕ) (xs : List Frame) (p : ℕ) → length xs ≡ length ns → p < length ns → get_or ns p 0 ≡ n → true ≡ is_some (lookup (nat_eq n) (paired ns xs))
+paired_held n [] xs p long low is = absurd (omega arith)
+paired_held n (m ∷ ns) [] p long low is = absurd (omega arith)
+paired_held n (m ∷ ns) (x ∷ xs) zero long low is = rw (eq-eqb n m (sym is)) refl
+paired_held n (m ∷ ns) (x ∷ xs) (suc p) long low is = elim (cases_Bool (nat_eq n m)) [
+  | inl hit ↦ rw hit refl
+  | inr miss ↦ rw miss (paired_held n ns xs p (omega arith) (omega arith) is)
 ]
 
-length_promoted : (test : ℕ → Bool) (es : List (ℕ × ℕ)) → length (promoted test es) ≡ length es
-length_promoted test es = go (lookup_entry test es) refl
-  where
-    go : (o : Option (ℕ × ℕ)) → lookup_entry test es ≡ o → length (option_map_or (λ e. e ∷ remove_entry test es) o es) ≡ length es
-    go None is = refl
-    go (Some e) is = let less = length_removed test es e is in omega arith
+-- what is not found stands nowhere
+pub absent_from : (n : ℕ) (ns : List ℕ) (xs : List Frame) → length xs ≡ length ns → lookup (nat_eq n) (paired ns xs) ≡ None → Absent n ns
+absent_from n ns xs long none p low same = let clash = paired_held n ns xs p long low same ∙ ap is_some none in absurd (cc)
 
-length_demoted : (test : ℕ → Bool) (es : List (ℕ × ℕ)) → length (demoted test es) ≡ length es
-length_demoted test es = go (lookup_entry test es) refl
-  where
-    go : (o : Option (ℕ × ℕ)) → lookup_entry test es ≡ o → length (option_map_or (λ e. remove_entry test es ++ e ∷ []) o es) ≡ length es
-    go None is = refl
-    go (Some e) is =
-        let less = length_removed test es e is in
-        let joined = length-append (remove_entry test es) (e ∷ []) in
-        omega arith
+-- another frame at the place of page n
+pub paired_set : (n : ℕ) (ns : List ℕ) (xs : List Frame) (p : ℕ) (w : Frame) → IsDistinct nat_eq ns → length xs ≡ length ns → p < length ns → get_or ns p 0 ≡ n → paired ns (set xs p w) ≡ set_value (nat_eq n) (paired ns xs) w
+paired_set n [] xs p w distinct long low is = absurd (omega arith)
+paired_set n (m ∷ ns) [] p w distinct long low is = absurd (omega arith)
+paired_set n (m ∷ ns) (x ∷ xs) zero w distinct long low is = rw (eq-eqb n m (sym is)) refl
+paired_set n (m ∷ ns) (x ∷ xs) (suc p) w distinct long low is =
+    let apart = eqb-false m (get_or ns p 0) (all_at (λ y. nat_eq m y ≡ false) ns p (IsDistinct-head nat_eq m ns distinct) (omega arith)) in
+    rw (ne_eqb n m (λ same. apart (sym same ∙ sym is))) (ap (λ l. (m, x) ∷ l) (paired_set n ns xs p w (IsDistinct-tail nat_eq m ns distinct) (omega arith) (omega arith) is))
 
-is_some_map : {Y Z : Type 0} (g : Y → Z) (o : Option Y) → is_some (option_map g o) ≡ is_some o
-is_some_map g None = refl
-is_some_map g (Some y) = refl
+-- page n with its frame at a place that is taken, or behind the last
+pub paired_put : (n : ℕ) (ns : List ℕ) (xs : List Frame) (p : ℕ) (x : Frame) → length xs ≡ length ns → p < length ns → paired (set ns p n) (set xs p x) ≡ put_at p (n, x) (paired ns xs)
+paired_put n [] xs p x long low = absurd (omega arith)
+paired_put n (m ∷ ns) [] p x long low = absurd (omega arith)
+paired_put n (m ∷ ns) (y ∷ xs) zero x long low = refl
+paired_put n (m ∷ ns) (y ∷ xs) (suc p) x long low = ap (λ l. (m, y) ∷ l) (paired_put n ns xs p x (omega arith) (omega arith))
 
-away : (k : ℕ) (es : List (ℕ × ℕ)) → AllByRecursion (λ y. nat_eq k y ≡ false) (keys_of es) → (o : ℕ × ℕ) → Contains es o → nat_eq k o.0 ≡ false
-away k [] apart o c = absurd (Contains-nil o c)
-away k (e ∷ es) apart o c = elim (Contains-cons e es o c) [ inl same ↦ subst (λ (q : ℕ × ℕ). nat_eq k q.0 ≡ false) same apart.0 | inr d ↦ away k es apart.1 o d ]
+pub paired_push : (n : ℕ) (ns : List ℕ) (xs : List Frame) (p : ℕ) (x : Frame) → length xs ≡ length ns → p ≡ length ns → paired (ns ++ n ∷ []) (xs ++ x ∷ []) ≡ put_at p (n, x) (paired ns xs)
+paired_push n [] [] p x long last = refl
+paired_push n [] (y ∷ xs) p x long last = absurd (omega arith)
+paired_push n (m ∷ ns) [] p x long last = absurd (omega arith)
+paired_push n (m ∷ ns) (y ∷ xs) zero x long last = absurd (omega arith)
+paired_push n (m ∷ ns) (y ∷ xs) (suc p) x long last = ap (λ l. (m, y) ∷ l) (paired_push n ns xs p x (omega arith) (omega arith))
 
--- the last page is not among the others
-last_away : (k : ℕ) (es : List (ℕ × ℕ)) (n p : ℕ) → AllByRecursion (λ y. nat_eq k y ≡ false) (keys_of es) → slice_get es (length es - 1) ≡ Some (n, p) → k ≢ n
-last_away k es n p apart is same = eqb-false k n (away k es apart (n, p) (at_place es (length es - 1) (n, p) is)) same
+-- a frame that is marked as not changed
+pub paired_settled : (ns : List ℕ) (xs : List Frame) (p : ℕ) (x : Frame) → length xs ≡ length ns → x ≡ get_or xs p x → p < length ns → paired ns (set xs p (record x { changed = false })) ≡ settled p (paired ns xs)
+paired_settled [] xs p x long is low = absurd (omega arith)
+paired_settled (m ∷ ns) [] p x long is low = absurd (omega arith)
+paired_settled (m ∷ ns) (y ∷ xs) zero x long is low = ap (λ (v : Frame). (m, record v { changed = false }) ∷ paired ns xs) is
+paired_settled (m ∷ ns) (y ∷ xs) (suc p) x long is low = ap (λ l. (m, y) ∷ l) (paired_settled ns xs p x (omega arith) is (omega arith))
 
-pub last_apart : (es : List (ℕ × ℕ)) (n p : ℕ) (o : ℕ × ℕ) → IsDistinct nat_eq (keys_of es) → slice_get es (length es - 1) ≡ Some (n, p) → Contains (take (length es - 1) es) o → o.0 ≢ n
-last_apart [] n p o distinct is c same = absurd (cc)
-last_apart (e ∷ []) n p o distinct is c same = Contains-nil o c
-last_apart (e ∷ f ∷ es) n p o distinct is c same =
-    let at : length (e ∷ f ∷ es) - 1 ≡ suc (length (f ∷ es) - 1) = omega arith in
-    let is_rest : slice_get (f ∷ es) (length (f ∷ es) - 1) ≡ Some (n, p) = subst (λ j. slice_get (e ∷ f ∷ es) j ≡ Some (n, p)) at is in
-    let among : Contains (e ∷ take (length (f ∷ es) - 1) (f ∷ es)) o = subst (λ j. Contains (take j (e ∷ f ∷ es)) o) at c in
-    elim (Contains-cons e (take (length (f ∷ es) - 1) (f ∷ es)) o among) [
-      | inl first ↦ last_away e.0 (f ∷ es) n p (IsDistinct-head nat_eq e.0 (keys_of (f ∷ es)) distinct) is_rest (ap (λ (q : ℕ × ℕ). q.0) first ∙ same)
-      | inr rest ↦ last_apart (f ∷ es) n p o (IsDistinct-tail nat_eq e.0 (keys_of (f ∷ es)) distinct) is_rest rest same
-    ]
+-- bytes with their marks
+pub marked_length : (cs : List Bool) (ps : List (List ℕ)) → length ps ≤ length cs → length (marked cs ps) ≡ length ps
+marked_length [] [] low = refl
+marked_length [] (p ∷ ps) low = absurd (omega arith)
+marked_length (c ∷ cs) [] low = refl
+marked_length (c ∷ cs) (p ∷ ps) low = ap suc (marked_length cs ps (omega arith))
 
-module _ {X : Type 0} where
-  -- each page with what stands at its place
-  abbrev filled : (ℕ → X) → List (ℕ × ℕ) → List (ℕ × X)
-  filled at es = map (λ e. (e.0, at e.1)) es
+pub marked_at : (cs : List Bool) (ps : List (List ℕ)) (k : ℕ) (d : Frame) (c : Bool) (page : List ℕ) → length ps ≤ length cs → k < length ps → c ≡ get_or cs k c → page ≡ get_or ps k page → record { changed = c; page = page } ≡ get_or (marked cs ps) k d
+marked_at [] ps k d c page low within is same = absurd (omega arith)
+marked_at (b ∷ cs) [] k d c page low within is same = absurd (omega arith)
+marked_at (b ∷ cs) (p ∷ ps) zero d c page low within is same = λ i. record { changed = is i; page = same i }
+marked_at (b ∷ cs) (p ∷ ps) (suc k) d c page low within is same = marked_at cs ps k d c page (omega arith) (omega arith) is same
 
-  entry_filled : (at : ℕ → X) (test : ℕ → Bool) (es : List (ℕ × ℕ)) → lookup_entry test (filled at es) ≡ option_map (λ e. (e.0, at e.1)) (lookup_entry test es)
-  entry_filled at test [] = refl
-  entry_filled at test (e ∷ es) = elim (cases_Bool (test e.0)) [ inl hit ↦ rw hit refl | inr miss ↦ rw miss (entry_filled at test es) ]
+pub marked_set : (cs : List Bool) (ps : List (List ℕ)) (k : ℕ) (c : Bool) (page : List ℕ) → length ps ≤ length cs → marked (set cs k c) (set ps k page) ≡ set (marked cs ps) k (record { changed = c; page = page })
+marked_set [] [] k c page low = refl
+marked_set [] (p ∷ ps) k c page low = absurd (omega arith)
+marked_set (b ∷ cs) [] zero c page low = refl
+marked_set (b ∷ cs) [] (suc k) c page low = refl
+marked_set (b ∷ cs) (p ∷ ps) zero c page low = refl
+marked_set (b ∷ cs) (p ∷ ps) (suc k) c page low = ap (λ l. record { changed = b; page = p } ∷ l) (marked_set cs ps k c page (omega arith))
 
-  removed_filled : (at : ℕ → X) (test : ℕ → Bool) (es : List (ℕ × ℕ)) → remove_entry test (filled at es) ≡ filled at (remove_entry test es)
-  removed_filled at test [] = refl
-  removed_filled at test (e ∷ es) = elim (cases_Bool (test e.0)) [ inl hit ↦ rw hit refl | inr miss ↦ rw miss (ap (λ l. (e.0, at e.1) ∷ l) (removed_filled at test es)) ]
+pub marked_settled : (cs : List Bool) (ps : List (List ℕ)) (k : ℕ) (page : List ℕ) → length ps ≤ length cs → k < length ps → page ≡ get_or ps k page → marked (set cs k false) ps ≡ set (marked cs ps) k (record { changed = false; page = page })
+marked_settled [] ps k page low within same = absurd (omega arith)
+marked_settled (b ∷ cs) [] k page low within same = absurd (omega arith)
+marked_settled (b ∷ cs) (p ∷ ps) zero page low within same = ap (λ (q : List ℕ). record { changed = false; page = q } ∷ marked cs ps) (sym same)
+marked_settled (b ∷ cs) (p ∷ ps) (suc k) page low within same = ap (λ l. record { changed = b; page = p } ∷ l) (marked_settled cs ps k page (omega arith) (omega arith) same)
 
-  promoted_filled : (at : ℕ → X) (test : ℕ → Bool) (es : List (ℕ × ℕ)) → filled at (promoted test es) ≡ promoted test (filled at es)
-  promoted_filled at test es = go (lookup_entry test es) ∙ ap (λ (o : Option (ℕ × X)). option_map_or (λ e. e ∷ remove_entry test (filled at es)) o (filled at es)) (sym (entry_filled at test es))
-    where
-      go : (o : Option (ℕ × ℕ)) → filled at (option_map_or (λ e. e ∷ remove_entry test es) o es) ≡ option_map_or (λ e. e ∷ remove_entry test (filled at es)) (option_map (λ e. (e.0, at e.1)) o) (filled at es)
-      go None = refl
-      go (Some e) = ap (λ l. (e.0, at e.1) ∷ l) (sym (removed_filled at test es))
+pub marked_push : (cs : List Bool) (ps : List (List ℕ)) (k : ℕ) (c : Bool) (page : List ℕ) → length ps < length cs → k ≡ length ps → marked (set cs k c) (ps ++ page ∷ []) ≡ marked cs ps ++ record { changed = c; page = page } ∷ []
+marked_push [] ps k c page low last = absurd (omega arith)
+marked_push (b ∷ []) [] zero c page low last = refl
+marked_push (b ∷ d ∷ cs) [] zero c page low last = refl
+marked_push (b ∷ cs) [] (suc k) c page low last = absurd (omega arith)
+marked_push (b ∷ cs) (p ∷ ps) zero c page low last = absurd (omega arith)
+marked_push (b ∷ cs) (p ∷ ps) (suc k) c page low last = ap (λ l. record { changed = b; page = p } ∷ l) (marked_push cs ps k c page (omega arith) (omega arith))
 
-  demoted_filled : (at : ℕ → X) (test : ℕ → Bool) (es : List (ℕ × ℕ)) → filled at (demoted test es) ≡ demoted test (filled at es)
-  demoted_filled at test es = go (lookup_entry test es) ∙ ap (λ (o : Option (ℕ × X)). option_map_or (λ e. remove_entry test (filled at es) ++ e ∷ []) o (filled at es)) (sym (entry_filled at test es))
-    where
-      go : (o : Option (ℕ × ℕ)) → filled at (option_map_or (λ e. remove_entry test es ++ e ∷ []) o es) ≡ option_map_or (λ e. remove_entry test (filled at es) ++ e ∷ []) (option_map (λ e. (e.0, at e.1)) o) (filled at es)
-      go None = refl
-      go (Some e) = map-append (λ e. (e.0, at e.1)) (remove_entry test es) (e ∷ []) ∙ ap (λ l. l ++ (e.0, at e.1) ∷ []) (sym (removed_filled at test es))
+-- the frames are as many as the numbers
+pub frames_long : (ns : List ℕ) (cs : List Bool) (ps : List (List ℕ)) (used : List Bool) (cap : ℕ) → ArePaired ns cs ps used cap → (length ps ≤ length cs) × (length (marked cs ps) ≡ length ns) × (length (paired ns (marked cs ps)) ≡ length ns)
+frames_long ns cs ps used cap rows =
+    let long = rows.long in
+    let few = rows.few in
+    let changes = rows.changes in
+    let low : length ps ≤ length cs = omega arith in
+    let same = marked_length cs ps low ∙ rows.long in
+    (low, same, paired_length ns (marked cs ps) same)
 
-  same_on : (f g : ℕ → X) (es : List (ℕ × ℕ)) → ((e : ℕ × ℕ) → Contains es e → f e.1 ≡ g e.1) → filled f es ≡ filled g es
-  same_on f g [] same = refl
-  same_on f g (e ∷ es) same =
-      let here = same e (Contains-head e es) in
-      let rest = same_on f g es (λ o c. same o (Contains-tail e es o c)) in
-      ap (λ v. (e.0, v) ∷ filled f es) here ∙ ap (λ l. (e.0, g e.1) ∷ l) rest
+-- the rows with a page that stood nowhere, in place of another one or behind the last
+pub replaced : (n : ℕ) (ns : List ℕ) (cs : List Bool) (ps : List (List ℕ)) (k : ℕ) (c : Bool) (page : List ℕ) (used : List Bool) (cap : ℕ) → ArePaired ns cs ps used cap
+    → lookup (nat_eq n) (paired ns (marked cs ps)) ≡ None → ArePaired (set ns k n) (set cs k c) (set ps k page) used cap
+replaced n ns cs ps k c page used cap rows none = record {
+  long = length-set ps k page ∙ rows.long ∙ sym (length-set ns k n);
+  few = let few = rows.few in let same = length-set ns k n in omega arith;
+  apart = distinct_set n ns k rows.apart (absent_from n ns (marked cs ps) (frames_long ns cs ps used cap rows).1 none);
+  changes = length-set cs k c ∙ rows.changes;
+  uses = rows.uses;
+  some = rows.some;
+}
 
-  -- without places there are no pages
-  no_places : (es : List (ℕ × ℕ)) → IsPlaced {X = X} [] es → es ≡ []
-  no_places [] placed = refl
-  no_places (e ∷ es) placed = let low = placed.below e (Contains-head e es) in absurd (omega arith)
-
-  framed_as : (d : X) (places : List X) (es : List (ℕ × ℕ)) → IsPlaced places es → framed places es ≡ filled (λ p. slice_index_or places p d) es
-  framed_as d [] es placed = rw (no_places es placed) refl
-  framed_as d (x ∷ xs) es placed = same_on (λ p. slice_index_or (x ∷ xs) p x) (λ p. slice_index_or (x ∷ xs) p d) es (λ e c. get_or_default (x ∷ xs) e.1 x d (placed.below e c))
-
-  -- what the list of frames tells of the order
-  pub framed_promoted : (test : ℕ → Bool) (places : List X) (es : List (ℕ × ℕ)) → framed places (promoted test es) ≡ promoted test (framed places es)
-  framed_promoted test [] es = refl
-  framed_promoted test (x ∷ xs) es = promoted_filled (λ p. slice_index_or (x ∷ xs) p x) test es
-
-  pub framed_demoted : (test : ℕ → Bool) (places : List X) (es : List (ℕ × ℕ)) → framed places (demoted test es) ≡ demoted test (framed places es)
-  framed_demoted test [] es = refl
-  framed_demoted test (x ∷ xs) es = demoted_filled (λ p. slice_index_or (x ∷ xs) p x) test es
-
-  pub framed_found : (test : ℕ → Bool) (places : List X) (es : List (ℕ × ℕ)) → IsPlaced places es → is_some (lookup test (framed places es)) ≡ is_some (lookup test es)
-  framed_found test [] es placed = rw (no_places es placed) refl
-  framed_found test (x ∷ xs) es placed = ap is_some (lookup-map_values (λ p. slice_index_or (x ∷ xs) p x) test es) ∙ is_some_map (λ p. slice_index_or (x ∷ xs) p x) (lookup test es)
-
-  pub framed_absent : (test : ℕ → Bool) (places : List X) (es : List (ℕ × ℕ)) → IsPlaced places es → lookup test (framed places es) ≡ None → lookup test es ≡ None
-  framed_absent test places es placed absent = none (lookup test es) (sym (framed_found test places es placed) ∙ ap is_some absent)
-    where
-      none : (o : Option ℕ) → is_some o ≡ false → o ≡ None
-      none None is = refl
-      none (Some p) is = absurd (cc)
-
-  pub framed_length : (places : List X) (es : List (ℕ × ℕ)) → IsPlaced places es → length (framed places es) ≡ length es
-  framed_length [] es placed = rw (no_places es placed) refl
-  framed_length (x ∷ xs) es placed = length-map es (λ e. (e.0, slice_index_or (x ∷ xs) e.1 x))
-
-  pub framed_keys : (places : List X) (es : List (ℕ × ℕ)) → IsPlaced places es → keys_of (framed places es) ≡ keys_of es
-  framed_keys [] es placed = rw (no_places es placed) refl
-  framed_keys (x ∷ xs) es placed = keys_of-map_values (λ p. slice_index_or (x ∷ xs) p x) es
-
-  pub framed_valid : (places : List X) (order : LruCache ℕ ℕ) → IsPlaced places order.entries → IsValid nat_eq order → IsValid nat_eq (lru_cache (framed places order.entries) order.cap)
-  framed_valid places order placed valid = (
-    subst (IsDistinct nat_eq) (sym (framed_keys places order.entries placed)) valid.0,
-    subst (λ n. n ≤ order.cap) (sym (framed_length places order.entries placed)) valid.1,
-    valid.2,
-  )
-
-  pub place_below : (places : List X) (es : List (ℕ × ℕ)) (i n p : ℕ) → IsPlaced places es → slice_get es i ≡ Some (n, p) → p < length places
-  place_below places es i n p placed is = placed.below (n, p) (at_place es i (n, p) is)
-
-  pub framed_at : (places : List X) (es : List (ℕ × ℕ)) (i n p : ℕ) (x : X) → IsPlaced places es → slice_get es i ≡ Some (n, p) → x ≡ slice_index_or places p x → slice_get (framed places es) i ≡ Some (n, x)
-  framed_at places es i n p x placed is same =
-      ap (λ l. slice_get l i) (framed_as x places es placed) ∙ slice_get-map (λ e. (e.0, slice_index_or places e.1 x)) es i ∙ ap (option_map (λ (e : ℕ × ℕ). (e.0, slice_index_or places e.1 x))) is ∙ ap (λ v. Some (n, v)) (sym same)
-
-  pub framed_none : (places : List X) (es : List (ℕ × ℕ)) (i : ℕ) → slice_get es i ≡ None → slice_get (framed places es) i ≡ None
-  framed_none [] es i none = refl
-  framed_none (x ∷ xs) es i none = slice_get-map (λ e. (e.0, slice_index_or (x ∷ xs) e.1 x)) es i ∙ ap (option_map (λ (e : ℕ × ℕ). (e.0, slice_index_or (x ∷ xs) e.1 x))) none
-
-  pub framed_last : (places : List X) (es : List (ℕ × ℕ)) (n p : ℕ) (x : X) → IsPlaced places es → last_entry es ≡ Some (n, p) → x ≡ slice_index_or places p x → last_entry (framed places es) ≡ Some (n, x)
-  framed_last places es n p x placed is same = ap (λ m. slice_get (framed places es) (m - 1)) (framed_length places es placed) ∙ framed_at places es (length es - 1) n p x placed is same
-
-  pub framed_last_none : (places : List X) (es : List (ℕ × ℕ)) → IsPlaced places es → last_entry es ≡ None → last_entry (framed places es) ≡ None
-  framed_last_none places es placed none = ap (λ m. slice_get (framed places es) (m - 1)) (framed_length places es placed) ∙ framed_none places es (length es - 1) none
-
-  -- another order of the same pages, and another frame in a place
-  pub placed_promoted : (test : ℕ → Bool) (places : List X) (es : List (ℕ × ℕ)) → IsPlaced places es → IsPlaced places (promoted test es)
-  placed_promoted test places es placed = record {
-    below = λ e c. placed.below e (Contains-promoted test es e c);
-    apart = λ e f c d. placed.apart e f (Contains-promoted test es e c) (Contains-promoted test es f d);
-    many = placed.many ∙ sym (length_promoted test es);
-  }
-
-  pub placed_demoted : (test : ℕ → Bool) (places : List X) (es : List (ℕ × ℕ)) → IsPlaced places es → IsPlaced places (demoted test es)
-  placed_demoted test places es placed = record {
-    below = λ e c. placed.below e (Contains-demoted test es e c);
-    apart = λ e f c d. placed.apart e f (Contains-demoted test es e c) (Contains-demoted test es f d);
-    many = placed.many ∙ sym (length_demoted test es);
-  }
-
-  pub placed_set : (places : List X) (es : List (ℕ × ℕ)) (p : ℕ) (w : X) → IsPlaced places es → IsPlaced (slice_set places p w) es
-  placed_set places es p w placed = record { below = λ e c. subst (λ n. e.1 < n) (sym (length-set places p w)) (placed.below e c); apart = placed.apart; many = length-set places p w ∙ placed.many }
-
-  pub framed_set_first : (places : List X) (es : List (ℕ × ℕ)) (n p : ℕ) (w : X) → IsPlaced places es → IsDistinct nat_eq (keys_of es) → slice_get es 0 ≡ Some (n, p) → framed (slice_set places p w) es ≡ set_value (λ _. true) (framed places es) w
-  framed_set_first places [] n p w placed distinct is = absurd (cc)
-  framed_set_first places (e ∷ es) n p w placed distinct is =
-      framed_as w (slice_set places p w) (e ∷ es) (placed_set places (e ∷ es) p w placed)
-      ∙ ap (λ v. (e.0, v) ∷ filled (λ q. slice_index_or (slice_set places p w) q w) es) here
-      ∙ ap (λ l. (e.0, w) ∷ l) rest
-      ∙ ap (λ l. set_value (λ _. true) l w) (sym (framed_as w places (e ∷ es) placed))
-    where
-      at : e.1 ≡ p
-      at = ap (λ (o : Option (ℕ × ℕ)). option_map_or (λ q. q.1) o p) is
-
-      here : slice_index_or (slice_set places p w) e.1 w ≡ w
-      here = ap (λ q. slice_index_or (slice_set places p w) q w) at ∙ get_or-set_same places p w w (subst (λ q. q < length places) at (placed.below e (Contains-head e es)))
-
-      differs : (o : ℕ × ℕ) → Contains es o → o.1 ≢ p
-      differs o c same = eqb-false e.0 o.0 (away e.0 es (IsDistinct-head nat_eq e.0 (keys_of es) distinct) o c)
-          (placed.apart e o (Contains-head e es) (Contains-tail e es o c) (at ∙ sym same))
-
-      rest : filled (λ q. slice_index_or (slice_set places p w) q w) es ≡ filled (λ q. slice_index_or places q w) es
-      rest = same_on (λ q. slice_index_or (slice_set places p w) q w) (λ q. slice_index_or places q w) es (λ o c. get_or-set_other places p o.1 w w (differs o c))
-
-  -- a page is put first, in a place that no other has
-  module _ (places new : List X) (n p j : ℕ) (x : X) (es : List (ℕ × ℕ)) (placed : IsPlaced places es) (low : p < length new) (many : length new ≡ length (take j es) + 1)
-      (others : (o : ℕ × ℕ) → Contains (take j es) o → (o.1 < length new) × (o.1 ≢ p) × (slice_index_or new o.1 x ≡ slice_index_or places o.1 x)) where
-    pub placed_push : IsPlaced new ((n, p) ∷ take j es)
-    placed_push = record {
-      below = λ e c. elim (Contains-cons (n, p) (take j es) e c) [ inl same ↦ subst (λ (q : ℕ × ℕ). q.1 < length new) same low | inr d ↦ (others e d).0 ];
-      apart = λ e f c d same. elim (Contains-cons (n, p) (take j es) e c) [
-        | inl here ↦ elim (Contains-cons (n, p) (take j es) f d) [
-          | inl there ↦ ap (λ (q : ℕ × ℕ). q.0) (sym here ∙ there)
-          | inr g ↦ absurd ((others f g).1 (sym same ∙ sym (ap (λ (q : ℕ × ℕ). q.1) here)))
-        ]
-        | inr a ↦ elim (Contains-cons (n, p) (take j es) f d) [
-          | inl there ↦ absurd ((others e a).1 (same ∙ sym (ap (λ (q : ℕ × ℕ). q.1) there)))
-          | inr g ↦ placed.apart e f (Contains-take j es e a) (Contains-take j es f g) same
-        ]
-      ];
-      many = omega arith;
+pub pushed : (n : ℕ) (ns : List ℕ) (cs : List Bool) (ps : List (List ℕ)) (k : ℕ) (c : Bool) (page : List ℕ) (used : List Bool) (cap : ℕ) → ArePaired ns cs ps used cap
+    → lookup (nat_eq n) (paired ns (marked cs ps)) ≡ None → length ns < cap → ArePaired (ns ++ n ∷ []) (set cs k c) (ps ++ page ∷ []) used cap
+pushed n ns cs ps k c page used cap rows none room =
+    let longer : length (ns ++ n ∷ []) ≡ length ns + 1 = length-append ns (n ∷ []) in
+    let more : length (ps ++ page ∷ []) ≡ length ps + 1 = length-append ps (page ∷ []) in
+    let long = rows.long in
+    record {
+      long = omega arith;
+      few = omega arith;
+      apart = distinct_push n ns rows.apart (absent_from n ns (marked cs ps) (frames_long ns cs ps used cap rows).1 none);
+      changes = length-set cs k c ∙ rows.changes;
+      uses = rows.uses;
+      some = rows.some;
     }
 
-    pub framed_push : slice_index_or new p x ≡ x → framed new ((n, p) ∷ take j es) ≡ (n, x) ∷ take j (framed places es)
-    framed_push here =
-        framed_as x new ((n, p) ∷ take j es) placed_push
-        ∙ ap (λ v. (n, v) ∷ filled (λ q. slice_index_or new q x) (take j es)) here
-        ∙ ap (λ l. (n, x) ∷ l) (same_on (λ q. slice_index_or new q x) (λ q. slice_index_or places q x) (take j es) (λ o c. (others o c).2))
-        ∙ ap (λ l. (n, x) ∷ l) (sym (take-map (λ e. (e.0, slice_index_or places e.1 x)) j es))
-        ∙ ap (λ l. (n, x) ∷ take j l) (sym (framed_as x places es placed))
+pub distinct_none : IsDistinct nat_eq []
+unfolding IsDistinct
+distinct_none = tt
 
-  -- what a page that was put first leaves
-  pub record Pushed (places new : List X) (order after : LruCache ℕ ℕ) (n : ℕ) (x : X) : Type 0 where
-    pub placed : IsPlaced new after.entries
-    pub view : lru_cache (framed new after.entries) after.cap ≡ lru_cache (put_entries nat_eq (lru_cache (framed places order.entries) order.cap) n x) order.cap
+-- the bytes at the place of page n are its page
+pub page_found : (n : ℕ) (ns : List ℕ) (cs : List Bool) (ps : List (List ℕ)) (k : ℕ) (page : List ℕ) (used : List Bool) (cap : ℕ) → ArePaired ns cs ps used cap → k < length ns → get_or ns k 0 ≡ n → page ≡ get_or ps k page
+    → option_map (λ (frame : Frame). frame.page) (lookup (nat_eq n) (paired ns (marked cs ps))) ≡ Some page
+page_found n ns cs ps k page used cap rows low is same =
+    let long = frames_long ns cs ps used cap rows in
+    let many = rows.long in
+    let few = rows.few in
+    let changes = rows.changes in
+    let there : k < length ps = omega arith in
+    let marks : k < length cs = omega arith in
+    let frame : Frame = record { changed = get_or cs k false; page = page } in
+    ap (option_map (λ (frame : Frame). frame.page))
+    (paired_found n ns (marked cs ps) k frame rows.apart long.1 low is (marked_at cs ps k frame (get_or cs k false) page long.0 there (get_or_default cs k false (get_or cs k false) marks) same))
 
-  pushed : (places new : List X) (order after : LruCache ℕ ℕ) (n p : ℕ) (x : X) → IsPlaced places order.entries → lookup (nat_eq n) (framed places order.entries) ≡ None
-      → after ≡ lru_cache (put_entries nat_eq order n p) order.cap → p < length new → length new ≡ length (take (order.cap - 1) order.entries) + 1 → slice_index_or new p x ≡ x
-      → ((o : ℕ × ℕ) → Contains (take (order.cap - 1) order.entries) o → (o.1 < length new) × (o.1 ≢ p) × (slice_index_or new o.1 x ≡ slice_index_or places o.1 x))
-      → Pushed places new order after n x
-  pushed places new order after n p x placed absent is low many here others =
-      let es = order.entries in
-      let j = order.cap - 1 in
-      let front : after.entries ≡ (n, p) ∷ take j es = ap (λ o. o.entries) is ∙ put_front order n p (framed_absent (nat_eq n) places es placed absent) in
-      let shown : framed new after.entries ≡ put_entries nat_eq (lru_cache (framed places es) order.cap) n x =
-      ap (framed new) front ∙ framed_push places new n p j x es placed low many others here ∙ sym (put_front (lru_cache (framed places es) order.cap) n x absent) in
-      record {
-        placed = subst (IsPlaced new) (sym front) (placed_push places new n p j x es placed low many others);
-        view = ap (λ l. lru_cache l after.cap) shown ∙ ap (λ o. lru_cache (put_entries nat_eq (lru_cache (framed places es) order.cap) n x) o.cap) is;
-      }
+-- other bytes at the place of page n, which counts as changed
+pub page_lent : (n : ℕ) (ns : List ℕ) (cs : List Bool) (ps : List (List ℕ)) (k : ℕ) (page : List ℕ) (used : List Bool) (cap : ℕ) → ArePaired ns cs ps used cap → k < length ns → get_or ns k 0 ≡ n
+    → paired ns (marked (set cs k true) (set ps k page)) ≡ set_value (nat_eq n) (paired ns (marked cs ps)) (record { changed = true; page = page })
+page_lent n ns cs ps k page used cap rows low is =
+    let long = frames_long ns cs ps used cap rows in
+    ap (paired ns) (marked_set cs ps k true page long.0) ∙ paired_set n ns (marked cs ps) k (record { changed = true; page = page }) rows.apart long.1 low is
 
-  pub pushed_new : (places : List X) (order after : LruCache ℕ ℕ) (n : ℕ) (x : X) → IsPlaced places order.entries → lookup (nat_eq n) (framed places order.entries) ≡ None
-      → length (framed places order.entries) < order.cap → after ≡ lru_cache (put_entries nat_eq order n (length places)) order.cap → Pushed places (places ++ x ∷ []) order after n x
-  pushed_new places order after n x placed absent room is =
-      let many = placed.many in
-      let shown = framed_length places order.entries placed in
-      let all : take (order.cap - 1) order.entries ≡ order.entries = take_all (order.cap - 1) order.entries (omega arith) in
-      let long : length (places ++ x ∷ []) ≡ length places + 1 = length-append places (x ∷ []) in
-      pushed places (places ++ x ∷ []) order after n (length places) x placed absent is (omega arith) (rw all (omega arith)) (seam places)
-      (λ o c. let low = placed.below o (Contains-take (order.cap - 1) order.entries o c) in (omega arith, (λ same. absurd (omega arith)), get_or_append_left places (x ∷ []) x o.1 low))
-    where
-      seam : (xs : List X) → slice_index_or (xs ++ x ∷ []) (length xs) x ≡ x
-      seam [] = refl
-      seam (y ∷ xs) = seam xs
+-- the page of a place, marked as not changed
+pub settled_rows : (ns : List ℕ) (cs : List Bool) (ps : List (List ℕ)) (k : ℕ) (used : List Bool) (cap : ℕ) → ArePaired ns cs ps used cap → k < length ns
+    → paired ns (marked (set cs k false) ps) ≡ settled k (paired ns (marked cs ps))
+settled_rows ns cs ps k used cap rows low =
+    let long = frames_long ns cs ps used cap rows in
+    let many = rows.long in
+    let few = rows.few in
+    let changes = rows.changes in
+    let there : k < length ps = omega arith in
+    let marks : k < length cs = omega arith in
+    let page = get_or ps k [] in
+    let same : page ≡ get_or ps k page = get_or_default ps k [] page there in
+    let frame : Frame = record { changed = get_or cs k false; page = page } in
+    ap (paired ns) (marked_settled cs ps k page long.0 there same)
+    ∙ paired_settled ns (marked cs ps) k frame long.1 (marked_at cs ps k frame (get_or cs k false) page long.0 there (get_or_default cs k false (get_or cs k false) marks) same) low
 
-  pub pushed_over : (places : List X) (order after : LruCache ℕ ℕ) (n m p : ℕ) (x : X) → IsPlaced places order.entries → lookup (nat_eq n) (framed places order.entries) ≡ None → IsValid nat_eq order
-      → order.cap ≤ length (framed places order.entries) → last_entry order.entries ≡ Some (m, p)
-      → after ≡ lru_cache (put_entries nat_eq order n p) order.cap → Pushed places (slice_set places p x) order after n x
-  pushed_over places order after n m p x placed absent valid full last is =
-      let es = order.entries in
-      let low = place_below places es (length es - 1) m p placed last in
-      let long = length-set places p x in
-      let many = placed.many in
-      let shown = framed_length places es placed in
-      let fits = valid.1 in
-      let some = valid.2 in
-      let taken = length-take (order.cap - 1) es in
-      pushed places (slice_set places p x) order after n p x placed absent is (omega arith) (omega arith) (get_or-set_same places p x x low)
-      (λ o c. let below = placed.below o (Contains-take (order.cap - 1) es o c) in (omega arith, differs o c, get_or-set_other places p o.1 x x (differs o c)))
-    where
-      at : order.cap - 1 ≡ length order.entries - 1
-      at = let many = framed_length places order.entries placed in let few = valid.1 in omega arith
+-- a page put in place of another one, or behind the last
+pub put_rows : (n : ℕ) (ns : List ℕ) (cs : List Bool) (ps : List (List ℕ)) (k : ℕ) (c : Bool) (page : List ℕ) (used : List Bool) (cap : ℕ) → ArePaired ns cs ps used cap → k < length ns
+    → paired (set ns k n) (marked (set cs k c) (set ps k page)) ≡ put_at k (n, record { changed = c; page = page }) (paired ns (marked cs ps))
+put_rows n ns cs ps k c page used cap rows low =
+    let long = frames_long ns cs ps used cap rows in
+    ap (paired (set ns k n)) (marked_set cs ps k c page long.0) ∙ paired_put n ns (marked cs ps) k (record { changed = c; page = page }) long.1 low
 
-      differs : (o : ℕ × ℕ) → Contains (take (order.cap - 1) order.entries) o → o.1 ≢ p
-      differs o c same = last_apart order.entries m p o valid.0 last (subst (λ j. Contains (take j order.entries) o) at c)
-          (placed.apart o (m, p) (Contains-take (order.cap - 1) order.entries o c) (at_place order.entries (length order.entries - 1) (m, p) last) same)
+pub push_rows : (n : ℕ) (ns : List ℕ) (cs : List Bool) (ps : List (List ℕ)) (k : ℕ) (c : Bool) (page : List ℕ) (used : List Bool) (cap : ℕ) → ArePaired ns cs ps used cap → k ≡ length ns → length ns < cap
+    → paired (ns ++ n ∷ []) (marked (set cs k c) (ps ++ page ∷ [])) ≡ put_at k (n, record { changed = c; page = page }) (paired ns (marked cs ps))
+push_rows n ns cs ps k c page used cap rows last room =
+    let long = frames_long ns cs ps used cap rows in
+    let many = rows.long in
+    let changes = rows.changes in
+    ap (paired (ns ++ n ∷ [])) (marked_push cs ps k c page (omega arith) (omega arith)) ∙ paired_push n ns (marked cs ps) k (record { changed = c; page = page }) long.1 last

@@ -1,61 +1,33 @@
--- What a frame that is put in front leaves of the list of pages.
-use Rattle.std.proofs.Common.{zero, suc, ◌≡◌, ◌≢◌, ◌⊎◌, inl, inr, ℕ, ◌+◌, ◌-◌, ◌<◌, ◌≤◌, max, false, true, if◌then◌else◌, nat_eq, Option, Some, None, List, [], ◌∷◌, length, take, slice_get, refl, sym, ◌∙◌, ap, subst, arith, IsTrue, IsSome, is_some, Result, Ok, Err, OnOk, OnErr}
-use Rattle.io_state.specs.declared.fault.Fault.{Fault}
-use Rattle.page_cache.proofs.OverLemmas.{over_same, pages_same, clean_same, over_read, pages_read, keeps_same}
+-- What a frame that is put at a place leaves of the list of pages.
+use Rattle.std.proofs.Common.{◌≡◌, ◌≢◌, ◌⊎◌, inl, inr, ℕ, ◌+◌, ◌<◌, max, false, true, if◌then◌else◌, nat_eq, Option, Some, None, [], length, slice_get, refl, sym, ◌∙◌, ap, subst, arith, IsTrue, IsSome, is_some}
 use Rattle.page_cache.proofs.WriteLemmas.{counted_low}
-use Rattle.page_cache.specs.Calls.{Zeroed, KeepsPages}
+use Rattle.page_cache.specs.Calls.{Zeroed}
 use Rattle.page_cache.specs.Rewrites.{IsZeros}
 use Rattle.std.specs.Option.{option_map_or}
-use Rattle.std.specs.Cmp.{nat_eq_equiv}
 use Rattle.std.specs.Map.{lookup}
-use Rattle.std.proofs.lemmas.Bool.{cases_Bool, cases_eq, both_ways, eqb-true, ne_eqb}
-use Rattle.lru.specs.LruCache.{LruCache, lru_cache, put_entries}
+use Rattle.std.proofs.lemmas.Bool.{cases_eq, both_ways}
 use Rattle.page_store.specs.DeviceFile.{content, page_of_bytes}
 use Rattle.page_store.specs.Pages.{HoldsPages}
 use Rattle.page_store.specs.ShelfState.{ShelfState, unit_name, unit_file, OnlyAnswers}
-use Rattle.page_cache.specs.declared.frame.Frame.{Frame}
 use Rattle.page_cache.specs.declared.cache.Cache.{Cache}
 use Rattle.page_cache.specs.Cached.{frame_of, is_counted_page, cached_pages_of, IsOver, IsClean}
-use Rattle.page_cache.specs.Turning.{HasRoom}
-use Rattle.page_cache.proofs.FrameLemmas.{put_front}
+use Rattle.page_cache.specs.HeldFrames.{Frame, held_frames, put_at}
+use Rattle.page_cache.specs.Room.{HasRoom}
+use Rattle.page_cache.proofs.FrameLemmas.{put_found, put_apart}
 
-module _ {X : Type 0} where
-  -- what a list without its last entry finds
-  abbrev Dropped : ℕ → List (ℕ × X) → ℕ → Type 0
-  Dropped k es j = (lookup (nat_eq k) (take j es) ≡ None) × ((value : X) × (slice_get es j ≡ Some (k, value)) × (lookup (nat_eq k) es ≡ Some value))
-
-  pub take_look : (k : ℕ) (es : List (ℕ × X)) (j : ℕ) → length es ≤ j + 1 → (lookup (nat_eq k) (take j es) ≡ lookup (nat_eq k) es) ⊎ Dropped k es j
-  take_look k [] zero low = inl refl
-  take_look k [] (suc j) low = inl refl
-  take_look k (e ∷ []) zero low = elim (cases_Bool (nat_eq k e.0)) [
-    | inl hit ↦ inr (refl, (e.1, ap (λ n. Some (n, e.1)) (sym (eqb-true k e.0 hit)), rw hit refl))
-    | inr miss ↦ inl (rw miss refl)
-  ]
-  take_look k (e ∷ f ∷ es) zero low = absurd (omega arith)
-  take_look k (e ∷ es) (suc j) low = elim (cases_Bool (nat_eq k e.0)) [
-    | inl hit ↦ inl (rw hit refl)
-    | inr miss ↦ elim (take_look k es j (omega arith)) [
-      | inl same ↦ inl (rw miss same)
-      | inr gone ↦ inr (rw miss gone.0, (gone.1.0, gone.1.1, rw miss gone.1.2))
-    ]
-  ]
-
--- the frame stands in front of the others, of which the last may be gone
-module _ (c d : Cache) (t u : ShelfState) (n : ℕ) (frame : Frame) (over : IsOver c t) (room : HasRoom c t) (fits : length c.frames.entries ≤ c.frames.cap) (counted : IsTrue (is_counted_page c n))
-    (absent : frame_of c n ≡ None) (store : d.store ≡ c.store) (put : d.frames ≡ lru_cache (put_entries nat_eq c.frames n frame) c.frames.cap) (only : OnlyAnswers t u) where
-  entries : d.frames.entries ≡ (n, frame) ∷ take (c.frames.cap - 1) c.frames.entries
-  entries = ap (λ frames. frames.entries) put ∙ put_front c.frames n frame absent
+-- the frame stands at the place, of which the page may be gone
+module _ (c d : Cache) (t u : ShelfState) (place n : ℕ) (frame : Frame) (over : IsOver c t) (room : HasRoom place c t) (counted : IsTrue (is_counted_page c n))
+    (absent : frame_of c n ≡ None) (store : d.store ≡ c.store) (put : d.frames ≡ held_frames (put_at place (n, frame) c.frames.entries) c.frames.cap) (only : OnlyAnswers t u) where
+  entries : d.frames.entries ≡ put_at place (n, frame) c.frames.entries
+  entries = ap (λ frames. frames.entries) put
 
   pub put_here : frame_of d n ≡ Some frame
-  put_here = ap (lookup (nat_eq n)) entries ∙ rw (nat_eq_equiv.refl n) refl
+  put_here = ap (lookup (nat_eq n)) entries ∙ put_found n frame c.frames.entries place absent
 
-  away : (k : ℕ) → k ≢ n → frame_of d k ≡ lookup (nat_eq k) (take (c.frames.cap - 1) c.frames.entries)
-  away k differs = ap (lookup (nat_eq k)) entries ∙ rw (ne_eqb k n differs) refl
-
-  pub put_other : (k : ℕ) → k ≢ n → (frame_of d k ≡ frame_of c k) ⊎ ((frame_of d k ≡ None) × ((other : Frame) × (slice_get c.frames.entries (c.frames.cap - 1) ≡ Some (k, other)) × (frame_of c k ≡ Some other)))
-  put_other k differs = elim (take_look k c.frames.entries (c.frames.cap - 1) (omega arith)) [
-    | inl same ↦ inl (away k differs ∙ same)
-    | inr gone ↦ inr (away k differs ∙ gone.0, gone.1)
+  pub put_other : (k : ℕ) → k ≢ n → (frame_of d k ≡ frame_of c k) ⊎ ((frame_of d k ≡ None) × ((other : Frame) × (slice_get c.frames.entries place ≡ Some (k, other)) × (frame_of c k ≡ Some other)))
+  put_other k differs = elim (put_apart k n frame c.frames.entries place differs room.seated.apart) [
+    | inl same ↦ inl (ap (lookup (nat_eq k)) entries ∙ same)
+    | inr gone ↦ inr (ap (lookup (nat_eq k)) entries ∙ gone.0, gone.1)
   ]
 
   -- what d finds but the new frame, c found
@@ -78,7 +50,7 @@ module _ (c d : Cache) (t u : ShelfState) (n : ℕ) (frame : Frame) (over : IsOv
   counted_in k is = subst (λ x. IsTrue (is_counted_page (record c { store = x }) k)) (sym store) is
 
   -- the frame is that of the file, or counts as changed
-  pub over_put : (IsTrue u.is_honest → frame.changed ≡ false → frame.page.value ≡ page_of_bytes (content (unit_file t c.store.unit)) n) → IsOver d u
+  pub over_put : (IsTrue u.is_honest → frame.changed ≡ false → frame.page ≡ page_of_bytes (content (unit_file t c.store.unit)) n) → IsOver d u
   over_put bytes = record {
     attached = record { attached = subst (λ names. d.store.unit < length names) (sym only.names) (subst (λ x. x.unit < length t.names) (sym store) over.attached.attached) };
     counted = λ k other is. counted_in k (elim (cases_eq k n) [ inl same ↦ rw same counted | inr differs ↦ over.counted k other (was_held k other differs is) ]);
@@ -86,7 +58,7 @@ module _ (c d : Cache) (t u : ShelfState) (n : ℕ) (frame : Frame) (over : IsOv
     clean = λ honest k other is clean. rw file_same (elim (cases_eq k n) [
       | inl same ↦
           let one = one_frame other (ap (frame_of d) (sym same) ∙ is) in
-          ap (λ (x : Frame). x.page.value) one ∙ bytes honest (sym (ap (λ (x : Frame). x.changed) one) ∙ clean) ∙ ap (page_of_bytes (content (unit_file t c.store.unit))) (sym same)
+          ap (λ (x : Frame). x.page) one ∙ bytes honest (sym (ap (λ (x : Frame). x.changed) one) ∙ clean) ∙ ap (page_of_bytes (content (unit_file t c.store.unit))) (sym same)
       | inr differs ↦ over.clean (only.honest honest) k other (was_held k other differs is) clean
     ]);
   }
@@ -102,19 +74,19 @@ module _ (c d : Cache) (t u : ShelfState) (n : ℕ) (frame : Frame) (over : IsOv
   stored : (k : ℕ) → (if is_counted_page d k then page_of_bytes (content (unit_file u d.store.unit)) k else []) ≡ (if is_counted_page c k then page_of_bytes (content (unit_file t c.store.unit)) k else [])
   stored k = ap (λ file. if is_counted_page d k then page_of_bytes (content file) k else []) file_same ∙ ap (λ x. if is_counted_page (record c { store = x }) k then page_of_bytes (content (unit_file t c.store.unit)) k else []) store
 
-  of_frame : (k : ℕ) (o q : Option Frame) → frame_of d k ≡ o → frame_of c k ≡ q → option_map_or (λ (f : Frame). f.page.value) o (if is_counted_page d k then page_of_bytes (content (unit_file u d.store.unit)) k else []) ≡ option_map_or (λ (f : Frame). f.page.value) q (if is_counted_page c k then page_of_bytes (content (unit_file t c.store.unit)) k else []) → cached_pages_of d u k ≡ cached_pages_of c t k
+  of_frame : (k : ℕ) (o q : Option Frame) → frame_of d k ≡ o → frame_of c k ≡ q → option_map_or (λ (f : Frame). f.page) o (if is_counted_page d k then page_of_bytes (content (unit_file u d.store.unit)) k else []) ≡ option_map_or (λ (f : Frame). f.page) q (if is_counted_page c k then page_of_bytes (content (unit_file t c.store.unit)) k else []) → cached_pages_of d u k ≡ cached_pages_of c t k
   of_frame k o q d_is c_is same = rw (d_is, c_is) same
 
-  pub page_here : cached_pages_of d u n ≡ frame.page.value
-  page_here = ap (λ o. option_map_or (λ (f : Frame). f.page.value) o (if is_counted_page d n then page_of_bytes (content (unit_file u d.store.unit)) n else [])) put_here
+  pub page_here : cached_pages_of d u n ≡ frame.page
+  page_here = ap (λ o. option_map_or (λ (f : Frame). f.page) o (if is_counted_page d n then page_of_bytes (content (unit_file u d.store.unit)) n else [])) put_here
 
   pub pages_apart : IsTrue u.is_honest → (k : ℕ) → k ≢ n → cached_pages_of d u k ≡ cached_pages_of c t k
   pages_apart honest k differs = elim (put_other k differs) [
-    | inl kept ↦ ap (λ o. option_map_or (λ (f : Frame). f.page.value) o (if is_counted_page d k then page_of_bytes (content (unit_file u d.store.unit)) k else [])) kept ∙ ap (option_map_or (λ (f : Frame). f.page.value) (frame_of c k)) (stored k)
-    | inr gone ↦ of_frame k None (Some gone.1.0) gone.0 gone.1.2 (stored k ∙ rw (over.counted k gone.1.0 gone.1.2) (sym (room.settled (only.honest honest) k gone.1.0 gone.1.1)))
+    | inl kept ↦ ap (λ o. option_map_or (λ (f : Frame). f.page) o (if is_counted_page d k then page_of_bytes (content (unit_file u d.store.unit)) k else [])) kept ∙ ap (option_map_or (λ (f : Frame). f.page) (frame_of c k)) (stored k)
+    | inr gone ↦ of_frame k None (Some gone.1.0) gone.0 gone.1.2 (stored k ∙ rw (over.counted k gone.1.0 gone.1.2) (sym (room.written.settled (only.honest honest) k gone.1.0 gone.1.1)))
   ]
 
-  pub pages_put : (IsTrue u.is_honest → frame.page.value ≡ page_of_bytes (content (unit_file t c.store.unit)) n) → IsTrue u.is_honest → cached_pages_of d u ≡ cached_pages_of c t
+  pub pages_put : (IsTrue u.is_honest → frame.page ≡ page_of_bytes (content (unit_file t c.store.unit)) n) → IsTrue u.is_honest → cached_pages_of d u ≡ cached_pages_of c t
   pages_put bytes honest = λ i k. at k i
     where
       at : (k : ℕ) → cached_pages_of d u k ≡ cached_pages_of c t k
@@ -123,57 +95,39 @@ module _ (c d : Cache) (t u : ShelfState) (n : ℕ) (frame : Frame) (over : IsOv
         | inr differs ↦ pages_apart honest k differs
       ]
 
--- what a page that was read and put in front leaves, or one that could not be put
-pub record Brought (n : ℕ) (r : Result (Unit {0}) Fault) (c d : Cache) (t u : ShelfState) : Type 0 where
-  pub held : OnOk r (IsSome (frame_of d n))
+-- what a page that was read and put at a place leaves
+pub record Brought (n : ℕ) (c d : Cache) (t u : ShelfState) : Type 0 where
+  pub held : IsSome (frame_of d n)
   pub over : IsOver d u
   pub pages : IsTrue u.is_honest → cached_pages_of d u ≡ cached_pages_of c t
   pub clean : IsClean c → IsClean d
 
-pub brought : (c d : Cache) (t u : ShelfState) (n : ℕ) (frame : Frame) → IsOver c t → HasRoom c t → length c.frames.entries ≤ c.frames.cap → IsTrue (is_counted_page c n) → frame_of c n ≡ None → d.store ≡ c.store
-    → OnlyAnswers t u → frame.changed ≡ false → (IsTrue u.is_honest → frame.page.value ≡ page_of_bytes (content (unit_file t c.store.unit)) n)
-    → (r : Result (Unit {0}) Fault) → OnOk r (d.frames ≡ lru_cache (put_entries nat_eq c.frames n frame) c.frames.cap) → OnErr r (d.frames ≡ c.frames) → Brought n r c d t u
-brought c d t u n frame over room fits counted absent store only unchanged bytes (Ok x) put kept = record {
-  held = ap is_some (put_here c d t u n frame over room fits counted absent store put only);
-  over = over_put c d t u n frame over room fits counted absent store put only (λ honest _. bytes honest);
-  pages = pages_put c d t u n frame over room fits counted absent store put only bytes;
-  clean = clean_put c d t u n frame over room fits counted absent store put only unchanged;
+pub brought : (c d : Cache) (t u : ShelfState) (place n : ℕ) (frame : Frame) → IsOver c t → HasRoom place c t → IsTrue (is_counted_page c n) → frame_of c n ≡ None → d.store ≡ c.store
+    → OnlyAnswers t u → frame.changed ≡ false → (IsTrue u.is_honest → frame.page ≡ page_of_bytes (content (unit_file t c.store.unit)) n)
+    → d.frames ≡ held_frames (put_at place (n, frame) c.frames.entries) c.frames.cap → Brought n c d t u
+brought c d t u place n frame over room counted absent store only unchanged bytes put = record {
+  held = ap is_some (put_here c d t u place n frame over room counted absent store put only);
+  over = over_put c d t u place n frame over room counted absent store put only (λ honest _. bytes honest);
+  pages = pages_put c d t u place n frame over room counted absent store put only bytes;
+  clean = clean_put c d t u place n frame over room counted absent store put only unchanged;
 }
-brought c d t u n frame over room fits counted absent store only unchanged bytes (Err x) put kept =
-    let same : (k : ℕ) → frame_of d k ≡ frame_of c k = λ k. ap (λ frames. lookup (nat_eq k) frames.entries) kept in
-    record {
-      held = tt;
-      over = over_same c d u store same (over_read c t u only over);
-      pages = λ honest. pages_same c d u store same ∙ pages_read c t u only;
-      clean = clean_same c d same;
-    }
 
-pub cap_kept : (old mid new : LruCache ℕ Frame) (es : List (ℕ × Frame)) (r : Result (Unit {0}) Fault) → mid ≡ old → OnOk r (new ≡ lru_cache es mid.cap) → OnErr r (new ≡ mid) → new.cap ≡ old.cap
-cap_kept old mid new es (Ok x) same put kept = ap (λ x. x.cap) put ∙ ap (λ x. x.cap) same
-cap_kept old mid new es (Err x) same put kept = ap (λ x. x.cap) kept ∙ ap (λ x. x.cap) same
-
--- what a page of zeros that was put in front leaves, or one that could not be put
-pub record Blanked (n : ℕ) (r : Result (Unit {0}) Fault) (c d : Cache) (t : ShelfState) : Type 0 where
-  pub zeroed : OnOk r (Zeroed n c d t t)
-  pub kept : OnErr r (KeepsPages c d t t)
+-- what a page of zeros that was put at a place leaves
+pub record Blanked (n : ℕ) (c d : Cache) (t : ShelfState) : Type 0 where
+  pub zeroed : Zeroed n c d t t
   pub over : IsOver d t
 
-pub blanked : (c d : Cache) (t : ShelfState) (n : ℕ) (frame : Frame) → IsOver c t → HasRoom c t → length c.frames.entries ≤ c.frames.cap → IsTrue (is_counted_page c n) → frame_of c n ≡ None → d.store ≡ c.store
-    → frame.changed ≡ true → IsZeros frame.page.value
-    → (r : Result (Unit {0}) Fault) → OnOk r (d.frames ≡ lru_cache (put_entries nat_eq c.frames n frame) c.frames.cap) → OnErr r (d.frames ≡ c.frames) → Blanked n r c d t
-blanked c d t n frame over room fits counted absent store changed zeros (Ok x) put kept =
+pub blanked : (c d : Cache) (t : ShelfState) (place n : ℕ) (frame : Frame) → IsOver c t → HasRoom place c t → IsTrue (is_counted_page c n) → frame_of c n ≡ None → d.store ≡ c.store
+    → frame.changed ≡ true → IsZeros frame.page → d.frames ≡ held_frames (put_at place (n, frame) c.frames.entries) c.frames.cap → Blanked n c d t
+blanked c d t place n frame over room counted absent store changed zeros put =
     let only : OnlyAnswers t t = record { names = refl; file = refl; honest = λ h. h } in
     let low = (counted_low c n counted).1 in
     let most : c.store.pages ≡ max c.store.pages (n + 1) = omega arith in
     record {
       zeroed = record {
-        zeros = λ honest. subst IsZeros (sym (page_here c d t t n frame over room fits counted absent store put only)) zeros;
-        others = λ honest k differs. pages_apart c d t t n frame over room fits counted absent store put only honest k differs;
+        zeros = λ honest. subst IsZeros (sym (page_here c d t t place n frame over room counted absent store put only)) zeros;
+        others = λ honest k differs. pages_apart c d t t place n frame over room counted absent store put only honest k differs;
         store = store ∙ ap (λ p. record c.store { pages = p }) most;
       };
-      kept = tt;
-      over = over_put c d t t n frame over room fits counted absent store put only (λ honest clean. absurd (both_ways frame.changed clean changed));
+      over = over_put c d t t place n frame over room counted absent store put only (λ honest clean. absurd (both_ways frame.changed clean changed));
     }
-blanked c d t n frame over room fits counted absent store changed zeros (Err x) put kept =
-    let same = keeps_same c d t store kept over in
-    record { zeroed = tt; kept = same; over = same.over }

@@ -1,21 +1,21 @@
 -- What a page that was written back leaves of the list of pages.
-use Rattle.std.proofs.Common.{zero, suc, ◌≡◌, ◌≢◌, ◌⊎◌, inl, inr, ℕ, ◌+◌, ◌-◌, ◌<◌, ◌≤◌, max, ltb, true, false, if◌then◌else◌, nat_eq, Option, Some, None, List, [], length, slice_get, refl, sym, ◌∙◌, ap, subst, arith, IsTrue, Result, Ok, Err, OnOk, OnErr}
+use Rattle.std.proofs.Common.{zero, suc, ◌≡◌, ◌≢◌, ◌⊎◌, inl, inr, ℕ, ◌+◌, ◌<◌, ◌≤◌, max, ltb, true, false, if◌then◌else◌, Option, Some, None, List, [], length, slice_get, refl, sym, ◌∙◌, ap, subst, arith, IsTrue, Result, Ok, Err, OnOk, OnErr}
 use Rattle.io_state.specs.declared.fault.Fault.{Fault}
 use Rattle.std.specs.Option.{option_map_or}
 use Rattle.std.specs.Cmp.{nat_eq_equiv}
 use Rattle.std.proofs.lemmas.Map.Entries.{lookup_from_place}
 use Rattle.std.proofs.lemmas.Bool.{cases_Bool, both_ways, and_parts, ltb-true}
-use Rattle.lru.specs.LruCache.{IsValid, last_entry}
+use Rattle.std.proofs.lemmas.Option.{slice_get_within}
 use Rattle.page_store.specs.DeviceFile.{DeviceFile, content, page_of_bytes}
 use Rattle.page_store.specs.Pages.{HoldsPages, PageWritten, PageFails}
 use Rattle.page_store.specs.PageFacts.{page_over}
 use Rattle.page_store.proofs.PageLemmas.{written_is_read, others_read, others_kept}
 use Rattle.page_store.specs.ShelfState.{ShelfState, HasUnit, unit_file, WhereHonest, ChangesOnly, FaultHasCause}
 use Rattle.page_store.specs.declared.store.Store.{Store}
-use Rattle.page_cache.specs.declared.frame.Frame.{Frame}
 use Rattle.page_cache.specs.declared.cache.Cache.{Cache}
 use Rattle.page_cache.specs.Cached.{frame_of, is_counted_page, cached_pages_of, IsOver}
-use Rattle.page_cache.specs.Turning.{HasRoom, IsLastWritten}
+use Rattle.page_cache.specs.HeldFrames.{Frame, IsSeated}
+use Rattle.page_cache.specs.Room.{HasRoom, IsInFile}
 use Rattle.page_cache.specs.Calls.{OnlyLooks, LooksUp}
 use Rattle.page_cache.specs.Quietly.{GoesQuietly}
 use Rattle.page_cache.specs.Rewrites.{Rewrites}
@@ -48,9 +48,9 @@ rewritten store n s t page unit low within has whole only pages how = record {
       ];
 }
 
--- the last frame is one that a look-up finds
-pub last_held : (c : Cache) (n : ℕ) (frame : Frame) → IsValid nat_eq c.frames → last_entry c.frames.entries ≡ Some (n, frame) → frame_of c n ≡ Some frame
-last_held c n frame valid is = lookup_from_place nat_eq_equiv c.frames.entries (length c.frames.entries - 1) n frame valid.0 is
+-- the frame of a place is one that a look-up finds
+pub held_at : (c : Cache) (place n : ℕ) (frame : Frame) → IsSeated c.frames → slice_get c.frames.entries place ≡ Some (n, frame) → frame_of c n ≡ Some frame
+held_at c place n frame seated is = lookup_from_place nat_eq_equiv c.frames.entries place n frame seated.apart is
 
 pub counted_low : (c : Cache) (n : ℕ) → IsTrue (is_counted_page c n) → (0 < n) × (n < c.store.pages)
 counted_low c n counted =
@@ -78,7 +78,7 @@ module _ (c : Cache) (s t : ShelfState) (n : ℕ) (frame : Frame) (over : IsOver
   }
 
   shows : (h : IsTrue t.is_honest) (k : ℕ) (o : Option Frame) → frame_of c k ≡ o
-      → option_map_or (λ (x : Frame). x.page.value) o (if is_counted_page c k then page_of_bytes (content (unit_file t c.store.unit)) k else []) ≡ option_map_or (λ (x : Frame). x.page.value) o (if is_counted_page c k then page_of_bytes (content (unit_file s c.store.unit)) k else [])
+      → option_map_or (λ (x : Frame). x.page) o (if is_counted_page c k then page_of_bytes (content (unit_file t c.store.unit)) k else []) ≡ option_map_or (λ (x : Frame). x.page) o (if is_counted_page c k then page_of_bytes (content (unit_file s c.store.unit)) k else [])
   shows h k (Some other) at = refl
   shows h k None at = elim (cases_Bool (is_counted_page c k)) [
     | inl counted ↦ rw counted (w.others h k (counted_low c k counted).1 (λ same. differs (sym at ∙ ap (frame_of c) same ∙ is)))
@@ -117,22 +117,24 @@ pub store_same : (store new : Store) (n : ℕ) → n < store.pages → (r : Resu
 store_same store new n low (Ok x) added kept = let e : max store.pages (n + 1) ≡ store.pages = omega arith in added ∙ ap (λ pages. record store { pages = pages }) e
 store_same store new n low (Err x) added kept = kept
 
-pub room_made : (c : Cache) (t : ShelfState) → IsValid nat_eq c.frames → c.frames.cap ≤ length c.frames.entries → IsLastWritten c t → HasRoom c t
-room_made c t valid full last = record {
-  settled = λ honest n frame is.
-      let low = valid.1 in
-      let at : length c.frames.entries - 1 ≡ c.frames.cap - 1 = omega arith in
-      last.settled honest n frame (ap (slice_get c.frames.entries) at ∙ is);
+-- what stands at a place is that of the file
+pub written_at : (c : Cache) (t : ShelfState) (place n : ℕ) (frame : Frame) → slice_get c.frames.entries place ≡ Some (n, frame)
+    → (IsTrue t.is_honest → frame.page ≡ page_of_bytes (content (unit_file t c.store.unit)) n) → IsInFile place c t
+written_at c t place n frame at same = record {
+  settled = λ honest k other is.
+      let pair : Some (k, other) ≡ Some (n, frame) = sym is ∙ at in
+      let number : k ≡ n = ap (λ (o : Option (ℕ × Frame)). option_map_or (λ p. p.0) o k) pair in
+      let bytes : other ≡ frame = ap (λ (o : Option (ℕ × Frame)). option_map_or (λ p. p.1) o other) pair in
+      ap (λ (x : Frame). x.page) bytes ∙ same honest ∙ ap (page_of_bytes (content (unit_file t c.store.unit))) (sym number);
 }
 
-pub last_written : (c : Cache) (t : ShelfState) (k : ℕ) (frame : Frame) → last_entry c.frames.entries ≡ Some (k, frame)
-    → (IsTrue t.is_honest → frame.page.value ≡ page_of_bytes (content (unit_file t c.store.unit)) k) → IsLastWritten c t
-last_written c t k frame last same = record {
-  settled = λ honest n other is.
-      let pair : Some (n, other) ≡ Some (k, frame) = sym is ∙ last in
-      let number : n ≡ k = ap (λ (o : Option (ℕ × Frame)). option_map_or (λ p. p.0) o n) pair in
-      let bytes : other ≡ frame = ap (λ (o : Option (ℕ × Frame)). option_map_or (λ p. p.1) o other) pair in
-      ap (λ (x : Frame). x.page.value) bytes ∙ same honest ∙ ap (page_of_bytes (content (unit_file t c.store.unit))) (sym number);
+-- nothing stands at the next place
+pub room_next : (c : Cache) (t : ShelfState) (place : ℕ) → IsSeated c.frames → place ≡ length c.frames.entries → place < c.frames.cap → HasRoom place c t
+room_next c t place seated last room = record {
+  written = record { settled = λ honest n frame is. let within = slice_get_within c.frames.entries place (n, frame) is in absurd (omega arith) };
+  seated = seated;
+  next = omega arith;
+  room = room;
 }
 
 -- the page was written, so the shelf is honest after where it was before

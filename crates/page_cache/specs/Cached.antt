@@ -3,12 +3,11 @@ use Rattle.std.specs.Prelude.{◌≡◌, ℕ, ◌-◌, ◌^◌, ◌<◌, ◌≤�
 use Rattle.std.specs.Prelude.{nat_eq, List, [], length, Option, Some, None, option_map}
 use Rattle.std.specs.Option.{option_map_or}
 use Rattle.std.specs.Map.{lookup}
-use Rattle.lru.specs.LruCache.{lru_cache}
+use Rattle.page_cache.specs.HeldFrames.{Frame, held_frames}
 use Rattle.page_store.specs.declared.store.Store.{Store}
 use Rattle.page_store.specs.DeviceFile.{DeviceFile, content, page_of_bytes}
 use Rattle.page_store.specs.Pages.{HoldsPages}
 use Rattle.page_store.specs.ShelfState.{ShelfState, HasUnit, unit_file, WhereHonest}
-use Rattle.page_cache.specs.declared.frame.Frame.{Frame}
 use Rattle.page_cache.specs.declared.cache.Cache.{Cache}
 
 -- its store, how often a page was asked for, how many pages are in memory, and how many may be
@@ -34,7 +33,7 @@ frame_of cache n = lookup (nat_eq n) cache.frames.entries
 
 -- the bytes of page n, if it is in memory
 abbrev pub bytes_held : Cache → ℕ → Option (List ℕ)
-bytes_held cache n = option_map (λ frame. frame.page.value) (frame_of cache n)
+bytes_held cache n = option_map (λ frame. frame.page) (frame_of cache n)
 
 -- n is a page of the store, and not the header
 abbrev pub is_counted_page : Cache → ℕ → Bool
@@ -43,7 +42,7 @@ is_counted_page cache n = ltb 0 n && ltb n cache.store.pages
 -- each page of the store as the cache shows it over a file; the header and what is past the last
 -- page have no bytes here
 abbrev pub cached_pages_in : Cache → DeviceFile → ℕ → List ℕ
-cached_pages_in cache file n = option_map_or (λ frame. frame.page.value) (frame_of cache n)
+cached_pages_in cache file n = option_map_or (λ frame. frame.page) (frame_of cache n)
     (if is_counted_page cache n then page_of_bytes (content file) n else [])
 
 -- the pages over the unit's file
@@ -58,7 +57,7 @@ pub record IsOver (cache : Cache) (shelf : ShelfState) : Type 0 where
   pub pages : WhereHonest shelf cache.store.unit (HoldsPages cache.store.pages)
   -- a page that was not changed is that of the file
   pub clean : IsTrue shelf.is_honest → (n : ℕ) (frame : Frame) → frame_of cache n ≡ Some frame
-      → frame.changed ≡ false → frame.page.value
+      → frame.changed ≡ false → frame.page
       ≡ page_of_bytes (content (unit_file shelf cache.store.unit)) n
 
 -- so, and n is a page of the store
@@ -91,7 +90,7 @@ pub record IsOverHeader (cache : Cache) (shelf : ShelfState) : Type 0 where
 -- file, over each shelf that has them
 pub record IsEmptyCache (store : Store) (most : ℕ) (cache : Cache) : Type 0 where
   pub store_is : cache.store ≡ store
-  pub frames : cache.frames ≡ lru_cache [] most
+  pub frames : cache.frames ≡ held_frames [] most
   pub asked : cache.asked ≡ 0
   pub over : (shelf : ShelfState) → HasUnit shelf store.unit
       → WhereHonest shelf store.unit (HoldsPages store.pages) → IsOver cache shelf

@@ -1,15 +1,12 @@
 -- What the calls of a cache keep of its pages.
-use Rattle.std.specs.Prelude.{◌≡◌, ◌≢◌, ℕ, ◌+◌, ◌-◌, ◌^◌, ◌≤◌, min, max, List, length, IsTrue, IsSome}
-use Rattle.std.specs.Prelude.{Result, Err, IfOk, OnOk, OnErr}
-use Rattle.std.specs.Global.{Box}
+use Rattle.std.specs.Prelude.{◌≡◌, ◌≢◌, ℕ, ◌+◌, ◌-◌, ◌^◌, ◌≤◌, min, max, IsTrue, IsSome}
+use Rattle.std.specs.Prelude.{Result, IfOk, OnOk, OnErr}
 use Rattle.io_state.specs.declared.fault.Fault.{Fault}
-use Rattle.io_state.specs.declared.fault.Fault.TheVariants.{Memory}
-use Rattle.page_store.specs.ShelfState.{ShelfState, OnlyAnswers, FaultHasCause}
+use Rattle.page_store.specs.ShelfState.{ShelfState, FaultHasCause}
 use Rattle.page_cache.specs.declared.cache.Cache.{Cache}
-use Rattle.page_cache.specs.declared.frame.Frame.{Frame}
 use Rattle.page_cache.specs.Cached.{frame_of, cached_pages_of, IsOver, IsClean}
-use Rattle.page_cache.specs.HeaderCalls.{WasPage}
-use Rattle.page_cache.specs.Pushing.{Pushes}
+use Rattle.page_cache.specs.HeldFrames.{settled}
+use Rattle.page_cache.specs.Room.{IsInFile, HasRoom}
 use Rattle.page_cache.specs.Quietly.{GoesQuietly}
 use Rattle.page_cache.specs.Rewrites.{IsZeros}
 
@@ -17,30 +14,6 @@ use Rattle.page_cache.specs.Rewrites.{IsZeros}
 pub record KeepsStore (old new : Cache) : Type 0 where
   pub store : new.store ≡ old.store
   pub cap : new.frames.cap ≡ old.frames.cap
-
--- the same frames, store and count
-pub record KeepsFrames (old new : Cache) : Type 0 where
-  pub frames : new.frames ≡ old.frames
-  pub store : new.store ≡ old.store
-  pub asked : new.asked ≡ old.asked
-
--- only the frames may be others
-pub record ChangesFrames (old new : Cache) : Type 0 where
-  pub store : new.store ≡ old.store
-  pub asked : new.asked ≡ old.asked
-
--- a box is taken, unless memory lacks
-pub record TakesBox {X : Type 0} (old new : Cache) (result : Result X Fault) : Type 0 where
-  pub same : KeepsFrames old new
-  pub memory : OnErr result (result ≡ Err Memory)
-
--- this frame of page n is put before the others, unless memory lacks
-pub record PutsFrame {X : Type 0} (n : ℕ) (frame : Frame) (old new : Cache)
-    (result : Result X Fault) : Type 0 where
-  pub pushed : Pushes n frame old.frames new.frames result
-  pub fits : length old.frames.entries ≤ old.frames.cap
-  pub same : ChangesFrames old new
-  pub memory : OnErr result (result ≡ Err Memory)
 
 -- it shows the pages that it showed, and may go on over its shelf
 pub record ShowsSame (old new : Cache) (before after : ShelfState) : Type 0 where
@@ -99,12 +72,18 @@ module _ {H X : Type 0} (state : H → ShelfState) (count : H → ℕ) where
     pub held : OnOk result (IsSome (frame_of new n))
     pub looks : LooksUp times old new before after result
 
-  -- so, the cache is the same, and what the last frame holds is so in the file after it
-  pub record WritesLast (IsWritten : Cache → ShelfState → Type 0) (old new : Cache) (before after : H)
-      (result : Result X Fault) : Type 0 where
-    pub written : OnOk result (IsWritten new (state after))
-    pub same : new ≡ old
-    pub looks : LooksUp old.asked old new before after result
+  -- so, the cache is the same, and what stands at a place is so in the file after it
+  pub record WritesPlace (place : ℕ) (old new : Cache) (before after : H) (result : Result X Fault) : Type 0
+    where
+      pub written : OnOk result (IsInFile place new (state after))
+      pub same : new ≡ old
+      pub looks : LooksUp old.asked old new before after result
+
+  -- so, and it is marked as not changed
+  pub record SettlesPlace (place : ℕ) (old new : Cache) (before after : H) (result : Result X Fault) : Type 0
+    where
+      pub settles : OnOk result (new.frames.entries ≡ settled place old.frames.entries)
+      pub stay : PagesStay old.asked old new before after result
 
   -- a call that writes each page that was changed
   pub record WritesChanged (old new : Cache) (before after : H) (result : Result X Fault) : Type 0 where
@@ -123,10 +102,8 @@ module _ {H X : Type 0} (state : H → ShelfState) (count : H → ℕ) where
 
 -- of shelves that show this state and count their faults so
 module _ {H : Type 0} (state : H → ShelfState) (count : H → ℕ) where
-  -- page n is read into a box, past the frames
-  pub record ReadsIntoBox (n : ℕ) (old new : Cache) (before after : H)
-      (result : Result (Box (List ℕ)) Fault) : Type 0 where
-    pub bytes : IfOk result (λ page. WasPage old.store.unit n (state before) (state after) page.value)
-    pub same : KeepsFrames old new
-    pub only : OnlyAnswers (state before) (state after)
-    pub cause : FaultHasCause (count before) (count after) result
+  -- a place is answered at which a page may be put, and the cache is the same
+  pub record MakesRoom (old new : Cache) (before after : H) (result : Result ℕ Fault) : Type 0 where
+    pub room : IfOk result (λ place. HasRoom place new (state after))
+    pub same : new ≡ old
+    pub looks : LooksUp state count old.asked old new before after result

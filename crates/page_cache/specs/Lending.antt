@@ -1,6 +1,5 @@
 -- What a loan of a held page leaves.
-use Rattle.std.specs.Prelude.{◌≡◌, ◌≢◌, ℕ, Bool, List, Result, Some, true, is_some, IsTrue, option_map}
-use Rattle.std.specs.Prelude.{slice_get, IsSome, IsOk, IfOk, ⊤}
+use Rattle.std.specs.Prelude.{◌≡◌, ◌≢◌, ℕ, List, Result, Some, true, option_map, IsSome, IsOk, IfOk, ⊤}
 use Rattle.std.specs.Borrow.{LendsSoOk, follows_so, MutBor, Fml, u8, Array}
 use mathlib.Core.Option.{none}
 use Rattle.io_state.specs.declared.fault.Fault.{Fault}
@@ -8,18 +7,12 @@ use Rattle.page_cache.specs.declared.cache.Cache.{Cache}
 use Rattle.page_cache.specs.contracts.cache.Cache.{the_row}
 use Rattle.page_cache.specs.Cached.{frame_of, bytes_held}
 
--- the same frames, in another order perhaps
+-- the same frames
 pub record SameFrames (old new : Cache) : Type 0 where
   pub frames : (k : ℕ) → frame_of new k ≡ frame_of old k
   pub cap : new.frames.cap ≡ old.frames.cap
   pub store : new.store ≡ old.store
   pub asked : new.asked ≡ old.asked
-
--- page n is put in front where it has a frame, and the answer tells whether it has one
-pub record PutsFirst (n : ℕ) (old new : Cache) (result : Bool) : Type 0 where
-  pub held : result ≡ is_some (frame_of old n)
-  pub first : IsTrue result → option_map (λ e. e.0) (slice_get new.frames.entries 0) ≡ Some n
-  pub same : SameFrames old new
 
 -- the bytes of page n are answered where it has a frame, and it fails only where it has none
 pub record FindsBytes {X : Type 0} (n : ℕ) (cache : Cache) (result : Result X Fault)

@@ -3,10 +3,10 @@ pub mod Rewrites
 pub mod HeaderCalls
 pub mod HeaderChanges
 pub mod FrameCalls
+pub mod HeldFrames
 pub mod Places
-pub mod FirstLends
-pub mod Pushing
+pub mod FrameLends
 pub mod Cached
 pub mod Calls
 pub mod Lending
-pub mod Turning
+pub mod Room

@@ -1,14 +1,32 @@
--- Pages with their frames, each frame in a place.
-use Rattle.std.specs.Prelude.{◌≡◌, ℕ, ◌<◌, List, [], ◌∷◌, map, length, slice_index_or, Contains}
+-- Pages in a row, and where one stands.
+use Rattle.std.specs.Prelude.{◌≡◌, ◌≢◌, ℕ, ◌<◌, ◌≤◌, List, [], ◌∷◌, length, slice_index, nat_eq, Bool}
+use Rattle.std.specs.Prelude.{Option, MatchOption}
+use Rattle.std.specs.List.{IsDistinct}
+use Rattle.page_cache.specs.HeldFrames.{Frame}
 
-module _ {X : Type 0} where
-  -- each page with the frame at its place, in the pages' order
-  abbrev pub framed : List X → List (ℕ × ℕ) → List (ℕ × X)
-  framed [] order = []
-  framed (x ∷ xs) order = map (λ e. (e.0, slice_index_or (x ∷ xs) e.1 x)) order
+-- page n stands at this place, or nowhere
+abbrev pub IsSeatOf : ℕ → List ℕ → Option ℕ → Type 0
+IsSeatOf n numbers place = MatchOption place ((p : ℕ) → p < length numbers → slice_index numbers p ≢ n)
+    (λ p. (p < length numbers) × (slice_index numbers p ≡ n))
 
-  -- each page has a place, no other page has it, and there are no more places
-  pub record IsPlaced (places : List X) (order : List (ℕ × ℕ)) : Type 0 where
-    pub below : (e : ℕ × ℕ) → Contains order e → e.1 < length places
-    pub apart : (e f : ℕ × ℕ) → Contains order e → Contains order f → e.1 ≡ f.1 → e.0 ≡ f.0
-    pub many : length places ≡ length order
+-- each page of bytes with its mark of a change, as long as there are both
+abbrev pub marked : List Bool → List (List ℕ) → List Frame
+marked [] pages = []
+marked (c ∷ cs) [] = []
+marked (c ∷ cs) (page ∷ pages) = record { changed = c; page = page } ∷ marked cs pages
+
+-- each number with the frame at its place
+abbrev pub paired : List ℕ → List Frame → List (ℕ × Frame)
+paired [] frames = []
+paired (n ∷ ns) [] = []
+paired (n ∷ ns) (frame ∷ frames) = (n, frame) ∷ paired ns frames
+
+-- one page of bytes for each number, no number twice, and marks for as many places as there may be
+pub record ArePaired (numbers : List ℕ) (changed : List Bool) (pages : List (List ℕ)) (used : List Bool)
+    (cap : ℕ) : Type 0 where
+  pub long : length pages ≡ length numbers
+  pub few : length numbers ≤ cap
+  pub apart : IsDistinct nat_eq numbers
+  pub changes : length changed ≡ cap
+  pub uses : length used ≡ cap
+  pub some : 0 < cap

@@ -1,52 +1,69 @@
-//! The frames of a cache, in the order of their use.
-ghost use Rattle.std.specs.Prelude.{◌≡◌, [], length, nat_eq, slice_get, option_map, None, IfOk};
+//! The frames of a cache, each with its page.
+ghost use Rattle.std.specs.Prelude.{◌≡◌, ◌<◌, [], length, nat_eq, slice_get, Some, None, IfOk, is_some};
+ghost use Rattle.std.specs.Prelude.{option_copied, option_map};
 ghost use Rattle.std.specs.Option.{option_copied_mut};
 ghost use Rattle.std.specs.NonZero.{non_zero_usize_get};
 ghost use Rattle.std.specs.Borrow.{sem};
 ghost use Rattle.std.specs.Map.{lookup};
-ghost use Rattle.std.specs.Map.Iter.{deref_pair};
-ghost use Rattle.lru.specs.LruCache.{lru_cache, IsValid, last_entry, promoted, demoted};
+ghost use Rattle.page_cache.specs.HeldFrames.{held_frames, IsSeated, CanSeat, put_at, settled};
 
-use crate::frame::Frame;
-use lru::LruCache;
+use crate::places;
+use page_bytes::PAGE_SIZE;
 use std::alloc::{AllocError, Global};
 use std::marker::Model;
-use std::mem;
 use std::num::NonZeroUsize;
 
-/// Pages with their frames, the page used last first. A clause sees what it sees of an `LruCache`.
+/// Pages with their frames. It has all the memory that it ever needs from the beginning.
 #[derive(Drop)]
 pub struct Frames {
-    // Where the frame of each page is.
-    order: LruCache<u32, usize>,
-    places: Vec<Frame>,
+    // The pages of the places that are taken, and their bytes.
+    numbers: Vec<u32>,
+    pages: Vec<[u8; PAGE_SIZE]>,
+    // Whether the page of each place was lent for writing since it was last written.
+    changed: Vec<bool>,
+    // Whether it was used, since it was last considered as the one to go.
+    used: Vec<bool>,
+    // Where pages were last found, by the low bits of their numbers.
+    hints: Vec<usize>,
+    // The place that is considered next.
+    hand: usize,
+    cap: NonZeroUsize,
 }
 
 impl Model for Frames {
-    ghost use Rattle.std.specs.Prelude.{ℕ};
-    ghost use Rattle.lru.specs.LruCache.{LruCache as Entries, lru_cache};
-    ghost use Rattle.page_cache.specs.declared.frame.Frame.{Frame};
+    ghost use Rattle.std.specs.Prelude.{◌<◌, ◌≤◌, length, vec_capacity};
+    ghost use Rattle.std.specs.NonZero.{non_zero_usize_get};
+    ghost use Rattle.page_cache.specs.HeldFrames.{HeldFrames, held_frames};
+    ghost use Rattle.page_cache.specs.Places.{marked, paired, ArePaired};
 
-    ghost Value = { Entries ℕ Frame };
+    ghost Value = { HeldFrames };
 
-    ghost use Rattle.page_cache.specs.Places.{framed, IsPlaced};
+    ghost view = { λ f. held_frames (paired f.numbers.items (marked f.changed.items f.pages.items))
+        (non_zero_usize_get f.cap) };
 
-    ghost view = { λ f. lru_cache (framed f.places.items f.order.entries) f.order.cap };
-
-    ghost invariant = { λ f. IsPlaced f.places.items f.order.entries };
+    ghost invariant = { λ f. ArePaired f.numbers.items f.changed.items f.pages.items f.used.items
+        (non_zero_usize_get f.cap) × (non_zero_usize_get f.cap ≤ vec_capacity f.numbers)
+        × (non_zero_usize_get f.cap ≤ vec_capacity f.pages) × (0 < length f.hints.items) };
 }
 
 impl Frames {
-    ghost use Rattle.page_cache.specs.FirstLends.{LendsFirst};
-    ghost use Rattle.page_cache.specs.Pushing.{Pushes, CanPushNew, MovesEntry};
+    ghost use Rattle.page_cache.specs.FrameLends.{LendsPage};
 
-    /// No frame yet, and room for so many.
+    /// No page yet, and this many places.
     pub fn new(alloc: Global, cap: NonZeroUsize) -> Result<Frames, AllocError>
-        ensures { IfOk result (λ frames. frames ≡ lru_cache [] (non_zero_usize_get cap)) }
+        ensures { IfOk result (λ frames. frames ≡ held_frames [] (non_zero_usize_get cap)) }
     {
+        let most = cap.get();
+        // As many hints as two to some power, so that the low bits of a number choose among all.
+        let many = most.saturating_mul(4).checked_next_power_of_two();
         Ok(Frames {
-            order: LruCache::sparse(alloc, cap)?,
-            places: Vec::new(alloc),
+            numbers: Vec::with_capacity(alloc, most)?,
+            pages: Vec::with_capacity(alloc, most)?,
+            changed: vec![in alloc; false; most]?,
+            used: vec![in alloc; false; most]?,
+            hints: vec![in alloc; 0; many.unwrap_or(most).max(1)]?,
+            hand: 0,
+            cap,
         })
     }
 
@@ -54,104 +71,152 @@ impl Frames {
     #[inline(always)]
     pub fn len(&self) -> usize
         ensures len { result ≡ length self.now.entries }
-        ensures valid { IsValid nat_eq self.now }
+        ensures seated { IsSeated self.now }
     {
-        self.order.len()
+        self.numbers.len()
     }
 
     /// How many frames there may be.
     pub fn cap(&self) -> NonZeroUsize
         ensures { non_zero_usize_get result ≡ self.now.cap }
     {
-        self.order.cap()
+        self.cap
     }
 
-    /// Puts page `n` first, and tells whether it has a frame.
+    /// Marks page `n` as used, and tells whether it has a frame.
     #[inline(always)]
-    pub fn promote(&mut self, n: u32) -> bool
-        ensures { MovesEntry promoted n self.old self.new result }
+    pub fn touch(&mut self, n: u32) -> bool
+        ensures held { result ≡ is_some (lookup (nat_eq n) self.old.entries) }
+        ensures same { self.new ≡ self.old }
     {
-        self.order.promote(&n)
+        match places::place_of(&self.numbers, &self.hints, n) {
+            Some(place) => {
+                self.mark(place, n);
+                true
+            }
+            None => false,
+        }
     }
 
-    /// Puts page `n` last, and tells whether it has a frame.
+    // Marks the place of page n as used, and keeps where it is.
     #[inline(always)]
-    pub fn demote(&mut self, n: u32) -> bool
-        ensures { MovesEntry demoted n self.old self.new result }
+    fn mark(&mut self, place: usize, n: u32)
+        requires { place < self.old.cap }
+        ensures same { self.new ≡ self.old }
     {
-        self.order.demote(&n)
+        self.used[place] = true;
+        let slot = places::slot_of(&self.hints, n);
+        self.hints[slot] = place;
     }
 
-    /// The page used last, and its frame.
-    #[inline(always)]
-    pub fn peek_mru(&self) -> Option<(&u32, &Frame)>
-        ensures { option_map deref_pair result ≡ slice_get self.now.entries 0 }
+    /// Has page `n` be the next one to go, where all places are taken.
+    pub fn demote(&mut self, n: u32)
+        ensures same { self.new ≡ self.old }
     {
-        match self.order.peek_mru() {
-            Some((n, place)) => Some((n, &self.places[*place])),
+        if let Some(place) = places::place_of(&self.numbers, &self.hints, n) {
+            self.used[place] = false;
+            self.hand = place;
+        }
+    }
+
+    /// Lends page `n` for reading.
+    #[inline(always)]
+    pub fn page(&self, n: u32) -> Option<&[u8; PAGE_SIZE]>
+        ensures { option_copied result ≡ option_map (λ frame. frame.page) (lookup (nat_eq n) self.now.entries) }
+    {
+        match places::place_of(&self.numbers, &self.hints, n) {
+            Some(place) => Some(&self.pages[place]),
             None => None,
         }
     }
 
-    /// The page used longest ago, and its frame.
-    pub fn peek_lru(&self) -> Option<(&u32, &Frame)>
-        ensures { option_map deref_pair result ≡ last_entry self.now.entries }
-    {
-        match self.order.peek_lru() {
-            Some((n, place)) => Some((n, &self.places[*place])),
-            None => None,
-        }
-    }
-
-    /// The frame of the page used last, to be written.
+    /// Lends page `n` for writing: its frame counts as changed.
     #[inline(always)]
-    pub fn first_mut(&mut self) -> Option<&mut Frame>
-        ensures* lends { sem 𝓛 (LendsFirst self.entry result) }
-        ensures value { option_copied_mut result ≡ option_map (λ e. e.1) (slice_get self.old.entries 0) }
+    pub fn page_mut(&mut self, n: u32) -> Option<&mut [u8; PAGE_SIZE]>
+        ensures* lends { sem 𝓛 (LendsPage n self.entry result) }
+        ensures value { option_copied_mut result
+            ≡ option_map (λ frame. frame.page) (lookup (nat_eq n) self.old.entries) }
     {
-        let _held = self.order.len();
-        match self.order.peek_mru() {
-            Some((_, place)) => {
-                let place = *place;
-                Some(&mut self.places[place])
+        match places::place_of(&self.numbers, &self.hints, n) {
+            Some(place) => {
+                self.changed[place] = true;
+                Some(&mut self.pages[place])
             }
             None => None,
         }
     }
 
-    /// Puts a page first that has no frame yet. Where there are as many frames as there may be, the
-    /// page used longest ago is pushed out, and its frame is the answer. Where memory lacks, all
-    /// stays, and `frame` comes back.
-    pub fn push(&mut self, n: u32, frame: Frame) -> Result<Option<Frame>, Option<Frame>>
-        requires absent { lookup (nat_eq n) self.old.entries ≡ None }
-        ensures { Pushes n frame self.old self.new result }
+    /// The page of a place, whether it was changed, and its bytes.
+    pub fn at(&self, place: usize) -> (u32, bool, &[u8; PAGE_SIZE])
+        requires { place < length self.now.entries }
+        ensures { slice_get self.now.entries place
+            ≡ Some (result.0, record { changed = result.1; page = result.2.now }) }
     {
-        if self.len() < self.cap().get() {
-            return self.push_new(n, frame);
-        }
-        let _held = self.order.len();
-        let place = match self.order.peek_lru() {
-            Some((_, place)) => *place,
-            None => return Err(Some(frame)),
-        };
-        match self.order.put(n, place) {
-            Ok(_) => Ok(Some(mem::replace(&mut self.places[place], frame))),
-            Err(_) => Err(Some(frame)),
-        }
+        (self.numbers[place], self.changed[place], &self.pages[place])
     }
 
-    // Puts a page first, in a place of its own.
-    fn push_new(&mut self, n: u32, frame: Frame) -> Result<Option<Frame>, Option<Frame>>
-        requires { CanPushNew n self.old }
-        ensures { Pushes n frame self.old self.new result }
+    /// Marks the page of a place as not changed.
+    pub fn settle(&mut self, place: usize)
+        requires { place < length self.old.entries }
+        ensures { self.new ≡ held_frames (settled place self.old.entries) self.old.cap }
     {
-        let place = self.places.len();
-        if let Err(failed) = self.places.push(frame) {
-            return Err(Some(failed.value));
+        self.changed[place] = false;
+    }
+
+    /// The place whose page is the next one to go, where all places are taken: one that was not used
+    /// for long.
+    pub fn choose(&mut self) -> usize
+        requires { length self.old.entries ≡ self.old.cap }
+        ensures place { result < length self.old.entries }
+        ensures same { self.new ≡ self.old }
+    {
+        let from = if self.hand < self.used.len() {
+            self.hand
+        } else {
+            0
+        };
+        let place = places::next_unused(&mut self.used, from);
+        self.hand = place + 1;
+        place
+    }
+
+    /// Puts a page at a place that is taken, in place of its page, or at the next one.
+    pub fn put(&mut self, place: usize, n: u32, changed: bool, page: &[u8; PAGE_SIZE])
+        requires { CanSeat place n self.old }
+        ensures { self.new ≡ held_frames
+            (put_at place (n, record { changed = changed; page = page.now }) self.old.entries) self.old.cap }
+    {
+        if place < self.len() {
+            self.replace(place, n, changed, page);
+        } else {
+            self.push(n, changed, page);
         }
-        match self.order.put(n, place) {
-            Ok(_) => Ok(None),
-            Err(_) => Err(self.places.pop()),
-        }
+        self.mark(place, n);
+    }
+
+    // Puts a page in place of another one.
+    fn replace(&mut self, place: usize, n: u32, changed: bool, page: &[u8; PAGE_SIZE])
+        requires absent { lookup (nat_eq n) self.old.entries ≡ None }
+        requires held { place < length self.old.entries }
+        ensures { self.new ≡ held_frames
+            (put_at place (n, record { changed = changed; page = page.now }) self.old.entries) self.old.cap }
+    {
+        self.numbers[place] = n;
+        self.changed[place] = changed;
+        self.pages[place] = *page;
+    }
+
+    // Puts a page at the next place.
+    fn push(&mut self, n: u32, changed: bool, page: &[u8; PAGE_SIZE])
+        requires absent { lookup (nat_eq n) self.old.entries ≡ None }
+        requires room { length self.old.entries < self.old.cap }
+        ensures { self.new ≡ held_frames
+            (put_at (length self.old.entries) (n, record { changed = changed; page = page.now })
+            self.old.entries) self.old.cap }
+    {
+        let place = self.numbers.len();
+        self.changed[place] = changed;
+        places::add(&mut self.numbers, n);
+        places::add(&mut self.pages, *page);
     }
 }

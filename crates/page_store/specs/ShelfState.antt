@@ -54,9 +54,9 @@ pub record KeepsOthers (unit : ℕ) (old new : ShelfState) : Type 0 where
   pub others : (name : List ℕ) → ¬ (name ≡ unit_name old unit) → new.file name ≡ old.file name
   pub honest : IsTrue new.is_honest → IsTrue old.is_honest
 
--- Device comes only where the count of faults rose, or stands at its greatest value; Memory is the
--- only other fault
+-- a fault comes only where the count of faults rose, or stands at its greatest value; it is Device
+-- or Memory
 pub record FaultHasCause {T : Type 0} (old new : ℕ) (result : Result T Fault) : Type 0 where
   pub no_fewer : old ≤ new
-  pub device : IsErrOf result Device → min (old + 1) (2 ^ 64 - 1) ≤ new
+  pub counted : OnErr result (min (old + 1) (2 ^ 64 - 1) ≤ new)
   pub kinds : OnErr result (IsErrOf result Device ⊎ IsErrOf result Memory)

@@ -12,16 +12,17 @@ use io_state::{Fault, FileName};
 
 /// Named files on a device that may fail, and that a crash may stop at any moment.
 ///
-/// A unit is a place in the list of names attached; a file is known by its name. A call that
-/// answers `Fault::Device` was counted by `faults`; `Fault::Memory` is the only other fault.
+/// A unit is a place in the list of names attached; a file is known by its name. A call on a unit
+/// that answers a fault was counted by `faults`: `Fault::Device`, or `Fault::Memory` where the files
+/// are in memory and it ran out. No other fault comes, and no other call is counted.
 pub trait Shelf {
     /// What the shelf shows.
     ghost state: { Self → ShelfState };
 
-    /// How often the device has failed, as far as 64 bits can count.
+    /// How often a call on a unit has failed, as far as 64 bits can count.
     ghost fault_count: { Self → ℕ };
 
-    /// How often the device has failed. At its greatest value it stays.
+    /// How often a call on a unit has failed. At its greatest value it stays.
     fn faults(&self) -> u64
         ensures { result ≡ fault_count self.now };
 

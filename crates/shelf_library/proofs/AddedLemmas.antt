@@ -1,6 +1,6 @@
 -- A unit was added to a library.
-use Rattle.std.proofs.Common.{◌≡◌, ℕ, zero, suc, ◌<◌, ◌+◌, Bool, true, false, List, [], ◌∷◌, ◌++◌, length, Some, IsTrue, IsFalse, Result, Ok, refl, sym, ap, subst, ◌∙◌, arith, bytes_eq, get_or, length-append, if◌then◌else◌}
-use Rattle.std.specs.List.{IsDistinct, list_any}
+use Rattle.std.proofs.Common.{◌≡◌, ℕ, zero, suc, ◌<◌, ◌+◌, true, false, List, [], ◌∷◌, ◌++◌, length, Some, IsTrue, Ok, refl, sym, ap, subst, ◌∙◌, arith, bytes_eq, get_or, length-append, if◌then◌else◌}
+use Rattle.std.specs.List.{list_any}
 use Rattle.std.proofs.lemmas.Cmp.{nat_list_eq_equiv}
 use Rattle.std.proofs.lemmas.Map.Keys.{IsDistinct-push}
 use Rattle.growing_shelf.specs.AddedUnit.{with_added}
@@ -10,9 +10,9 @@ use Rattle.indexed_file.specs.World.{named_in}
 use Rattle.shelf_library.specs.Adding.{AddsName}
 use Rattle.shelf_library.specs.Units.{unit_of, counts_of_held, frames_of_held, pages_asked_of, room_of_held}
 use Rattle.shelf_library.specs.WorldLaws.{units_long}
-use Rattle.shelf_library.proofs.Terms.{bytes_eq-Decides, either, Keeps, Stays, FileUnit, Named, Shut, Broken, HasOpened, World, DeviceFile, ShelfState, unit_file, unit_name, shown_by}
-use Rattle.shelf_library.proofs.Terms.{look_of, named_of, is_broken_file, pages_behind, schema_behind, ShelfFile, Header, unit_of_pages, HasLimits}
-use Rattle.shelf_library.proofs.Terms.{AreUnits, AreLimited, IsLooked, IsReadyAt, LibraryState, held_at, IsShownTruly, IsTrulyClosed, IsTrulyOpen, holding_of, units_of, world_of, Held, Looked}
+use Rattle.shelf_library.proofs.Terms.{bytes_eq-Decides, either, Keeps, FileUnit, Named, Shut, Broken, HasOpened, DeviceFile, ShelfState, unit_file, shown_by}
+use Rattle.shelf_library.proofs.Terms.{look_of, named_of, is_broken_file, pages_behind, schema_behind, ShelfFile, unit_of_pages}
+use Rattle.shelf_library.proofs.Terms.{AreUnits, AreLimited, LibraryState, held_at, IsShownTruly, holding_of, units_of, world_of, Held, Looked}
 use Rattle.shelf_library.proofs.Terms.{Nothing, Opened}
 use Rattle.shelf_library.proofs.WorldLemmas.{named_anywhere}
 use Rattle.shelf_library.proofs.AsideLemmas.{same_file_in, stands_same, ready_where, within_held, images_aside}

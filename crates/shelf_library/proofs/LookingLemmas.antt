@@ -45,7 +45,7 @@ looked_by (Err fault) header is = absurd (cc)
 look_fault : (is_honest : Bool) (truly : Type 0) (old new : ℕ) (look : Result Look Fault) → FaultHasCause old new look → IfErr (seen_after look) (MayFail false is_honest truly old new)
 look_fault is_honest truly old new (Ok found) cause = tt
 look_fault is_honest truly old new (Err fault) cause = elim cause.kinds [
-  | inl is ↦ let same : fault ≡ Device = cc in subst (MayFail false is_honest truly old new) (sym same) (has_risen old new (cause.device is))
+  | inl is ↦ let same : fault ≡ Device = cc in subst (MayFail false is_honest truly old new) (sym same) (has_risen old new cause.counted)
   | inr is ↦ let same : fault ≡ Memory = cc in subst (MayFail false is_honest truly old new) (sym same) refl
 ]
 

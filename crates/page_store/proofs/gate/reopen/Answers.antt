@@ -1,4 +1,4 @@
-use Rattle.std.proofs.Common.{rules, ◌≡◌, ◌∙◌, sym, subst, length, arith, inl, ap}
+use Rattle.std.proofs.Common.{rules, ◌≡◌, ◌∙◌, sym, subst, length, arith, inl, inr, ap}
 use Rattle.page_store.specs.DeviceFile.{DeviceFile}
 use Rattle.page_store.specs.Calls.{Synced, SyncFails}
 use Rattle.page_store.specs.Gate.{GateWritten, GateFails, WasOrRefused}
@@ -100,7 +100,9 @@ returns-in_ok-sync g c =
     let same = same_file (g.S.Shelf.state c.args.shelf.now) (g.S.Shelf.state c.read_at.new.self) c.args.unit c.read_at.ensures.only in
     let done = subst (λ (x : DeviceFile). Synced x h) same c.in_ok-sync.ensures.done in
     record {
-      images = search rules;
+      images = λ honest.
+          let was = c.read_at.ensures.only.honest (sym c.sync.ensures.only.honest ∙ honest) in
+          sync_failed (WasOrRefused f) f h (λ image may. inl may) (inl (there_image 1 f (c.requires.file was) (g.met.S.Shelf.reads_an_image c.args.shelf.now _ was))) (inr done);
       opens = λ honest.
           let then = sym c.sync.ensures.only.honest ∙ honest in
           let within = c.requires.file (c.read_at.ensures.only.honest then) in

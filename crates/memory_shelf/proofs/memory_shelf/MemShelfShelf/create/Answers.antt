@@ -6,14 +6,14 @@ use Rattle.memory_shelf.proofs.memory_shelf.MemShelfShelf.create.Goals as goal
 
 pub returns : goal.returns
 returns c =
-    let file = c.in_ok-file.file in
+    let file = c.in-Ok.file in
     let is = unit_is (λ name. name.bytes) c.args.self.now.units.items c.args.unit c.index.result.now (rw length-map at c.requires.unit.attached) c.index.ensures in
-    let named = (bytes_eq-Decides file.name.bytes _).1 (ap (λ (n : _). n.bytes) c.in_ok-file.ensures.named ∙ sym is) in
+    let named = (bytes_eq-Decides file.name.bytes _).1 (ap (λ (n : _). n.bytes) c.in-Ok.ensures.named ∙ sym is) in
     let old = absent_from c.args.self.now.files.items _ (c.requires.file refl) in
     let pushed : c.push.new.self.items ≡ c.args.self.now.files.items ++ file ∷ [] = search rules in
     let new = file_push c.args.self.now.files.items file _ old named in
     record {
-      done = rw (pushed, new, old) c.in_ok-file.ensures.made;
+      done = rw (pushed, new, old) c.in-Ok.ensures.made;
       failed = tt;
       only = record {
         names = refl;

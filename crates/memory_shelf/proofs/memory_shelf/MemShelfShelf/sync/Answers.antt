@@ -16,10 +16,10 @@ unchanged (Err e) f g same = inl same
 pub returns : goal.returns
 returns c =
     let f = c.index_mut-file.result.now in
-    let d = changed c.args.self.now.files.items _ c.in-Some.place f c.sync.new.self c.in-Some.ensures.found c.index_mut-file.ensures.value c.sync.ensures.name in
+    let d = changed c.args.self.now.files.items _ c.in-Some.place f c.sync-done.new.self c.in-Some.ensures.found c.index_mut-file.ensures.value c.sync-done.ensures.name in
     record {
-      done = rw (d.was, d.this) c.sync.ensures.done;
-      failed = rw (d.was, d.this) (unchanged c.sync.result (device_file_of f) (device_file_of c.sync.new.self) c.sync.ensures.failed);
+      done = rw (d.was, d.this, c.counted.ensures.same) c.sync-done.ensures.done;
+      failed = rw (d.was, d.this, c.counted.ensures.same) (unchanged c.sync-done.result (device_file_of f) (device_file_of c.sync-done.new.self) c.sync-done.ensures.failed);
       only = record { names = refl; others = d.others; honest = refl };
-      cause = search rules;
+      cause = c.counted.ensures.cause;
     }

@@ -2,8 +2,8 @@ use Rattle.std.proofs.Common.{rules, refl, sym}
 use Rattle.memory_shelf.proofs.MemFilesLemmas.{changed, not_none}
 use Rattle.memory_shelf.proofs.memory_shelf.MemShelfShelf.write_at.Goals as goal
 
-pub write-requires : goal.write-requires
-write-requires c =
+pub write-done-requires : goal.write-done-requires
+write-done-requires c =
     let found = c.in-Some.ensures.found in
     rw (sym c.index_mut-file.ensures.value) at (found.within c.index_mut-file.result.now c.args.at (c.requires.file refl))
 
@@ -13,10 +13,10 @@ unreachable-requires c = not_none _ c.args.at (c.requires.file refl) c.in-None.e
 pub returns : goal.returns
 returns c =
     let f = c.index_mut-file.result.now in
-    let d = changed c.args.self.now.files.items _ c.in-Some.place f c.write.new.self c.in-Some.ensures.found c.index_mut-file.ensures.value c.write.ensures.name in
+    let d = changed c.args.self.now.files.items _ c.in-Some.place f c.write-done.new.self c.in-Some.ensures.found c.index_mut-file.ensures.value c.write-done.ensures.name in
     record {
-      done = rw (d.was, d.this) c.write.ensures.done;
-      failed = rw (d.was, d.this) c.write.ensures.failed;
+      done = rw (d.was, d.this, c.counted.ensures.same) c.write-done.ensures.done;
+      failed = rw (d.was, d.this, c.counted.ensures.same) c.write-done.ensures.failed;
       only = record { names = refl; others = d.others; honest = refl };
-      cause = search rules;
+      cause = c.counted.ensures.cause;
     }

@@ -1,28 +1,27 @@
-use Rattle.std.proofs.Common.{rules, ◌≡◌, true, refl, sym, ◌∙◌, ap, Some, option_map, slice_get}
+use Rattle.std.proofs.Common.{◌≡◌, refl, sym, ◌∙◌, ap, Some, IsSome, option_map, nat_eq}
 use Rattle.std.specs.Option.{option_copied_mut}
-use Rattle.page_cache.specs.Cached.{frame_of}
-use Rattle.page_cache.proofs.FrameLemmas.{first_here, first_apart, first_value}
+use Rattle.std.specs.Map.{lookup}
+use Rattle.page_cache.specs.HeldFrames.{Frame}
+use Rattle.page_cache.proofs.FrameLemmas.{value_here, value_apart, there_from}
 use Rattle.page_cache.proofs.cache.Cache.held_mut.Goals as goal
 
 pub returns-in-Some : goal.returns-in-Some
 returns-in-Some c =
-    let es = c.front.new.self.frames.entries in
-    let is : c.front.result ≡ true = search rules in
-    let first = c.front.ensures.first is in
-    let same = c.front.ensures.same in
-    let value : option_map (λ e. e.1) (slice_get es 0) ≡ Some c.in-Some.frame.now = sym c.first_mut.ensures.value ∙ ap option_copied_mut c.in-Some.is in
-    let found : frame_of c.args.self.now c.args.n ≡ Some c.in-Some.frame.now = sym (same.frames c.args.n) ∙ first_value c.args.n es c.in-Some.frame.now first value in (
+    let n = c.args.n in
+    let es = c.args.self.now.frames.entries in
+    let value : option_map (λ (frame : Frame). frame.page) (lookup (nat_eq n) es) ≡ Some c.in-Some.page.now = sym c.page_mut.ensures.value ∙ ap option_copied_mut c.in-Some.is in
+    let there : IsSome (lookup (nat_eq n) es) = there_from n es c.in-Some.page.now value in (
       (
         refl,
         (λ w _. record {
-          this = ap (option_map (λ frame. frame.page.value)) (first_here c.args.n es _ first);
-          changed = ap (option_map (λ frame. frame.changed)) (first_here c.args.n es _ first);
-          others = λ k differs. first_apart c.args.n k es _ first differs ∙ same.frames k;
-          cap = same.cap;
-          store = same.store;
-          asked = same.asked;
+          this = ap (option_map (λ (frame : Frame). frame.page)) (value_here n es _ there);
+          changed = ap (option_map (λ (frame : Frame). frame.changed)) (value_here n es _ there);
+          others = λ k differs. value_apart n k es _ there differs;
+          cap = refl;
+          store = refl;
+          asked = refl;
         }),
         tt,
       ),
-      record { lends = tt; answer = record { ok = λ _. refl; value = ap (option_map (λ frame. frame.page.value)) found ∙ ap Some (sym c.deref_mut.ensures.value) } },
+      record { lends = tt; answer = record { ok = λ _. refl; value = value } },
     )

@@ -1,38 +1,67 @@
-use Rattle.std.proofs.Common.{arith, ◌≤◌, ◌-◌, length, sym, ap, ◌∙◌, option_map, nat_eq}
+use Rattle.std.proofs.Common.{◌≡◌, ◌<◌, [], ◌∷◌, ◌++◌, length, arith, ap, ◌∙◌, sym}
 use Rattle.std.specs.Prelude.{slice_set}
-use Rattle.std.specs.Map.Iter.{deref_pair}
-use Rattle.lru.specs.LruCache.{lru_cache, put_entries}
-use Rattle.page_cache.specs.Places.{framed}
-use Rattle.page_cache.proofs.PlacesLemmas.{pushed_over, place_below}
+use Rattle.std.specs.NonZero.{non_zero_usize_get}
+use Rattle.page_cache.specs.HeldFrames.{Frame, held_frames, put_at}
+use Rattle.page_cache.specs.Places.{marked, paired}
+use Rattle.page_cache.proofs.PlacesLemmas.{frames_long, push_rows, pushed}
 use Rattle.page_cache.proofs.frames.Frames.push.Goals as goal
 
 pub index_mut-requires : goal.index_mut-requires
 index_mut-requires c =
-    let es = c.self.inside.order.entries in
-    let low = place_below c.self.inside.places.items es (length es - 1) c.in-Some.field-0-0.now c.in-Some.place.now c.self.invariant (sym c.peek_lru.ensures ∙ ap (option_map deref_pair) c.in-Some.is) in
-    let long = c.self.inside.places.ok.0 in
+    let within = rw (← c.self.view_is) at c.requires.room in
+    let long = (frames_long _ _ _ _ _ c.self.invariant.0).2 in
+    let changes = c.self.invariant.0.changes in
+    let len = c.self.inside.changed.ok.0 in
+    let last = c.len-place.ensures in
+    let numbers = c.self.inside.numbers.ok.0 in
+    omega arith
+
+pub add-requires : goal.add-requires
+add-requires c =
+    let within = rw (← c.self.view_is) at c.requires.room in
+    let long = (frames_long _ _ _ _ _ c.self.invariant.0).2 in
+    let len = c.self.inside.numbers.ok.0 in
+    let room = c.self.invariant.1 in
+    omega arith
+
+pub add-requires-2 : goal.add-requires-2
+add-requires-2 c =
+    let within = rw (← c.self.view_is) at c.requires.room in
+    let long = (frames_long _ _ _ _ _ c.self.invariant.0).2 in
+    let same = c.self.invariant.0.long in
+    let len = c.self.inside.pages.ok.0 in
+    let room = c.self.invariant.2 in
     omega arith
 
 pub invariant_of-self : goal.invariant_of-self
 invariant_of-self c =
-    let len = c.len.ensures.len in
-    let cap = c.cap.ensures in
-    let most = c.get.ensures.value in
-    let over = c.if-len-get.false in
-    let full : c.args.self.now.cap ≤ length c.args.self.now.entries = omega arith in
-    let last = sym c.peek_lru.ensures ∙ ap (option_map deref_pair) c.in-Some.is in
-    let all = pushed_over c.self.inside.places.items c.self.inside.order c.put.new.self c.args.n c.in-Some.field-0-0.now c.in-Some.place.now c.args.frame c.self.invariant
-    (rw (← c.self.view_is) at c.requires.absent) c.len-held.ensures.valid (rw (← c.self.view_is) at full) last c.in-Ok.ensures.entries in
-    rw c.replace.ensures.after all.placed
+    let ns = c.self.inside.numbers.items in
+    let none = rw (← c.self.view_is) at c.requires.absent in
+    let within = rw (← c.self.view_is) at c.requires.room in
+    let long = (frames_long _ _ _ _ _ c.self.invariant.0).2 in
+    let low : length ns < non_zero_usize_get c.self.inside.cap = omega arith in
+    let numbers_room = c.self.invariant.1 in
+    let pages_room = c.self.invariant.2 in
+    let numbers_grow = c.add.ensures.room in
+    let pages_grow = c.add-2.ensures.room in (
+      rw (c.add.ensures.items, c.add-2.ensures.items) (pushed c.args.n ns c.self.inside.changed.items c.self.inside.pages.items c.len-place.result c.args.changed c.args.page.now c.self.inside.used.items (non_zero_usize_get c.self.inside.cap) c.self.invariant.0 none low),
+      omega arith,
+      omega arith,
+      c.self.invariant.3,
+    )
 
-pub returns-in-Ok : goal.returns-in-Ok
-returns-in-Ok c =
-    let len = c.len.ensures.len in
-    let cap = c.cap.ensures in
-    let most = c.get.ensures.value in
-    let over = c.if-len-get.false in
-    let full : c.args.self.now.cap ≤ length c.args.self.now.entries = omega arith in
-    let last = sym c.peek_lru.ensures ∙ ap (option_map deref_pair) c.in-Some.is in
-    let all = pushed_over c.self.inside.places.items c.self.inside.order c.put.new.self c.args.n c.in-Some.field-0-0.now c.in-Some.place.now c.args.frame c.self.invariant
-    (rw (← c.self.view_is) at c.requires.absent) c.len-held.ensures.valid (rw (← c.self.view_is) at full) last c.in-Ok.ensures.entries in
-    record { put = ap (λ w. lru_cache (framed (slice_set c.self.inside.places.items c.in-Some.place.now w) c.put.new.self.entries) c.put.new.self.cap) c.replace.ensures.after ∙ all.view ∙ ap (λ f. lru_cache (put_entries nat_eq f c.args.n c.args.frame) f.cap) c.self.view_is; kept = tt }
+pub returns : goal.returns
+returns c =
+    let ns = c.self.inside.numbers.items in
+    let cs = slice_set c.self.inside.changed.items c.len-place.result c.args.changed in
+    let cap = non_zero_usize_get c.self.inside.cap in
+    let frame : Frame = record { changed = c.args.changed; page = c.args.page.now } in
+    let within = rw (← c.self.view_is) at c.requires.room in
+    let long = (frames_long _ _ _ _ _ c.self.invariant.0).2 in
+    let low : length ns < cap = omega arith in
+    let last : c.len-place.result ≡ length ns = c.len-place.ensures ∙ c.self.inside.numbers.ok.0 in
+    ap (λ l. held_frames (paired l (marked cs c.add-2.new.items.items)) cap) c.add.ensures.items
+    ∙ ap (λ l. held_frames (paired (ns ++ c.args.n ∷ []) (marked cs l)) cap) c.add-2.ensures.items
+    ∙ ap (λ l. held_frames l cap) (push_rows c.args.n ns c.self.inside.changed.items c.self.inside.pages.items c.len-place.result c.args.changed c.args.page.now _ _ c.self.invariant.0 last low)
+    ∙ ap (λ k. held_frames (put_at k (c.args.n, frame) (paired ns (marked c.self.inside.changed.items c.self.inside.pages.items))) cap) (last ∙ sym long)
+    ∙ ap (λ f. held_frames (put_at (length f.entries) (c.args.n, frame) f.entries) f.cap) c.self.view_is

@@ -46,7 +46,7 @@ returns-in_err-file g c =
           _ _ c.shelf-1.given.1 c.create-2.ensures.takes.writes.step.1
           (handed_on c.from_residual-in_err-file.result c.in_err-file.field-0.0 _ c.from_residual-in_err-file.ensures.1
           (made_cause unit limit a _ _ _ _ _ made ready goes (g.S.Shelf.fault_count c.args.shelf.now) (length c.args.schema.now.keys)
-          c.in_err-file.field-0.0 c.create.ensures.opens.cause.no_fewer c.requires.limit c.key_count-keys.ensures.schema.few
+          c.in_err-file.field-0.0 c.create.ensures.opens.no_fewer c.requires.limit c.key_count-keys.ensures.schema.few
           c.in_err-file.ensures.takes.writes.cause));
       damage =
           at_end (λ s. IsTrue (g.S.Shelf.state s).is_honest → IfErr c.from_residual-in_err-file.result (λ e. e ≢ Damage))

@@ -1,7 +1,7 @@
-use Rattle.std.proofs.Common.{◌≡◌, ◌++◌, ◌∷◌, [], List, refl, rules, arith}
+use Rattle.std.proofs.Common.{◌≡◌, ◌++◌, ◌∷◌, [], refl, rules, arith}
 use Rattle.std.proofs.lemmas.Grind.{common_steps}
 use Rattle.shelf_library.specs.Adding.{AddsName}
-use Rattle.shelf_library.proofs.Terms.{Held, Nothing}
+use Rattle.shelf_library.proofs.Terms.{Nothing}
 use Rattle.shelf_library.proofs.StateLemmas.{library_state, state_left}
 use Rattle.shelf_library.proofs.AddedLemmas.{units_now, limits_added, adds_unit}
 use Rattle.shelf_library.proofs.library.ShelfLibraryGrowingLibrary.add_unit.Goals as goal

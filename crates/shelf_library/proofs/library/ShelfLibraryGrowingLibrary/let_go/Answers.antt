@@ -1,5 +1,5 @@
 use Rattle.std.proofs.Common.{◌≡◌, sym, subst, arith}
-use Rattle.shelf_library.proofs.Terms.{ShelfState, AreUnits, LibraryState}
+use Rattle.shelf_library.proofs.Terms.{ShelfState, AreUnits}
 use Rattle.shelf_library.proofs.StateLemmas.{library_state, state_left, is_within}
 use Rattle.shelf_library.proofs.AddedLemmas.{lets_file_go}
 use Rattle.shelf_library.proofs.library.ShelfLibraryGrowingLibrary.let_go.Goals as goal

@@ -1,10 +1,8 @@
-use Rattle.std.proofs.Common.{◌∙◌, slice_set}
-use Rattle.shelf_library.proofs.Terms.{ClosesUnitAt}
-use Rattle.shelf_library.proofs.StateLemmas.{library_state, state_left, closes_at, is_item}
+use Rattle.std.proofs.Common.{◌∙◌}
+use Rattle.shelf_library.proofs.StateLemmas.{library_state, closes_at, is_item}
 use Rattle.shelf_library.proofs.OpenedLemmas.{taken, must_be_open}
 use Rattle.shelf_library.proofs.ShutLemmas.{units_after, shut_ok, shut_err, shut_broken, shut_unchanged, shuts_unit}
 use Rattle.shelf_library.proofs.LimitLemmas.{limits_shut}
-use Rattle.shelf_library.proofs.library.ShelfLibraryLibrary.shut.Given as given
 use Rattle.shelf_library.proofs.library.ShelfLibraryLibrary.shut.Goals as goal
 
 pub index_mut-requires : goal.index_mut-requires
@@ -32,28 +30,47 @@ invariant_of-self g c =
     let after = units_after _ _ _ _ _ call in
     record { room = s.room; many = after.many; fit = after; limits = limits_shut _ _ _ _ _ call _ _ s.limits }
 
--- the call, as the other goals have it
-module _ (g : given.Over) (c : goal.Joined-file g) where
-  call : ClosesUnitAt c.args.u c.in-Opened.file c.close.result (library_state g.S.Shelf c.args.self.now)
-      (state_left g.S.Shelf c.args.self.now c.close.new.shelf (slice_set c.args.self.now.units.items c.args.u c.replace.new.dest))
-  call =
-      closes_at g.S.Shelf c.args.self.now c.args.u c.requires.attached c.in-Opened.file
-      (taken g.S.Shelf c.args.self.now c.args.u c.requires.attached c.index_mut.result.now c.index_mut.ensures.value
-      c.replace.result c.replace.ensures.value c.in-Opened.is)
-      c.close.result c.close.new.shelf c.replace.new.dest c.replace.ensures.after c.close.ensures g.met.S.Shelf.reads_an_image
-
 pub returns-clause-ok : goal.returns-clause-ok
-returns-clause-ok g c honest truly = shut_ok _ _ _ _ _ (call g c) honest truly
+returns-clause-ok g c honest truly =
+    let s = c.args.self.now in
+    let at = taken g.S.Shelf s c.args.u c.requires.attached c.index_mut.result.now c.index_mut.ensures.value
+    c.replace.result c.replace.ensures.value c.in-Opened.is in
+    let call = closes_at g.S.Shelf s c.args.u c.requires.attached c.in-Opened.file at c.close.result c.close.new.shelf
+    c.replace.new.dest c.replace.ensures.after c.close.ensures g.met.S.Shelf.reads_an_image in
+    shut_ok _ _ _ _ _ call honest truly
 
 pub returns-clause-err : goal.returns-clause-err
-returns-clause-err g c honest truly = shut_err _ _ _ _ _ (call g c) honest truly
+returns-clause-err g c honest truly =
+    let s = c.args.self.now in
+    let at = taken g.S.Shelf s c.args.u c.requires.attached c.index_mut.result.now c.index_mut.ensures.value
+    c.replace.result c.replace.ensures.value c.in-Opened.is in
+    let call = closes_at g.S.Shelf s c.args.u c.requires.attached c.in-Opened.file at c.close.result c.close.new.shelf
+    c.replace.new.dest c.replace.ensures.after c.close.ensures g.met.S.Shelf.reads_an_image in
+    shut_err _ _ _ _ _ call honest truly
 
 pub returns-clause-broken : goal.returns-clause-broken
-returns-clause-broken g c = shut_broken _ _ _ _ _ (call g c)
+returns-clause-broken g c =
+    let s = c.args.self.now in
+    let at = taken g.S.Shelf s c.args.u c.requires.attached c.index_mut.result.now c.index_mut.ensures.value
+    c.replace.result c.replace.ensures.value c.in-Opened.is in
+    let call = closes_at g.S.Shelf s c.args.u c.requires.attached c.in-Opened.file at c.close.result c.close.new.shelf
+    c.replace.new.dest c.replace.ensures.after c.close.ensures g.met.S.Shelf.reads_an_image in
+    shut_broken _ _ _ _ _ call
 
 pub returns-clause-unchanged : goal.returns-clause-unchanged
-returns-clause-unchanged g c honest truly = shut_unchanged _ _ _ _ _ (call g c) honest
+returns-clause-unchanged g c honest truly =
+    let s = c.args.self.now in
+    let at = taken g.S.Shelf s c.args.u c.requires.attached c.index_mut.result.now c.index_mut.ensures.value
+    c.replace.result c.replace.ensures.value c.in-Opened.is in
+    let call = closes_at g.S.Shelf s c.args.u c.requires.attached c.in-Opened.file at c.close.result c.close.new.shelf
+    c.replace.new.dest c.replace.ensures.after c.close.ensures g.met.S.Shelf.reads_an_image in
+    shut_unchanged _ _ _ _ _ call honest
 
 pub returns-clause-shuts : goal.returns-clause-shuts
 returns-clause-shuts g c =
-    shuts_unit (library_state g.S.Shelf) c.args.u c.in-Opened.file c.close.result c.args.self.now _ (call g c)
+    let s = c.args.self.now in
+    let at = taken g.S.Shelf s c.args.u c.requires.attached c.index_mut.result.now c.index_mut.ensures.value
+    c.replace.result c.replace.ensures.value c.in-Opened.is in
+    let call = closes_at g.S.Shelf s c.args.u c.requires.attached c.in-Opened.file at c.close.result c.close.new.shelf
+    c.replace.new.dest c.replace.ensures.after c.close.ensures g.met.S.Shelf.reads_an_image in
+    shuts_unit (library_state g.S.Shelf) c.args.u c.in-Opened.file c.close.result c.args.self.now _ call
