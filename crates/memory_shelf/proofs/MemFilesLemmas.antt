@@ -1,5 +1,5 @@
 -- Where a file in memory is, and what a change of it does to the others.
-use Rattle.std.proofs.Common.{map, inl, inr, zero, suc, ◌≡◌, ℕ, ◌+◌, ◌<◌, List, [], ◌∷◌, ◌++◌, Option, Some, None, option_map, true, false, is_some, bytes_eq, length, get_or, set, refl, sym, ◌∙◌, ap, subst, arith, add-one, MatchOption}
+use Rattle.std.proofs.Common.{map, inl, inr, zero, suc, ◌≡◌, ℕ, ◌+◌, ◌<◌, List, [], ◌∷◌, ◌++◌, Option, Some, None, option_map, Result, Ok, Err, OnOk, OnErr, is_ok, true, false, is_some, bytes_eq, length, get_or, set, refl, sym, ◌∙◌, ap, subst, arith, add-one, MatchOption}
 use Rattle.std.proofs.lemmas.List.{get_or-map}
 use Rattle.std.proofs.lemmas.Bool.{cases_Bool, false_from_ne_true}
 use Rattle.std.proofs.lemmas.Slice.Eq.{bytes_eq-Decides}
@@ -122,3 +122,14 @@ changed fs name i f g found is same =
       this = file_set fs name i g found.at still;
       others = λ other not. others_set fs name i g other found.at still not;
     }
+
+-- what a call did, told by another answer that fails where it does
+pub done_as : {T E F : Type 0} {P : Type 0} (told : Result T F) (was : Result T E) → is_ok told ≡ is_ok was → OnOk was P → OnOk told P
+done_as (Ok x) (Ok y) same done = done
+done_as (Ok x) (Err e) same done = absurd (cc)
+done_as (Err e) was same done = tt
+
+pub failed_as : {T E F : Type 0} {P : Type 0} (told : Result T F) (was : Result T E) → is_ok told ≡ is_ok was → OnErr was P → OnErr told P
+failed_as (Err e) (Err g) same failed = failed
+failed_as (Err e) (Ok x) same failed = absurd (cc)
+failed_as (Ok x) was same failed = tt

@@ -1,8 +1,8 @@
 //! A shelf in memory.
 ghost use Rattle.std.specs.Prelude.{◌≡◌, ◌+◌, ◌<◌, ◌≤◌, length, take, drop, IfSome, OnOk, IsOkUnless};
-ghost use Rattle.std.specs.Prelude.{IsErrOf};
+ghost use Rattle.std.specs.Prelude.{IsErrOf, is_ok};
 ghost use Rattle.page_store.specs.ShelfState.{FaultHasCause};
-ghost use Rattle.io_state.specs.declared.fault.Fault.TheVariants.{Memory};
+ghost use Rattle.io_state.specs.declared.fault.Fault.TheVariants.{Device, Memory};
 ghost use Rattle.memory_shelf.specs.MemFiles.{index_of};
 ghost use Rattle.memory_shelf.specs.MemShelves.{AddsCrashed, KeepsOthersThan};
 
@@ -13,12 +13,13 @@ use io_state::{Fault, FileName};
 use page_store::Shelf;
 use std::alloc::Global;
 
-/// Files in memory. The device never fails; memory may run out, which is counted.
+/// Files in memory. The device fails only where a file cannot grow, for want of memory.
 #[derive(Drop)]
 pub struct MemShelf {
     alloc: Global,
     units: Vec<FileName>,
     files: Vec<MemFile>,
+    // How often a file could not grow.
     refused: u64,
 }
 
@@ -175,19 +176,18 @@ impl GrowingShelf for MemShelf {
     fn let_go(&mut self, _unit: usize) {}
 }
 
-// Counts a call that found no memory.
+// Counts a call that found no memory: the device has failed.
 fn refuse(refused: &mut u64) -> Result<(), Fault>
-    ensures memory { IsErrOf result Memory }
+    ensures device { IsErrOf result Device }
     ensures cause { FaultHasCause refused.old refused.new result }
 {
     *refused = refused.saturating_add(1);
-    Err(Fault::Memory)
+    Err(Fault::Device)
 }
 
 // Counts a call, where it found no memory.
 fn counted(refused: &mut u64, done: Result<(), Fault>) -> Result<(), Fault>
-    requires { IsOkUnless done Memory }
-    ensures same { result ≡ done }
+    ensures same { is_ok result ≡ is_ok done }
     ensures cause { FaultHasCause refused.old refused.new result }
 {
     match done {

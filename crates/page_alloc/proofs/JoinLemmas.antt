@@ -189,21 +189,19 @@ no_fault (Ok x) P ok = tt
 no_fault (Err e) P ok = absurd (cc)
 
 pub damaged : (failed full : Type 0) → IsCaused failed full Damage
-damaged failed full = record { device = λ e. absurd (cc); full = λ e. absurd (cc); not_broken = λ e. cc }
+damaged failed full = record { device = λ e. absurd (cc); full = λ e. absurd (cc); not_memory = λ e. cc; not_broken = λ e. cc }
 
 -- a fault of the cache
 pub fails_as : (x : Fault) (i j : ℕ) (P full : Type 0) → FaultHasCause {T = Unit {0}} i j (Err x) → CallFails P (FaultsRose i j) full x
 fails_as x i j P full cause = record {
   caused = record {
     device = λ is. cause.counted;
-    full = λ is. absurd (neither Full is (λ e. cc) (λ e. cc));
-    not_broken = λ is. neither Broken is (λ e. cc) (λ e. cc);
+    full = λ is. absurd (not Full is (λ e. cc));
+    not_memory = λ is. not Memory is (λ e. cc);
+    not_broken = λ is. not Broken is (λ e. cc);
   };
-  damage = λ _ is. neither Damage is (λ e. cc) (λ e. cc);
+  damage = λ _ is. not Damage is (λ e. cc);
 }
   where
-    bare : (z : Fault) → ◌≡◌ {A = Result (Unit {0}) Fault} (Err x) (Err z) → x ≡ z
-    bare z same = cc
-
-    neither : (y : Fault) → x ≡ y → (y ≡ Device → ⊥) → (y ≡ Memory → ⊥) → ⊥
-    neither y is a b = elim cause.kinds [ inl d ↦ a (sym is ∙ bare Device d) | inr m ↦ b (sym is ∙ bare Memory m) ]
+    not : (y : Fault) → x ≡ y → (y ≡ Device → ⊥) → ⊥
+    not y is other = other (sym is ∙ cause.device)

@@ -1,8 +1,8 @@
 -- What a shelf shows, and what a call leaves of it.
 use Rattle.std.specs.Prelude.{◌≡◌, ◌⊎◌, ℕ, ◌+◌, ◌-◌, ◌^◌, ◌<◌, ◌≤◌, min, Bool, IsTrue, List, [], length}
-use Rattle.std.specs.Prelude.{get_or, Result, IsErrOf, OnErr}
+use Rattle.std.specs.Prelude.{get_or, Result, IsOkUnless, OnErr}
 use Rattle.io_state.specs.declared.fault.Fault.{Fault}
-use Rattle.io_state.specs.declared.fault.Fault.TheVariants.{Device, Memory}
+use Rattle.io_state.specs.declared.fault.Fault.TheVariants.{Device}
 use Rattle.page_store.specs.DeviceFile.{DeviceFile}
 
 pub record ShelfState : Type 0 where
@@ -54,9 +54,8 @@ pub record KeepsOthers (unit : ℕ) (old new : ShelfState) : Type 0 where
   pub others : (name : List ℕ) → ¬ (name ≡ unit_name old unit) → new.file name ≡ old.file name
   pub honest : IsTrue new.is_honest → IsTrue old.is_honest
 
--- a fault comes only where the count of faults rose, or stands at its greatest value; it is Device
--- or Memory
+-- a fault is Device, and comes only where the count of faults rose, or stands at its greatest value
 pub record FaultHasCause {T : Type 0} (old new : ℕ) (result : Result T Fault) : Type 0 where
   pub no_fewer : old ≤ new
   pub counted : OnErr result (min (old + 1) (2 ^ 64 - 1) ≤ new)
-  pub kinds : OnErr result (IsErrOf result Device ⊎ IsErrOf result Memory)
+  pub device : IsOkUnless result Device

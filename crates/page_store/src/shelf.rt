@@ -12,9 +12,9 @@ use io_state::{Fault, FileName};
 
 /// Named files on a device that may fail, and that a crash may stop at any moment.
 ///
-/// A unit is a place in the list of names attached; a file is known by its name. A call on a unit
-/// that answers a fault was counted by `faults`: `Fault::Device`, or `Fault::Memory` where the files
-/// are in memory and it ran out. No other fault comes, and no other call is counted.
+/// A unit is a place in the list of names attached; a file is known by its name. The one fault of a
+/// call on a unit is `Fault::Device`, and it was counted by `faults`; no other call is counted.
+/// `attach` alone may want memory.
 pub trait Shelf {
     /// What the shelf shows.
     ghost state: { Self → ShelfState };

@@ -6,7 +6,7 @@ use Rattle.pages.specs.Cause.{IsCaused}
 
 -- what caused it since then has caused it since before
 pub is_caused_since : (failed since lacks short : Type 0) → (failed → since) → (lacks → short) → (fault : Fault) → IsCaused failed lacks fault → IsCaused since short fault
-is_caused_since failed since lacks short f g fault is = record { device = λ e. f (is.device e); full = λ e. g (is.full e); not_broken = is.not_broken }
+is_caused_since failed since lacks short f g fault is = record { device = λ e. f (is.device e); full = λ e. g (is.full e); not_memory = is.not_memory; not_broken = is.not_broken }
 
 -- of a result
 pub caused_since : {X : Type 0} (r : Result X Fault) (failed since lacks short : Type 0) → (failed → since) → (lacks → short) → IfErr r (IsCaused failed lacks) → IfErr r (IsCaused since short)

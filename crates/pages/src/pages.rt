@@ -12,7 +12,7 @@ use page_bytes::PAGE_SIZE;
 
 /// The pages of a file that is open. Page numbers are from 0.
 ///
-/// Each call may answer Device or Memory; Damage where a page is not what its place requires.
+/// Each call may answer Device; Damage where a page is not what its place requires.
 pub trait Pages {
     /// What the pages show.
     ghost shown: { ShownPages Self };

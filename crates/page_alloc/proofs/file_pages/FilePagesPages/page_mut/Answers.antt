@@ -16,9 +16,9 @@ returns-then-n-eq0 g c =
     let reads = reads_nothing old s (g.S.Shelf.fault_count c.args.self.now.shelf.now) in
     elim c.then-n-eq0.branch [
       | then-n-eq0-via-then-n-eq0 w ↦
-          rw w.self-is ((refl, (λ b ok. absurd (cc)), (reads.rests, omega arith, (refl, refl, reads), (λ h there. (let p = can_give (cached_pages_of old.cache s) old.pager.count c.args.n old.pager.first old.pager.free there in let e = w.if-n-eq0.true in absurd (omega (arith, p.0, e)))), record { device = λ e. absurd (cc); full = λ e. absurd (cc); not_broken = λ e. absurd (cc) })), record { lends = tt })
+          rw w.self-is ((refl, (λ b ok. absurd (cc)), (reads.rests, omega arith, (refl, refl, reads), (λ h there. (let p = can_give (cached_pages_of old.cache s) old.pager.count c.args.n old.pager.first old.pager.free there in let e = w.if-n-eq0.true in absurd (omega (arith, p.0, e)))), record { device = λ e. absurd (cc); full = λ e. absurd (cc); not_memory = λ e. absurd (cc); not_broken = λ e. absurd (cc) })), record { lends = tt })
       | then-n-eq0-via-else-n-eq0+then-n-self w ↦
-          rw w.self-is ((refl, (λ b ok. absurd (cc)), (reads.rests, omega arith, (refl, refl, reads), (λ h there. (let p = can_give (cached_pages_of old.cache s) old.pager.count c.args.n old.pager.first old.pager.free there in let e = w.if-n-self.true in absurd (omega (arith, p.1, e)))), record { device = λ e. absurd (cc); full = λ e. absurd (cc); not_broken = λ e. absurd (cc) })), record { lends = tt })
+          rw w.self-is ((refl, (λ b ok. absurd (cc)), (reads.rests, omega arith, (refl, refl, reads), (λ h there. (let p = can_give (cached_pages_of old.cache s) old.pager.count c.args.n old.pager.first old.pager.free there in let e = w.if-n-self.true in absurd (omega (arith, p.1, e)))), record { device = λ e. absurd (cc); full = λ e. absurd (cc); not_memory = λ e. absurd (cc); not_broken = λ e. absurd (cc) })), record { lends = tt })
     ]
 
 pub returns-in_err-load : goal.returns-in_err-load
