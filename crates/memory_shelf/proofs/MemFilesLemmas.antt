@@ -124,12 +124,12 @@ changed fs name i f g found is same =
     }
 
 -- what a call did, told by another answer that fails where it does
-pub done_as : {T E F : Type 0} {P : Type 0} (told : Result T F) (was : Result T E) → is_ok told ≡ is_ok was → OnOk was P → OnOk told P
-done_as (Ok x) (Ok y) same done = done
-done_as (Ok x) (Err e) same done = absurd (cc)
-done_as (Err e) was same done = tt
+pub done_as : {T E F : Type 0} (P : Type 0) (told : Result T F) (was : Result T E) → is_ok told ≡ is_ok was → OnOk was P → OnOk told P
+done_as P (Ok x) (Ok y) same done = done
+done_as P (Ok x) (Err e) same done = absurd (cc)
+done_as P (Err e) was same done = tt
 
-pub failed_as : {T E F : Type 0} {P : Type 0} (told : Result T F) (was : Result T E) → is_ok told ≡ is_ok was → OnErr was P → OnErr told P
-failed_as (Err e) (Err g) same failed = failed
-failed_as (Err e) (Ok x) same failed = absurd (cc)
-failed_as (Ok x) was same failed = tt
+pub failed_as : {T E F : Type 0} (P : Type 0) (told : Result T F) (was : Result T E) → is_ok told ≡ is_ok was → OnErr was P → OnErr told P
+failed_as P (Err e) (Err g) same failed = failed
+failed_as P (Err e) (Ok x) same failed = absurd (cc)
+failed_as P (Ok x) was same failed = tt

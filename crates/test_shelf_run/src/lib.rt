@@ -1,5 +1,4 @@
-//! Tests of the run of a deck over the files of a shelf, also of one that fails, that wants memory, or that a
-//! crash stops.
+//! Tests of the run of a deck over the files of a shelf, also of one that fails, or that a crash stops.
 //!
 //! That a transcript is the one of the definitions, and that a crash leaves no false file, is proved. Here
 //! worked decks are run: their transcripts are those that stand beside their statements, and where a device
@@ -18,6 +17,8 @@ mod crashes;
 #[cfg(test)]
 mod decks;
 #[cfg(test)]
+mod each_call;
+#[cfg(test)]
 mod ends;
 #[cfg(test)]
 mod failing;
@@ -29,8 +30,6 @@ mod judged;
 mod left;
 #[cfg(test)]
 mod lines;
-#[cfg(test)]
-mod memory;
 #[cfg(test)]
 mod refusals;
 #[cfg(test)]

@@ -79,11 +79,11 @@ fn a_run_with_30_and_92_is_not_clean_and_one_with_91_at_open_is(rt: HostRuntime)
     ends_over(&rt, rt.alloc(), fuse.into_inner(), REFUSED, 1, true);
 }
 
-/// Whether a READ wants memory where this call of the shelf does. The run is not clean then.
-fn has_90(rt: &impl Abort, alloc: Global, before: &MemShelf, deck: &str, at: u64) -> bool {
+/// Whether a READ fails where this call of the shelf does. The run is not clean then.
+fn has_30(rt: &impl Abort, alloc: Global, before: &MemShelf, deck: &str, at: u64) -> bool {
     let shelf = NarrowShelf::new(copy_of(rt, alloc, before), at, false);
     let (_, transcript, end) = run_to_end(rt, alloc, shelf, deck, 1);
-    if !transcript.starts_with("OPEN INPUT CUST 00\nREAD NEXT CUST 90\n") {
+    if !transcript.starts_with("OPEN INPUT CUST 00\nREAD NEXT CUST 30\n") {
         return false;
     }
     let told = tells(&end, &transcript);
@@ -97,14 +97,14 @@ fn has_90(rt: &impl Abort, alloc: Global, before: &MemShelf, deck: &str, at: u64
 }
 
 #[test]
-fn a_run_with_90_is_not_clean(rt: HostRuntime) {
+fn a_run_with_30_at_a_read_is_not_clean(rt: HostRuntime) {
     let alloc = rt.alloc();
     let before = shelf_before(&rt, alloc, &A_CLASH);
     let deck = deck_of(&rt, alloc, CUSTOMERS, READ_THAT_FAILS);
     let mut found = false;
     // The first call is the one that forgets the units of the run before.
     for at in 2..20 {
-        found = has_90(&rt, alloc, &before, &deck, at) || found;
+        found = has_30(&rt, alloc, &before, &deck, at) || found;
     }
     assert_that(&rt, found);
 }

@@ -18,8 +18,8 @@ returns c =
     let f = c.index_mut-file.result.now in
     let d = changed c.args.self.now.files.items _ c.in-Some.place f c.sync-done.new.self c.in-Some.ensures.found c.index_mut-file.ensures.value c.sync-done.ensures.name in
     record {
-      done = rw (d.was, d.this) (done_as _ _ c.counted.ensures.same c.sync-done.ensures.done);
-      failed = rw (d.was, d.this) (failed_as _ _ c.counted.ensures.same (unchanged c.sync-done.result (device_file_of f) (device_file_of c.sync-done.new.self) c.sync-done.ensures.failed));
+      done = rw (d.was, d.this) (done_as _ _ _ c.counted.ensures.same c.sync-done.ensures.done);
+      failed = rw (d.was, d.this) (failed_as _ _ _ c.counted.ensures.same (unchanged c.sync-done.result (device_file_of f) (device_file_of c.sync-done.new.self) c.sync-done.ensures.failed));
       only = record { names = refl; others = d.others; honest = refl };
       cause = c.counted.ensures.cause;
     }

@@ -1,4 +1,4 @@
-//! A shelf that wants memory in a run.
+//! A shelf of which one call fails in a run, whichever it is.
 
 use crate::answers::Fault;
 use crate::checks::{assert_equal, assert_equal_for, assert_that};
@@ -15,8 +15,7 @@ use worked_decks::{
     A_CLASH, A_DUPLICATE_REWRITTEN, A_NEW_TWIN, Step, WRITTEN_AND_READ_BACK, Worked,
 };
 
-/// A run that has met want of memory before its first statement has written nothing, and the file is as it
-/// was.
+/// A run that has wanted memory before its first statement has written nothing, and the file is as it was.
 fn has_written_nothing(
     rt: &impl Abort,
     alloc: Global,
@@ -32,19 +31,19 @@ fn has_written_nothing(
     assert_that(rt, reads_as(rt, alloc, shelf, worked.heading, reads));
 }
 
-/// Where a call wants memory, and each later one does or none.
-fn wanting(again: bool) -> Fault {
+/// Where a call on a unit fails, and each later one does or none.
+fn failing(again: bool) -> Fault {
     Fault {
-        answer: "90",
+        answer: "30",
         again,
     }
 }
 
 const NO_CRASH: [Crash; 1] = [Crash::Whole(Image::AsRead)];
 
-/// A run that has met want of memory: nothing is written, and the file is as it was, or the first line that
-/// is not the worked one has 90.
-fn has_wanted(
+/// A run of which a call has failed: nothing is written, and the file is as it was, or the first line that is
+/// not the worked one has 30.
+fn has_failed(
     rt: &impl Abort,
     alloc: Global,
     worked: &Worked,
@@ -58,14 +57,14 @@ fn has_wanted(
         return;
     }
     assert_equal_for(rt, transcript, tells(&end, transcript), true);
-    let fault = wanting(again);
+    let fault = failing(again);
     let allowed = is_allowed(rt, alloc, worked, transcript, fault, shelf, &NO_CRASH);
     assert_equal_for(rt, transcript, allowed, true);
 }
 
-/// Runs a deck over a shelf of which this call wants memory, counted from 1. It answers whether there was
-/// such a call.
-fn wants_memory(
+/// Runs a deck over a shelf of which this call fails, counted from 1. It answers whether there was such a
+/// call.
+fn fails_at(
     rt: &impl Abort,
     alloc: Global,
     worked: &Worked,
@@ -76,22 +75,22 @@ fn wants_memory(
     let deck = deck_of(rt, alloc, worked.heading, worked.steps);
     let shelf = NarrowShelf::new(copy_of(rt, alloc, before), at, for_good);
     let (shelf, transcript, end) = run_to_end(rt, alloc, shelf, &deck, 1);
-    let wanted = at <= shelf.calls();
+    let failed = at <= shelf.calls();
     let is_worked = transcript == transcript_of(rt, alloc, worked.steps);
-    assert_equal_for(rt, (at, transcript.as_str()), is_worked, !wanted);
-    if wanted {
+    assert_equal_for(rt, (at, transcript.as_str()), is_worked, !failed);
+    if failed {
         let shelf = shelf.into_inner();
-        has_wanted(rt, alloc, worked, &shelf, &transcript, end, for_good);
+        has_failed(rt, alloc, worked, &shelf, &transcript, end, for_good);
     }
-    wanted
+    failed
 }
 
-/// Each call of a run wants memory in turn, until there is no further one.
-fn wants_memory_in_turn(rt: &impl Abort, alloc: Global, worked: &Worked, for_good: bool) {
+/// Each call of a run fails in turn, until there is no further one.
+fn fails_in_turn(rt: &impl Abort, alloc: Global, worked: &Worked, for_good: bool) {
     let before = shelf_before(rt, alloc, worked);
     // The first call forgets the units, before the run.
     for at in 2..1000 {
-        if !wants_memory(rt, alloc, worked, &before, at, for_good) {
+        if !fails_at(rt, alloc, worked, &before, at, for_good) {
             assert_that(rt, 2 < at);
             return;
         }
@@ -99,7 +98,7 @@ fn wants_memory_in_turn(rt: &impl Abort, alloc: Global, worked: &Worked, for_goo
     assert!(rt; false, "a run of 1000 calls");
 }
 
-const WANTING: [Worked; 4] = [
+const FAILING: [Worked; 4] = [
     WRITTEN_AND_READ_BACK,
     A_CLASH,
     A_NEW_TWIN,
@@ -107,9 +106,9 @@ const WANTING: [Worked; 4] = [
 ];
 
 #[test]
-fn each_call_of_a_shelf_wants_memory_in_turn(rt: HostRuntime) {
-    for worked in &WANTING {
-        wants_memory_in_turn(&rt, rt.alloc(), worked, false);
-        wants_memory_in_turn(&rt, rt.alloc(), worked, true);
+fn each_call_of_a_shelf_fails_in_turn(rt: HostRuntime) {
+    for worked in &FAILING {
+        fails_in_turn(&rt, rt.alloc(), worked, false);
+        fails_in_turn(&rt, rt.alloc(), worked, true);
     }
 }
