@@ -168,18 +168,18 @@ frames_long ns cs ps used cap rows =
 
 -- the rows with a page that stood nowhere, in place of another one or behind the last
 pub replaced : (n : ℕ) (ns : List ℕ) (cs : List Bool) (ps : List (List ℕ)) (k : ℕ) (c : Bool) (page : List ℕ) (used : List Bool) (cap : ℕ) → ArePaired ns cs ps used cap
-    → lookup (nat_eq n) (paired ns (marked cs ps)) ≡ None → ArePaired (set ns k n) (set cs k c) (set ps k page) used cap
+    → lookup (nat_eq n) (paired ns (marked cs ps)) ≡ None → ArePaired (set ns k n) (set cs k c) (set ps k page) (set used k true) cap
 replaced n ns cs ps k c page used cap rows none = record {
   long = length-set ps k page ∙ rows.long ∙ sym (length-set ns k n);
   few = let few = rows.few in let same = length-set ns k n in omega arith;
   apart = distinct_set n ns k rows.apart (absent_from n ns (marked cs ps) (frames_long ns cs ps used cap rows).1 none);
   changes = length-set cs k c ∙ rows.changes;
-  uses = rows.uses;
+  uses = length-set used k true ∙ rows.uses;
   some = rows.some;
 }
 
 pub pushed : (n : ℕ) (ns : List ℕ) (cs : List Bool) (ps : List (List ℕ)) (k : ℕ) (c : Bool) (page : List ℕ) (used : List Bool) (cap : ℕ) → ArePaired ns cs ps used cap
-    → lookup (nat_eq n) (paired ns (marked cs ps)) ≡ None → length ns < cap → ArePaired (ns ++ n ∷ []) (set cs k c) (ps ++ page ∷ []) used cap
+    → lookup (nat_eq n) (paired ns (marked cs ps)) ≡ None → length ns < cap → ArePaired (ns ++ n ∷ []) (set cs k c) (ps ++ page ∷ []) (set used k true) cap
 pushed n ns cs ps k c page used cap rows none room =
     let longer : length (ns ++ n ∷ []) ≡ length ns + 1 = length-append ns (n ∷ []) in
     let more : length (ps ++ page ∷ []) ≡ length ps + 1 = length-append ps (page ∷ []) in
@@ -189,7 +189,7 @@ pushed n ns cs ps k c page used cap rows none room =
       few = omega arith;
       apart = distinct_push n ns rows.apart (absent_from n ns (marked cs ps) (frames_long ns cs ps used cap rows).1 none);
       changes = length-set cs k c ∙ rows.changes;
-      uses = rows.uses;
+      uses = length-set used k true ∙ rows.uses;
       some = rows.some;
     }
 

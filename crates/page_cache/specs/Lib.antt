@@ -5,6 +5,7 @@ pub mod HeaderChanges
 pub mod FrameCalls
 pub mod HeldFrames
 pub mod Places
+pub mod Table
 pub mod FrameLends
 pub mod Cached
 pub mod Calls

@@ -33,10 +33,16 @@ impl Cache {
         ensures { MatchResult result (IsEmptyCache store (non_zero_usize_get frames))
             (λ fault. fault ≡ Fault.Memory) }
     {
+        let Ok(frames) = Frames::new(alloc, frames) else {
+            return Err(Fault::Memory);
+        };
+        let Ok(page) = Box::new(alloc, [0; PAGE_SIZE]) else {
+            return Err(Fault::Memory);
+        };
         Ok(Cache {
             store,
-            frames: Frames::new(alloc, frames).map_err(|_| Fault::Memory)?,
-            page: Box::new(alloc, [0; PAGE_SIZE]).map_err(|_| Fault::Memory)?,
+            frames,
+            page,
             asked: 0,
         })
     }
@@ -140,7 +146,7 @@ impl Cache {
         ensures { PutsZeros S.state S.fault_count n self.old.asked self.old self.new shelf.old shelf.new
             result }
     {
-        let place = self.make_room(shelf)?;
+        let place = self.make_room(shelf, n)?;
         self.page.fill(0);
         self.frames.put(place, n, true, &self.page);
         Ok(())
@@ -153,7 +159,7 @@ impl Cache {
             shelf.new result }
     {
         self.asked = self.asked.saturating_add(1);
-        let place = self.make_room(shelf)?;
+        let place = self.make_room(shelf, n)?;
         frame::write_zeros(&mut self.store, shelf, n, &mut *self.page)?;
         self.frames.put(place, n, false, &self.page);
         Ok(())
@@ -190,22 +196,22 @@ impl Cache {
         ensures { BringsPage S.state S.fault_count n self.old.asked self.old self.new
             shelf.old shelf.new result }
     {
-        let place = self.make_room(shelf)?;
+        let place = self.make_room(shelf, n)?;
         self.store.read_page(shelf, n, &mut *self.page)?;
         self.frames.put(place, n, false, &self.page);
         Ok(())
     }
 
-    // A place for the next page. Where all are taken, the page of the one is written.
-    fn make_room<S: Shelf>(&mut self, shelf: &mut S) -> Result<usize, Fault>
+    // A place for page n. Where a page stands there, it is written.
+    fn make_room<S: Shelf>(&mut self, shelf: &mut S, n: u32) -> Result<usize, Fault>
         requires over { IsOver self.old (S.state shelf.old) }
         ensures { MakesRoom S.state S.fault_count self.old self.new shelf.old shelf.new result }
     {
         let held = self.frames.len();
-        if held < self.frames.cap().get() {
-            return Ok(held);
+        let place = self.frames.choose(n);
+        if place == held {
+            return Ok(place);
         }
-        let place = self.frames.choose();
         self.write(shelf, place)?;
         Ok(place)
     }

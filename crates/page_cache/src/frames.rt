@@ -1,5 +1,5 @@
 //! The frames of a cache, each with its page.
-ghost use Rattle.std.specs.Prelude.{◌≡◌, ◌<◌, [], length, nat_eq, slice_get, Some, None, IfOk, is_some};
+ghost use Rattle.std.specs.Prelude.{◌≡◌, ◌<◌, ◌≤◌, [], length, nat_eq, slice_get, Some, None, IfOk, is_some};
 ghost use Rattle.std.specs.Prelude.{option_copied, option_map};
 ghost use Rattle.std.specs.Option.{option_copied_mut};
 ghost use Rattle.std.specs.NonZero.{non_zero_usize_get};
@@ -8,6 +8,7 @@ ghost use Rattle.std.specs.Map.{lookup};
 ghost use Rattle.page_cache.specs.HeldFrames.{held_frames, IsSeated, CanSeat, put_at, settled};
 
 use crate::places;
+use crate::table::Table;
 use page_bytes::PAGE_SIZE;
 use std::alloc::{AllocError, Global};
 use std::marker::Model;
@@ -23,18 +24,19 @@ pub struct Frames {
     changed: Vec<bool>,
     // Whether it was used, since it was last considered as the one to go.
     used: Vec<bool>,
-    // Where pages were last found, by the low bits of their numbers.
-    hints: Vec<usize>,
+    // Where the pages stand.
+    table: Table,
     // The place that is considered next.
     hand: usize,
     cap: NonZeroUsize,
 }
 
 impl Model for Frames {
-    ghost use Rattle.std.specs.Prelude.{◌<◌, ◌≤◌, length, vec_capacity};
+    ghost use Rattle.std.specs.Prelude.{◌≡◌, ◌≤◌, length, vec_capacity};
     ghost use Rattle.std.specs.NonZero.{non_zero_usize_get};
     ghost use Rattle.page_cache.specs.HeldFrames.{HeldFrames, held_frames};
     ghost use Rattle.page_cache.specs.Places.{marked, paired, ArePaired};
+    ghost use Rattle.page_cache.specs.Table.{IsTable};
 
     ghost Value = { HeldFrames };
 
@@ -43,7 +45,8 @@ impl Model for Frames {
 
     ghost invariant = { λ f. ArePaired f.numbers.items f.changed.items f.pages.items f.used.items
         (non_zero_usize_get f.cap) × (non_zero_usize_get f.cap ≤ vec_capacity f.numbers)
-        × (non_zero_usize_get f.cap ≤ vec_capacity f.pages) × (0 < length f.hints.items) };
+        × (non_zero_usize_get f.cap ≤ vec_capacity f.pages) × IsTable f.numbers.items f.table
+        × (length f.table.told.items ≡ non_zero_usize_get f.cap) };
 }
 
 impl Frames {
@@ -54,14 +57,12 @@ impl Frames {
         ensures { IfOk result (λ frames. frames ≡ held_frames [] (non_zero_usize_get cap)) }
     {
         let most = cap.get();
-        // As many hints as two to some power, so that the low bits of a number choose among all.
-        let many = most.saturating_mul(4).checked_next_power_of_two();
         Ok(Frames {
             numbers: Vec::with_capacity(alloc, most)?,
             pages: Vec::with_capacity(alloc, most)?,
             changed: vec![in alloc; false; most]?,
             used: vec![in alloc; false; most]?,
-            hints: vec![in alloc; 0; many.unwrap_or(most).max(1)]?,
+            table: Table::new(alloc, most)?,
             hand: 0,
             cap,
         })
@@ -89,31 +90,20 @@ impl Frames {
         ensures held { result ≡ is_some (lookup (nat_eq n) self.old.entries) }
         ensures same { self.new ≡ self.old }
     {
-        match places::place_of(&self.numbers, &self.hints, n) {
+        match self.table.place_of(&self.numbers, n) {
             Some(place) => {
-                self.mark(place, n);
+                self.used[place] = true;
                 true
             }
             None => false,
         }
     }
 
-    // Marks the place of page n as used, and keeps where it is.
-    #[inline(always)]
-    fn mark(&mut self, place: usize, n: u32)
-        requires { place < self.old.cap }
-        ensures same { self.new ≡ self.old }
-    {
-        self.used[place] = true;
-        let slot = places::slot_of(&self.hints, n);
-        self.hints[slot] = place;
-    }
-
     /// Has page `n` be the next one to go, where all places are taken.
     pub fn demote(&mut self, n: u32)
         ensures same { self.new ≡ self.old }
     {
-        if let Some(place) = places::place_of(&self.numbers, &self.hints, n) {
+        if let Some(place) = self.table.place_of(&self.numbers, n) {
             self.used[place] = false;
             self.hand = place;
         }
@@ -124,7 +114,7 @@ impl Frames {
     pub fn page(&self, n: u32) -> Option<&[u8; PAGE_SIZE]>
         ensures { option_copied result ≡ option_map (λ frame. frame.page) (lookup (nat_eq n) self.now.entries) }
     {
-        match places::place_of(&self.numbers, &self.hints, n) {
+        match self.table.place_of(&self.numbers, n) {
             Some(place) => Some(&self.pages[place]),
             None => None,
         }
@@ -137,7 +127,7 @@ impl Frames {
         ensures value { option_copied_mut result
             ≡ option_map (λ frame. frame.page) (lookup (nat_eq n) self.old.entries) }
     {
-        match places::place_of(&self.numbers, &self.hints, n) {
+        match self.table.place_of(&self.numbers, n) {
             Some(place) => {
                 self.changed[place] = true;
                 Some(&mut self.pages[place])
@@ -163,9 +153,25 @@ impl Frames {
         self.changed[place] = false;
     }
 
-    /// The place whose page is the next one to go, where all places are taken: one that was not used
-    /// for long.
-    pub fn choose(&mut self) -> usize
+    /// The place for page `n`: the next one, or where all places are taken, one whose page was not
+    /// used for long. Where the table has no cell for `n`, it is the place of a page that is in the way.
+    pub fn choose(&mut self, n: u32) -> usize
+        ensures next { result ≤ length self.old.entries }
+        ensures room { result < self.old.cap }
+        ensures same { self.new ≡ self.old }
+    {
+        let held = self.numbers.len();
+        if let Some(place) = self.table.in_the_way(held, n) {
+            return place;
+        }
+        if held < self.cap.get() {
+            return held;
+        }
+        self.turn()
+    }
+
+    // The place whose page was not used for long, where all places are taken.
+    fn turn(&mut self) -> usize
         requires { length self.old.entries ≡ self.old.cap }
         ensures place { result < length self.old.entries }
         ensures same { self.new ≡ self.old }
@@ -191,7 +197,6 @@ impl Frames {
         } else {
             self.push(n, changed, page);
         }
-        self.mark(place, n);
     }
 
     // Puts a page in place of another one.
@@ -201,9 +206,11 @@ impl Frames {
         ensures { self.new ≡ held_frames
             (put_at place (n, record { changed = changed; page = page.now }) self.old.entries) self.old.cap }
     {
+        self.table.put(&self.numbers, place, n);
         self.numbers[place] = n;
         self.changed[place] = changed;
         self.pages[place] = *page;
+        self.used[place] = true;
     }
 
     // Puts a page at the next place.
@@ -215,7 +222,9 @@ impl Frames {
             self.old.entries) self.old.cap }
     {
         let place = self.numbers.len();
+        self.table.put(&self.numbers, place, n);
         self.changed[place] = changed;
+        self.used[place] = true;
         places::add(&mut self.numbers, n);
         places::add(&mut self.pages, *page);
     }

@@ -2,32 +2,9 @@
 ghost use Rattle.std.specs.Prelude.{◌≡◌, ◌+◌, ◌<◌, ◌∷◌, [], ◌++◌, ◌≤◌, length, vec_capacity, vec_len};
 ghost use Rattle.page_cache.specs.Places.{IsSeatOf};
 
-/// Where the hint for page `n` is: at the low bits of its number.
-#[inline(always)]
-pub(crate) fn slot_of(hints: &[usize], n: u32) -> usize
-    requires { 0 < length hints.now }
-    ensures { result < length hints.now }
-{
-    n as usize & (hints.len() - 1)
-}
-
-/// The place of page `n`. The hints tell where it stood when it was used last, by the low bits of
-/// its number; where they are wrong, all places are looked at.
-#[inline(always)]
-pub(crate) fn place_of(numbers: &[u32], hints: &[usize], n: u32) -> Option<usize>
-    requires { 0 < length hints.now }
-    ensures { IsSeatOf n numbers.now result }
-{
-    let hinted = hints[slot_of(hints, n)];
-    if hinted < numbers.len() && numbers[hinted] == n {
-        return Some(hinted);
-    }
-    search(numbers, n)
-}
-
-// The place of page n, by a look at each.
+/// The place of page `n`, by a look at each.
 #[inline(never)]
-fn search(numbers: &[u32], n: u32) -> Option<usize>
+pub(crate) fn search(numbers: &[u32], n: u32) -> Option<usize>
     ensures { IsSeatOf n numbers.now result }
 {
     for (place, &number) in numbers.iter().enumerate() {

@@ -1,5 +1,6 @@
-use Rattle.std.proofs.Common.{arith, length, ap, sym, subst, nat_eq}
+use Rattle.std.proofs.Common.{ℕ, List, ◌∙◌, arith, length, ap, sym, subst, nat_eq}
 use Rattle.std.specs.List.{IsDistinct}
+use Rattle.page_cache.specs.Table.{IsTable}
 use Rattle.page_cache.proofs.PlacesLemmas.{distinct_none}
 use Rattle.page_cache.proofs.frames.Frames.new.Goals as goal
 
@@ -14,11 +15,9 @@ invariant_of-result c =
     let changes_long = c.in_ok-vec.field-0.ok.0 in
     let uses = c.in_ok-vec-2.ensures.len in
     let uses_long = c.in_ok-vec-2.field-0.ok.0 in
-    let hints = c.in_ok-vec-3.ensures.len in
-    let hints_long = c.in_ok-vec-3.field-0.ok.0 in
     let numbers_room = c.in_ok-with_capacity.ensures.exact in
     let pages_room = c.in_ok-with_capacity-2.ensures.exact in
-    let least = c.max.ensures in (
+    let places = c.in_ok-new.ensures.places in (
       record {
         long = omega arith;
         few = omega arith;
@@ -29,5 +28,6 @@ invariant_of-result c =
       },
       omega arith,
       omega arith,
-      omega arith,
+      subst (λ (ns : List ℕ). IsTable ns c.in_ok-new.field-0) (sym no_numbers) c.in_ok-new.ensures.empty,
+      places ∙ most,
     )
