@@ -29,8 +29,8 @@
  *
  * MEMORY. What a read delivers stays as it is until the next call in its session. Every other pointer that is given to a
  * call is the caller's, and is not kept. A session takes some 50 KiB, and an open file 4 KiB for each page that it holds.
- * Pages are taken as they are used, at most as many as the file has, and at most the frames of cobix_limits: with the usual
- * 1,024, up to 4 MiB a file. They are given back at CLOSE.
+ * Memory for as many pages as the frames of cobix_limits is had at OPEN, with the usual 1,024 4 MiB a file, and given back
+ * at CLOSE; what no page has used is not touched.
  *
  * OTHER RUNS. A file is under a shared lock (flock) from the first look at it, and under an exclusive one from its first
  * change, until it is released or the session ends: CLOSE keeps the lock. It is the lock of `cobix run` and `cobix serve`,

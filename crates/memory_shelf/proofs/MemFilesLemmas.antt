@@ -1,5 +1,5 @@
 -- Where a file in memory is, and what a change of it does to the others.
-use Rattle.std.proofs.Common.{map, inl, inr, zero, suc, ◌≡◌, ℕ, ◌+◌, ◌<◌, List, [], ◌∷◌, ◌++◌, Option, Some, None, option_map, Result, Ok, Err, OnOk, OnErr, is_ok, true, false, is_some, bytes_eq, length, get_or, set, refl, sym, ◌∙◌, ap, subst, arith, add-one, MatchOption}
+use Rattle.std.proofs.Common.{map, inl, inr, zero, suc, ◌≡◌, ℕ, ◌+◌, ◌<◌, List, [], ◌∷◌, ◌++◌, Option, Some, None, option_map, Result, Ok, Err, OnOk, OnErr, is_ok, true, false, is_some, bytes_eq, length, get_or, set, refl, sym, ◌∙◌, ap, subst, add-one, MatchOption}
 use Rattle.std.proofs.lemmas.List.{get_or-map}
 use Rattle.std.proofs.lemmas.Bool.{cases_Bool, false_from_ne_true}
 use Rattle.std.proofs.lemmas.Slice.Eq.{bytes_eq-Decides}

@@ -6,7 +6,7 @@ use Rattle.page_store.specs.DeviceFile.{DeviceFile, absent, synced}
 use Rattle.page_store.specs.Images.{Leaves}
 use Rattle.page_store.proofs.ImageLemmas.{only_synced}
 use Rattle.memory_shelf.specs.CrashImages.{Crashed, image_of}
-use Rattle.memory_shelf.proofs.CrashImageLemmas.{crash_image, absent_only, image_of_absent}
+use Rattle.memory_shelf.proofs.CrashImageLemmas.{crash_image, image_of_absent}
 use Rattle.memory_shelf.specs.MemFiles.{is_file_of_name, device_file_of, file_by_name, index_of, IsFirstNamedAt}
 use Rattle.memory_shelf.proofs.MemFilesLemmas.{file_push, others_push, none_from, absent_from, at_from}
 use Rattle.memory_shelf.specs.declared.memory_file.MemFile.{MemFile}

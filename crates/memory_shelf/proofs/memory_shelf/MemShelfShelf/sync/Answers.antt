@@ -1,4 +1,4 @@
-use Rattle.std.proofs.Common.{rules, ◌≡◌, refl, Result, Ok, Err, OnErr, inl}
+use Rattle.std.proofs.Common.{◌≡◌, refl, Result, Ok, Err, OnErr, inl}
 use Rattle.page_store.specs.DeviceFile.{DeviceFile}
 use Rattle.page_store.specs.Calls.{SyncFails}
 use Rattle.memory_shelf.specs.MemFiles.{device_file_of}

@@ -1,4 +1,4 @@
-use Rattle.std.proofs.Common.{rules, refl, sym}
+use Rattle.std.proofs.Common.{refl, sym}
 use Rattle.memory_shelf.proofs.MemFilesLemmas.{changed, not_none, done_as, failed_as}
 use Rattle.memory_shelf.proofs.memory_shelf.MemShelfShelf.write_at.Goals as goal
 
