@@ -13,7 +13,7 @@ module _ {S : Type 0} (shown : ShownPages S) where
   abbrev pub AsksForOne : S → S → Type 0
   AsksForOne old new = (shown.state new).asked ≤ (shown.state old).asked + 1
 
-  -- a fault tells of the device only where it has failed, and is neither Full nor Broken
+  -- a fault tells of the device only where it has failed, and is never Full, Memory or Broken
   abbrev pub FailsByCause : {X : Type 0} → S → S → Result X Fault → Type 0
   FailsByCause old new result = IfErr result (IsCaused (shown.HasFailed old new) ⊥)
 
