@@ -69,7 +69,7 @@ impl Heap {
     /// Reads the stamps and the record at a place in use to the front of `to`, and answers how many
     /// bytes they are. The rest of `to` stays; at a fault it all does.
     ///
-    /// Device, Memory; Damage where the place has no record.
+    /// Device; Damage where the place has no record.
     pub fn get<P: Pages>(&self, pages: &mut P, place: Place, to: &mut [u8]) -> Result<usize, Fault>
         requires ready { P.shown.IsReady pages.old }
         requires room { (slot_shape self.now).stamps + (slot_shape self.now).greatest ≤ length to.old }
@@ -82,7 +82,7 @@ impl Heap {
     /// Reads the record at a place in use to the front of `to`, without its stamps, and answers its
     /// length. The rest of `to` stays; at a fault it all does.
     ///
-    /// Device, Memory; Damage where the place has no record.
+    /// Device; Damage where the place has no record.
     pub fn get_record<P: Pages>(
         &self,
         pages: &mut P,
@@ -102,7 +102,7 @@ impl Heap {
     /// Puts stamps and a record into the slot that was freed last, and answers its place. Where no
     /// slot is free, a new page is taken for it.
     ///
-    /// Device, Memory; Full where no slot is free and no page is left; Damage where a page is none of a heap.
+    /// Device; Full where no slot is free and no page is left; Damage where a page is none of a heap.
     pub fn add<P: Pages>(
         &mut self,
         pages: &mut P,
@@ -121,7 +121,7 @@ impl Heap {
 
     /// Puts other stamps and another record at a place in use. No page is taken.
     ///
-    /// Device, Memory; Damage where the page is none of a heap.
+    /// Device; Damage where the page is none of a heap.
     pub fn set<P: Pages>(
         &self,
         pages: &mut P,
@@ -139,7 +139,7 @@ impl Heap {
 
     /// Gives a slot in use back. It is the next one that is taken; its page stays the heap's.
     ///
-    /// Device, Memory; Damage where the page is none of a heap.
+    /// Device; Damage where the page is none of a heap.
     pub fn free<P: Pages>(&mut self, pages: &mut P, place: Place) -> Result<(), Fault>
         requires { MayChange P.shown pages.old }
         ensures { SetsSlot P.shown pages.old pages.new self.old self.new place None (place ∷ []) result }

@@ -42,5 +42,5 @@ returns-in-None g c =
           sym c.in-None.is ∙ c.behind.ensures ∙ ap behind_in (c.slot.ensures.value ∙ sym (slot_there c.args.shape before c.args.place c.args.place.page c.in_ok-page.page.now refl shown)) ∙ behind_is in
           absurd (cc none);
       available = w.0.available;
-      writes = record { cause = record { device = λ is. absurd (cc is); full = λ is. absurd (cc is); not_broken = λ is. absurd (cc is) }; asked = w.1; step = w.2 };
+      writes = record { cause = record { device = λ is. absurd (cc is); full = λ is. absurd (cc is); not_memory = λ is. absurd (cc is); not_broken = λ is. absurd (cc is) }; asked = w.1; step = w.2 };
     }
