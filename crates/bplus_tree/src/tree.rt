@@ -22,7 +22,7 @@ const GREATEST_LEVELS: u8 = 19;
 /// how often it has changed, a number that stays at its greatest value. One that is read off a
 /// header begins at 0 changes.
 ///
-/// Each call may answer Device or Memory, and Damage where a page is not what its place requires.
+/// Each call may answer Device, and Damage where a page is not what its place requires.
 /// After a fault of a call that changes the tree nothing is known of it.
 #[derive(Clone, Copy)]
 pub struct Tree {
@@ -216,9 +216,9 @@ impl Tree {
     /// Puts an entry in where its key is not there, and answers none. Where the key is there, its
     /// entry is answered, and nothing is changed.
     ///
-    /// Full where no page is available; Memory only where the pages want it. Damage also where the
-    /// tree has 20 levels, or 4,096 times as many entries as the file has pages, which no tree that
-    /// stands comes to. After a fault nothing is known of the tree.
+    /// Full where no page is available. Damage also where the tree has 20 levels, or 4,096 times as
+    /// many entries as the file has pages, which no tree that stands comes to. After a fault nothing
+    /// is known of the tree.
     pub fn insert<P: Pages>(&mut self, pages: &mut P, entry: &[u8]) -> Result<Option<Entry>, Fault>
         requires { CanInsert P.shown (tree_shape self.old) entry.now pages.old }
         ensures inserted { WhereSound P.shown pages.old pages.new
