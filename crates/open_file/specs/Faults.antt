@@ -1,14 +1,15 @@
 -- Why a call on an open file gave up, and what one that reads keeps, at a fault too.
-use Rattle.std.specs.Prelude.{◌≡◌, ◌≤◌, ◌+◌, ℕ, Bool, IsTrue, Result, Err, IfErr}
+use Rattle.std.specs.Prelude.{◌≡◌, ◌≢◌, ◌≤◌, ◌+◌, ℕ, Bool, IsTrue, Result, Err, IfErr}
 use Rattle.io_state.specs.declared.fault.Fault.{Fault}
 use Rattle.pages.specs.ShownPages.{ShownPages}
-use Rattle.io_state.specs.declared.fault.Fault.TheVariants.{Device, Full, Broken}
+use Rattle.io_state.specs.declared.fault.Fault.TheVariants.{Device, Full, Memory, Broken}
 
--- Device only where the device has failed, Full only under this condition, and Broken only where an
--- earlier change failed
+-- Device only where the device has failed, Full only under this condition, Broken only where an
+-- earlier change failed, and never Memory
 pub record IsCausedIn (is_broken : Bool) (failed lacks_room : Type 0) (fault : Fault) : Type 0 where
   pub device : fault ≡ Device → failed
   pub full : fault ≡ Full → lacks_room
+  pub not_memory : fault ≢ Memory
   pub broken : fault ≡ Broken → IsTrue is_broken
 
 -- a call that only reads a file that is broken or not: why it gave up, how many pages it asked for

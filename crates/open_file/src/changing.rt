@@ -47,7 +47,7 @@ impl OpenFile {
 
     /// The entry of a prime value of any length.
     ///
-    /// Device, Memory, Damage.
+    /// Device, Damage.
     pub fn find_prime<P: Pages>(
         &self,
         pages: &mut P,
@@ -70,7 +70,7 @@ impl OpenFile {
     /// Reads the stamps and the record at a place to the front of `to`, and answers how many bytes
     /// they are. At a fault all of `to` stays.
     ///
-    /// Device, Memory; Damage where the place has no record.
+    /// Device; Damage where the place has no record.
     pub fn read_stored<P: Pages>(
         &self,
         pages: &mut P,
@@ -88,7 +88,7 @@ impl OpenFile {
 
     /// Puts stamps and a record into a free slot of the heap, and answers its place.
     ///
-    /// Device, Memory; Full where no slot is free and no page is left; Damage where a page is none of a heap.
+    /// Device; Full where no slot is free and no page is left; Damage where a page is none of a heap.
     pub fn put_record<P: Pages>(
         &mut self,
         pages: &mut P,
@@ -105,7 +105,7 @@ impl OpenFile {
 
     /// Puts other stamps and another record at a place in use. No page is taken.
     ///
-    /// Device, Memory; Damage where the page is none of a heap.
+    /// Device; Damage where the page is none of a heap.
     pub fn set_record<P: Pages>(
         &self,
         pages: &mut P,
@@ -122,7 +122,7 @@ impl OpenFile {
 
     /// Gives the slot of a record back.
     ///
-    /// Device, Memory; Damage where the page is none of a heap.
+    /// Device; Damage where the page is none of a heap.
     pub fn free_record<P: Pages>(&mut self, pages: &mut P, place: Place) -> Result<(), Fault>
         requires { MayChange P.shown pages.old }
         ensures heap { SetsSlot P.shown pages.old pages.new (heap_of self.old) (heap_of self.new) place
@@ -134,7 +134,7 @@ impl OpenFile {
 
     /// Adds the entry of a prime value, and answers true; where the value is there, answers false.
     ///
-    /// Device, Memory, Damage, Full, as of the index.
+    /// Device, Damage, Full, as of the index.
     pub fn insert_prime<P: Pages>(
         &mut self,
         pages: &mut P,
@@ -151,7 +151,7 @@ impl OpenFile {
 
     /// Takes out the entry of a prime value, and answers whether it was there.
     ///
-    /// Device, Memory, Damage, as of the index.
+    /// Device, Damage, as of the index.
     pub fn remove_prime<P: Pages>(&mut self, pages: &mut P, value: &[u8]) -> Result<bool, Fault>
         requires { MayChange P.shown pages.old }
         ensures index { TakesFromPrime P.shown pages.old pages.new (prime_index_of self.old)

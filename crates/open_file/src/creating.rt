@@ -19,7 +19,7 @@ impl OpenFile {
     /// A file without records, of which no page is in use yet: one page is taken for the tree of
     /// each key, in the order of the keys.
     ///
-    /// Device, Memory, Damage; Full where fewer pages are left than there are keys.
+    /// Device, Damage; Full where fewer pages are left than there are keys.
     pub fn create<P: Pages>(pages: &mut P, schema: &Schema) -> Result<OpenFile, Fault>
         requires { LendsToChange P.shown pages.old }
         ensures new { MakesNewFile P.shown pages.old pages.new result }

@@ -41,7 +41,7 @@ impl OpenFile {
 
     /// Whether some record has the value of a key, by its number, that this one has. Nothing is changed.
     ///
-    /// Device, Memory, Damage.
+    /// Device, Damage.
     pub fn is_there<P: Pages>(&self, pages: &mut P, k: u8, bytes: &[u8]) -> Result<bool, Fault>
         requires { LendsRecord P.shown pages.old self.now k bytes.now }
         ensures { LooksForRecord P.shown self.now k bytes.now pages.old pages.new result }

@@ -17,7 +17,7 @@ impl OpenFile {
     /// The first record that the position admits, by key k. It is read into the front of the area,
     /// which is as long as the greatest record. The path to it is kept for the next call.
     ///
-    /// Device, Memory, Damage, Broken. A fault leaves the area as it was.
+    /// Device, Damage, Broken. A fault leaves the area as it was.
     pub fn next<P: Pages>(
         &mut self,
         pages: &mut P,

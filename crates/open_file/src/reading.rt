@@ -27,7 +27,7 @@ impl OpenFile {
     /// value, and goes on to a second leaf only where one ends in front of the first such record or
     /// behind it.
     ///
-    /// Device, Memory, Damage, Broken. A fault leaves the area as it was.
+    /// Device, Damage, Broken. A fault leaves the area as it was.
     pub fn by_key<P: Pages>(
         &self,
         pages: &mut P,
@@ -50,7 +50,7 @@ impl OpenFile {
 
     /// The greatest prime value.
     ///
-    /// Device, Memory, Damage, Broken.
+    /// Device, Damage, Broken.
     pub fn highest<P: Pages>(&self, pages: &mut P) -> Result<Option<Key>, Fault>
         requires ready { P.shown.IsReady pages.old }
         ensures { SeeksHighest P.shown self.now pages.old pages.new result }

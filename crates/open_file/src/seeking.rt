@@ -18,7 +18,7 @@ use pages::Pages;
 impl OpenFile {
     /// The full value of key k of the first record whose value begins so related to the operand.
     ///
-    /// Device, Memory, Damage, Broken.
+    /// Device, Damage, Broken.
     pub fn seek<P: Pages>(
         &self,
         pages: &mut P,
