@@ -162,7 +162,7 @@ module _ {S : Type 0} (shown : ShownPages S) (before : FileInPages S) (file : Op
     broken = λ broken. absurd (both _ whole broken);
     breaks = λ other. is ∙ is_marked X fault other;
     unbroken = tt;
-    cause = record { device = cause.device; full = λ same. (needs (cause.full same), whole); broken = λ same. absurd (cause.not_broken same) };
+    cause = record { device = cause.device; full = λ same. (needs (cause.full same), whole); not_memory = cause.not_memory; broken = λ same. absurd (cause.not_broken same) };
   }
 
 -- ---- a file that was broken before
@@ -177,7 +177,7 @@ broken_breaks shown held broken takes reads = record {
   broken = λ is. (refl, (refl, reads));
   breaks = λ other. broken;
   unbroken = tt;
-  cause = record { device = λ same. absurd (cc); full = λ same. absurd (cc); broken = λ same. broken };
+  cause = record { device = λ same. absurd (cc); full = λ same. absurd (cc); not_memory = λ same. cc; broken = λ same. broken };
 }
 
 -- ---- a record whose row was found

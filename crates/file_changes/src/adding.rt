@@ -27,7 +27,7 @@ use record_heap::Place;
 /// for room and the change each comes only after the one before; the gate is opened before the
 /// change.
 ///
-/// Device, Memory, Damage, Broken, after which the file is broken; Full, where nothing is changed.
+/// Device, Damage, Broken, after which the file is broken; Full, where nothing is changed.
 pub fn add<P: Pages>(opened: &mut OpenFile, pages: &mut P, bytes: &[u8]) -> Result<Added, Fault>
     requires { CanTakeRecord P.shown (in_pages opened.old pages.old) bytes.now }
     ensures { AddsRecord P.shown bytes.now opened.old opened.new pages.old pages.new result }

@@ -24,7 +24,7 @@ use record_heap::Place;
 
 /// Takes out the record of a prime value, and tells whether there was one. No page is taken.
 ///
-/// Device, Memory, Damage, Broken, after which the file is broken.
+/// Device, Damage, Broken, after which the file is broken.
 pub fn remove<P: Pages>(opened: &mut OpenFile, pages: &mut P, key: &Key) -> Result<bool, Fault>
     requires { IsReadyIn P.shown (in_pages opened.old pages.old) }
     ensures { RemovesRecord P.shown key.now.items opened.old opened.new pages.old pages.new result }

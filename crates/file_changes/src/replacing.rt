@@ -28,7 +28,7 @@ use pages::Pages;
 /// Puts a record in the place of that of its prime value, unless a unique alternate value is that
 /// of another record. The entries of keys that do not change stay where they are.
 ///
-/// Device, Memory, Damage, Broken, after which the file is broken; Full, where nothing is changed.
+/// Device, Damage, Broken, after which the file is broken; Full, where nothing is changed.
 pub fn replace<P: Pages>(
     opened: &mut OpenFile,
     pages: &mut P,

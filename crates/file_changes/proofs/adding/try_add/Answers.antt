@@ -47,12 +47,7 @@ returns-then-is_full-clause-adds g c =
     let begins = g.met.P.Pages.writes_begins start looked (g.met.P.Pages.reads_writes start looked step) in
     let left = c.pages_left.ensures ∙ g.met.P.Pages.reads_available start looked step in
     let full = ap (λ n. nat_lt n (need_of_add (heights_of u)) || nat_le (2 ^ 63) (next_stamp_of u)) (sym left) ∙ sym c.is_full.ensures ∙ c.if-is_full.true in
-    lacking _ _ _ _ (refl, step)
-    (λ honest file stands.
-    let told = (rw c.in-Done.is at c.in_ok-repeated.ensures.found honest file stands).answer in (
-      done_is (file_schema u) c.args.bytes.now file c.in-Done.repeated told,
-      ap (λ n. nat_lt (g.P.Pages.shown.state start).available (need_of_add (heights_of u)) || nat_le (2 ^ 63) n) (sym stands.stamp) ∙ full,
-    ))
+    lacking _ _ _ _ (refl, step) (λ honest file stands. (done_is (file_schema u) c.args.bytes.now file c.in-Done.repeated (rw c.in-Done.is at c.in_ok-repeated.ensures.found honest file stands).answer, ap (λ n. nat_lt (g.P.Pages.shown.state start).available (need_of_add (heights_of u)) || nat_le (2 ^ 63) n) (sym stands.stamp) ∙ full))
     (kept _ _ _ refl (g.met.P.Pages.begins_ready start looked begins c.requires.ready.pages) c.requires.ready.shaped begins (omega (arith, c.adding.ensures.reads.asked, heights_few (prime_index_of u) (alternates_of u), levels_of_all (prime_index_of u) (alternates_of u))))
 
 pub returns-in_err-begin-clause-adds : goal.returns-in_err-begin-clause-adds
