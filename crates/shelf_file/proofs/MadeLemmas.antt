@@ -19,8 +19,8 @@ use Rattle.page_alloc.specs.Steps.{KeepsGate, pages_state_of}
 use Rattle.page_alloc.specs.StepLaws.{failed_after}
 use Rattle.page_alloc.proofs.OpenLemmas.{made_quietly}
 use Rattle.open_file.specs.Creating.{IsNewFile, IsNewOpenFile}
-use Rattle.open_file.specs.Faults.{IsCausedIn}
 use Rattle.open_file.specs.declared.open_file.OpenFile.{OpenFile}
+use Rattle.shelf_file.specs.Opening.{MayFailToMake}
 use Rattle.shelf_file.specs.Shelves.{IsMade}
 use Rattle.shelf_file.specs.Standing.{HasLimits}
 
@@ -56,11 +56,11 @@ module _ (unit limit : ℕ) (a b : PagedFile) (s t : ShelfState) (failed fails :
 
   -- a fault is no lack of pages
   pub made_cause : (first keys : ℕ) (e : Fault) → first ≤ failed → 16 ≤ limit → keys ≤ 9 → IsCaused (FaultsRose failed fails) (available_of (counts_of a) < keys) e
-      → IsCausedIn false (FaultsRose first fails) ⊥ e
+      → MayFailToMake (FaultsRose first fails) e
   made_cause first keys e before enough few cause = record {
     device = λ is. failed_after first failed fails before (cause.device is);
-    full = λ is. let lacks = cause.full is in let has = new_available in absurd (omega arith);
-    broken = λ is. absurd (cause.not_broken is);
+    not_full = λ is. let lacks = cause.full is in let has = new_available in absurd (omega arith);
+    not_broken = cause.not_broken;
   }
 
   pub is_made : (file : OpenFile) (schema : Schema) → IsNewOpenFile file schema → available_of (counts_of b) + length schema.keys ≡ available_of (counts_of a)

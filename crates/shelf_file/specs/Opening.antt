@@ -1,7 +1,7 @@
 -- What looking at a file, making it, opening it and closing it leave of the file and of the shelf.
 use Rattle.std.specs.Prelude.{◌≡◌, ◌≢◌, ◌≤◌, ℕ, true, false, IsTrue, IsFalse, Result, Err, IfOk, IfErr, OnErr}
 use Rattle.io_state.specs.declared.fault.Fault.{Fault}
-use Rattle.io_state.specs.declared.fault.Fault.TheVariants.{Memory, Damage, Broken}
+use Rattle.io_state.specs.declared.fault.Fault.TheVariants.{Device, Memory, Full, Damage, Broken}
 use Rattle.indexed_file.specs.File.{File}
 use Rattle.record_layout.specs.Schema.{Schema}
 use Rattle.page_store.specs.Gate.{WasOrRefused}
@@ -42,6 +42,13 @@ pub record LooksOnShelf (unit : ℕ) (old new : CountedShelf) (result : Result L
   pub only : OnlyAnswers old.shelf new.shelf
   pub cause : FaultHasCause old.faults new.faults result
 
+-- why a file may not have been made: Device only where the device has failed; Memory and Damage;
+-- never Full or Broken
+pub record MayFailToMake (failed : Type 0) (fault : Fault) : Type 0 where
+  pub device : fault ≡ Device → failed
+  pub not_full : fault ≢ Full
+  pub not_broken : fault ≢ Broken
+
 -- a file was made in the place of whatever the unit's name stood for; a fault leaves that, or a refused file
 pub record MakesOnShelf (unit limit frames : ℕ) (schema : Schema) (old new : CountedShelf)
     (result : Result ShelfFile Fault) : Type 0 where
@@ -52,7 +59,7 @@ pub record MakesOnShelf (unit limit frames : ℕ) (schema : Schema) (old new : C
   pub failed : OnErr result (IsTrue new.shelf.is_honest → FileGoes unit old.shelf new.shelf IsKeptOrRefused)
   pub others : KeepsOthers unit old.shelf new.shelf
   pub count : old.faults ≤ new.faults
-  pub cause : IfErr result (IsCausedIn false (FaultsRose old.faults new.faults) ⊥)
+  pub cause : IfErr result (MayFailToMake (FaultsRose old.faults new.faults))
   pub damage : IsTrue new.shelf.is_honest → IfErr result (λ e. e ≢ Damage)
 
 -- the file of a unit was opened by this header, with nothing read; or memory was lacking

@@ -23,7 +23,7 @@ pub enum Look {
 
 /// Looks at the first page of a unit's file. Nothing is written.
 ///
-/// Device, Memory.
+/// Device.
 pub fn look_at<S: Shelf>(shelf: &mut S, unit: usize) -> Result<Look, Fault>
     requires unit { HasUnit (S.state shelf.old) unit }
     ensures { LooksAtUnit S.state S.fault_count unit shelf.old shelf.new result }

@@ -82,7 +82,7 @@ impl ShelfFile {
     /// changed, nothing is written; and nothing is where an earlier change failed, which is
     /// answered Broken.
     ///
-    /// Device, Memory, Broken.
+    /// Device, Broken.
     pub fn close<S: Shelf>(&mut self, shelf: &mut S) -> Result<(), Fault>
         requires ready { IsReady self.old (S.state shelf.old) }
         ensures { ClosesHeld S.state S.fault_count self.old shelf.old shelf.new result }

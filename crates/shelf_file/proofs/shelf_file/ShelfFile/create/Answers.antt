@@ -7,7 +7,7 @@ use Rattle.page_store.specs.Moments.{Throughout}
 use Rattle.page_store.specs.ShelfState.{unit_file, FileGoes}
 use Rattle.page_alloc.specs.Joining.{FaultsRose}
 use Rattle.page_alloc.specs.PagedFile.{IsKeptOrRefused}
-use Rattle.open_file.specs.Faults.{IsCausedIn}
+use Rattle.shelf_file.specs.Opening.{MayFailToMake}
 use Rattle.shelf_file.specs.Shelves.{IsMade}
 use Rattle.shelf_file.specs.Standing.{HasLimits}
 use Rattle.shelf_file.proofs.StepLemmas.{at_end, at_ends}
@@ -42,7 +42,7 @@ returns-in_err-file g c =
       count = first_of (search rules, grind (arith, common_steps));
       cause =
           at_end (λ s. IfErr c.from_residual-in_err-file.result
-          (IsCausedIn false (FaultsRose (g.S.Shelf.fault_count c.args.shelf.now) (g.S.Shelf.fault_count s)) ⊥))
+          (MayFailToMake (FaultsRose (g.S.Shelf.fault_count c.args.shelf.now) (g.S.Shelf.fault_count s))))
           _ _ c.shelf-1.given.1 c.create-2.ensures.takes.writes.step.1
           (handed_on c.from_residual-in_err-file.result c.in_err-file.field-0.0 _ c.from_residual-in_err-file.ensures.1
           (made_cause unit limit a _ _ _ _ _ made ready goes (g.S.Shelf.fault_count c.args.shelf.now) (length c.args.schema.now.keys)
