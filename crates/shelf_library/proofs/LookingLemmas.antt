@@ -3,7 +3,7 @@ use Rattle.std.proofs.Common.{◌≡◌, ◌≢◌, inl, inr, ℕ, Bool, false, 
 use Rattle.page_store.specs.ShelfState.{FaultHasCause}
 use Rattle.shelf_file.specs.Shelves.{HasHeader}
 use Rattle.shelf_library.specs.Told.{held_by, seen_by, seen_after}
-use Rattle.shelf_library.proofs.Terms.{Fault, Damage, Device, Memory, looked_at, seen_of, MayFail, untouched, OpensUnit, Shut, holding_at}
+use Rattle.shelf_library.proofs.Terms.{Fault, Damage, Device, looked_at, seen_of, MayFail, untouched, OpensUnit, Shut, holding_at}
 use Rattle.shelf_library.proofs.Terms.{is_broken, named_at, Seen, DeviceFile, ShelfState, unit_file, unit_name, Header, look_of, named_by}
 use Rattle.shelf_library.proofs.Terms.{named_of, Look, Accepted, NoFile, Refused, ShelfFile, shown_by, LooksAt, AreUnits, ChangesAt}
 use Rattle.shelf_library.proofs.Terms.{FitsItsFile, IsTrulyHeld, LibraryState, held_at, held_after, IsTrulyClosed, holding_of, world_of}
@@ -44,10 +44,9 @@ looked_by (Err fault) header is = absurd (cc)
 -- a fault that the shelf may answer
 look_fault : (is_honest : Bool) (truly : Type 0) (old new : ℕ) (look : Result Look Fault) → FaultHasCause old new look → IfErr (seen_after look) (MayFail false is_honest truly old new)
 look_fault is_honest truly old new (Ok found) cause = tt
-look_fault is_honest truly old new (Err fault) cause = elim cause.kinds [
-  | inl is ↦ let same : fault ≡ Device = cc in subst (MayFail false is_honest truly old new) (sym same) (has_risen old new cause.counted)
-  | inr is ↦ let same : fault ≡ Memory = cc in subst (MayFail false is_honest truly old new) (sym same) refl
-]
+look_fault is_honest truly old new (Err fault) cause =
+    let same : fault ≡ Device = cause.device in
+    subst (MayFail false is_honest truly old new) (sym same) (has_risen old new cause.counted)
 
 module _ (u : ℕ) (look : Result Look Fault) (old new : LibraryState) (call : LooksAt u look old new) where
   look_changes : ChangesAt u (held_after look) old.shelf new.shelf old.held new.held
@@ -107,10 +106,7 @@ module _ (u : ℕ) (look : Result Look Fault) (old new : LibraryState) (call : L
 
 look_spares : (old new : ℕ) (look : Result Look Fault) → FaultHasCause old new look → IfErr (seen_after look) (λ fault. fault ≢ Damage)
 look_spares old new (Ok found) cause = tt
-look_spares old new (Err fault) cause = elim cause.kinds [
-  | inl is ↦ λ damage. cc
-  | inr is ↦ λ damage. cc
-]
+look_spares old new (Err fault) cause = λ damage. let same : fault ≡ Device = cause.device in cc
 
 -- what a look promises
 pub look_opens : {S : Type 0} (state : S → LibraryState) (u : ℕ) (look : Result Look Fault) (old new : S) → LooksAt u look (state old) (state new)

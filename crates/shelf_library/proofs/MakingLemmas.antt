@@ -10,7 +10,7 @@ use Rattle.shelf_library.proofs.Terms.{FitsItsFile, IsTrulyHeld, MakesAt, Librar
 use Rattle.shelf_library.proofs.Terms.{IsTrulyOpen, holding_of, room_of_held, world_of, Opened}
 use Rattle.shelf_library.proofs.AsideLemmas.{are_after, name_before, name_same, held_here, holding_after, named_before, named_after, truth_here}
 use Rattle.shelf_library.proofs.RefusedLemmas.{refused_look, refused_named}
-use Rattle.shelf_library.proofs.FaultLemmas.{faults_are}
+use Rattle.shelf_library.proofs.FaultLemmas.{faults_of_making}
 use Rattle.shelf_library.proofs.MovingLemmas.{was_or_refused, closed_kept, named_kept}
 use Rattle.shelf_library.proofs.WorldLemmas.{same_open}
 use Rattle.shelf_library.proofs.UnitLemmas.{keeps_at, images_at}
@@ -118,8 +118,8 @@ module _ {S : Type 0} (state : S → LibraryState) (u : ℕ) (schema : Schema) (
       subst (λ (x : Result (Unit {0}) Fault). OpensUnit (shown_by state) u unfinished old new x) (sym is)
       (opens_unit state u old new r call.units at unfinished
       (unbroken u schema r (state old) (state new) call r call.make.made)
-      (faults_are false (state new).shelf.is_honest (IsShownTruly (state old).shelf (state old).held (name_at (world_of (state old).shelf (state old).held) u)) (state old).faults (state new).faults r
-      call.make.cause (λ e. absurd (let clash : false ≡ true = e in cc)) (λ honest shown. call.make.damage honest))
+      (faults_of_making (state new).shelf.is_honest (IsShownTruly (state old).shelf (state old).held (name_at (world_of (state old).shelf (state old).held) u)) (state old).faults (state new).faults r
+      call.make.cause call.make.damage)
       call.make.damage
       (λ honest shown. images_at state u (held_open r) old new call.units at unfinished
       (λ real. was_or_refused ((state old).shelf.file (unit_name (state old).shelf u)) ((state new).shelf.file (unit_name (state old).shelf u))

@@ -41,6 +41,7 @@ pub use Rattle.shelf_file.proofs.AcceptedLemmas.{reads_back}
 pub use Rattle.shelf_file.specs.Calls.{OnlyReadsFile}
 pub use Rattle.shelf_file.specs.ClosedFile.{StandsIn, AreClosed}
 pub use Rattle.shelf_file.specs.Named.{look_of, named_by, named_of}
+pub use Rattle.shelf_file.specs.Opening.{MayFailToMake}
 pub use Rattle.shelf_file.specs.Shelves.{ClosedFileOrRefused, Closes}
 pub use Rattle.shelf_file.specs.Standing.{HasLimits, IsReady, StandsFor, file_read_off, is_broken_file}
 pub use Rattle.shelf_file.specs.Standing.{live_of, pages_behind, parts_of, room_in, schema_behind}
