@@ -50,7 +50,7 @@ pub fn put_byte(rt: &impl Abort, pages: &mut [[u8; 4096]], n: usize, at: usize, 
 }
 
 // Nothing is claimed of what the pages hold: honesty is never true here, and what a test sees is what
-// it asks.
+// it asks. Where memory for a page lacks, the device has failed.
 impl Pages for MemoryPages {
     ghost use Rattle.std.specs.Prelude.{◌≡◌, ⊤, refl};
     ghost use Rattle.std.proofs.Common.{◌∙◌, le_refl};
@@ -63,7 +63,7 @@ impl Pages for MemoryPages {
       Reads = λ a b. b.left ≡ a.left;
       Writes = λ a b. ⊤;
       Begins = λ a b. ⊤;
-      HasFailed = λ a b. ⊥;
+      HasFailed = λ a b. ⊤;
     } };
 
     ghost reads_nothing = { λ a. refl };
@@ -134,10 +134,10 @@ impl Pages for MemoryPages {
         }
         let n = self.pages.len();
         if n > u32::MAX as usize {
-            return Err(Fault::Memory);
+            return Err(Fault::Device);
         }
         match self.pages.push([0; 4096]) {
-            Err(_) => Err(Fault::Memory),
+            Err(_) => Err(Fault::Device),
             Ok(()) => {
                 self.left -= 1;
                 Ok(n as u32)
@@ -147,10 +147,10 @@ impl Pages for MemoryPages {
 
     fn give(&mut self, n: u32) -> Result<(), Fault> {
         if self.left == u64::MAX {
-            return Err(Fault::Memory);
+            return Err(Fault::Device);
         }
         match self.free.push(n) {
-            Err(_) => Err(Fault::Memory),
+            Err(_) => Err(Fault::Device),
             Ok(()) => {
                 self.left += 1;
                 Ok(())
