@@ -26,16 +26,32 @@ pub struct OldRecord {
     pub end: usize,
 }
 
+/// A slot of so many bytes is enough for most files. It is soon filled.
+pub(crate) const SHORT_SLOT: usize = 512;
+
+/// The longest slot.
+pub(crate) const LONGEST_SLOT: usize = 4064;
+
+/// How many bytes stamps and a record are at most.
+pub(crate) fn most_stored(opened: &OpenFile) -> usize
+    ensures { result ≡ most_stored opened.now }
+{
+    let shape = opened.heap().shape();
+    usize::from(shape.stamps) + usize::from(shape.greatest)
+}
+
 /// The record of a prime value, which is in the front of the slot then, behind its stamps.
 pub(crate) fn find_old<P: Pages>(
     opened: &OpenFile,
     pages: &mut P,
     prime: &[u8],
-    slot: &mut [u8; 4064],
+    slot: &mut [u8],
 ) -> Result<Option<OldRecord>, Fault>
-    requires { IsReadyIn P.shown (in_pages opened.now pages.old) }
+    requires ready { IsReadyIn P.shown (in_pages opened.now pages.old) }
+    requires room { most_stored opened.now ≤ length slot.old }
     ensures found { AnswersFinding P.shown opened.now prime.now slot.new pages.old pages.new result }
     ensures within { IfOk result (λ found. IfSome found (HasRecordLength opened.now)) }
+    ensures long { length slot.new ≡ length slot.old }
     ensures reads { ReadsPages P.shown (prime_height (prime_index_of opened.now) + 1) pages.old pages.new
         result }
 {

@@ -1,6 +1,6 @@
 //! Removing a record.
 
-ghost use Rattle.std.specs.Prelude.{◌≡◌, ◌+◌, ◌*◌, true, false, IfErr, OnOk};
+ghost use Rattle.std.specs.Prelude.{◌≡◌, ◌+◌, ◌*◌, ◌≤◌, length, true, false, IfErr, OnOk};
 ghost use Rattle.pages.specs.Cause.{IsCaused};
 ghost use Rattle.pages.specs.PageCalls.{WritesPages};
 ghost use Rattle.key_index.specs.Standing.{prime_height};
@@ -9,13 +9,16 @@ ghost use Rattle.open_file.specs.Lent.{LendsToChange};
 ghost use Rattle.open_file.specs.Fields.{alternates_of, has_broken, prime_index_of};
 ghost use Rattle.file_changes.specs.Adding.{index_levels};
 ghost use Rattle.file_changes.specs.Contents.{TakesStep};
+ghost use Rattle.file_changes.specs.Old.{most_stored};
 ghost use Rattle.file_changes.specs.InPages.{in_pages, IsReadyIn, MakesRemoval, RemovesRecord};
 ghost use Rattle.file_changes.specs.Removing.{CanTakeOut, ChangesParts, KeepsOtherIndexes, most_to_take_out};
 ghost use Rattle.file_changes.specs.Removing.{prime_lost, slot_freed, entry_lost, row_lost, LosesEntries};
 ghost use Rattle.file_changes.specs.Steps.{CanChangeWith, CanChangeIndex, ChangesHeap, ChangesPrime};
 ghost use Rattle.file_changes.specs.Steps.{ChangesAlternates, ChangesAlternate, IsNoHigher};
 
-use crate::old_record::{OldRecord, find_old, record_in};
+use crate::old_record::{
+    LONGEST_SLOT, OldRecord, SHORT_SLOT, find_old, most_stored, record_in,
+};
 use io_state::{Fault, Key};
 use key_index::{AltEntry, AltIndex, PrimeEntry};
 use open_file::OpenFile;
@@ -44,12 +47,31 @@ fn try_remove<P: Pages>(opened: &mut OpenFile, pages: &mut P, prime: &[u8]) -> R
     ensures cause { IfErr result (IsCaused (P.shown.HasFailed pages.old pages.new) ⊥) }
     ensures broken { has_broken opened.new ≡ has_broken opened.old }
 {
-    let mut slot = [0; 4064];
-    let Some(old) = find_old(opened, pages, prime, &mut slot)? else {
+    if most_stored(opened) <= SHORT_SLOT {
+        remove_by(opened, pages, prime, &mut [0; SHORT_SLOT])
+    } else {
+        remove_by(opened, pages, prime, &mut [0; LONGEST_SLOT])
+    }
+}
+
+/// The same by a slot that is long enough, into which the record is read.
+fn remove_by<P: Pages>(
+    opened: &mut OpenFile,
+    pages: &mut P,
+    prime: &[u8],
+    slot: &mut [u8],
+) -> Result<bool, Fault>
+    requires ready { IsReadyIn P.shown (in_pages opened.old pages.old) }
+    requires room { most_stored opened.old ≤ length slot.old }
+    ensures removes { MakesRemoval P.shown prime.now opened.old opened.new pages.old pages.new result }
+    ensures cause { IfErr result (IsCaused (P.shown.HasFailed pages.old pages.new) ⊥) }
+    ensures broken { has_broken opened.new ≡ has_broken opened.old }
+{
+    let Some(old) = find_old(opened, pages, prime, slot)? else {
         return Ok(false);
     };
     pages.begin()?;
-    let before = record_in(opened, &old, &slot);
+    let before = record_in(opened, &old, slot);
     take_out(opened, pages, &old, before)?;
     Ok(true)
 }

@@ -5,7 +5,7 @@ ghost use Rattle.pages.specs.Cause.{IsCaused};
 ghost use Rattle.pages.specs.PageCalls.{ReadsPages, WritesPages};
 ghost use Rattle.open_file.specs.Stands.{heights_of};
 ghost use Rattle.open_file.specs.Fields.{file_schema};
-ghost use Rattle.file_changes.specs.Old.{row_with};
+ghost use Rattle.file_changes.specs.Old.{most_stored, row_with};
 ghost use Rattle.file_changes.specs.Contents.{TakesStep};
 ghost use Rattle.file_changes.specs.InPages.{in_pages, MakesReplacement, ReplacesRecord};
 ghost use Rattle.file_changes.specs.Replacing.{CanLookForKey, CanPutInPlace, CanChangeIndexes, CanPutEntry};
@@ -17,7 +17,9 @@ ghost use Rattle.file_changes.specs.Steps.{ChangesAlternates, ChangesAlternate};
 
 use crate::adding::add_to_alternate;
 use crate::changed::{changed_stamps, differs, is_full_to_change, takes_stamp};
-use crate::old_record::{OldRecord, find_old, record_in};
+use crate::old_record::{
+    LONGEST_SLOT, OldRecord, SHORT_SLOT, find_old, most_stored, record_in,
+};
 use crate::removing::remove_from_alternate;
 use indexed_file::Replaced;
 use io_state::Fault;
@@ -55,12 +57,30 @@ fn try_replace<P: Pages>(
     ensures replaces { MakesReplacement P.shown bytes.now opened.old opened.new pages.old pages.new result }
     ensures keeps { KeepsMark P.shown opened.old opened.new pages.old pages.new result }
 {
-    let mut slot = [0; 4064];
+    if most_stored(opened) <= SHORT_SLOT {
+        replace_by(opened, pages, bytes, &mut [0; SHORT_SLOT])
+    } else {
+        replace_by(opened, pages, bytes, &mut [0; LONGEST_SLOT])
+    }
+}
+
+/// The same by a slot that is long enough, into which the old record is read.
+fn replace_by<P: Pages>(
+    opened: &mut OpenFile,
+    pages: &mut P,
+    bytes: &[u8],
+    slot: &mut [u8],
+) -> Result<Replaced, Fault>
+    requires can { CanTakeRecord P.shown (in_pages opened.old pages.old) bytes.now }
+    requires room { most_stored opened.old ≤ length slot.old }
+    ensures replaces { MakesReplacement P.shown bytes.now opened.old opened.new pages.old pages.new result }
+    ensures keeps { KeepsMark P.shown opened.old opened.new pages.old pages.new result }
+{
     let prime = opened.value(bytes, 0);
-    let Some(old) = find_old(opened, pages, prime, &mut slot)? else {
+    let Some(old) = find_old(opened, pages, prime, slot)? else {
         return Ok(Replaced::Gone);
     };
-    let before = record_in(opened, &old, &slot);
+    let before = record_in(opened, &old, slot);
     replace_old(opened, pages, &old, before, bytes)
 }
 

@@ -5,18 +5,12 @@ use Rattle.open_file.specs.Fields.{heap_of, file_schema}
 use Rattle.open_file.specs.Stored.{stored}
 use Rattle.open_file.proofs.ExitLemmas.{fails}
 use Rattle.file_changes.proofs.FoundLemmas.{leads_to, old_is, none_is}
-use Rattle.open_file.proofs.StampedLemmas.{few_stamps}
 use Rattle.file_changes.proofs.old_record.find_old.Goals as goal
-
-pub read_stored-requires-clause-room : goal.read_stored-requires-clause-room
-read_stored-requires-clause-room g c =
-    let shaped = c.requires.shaped in
-    omega (arith, few_stamps (file_schema c.args.opened.now).keys shaped.is_schema.few, shaped.stamps, shaped.greatest, shaped.is_schema.limit, c.fits-slot)
 
 pub stamps_in-stamps-requires : goal.stamps_in-stamps-requires
 stamps_in-stamps-requires g c =
-    let shaped = c.requires.shaped in
-    record { shaped = shaped; room = omega (arith, few_stamps (file_schema c.args.opened.now).keys shaped.is_schema.few, shaped.stamps, c.read_stored.ensures.front.long, c.fits-slot) }
+    let shaped = c.requires.ready.shaped in
+    record { shaped = shaped; room = omega (arith, c.read_stored.ensures.front.long, c.requires.room) }
 
 pub returns-in_err-entry-clause-found : goal.returns-in_err-entry-clause-found
 returns-in_err-entry-clause-found g c honest file stands =
