@@ -16,9 +16,7 @@ ghost use Rattle.file_changes.specs.Removing.{prime_lost, slot_freed, entry_lost
 ghost use Rattle.file_changes.specs.Steps.{CanChangeWith, CanChangeIndex, ChangesHeap, ChangesPrime};
 ghost use Rattle.file_changes.specs.Steps.{ChangesAlternates, ChangesAlternate, IsNoHigher};
 
-use crate::old_record::{
-    LONGEST_SLOT, OldRecord, SHORT_SLOT, find_old, most_stored, record_in,
-};
+use crate::old_record::{LONGEST_SLOT, OldRecord, SHORT_SLOT, find_old, most_stored, record_in};
 use io_state::{Fault, Key};
 use key_index::{AltEntry, AltIndex, PrimeEntry};
 use open_file::OpenFile;

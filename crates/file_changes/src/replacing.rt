@@ -17,9 +17,7 @@ ghost use Rattle.file_changes.specs.Steps.{ChangesAlternates, ChangesAlternate};
 
 use crate::adding::add_to_alternate;
 use crate::changed::{changed_stamps, differs, is_full_to_change, takes_stamp};
-use crate::old_record::{
-    LONGEST_SLOT, OldRecord, SHORT_SLOT, find_old, most_stored, record_in,
-};
+use crate::old_record::{LONGEST_SLOT, OldRecord, SHORT_SLOT, find_old, most_stored, record_in};
 use crate::removing::remove_from_alternate;
 use indexed_file::Replaced;
 use io_state::Fault;
