@@ -1,6 +1,6 @@
 -- What the calls of the indexes answer and leave.
 use Rattle.std.specs.Prelude.{◌≡◌, ◌*◌, ℕ, Bool, true, false, List, find, Option, None, Some, IsSome, IsTrue}
-use Rattle.std.specs.Prelude.{IfSome, IfErr, Result, Ok, option_map, is_some}
+use Rattle.std.specs.Prelude.{IfSome, IfErr, Result, Ok, Err, option_map, is_some}
 use Rattle.std.specs.Option.{option_map_or}
 use Rattle.arrayvec.specs.ArrayVec.{ArrayVec}
 use Rattle.io_state.specs.declared.fault.Fault.{Fault}
@@ -167,6 +167,16 @@ abbrev pub FindsFirstInAlt : {S : Type 0} → ShownPages S → S → S → AltIn
 FindsFirstInAlt shown before after index value result =
     LooksInIndex shown (2 * alt_height index) before after result
     (λ live. AltFindsFirst index live value result)
+
+-- the entry that was filled, or none
+abbrev pub filled_entry : {E : Type 0} → E → Bool → Option E
+filled_entry entry true = Some entry
+filled_entry entry false = None
+
+-- what a call tells that fills an entry and answers whether there is one
+abbrev pub filled_with : {E : Type 0} → E → Result Bool Fault → Result (Option E) Fault
+filled_with entry (Ok found) = Ok (filled_entry entry found)
+filled_with entry (Err fault) = Err fault
 
 -- what the bytes of an entry that fits are told as, where some were found
 abbrev pub TellsEntry : {E : Type 0} → (E → List ℕ) → (E → Type 0) → Option (List ℕ)

@@ -37,6 +37,7 @@ impl AltIndex {
     ghost use Rattle.key_index.specs.Entries.{has_rank, from_value, after_rank, past_value};
     ghost use Rattle.tree_search.specs.Calls.{last_of};
     ghost use Rattle.key_index.specs.Standing.{IsAltStored, CountsAlt, alt_height, alt_key};
+    ghost use Rattle.key_index.specs.Calls.{filled_with};
     ghost use Rattle.key_index.specs.Calls.{FindsInAlt, SeeksInAlt, FindsFirstInAlt, TellsAlt, TellsFirst};
     ghost use Rattle.key_index.specs.Stored.{IsAltHeader, entry_to};
     ghost use Rattle.key_index.specs.Changes.{MakesIndex, AddsToAlt, TakesFromAlt, MayMakeAlt, MayAddAlt};
@@ -266,6 +267,20 @@ impl AltIndex {
             Some(bytes) => self.decode(&bytes),
             None => Ok(None),
         }
+    }
+
+    /// The entry of these bytes goes to `entry`, and the answer is true. Damage where they are not
+    /// as many as an entry has.
+    pub(crate) fn decode_into(&self, bytes: &Entry, entry: &mut AltEntry) -> Result<bool, Fault>
+        ensures { TellsAlt self.now (Some bytes.now) (filled_with entry.new result) }
+    {
+        let width = usize::from(self.width);
+        let prime = usize::from(self.prime);
+        if bytes.len() != width + 8 + prime {
+            return Err(Fault::Damage);
+        }
+        entry.fill(bytes.as_slice(), width, prime);
+        Ok(true)
     }
 
     /// The entry of these bytes. Damage where they are not as many as an entry has.

@@ -41,6 +41,7 @@ impl PrimeIndex {
 
 impl PrimeCursor {
     ghost use Rattle.key_index.specs.Cursors.{MovesInPrime};
+    ghost use Rattle.key_index.specs.Calls.{filled_with};
 
     /// Whether it gives what comes after this value.
     pub fn is_after(&self, value: &[u8]) -> bool
@@ -49,22 +50,24 @@ impl PrimeCursor {
         self.cursor.key() == value
     }
 
-    /// The next entry, behind which the cursor stands then; where there is none it stays. While the
-    /// index has not changed it asks for one page mostly. After a fault nothing is said of the
-    /// cursor.
+    /// The next entry goes to `entry`, and the cursor stands after it then. The answer is whether
+    /// there is one; where there is none the cursor stays. While the index has not changed it asks
+    /// for one page mostly. After a fault nothing is said of the cursor.
     pub fn next<P: Pages>(
         &mut self,
         index: &PrimeIndex,
         pages: &mut P,
-    ) -> Result<Option<PrimeEntry>, Fault>
+        entry: &mut PrimeEntry,
+    ) -> Result<bool, Fault>
         requires ready { P.shown.IsReady pages.old }
-        ensures { MovesInPrime P.shown pages.old pages.new self.old self.new index.now result }
+        ensures { MovesInPrime P.shown pages.old pages.new self.old self.new index.now
+            (filled_with entry.new result) }
     {
         let mut bytes = Entry::new();
         if !self.cursor.next(&index.tree, pages, &mut bytes)? {
-            return Ok(None);
+            return Ok(false);
         }
-        index.decode(&bytes)
+        index.decode_into(&bytes, entry)
     }
 }
 
@@ -85,6 +88,7 @@ impl AltIndex {
 
 impl AltCursor {
     ghost use Rattle.key_index.specs.Cursors.{MovesInAlt, TellsNextInAlt};
+    ghost use Rattle.key_index.specs.Calls.{filled_with};
 
     /// Whether it gives what comes after this value and stamp.
     pub fn is_after(&self, value: &[u8], stamp: u64) -> bool
@@ -95,22 +99,24 @@ impl AltCursor {
         self.cursor.key() == key.as_slice()
     }
 
-    /// The next entry, behind which the cursor stands then; where there is none it stays. While the
-    /// index has not changed it asks for one page mostly. After a fault nothing is said of the
-    /// cursor.
+    /// The next entry goes to `entry`, and the cursor stands after it then. The answer is whether
+    /// there is one; where there is none the cursor stays. While the index has not changed it asks
+    /// for one page mostly. After a fault nothing is said of the cursor.
     pub fn next<P: Pages>(
         &mut self,
         index: &AltIndex,
         pages: &mut P,
-    ) -> Result<Option<AltEntry>, Fault>
+        entry: &mut AltEntry,
+    ) -> Result<bool, Fault>
         requires ready { P.shown.IsReady pages.old }
-        ensures { MovesInAlt P.shown pages.old pages.new self.old self.new index.now result }
+        ensures { MovesInAlt P.shown pages.old pages.new self.old self.new index.now
+            (filled_with entry.new result) }
     {
         let mut bytes = Entry::new();
         if !self.cursor.next(&index.tree, pages, &mut bytes)? {
-            return Ok(None);
+            return Ok(false);
         }
-        index.decode(&bytes)
+        index.decode_into(&bytes, entry)
     }
 
     /// Whether the next entry has the value that the cursor stands behind. The cursor stays where

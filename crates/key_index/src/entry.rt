@@ -11,7 +11,7 @@
 //! | w to w + 7 | stamp |
 //! | from w + 8 | prime value of the record |
 
-ghost use Rattle.std.specs.Prelude.{◌≡◌, ◌+◌, ◌^◌, ◌<◌, ◌≤◌, ◌++◌, length};
+ghost use Rattle.std.specs.Prelude.{◌≡◌, ◌+◌, ◌^◌, ◌<◌, ◌≤◌, ◌++◌, [], length};
 ghost use Rattle.byteorder.specs.Endian.{big_bytes};
 ghost use Rattle.key_index.specs.Stored.{place_in};
 
@@ -61,6 +61,29 @@ impl PrimeEntry {
         bytes
     }
 
+    /// An entry to be filled.
+    pub fn blank() -> PrimeEntry
+        ensures { result.value.items ≡ [] }
+    {
+        PrimeEntry {
+            value: Key::new(),
+            place: Place { page: 0, slot: 0 },
+        }
+    }
+
+    /// Makes it the entry of bytes whose first `width` are the value.
+    pub fn fill(&mut self, bytes: &[u8], width: usize)
+        requires width { width ≤ 250 }
+        requires long { length bytes.now ≡ width + 6 }
+        ensures { self.new ≡ prime_entry_in width bytes.now }
+    {
+        put_bytes(&mut self.value, &bytes[..width]);
+        self.place = Place {
+            page: BigEndian::read_u32(&bytes[width..]),
+            slot: BigEndian::read_u16(&bytes[width + 4..]),
+        };
+    }
+
     /// The entry of bytes whose first `width` are the value.
     pub fn read(bytes: &[u8], width: usize) -> PrimeEntry
         requires width { width ≤ 250 }
@@ -105,6 +128,29 @@ impl AltEntry {
         bytes
     }
 
+    /// An entry to be filled.
+    pub fn blank() -> AltEntry
+        ensures value { result.value.items ≡ [] }
+        ensures prime { result.prime.items ≡ [] }
+    {
+        AltEntry {
+            value: Key::new(),
+            stamp: 0,
+            prime: Key::new(),
+        }
+    }
+
+    /// Makes it the entry of bytes whose first `width` are the value, and the last `prime` the
+    /// prime value.
+    pub fn fill(&mut self, bytes: &[u8], width: usize, prime: usize)
+        requires { HasAltLength width prime bytes.now }
+        ensures { self.new ≡ alt_entry_in width bytes.now }
+    {
+        put_bytes(&mut self.value, &bytes[..width]);
+        self.stamp = BigEndian::read_u64(&bytes[width..]);
+        put_bytes(&mut self.prime, &bytes[width + 8..]);
+    }
+
     /// The entry of bytes whose first `width` are the value, and the last `prime` the prime value.
     pub fn read(bytes: &[u8], width: usize, prime: usize) -> AltEntry
         requires { HasAltLength width prime bytes.now }
@@ -116,6 +162,19 @@ impl AltEntry {
             prime: key_of(&bytes[width + 8..]),
         }
     }
+}
+
+/// Makes a value these bytes, in its place.
+fn put_bytes(value: &mut Key, bytes: &[u8])
+    requires { length bytes.now ≤ 250 }
+    ensures { value.new.items ≡ bytes.now }
+{
+    if value.len() == bytes.len() {
+        value.as_mut_slice().copy_from_slice(bytes);
+        return;
+    }
+    value.clear();
+    let _ = value.try_extend_from_slice(bytes);
 }
 
 /// A value that outlives its page.

@@ -29,7 +29,7 @@ impl PrimeIndex {
     ghost use Rattle.tree_search.specs.Calls.{last_of};
     ghost use Rattle.key_index.specs.Standing.{IsPrimeStored, CountsPrime, prime_height};
     ghost use Rattle.key_index.specs.Calls.{FindsInPrime, SeeksInPrime, FindsPlaceInPrime, TellsInPrime};
-    ghost use Rattle.key_index.specs.Calls.{TellsPrime};
+    ghost use Rattle.key_index.specs.Calls.{TellsPrime, filled_with};
     ghost use Rattle.key_index.specs.Stored.{IsWidth, IsHeight, entry_at};
     ghost use Rattle.key_index.specs.Changes.{MakesIndex, AddsToPrime, TakesFromPrime, MayMakePrime};
     ghost use Rattle.key_index.specs.Changes.{MayAddPrime, IsNewPrime, IsPrimeOf};
@@ -207,6 +207,19 @@ impl PrimeIndex {
             Some(bytes) => self.decode(&bytes),
             None => Ok(None),
         }
+    }
+
+    /// The entry of these bytes goes to `entry`, and the answer is true. Damage where they are not
+    /// as many as an entry has.
+    pub(crate) fn decode_into(&self, bytes: &Entry, entry: &mut PrimeEntry) -> Result<bool, Fault>
+        ensures { TellsPrime self.now (Some bytes.now) (filled_with entry.new result) }
+    {
+        let width = usize::from(self.width);
+        if bytes.len() != width + 6 {
+            return Err(Fault::Damage);
+        }
+        entry.fill(bytes.as_slice(), width);
+        Ok(true)
     }
 
     /// The entry of these bytes. Damage where they are not as many as an entry has.

@@ -1,6 +1,9 @@
 -- An open file with another path stands for the same file.
-use Rattle.std.proofs.Common.{◌≡◌, ℕ, ◌+◌, ◌<◌, false, List, length, Option, Some, Ok, Err, ap, sym, subst, ◌∙◌}
-use Rattle.std.specs.Prelude.{Result}
+use Rattle.std.proofs.Common.{◌≡◌, ◌≢◌, ℕ, ◌+◌, ◌<◌, Bool, false, List, length, Option, Some, Ok, Err, refl, ap, sym, subst, ◌∙◌}
+use Rattle.std.specs.Prelude.{Result, IsErrAnd}
+use Rattle.std.proofs.lemmas.Result.{err_from_is_err_and}
+use Rattle.io_state.specs.declared.fault.Fault.TheVariants.{Damage}
+use Rattle.key_index.specs.Calls.{filled_with}
 use Rattle.std.specs.Result.{is_err}
 use Rattle.std.proofs.lemmas.List.{get_or_default}
 use Rattle.io_state.specs.declared.fault.Fault.{Fault}
@@ -80,3 +83,15 @@ answered (Err fault) P Q f given = record { answer = tt; no_damage = given.no_da
 pub no_fault : {X : Type 0} (result : Result X Fault) (P : X → Type 0) (Q : Type 0) → is_err result ≡ false → ((x : X) → P x → Q) → IsAnswer result P → Q
 no_fault (Ok x) P Q right f given = f x given.answer
 no_fault (Err fault) P Q right f given = absurd (cc)
+
+-- a fault that is no damage is handed on by a call that fills an entry
+pub fails_filling : {E : Type 0} (entry : E) (r : Result Bool Fault) (fault : Fault) → IsErrAnd r (λ e. e ≡ fault) → fault ≢ Damage → (P : Option E → Type 0)
+    → IsAnswer (filled_with entry r) P
+fails_filling entry r fault was sound P =
+    let p = err_from_is_err_and r was in
+    rw (p.1, p.2) (record { answer = tt; no_damage = sound })
+
+-- such a call has failed where its answer has
+pub is_err_filled : {E : Type 0} (entry : E) (r : Result Bool Fault) → is_err (filled_with entry r) ≡ is_err r
+is_err_filled entry (Ok found) = refl
+is_err_filled entry (Err fault) = refl

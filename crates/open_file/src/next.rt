@@ -10,7 +10,7 @@ ghost use Rattle.open_file.specs.Calls.{ReadsNext};
 use crate::open_file::OpenFile;
 use indexed_file::Found;
 use io_state::{Fault, Position};
-use key_index::PrimeEntry;
+use key_index::{AltEntry, PrimeEntry};
 use pages::Pages;
 
 impl OpenFile {
@@ -52,12 +52,13 @@ impl OpenFile {
         ensures reads { ReadsPages P.shown (pages_to_read P.shown self.old pages.old 0) pages.old pages.new
             result }
     {
-        let Some(PrimeEntry { value, place }) = self.step_in_prime(pages, position)? else {
+        let mut entry = PrimeEntry::blank();
+        if !self.step_in_prime(pages, position, &mut entry)? {
             return Ok(None);
-        };
-        let length = self.read(pages, place, area)?;
+        }
+        let length = self.read(pages, entry.place, area)?;
         Ok(Some(Found {
-            key: value,
+            key: entry.value,
             stamp: 0,
             repeated: false,
             length,
@@ -80,9 +81,10 @@ impl OpenFile {
             result }
     {
         let index = self.alternate(k);
-        let Some(entry) = self.step_in_alternate(pages, k, index, position)? else {
+        let mut entry = AltEntry::blank();
+        if !self.step_in_alternate(pages, k, index, position, &mut entry)? {
             return Ok(None);
-        };
+        }
         Ok(Some(self.deliver(pages, k, index, entry, area)?))
     }
 }

@@ -1,7 +1,8 @@
 //! The path of READ NEXT through an index.
 
-ghost use Rattle.std.specs.Prelude.{◌≡◌, ◌-◌, ◌*◌, ◌≤◌, length, Some, IfSome};
+ghost use Rattle.std.specs.Prelude.{◌≡◌, ◌-◌, ◌*◌, ◌≤◌, length, find, Some, IfSome};
 ghost use Rattle.pages.specs.PageCalls.{ReadsPages};
+ghost use Rattle.key_index.specs.Calls.{filled_entry, filled_with, SeeksInPrime, SeeksInAlt};
 ghost use Rattle.key_index.specs.Entries.{from_prime, after_prime, from_value, after_rank};
 ghost use Rattle.key_index.specs.Standing.{alt_height};
 ghost use Rattle.open_file.specs.Lent.{LendsByIndex, LendsBehind, IsAlternateBy};
@@ -12,7 +13,7 @@ ghost use Rattle.open_file.specs.Steps.{StepsInAlternate};
 
 use crate::open_file::OpenFile;
 use io_state::{Fault, Position};
-use key_index::{AltCursor, AltEntry, AltIndex, PrimeCursor, PrimeEntry};
+use key_index::{AltCursor, AltEntry, AltIndex, PrimeCursor, PrimeEntry, PrimeIndex};
 use pages::Pages;
 
 /// A place behind the entry that was read last, in the prime index or in that of an alternate key (from 0).
@@ -23,20 +24,22 @@ pub enum Path {
 }
 
 impl OpenFile {
-    /// The first entry of the prime index that the position admits, behind which the path is then.
+    /// The first entry of the prime index that the position admits goes to `entry`, and the path is
+    /// after it then. The answer is whether there is one.
     pub(crate) fn step_in_prime<P: Pages>(
         &mut self,
         pages: &mut P,
         position: &Position,
-    ) -> Result<Option<PrimeEntry>, Fault>
+        entry: &mut PrimeEntry,
+    ) -> Result<bool, Fault>
         requires ready { P.shown.IsReady pages.old }
         ensures { StepsInPrime P.shown (admits_prime position.now) self.old self.new pages.old pages.new
-            result }
+            (filled_with entry.new result) }
     {
         match position {
-            Position::Invalid | Position::Missing => Ok(None),
-            Position::From(value) => self.prime_from(pages, value.as_slice()),
-            Position::After(value, _) => self.prime_after(pages, value.as_slice()),
+            Position::Invalid | Position::Missing => Ok(false),
+            Position::From(value) => self.prime_from(pages, value.as_slice(), entry),
+            Position::After(value, _) => self.prime_after(pages, value.as_slice(), entry),
         }
     }
 
@@ -47,20 +50,22 @@ impl OpenFile {
         k: usize,
         index: AltIndex,
         position: &Position,
-    ) -> Result<Option<AltEntry>, Fault>
+        entry: &mut AltEntry,
+    ) -> Result<bool, Fault>
         requires { LendsByIndex P.shown pages.old self.old k index }
         ensures { StepsInAlternate P.shown k index (admits_alt position.now) self.old self.new pages.old
-            pages.new result }
+            pages.new (filled_with entry.new result) }
     {
         match position {
-            Position::Invalid | Position::Missing => Ok(None),
-            Position::From(value) => self.alternate_from(pages, k, index, value.as_slice()),
+            Position::Invalid | Position::Missing => Ok(false),
+            Position::From(value) => self.alternate_from(pages, k, index, value.as_slice(), entry),
             Position::After(value, stamp) => self.alternate_after(
                 pages,
                 k,
                 index,
                 value.as_slice(),
                 *stamp,
+                entry,
             ),
         }
     }
@@ -106,37 +111,42 @@ impl OpenFile {
         }
     }
 
-    /// The first entry of the prime index whose value is not less than this one.
+    /// The first entry of the prime index whose value is not less than this one goes to `entry`.
+    #[inline(never)]
     fn prime_from<P: Pages>(
         &mut self,
         pages: &mut P,
         value: &[u8],
-    ) -> Result<Option<PrimeEntry>, Fault>
+        entry: &mut PrimeEntry,
+    ) -> Result<bool, Fault>
         requires ready { P.shown.IsReady pages.old }
-        ensures { StepsInPrime P.shown (from_prime value.now) self.old self.new pages.old pages.new result }
+        ensures { StepsInPrime P.shown (from_prime value.now) self.old self.new pages.old pages.new
+            (filled_with entry.new result) }
     {
         let found = self.prime.first_from(pages, value)?;
-        if let Some(entry) = &found {
-            self.go_on_in_prime(entry.value.as_slice());
+        if let Some(first) = &found {
+            self.go_on_in_prime(first.value.as_slice());
         }
-        Ok(found)
+        Ok(put_found(found, entry))
     }
 
-    /// The first entry of the prime index whose value comes after this one.
+    /// The first entry of the prime index whose value comes after this one goes to `entry`.
     fn prime_after<P: Pages>(
         &mut self,
         pages: &mut P,
         value: &[u8],
-    ) -> Result<Option<PrimeEntry>, Fault>
+        entry: &mut PrimeEntry,
+    ) -> Result<bool, Fault>
         requires ready { P.shown.IsReady pages.old }
-        ensures { StepsInPrime P.shown (after_prime value.now) self.old self.new pages.old pages.new result }
+        ensures { StepsInPrime P.shown (after_prime value.now) self.old self.new pages.old pages.new
+            (filled_with entry.new result) }
     {
         if value.len() != usize::from(self.prime.width) {
-            return self.prime.first_after(pages, value);
+            return first_after_prime(&self.prime, pages, value, entry);
         }
         self.lead_in_prime(value);
         let found = match &mut self.path {
-            Some(Path::Prime(cursor)) => cursor.next(&self.prime, pages),
+            Some(Path::Prime(cursor)) => cursor.next(&self.prime, pages, entry),
             _ => unreachable!(),
         };
         if found.is_err() {
@@ -145,26 +155,30 @@ impl OpenFile {
         found
     }
 
-    /// The first entry of the index of an alternate key whose value is not less than this one.
+    /// The first entry of the index of an alternate key whose value is not less than this one goes
+    /// to `entry`.
+    #[inline(never)]
     fn alternate_from<P: Pages>(
         &mut self,
         pages: &mut P,
         k: usize,
         index: AltIndex,
         value: &[u8],
-    ) -> Result<Option<AltEntry>, Fault>
+        entry: &mut AltEntry,
+    ) -> Result<bool, Fault>
         requires { LendsByIndex P.shown pages.old self.old k index }
         ensures { StepsInAlternate P.shown k index (from_value value.now) self.old self.new pages.old
-            pages.new result }
+            pages.new (filled_with entry.new result) }
     {
         let found = index.first_from(pages, value)?;
-        if let Some(entry) = &found {
-            self.go_on_in_alternate(k, index, entry.value.as_slice(), entry.stamp);
+        if let Some(first) = &found {
+            self.go_on_in_alternate(k, index, first.value.as_slice(), first.stamp);
         }
-        Ok(found)
+        Ok(put_found(found, entry))
     }
 
-    /// The first entry of the index of an alternate key whose value and stamp come after these.
+    /// The first entry of the index of an alternate key whose value and stamp come after these goes
+    /// to `entry`.
     fn alternate_after<P: Pages>(
         &mut self,
         pages: &mut P,
@@ -172,17 +186,18 @@ impl OpenFile {
         index: AltIndex,
         value: &[u8],
         stamp: u64,
-    ) -> Result<Option<AltEntry>, Fault>
+        entry: &mut AltEntry,
+    ) -> Result<bool, Fault>
         requires { LendsByIndex P.shown pages.old self.old k index }
         ensures { StepsInAlternate P.shown k index (after_rank value.now stamp) self.old self.new pages.old
-            pages.new result }
+            pages.new (filled_with entry.new result) }
     {
         if value.len() != usize::from(index.width) {
-            return index.first_after(pages, value, stamp);
+            return first_after_rank(&index, pages, value, stamp, entry);
         }
         self.lead_in_alternate(k, index, value, stamp);
         let found = match &mut self.path {
-            Some(Path::Alternate(_, cursor)) => cursor.next(&index, pages),
+            Some(Path::Alternate(_, cursor)) => cursor.next(&index, pages, entry),
             _ => unreachable!(),
         };
         if found.is_err() {
@@ -238,5 +253,53 @@ impl OpenFile {
         if value.len() == usize::from(index.width) {
             self.path = Some(Path::Alternate(k - 1, index.cursor(value, stamp)));
         }
+    }
+}
+
+/// The first entry of the prime index whose value comes after this one goes to `entry`. The answer
+/// is whether there is one.
+#[inline(never)]
+fn first_after_prime<P: Pages>(
+    index: &PrimeIndex,
+    pages: &mut P,
+    value: &[u8],
+    entry: &mut PrimeEntry,
+) -> Result<bool, Fault>
+    requires ready { P.shown.IsReady pages.old }
+    ensures { SeeksInPrime P.shown pages.old pages.new index.now (find (after_prime value.now))
+        (filled_with entry.new result) }
+{
+    let found = index.first_after(pages, value)?;
+    Ok(put_found(found, entry))
+}
+
+/// The first entry of an index of an alternate key whose value and stamp come after these goes to
+/// `entry`. The answer is whether there is one.
+#[inline(never)]
+fn first_after_rank<P: Pages>(
+    index: &AltIndex,
+    pages: &mut P,
+    value: &[u8],
+    stamp: u64,
+    entry: &mut AltEntry,
+) -> Result<bool, Fault>
+    requires ready { P.shown.IsReady pages.old }
+    ensures { SeeksInAlt P.shown pages.old pages.new index.now (find (after_rank value.now stamp))
+        (filled_with entry.new result) }
+{
+    let found = index.first_after(pages, value, stamp)?;
+    Ok(put_found(found, entry))
+}
+
+/// An entry that was found goes to `entry`. The answer is whether one was.
+fn put_found<E: Drop>(found: Option<E>, entry: &mut E) -> bool
+    ensures { filled_entry entry.new result ≡ found }
+{
+    match found {
+        Some(first) => {
+            *entry = first;
+            true
+        }
+        None => false,
     }
 }

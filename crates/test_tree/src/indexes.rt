@@ -5,7 +5,8 @@ use crate::checks::{assert_equal, assert_that};
 use crate::memory_pages::{MemoryPages, new_pages, page_of};
 use io_state::Fault;
 use key_index::{
-    AltCursor, AltEntry, AltFirst, AltIndex, PrimeEntry, PrimeIndex, alt_laws, prime_laws,
+    AltCursor, AltEntry, AltFirst, AltIndex, PrimeCursor, PrimeEntry, PrimeIndex, alt_laws,
+    prime_laws,
 };
 use record_heap::Place;
 use std::process::Abort;
@@ -309,6 +310,28 @@ fn values_of_250_bytes_are_told_apart_by_the_last(rt: HostRuntime) {
     values_are_told_apart(&rt, &mut index, &mut pages, &greatest, &next, &[b'7'; 250]);
 }
 
+// The next name of a cursor.
+fn next_name(
+    cursor: &mut AltCursor,
+    index: &AltIndex,
+    pages: &mut MemoryPages,
+) -> Result<Option<AltEntry>, Fault> {
+    let mut entry = AltEntry::blank();
+    let found = cursor.next(index, pages, &mut entry)?;
+    Ok(if found { Some(entry) } else { None })
+}
+
+// The next number of a cursor.
+fn next_number(
+    cursor: &mut PrimeCursor,
+    index: &PrimeIndex,
+    pages: &mut MemoryPages,
+) -> Result<Option<PrimeEntry>, Fault> {
+    let mut entry = PrimeEntry::blank();
+    let found = cursor.next(index, pages, &mut entry)?;
+    Ok(if found { Some(entry) } else { None })
+}
+
 // The next name is this one, and another duplicate follows where the cursor stands, as is said.
 fn goes_on(
     rt: &impl Abort,
@@ -321,7 +344,7 @@ fn goes_on(
     prime: &[u8],
 ) {
     assert_equal(rt, cursor.is_followed(index, pages), Ok(followed));
-    shows(rt, cursor.next(index, pages), name, stamp, prime);
+    shows(rt, next_name(cursor, index, pages), name, stamp, prime);
 }
 
 // A cursor over one name of three records goes on behind the first to the end.
@@ -334,7 +357,7 @@ fn goes_to_the_end(
     goes_on(rt, cursor, index, pages, true, b"SMITH", 255, b"02");
     goes_on(rt, cursor, index, pages, true, b"SMITH", 256, b"03");
     assert_equal(rt, cursor.is_followed(index, pages), Ok(false));
-    shows_none(rt, cursor.next(index, pages));
+    shows_none(rt, next_name(cursor, index, pages));
     assert_that(rt, cursor.is_after(b"SMITH", 256));
 }
 
@@ -364,6 +387,11 @@ fn a_cursor_gives_one_number_after_another(rt: HostRuntime) {
     let index = two_values(&rt, &mut pages);
     assert!(rt; index.width == 4);
     let mut cursor = index.cursor(b"0001");
-    is_at(&rt, cursor.next(&index, &mut pages), b"0002", FIRST);
+    is_at(
+        &rt,
+        next_number(&mut cursor, &index, &mut pages),
+        b"0002",
+        FIRST,
+    );
     assert_that(&rt, cursor.is_after(b"0002"));
 }

@@ -31,6 +31,6 @@ returns g c = record {
       (c.in_ok-next.ensures.moved honest (map alt_bytes entries) own stands.tree belongs) in
       let key = rw c.if-not-branch.false at c.in_ok-next.ensures.key in
       alt_moved value stamp c.args.self.now new c.args.index.now _ entries own
-      c.decode.result (Some c.next.new.entry) c.decode.ensures.told stands moved.answer key long small behind;
+      _ (Some c.next.new.entry) c.decode_into.ensures.told stands moved.answer key long small behind;
   reads = search rules;
 }

@@ -30,6 +30,6 @@ returns g c = record {
       (c.in_ok-next.ensures.moved honest (map prime_bytes entries) own stands.tree belongs) in
       let key = rw c.if-not-branch.false at c.in_ok-next.ensures.key in
       prime_moved c.args.self.now new c.args.index.now _ entries own
-      c.decode.result (Some c.next.new.entry) c.decode.ensures.told stands moved.answer key;
+      _ (Some c.next.new.entry) c.decode_into.ensures.told stands moved.answer key;
   reads = search rules;
 }

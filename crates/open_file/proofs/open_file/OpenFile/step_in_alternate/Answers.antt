@@ -17,3 +17,12 @@ returns-in-Invalid g c = record {
   rest = search rules;
   reads = search rules;
 }
+
+pub returns-in-Invalid-2 : goal.returns-in-Invalid-2
+returns-in-Invalid-2 g c = record {
+  found = λ honest file stands.
+      elim c.in-Invalid.is [ inl invalid ↦ rw invalid (record { answer = sym (none_passes (alt_entries c.args.self.now.schema c.args.k file.rows)); no_damage = tt }) | inr missing ↦ rw missing (record { answer = sym (none_passes (alt_entries c.args.self.now.schema c.args.k file.rows)); no_damage = tt }) ];
+  stands = λ honest file stands. stands;
+  rest = search rules;
+  reads = search rules;
+}
