@@ -105,7 +105,8 @@ deck. Verb N writes line N of the transcript. No file is touched.
 
 Exit status:
   0   the deck is accepted, and was listed
-  2   the deck is refused: 'cobix: line L: fault C', and then the line, the word and why
+  2   the deck is refused: 'cobix: line L: fault C', and then the line, the word and why, of up \
+to twenty faults
   3   the command line is not understood
   4   the deck could not be read ('cobix: input'), the list could not be written ('cobix: output'), or \
 memory ran out ('cobix: memory')";
@@ -196,7 +197,8 @@ file handler can be held against cobix with 'diff'.
 
 Exit status:
   0   the program was written
-  2   the deck is refused: 'cobix: line L: fault C', and then the line, the word and why
+  2   the deck is refused: 'cobix: line L: fault C', and then the line, the word and why, of up \
+to twenty faults
   3   the command line is not understood
   4   the deck could not be read ('cobix: input'), the program could not be written ('cobix: output'), or \
 memory ran out ('cobix: memory')";
