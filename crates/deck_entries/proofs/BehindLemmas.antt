@@ -20,10 +20,10 @@ not_taken true true x y e = absurd (cc)
 not_taken false b x y e = absurd (cc)
 
 -- an entry has the file name that stands in it
-file_name_of : (parts : Bool × (List ℕ × (List ℕ × Clauses))) (entry : FileControlEntry) → control_entry_of parts ≡ Some entry → parts.1.1.0 ≡ entry.file_name
+file_name_of : (parts : ℕ × (Bool × (List ℕ × (List ℕ × Clauses)))) (entry : FileControlEntry) → control_entry_of parts ≡ Some entry → parts.1.1.1.0 ≡ entry.file_name
 file_name_of parts entry e =
-    let t = then_some parts.1.1.1.indexed _ entry e in
-    let m = map_some _ parts.1.1.1.record_key entry t.1 in
+    let t = then_some parts.1.1.1.1.indexed _ entry e in
+    let m = map_some _ parts.1.1.1.1.record_key entry t.1 in
     ap (λ (entry : FileControlEntry). entry.file_name) m.2
 
 pub record IsBehind (earlier : List FileControlEntry) (entry : FileControlEntry) : Type 0 where
@@ -33,12 +33,12 @@ pub record IsBehind (earlier : List FileControlEntry) (entry : FileControlEntry)
 pub is_behind : (earlier : List FileControlEntry) (entry : FileControlEntry) (words rest : List Word) → (select_behind earlier).Spells entry words rest → IsBehind earlier entry
 unfolding select_behind
 is_behind earlier entry words rest s =
-    let first = s.2 in
+    let first = s.2.1 in
     let second = first.5 in
     let third = second.5 in
     let fourth = third.5 in
     let text = fourth.4.5 in
-    let name : s.0.1.1.0 ≡ text.1 = ap (λ parts. parts.1.1.0) (first.3 ∙ second.3) ∙ (ap (λ parts. parts.1.0) third.3 ∙ (ap (λ parts. parts.0) fourth.3 ∙ (fourth.4.3 ∙ text.3))) in
+    let name : s.0.1.1.1.0 ≡ text.1 = ap (λ parts. parts.1.1.0) (first.3 ∙ second.3) ∙ (ap (λ parts. parts.1.0) third.3 ∙ (ap (λ parts. parts.0) fourth.3 ∙ (fourth.4.3 ∙ text.3))) in
     let taken = not_taken (is_file_name text.5.0) (is_assigned earlier text.5.0) text.5.0 text.1 text.5.1 in
     record {
       room = less (length earlier) 8 (then_some (nat_lt (length earlier) 8) (Some first.4.0) first.0 first.4.1).0;

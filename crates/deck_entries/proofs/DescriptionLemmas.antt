@@ -6,6 +6,7 @@ use Rattle.deck_parser.specs.Notation.{the, name, period}
 use Rattle.deck_parser.specs.Operand.{digits}
 use Rattle.deck_parser.proofs.RuleLemmas.{Lawful, lawful_as}
 use Rattle.deck_parser.proofs.NotationLemmas.{steps}
+use Rattle.deck_parser.proofs.LocatedLemmas.{lawful_with_line}
 use Rattle.deck_parser.proofs.OperandLemmas.{lawful_digits}
 use Rattle.deck_entries.specs.FileDescription.{count, length_clause, description_clause, picture_clause, item, FileDescription, description_behind, storage_item}
 use Rattle.deck_entries.specs.FileControlEntry.{FileControlEntry}
@@ -42,11 +43,11 @@ items_are_fit = refl
 
 pub lawful_description_behind : (entries : List FileControlEntry) (earlier : List FileDescription) → Lawful (description_behind entries earlier)
 unfolding description_behind
-lawful_description_behind entries earlier = search (steps, lawful_description_clause, lawful_item) depth 16
+lawful_description_behind entries earlier = search (steps, lawful_with_line, lawful_description_clause, lawful_item) depth 16
 
 pub lawful_storage_item : Lawful storage_item
 unfolding storage_item
-lawful_storage_item = search (steps, lawful_picture_clause) depth 14
+lawful_storage_item = search (steps, lawful_with_line, lawful_picture_clause) depth 14
 
 pub storage_is_fit : (many storage_item).is_fit ≡ true
 unfolding storage_item picture_clause the name period is_reserved

@@ -6,6 +6,7 @@ use Rattle.deck_entries.specs.FileControlEntry.{FileControlEntry, select_behind}
 use Rattle.deck_parser.specs.Rule.{each_behind, where_it_gives}
 use Rattle.deck_words.specs.Word.{Word}
 use Rattle.deck_parser.proofs.RestLemmas.{LeavesRest, EndsWith, end_of_end, rest_each, rest_as, steps}
+use Rattle.deck_parser.proofs.LocatedLemmas.{rest_with_line}
 use Rattle.deck_entries.proofs.EntryRestLemmas.{rest_select_behind}
 use Rattle.deck_parser.specs.Operand.{digits}
 use Rattle.deck_entries.specs.declared.divisions.Divisions.{Divisions}
@@ -42,7 +43,7 @@ rest_item = search (steps, rest_picture_clause) depth 24
 
 rest_more_description : (selected : List FileControlEntry) (earlier : List FileDescription) → LeavesRest (more_description selected earlier)
 unfolding more_description description_behind
-rest_more_description selected earlier = search (steps, rest_description_clause, rest_item) depth 24
+rest_more_description selected earlier = search (steps, rest_with_line, rest_description_clause, rest_item) depth 24
 
 rest_descriptions : (selected : List FileControlEntry) → LeavesRest (each_behind (λ earlier. where_it_gives (with_one earlier) (description_behind selected earlier)) [])
 unfolding more_description
@@ -52,7 +53,7 @@ rest_descriptions selected = rest_each (more_description selected) (rest_more_de
 
 rest_data_division : (selected : List FileControlEntry) → LeavesRest (data_division selected)
 unfolding data_division storage_item
-rest_data_division selected = search (steps, rest_descriptions, rest_picture_clause) depth 24
+rest_data_division selected = search (steps, rest_with_line, rest_descriptions, rest_picture_clause) depth 24
 
 -- ---- both
 

@@ -7,6 +7,7 @@ use Rattle.deck_entries.specs.FileControlEntry.{mode, clause, select_behind}
 use Rattle.deck_entries.specs.FileControlEntry.{FileControlEntry}
 use Rattle.deck_parser.proofs.RuleLemmas.{Lawful}
 use Rattle.deck_parser.proofs.NotationLemmas.{steps}
+use Rattle.deck_parser.proofs.LocatedLemmas.{lawful_with_line}
 
 pub lawful_mode : Lawful mode
 unfolding mode
@@ -18,7 +19,7 @@ lawful_clause = search (steps, lawful_mode) depth 24
 
 pub lawful_select_behind : (earlier : List FileControlEntry) → Lawful (select_behind earlier)
 unfolding select_behind
-lawful_select_behind earlier = search (steps, lawful_clause) depth 24
+lawful_select_behind earlier = search (steps, lawful_with_line, lawful_clause) depth 24
 
 pub clauses_are_fit : (many clause).is_fit ≡ true
 unfolding clause mode the name literal period is_reserved

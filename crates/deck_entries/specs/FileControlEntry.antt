@@ -8,13 +8,15 @@ use Rattle.std.specs.Str.{bytes_eq}
 use Rattle.io_state.specs.declared.modes.Access.{Access}
 use Rattle.io_state.specs.declared.modes.Access.TheVariants.{Sequential, Random, Dynamic}
 use Rattle.io_state.specs.FileName.{is_file_name}
+use Rattle.deck_parser.specs.Located.{with_line}
 use Rattle.deck_parser.specs.Rule.{Rule, optional, some_onto, where_it_gives}
 use Rattle.deck_parser.specs.Notation.{the, name, literal, period, ◌▸◌, ◌◂◌, ◌⊗◌, ◌∣◌, ◌<$>◌, may}
 use Rattle.record_layout.specs.SchemaFault.{KeyClause}
 
--- a file, as its entry describes it: its name in the program, the name of its file in the folder,
--- and its keys
+-- a file, as its entry describes it: the line of its word SELECT, its name in the program, the name
+-- of its file in the folder, and its keys
 pub record FileControlEntry : Type 0 where
+  pub line : ℕ
   pub name : List ℕ
   pub file_name : List ℕ
   pub optional : Bool
@@ -77,13 +79,14 @@ with_clause clauses FileStatus = if clauses.status then None else Some (record c
 -- ---- entries
 
 -- the entry: INDEXED and RECORD KEY have to stand; access is sequential where no clause says otherwise
-abbrev pub control_entry_of : Bool × (List ℕ × (List ℕ × Clauses)) → Option FileControlEntry
+abbrev pub control_entry_of : ℕ × (Bool × (List ℕ × (List ℕ × Clauses))) → Option FileControlEntry
 control_entry_of parts =
-    let clauses = parts.1.1.1 in
+    let clauses = parts.1.1.1.1 in
     if clauses.indexed then option_map (λ key. record {
-      name = parts.1.0;
-      file_name = parts.1.1.0;
-      optional = parts.0;
+      line = parts.0;
+      name = parts.1.1.0;
+      file_name = parts.1.1.1.0;
+      optional = parts.1.0;
       access = unwrap_or clauses.access Sequential;
       record_key = key;
       alternate_keys = clauses.alternate_keys;
@@ -98,7 +101,7 @@ is_selected earlier name = list_any (λ entry. bytes_eq entry.name name) earlier
 -- a deck has at most eight entries, and an entry has neither the name nor the file name of an earlier one
 unfoldable pub select_behind : List FileControlEntry → Rule FileControlEntry
 select_behind earlier =
-    where_it_gives control_entry_of
+    where_it_gives control_entry_of (with_line
     (where_it_gives (λ word. if nat_lt (length earlier) 8 then Some word else None) (the (codes "SELECT"))
     ▸ (is_some <$> may (codes "OPTIONAL"))
     ⊗ where_it_gives (λ text. if is_selected earlier text then None else Some text) name
@@ -107,7 +110,7 @@ select_behind earlier =
     && not (list_any (λ entry. bytes_eq entry.file_name text) earlier) then Some text else None) literal)
     ⊗ some_onto with_clause
     (record { indexed = false; access = None; record_key = None; alternate_keys = []; status = false }) clause
-    ◂ period)
+    ◂ period))
 
 -- ---- parts of these rules, for the contracts of the functions that read them
 

@@ -9,6 +9,7 @@ use Rattle.record_layout.specs.Layout.{Entry}
 use Rattle.record_layout.specs.Picture.{number}
 use Rattle.record_layout.specs.Reading.{capped_size}
 use Rattle.deck_parser.specs.Class.{levels, pictures}
+use Rattle.deck_parser.specs.Located.{with_line}
 use Rattle.deck_parser.specs.Rule.{Rule, one, optional, onto, some_onto, where_it_gives}
 use Rattle.deck_parser.specs.Operand.{digits}
 use Rattle.deck_parser.specs.Notation.{the, name, period, ◌▸◌, ◌◂◌, ◌⊗◌, ◌∣◌, ◌<$>◌, may}
@@ -78,7 +79,9 @@ with_one xs x = Some (xs ++ x ∷ [])
 
 -- ---- file descriptions
 
+-- a file description, and the line of its word FD
 pub record FileDescription : Type 0 where
+  pub line : ℕ
   pub name : List ℕ
   pub lengths : Option RecordLength
   pub items : List Entry
@@ -86,25 +89,26 @@ pub record FileDescription : Type 0 where
 -- FD name {clause}..? . {item}.. ; the name is that of an entry, and of no earlier description
 unfoldable pub description_behind : List FileControlEntry → List FileDescription → Rule FileDescription
 description_behind entries earlier =
-    (λ (said : List ℕ × (Clauses × List Entry)).
-    record { name = said.0; lengths = said.1.0.lengths; items = said.1.1 })
-    <$> the (codes "FD") ▸ where_it_gives (λ text. if is_selected entries text
+    (λ (said : ℕ × (List ℕ × (Clauses × List Entry))).
+    record { line = said.0; name = said.1.0; lengths = said.1.1.0.lengths; items = said.1.1.1 })
+    <$> with_line (the (codes "FD") ▸ where_it_gives (λ text. if is_selected entries text
     && not (list_any (λ description. bytes_eq description.name text) earlier) then Some text else None) name
     ⊗ onto with_clause (record { label = false; block = false; lengths = None }) description_clause
-    ⊗ (period ▸ some_onto with_one [] item)
+    ⊗ (period ▸ some_onto with_one [] item))
 
 -- ---- working storage
 
--- an item of the working storage: its name and its picture
+-- an item of the working storage: the line of its level number, its name and its picture
 pub record StorageEntry : Type 0 where
+  pub line : ℕ
   pub name : List ℕ
   pub picture : List ℕ
 
 -- 77 name (PIC | PICTURE) [IS] picture .
 unfoldable pub storage_item : Rule StorageEntry
 storage_item =
-    (λ (said : List ℕ × List ℕ). record { name = said.0; picture = said.1 })
-    <$> the (codes "77") ▸ name ⊗ picture_clause ◂ period
+    (λ (said : ℕ × (List ℕ × List ℕ)). record { line = said.0; name = said.1.0; picture = said.1.1 })
+    <$> with_line (the (codes "77") ▸ name ⊗ picture_clause ◂ period)
 
 -- ---- parts of these rules, for the contracts of the functions that read them
 

@@ -18,7 +18,8 @@ use record_layout::Item;
 use std::alloc::{AllocError, Global};
 use std::marker::Model;
 
-/// A file description, where its word FD stands, and the line of its name. Contracts see the rest.
+/// A file description, where its word FD stands, and the line of its name. Contracts see the line of
+/// the place and what is described.
 #[derive(Drop)]
 pub struct Described {
     pub place: WordPlace,
@@ -33,7 +34,12 @@ impl Model for Described {
 
     ghost Value = { FileDescription };
 
-    ghost view = { λ d. record { name = d.name.bytes; lengths = d.lengths; items = d.items } };
+    ghost view = { λ d. record {
+      line = d.place.line;
+      name = d.name.bytes;
+      lengths = d.lengths;
+      items = d.items;
+    } };
 }
 
 impl Described {
@@ -141,7 +147,7 @@ fn description(
 ) -> Result<Described, Refusal>
     ensures { Reads ((description_behind entries.now earlier.now).reads parser.old) result parser.new }
 {
-    let place = parser.place();
+    let place = parser.word_place();
     parser.expect(b"FD")?;
     let name_line = parser.line();
     let name = described_name(parser, entries, earlier)?;

@@ -57,10 +57,12 @@ impl AlternateKeys {
     }
 }
 
-/// A file, as its entry describes it: its name in the program, the name of its file in the folder,
-/// and its keys. Contracts see the names as their bytes.
+/// A file, as its entry describes it: where its word SELECT stands, its name in the program, the name
+/// of its file in the folder, and its keys. Contracts see the line of the place, and the names as their
+/// bytes.
 #[derive(Drop)]
 pub struct FileControlEntry {
+    pub place: WordPlace,
     pub name: Name,
     pub file_name: FileName,
     pub optional: bool,
@@ -75,6 +77,7 @@ impl Model for FileControlEntry {
     ghost Value = { Entry };
 
     ghost view = { λ e. record {
+      line = e.place.line;
       name = e.name.bytes;
       file_name = e.file_name.bytes;
       optional = e.optional;
@@ -84,11 +87,9 @@ impl Model for FileControlEntry {
     } };
 }
 
-/// An entry, where its word SELECT stands, and the lines of the file's name and of its literal.
-/// Contracts see the entry.
+/// An entry, and the lines of the file's name and of its literal. Contracts see the entry.
 #[derive(Drop)]
 pub struct Selected {
-    pub place: WordPlace,
     pub name_line: u64,
     pub literal_line: u64,
     pub entry: FileControlEntry,
@@ -181,12 +182,13 @@ impl Clauses {
     /// The entry that the clauses make, unless INDEXED or RECORD KEY is missing, which is told of its end.
     pub fn entry(
         self,
+        place: WordPlace,
         optional: bool,
         name: Name,
         file_name: FileName,
         end: WordPlace,
     ) -> Result<FileControlEntry, Refusal>
-        ensures { Makes (control_entry_of (optional, (name.bytes, (file_name.bytes, self)))) result }
+        ensures { Makes (control_entry_of (place.line, (optional, (name.bytes, (file_name.bytes, self))))) result }
     {
         let Clauses {
             indexed,
@@ -203,6 +205,7 @@ impl Clauses {
             return Err(end.fault(Cause::Expected(Expected::RecordKey)));
         };
         Ok(FileControlEntry {
+            place,
             name,
             file_name,
             optional,

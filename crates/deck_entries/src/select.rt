@@ -238,7 +238,7 @@ pub fn select(
 ) -> Result<Selected, Refusal>
     ensures { Reads ((select_behind earlier.now).reads parser.old) result parser.new }
 {
-    let place = parser.place();
+    let place = parser.word_place();
     select_word(parser, earlier)?;
     let optional = parser.eat(b"OPTIONAL");
     let name_line = parser.line();
@@ -250,9 +250,8 @@ pub fn select(
     let clauses = all_clauses(parser, alloc)?;
     let end = parser.place();
     parser.period()?;
-    let entry = clauses.entry(optional, name, file_name, end)?;
+    let entry = clauses.entry(place, optional, name, file_name, end)?;
     Ok(Selected {
-        place,
         name_line,
         literal_line,
         entry,

@@ -14,7 +14,8 @@ use io_state::Name;
 use std::alloc::{AllocError, Global};
 use std::marker::Model;
 
-/// An item of the working storage, and where its level number stands. Contracts see the name and the picture.
+/// An item of the working storage, and where its level number stands. Contracts see the line of the
+/// place, the name and the picture.
 #[derive(Drop)]
 pub struct StorageItem {
     pub place: WordPlace,
@@ -27,7 +28,11 @@ impl Model for StorageItem {
 
     ghost Value = { StorageEntry };
 
-    ghost view = { λ item. record { name = item.name.bytes; picture = item.picture.bytes } };
+    ghost view = { λ item. record {
+      line = item.place.line;
+      name = item.name.bytes;
+      picture = item.picture.bytes;
+    } };
 }
 
 impl StorageItem {
@@ -85,7 +90,7 @@ impl StorageItems {
 fn storage_item(parser: &mut Parser<'_>) -> Result<StorageItem, Refusal>
     ensures { Reads (storage_item.reads parser.old) result parser.new }
 {
-    let place = parser.place();
+    let place = parser.word_place();
     parser.expect(b"77")?;
     let name = parser.name(NameOf::LengthItem)?;
     let picture = picture_clause(parser)?;

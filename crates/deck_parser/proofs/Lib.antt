@@ -6,3 +6,4 @@ pub mod TurnLemmas
 pub mod NotationLemmas
 pub mod OperandLemmas
 pub mod RestLemmas
+pub mod LocatedLemmas

@@ -6,3 +6,4 @@ pub mod Operand
 pub mod Reading
 pub mod Scanning
 pub mod Unfit
+pub mod Located

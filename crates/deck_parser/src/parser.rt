@@ -169,6 +169,16 @@ impl<'a> Parser<'a> {
         }
     }
 
+    /// Where the next word stands, by the line that `line` gives.
+    pub fn word_place(&self) -> WordPlace
+        ensures { result.line ≡ first_line self.now }
+    {
+        WordPlace {
+            line: self.line(),
+            ..self.place()
+        }
+    }
+
     /// What was tried at the word of the place that was given, and did not fit.
     pub fn wanted(&self) -> WantedList {
         self.note.list()

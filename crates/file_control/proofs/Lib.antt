@@ -4,6 +4,7 @@ pub mod LengthItemLemmas
 pub mod LayoutLemmas
 pub mod FileLemmas
 pub mod FilesLemmas
+pub mod FaultLemmas
 pub mod ItemLemmas
 pub mod WholeLemmas
 pub mod OneLemmas

@@ -19,6 +19,7 @@ use Rattle.deck_entries.specs.Divisions.{file_control_paragraph, data_division, 
 use Rattle.file_control.specs.declared.description.Description.{Description}
 use Rattle.file_control.specs.Description.{FileDesc, LengthItem}
 use Rattle.file_control.specs.Whole.{Describe, IsDescription}
+use Rattle.file_control.specs.FirstFault.{HasDivisions}
 use Rattle.deck_entries.proofs.DivisionLemmas.{lawful_file_control, file_control_is_fit, lawful_data_division, data_division_is_fit}
 
 control_goes_on : all_apart (this (codes "DATA") ∷ []) file_control_paragraph.goes_on ≡ true
@@ -62,17 +63,25 @@ reads_complete divisions words rest h ended =
 pub described : (divisions others : Divisions) (words rest behind : List Word) → reads_divisions words ≡ Some (divisions, rest) → SpellsDivisions others words behind → begins (this (codes "PROCEDURE") ∷ []) behind ≡ true → (others ≡ divisions) × (behind ≡ rest)
 described divisions others words rest behind e h ended = some_pair_parts others divisions behind rest (sym (reads_complete others words behind h ended) ∙ e)
 
+-- where nothing is read, there are no divisions
+pub no_divisions : (words : List Word) → reads_divisions words ≡ None → (divisions : Divisions) → HasDivisions words divisions → ⊥
+no_divisions words e divisions h =
+    let rest = drop h.0 words in
+    let k : ◌≡◌ {A = Option (Divisions × List Word)} None (Some (divisions, rest)) = sym e ∙ reads_complete divisions words rest h.2 h.3 in cc
+
+-- nor where PROCEDURE does not follow
+pub not_ended : (divisions : Divisions) (words rest : List Word) → reads_divisions words ≡ Some (divisions, rest) → begins (this (codes "PROCEDURE") ∷ []) rest ≡ false → (others : Divisions) → HasDivisions words others → ⊥
+not_ended divisions words rest e none others h =
+    let same = described divisions others words rest (drop h.0 words) e h.2 h.3 in
+    false≢true (sym none ∙ subst (λ ws. begins (this (codes "PROCEDURE") ∷ []) ws ≡ true) same.1 h.3)
+
 -- where nothing is read, there is no description
 pub nothing_described : (words : List Word) → reads_divisions words ≡ None → (description : Description) → IsDescription words description → ⊥
-nothing_described words e description h =
-    let rest = drop description.words words in
-    let k : ◌≡◌ {A = Option (Divisions × List Word)} None (Some (h.0, rest)) = sym e ∙ reads_complete h.0 words rest h.2 h.3 in cc
+nothing_described words e description h = no_divisions words e h.0 (description.words, h.1, h.2, h.3)
 
 -- nor where PROCEDURE does not follow
 pub no_end : (divisions : Divisions) (words rest : List Word) → reads_divisions words ≡ Some (divisions, rest) → begins (this (codes "PROCEDURE") ∷ []) rest ≡ false → (description : Description) → IsDescription words description → ⊥
-no_end divisions words rest e none description h =
-    let same = described divisions h.0 words rest (drop description.words words) e h.2 h.3 in
-    false≢true (sym none ∙ subst (λ ws. begins (this (codes "PROCEDURE") ∷ []) ws ≡ true) same.1 h.3)
+no_end divisions words rest e none description h = not_ended divisions words rest e none h.0 (description.words, h.1, h.2, h.3)
 
 -- nor where the divisions describe nothing
 pub no_contents : (divisions : Divisions) (words rest : List Word) → reads_divisions words ≡ Some (divisions, rest) → ((files : List FileDesc) (items : List LengthItem) → Describe divisions files items → ⊥) → (description : Description) → IsDescription words description → ⊥

@@ -5,3 +5,4 @@ pub mod Checks
 pub mod Whole
 pub mod Described
 pub mod NoFiles
+pub mod FirstFault

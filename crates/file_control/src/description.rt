@@ -7,6 +7,7 @@ ghost use Rattle.file_control.specs.declared.description.Description.{Descriptio
 ghost use Rattle.file_control.specs.Description.{FileDesc as File, LengthItem as Digits};
 ghost use Rattle.file_control.specs.Whole.{Describe, IsDescription};
 ghost use Rattle.file_control.specs.NoFiles.{DescribeNone};
+ghost use Rattle.file_control.specs.FirstFault.{IsContentsFault, IsDescriptionFault, TellsFault};
 ghost use Rattle.file_control.specs.Described.{AreDescribed};
 
 use crate::data_names::DataNames;
@@ -36,6 +37,7 @@ struct Contents {
 fn contents_of(alloc: Global, divisions: &Divisions) -> Result<Contents, Refusal>
     ensures contents { IfOk result (λ contents. Describe divisions.now contents.files contents.items) }
     ensures none { IfErr result (DescribeNone divisions.now) }
+    ensures fault { TellsFault (IsContentsFault divisions.now) result }
 {
     let mut names = DataNames::new(alloc);
     let files = files_of(
@@ -52,7 +54,8 @@ fn contents_of(alloc: Global, divisions: &Divisions) -> Result<Contents, Refusal
 
 /// The description that the words up to PROCEDURE are, or why they are none, as `read_description`.
 pub fn describe(alloc: Global, words: &Words<'_>) -> Result<Description, Refusal>
-    ensures { GivesOrRefuses (IsDescription words.now) result }
+    ensures description { GivesOrRefuses (IsDescription words.now) result }
+    ensures fault { TellsFault (IsDescriptionFault words.now) result }
 {
     let mut parser = Parser::new(words);
     let divisions = read_divisions(&mut parser, alloc)?;

@@ -1,15 +1,17 @@
 //! A file, as its entry and its description describe it.
-ghost use Rattle.std.specs.Prelude.{◌≡◌, ◌≤◌, ◌≢◌, ℕ, false, List, Option, map, option_map, OnErr, IfOk};
-ghost use Rattle.std.specs.Prelude.{IfErr, option_and_then, slice_get};
+ghost use Rattle.std.specs.Prelude.{◌≡◌, ◌≤◌, ◌≢◌, ℕ, false, List, Option, map, option_map, OnErr, OnOk, IfOk, true};
+ghost use Rattle.std.specs.Prelude.{IfErr, option_and_then, slice_get, if◌then◌else◌, Some};
 ghost use Rattle.record_layout.specs.Layout.{Placed as PlacedItem, entry_of_item, IsLayout, length_of};
 ghost use Rattle.record_layout.specs.Schema.{Schema as Keys, IsSchema};
 ghost use Rattle.record_layout.specs.SchemaFault.{GivesSchema};
 ghost use Rattle.record_layout.specs.declared.fault.LayoutFault.{LayoutFault};
 ghost use Rattle.deck_words.specs.Fault.{IsFault, HasNoneIfRefused, GivesOrRefuses};
+ghost use Rattle.deck_words.specs.Fault.{cause_code, fault_of, told};
 ghost use Rattle.file_control.specs.Description.{FileDesc as File, described_by, GivesKeys};
 ghost use Rattle.file_control.specs.Description.{least_length, DependsOn, IsFile};
 ghost use Rattle.file_control.specs.Checks.{are_keys_named, are_new};
 ghost use Rattle.file_control.specs.FieldPlaces.{AreFields};
+ghost use Rattle.file_control.specs.FirstFault.{has_length_item, IsFileFault, TellsFault};
 
 use crate::data_names::{DataNames, are_new};
 use crate::field_places::{FieldPlaces, fields_by_name};
@@ -73,16 +75,19 @@ impl FileDesc {
 
 /// Looks at the keys of the entry of a place: each is an item.
 fn check_entry(at: usize, selected: &Selected, described: &Described) -> Result<(), Refusal>
-    ensures { OnErr result (are_keys_named described.now.items selected.now ≡ false) }
+    ensures named { OnOk result (are_keys_named described.now.items selected.now ≡ true) }
+    ensures unnamed { OnErr result (are_keys_named described.now.items selected.now ≡ false) }
+    ensures told { TellsFault (λ fault. fault ≡ fault_of selected.now.line 3) result }
 {
     if !are_keys_named(described.items(), &selected.entry) {
-        return Err(selected.place.fault(Cause::Unknown(Unknown::Key(at))));
+        return Err(selected.entry.place.fault(Cause::Unknown(Unknown::Key(at))));
     }
     Ok(())
 }
 
 fn layout_refusal(at: usize, place: WordPlace, fault: LayoutFault) -> Refusal
-    ensures { IsFault result → fault ≢ LayoutFault.Memory }
+    ensures memory { IsFault result → fault ≢ LayoutFault.Memory }
+    ensures told { IsFault result → told result ≡ fault_of place.line 7 }
 {
     if fault == LayoutFault::Memory {
         Refusal::Memory
@@ -92,7 +97,8 @@ fn layout_refusal(at: usize, place: WordPlace, fault: LayoutFault) -> Refusal
 }
 
 fn layout_of(alloc: Global, at: usize, place: WordPlace, items: &[Item]) -> Result<Layout, Refusal>
-    ensures { GivesOrRefuses (IsLayout (map entry_of_item items.now)) result }
+    ensures layout { GivesOrRefuses (IsLayout (map entry_of_item items.now)) result }
+    ensures told { TellsFault (λ fault. fault ≡ fault_of place.line 7) result }
 {
     one_outcome();
     match Layout::build(alloc, items) {
@@ -102,7 +108,8 @@ fn layout_of(alloc: Global, at: usize, place: WordPlace, items: &[Item]) -> Resu
 }
 
 fn described_layout(alloc: Global, at: usize, described: &Described) -> Result<Layout, Refusal>
-    ensures { GivesOrRefuses (IsLayout described.now.items) result }
+    ensures layout { GivesOrRefuses (IsLayout described.now.items) result }
+    ensures told { TellsFault (λ fault. fault ≡ fault_of described.now.line 7) result }
 {
     layout_of(alloc, at, described.place, described.items())
 }
@@ -128,6 +135,8 @@ fn place_of(
     ensures place { IfOk result (DependsOn storage.now described.now.lengths) }
     ensures none { IfErr result (λ cause. (place : Option ℕ)
         → DependsOn storage.now described.now.lengths place → ⊥) }
+    ensures code { IfErr result (λ cause. cause_code cause
+        ≡ (if has_length_item storage.now described.now.lengths then 7 else 3)) }
 {
     depends_on(storage, at, &described.lengths)
 }
@@ -157,6 +166,29 @@ fn least_length(lengths: &Option<RecordLength>, greatest: u16) -> Option<u16>
     }
 }
 
+/// The place of the item on which this length depends, if it varies.
+fn item_of_length(
+    storage: &[StorageItem],
+    at: usize,
+    length: &RecordLength,
+) -> Result<Option<usize>, Cause>
+    ensures place { IfOk result (DependsOn storage.now (Some length.now)) }
+    ensures none { IfErr result (λ cause. (place : Option ℕ) → DependsOn storage.now (Some length.now) place
+        → ⊥) }
+    ensures code { IfErr result (λ cause. cause_code cause
+        ≡ (if has_length_item storage.now (Some length.now) then 7 else 3)) }
+{
+    match length {
+        RecordLength::Fixed(_) => Ok(None),
+        RecordLength::Varying(lengths) => {
+            match length_item(storage, at, lengths.item_bytes(), lengths.greatest) {
+                Ok(place) => Ok(Some(place)),
+                Err(cause) => Err(cause),
+            }
+        }
+    }
+}
+
 /// The place of the item that a record's length depends on, if its length varies.
 fn depends_on(
     storage: &[StorageItem],
@@ -165,18 +197,11 @@ fn depends_on(
 ) -> Result<Option<usize>, Cause>
     ensures place { IfOk result (DependsOn storage.now lengths.now) }
     ensures none { IfErr result (λ cause. (place : Option ℕ) → DependsOn storage.now lengths.now place → ⊥) }
+    ensures code { IfErr result (λ cause. cause_code cause
+        ≡ (if has_length_item storage.now lengths.now then 7 else 3)) }
 {
     match lengths {
-        Some(RecordLength::Varying(lengths)) => match length_item(
-            storage,
-            at,
-            lengths.item_bytes(),
-            lengths.greatest,
-        ) {
-            Ok(place) => Ok(Some(place)),
-            Err(cause) => Err(cause),
-        },
-        Some(RecordLength::Fixed(_)) => Ok(None),
+        Some(length) => item_of_length(storage, at, length),
         None => Ok(None),
     }
 }
@@ -199,6 +224,7 @@ fn schema_of(
     requires within { least ≤ length_of layout.now }
     ensures given { IfOk result (λ schema. IsSchema schema × GivesKeys layout.now least entry.now schema) }
     ensures none { HasNoneIfRefused (GivesKeys layout.now least entry.now) result }
+    ensures told { TellsFault (λ fault. fault ≡ fault_of place.line 7) result }
 {
     let prime = entry.record_key.as_str();
     match Schema::varying(layout, least, prime, entry.alternate_keys.as_slice()) {
@@ -255,8 +281,9 @@ fn selected_schema(
     requires within { least ≤ length_of layout.now }
     ensures given { IfOk result (λ schema. IsSchema schema × GivesKeys layout.now least selected.now schema) }
     ensures none { HasNoneIfRefused (GivesKeys layout.now least selected.now) result }
+    ensures told { TellsFault (λ fault. fault ≡ fault_of selected.now.line 7) result }
 {
-    schema_of(at, selected.place, layout, least, &selected.entry)
+    schema_of(at, selected.entry.place, layout, least, &selected.entry)
 }
 
 fn whole_file(
@@ -292,7 +319,8 @@ pub fn file(
     storage: &[StorageItem],
     names: &DataNames<'_>,
 ) -> Result<FileDesc, Refusal>
-    ensures { GivesOrRefuses (IsFile names.now storage.now selected.now described.now) result }
+    ensures file { GivesOrRefuses (IsFile names.now storage.now selected.now described.now) result }
+    ensures fault { TellsFault (IsFileFault names.now storage.now selected.now described.now) result }
 {
     check_entry(at, selected, described)?;
     let layout = described_layout(alloc, at, described)?;

@@ -5,6 +5,7 @@ ghost use Rattle.deck_words.specs.Fault.{HasNoneIfRefused, GivesOrRefuses};
 ghost use Rattle.file_control.specs.Description.{FileDesc as File, LengthItem as Digits};
 ghost use Rattle.file_control.specs.Description.{AreFiles, AreItems, HaveDigits};
 ghost use Rattle.file_control.specs.NoFiles.{AreNoFiles};
+ghost use Rattle.file_control.specs.FirstFault.{IsFilesFault, IsItemFault, TellsFault};
 
 use crate::data_names::DataNames;
 use crate::file::{FileDesc, file};
@@ -139,12 +140,18 @@ pub fn files_of<'a>(
     ensures files { IfOk result (λ files. AreFiles descriptions.now storage.now names.old entries.now files
         names.new) }
     ensures none { IfErr result (AreNoFiles descriptions.now storage.now names.old entries.now) }
+    ensures fault { TellsFault (IsFilesFault descriptions.now storage.now names.old entries.now) result }
 {
     let mut files = FileList::new(alloc);
     let mut rest = entries;
     'more: while let Some((selected, after)) = rest.split_first() {
         let Some(described) = described_as(descriptions, selected.name()) else {
-            return Err(selected.place.fault(Cause::Unknown(Unknown::Described)));
+            return Err(
+                selected
+                    .entry
+                    .place
+                    .fault(Cause::Unknown(Unknown::Described)),
+            );
         };
         let at = files.as_slice().len();
         let next = file(alloc, at, selected, described, storage, names)?;
@@ -160,6 +167,7 @@ pub fn files_of<'a>(
 pub fn check_items<'a>(storage: &'a [StorageItem], names: DataNames<'a>) -> Result<(), Refusal>
     ensures items { OnOk result ((items : List Digits) × AreItems names.entry storage.now items) }
     ensures none { HasNoneIfRefused (AreItems names.entry storage.now) result }
+    ensures fault { TellsFault (IsItemFault names.entry storage.now) result }
 {
     let mut names = names;
     let mut rest = storage;

@@ -1,6 +1,8 @@
 //! The 77-level items.
-ghost use Rattle.std.specs.Prelude.{◌≡◌, ℕ, IfSome, IfNone, IfOk, IfErr, IsTrue, IsFalse, position};
+ghost use Rattle.std.specs.Prelude.{◌≡◌, ℕ, IfSome, IfNone, IfOk, IfErr, IsTrue, IsFalse, position, is_some};
+ghost use Rattle.std.specs.Prelude.{if◌then◌else◌};
 ghost use Rattle.std.specs.Str.{bytes_eq};
+ghost use Rattle.deck_words.specs.Fault.{cause_code};
 ghost use Rattle.file_control.specs.Checks.{HasDigitsFor};
 ghost use Rattle.file_control.specs.Description.{HasDigits, digit_count, IsLengthItem};
 
@@ -76,16 +78,14 @@ pub fn length_item(
     ensures place { IfOk result (λ place. IsLengthItem storage.now name.now greatest place) }
     ensures none { IfErr result (λ cause. (place : ℕ) → IsLengthItem storage.now name.now greatest place
         → ⊥) }
+    ensures code { IfErr result (λ cause. cause_code cause ≡ (if is_some
+        (position (λ entry. bytes_eq entry.name name.now) storage.now) then 7 else 3)) }
 {
     let Some(place) = place_of(storage, name) else {
         return Err(Cause::Unknown(Unknown::LengthItem(at)));
     };
-    let Some(item) = storage.get(place) else {
-        return Err(Cause::Unknown(Unknown::LengthItem(at)));
-    };
-    if has_room(item, greatest) {
-        Ok(place)
-    } else {
-        Err(Cause::Layout(LayoutCause::LengthItem(at, greatest)))
+    match storage.get(place) {
+        Some(item) if has_room(item, greatest) => Ok(place),
+        _ => Err(Cause::Layout(LayoutCause::LengthItem(at, greatest))),
     }
 }

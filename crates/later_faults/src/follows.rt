@@ -78,7 +78,7 @@ impl MendedDeck {
     /// Whether the SELECT entry of a file was mended.
     fn is_entry_mended(&self, deck: &Reading<'_>, file: usize) -> bool {
         match deck.known.entry(file) {
-            Some(selected) => self.is_in_mend(selected.place),
+            Some(selected) => self.is_in_mend(selected.entry.place),
             None => true,
         }
     }

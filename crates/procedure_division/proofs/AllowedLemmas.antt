@@ -31,7 +31,7 @@ use Rattle.file_control.specs.Description.{FileDesc}
 use Rattle.file_control.specs.Described.{IsDescribedFile, AreDescribed}
 use Rattle.procedure_division.specs.Allowed.{IsAllowedOn, IsAllowed}
 use Rattle.procedure_division.specs.Following.{followed, where_allowed}
-use Rattle.procedure_division.specs.Located.{with_line}
+use Rattle.deck_parser.specs.Located.{with_line}
 use Rattle.procedure_division.specs.Placed.{nothing_placed, placed_statement, placed_paragraph, placed_behind}
 use Rattle.procedure_division.specs.declared.placed.PlacedStatements.{PlacedStatements}
 use Rattle.procedure_division.specs.Names.{Names, item_in, item_named, access_at}

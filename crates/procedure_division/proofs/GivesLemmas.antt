@@ -13,7 +13,7 @@ use Rattle.record_layout.specs.Layout.{Placed, is_named, field_of}
 use Rattle.record_layout.specs.Schema.{AreKeys}
 use Rattle.procedure_division.specs.declared.placed.PlacedStatements.{PlacedStatements}
 use Rattle.procedure_division.specs.Following.{followed}
-use Rattle.procedure_division.specs.Located.{with_line}
+use Rattle.deck_parser.specs.Located.{with_line}
 use Rattle.procedure_division.specs.Placed.{nothing_placed, placed_behind}
 use Rattle.procedure_division.specs.StatementRules.{joined_statements, some_of, key}
 

@@ -3,7 +3,6 @@ pub mod FollowLemmas
 pub mod ProcedureLemmas
 pub mod EitherLemmas
 pub mod PlacedLemmas
-pub mod LocatedLemmas
 pub mod JoinLemmas
 pub mod GivesLemmas
 pub mod SourceLemmas

@@ -14,7 +14,7 @@ use Rattle.procedure_division.specs.declared.placed.PlacedStatements.{PlacedStat
 use Rattle.procedure_division.specs.declared.statement.Statement.{Statement}
 use Rattle.procedure_division.specs.declared.statement.Statement.TheVariants.{Perform}
 use Rattle.procedure_division.specs.EachHasItsLine.{HasLines}
-use Rattle.procedure_division.specs.Located.{with_line}
+use Rattle.deck_parser.specs.Located.{with_line}
 use Rattle.procedure_division.specs.Names.{Names, access_at}
 use Rattle.procedure_division.specs.Parts.{name_to_open, opening, file_to_close, paragraph_or_sentence}
 use Rattle.procedure_division.specs.Placed.{nothing_placed, placed_statement, placed_paragraph, placed_behind}

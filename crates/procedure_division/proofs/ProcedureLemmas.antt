@@ -28,12 +28,12 @@ use Rattle.deck_parser.proofs.NotationLemmas.{lawful_the, lawful_name, lawful_li
 use Rattle.deck_parser.proofs.OperandLemmas.{lawful_sign, lawful_digits}
 use Rattle.procedure_division.specs.Names.{Names, access_at}
 use Rattle.procedure_division.specs.Following.{followed, where_allowed}
-use Rattle.procedure_division.specs.Located.{with_line}
+use Rattle.deck_parser.specs.Located.{with_line}
 use Rattle.procedure_division.specs.StatementRules.{some_of, file, open_statement, close_statement, key, read_operand, read_statement, relation, led_key, start_by, start_statement, figure, source, receiver, moved_source, move_statement}
 use Rattle.procedure_division.specs.Parts.{record_named, name_to_open, opening, file_to_close, paragraph_or_sentence}
 use Rattle.procedure_division.specs.Procedure.{one_statement, statement, paragraph, procedure}
 use Rattle.procedure_division.proofs.FollowLemmas.{AreAlike, lawful_followed}
-use Rattle.procedure_division.proofs.LocatedLemmas.{lawful_with_line}
+use Rattle.deck_parser.proofs.LocatedLemmas.{lawful_with_line}
 
 pub ruleset steps = (lawful_with_line, lawful_the, lawful_name, lawful_literal, lawful_period, lawful_sign, lawful_digits, lawful_turn, lawful_optional, lawful_either, lawful_onto, lawful_some, lawful_as)
 

@@ -1,7 +1,6 @@
 pub mod Names
 pub mod Places
 pub mod Following
-pub mod Located
 pub mod StatementPlaces
 pub mod Placed
 pub mod StatementRules

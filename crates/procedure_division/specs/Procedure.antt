@@ -11,7 +11,7 @@ use Rattle.io_state.specs.declared.statement.FileStatement.TheVariants.{Write, R
 use Rattle.procedure_division.specs.declared.statement.Statement.{Statement}
 use Rattle.procedure_division.specs.declared.statement.Statement.TheVariants.{Perform, StopRun}
 use Rattle.procedure_division.specs.declared.placed.PlacedStatements.{PlacedStatements}
-use Rattle.procedure_division.specs.Located.{with_line}
+use Rattle.deck_parser.specs.Located.{with_line}
 use Rattle.procedure_division.specs.Names.{Names}
 use Rattle.procedure_division.specs.Placed.{nothing_placed, placed_paragraph}
 use Rattle.procedure_division.specs.StatementRules.{joined_statements, some_of, in_its_line, file}

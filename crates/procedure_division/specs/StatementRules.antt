@@ -27,7 +27,7 @@ use Rattle.io_state.specs.declared.statement.FileStatement.TheVariants.{Open, Cl
 use Rattle.procedure_division.specs.declared.statement.Statement.{Statement}
 use Rattle.procedure_division.specs.declared.statement.Statement.TheVariants.{Perform, Move, MoveLength}
 use Rattle.procedure_division.specs.Following.{followed, where_allowed}
-use Rattle.procedure_division.specs.Located.{with_line}
+use Rattle.deck_parser.specs.Located.{with_line}
 use Rattle.procedure_division.specs.Names.{Names, item_in, item_named, access_at}
 use Rattle.procedure_division.specs.Placed.{nothing_placed, placed_statement, placed_behind}
 use Rattle.procedure_division.specs.declared.placed.PlacedStatements.{PlacedStatements}

@@ -13,4 +13,4 @@ is_fault (Fault line place cause) fault e other = tt
 pub returns-in_err-describe : goal.returns-in_err-describe
 returns-in_err-describe c =
     let p = err_from_is_err_and c.from_residual.result c.from_residual.ensures.1 in
-    rw (p.1) (record { given = tt; none = λ other. c.in_err-describe.ensures.none (is_fault _ p.0 p.2 other); told = (c.in_err-describe.field-0.0, p.2) })
+    rw (p.1) (record { given = tt; none = λ other. c.in_err-describe.ensures.description.none (is_fault _ p.0 p.2 other); told = (c.in_err-describe.field-0.0, p.2) })

@@ -4,8 +4,9 @@ use Rattle.deck_parser.specs.Rule.{Rule}
 use Rattle.deck_words.specs.Word.{first_line}
 use Rattle.deck_words.specs.Word.{Word}
 use Rattle.deck_parser.proofs.RuleLemmas.{Lawful}
+use Rattle.deck_parser.proofs.RestLemmas.{LeavesRest}
 use Rattle.deck_words.proofs.TestLemmas.{map_some}
-use Rattle.procedure_division.specs.Located.{with_line}
+use Rattle.deck_parser.specs.Located.{with_line}
 
 module _ {A : Type 0} (p : Rule A) (lawful_p : Lawful p) where
   line_sound : (x : ℕ × A) (words rest : List Word) → (with_line p).reads words ≡ Some (x, rest) → (with_line p).Spells x words rest
@@ -22,3 +23,6 @@ module _ {A : Type 0} (p : Rule A) (lawful_p : Lawful p) where
     complete = λ fit x words rest s no. rw (lawful_p.complete fit x.1 words rest s.1 no, s.0);
     first = λ fit x words rest s. lawful_p.first fit x.1 words rest s.1;
   }
+
+pub rest_with_line : {A : Type 0} (p : Rule A) → LeavesRest p → LeavesRest (with_line p)
+rest_with_line p h = record { ends = λ x words rest s. h.ends x.1 words rest s.1 }
