@@ -1,2 +1,3 @@
 pub mod Deck
 pub mod CanBeRun
+pub mod FirstFault

@@ -1,13 +1,15 @@
 //! A deck, read whole.
-ghost use Rattle.std.specs.Prelude.{List, IfOk, IfErr};
-ghost use Rattle.deck_words.specs.Fault.{IsFault, IsTold, HasNoneIfTold, GivesOrRefuses};
+ghost use Rattle.std.specs.Prelude.{◌≢◌, List, IfOk, IfErr};
+ghost use Rattle.deck_words.specs.Fault.{told, IsFault, IsTold, HasNoneIfTold, GivesOrRefuses};
 ghost use Rattle.deck_words.specs.OneReading.{Determines};
 ghost use Rattle.deck_words.specs.Word.{Word};
+ghost use Rattle.file_control.specs.FirstFault.{TellsFault};
 ghost use Rattle.procedure_division.specs.Names.{names_of};
 ghost use Rattle.procedure_division.specs.Procedure.{IsProcedure};
 ghost use Rattle.deck_reader.specs.declared.deck.Deck.{Deck};
 ghost use Rattle.deck_reader.specs.Deck.{Spells, IsDeck};
 ghost use Rattle.deck_reader.specs.CanBeRun.{CanBeRun};
+ghost use Rattle.deck_reader.specs.FirstFault.{IsWordsFault, IsFaultOfDeck};
 
 use crate::refusal::{DeckRefusal, wanted_of};
 use deck_words::{Refusal, scan};
@@ -46,7 +48,8 @@ fn statements_of(
 
 /// The deck that the words spell.
 fn read(alloc: Global, words: &Words<'_>) -> Result<Deck, Refusal>
-    ensures { GivesOrRefuses (Spells words.now) result }
+    ensures deck { GivesOrRefuses (Spells words.now) result }
+    ensures fault { TellsFault (IsWordsFault words.now) result }
 {
     one_description();
     let description = describe(alloc, words)?;
@@ -78,6 +81,7 @@ fn every_deck_can_be_run()
 fn read_whole(alloc: Global, bytes: &[u8]) -> Result<Deck, Refusal>
     ensures deck { GivesOrRefuses (IsDeck bytes.now) result }
     ensures runnable { IfOk result CanBeRun }
+    ensures fault { TellsFault (IsFaultOfDeck bytes.now) result }
 {
     one_reading();
     every_deck_can_be_run();
@@ -93,6 +97,7 @@ pub fn read_deck(alloc: Global, bytes: &[u8]) -> Result<Deck, DeckFault>
     ensures none { HasNoneIfTold (IsDeck bytes.now) result }
     ensures runnable { IfOk result CanBeRun }
     ensures told { IfErr result IsTold }
+    ensures fault { IfErr result (λ fault. fault.code ≢ 8 → IsFaultOfDeck bytes.now fault) }
 {
     Ok(read_whole(alloc, bytes)?)
 }
@@ -103,6 +108,8 @@ pub fn read_deck_told(alloc: Global, bytes: &[u8]) -> Result<Deck, DeckRefusal>
     ensures none { IfErr result (λ refused. IsFault refused.refusal → (deck : Deck) → IsDeck bytes.now deck
         → ⊥) }
     ensures runnable { IfOk result CanBeRun }
+    ensures fault { IfErr result (λ refused. IsFault refused.refusal
+        → IsFaultOfDeck bytes.now (told refused.refusal)) }
 {
     match read_whole(alloc, bytes) {
         Ok(deck) => Ok(deck),

@@ -1,9 +1,10 @@
-use Rattle.std.proofs.Common.{◌≡◌, ap}
+use Rattle.std.proofs.Common.{◌≡◌, ap, sym, subst}
 use Rattle.std.proofs.lemmas.Result.{err_from_is_err_and}
 use Rattle.deck_words.specs.Fault.{IsFault, told}
 use Rattle.deck_words.specs.declared.fault.DeckFault.{DeckFault}
 use Rattle.deck_words.specs.declared.fault.Refusal.{Refusal}
 use Rattle.deck_words.specs.declared.fault.Refusal.TheVariants.{Memory, Fault}
+use Rattle.deck_reader.specs.FirstFault.{IsFaultOfDeck}
 use Rattle.deck_reader.proofs.deck.read_deck.Goals as goal
 
 is_fault : (refusal : Refusal) (fault : DeckFault) → fault ≡ told refusal → (fault.code ≡ 8 → ⊥) → IsFault refusal
@@ -19,3 +20,8 @@ pub returns-in_err-read_whole-clause-told : goal.returns-in_err-read_whole-claus
 returns-in_err-read_whole-clause-told c =
     let p = err_from_is_err_and c.from_residual.result c.from_residual.ensures.1 in
     rw (p.1) (c.in_err-read_whole.field-0.0, p.2)
+
+pub returns-in_err-read_whole-clause-fault : goal.returns-in_err-read_whole-clause-fault
+returns-in_err-read_whole-clause-fault c =
+    let p = err_from_is_err_and c.from_residual.result c.from_residual.ensures.1 in
+    rw (p.1) (λ other. subst (IsFaultOfDeck c.args.bytes.now) (sym p.2) (c.in_err-read_whole.ensures.fault (is_fault _ p.0 p.2 other)))
