@@ -12,4 +12,4 @@
 mod file_bytes;
 mod listing;
 
-pub use listing::{FileList, list_file, list_file_as};
+pub use listing::{FileList, list_file, list_file_as, list_sound};

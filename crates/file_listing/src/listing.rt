@@ -30,8 +30,8 @@ pub enum FileList {
     Unsound(Reason),
 }
 
-/// Lists the records of bytes that are sound.
-fn list_sound<W: Write>(
+/// Lists the records of bytes that are known to be sound. It is `list_file_as` without the check.
+pub fn list_sound<W: Write>(
     alloc: Global,
     bytes: Vec<u8>,
     asked: Asked,

@@ -1,0 +1,7 @@
+use Rattle.salvaged_records.specs.Lines.{GoOn}
+use Rattle.salvaged_records.specs.Slots.{records_to}
+use Rattle.salvaged_records.proofs.heap_pages.hold_slots.Given as goal
+
+abbrev pub invariant-loop-i : goal.invariant-loop-i
+invariant-loop-i g l =
+    GoOn (records_to l.fn.shape l.fn.page l.i) (g.W.Write.contents l.fn.out) (g.W.Write.contents l.out) l.fn.lines l.lines l.fn.count l.count

@@ -1,0 +1,138 @@
+//! The lines of the records in the slots of pages.
+ghost use Rattle.std.specs.Prelude.{◌<◌, ◌∷◌, [], IfOk, OnOk};
+ghost use Rattle.record_heap.specs.Slot.{room};
+ghost use Rattle.salvaged_records.specs.Slots.{record_at, with_record, records_to, records_of_page};
+ghost use Rattle.salvaged_records.specs.Slots.{records_of_pages};
+ghost use Rattle.salvaged_records.specs.Lines.{GoOn, WritesRecords};
+
+use crate::slots::{is_heap_page, record_at};
+use held_text::HeldText;
+use page_bytes::PAGE_SIZE;
+use record_forms::{Form, append_line};
+use record_heap::Shape;
+use record_listing::ListFault;
+use std::alloc::Global;
+use std::io::Write;
+
+/// Holds the line of a record, which is put together in `line`, and counts it.
+fn hold_record<W: Write>(
+    lines: &mut HeldText,
+    line: &mut Vec<u8>,
+    count: &mut u64,
+    bytes: &[u8],
+    out: &mut W,
+) -> Result<(), ListFault>
+    ensures { OnOk result (GoOn (bytes.now ∷ []) (W.contents out.old) (W.contents out.new)
+        lines.old lines.new count.old count.new) }
+{
+    line.clear();
+    if append_line(line, &Form::Text, bytes).is_err() {
+        return Err(ListFault::Memory);
+    }
+    match lines.hold(line.as_slice(), out) {
+        Ok(()) => {
+            *count = count.saturating_add(1);
+            Ok(())
+        }
+        Err(_) => Err(ListFault::Output),
+    }
+}
+
+/// Holds the line of the record in slot `i`, where it is in use.
+fn hold_slot<W: Write>(
+    lines: &mut HeldText,
+    line: &mut Vec<u8>,
+    count: &mut u64,
+    page: &[u8; PAGE_SIZE],
+    shape: Shape,
+    i: usize,
+    out: &mut W,
+) -> Result<(), ListFault>
+    requires { i < room shape }
+    ensures { OnOk result (GoOn (with_record [] (record_at shape page.now i))
+        (W.contents out.old) (W.contents out.new) lines.old lines.new count.old count.new) }
+{
+    match record_at(page, shape, i) {
+        Some(bytes) => hold_record(lines, line, count, bytes, out),
+        None => Ok(()),
+    }
+}
+
+/// Holds the lines of the records in the slots of a heap page.
+fn hold_slots<W: Write>(
+    lines: &mut HeldText,
+    line: &mut Vec<u8>,
+    count: &mut u64,
+    page: &[u8; PAGE_SIZE],
+    shape: Shape,
+    out: &mut W,
+) -> Result<(), ListFault>
+    ensures { OnOk result (GoOn (records_to shape page.now (room shape))
+        (W.contents out.old) (W.contents out.new) lines.old lines.new count.old count.new) }
+{
+    for i in 0..shape.room() {
+        hold_slot(lines, line, count, page, shape, i, out)?;
+    }
+    Ok(())
+}
+
+/// Holds the lines of the records in the slots of a page, if it is a heap page.
+fn hold_page<W: Write>(
+    lines: &mut HeldText,
+    line: &mut Vec<u8>,
+    count: &mut u64,
+    page: &[u8; PAGE_SIZE],
+    shape: Shape,
+    out: &mut W,
+) -> Result<(), ListFault>
+    ensures { OnOk result (GoOn (records_of_page shape page.now)
+        (W.contents out.old) (W.contents out.new) lines.old lines.new count.old count.new) }
+{
+    if !is_heap_page(page) {
+        return Ok(());
+    }
+    hold_slots(lines, line, count, page, shape, out)
+}
+
+/// Holds the lines of the records in the slots of pages.
+fn hold_pages<W: Write>(
+    alloc: Global,
+    lines: &mut HeldText,
+    count: &mut u64,
+    pages: &[[u8; PAGE_SIZE]],
+    shape: Shape,
+    out: &mut W,
+) -> Result<(), ListFault>
+    ensures { OnOk result (GoOn (records_of_pages shape pages.now)
+        (W.contents out.old) (W.contents out.new) lines.old lines.new count.old count.new) }
+{
+    let mut line = Vec::new(alloc);
+    for page in pages {
+        hold_page(lines, &mut line, count, page, shape, out)?;
+    }
+    Ok(())
+}
+
+/// Writes the lines of the records in the slots of pages, and answers how many they are: the
+/// greatest number where they are more.
+///
+/// `Output`: the writer refused a line. `Memory`. A front of the lines may have been written then.
+pub fn write_pages<W: Write>(
+    alloc: Global,
+    pages: &[[u8; PAGE_SIZE]],
+    shape: Shape,
+    out: &mut W,
+) -> Result<u64, ListFault>
+    ensures { IfOk result (WritesRecords (records_of_pages shape pages.now)
+        (W.contents out.old) (W.contents out.new)) }
+{
+    let Ok(mut lines) = HeldText::new(alloc) else {
+        return Err(ListFault::Memory);
+    };
+    let mut count = 0;
+    hold_pages(alloc, &mut lines, &mut count, pages, shape, out)?;
+    match lines.hand_over(out) {
+        Ok(()) => Ok(count),
+        Err(_) => Err(ListFault::Output),
+    }
+}
