@@ -8,8 +8,8 @@ use Rattle.std.proofs.lemmas.Grind.{flat_map-append}
 use Rattle.held_text.specs.Output.{HoldsText}
 use Rattle.record_heap.specs.declared.shape.Shape.{Shape}
 use Rattle.record_listing.specs.Lines.{record_text_line}
-use Rattle.salvaged_records.specs.Lines.{AreOnTheirWay, GoOn, WritesRecords, count_of}
-use Rattle.salvaged_records.specs.Slots.{record_at, records_to, records_of_page, records_of_pages, with_record}
+use Rattle.salvaged_records.specs.Lines.{AreOnTheirWay, GoOn, WritesRecords, lines_counted}
+use Rattle.salvaged_records.specs.Slots.{record_at, records_to, records_of_page, records_of_pages, with_slot}
 
 -- the lines of one record more
 one_line : (records : List (List ℕ)) (bytes : List ℕ) → flat_map record_text_line (records ++ bytes ∷ []) ≡ flat_map record_text_line records ++ record_text_line bytes
@@ -19,7 +19,7 @@ one_longer : (records : List (List ℕ)) (bytes : List ℕ) → length (records 
 one_longer [] bytes = refl
 one_longer (record_bytes ∷ records) bytes = let rest = one_longer records bytes in omega (arith, rest)
 
-one_counted : (records : List (List ℕ)) (bytes : List ℕ) → min (min (length records) (2 ^ 64 - 1) + 1) (2 ^ 64 - 1) ≡ count_of (records ++ bytes ∷ [])
+one_counted : (records : List (List ℕ)) (bytes : List ℕ) → min (min (length records) (2 ^ 64 - 1) + 1) (2 ^ 64 - 1) ≡ lines_counted (records ++ bytes ∷ [])
 one_counted records bytes = let longer = one_longer records bytes in omega (arith, longer)
 
 -- no line more
@@ -49,18 +49,18 @@ one_more bytes line a b held now count last is holds counted = record {
 }
 
 -- the record of one slot more
-with_one : (records : List (List ℕ)) (found : Option (List ℕ)) → with_record records found ≡ records ++ with_record [] found
+with_one : (records : List (List ℕ)) (found : Option (List ℕ)) → with_slot records found ≡ records ++ with_slot [] found
 with_one records None = sym (append-nil records)
 with_one records (Some bytes) = refl
 
 pub slot_more : (shape : Shape) (page : List ℕ) (i : ℕ) (a b c : Option (List ℕ)) (held then now : List ℕ) (count middle last : ℕ)
-    → GoOn (records_to shape page i) a b held then count middle → GoOn (with_record [] (record_at shape page i)) b c then now middle last
+    → GoOn (records_to shape page i) a b held then count middle → GoOn (with_slot [] (record_at shape page i)) b c then now middle last
     → GoOn (records_to shape page (i + 1)) a c held now count last
 slot_more shape page i a b c held then now count middle last one other =
     let up : i + 1 ≡ suc i = omega arith in
     subst (λ (n : ℕ). GoOn (records_to shape page n) a c held now count last) (sym up)
     (subst (λ (r : List (List ℕ)). GoOn r a c held now count last) (sym (with_one (records_to shape page i) (record_at shape page i)))
-    (both_more (records_to shape page i) (with_record [] (record_at shape page i)) a b c held then now count middle last one other))
+    (both_more (records_to shape page i) (with_slot [] (record_at shape page i)) a b c held then now count middle last one other))
 
 -- those of one page more
 pages_on : (shape : Shape) (pages : List (List ℕ)) (k : ℕ) (d : List ℕ) → k < length pages

@@ -1,7 +1,7 @@
 -- What is known of bytes with a closed gate that stand for a file, and of those that do not.
 use Rattle.std.proofs.Common.{◌≡◌, ◌≤◌, ℕ, List, [], ◌∷◌, length, Option, Some, None, IfSome, slice_get, refl, sym, subst, arith}
 use Rattle.record_layout.specs.declared.schema.KeyPart.{KeyPart}
-use Rattle.record_layout.specs.Schema.{AreKeys}
+use Rattle.record_layout.specs.Schema.{AreKeys, Schema}
 use Rattle.record_forms.specs.declared.form.Form.TheVariants.{Text}
 use Rattle.record_listing.specs.declared.asked.Asked.{Asked}
 use Rattle.file_checker.specs.Sound.{IsSound}
@@ -32,9 +32,9 @@ never bytes asked before behind records pages sound all NoKey (schema, file, clo
 never bytes asked before behind records pages sound all (Unsound reason) (right, same) = absurd (right.1 records pages sound)
 
 -- so its records were listed
-pub all_listed : (bytes : List ℕ) (asked : Asked) (before behind : Option (List ℕ)) (records pages : ℕ) → IsSound bytes records pages → AreAllAsked asked → (end : FileList)
-    → EndsWithIn Text bytes asked before behind end → EndsWith bytes before behind (AllSalvaged records)
-all_listed bytes asked before behind records pages sound all end is =
+pub all_listed : (deck : Option Schema) (bytes : List ℕ) (asked : Asked) (before behind : Option (List ℕ)) (records pages : ℕ) → IsSound bytes records pages → AreAllAsked asked → (end : FileList)
+    → EndsWithIn Text bytes asked before behind end → EndsWith deck bytes before behind (AllSalvaged records)
+all_listed deck bytes asked before behind records pages sound all end is =
     ((pages, sound), (asked, all, subst (EndsWithIn Text bytes asked before behind) (never bytes asked before behind records pages sound all end is) is))
 
 -- the header in the first page of a list is that of all bytes of which these are the pages

@@ -4,8 +4,8 @@ use Rattle.std.specs.Io.KnownBytes.{Appends}
 use Rattle.record_listing.specs.Lines.{record_text_line}
 
 -- how many they are, the greatest number at most
-abbrev pub count_of : List (List ℕ) → ℕ
-count_of records = min (length records) (2 ^ 64 - 1)
+abbrev pub lines_counted : List (List ℕ) → ℕ
+lines_counted records = min (length records) (2 ^ 64 - 1)
 
 -- of the lines of these records the writer took some bytes, and the others are held
 pub record AreOnTheirWay (records : List (List ℕ)) (before now : Option (List ℕ)) (held : List ℕ)
@@ -13,7 +13,7 @@ pub record AreOnTheirWay (records : List (List ℕ)) (before now : Option (List 
   pub taken : List ℕ
   pub text : flat_map record_text_line records ≡ taken ++ held
   pub appends : Appends before now taken
-  pub counted : count ≡ count_of records
+  pub counted : count ≡ lines_counted records
 
 -- the lines of more records are on their way, behind those that were
 pub record GoOn (more : List (List ℕ)) (old new : Option (List ℕ)) (held held_after : List ℕ)
@@ -25,4 +25,4 @@ pub record GoOn (more : List (List ℕ)) (old new : Option (List ℕ)) (held hel
 pub record WritesRecords (records : List (List ℕ)) (before behind : Option (List ℕ)) (count : ℕ)
     : Type 0 where
   pub written : Appends before behind (flat_map record_text_line records)
-  pub counted : count ≡ count_of records
+  pub counted : count ≡ lines_counted records

@@ -1,7 +1,7 @@
 //! The lines of the records in the slots of pages.
 ghost use Rattle.std.specs.Prelude.{◌<◌, ◌∷◌, [], IfOk, OnOk};
 ghost use Rattle.record_heap.specs.Slot.{room};
-ghost use Rattle.salvaged_records.specs.Slots.{record_at, with_record, records_to, records_of_page};
+ghost use Rattle.salvaged_records.specs.Slots.{record_at, with_slot, records_to, records_of_page};
 ghost use Rattle.salvaged_records.specs.Slots.{records_of_pages};
 ghost use Rattle.salvaged_records.specs.Lines.{GoOn, WritesRecords};
 
@@ -49,7 +49,7 @@ fn hold_slot<W: Write>(
     out: &mut W,
 ) -> Result<(), ListFault>
     requires { i < room shape }
-    ensures { OnOk result (GoOn (with_record [] (record_at shape page.now i))
+    ensures { OnOk result (GoOn (with_slot [] (record_at shape page.now i))
         (W.contents out.old) (W.contents out.new) lines.old lines.new count.old count.new) }
 {
     match record_at(page, shape, i) {

@@ -5,16 +5,17 @@ ghost use Rattle.file_checker.specs.Sound.{IsRight, IsSound};
 ghost use Rattle.file_header.specs.FirstPage.{IsFirstPage};
 ghost use Rattle.page_store.specs.DeviceFile.{page_of_bytes};
 ghost use Rattle.salvaged_records.specs.Salvaged.{with_gate_closed, AreAllAsked, EndsWith, Ends};
-ghost use Rattle.salvaged_records.specs.Salvaged.{HasNoHeader};
+ghost use Rattle.salvaged_records.specs.Salvaged.{HasNoHeader, IsSchemaFor};
 
 use crate::heap_pages::write_pages;
+use crate::shape::shape_of;
 use file_checker::{Reason, Verdict, check_bytes};
 use file_header::Header;
 use file_listing::list_sound;
 use io_state::Key;
-use open_file::OpenFile;
 use page_bytes::PAGE_SIZE;
 use record_forms::Form;
+use record_layout::Schema;
 use record_listing::{Asked, ListFault};
 use std::alloc::Global;
 use std::io::Write;
@@ -29,7 +30,8 @@ pub enum Salvage {
     All(u64),
     /// They do not: so many records, those in slots that are in use.
     Slots(u64),
-    /// The first page is none of a file, for this reason. Nothing was written.
+    /// The first page is none of a file, for this reason, and no deck has a schema. Nothing was
+    /// written.
     Unsound(Reason),
 }
 
@@ -58,11 +60,12 @@ fn all_records() -> Asked
 fn list_all<W: Write>(
     alloc: Global,
     bytes: Vec<u8>,
+    deck: &Option<Schema>,
     records: u64,
     out: &mut W,
 ) -> Result<Salvage, ListFault>
     requires sound { (pages : ℕ) × IsSound bytes.items records pages }
-    ensures { IfOk result (EndsWith bytes.items (W.contents out.old) (W.contents out.new)) }
+    ensures { IfOk result (EndsWith deck.now bytes.items (W.contents out.old) (W.contents out.new)) }
 {
     match list_sound(alloc, bytes, all_records(), &Form::Text, out) {
         // A file that is sound has a prime key, so it was listed.
@@ -71,22 +74,22 @@ fn list_all<W: Write>(
     }
 }
 
-/// Lists the records in the slots of a file of this header, whose whole pages these are.
+/// Lists the records in the slots of a file of this schema, whose whole pages these are.
 fn list_slots<W: Write>(
     alloc: Global,
     bytes: &[u8],
     pages: &[[u8; PAGE_SIZE]],
-    header: &Header,
+    schema: &Schema,
+    deck: &Option<Schema>,
     reason: Reason,
     out: &mut W,
 ) -> Result<Salvage, ListFault>
     requires refused { IsRight bytes.now (Verdict.Unsound reason) }
     requires pages { AreAllPages bytes.now pages.now }
-    requires header { IsFirstPage header.now (page_of_bytes bytes.now 0) }
-    ensures { IfOk result (EndsWith bytes.now (W.contents out.old) (W.contents out.new)) }
+    requires schema { IsSchemaFor deck.now bytes.now schema.now }
+    ensures { IfOk result (EndsWith deck.now bytes.now (W.contents out.old) (W.contents out.new)) }
 {
-    let file = OpenFile::from_header(header);
-    match write_pages(alloc, pages, file.heap().shape(), out) {
+    match write_pages(alloc, pages, shape_of(schema), out) {
         Ok(count) => Ok(Salvage::Slots(count)),
         Err(fault) => Err(fault),
     }
@@ -112,42 +115,49 @@ fn first_header(pages: &[[u8; PAGE_SIZE]]) -> Option<Header>
     }
 }
 
-/// Lists the records in the slots of a file that is refused for this reason.
+/// Lists the records in the slots of a file that is refused for this reason: by the schema of its
+/// first page, or by that of a deck where it has none.
 fn list_refused<W: Write>(
     alloc: Global,
     bytes: &[u8],
+    deck: &Option<Schema>,
     reason: Reason,
     out: &mut W,
 ) -> Result<Salvage, ListFault>
     requires refused { IsRight bytes.now (Verdict.Unsound reason) }
-    ensures { IfOk result (EndsWith bytes.now (W.contents out.old) (W.contents out.new)) }
+    ensures { IfOk result (EndsWith deck.now bytes.now (W.contents out.old) (W.contents out.new)) }
 {
     let pages = pages_in(bytes);
     match first_header(pages) {
-        Some(header) => list_slots(alloc, bytes, pages, &header, reason, out),
-        None => Ok(Salvage::Unsound(reason)),
+        Some(header) => list_slots(alloc, bytes, pages, &header.schema, deck, reason, out),
+        None => match deck {
+            Some(schema) => list_slots(alloc, bytes, pages, schema, deck, reason, out),
+            None => Ok(Salvage::Unsound(reason)),
+        },
     }
 }
 
 /// Writes the lines of the records that are left in the bytes of a file, whether or not its gate is
-/// closed: exactly its records, in the order of the prime key, where the bytes stand for a file with
-/// the gate closed; otherwise those of all slots in use, page by page. The file is not touched: the
-/// gate is closed in these bytes alone.
+/// closed: exactly its records, in the order of the prime key, where the bytes stand for a file once
+/// the gate is closed; otherwise those of all slots in use, page by page. How its slots are is told by
+/// the first page, or by the schema of a deck where that is lost: a file that was being made has
+/// none until it is closed. The file is not touched: the gate is closed in these bytes alone.
 ///
 /// `Output`: the writer refused a line; a front of the lines may have been written. `Memory`: the
 /// same, or nothing was written. `Input` never comes: the bytes are there.
 pub fn salvage_records<W: Write>(
     alloc: Global,
     bytes: Vec<u8>,
+    deck: &Option<Schema>,
     out: &mut W,
 ) -> Result<Salvage, ListFault>
-    ensures { Ends bytes.items (W.contents out.old) (W.contents out.new) result }
+    ensures { Ends deck.now bytes.items (W.contents out.old) (W.contents out.new) result }
 {
     let mut bytes = bytes;
     close_gate(bytes.as_mut_slice());
     match check_bytes(alloc, bytes.as_slice()) {
-        Ok(Verdict::Sound { records, .. }) => list_all(alloc, bytes, records, out),
-        Ok(Verdict::Unsound(reason)) => list_refused(alloc, bytes.as_slice(), reason, out),
+        Ok(Verdict::Sound { records, .. }) => list_all(alloc, bytes, deck, records, out),
+        Ok(Verdict::Unsound(reason)) => list_refused(alloc, bytes.as_slice(), deck, reason, out),
         Err(_) => Err(ListFault::Memory),
     }
 }

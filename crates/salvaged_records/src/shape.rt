@@ -1,0 +1,23 @@
+//! What the slots of a file have in common.
+ghost use Rattle.salvaged_records.specs.Slots.{IsShapeOf};
+
+use record_heap::Shape;
+use record_layout::Schema;
+
+/// What the slots of a file of this schema have in common: each has a stamp for each alternate key
+/// that may have duplicates.
+pub fn shape_of(schema: &Schema) -> Shape
+    ensures { IsShapeOf schema.now result }
+{
+    let least = schema.least();
+    let stamped = schema
+        .keys()
+        .iter()
+        .filter(|part| part.has_duplicates())
+        .count();
+    Shape {
+        stamps: 8 * stamped as u16,
+        least,
+        greatest: schema.greatest(),
+    }
+}
