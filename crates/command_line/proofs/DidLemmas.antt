@@ -4,7 +4,7 @@ use Rattle.std.proofs.lemmas.Result.{IfErr-weaker}
 use Rattle.clap.specs.Words.{Text}
 use Rattle.recorded_system.specs.Calls.{Call}
 use Rattle.clap.specs.declared.error.Error.{Error}
-use Rattle.command_words.specs.Asks.{Ask, AskCheck, AskExplain, AskHelp, AskNothing, AskSchema, AskServe, AskStat, FormText, IfUsage, form_text}
+use Rattle.command_words.specs.Asks.{Ask, AskCheck, AskExplain, AskHelp, AskNothing, AskSchema, AskServe, AskStat, AskSalvage, FormText, IfUsage, form_text}
 use Rattle.command_words.specs.declared.fault.WordsFault.{WordsFault}
 use Rattle.command_words.specs.declared.fault.WordsFault.TheVariants.{Usage as NotUnderstood, Memory as NoMemoryForWords}
 use Rattle.command_words.specs.declared.form_words.FormWords.{FormWords}
@@ -20,13 +20,14 @@ use Rattle.file_commands.specs.Front.{DoesBy}
 use Rattle.file_commands.specs.Verdicts.{ChecksFile}
 use Rattle.file_statistics.specs.declared.listing.FileStatisticsEnd.{FileStatisticsEnd}
 use Rattle.shelf_loading.specs.declared.end.ShelfEnd.{ShelfEnd}
+use Rattle.salvaged_records.specs.declared.salvaging.Salvage.{Salvage}
 use Rattle.command_line.specs.LoadForm.{IsLoadFault}
 use Rattle.command_line.specs.Performed.{AskOfDeck, AskForLoad, AskForRecords, AskForRun, AskForSchema, Did, IsRunOutcome}
 use Rattle.command_outcomes.specs.Status.{status_of}
 use Rattle.command_outcomes.specs.declared.fault.Fault.{Fault}
 use Rattle.command_outcomes.specs.declared.fault.Fault.TheVariants.{Deck, NoSuchFile, NotListed, Form as NoForm, Unexplained, Input, Output, Memory}
 use Rattle.command_outcomes.specs.declared.outcome.Outcome.{Outcome}
-use Rattle.command_outcomes.specs.declared.outcome.Outcome.TheVariants.{Helped, Checked, CheckedAll, Counted, Explained, Ended, Served, SchemaTold, SchemaCompared, SchemaRefused, Records, OtherSchema, Loaded}
+use Rattle.command_outcomes.specs.declared.outcome.Outcome.TheVariants.{Helped, Checked, CheckedAll, Counted, Explained, Ended, Served, SchemaTold, SchemaCompared, SchemaRefused, Records, OtherSchema, Loaded, Salvaged}
 use Rattle.command_outcomes.specs.declared.outcome.WorstCheck.{WorstCheck}
 use Rattle.command_outcomes.specs.Told.{words_told_as}
 
@@ -160,6 +161,11 @@ module _ (words : List Text) where
       → IfOk result (λ outcome. (end : FileStatisticsEnd) × (outcome ≡ Counted end) × P end) → IfErr result (λ fault. status_of fault ≡ 4) → Did words result
   did_count path asked P (Ok outcome) is four = subst (λ (o : Outcome). Did words (Ok o)) (sym is.1) (path, asked)
   did_count path asked P (Err fault) is four = did_fail words fault four
+
+  pub did_salvage : (path : Text) → AskSalvage words path → (P : Salvage → Type 0) (result : Result Outcome Fault)
+      → IfOk result (λ outcome. (end : Salvage) × (outcome ≡ Salvaged end) × P end) → IfErr result (λ fault. status_of fault ≡ 4) → Did words result
+  did_salvage path asked P (Ok outcome) is four = subst (λ (o : Outcome). Did words (Ok o)) (sym is.1) (path, asked)
+  did_salvage path asked P (Err fault) is four = did_fail words fault four
 
   -- a deck was told, or is refused
   deck_refused : AskOfDeck words → (fault : Fault) → IsListFault fault → Did words (Err fault)

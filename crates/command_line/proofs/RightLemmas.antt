@@ -4,7 +4,7 @@ use Rattle.std.specs.Prelude.{IfOk}
 use Rattle.clap.specs.Words.{Text}
 use Rattle.recorded_system.specs.Calls.{Call}
 use Rattle.schema_listing.specs.declared.comparing.Comparison.{Comparison}
-use Rattle.command_words.specs.Asks.{Ask, AskCheck, AskCobol, AskDeck, AskExplain, AskStat, form_text}
+use Rattle.command_words.specs.Asks.{Ask, AskCheck, AskCobol, AskDeck, AskExplain, AskStat, AskSalvage, form_text}
 use Rattle.command_words.specs.declared.form_words.FormWords.{FormWords}
 use Rattle.command_words.specs.declared.request.Request.TheVariants.{List as ListRecords}
 use Rattle.explanations.specs.Tables.{explanation}
@@ -12,6 +12,7 @@ use Rattle.file_commands.specs.Counted.{CountsFileAt}
 use Rattle.file_commands.specs.Front.{DoesBy, IsDeckNamed}
 use Rattle.file_commands.specs.Listed.{TellsDeck, WritesList, WritesCobol}
 use Rattle.file_commands.specs.Records.{ListsAsked}
+use Rattle.file_commands.specs.Salvaged.{SalvagesFileAt}
 use Rattle.file_commands.specs.Schema.{TellsAsked, ComparesAsked, IsOfSchema, IsSchemaDone}
 use Rattle.file_commands.specs.Verdicts.{ChecksFile, WritesVerdicts}
 use Rattle.file_checker.specs.declared.verdict.Verdict.{Verdict}
@@ -22,7 +23,7 @@ use Rattle.command_line.specs.Right.{IsRightOf}
 use Rattle.command_line.proofs.DidLemmas.{for_records}
 use Rattle.command_outcomes.specs.declared.fault.Fault.{Fault}
 use Rattle.command_outcomes.specs.declared.outcome.Outcome.{Outcome}
-use Rattle.command_outcomes.specs.declared.outcome.Outcome.TheVariants.{Helped, Checked, CheckedAll, SchemaTold, SchemaCompared, SchemaRefused, Explained, Listed, Records, OtherSchema, InCobol, Counted}
+use Rattle.command_outcomes.specs.declared.outcome.Outcome.TheVariants.{Helped, Checked, CheckedAll, SchemaTold, SchemaCompared, SchemaRefused, Explained, Listed, Records, OtherSchema, InCobol, Counted, Salvaged}
 use Rattle.command_outcomes.specs.declared.outcome.WorstCheck.{WorstCheck}
 
 module _ {W : Type 0} (words : List Text) (calls : List Call) (input : Option (List ℕ)) (contents : W → Option (List ℕ)) (old new : W) where
@@ -57,6 +58,12 @@ module _ {W : Type 0} (words : List Text) (calls : List Call) (input : Option (L
   right_count path asked (Ok outcome) does = let done = does.right in
       subst IsRight (sym done.1) (path, asked, subst (λ (o : Outcome). CountsFileAt path contents old new calls o) done.1 done)
   right_count path asked (Err fault) does = tt
+
+  -- the records of a file were salvaged
+  pub right_salvage : (path : Text) → AskSalvage words path → (result : Result Outcome Fault) → DoesBy (SalvagesFileAt path contents old new) result calls → IfOk result IsRight
+  right_salvage path asked (Ok outcome) does = let done = does.right in
+      subst IsRight (sym done.1) (path, asked, subst (λ (o : Outcome). SalvagesFileAt path contents old new calls o) done.1 done)
+  right_salvage path asked (Err fault) does = tt
 
   -- a deck was listed, or written in COBOL
   pub right_listed : (deck : Text) → AskDeck words deck → (result : Result Outcome Fault)

@@ -11,8 +11,10 @@ use Rattle.schema_listing.specs.declared.comparing.Comparison.TheVariants.{Same,
 use Rattle.shelf_loading.specs.Answer.{is_loaded}
 use Rattle.shelf_loading.specs.declared.end.ShelfEnd.{ShelfEnd}
 use Rattle.shelf_loading.specs.declared.end.ShelfEnd.TheVariants as ends
+use Rattle.salvaged_records.specs.declared.salvaging.Salvage.{Salvage}
+use Rattle.salvaged_records.specs.declared.salvaging.Salvage.TheVariants as salvages
 use Rattle.standard_output.specs.LineEnds.{has_failed_line}
-use Rattle.command_outcomes.specs.Status.{status_of, status_by, status_of_worst, status_of_list, status_where, status_of_comparison, status_of_load, status_of_count, status_for, exit_status, IsExitStatus}
+use Rattle.command_outcomes.specs.Status.{status_of, status_by, status_of_worst, status_of_list, status_where, status_of_comparison, status_of_load, status_of_count, status_of_salvage, status_for, exit_status, IsExitStatus}
 use Rattle.command_outcomes.specs.declared.fault.Fault.{Fault}
 use Rattle.command_outcomes.specs.declared.fault.Fault.TheVariants as faults
 use Rattle.command_outcomes.specs.declared.outcome.Outcome.{Outcome}
@@ -47,6 +49,11 @@ low_count : (end : FileStatisticsEnd) → status_of_count end ≤ 1
 low_count counts.Listed = omega arith
 low_count (counts.Unsound reason place) = omega arith
 
+low_salvage : (end : Salvage) → status_of_salvage end ≤ 1
+low_salvage (salvages.All records) = omega arith
+low_salvage (salvages.Slots records) = omega arith
+low_salvage (salvages.Unsound reason) = omega arith
+
 -- and so has an outcome, but that of several files of which one cannot be read
 abbrev IsLow : ℕ → Type 0
 IsLow status = (status ≤ 1) ⊎ (status ≡ 4)
@@ -72,6 +79,7 @@ low outcomes.OtherSchema = inl (omega arith)
 low outcomes.InCobol = inl (omega arith)
 low (outcomes.Loaded end) = inl (low_load end)
 low (outcomes.Counted end) = inl (low_count end)
+low (outcomes.Salvaged end) = inl (low_salvage end)
 
 few_is : (n : ℕ) → n ≤ 1 → IsExitStatus n
 few_is zero few = inl refl

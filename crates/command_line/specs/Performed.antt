@@ -17,7 +17,7 @@ use Rattle.deck_runner.specs.declared.run_end.RunEnd.{RunEnd}
 use Rattle.shelf_run.specs.ShelfRun.{OnShelf, Runs, BreaksOff, LeavesFiles, StaysSound}
 use Rattle.shelf_run.specs.ExactRun.{IsExactRun}
 use Rattle.command_words.specs.Asks.{FormText, AskRun, AskCheck, AskServe, AskSchema, AskExplain, AskDeck}
-use Rattle.command_words.specs.Asks.{AskList, AskCobol, AskLoad, AskStat, AskHelp, AskNothing}
+use Rattle.command_words.specs.Asks.{AskList, AskCobol, AskLoad, AskStat, AskSalvage, AskHelp, AskNothing}
 use Rattle.command_words.specs.declared.limits.Limits.{Limits}
 use Rattle.command_line.specs.CallsMade.{CallsMade, BeginsNothing, folder_behind, streams_first}
 use Rattle.command_line.specs.Folder.{OverFolder}
@@ -40,7 +40,7 @@ use Rattle.command_outcomes.specs.declared.outcome.Outcome.TheVariants.{Helped, 
 use Rattle.command_outcomes.specs.declared.outcome.Outcome.TheVariants.{SchemaTold, SchemaCompared}
 use Rattle.command_outcomes.specs.declared.outcome.Outcome.TheVariants.{SchemaRefused, Explained, Listed}
 use Rattle.command_outcomes.specs.declared.outcome.Outcome.TheVariants.{CheckedAll, Records, InCobol, Loaded}
-use Rattle.command_outcomes.specs.declared.outcome.Outcome.TheVariants.{Counted, OtherSchema}
+use Rattle.command_outcomes.specs.declared.outcome.Outcome.TheVariants.{Counted, OtherSchema, Salvaged}
 
 -- a run over a folder: the bytes of its deck, and the system since the folder was entered
 pub record Begun : Type 0 where
@@ -213,8 +213,8 @@ AskForNoForm words fault =
 -- what was done for the words: help was written for those that ask for it, files checked for those
 -- that ask for that, records listed, or the file found to be of another schema than its deck, for
 -- those that ask for records, a program written for those that ask for one in COBOL, a text loaded
--- for those that ask for that, the pages of a file counted for those that ask for that, requests
--- answered for those that ask for a session, a schema told, compared or refused for those that ask
+-- for those that ask for that, the pages of a file counted for those that ask for that, the
+-- records of a file salvaged for those that ask for that, requests answered for those that ask for a session, a schema told, compared or refused for those that ask
 -- for one, and a run came to its end for those that ask for one; a fault that is told of the words is
 -- theirs. The input, the output or memory may fail for any words.
 abbrev pub Did : List Text → Result Outcome Fault → Type 0
@@ -234,6 +234,7 @@ Did words (Ok OtherSchema) = AskForRecords words
 Did words (Ok InCobol) = (deck : Text) × (fixed : Bool) × AskCobol words deck fixed
 Did words (Ok (Loaded end)) = AskForLoad words
 Did words (Ok (Counted end)) = (file : Text) × AskStat words file
+Did words (Ok (Salvaged end)) = (file : Text) × AskSalvage words file
 Did words (Err (Deck fault)) = AskOfFile words ⊎ AskForRun words
 Did words (Err NoSuchFile) = AskOfFile words
 Did words (Err (NoForm fault)) = AskForNoForm words fault

@@ -4,13 +4,14 @@ use Rattle.std.specs.Prelude.{◌≡◌, ◌⊎◌, ℕ, Bool, List, [], ◌∷�
 use Rattle.clap.specs.Words.{Text}
 use Rattle.recorded_system.specs.Calls.{Call}
 use Rattle.recorded_system.specs.Reading.{AreReading}
-use Rattle.command_words.specs.Asks.{Ask, AskCheck, AskCobol, AskDeck, AskExplain, AskStat}
+use Rattle.command_words.specs.Asks.{Ask, AskCheck, AskCobol, AskDeck, AskExplain, AskStat, AskSalvage}
 use Rattle.command_words.specs.declared.request.Request.{Request}
 use Rattle.command_words.specs.declared.request.Request.TheVariants.{Run, Serve, Load}
 use Rattle.file_commands.specs.Counted.{CountsFileAt}
 use Rattle.file_commands.specs.Front.{OfNamedDeck}
 use Rattle.file_commands.specs.Listed.{WritesList, WritesCobol}
 use Rattle.file_commands.specs.Records.{OfFormAndFile, ListsRecords, AgreesWith, WritesOther}
+use Rattle.file_commands.specs.Salvaged.{SalvagesFileAt}
 use Rattle.file_commands.specs.Schema.{TellsAsked, ComparesAsked}
 use Rattle.file_commands.specs.Verdicts.{ChecksFile, WritesVerdicts}
 use Rattle.explanations.specs.Tables.{explanation}
@@ -23,7 +24,7 @@ use Rattle.command_outcomes.specs.declared.outcome.Outcome.TheVariants.{Helped, 
 use Rattle.command_outcomes.specs.declared.outcome.Outcome.TheVariants.{SchemaTold, SchemaCompared}
 use Rattle.command_outcomes.specs.declared.outcome.Outcome.TheVariants.{SchemaRefused, Explained, Listed}
 use Rattle.command_outcomes.specs.declared.outcome.Outcome.TheVariants.{CheckedAll, Records, InCobol, Loaded}
-use Rattle.command_outcomes.specs.declared.outcome.Outcome.TheVariants.{Counted, OtherSchema}
+use Rattle.command_outcomes.specs.declared.outcome.Outcome.TheVariants.{Counted, OtherSchema, Salvaged}
 
 -- words that are answered by these calls, with what the input had left at first, by what a writer has before
 -- and after
@@ -72,6 +73,9 @@ module _ {W : Type 0} (words : List Text) (calls : List Call) (input : Option (L
   -- what the file that the words name has was counted and written, or it is told why not
   IsRightOf (Counted end) = (path : Text) × AskStat words path
       × CountsFileAt path contents old new calls (Counted end)
+  -- the records that are left in the file that the words name were written, or it is told why not
+  IsRightOf (Salvaged end) = (path : Text) × AskSalvage words path
+      × SalvagesFileAt path contents old new calls (Salvaged end)
 
 -- the request is for no run, no session and no load
 abbrev pub IsToRead : Request → Type 0

@@ -26,7 +26,10 @@ use Rattle.command_outcomes.specs.declared.outcome.Outcome.TheVariants.{Helped, 
 use Rattle.command_outcomes.specs.declared.outcome.Outcome.TheVariants.{SchemaTold, SchemaCompared}
 use Rattle.command_outcomes.specs.declared.outcome.Outcome.TheVariants.{SchemaRefused, Explained, Listed}
 use Rattle.command_outcomes.specs.declared.outcome.Outcome.TheVariants.{CheckedAll, Records, InCobol, Loaded}
-use Rattle.command_outcomes.specs.declared.outcome.Outcome.TheVariants.{Counted, OtherSchema}
+use Rattle.command_outcomes.specs.declared.outcome.Outcome.TheVariants.{Counted, OtherSchema, Salvaged}
+use Rattle.salvaged_records.specs.declared.salvaging.Salvage.{Salvage}
+use Rattle.salvaged_records.specs.declared.salvaging.Salvage.TheVariants.{All as AllSalvaged, Slots}
+use Rattle.salvaged_records.specs.declared.salvaging.Salvage.TheVariants.{Unsound as NotSalvaged}
 
 -- the exit status that tells a fault
 abbrev pub status_of : Fault → ℕ
@@ -78,6 +81,12 @@ abbrev pub status_of_count : FileStatisticsEnd → ℕ
 status_of_count CountListed = 0
 status_of_count (NotCounted reason place) = 1
 
+-- the exit status that tells whether all records of a file were salvaged
+abbrev pub status_of_salvage : Salvage → ℕ
+status_of_salvage (AllSalvaged records) = 0
+status_of_salvage (Slots records) = 1
+status_of_salvage (NotSalvaged reason) = 1
+
 -- the exit status that tells what was done: that a run or a session ended, whatever its verbs
 -- answered, a verdict, whether a file has a schema, that of a deck, or a list, or whether all lines
 -- were loaded
@@ -97,6 +106,7 @@ status_for OtherSchema = 1
 status_for InCobol = 0
 status_for (Loaded end) = status_of_load end
 status_for (Counted end) = status_of_count end
+status_for (Salvaged end) = status_of_salvage end
 
 -- the exit status that tells what happened
 abbrev pub exit_status : Result Outcome Fault → ℕ

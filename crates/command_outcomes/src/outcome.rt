@@ -2,7 +2,7 @@
 ghost use Rattle.std.specs.Prelude.{◌≡◌};
 ghost use Rattle.command_outcomes.specs.Status.{status_by, status_of_list, status_of_load, status_of_count};
 ghost use Rattle.command_outcomes.specs.Status.{status_of_comparison, status_where, status_for, exit_status};
-ghost use Rattle.command_outcomes.specs.Status.{status_of_worst};
+ghost use Rattle.command_outcomes.specs.Status.{status_of_worst, status_of_salvage};
 
 use crate::fault::Fault;
 use deck_runner::RunEnd;
@@ -11,6 +11,7 @@ use file_checker::{Reason, Verdict};
 use file_listing::FileList;
 use file_statistics::FileStatisticsEnd;
 use page_marks::FaultPlace;
+use salvaged_records::Salvage;
 use schema_listing::{Comparison, Refusal};
 use shelf_loading::{ShelfEnd, is_loaded};
 use std::io::{self, Write};
@@ -60,6 +61,8 @@ pub enum Outcome {
     Loaded(ShelfEnd),
     /// The pages of a file were counted, or it was found why not.
     Counted(FileStatisticsEnd),
+    /// The records of a file were salvaged, all of them or those that were found; or there are none.
+    Salvaged(Salvage),
 }
 
 /// The exit status that tells what became of the list of a file.
@@ -99,6 +102,16 @@ pub fn status_by_count(end: FileStatisticsEnd) -> u8
     match end {
         FileStatisticsEnd::Listed => 0,
         FileStatisticsEnd::Unsound(..) => 1,
+    }
+}
+
+/// The exit status that tells whether all records of a file were salvaged.
+pub fn status_by_salvage(end: Salvage) -> u8
+    ensures { result ≡ status_of_salvage end }
+{
+    match end {
+        Salvage::All(_) => 0,
+        Salvage::Slots(_) | Salvage::Unsound(_) => 1,
     }
 }
 
@@ -150,9 +163,18 @@ pub fn status_by_verdict(verdict: Verdict) -> u8
     }
 }
 
+/// Tells what was salvaged.
+fn tell_salvage<E: Write>(end: Salvage, err: &mut E) -> io::Result<()> {
+    match end {
+        Salvage::All(records) => writeln!(err, "salvaged {records} records, all of them"),
+        Salvage::Slots(records) => writeln!(err, "salvaged {records} records, in doubt"),
+        Salvage::Unsound(reason) => tell_reason(reason, FaultPlace::File, err),
+    }
+}
+
 impl Outcome {
-    /// Tells why a file has no schema or no list, was not made, or was not read, on standard error,
-    /// as far as that takes it, and answers the exit status.
+    /// Tells what was salvaged of a file, or why a file has no schema or no list, was not made, or
+    /// was not read, on standard error, as far as that takes it, and answers the exit status.
     fn report<E: Write>(self, err: &mut E) -> u8
         ensures { result ≡ status_for self }
     {
@@ -164,6 +186,9 @@ impl Outcome {
         }
         if let Outcome::Counted(FileStatisticsEnd::Unsound(reason, place)) = self {
             let _ = tell_reason(reason, place, err);
+        }
+        if let Outcome::Salvaged(end) = self {
+            let _ = tell_salvage(end, err);
         }
         if let Outcome::CheckedAll(WorstCheck::Unread) = self {
             let _ = writeln!(err, "{}", Fault::Input);
@@ -186,6 +211,7 @@ impl Outcome {
             Outcome::Records(list) => status_by_list(list),
             Outcome::Loaded(end) => status_by_load(end),
             Outcome::Counted(end) => status_by_count(end),
+            Outcome::Salvaged(end) => status_by_salvage(end),
             Outcome::Checked(verdict) => status_by_verdict(verdict),
             Outcome::CheckedAll(worst) => status_by_worst(worst),
         }

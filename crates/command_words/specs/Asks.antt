@@ -13,7 +13,7 @@ use Rattle.command_words.specs.declared.form_words.FormWords.{FormWords}
 use Rattle.command_words.specs.declared.request.Request.{Request}
 use Rattle.command_words.specs.declared.request.Request.TheVariants.{Run, Check, Serve, Schema, Explain, Deck}
 use Rattle.command_words.specs.declared.request.Request.TheVariants.{List as ListRecords, Cobol, Load, Stat}
-use Rattle.command_words.specs.declared.request.Request.TheVariants.{Help}
+use Rattle.command_words.specs.declared.request.Request.TheVariants.{Salvage, Help}
 
 -- the text is this number
 abbrev pub IsNumber : ℕ → Text → ℕ → Type 0
@@ -187,6 +187,12 @@ pub record IsStat (met : Option (Text × List Row)) (file : Text) : Type 0 where
   pub is : met ≡ Some (codes "stat", rows)
   pub file_given : first_of (codes "file") rows ≡ Some file
 
+-- the subcommand that was met is to salvage the records of this file
+pub record IsSalvageRequest (met : Option (Text × List Row)) (file : Text) : Type 0 where
+  pub rows : List Row
+  pub is : met ≡ Some (codes "salvage", rows)
+  pub file_given : first_of (codes "file") rows ≡ Some file
+
 -- the subcommand that was met, with its values, is what is asked for
 abbrev pub IsRequestMet : Option (Text × List Row) → Request → Type 0
 IsRequestMet met (Run deck folder limits strict wait) =
@@ -206,6 +212,7 @@ IsRequestMet met (Cobol deck fixed) = IsCobol met deck.now fixed
 IsRequestMet met (Load deck folder file text form into limits quiet) =
     IsLoad met deck.now folder.now file.now text.now form.now into limits.pages limits.frames.value quiet
 IsRequestMet met (Stat file) = IsStat met file.now
+IsRequestMet met (Salvage file) = IsSalvageRequest met file.now
 IsRequestMet met (Help text) = ⊥
 
 -- the subcommand that was met is no run, or its values are none that a run can have; and so of each
@@ -243,6 +250,9 @@ IsNoLoad met = (deck folder file text form : Text) (into : Bool) (pages frames :
 abbrev pub IsNoStat : Option (Text × List Row) → Type 0
 IsNoStat met = (file : Text) → ¬ (IsStat met file)
 
+abbrev pub IsNoSalvage : Option (Text × List Row) → Type 0
+IsNoSalvage met = (file : Text) → ¬ (IsSalvageRequest met file)
+
 -- it is no run, session, schema, explanation or list of a deck
 pub record IsNoRunOrList (met : Option (Text × List Row)) : Type 0 where
   pub no_run : IsNoRun met
@@ -251,12 +261,13 @@ pub record IsNoRunOrList (met : Option (Text × List Row)) : Type 0 where
   pub no_explain : IsNoExplain met
   pub no_deck : IsNoDeckList met
 
--- and no list of records, no program in COBOL, no load and no count
+-- and no list of records, no program in COBOL, no load, no count and no salvage
 pub record IsNoRecords (met : Option (Text × List Row)) : Type 0 where
   pub no_list : IsNoList met
   pub no_cobol : IsNoCobol met
   pub no_load : IsNoLoad met
   pub no_stat : IsNoStat met
+  pub no_salvage : IsNoSalvage met
 
 -- it is none of these, and no check
 pub record IsNone (met : Option (Text × List Row)) : Type 0 where
@@ -333,6 +344,10 @@ AskLoad words deck folder file text form into pages frames quiet =
 abbrev pub AskStat : List Text → (file : Text) → Type 0
 AskStat words file = AreFaultless words × IsStat (subcommand_of program_app words) file
 
+-- to salvage the records of this file
+abbrev pub AskSalvage : List Text → (file : Text) → Type 0
+AskSalvage words file = AreFaultless words × IsSalvageRequest (subcommand_of program_app words) file
+
 -- to wait so many seconds for a lock that another run has
 abbrev pub AskWait : List Text → (seconds : ℕ) → Type 0
 AskWait words seconds = AreFaultless words × IsWaitMet (subcommand_of program_app words) seconds
@@ -360,6 +375,7 @@ Ask words (Cobol deck fixed) = AskCobol words deck.now fixed
 Ask words (Load deck folder file text form into limits quiet) =
     AskLoad words deck.now folder.now file.now text.now form.now into limits.pages limits.frames.value quiet
 Ask words (Stat file) = AskStat words file.now
+Ask words (Salvage file) = AskSalvage words file.now
 Ask words (Help text) = AskHelp words text
 
 -- for nothing, and the text tells why

@@ -135,6 +135,10 @@ load_shape = record (new_shape (codes "load")) {
 abbrev pub stat_shape : Shape
 stat_shape = record (new_shape (codes "stat")) { rules = word_rule (codes "file") ∷ [] }
 
+-- `salvage FILE`
+abbrev pub salvage_shape : Shape
+salvage_shape = record (new_shape (codes "salvage")) { rules = word_rule (codes "file") ∷ [] }
+
 -- the program with its version, and before its subcommands
 abbrev pub versioned_shape : Shape
 versioned_shape = record (new_shape (codes "cobix")) { has_version = true }
@@ -171,10 +175,18 @@ records_app = record {
       cobol_shape ∷ [];
 }
 
--- one of these, to load records or to count what a file has, or help or the version
+-- and to load records, or to count what a file has
+abbrev pub loads_app : App
+loads_app = record {
+  top = record program_shape { is_leaf = false };
+  subs = run_shape ∷ check_shape ∷ serve_shape ∷ schema_shape ∷ explain_shape ∷ deck_shape ∷ list_shape ∷
+      cobol_shape ∷ load_shape ∷ stat_shape ∷ [];
+}
+
+-- one of these, to salvage the records of a file, or help or the version
 abbrev pub program_app : App
 program_app = record {
   top = record program_shape { is_leaf = false };
   subs = run_shape ∷ check_shape ∷ serve_shape ∷ schema_shape ∷ explain_shape ∷ deck_shape ∷ list_shape ∷
-      cobol_shape ∷ load_shape ∷ stat_shape ∷ [];
+      cobol_shape ∷ load_shape ∷ stat_shape ∷ salvage_shape ∷ [];
 }

@@ -6,7 +6,7 @@ ghost use Rattle.command_words.specs.Asks.{AreLimits, IsQuietRequest, IsWaitRequ
 ghost use Rattle.command_words.specs.Asks.{IsRequestMet, IsNoRun};
 ghost use Rattle.command_words.specs.Asks.{IsNoCheck, IsNoServe, IsNoSchema, IsNoExplain, IsNoDeckList};
 ghost use Rattle.command_words.specs.Asks.{IsNoList, IsNoCobol, IsNoLoad, IsNoStat, IsNoRunOrList};
-ghost use Rattle.command_words.specs.Asks.{IsNoRecords, IsNone};
+ghost use Rattle.command_words.specs.Asks.{IsNoSalvage, IsNoRecords, IsNone};
 
 use crate::form_words::FormWords;
 use crate::limits::Limits;
@@ -235,6 +235,16 @@ fn stat_of<'a>(matches: &ArgMatches<'a>) -> Option<Request<'a>>
     Some(Request::Stat { file })
 }
 
+/// The salvage that the matches ask for, if they ask for one.
+fn salvage_of<'a>(matches: &ArgMatches<'a>) -> Option<Request<'a>>
+    ensures some { IfSome result (IsRequestMet (subcommand_rows_of matches.now)) }
+    ensures none { result ≡ None → IsNoSalvage (subcommand_rows_of matches.now) }
+{
+    let salvage = met(matches, "salvage")?;
+    let file = salvage.get_str("file")?;
+    Some(Request::Salvage { file })
+}
+
 /// A run, a session, a schema, an explanation or the list of a deck that the matches ask for, if
 /// they ask for one.
 fn run_or_list_of<'a>(matches: &ArgMatches<'a>) -> Option<Request<'a>>
@@ -256,7 +266,8 @@ fn run_or_list_of<'a>(matches: &ArgMatches<'a>) -> Option<Request<'a>>
     deck_of(matches)
 }
 
-/// A list of records, a program in COBOL, a load or a count that the matches ask for, if they ask for one.
+/// A list of records, a program in COBOL, a load, a count or a salvage that the matches ask for, if
+/// they ask for one.
 fn records_of<'a>(matches: &ArgMatches<'a>) -> Option<Request<'a>>
     ensures some { IfSome result (IsRequestMet (subcommand_rows_of matches.now)) }
     ensures none { result ≡ None → IsNoRecords (subcommand_rows_of matches.now) }
@@ -270,7 +281,10 @@ fn records_of<'a>(matches: &ArgMatches<'a>) -> Option<Request<'a>>
     if let Some(load) = load_of(matches) {
         return Some(load);
     }
-    stat_of(matches)
+    if let Some(stat) = stat_of(matches) {
+        return Some(stat);
+    }
+    salvage_of(matches)
 }
 
 /// What the matches ask for.

@@ -165,6 +165,22 @@ Exit status:
   4   the file could not be read ('cobix: input'), the lines could not be written ('cobix: output'), or \
 memory ran out ('cobix: memory')";
 
+/// What is salvaged of a file.
+pub const SALVAGED: &str =
+    "FILE is a file that OPEN refuses with 91: a run or a load was killed and left its gate open, or the file \
+was damaged. It is read, and not changed. Each line is a record in brackets, which 'cobix load' takes into a \
+new file.
+
+Exit status:
+  0   'salvaged R records, all of them' on standard error: with its gate closed the file is sound, and these \
+are exactly its records, in the order of the prime key
+  1   'salvaged R records, in doubt': the records in all slots that are in use, page by page. Nothing more is \
+known of them, and a prime value may come twice
+      'unsound N', as of 'cobix check': the first page is not that of a file; no line was written
+  3   the command line is not understood
+  4   the file could not be read ('cobix: input'), the lines could not be written ('cobix: output'), or \
+memory ran out ('cobix: memory')";
+
 /// What a load answers.
 pub const LOADED: &str =
     "TEXT is what 'cobix list' writes in the same form. The lines are read first, and then written one after \

@@ -88,6 +88,10 @@ pub enum Request<'a> {
     Stat {
         file: &'a str,
     },
+    /// The records of the file of this path, whether or not its gate is closed.
+    Salvage {
+        file: &'a str,
+    },
     /// This text: help, or the version.
     Help(Error),
 }

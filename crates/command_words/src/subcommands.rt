@@ -9,14 +9,16 @@ ghost use Rattle.command_words.specs.Commands.{with_file_words};
 ghost use Rattle.command_words.specs.Commands.{with_text};
 ghost use Rattle.command_words.specs.CommandLine.{run_shape, check_shape, serve_shape, schema_shape};
 ghost use Rattle.command_words.specs.CommandLine.{explain_shape, deck_shape, list_shape, cobol_shape};
-ghost use Rattle.command_words.specs.CommandLine.{load_shape, stat_shape, versioned_shape, program_shape};
-ghost use Rattle.command_words.specs.CommandLine.{runs_app, schemas_app, lists_app, records_app, program_app};
+ghost use Rattle.command_words.specs.CommandLine.{load_shape, stat_shape, salvage_shape};
+ghost use Rattle.command_words.specs.CommandLine.{versioned_shape, program_shape, runs_app, schemas_app};
+ghost use Rattle.command_words.specs.CommandLine.{lists_app, records_app, loads_app, program_app};
 
 use crate::arguments::{
     deck, first, flag, folder, name, number, option, text, usual, wait, word, words,
 };
 use crate::help::{
-    ANSWERS, COBOL, COUNTED, EXPLAINED, LISTED, LOADED, REASONS, RECORDS, SCHEMA, SERVING, VERSION,
+    ANSWERS, COBOL, COUNTED, EXPLAINED, LISTED, LOADED, REASONS, RECORDS, SALVAGED, SCHEMA,
+    SERVING, VERSION,
 };
 use clap::{Arg, Command};
 use std::alloc::{AllocError, Global};
@@ -401,6 +403,25 @@ fn stat_command<'a>(alloc: Global) -> Result<Command<'a>, AllocError>
     stat.arg(file)
 }
 
+/// `salvage`.
+fn salvage_command<'a>(alloc: Global) -> Result<Command<'a>, AllocError>
+    ensures { IfOk result (HasShape salvage_shape) }
+{
+    let file = word(
+        alloc,
+        "file",
+        "FILE",
+        "The file whose records are salvaged; it is not changed",
+    );
+    let salvage = named(
+        alloc,
+        "salvage",
+        "Lists the records that are left in a file that is refused",
+        SALVAGED,
+    );
+    salvage.arg(file)
+}
+
 /// The program, with its version.
 fn versioned<'a>(alloc: Global) -> Command<'a>
     ensures { HasShape versioned_shape result }
@@ -462,10 +483,17 @@ fn with_records<'a>(alloc: Global) -> Result<Command<'a>, AllocError>
     with_added(list, cobol_command(alloc))
 }
 
+/// The program with these, and those that load records or count what a file has.
+fn with_loads<'a>(alloc: Global) -> Result<Command<'a>, AllocError>
+    ensures { IfOk result (IsApp loads_app) }
+{
+    let load = with_added(with_records(alloc), load_command(alloc));
+    with_added(load, stat_command(alloc))
+}
+
 /// The program with all its subcommands.
 pub fn command<'a>(alloc: Global) -> Result<Command<'a>, AllocError>
     ensures { IfOk result (λ command. app_of command ≡ program_app) }
 {
-    let load = with_added(with_records(alloc), load_command(alloc));
-    with_added(load, stat_command(alloc))
+    with_added(with_loads(alloc), salvage_command(alloc))
 }

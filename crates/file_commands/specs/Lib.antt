@@ -7,4 +7,5 @@ pub mod Listed
 pub mod Verdicts
 pub mod Schema
 pub mod Counted
+pub mod Salvaged
 pub mod Differing

@@ -1,5 +1,6 @@
-//! Commands that look into a file and change none: the check of files, the list of records, the
-//! schema, the count of pages, and the list of a deck and its program in COBOL.
+//! Commands that look into a file and change none: the check of files, the list of records, those
+//! that are left in a file, the schema, the count of pages, and the list of a deck and its program
+//! in COBOL.
 //!
 //! Each is given the words that ask for it and a `System`, writes to the output, and answers the
 //! `Outcome` or the `Fault`. Its clauses say what was written of which bytes: those that the calls
@@ -20,6 +21,7 @@ mod file_bytes;
 mod first_page;
 mod forms;
 mod listing;
+mod salvaging;
 mod shown;
 mod text;
 mod verdict;
@@ -33,4 +35,5 @@ pub use differing::{differences_at, path_in};
 pub use file_bytes::{read_deck_bytes, read_text};
 pub use first_page::schema;
 pub use listing::{Bounds, list_records};
+pub use salvaging::salvage_path;
 pub use verdict::{check_path, check_paths};

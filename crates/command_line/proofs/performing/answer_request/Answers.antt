@@ -4,8 +4,8 @@ use Rattle.command_words.specs.Asks.{Ask, AskCheck}
 use Rattle.recorded_system.proofs.ReadingLemmas.{by_none}
 use Rattle.file_commands.specs.Verdicts.{paths_of}
 use Rattle.command_line.proofs.CallsMadeLemmas.{reads_alone}
-use Rattle.command_line.proofs.DidLemmas.{for_schema, for_records, for_load, did_list, did_schema, did_help, did_explain, did_check, did_checks, did_count, did_deck, served_did}
-use Rattle.command_line.proofs.RightLemmas.{right_help, right_explained, right_check, right_checks, right_count, right_listed, right_cobol, right_schema, right_list}
+use Rattle.command_line.proofs.DidLemmas.{for_schema, for_records, for_load, did_list, did_schema, did_help, did_explain, did_check, did_checks, did_count, did_salvage, did_deck, served_did}
+use Rattle.command_line.proofs.RightLemmas.{right_help, right_explained, right_check, right_checks, right_count, right_salvage, right_listed, right_cobol, right_schema, right_list}
 use Rattle.command_line.proofs.CameLemmas.{run_did, run_came, serve_came, load_did, load_came}
 use Rattle.command_outcomes.specs.declared.outcome.Outcome.TheVariants.{Listed, InCobol}
 use Rattle.std.specs.Prelude.{⊤}
@@ -114,6 +114,20 @@ returns-in-Stat-clause-came g c words is =
     rw c.without_run-in-Stat.ensures (inl (reads_alone words input g.W.Write.contents c.args.out.now c.count_path-counted.new.out c.args.aside.now.calls c.requires.none_aside held (g.S.System.state c.count_path-counted.new.system) c.requires.held
     c.count_path-counted.result c.count_path-counted.ensures (c.args.request, rw c.in-Stat.is tt, is)
     (λ calls so. right_count words calls input g.W.Write.contents c.args.out.now c.count_path-counted.new.out c.in-Stat.file.now asked c.count_path-counted.result so)))
+
+pub returns-in-Salvage-clause-did : goal.returns-in-Salvage-clause-did
+returns-in-Salvage-clause-did g c words is =
+    let asked = subst (Ask words) c.in-Salvage.is is in
+    rw c.without_run-in-Salvage.ensures (did_salvage words c.in-Salvage.file.now asked _ c.salvage_path-salvaged.result c.salvage_path-salvaged.ensures.so.right c.salvage_path-salvaged.ensures.so.fault)
+
+pub returns-in-Salvage-clause-came : goal.returns-in-Salvage-clause-came
+returns-in-Salvage-clause-came g c words is =
+    let asked = subst (Ask words) c.in-Salvage.is is in
+    let input = g.I.Read.remaining c.args.input.now.reader in
+    let held = g.S.System.state c.args.system in
+    rw c.without_run-in-Salvage.ensures (inl (reads_alone words input g.W.Write.contents c.args.out.now c.salvage_path-salvaged.new.out c.args.aside.now.calls c.requires.none_aside held (g.S.System.state c.salvage_path-salvaged.new.system) c.requires.held
+    c.salvage_path-salvaged.result c.salvage_path-salvaged.ensures (c.args.request, rw c.in-Salvage.is tt, is)
+    (λ calls so. right_salvage words calls input g.W.Write.contents c.args.out.now c.salvage_path-salvaged.new.out c.in-Salvage.file.now asked c.salvage_path-salvaged.result so)))
 
 pub returns-in-Cobol-clause-did : goal.returns-in-Cobol-clause-did
 returns-in-Cobol-clause-did g c words is =

@@ -6,5 +6,6 @@ returns-clause-none c =
       no_list = c.list_of.ensures.none c.in_default.is;
       no_cobol = c.cobol_of.ensures.none c.in_default-cobol_of.is;
       no_load = c.load_of.ensures.none c.in_default-load_of.is;
-      no_stat = c.stat_of.ensures.none none;
+      no_stat = c.stat_of.ensures.none c.in_default-stat_of.is;
+      no_salvage = c.salvage_of.ensures.none none;
     }

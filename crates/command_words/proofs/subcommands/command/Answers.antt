@@ -1,9 +1,8 @@
 use Rattle.std.proofs.lemmas.Result.{IfOk-weaker}
-use Rattle.command_words.specs.CommandLine.{load_shape, stat_shape}
+use Rattle.command_words.specs.CommandLine.{salvage_shape}
 use Rattle.command_words.proofs.subcommands.command.Goals as goal
 
 pub returns : goal.returns
 returns c =
-    let loads = c.with_added-load.ensures _ load_shape c.with_records.ensures c.load_command.ensures in
     IfOk-weaker c.with_added.result _ _ (λ command is. is.shape)
-    (c.with_added.ensures _ stat_shape loads c.stat_command.ensures)
+    (c.with_added.ensures _ salvage_shape c.with_loads.ensures c.salvage_command.ensures)
