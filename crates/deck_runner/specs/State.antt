@@ -7,6 +7,7 @@ use Rattle.io_state.specs.declared.statement.FileStatement.TheVariants.{Write, R
 use Rattle.io_state.specs.declared.status.Status.TheVariants.{PermanentError}
 use Rattle.indexed_file.specs.Calls.{Keeps, HasRisen}
 use Rattle.indexed_file.specs.Shown.{Shown}
+use Rattle.verbs.specs.Faults.{OutOfMemoryIsCaused}
 use Rattle.deck_runner.specs.declared.running_deck.RunningDeck.{RunningDeck}
 use Rattle.deck_runner.specs.Line.{Line}
 use Rattle.deck_runner.specs.Run.{Run}
@@ -69,14 +70,16 @@ is_close Rewrite = false
 is_close Delete = false
 
 -- what is so of a line in a library that need not be believed: its name is that of a file of the
--- deck, and 30 is answered by a CLOSE alone where the device has met no fault
-pub record IsLineOf (names : List (List ℕ)) (old new : ℕ) (line : Line) : Type 0 where
+-- deck; 30 is answered by a CLOSE alone where the device has met no fault; and 90 by an OPEN alone
+-- where no call on an open unit may want memory
+pub record IsLineOf (names : List (List ℕ)) (may_want_memory : Bool) (old new : ℕ) (line : Line) : Type 0 where
   pub name : Contains names line.name
   pub cause : line.status ≡ PermanentError → HasRisen old new ⊎ IsTrue (is_close line.statement)
+  pub memory : OutOfMemoryIsCaused line.statement may_want_memory line.status
 
 abbrev pub AreLinesOf : {S : Type 0} → Shown S → List (List ℕ) → (old new : S) → List Line → Type 0
-AreLinesOf library names old new lines = All (IsLineOf names (library.fault_count old)
-    (library.fault_count new)) lines
+AreLinesOf library names old new lines = All (IsLineOf names library.may_want_memory
+    (library.fault_count old) (library.fault_count new)) lines
 
 -- such steps lead from the one state to the other with these lines, where the library has not lied
 -- by then and what it showed was true before

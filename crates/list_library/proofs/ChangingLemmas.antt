@@ -62,7 +62,7 @@ module _
       → IfErr r (λ fault. fault ≢ Full → LeavesBroken u true start (list_world_of new) × MayAnswer shown_in_memory u old new fault)
   faults (Ok x) held = tt
   faults (Err Device) held = absurd held.fault
-  faults (Err Memory) held = λ other. (record { holding = ap (λ (unit : FileUnit). unit.holding) (is ∙ held.fault.1) ∙ ap (λ (unit : FileUnit). Broken (schema_in unit.holding)) (sym was); named = λ honest. first_of (search rules, grind (arith, common_steps)) }, subst (λ (unit : FileUnit). IsFalse (is_broken unit.holding)) (sym was) held.fault.0)
+  faults (Err Memory) held = λ other. (record { holding = ap (λ (unit : FileUnit). unit.holding) (is ∙ held.fault.1) ∙ ap (λ (unit : FileUnit). Broken (schema_in unit.holding)) (sym was); named = λ honest. first_of (search rules, grind (arith, common_steps)) }, (subst (λ (unit : FileUnit). IsFalse (is_broken unit.holding)) (sym was) held.fault.0, refl))
   faults (Err Full) held = λ other. absurd (other refl)
   faults (Err Damage) held = absurd held.fault
   faults (Err BrokenUnit) held = λ other. (record { holding = ap (λ (unit : FileUnit). unit.holding) (is ∙ held.fault.1) ∙ (broken_holds before.holding held.fault.0 ∙ ap (λ (unit : FileUnit). Broken (schema_in unit.holding)) (sym was)); named = λ honest. first_of (search rules, grind (arith, common_steps)) }, subst (λ (unit : FileUnit). IsTrue (is_broken unit.holding)) (sym was) held.fault.0)

@@ -11,13 +11,15 @@ abbrev pub list_world_of : ListLibrary → World
 list_world_of library = record { units = library.units.items; elsewhere = named_among library.others.items }
 
 -- it is always honest, and what it shows of a name is true where the name stands for a file; no
--- device fails, its files have no limits and no pages, and a crash leaves nothing of them
+-- device fails, a record that is stored may want memory, its files have no limits and no pages, and
+-- a crash leaves nothing of them
 abbrev pub shown_in_memory : Shown ListLibrary
 shown_in_memory = record {
   world = list_world_of;
   is_honest = λ library. true;
   IsShownTruly = λ library name. ShowsFiles (list_world_of library) name;
   fault_count = λ library. 0;
+  may_want_memory = true;
   page_limit = λ library. None;
   frames = λ library. None;
   room = λ library u. Endless;

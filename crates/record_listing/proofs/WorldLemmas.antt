@@ -101,5 +101,9 @@ module _ {S : Type 0} (shown : Shown S) where
 
   -- a fault of a unit that is not broken
   pub unbroken_fault : (a b : S) (broken : Bool) (fault : Fault) → broken ≡ false
-      → MayFail broken (shown.is_honest b) (shown.IsShownTruly a (name_at (shown.world a) 0)) (shown.fault_count a) (shown.fault_count b) fault → MayAnswerShut shown 0 a b fault
-  unbroken_fault a b broken fault is may = subst (λ (x : Bool). MayFail x (shown.is_honest b) (shown.IsShownTruly a (name_at (shown.world a) 0)) (shown.fault_count a) (shown.fault_count b) fault) is may
+      → MayFail shown.may_want_memory broken (shown.is_honest b) (shown.IsShownTruly a (name_at (shown.world a) 0)) (shown.fault_count a) (shown.fault_count b) fault → MayAnswerShut shown 0 a b fault
+  unbroken_fault a b broken Device is may = may
+  unbroken_fault a b broken Memory is may = (refl, refl)
+  unbroken_fault a b broken Full is may = may
+  unbroken_fault a b broken Damage is may = (refl, may.1)
+  unbroken_fault a b broken BrokenUnit is may = subst (λ (x : Bool). IsTrue x) is may

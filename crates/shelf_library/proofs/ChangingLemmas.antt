@@ -136,11 +136,11 @@ module _ (u : ℕ) (file after : ShelfFile) (old new : LibraryState) (call : Mov
     -- a fault other than Full
     pub fault_after : (result : Result X Fault) → Change result
         → IfErr result (λ fault. fault ≢ Full → LeavesBroken u new.shelf.is_honest before now
-        × MayFail (is_broken (holding_at before u)) new.shelf.is_honest (IsShownTruly old.shelf old.held (name_at before u)) old.faults new.faults fault)
+        × MayFail false (is_broken (holding_at before u)) new.shelf.is_honest (IsShownTruly old.shelf old.held (name_at before u)) old.faults new.faults fault)
     fault_after (Ok x) change = tt
     fault_after (Err fault) change = λ other. (
       leaves_broken (change.breaks.breaks other) change.changes.keeps.schema,
-      subst (λ (b : Bool). MayFail b new.shelf.is_honest (IsShownTruly old.shelf old.held (name_at before u)) old.faults new.faults fault) (sym broken_before)
+      subst (λ (b : Bool). MayFail false b new.shelf.is_honest (IsShownTruly old.shelf old.held (name_at before u)) old.faults new.faults fault) (sym broken_before)
           (may_fail (is_broken_file file) new.shelf.is_honest (IsShownTruly old.shelf old.held (name_at before u)) _ old.faults new.faults fault change.breaks.cause
           (λ broken. (change.breaks.broken broken).0) (no_damage fault change) other),
     )

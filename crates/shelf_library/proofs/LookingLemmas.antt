@@ -1,5 +1,5 @@
 -- A unit that was looked at.
-use Rattle.std.proofs.Common.{◌≡◌, ◌≢◌, inl, inr, ℕ, Bool, false, List, Option, Some, None, IsTrue, IsFalse, IfOk, IfErr, OnOk, OnErr, Result, Ok, Err, refl, sym, ap, subst, ◌∙◌}
+use Rattle.std.proofs.Common.{◌≡◌, ◌≢◌, inl, inr, ℕ, Bool, true, false, List, Option, Some, None, IsTrue, IsFalse, IfOk, IfErr, OnOk, OnErr, Result, Ok, Err, refl, sym, ap, subst, ◌∙◌}
 use Rattle.page_store.specs.ShelfState.{FaultHasCause}
 use Rattle.shelf_file.specs.Shelves.{HasHeader}
 use Rattle.shelf_library.specs.Told.{held_by, seen_by, seen_after}
@@ -42,11 +42,11 @@ looked_by (Ok (Accepted other)) header is = let same : other ≡ header = cc in 
 looked_by (Err fault) header is = absurd (cc)
 
 -- a fault that the shelf may answer
-look_fault : (is_honest : Bool) (truly : Type 0) (old new : ℕ) (look : Result Look Fault) → FaultHasCause old new look → IfErr (seen_after look) (MayFail false is_honest truly old new)
+look_fault : (is_honest : Bool) (truly : Type 0) (old new : ℕ) (look : Result Look Fault) → FaultHasCause old new look → IfErr (seen_after look) (MayFail true false is_honest truly old new)
 look_fault is_honest truly old new (Ok found) cause = tt
 look_fault is_honest truly old new (Err fault) cause =
     let same : fault ≡ Device = cause.device in
-    subst (MayFail false is_honest truly old new) (sym same) (has_risen old new cause.counted)
+    subst (MayFail true false is_honest truly old new) (sym same) (has_risen old new cause.counted)
 
 module _ (u : ℕ) (look : Result Look Fault) (old new : LibraryState) (call : LooksAt u look old new) where
   look_changes : ChangesAt u (held_after look) old.shelf new.shelf old.held new.held

@@ -1,5 +1,5 @@
 -- The file of a unit, opened by the header that a look had accepted.
-use Rattle.std.proofs.Common.{◌≡◌, ◌≢◌, ℕ, false, Bool, List, IsTrue, IsFalse, IfOk, IfErr, OnOk, OnErr, Result, Ok, Err, refl, sym, ap, subst}
+use Rattle.std.proofs.Common.{◌≡◌, ◌≢◌, ℕ, true, false, Bool, List, IsTrue, IsFalse, IfOk, IfErr, OnOk, OnErr, Result, Ok, Err, refl, sym, ap, subst}
 use Rattle.std.proofs.Common.{◌∙◌, arith}
 use Rattle.std.specs.Prelude.{Option}
 use Rattle.indexed_file.specs.Room.{PageCounts}
@@ -20,11 +20,11 @@ use Rattle.shelf_file.proofs.AcceptedLemmas.{accepted_looks, accepted_there, acc
 use Rattle.shelf_library.proofs.OpensLemmas.{nothing_fits, open_fits, open_holding, is_opened, opens_unit}
 
 -- only want of memory keeps a file from being opened
-pub want_of_memory : (is_honest : Bool) (truly : Type 0) (old new : ℕ) (r : Result ShelfFile Fault) → OnErr r (r ≡ Err Memory) → IfErr r (MayFail false is_honest truly old new)
+pub want_of_memory : (is_honest : Bool) (truly : Type 0) (old new : ℕ) (r : Result ShelfFile Fault) → OnErr r (r ≡ Err Memory) → IfErr r (MayFail true false is_honest truly old new)
 want_of_memory is_honest truly old new (Ok file) is = tt
 want_of_memory is_honest truly old new (Err fault) is =
     let same : fault ≡ Memory = cc in
-    subst (λ (e : Fault). MayFail false is_honest truly old new e) (sym same) refl
+    subst (λ (e : Fault). MayFail true false is_honest truly old new e) (sym same) (refl, refl)
 
 memory_alone : (r : Result ShelfFile Fault) → OnErr r (r ≡ Err Memory) → IfErr r (λ fault. fault ≢ Damage)
 memory_alone (Ok file) is = tt

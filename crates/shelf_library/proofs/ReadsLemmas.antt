@@ -1,5 +1,5 @@
 -- What a call that only reads promises of its unit.
-use Rattle.std.proofs.Common.{◌≡◌, ◌≢◌, inl, inr, ℕ, ◌+◌, ◌≤◌, ◌<◌, length, Bool, List, IsTrue, IfErr, Result, Err, sym, ap, subst, ◌∙◌}
+use Rattle.std.proofs.Common.{◌≡◌, ◌≢◌, inl, inr, ℕ, ◌+◌, ◌≤◌, ◌<◌, length, Bool, false, List, IsTrue, IfErr, Result, Err, sym, ap, subst, ◌∙◌}
 use Rattle.indexed_file.specs.UnitCalls.{ReadsUnit}
 use Rattle.page_alloc.specs.Joining.{available_of}
 use Rattle.open_file.specs.Stands.{room_of}
@@ -112,7 +112,7 @@ module _ {S : Type 0} (state : S → LibraryState) (a b : S) (u : ℕ) (file aft
     world = reads_world;
     pages = reads_pages;
     broken = λ is. broken (sym broken_is ∙ is);
-    fault = subst (λ (fails : Bool). IfErr result (MayFail fails new.shelf.is_honest (IsShownTruly old.shelf old.held (name_at (world_of old.shelf old.held) u)) old.faults new.faults)) (sym broken_is)
+    fault = subst (λ (fails : Bool). IfErr result (MayFail false fails new.shelf.is_honest (IsShownTruly old.shelf old.held (name_at (world_of old.shelf old.held) u)) old.faults new.faults)) (sym broken_is)
         (faults_are (is_broken_file file) new.shelf.is_honest (IsShownTruly old.shelf old.held (name_at (world_of old.shelf old.held) u)) old.faults new.faults result cause broken no_damage);
     images = λ honest truly. reads_images honest;
     others = others_at state u (Opened after) a b call.units at;

@@ -190,7 +190,7 @@ module _ {S : Type 0} (state : S → LibraryState) (u : ℕ) (file : ShelfFile) 
   shuts_unit = record {
     shut = holding_after u Nothing (state old).shelf (state new).shelf (state old).held (state new).held call.units changed_at;
     only = only_here u Nothing (state old).shelf (state new).shelf (state old).held (state new).held call.units changed_at;
-    fault = subst (λ (b : Bool). IfErr result (MayFail b (state new).shelf.is_honest (IsShownTruly (state old).shelf (state old).held name) (state old).faults (state new).faults))
+    fault = subst (λ (b : Bool). IfErr result (MayFail false b (state new).shelf.is_honest (IsShownTruly (state old).shelf (state old).held name) (state old).faults (state new).faults))
         (sym (broken_shown u file (state old) call.units call.attached call.opened))
         (faults_are (is_broken_file file) (state new).shelf.is_honest (IsShownTruly (state old).shelf (state old).held name) (state old).faults (state new).faults result
         call.close.cause call.close.broken (λ honest truly. call.close.damage));

@@ -1,5 +1,5 @@
 -- What a library over a shelf shows.
-use Rattle.std.specs.Prelude.{Some}
+use Rattle.std.specs.Prelude.{Some, false}
 use Rattle.indexed_file.specs.Shown.{Shown}
 use Rattle.shelf_library.specs.State.{LibraryState, held_at}
 use Rattle.page_store.specs.ShelfState.{unit_file}
@@ -13,6 +13,7 @@ shown_by state = record {
   is_honest = λ library. (state library).shelf.is_honest;
   IsShownTruly = λ library name. IsShownTruly (state library).shelf (state library).held name;
   fault_count = λ library. (state library).faults;
+  may_want_memory = false;
   page_limit = λ library. Some (state library).limit;
   frames = λ library. Some (state library).frames;
   room = λ library u. room_of_held (held_at (state library).held u);

@@ -51,6 +51,7 @@ module _
         (stays both.0, both.1);
     failed_close = done.failed_close;
     cause = subst (λ (m : ℕ). StatusHasCause statement held.connector.session answer.status m (shown.fault_count new)) restarts.count done.cause;
+    memory = done.memory;
     step = λ honest truly standing.
         subst (λ (w : World). Performs statement n (state_of held w u area) answer (state_in shown u (in_memory left new next))) restarts.world
         (done.step honest (truly_then truly) (stands standing));
@@ -98,6 +99,7 @@ module _
         known = λ late. let both = done.known late in (stays both.0, both.1);
         failed_close = done.failed_close;
         cause = done.cause;
+        memory = done.memory;
         step = done.step;
         standing = done.standing;
         room = done.room;

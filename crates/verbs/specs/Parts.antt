@@ -14,7 +14,7 @@ use Rattle.indexed_file.specs.Believed.{Believed}
 use Rattle.indexed_file.specs.Images.{Trace, CallGoes}
 use Rattle.indexed_file.specs.Calls.{Keeps}
 use Rattle.verbs.specs.Connector.{Session, FileState, Outcome, file_of, answers}
-use Rattle.verbs.specs.Faults.{is_boundary_violation}
+use Rattle.verbs.specs.Faults.{is_boundary_violation, OutOfMemoryIsCaused}
 use Rattle.verbs.specs.Fits.{Fits, HasSoundFile, MakesFile, IsStanding, LearnsHighest, PermanentErrorIsCaused}
 use Rattle.verbs.specs.Fits.{is_late_in, knows_late}
 use Rattle.verbs.specs.Full.{TellsRoom}
@@ -149,6 +149,7 @@ module _ {S : Type 0} (shown : Shown S) (u : ℕ) where
       (now : Held) (after : S) : Type 0 where
     pub part : IsPart shown u (trace_of_change_by status)
         (in_memory held library []) status (in_memory now after [])
+    pub memory : OutOfMemoryIsCaused update.statement shown.may_want_memory status
     pub change : Believed shown u library after (IsChangeMade shown u update
         (in_memory held library []) status (in_memory now after []))
     pub standing : StaysStanding shown u (in_memory held library []) (in_memory now after [])
@@ -160,6 +161,7 @@ module _ {S : Type 0} (shown : Shown S) (u : ℕ) where
       (now : Held) (after : S) : Type 0 where
     pub part : IsPart shown u (trace_of_change_by status)
         (in_memory held library []) status (in_memory now after [])
+    pub memory : OutOfMemoryIsCaused Write shown.may_want_memory status
     pub change : Believed shown u library after (IsChangeMade shown u (storing bytes)
         (in_memory held library []) status (in_memory now after []))
     pub standing : is_late_in held (shown.world library) u bytes ≡ false
@@ -172,6 +174,7 @@ module _ {S : Type 0} (shown : Shown S) (u : ℕ) where
       (now : Held) (after : S) : Type 0 where
     pub part : IsPart shown u (trace_of_change_by status)
         (in_memory held library []) status (in_memory now after [])
+    pub memory : OutOfMemoryIsCaused Write shown.may_want_memory status
     pub change : Trusted shown u (in_memory held library []) (in_memory now after [])
         (IsChangeMade shown u (writing bytes)
         (in_memory held library []) status (in_memory now after []))

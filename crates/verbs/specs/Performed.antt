@@ -14,6 +14,7 @@ use Rattle.indexed_file.specs.Images.{ImagesGo}
 use Rattle.indexed_file.specs.Calls.{Keeps, HasRisen}
 use Rattle.verbs.specs.declared.answer.Answer.{Answer}
 use Rattle.verbs.specs.Connector.{Session, FileState}
+use Rattle.verbs.specs.Faults.{OutOfMemoryIsCaused}
 use Rattle.verbs.specs.Fits.{Fits, IsStanding, asks, closes_failed, has_failed, key_of_session}
 use Rattle.verbs.specs.Full.{TellsRoom, lacks_room}
 use Rattle.verbs.specs.Held.{Held, Performs, Decides, state_of, silent}
@@ -102,12 +103,13 @@ pub record IsCarriedOut
       → asks statement n (state_in shown u before) ≡ false
   pub known : is_known_late statement n before.held (state_in shown u before) ≡ true
       → Leaves before.library after.library × (answer ≡ silent OutOfSequence)
-  -- CLOSE of a connector that has failed answers 30, whatever the library says; and 30, 92 and 24
-  -- have their causes
+  -- CLOSE of a connector that has failed answers 30, whatever the library says; and 30, 92, 24 and
+  -- 90 have their causes
   pub failed_close : closes_failed statement before.held.connector.session ≡ true
       → answer ≡ silent PermanentError
   pub cause : StatusHasCause statement before.held.connector.session answer.status
       (shown.fault_count before.library) (shown.fault_count after.library)
+  pub memory : OutOfMemoryIsCaused statement shown.may_want_memory answer.status
   -- the answer and what is left are the definitions', or those of a marred step; and what the
   -- connector keeps is true
   pub step : Trusted shown u before after

@@ -15,8 +15,9 @@ impl Connector {
     /// has failed asks it, and answers 30 whatever it says.
     ///
     /// 30: the device failed in this statement, or it is CLOSE of a connector that has failed. 90:
-    /// memory was wanted. 24: the file has no room for the record. 92: the connector has failed.
-    /// 91: OPEN of a file whose first page is refused, or the library is not to be believed.
+    /// memory was wanted, by OPEN alone where no call on an open unit may want it. 24: the file has
+    /// no room for the record. 92: the connector has failed. 91: OPEN of a file whose first page is
+    /// refused, or the library is not to be believed.
     pub fn perform<L: Library>(
         &mut self,
         lib: &mut L,

@@ -68,5 +68,5 @@ loop-u-init g c = record {
   goes = goes_on_alike g.L.Library.shown c.args.library.now c.args.self.now c.args.self.now refl refl c.requires.safe;
   few = rw c.none-end.ensures (omega arith);
   told = none_come (so_far (g.W.Write.contents c.args.out.now) c.args.held.now) c.none-end.result _ c.none-end.ensures
-      (record { steps = λ honest trusted. record { steps = no_steps (IsStretch g.L.Library.shown) (point_in g.L.Library.shown (state c.args.library.now c.args.self.now)); rest = refl }; lines_are = All-nil (IsLineOf _ _ _) });
+      (record { steps = λ honest trusted. record { steps = no_steps (IsStretch g.L.Library.shown) (point_in g.L.Library.shown (state c.args.library.now c.args.self.now)); rest = refl }; lines_are = All-nil (IsLineOf _ _ _ _) });
 }

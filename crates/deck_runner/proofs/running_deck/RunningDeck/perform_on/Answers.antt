@@ -82,6 +82,6 @@ returns g c =
               images = subst (λ (o : Option RunFile). ImagesGo g.L.Library.shown.moments (name_at world c.args.u) (trace_on c.args.statement.now o (line ∷ [])) c.args.library.now c.perform-answer.new.library)
                   (sym (run_here world files c.args.u file get)) (done.images honest shown standing);
             };
-        lines_are = line_is files c.args.u file next c.args.statement.now answer (g.L.Library.shown.fault_count c.args.library.now) (g.L.Library.shown.fault_count c.perform-answer.new.library) get same.name done.cause;
+        lines_are = line_is files c.args.u file next c.args.statement.now answer g.L.Library.shown.may_want_memory (g.L.Library.shown.fault_count c.args.library.now) (g.L.Library.shown.fault_count c.perform-answer.new.library) get same.name done.cause done.memory;
       };
     }

@@ -59,5 +59,5 @@ loop-statement-init g c = record {
   passed = refl;
   few = rw c.none-end.ensures (omega arith);
   told = none_come (so_far (g.W.Write.contents c.args.out.now) c.args.held.now) c.none-end.result _ c.none-end.ensures
-      (record { steps = λ honest trusted. no_steps (IsStretch g.L.Library.shown) (point_in g.L.Library.shown (state c.args.library.now c.args.self.now)); lines_are = All-nil (IsLineOf _ _ _) });
+      (record { steps = λ honest trusted. no_steps (IsStretch g.L.Library.shown) (point_in g.L.Library.shown (state c.args.library.now c.args.self.now)); lines_are = All-nil (IsLineOf _ _ _ _) });
 }

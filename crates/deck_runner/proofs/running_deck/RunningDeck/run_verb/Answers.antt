@@ -21,7 +21,7 @@ returns-in_err-make_way g c =
     (held_in_part (so_far (g.W.Write.contents c.args.out.now) c.args.held.now) (g.W.Write.contents c.make_way.new.out) (Leads g.L.Library.shown first first Part) c.in_err-make_way.ensures.refused
     (record {
       steps = λ honest trusted. none_in_part (IsStretch g.L.Library.shown) (Perform c.args.u c.args.statement.now ∷ []) (point_in g.L.Library.shown first);
-      lines_are = All-nil (IsLineOf _ _ _);
+      lines_are = All-nil (IsLineOf _ _ _ _);
     }))
 
 pub returns-in_err-add : goal.returns-in_err-add

@@ -13,6 +13,7 @@ returns g c n = record {
   known = search rules;
   failed_close = search rules;
   cause = search rules;
+  memory = search rules;
   step = λ honest truly standing.
       delete_done c.self.inside c.args.self.now c.take_out.new.self c.in-Some.mode (g.L.Library.shown.world c.args.lib.now) (g.L.Library.shown.world c.take_out.new.lib) c.args.u n c.args.area.now c.take_out.result
       c.self.view_is c.in-Some.is c.if-self.false

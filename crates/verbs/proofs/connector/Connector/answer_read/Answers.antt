@@ -16,6 +16,7 @@ returns-in-Ok-Some g c n = record {
   known = search rules;
   failed_close = search rules;
   cause = search rules;
+  memory = search rules;
   step = λ honest truly standing. equal_record c.self.inside c.args.self.now c.deliver.new.self c.in-Some.mode (g.L.Library.shown.world c.args.lib.now) (g.L.Library.shown.world c.by_key.new.self) c.args.u n c.args.area.now c.by_key.new.area
       c.in-Ok-Some.found c.deliver.result
       c.requires.fits c.self.view_is c.in-Some.is c.if-self.false (sym c.if-not-readable.ensures) c.if-self-2.false (c.by_key.ensures.reads.world.same honest)

@@ -17,6 +17,7 @@ returns-in-Ok-Some g c n = record {
   known = search rules;
   failed_close = search rules;
   cause = search rules;
+  memory = search rules;
   step = λ honest truly standing. next_record c.self.inside c.args.self.now c.deliver.new.self c.in-Some.mode (g.L.Library.shown.world c.args.lib.now) (g.L.Library.shown.world c.next.new.self) c.args.u n c.args.area.now c.next.new.area
       c.in-Ok-Some.found c.deliver.result
       c.requires.fits c.self.view_is c.in-Some.is c.if-self.false (sym c.if-not-readable.ensures) c.if-self-2.false (c.next.ensures.reads.world.same honest)
@@ -42,6 +43,7 @@ returns-in-Ok-None g c n = record {
   known = search rules;
   failed_close = search rules;
   cause = search rules;
+  memory = search rules;
   step = λ honest truly standing. at_end c.self.inside c.args.self.now c.lose-in-Ok-None.new.self c.in-Some.mode (g.L.Library.shown.world c.args.lib.now) (g.L.Library.shown.world c.next.new.self) c.args.u n c.args.area.now c.next.new.area c.silent-in-Ok-None.result
       c.requires.fits c.self.view_is c.in-Some.is c.if-self.false (sym c.if-not-readable.ensures) c.if-self-2.false (c.next.ensures.reads.world.same honest)
       (c.silent-in-Ok-None.ensures ∙ ap (λ status. silent status) c.lose-in-Ok-None.ensures.status) (sym c.if-lost.ensures)

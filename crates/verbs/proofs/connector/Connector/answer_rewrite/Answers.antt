@@ -20,6 +20,7 @@ returns g c =
       known = search rules;
       failed_close = search rules;
       cause = search rules;
+      memory = search rules;
       step = λ honest truly standing. rewrite_done c.self.inside c.args.self.now c.substitute.new.self c.in-Some.mode (g.L.Library.shown.world c.args.lib.now) (g.L.Library.shown.world c.substitute.new.lib) c.args.u c.args.length c.args.area.now c.substitute.result
           c.self.view_is c.in-Some.is c.if-self.false
           c.value-prime.result (sym c.if-not-updatable.ensures) (sym c.if-unread.ensures) (sym c.if-not-fit.ensures)

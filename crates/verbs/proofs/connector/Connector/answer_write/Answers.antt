@@ -19,6 +19,7 @@ returns g c = record {
       (known.0, ap silent known.1);
   failed_close = search rules;
   cause = search rules;
+  memory = search rules;
   step = λ honest truly standing. write_done c.self.inside c.args.self.now c.put.new.self c.in-Some.mode (g.L.Library.shown.world c.args.lib.now) (g.L.Library.shown.world c.put.new.lib) c.args.u c.args.length c.args.area.now c.put.result
       c.self.view_is c.in-Some.is c.if-self.false (sym c.if-not-permitted.ensures) (sym c.if-not-fit.ensures)
       (λ session is. rw (← c.from.ensures) ((c.put.ensures.change honest truly
