@@ -11,6 +11,7 @@
 
 mod call_record;
 mod recorded_system;
+mod shared_file;
 mod streams;
 mod system;
 mod unit;

@@ -6,10 +6,11 @@ ghost use Rattle.system_files.specs.Front.{IsFrontRead, EndsInLongLine};
 ghost use Rattle.recorded_system.specs.SystemState.{file_path};
 
 use crate::call_record::CallRecord;
+use crate::shared_file::{SharedFile, measure_shared, read_shared};
 use crate::streams::{HoldsStreams, StreamFault, hold_numbers};
 use crate::system::System;
 use crate::unit::Unit;
-use crate::unread::{Unread, cause_of, cause_of_folder, keep_cause};
+use crate::unread::{Unread, cause_of, cause_of_folder, keep_cause, why_not};
 use io_state::{Fault, FileName};
 use progress::{Progress, ProgressReader};
 use std::alloc::Global;
@@ -34,6 +35,8 @@ pub struct RecordedSystem<R: Files + Drop> {
     // Of each unit, the path of its file.
     paths: Vec<String>,
     units: Vec<Unit<R::File>>,
+    // What is read by its path, page after page.
+    shared: Option<SharedFile<R::File>>,
     // What has the numbers of standard streams that were closed.
     streams: Vec<R::File>,
     calls: CallRecord,
@@ -58,6 +61,7 @@ where
             names: Vec::new(alloc),
             paths: Vec::new(alloc),
             units: Vec::new(alloc),
+            shared: None,
             streams: Vec::new(alloc),
             calls: CallRecord::new(),
             unread: Vec::new(alloc),
@@ -346,6 +350,28 @@ where
             Err(_) => self.calls.taken_shared(path, most, None),
         }
         bytes
+    }
+
+    fn measure_shared(&mut self, path: &str) -> Option<u64> {
+        let told = measure_shared(&mut self.shared, &self.rt, self.alloc, self.wait, path);
+        keep_cause(&mut self.unread, self.alloc, path, why_not(&told));
+        self.calls.measured(path, told.ok());
+        told.ok()
+    }
+
+    fn read_shared(&mut self, path: &str, at: u64, bytes: &mut [u8]) -> bool {
+        let done = read_shared(
+            &mut self.shared,
+            &self.rt,
+            self.alloc,
+            self.wait,
+            path,
+            at,
+            bytes,
+        );
+        keep_cause(&mut self.unread, self.alloc, path, why_not(&done));
+        self.calls.read(path, done.is_ok(), at, bytes);
+        done.is_ok()
     }
 
     fn take_text(&mut self, path: &str, longest: usize) -> Result<Vec<u8>, ReadFault> {

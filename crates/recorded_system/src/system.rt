@@ -122,6 +122,16 @@ pub trait System {
         ensures { TakesBytes most (taken_shared path.now most)
             (state self.old) (state self.new) result };
 
+    /// The number of bytes of the file of this path, if it was told. The file is kept open for the
+    /// next call, so that no run changes it, until one of another path is asked for so.
+    fn measure_shared(&mut self, path: &str) -> Option<u64>
+        ensures { state self.new ≡ with_call (measured path.now result) (state self.old) };
+
+    /// Fills the bytes with those of the file of this path from byte `at` on. Whether they all came.
+    /// The file is kept open as by `measure_shared`.
+    fn read_shared(&mut self, path: &str, at: u64, bytes: &mut [u8]) -> bool
+        ensures { state self.new ≡ with_call (read path.now result at bytes.new) (state self.old) };
+
     /// The text of the file of this path: all of it, or a front that ends in the midst of a line
     /// that has `longest` bytes at least.
     fn take_text(&mut self, path: &str, longest: usize) -> Result<Vec<u8>, ReadFault>

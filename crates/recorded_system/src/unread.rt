@@ -19,6 +19,14 @@ pub(crate) fn cause_of<T>(answer: &Result<T, ReadFault>) -> Option<Cause> {
     }
 }
 
+/// Why nothing was told, if that is so.
+pub(crate) fn why_not<T>(answer: &Result<T, Cause>) -> Option<Cause> {
+    match answer {
+        Err(cause) => Some(*cause),
+        Ok(_) => None,
+    }
+}
+
 /// Why a path is not that of a folder.
 pub(crate) fn cause_of_folder(told: &Result<bool, Cause>) -> Option<Cause> {
     match told {

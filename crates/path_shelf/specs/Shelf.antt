@@ -1,0 +1,24 @@
+-- What the shelf of the file of a path shows.
+use Rattle.std.specs.Prelude.{List, [], ◌∷◌, ℕ, Bool, true, false}
+use Rattle.page_store.specs.DeviceFile.{DeviceFile, absent}
+use Rattle.page_store.specs.ShelfState.{ShelfState}
+use Rattle.recorded_system.specs.Calls.{Call}
+use Rattle.path_shelf.specs.Answers.{are_answers_of}
+
+abbrev pub is_nil : List ℕ → Bool
+is_nil [] = true
+is_nil (byte ∷ bytes) = false
+
+-- the empty name is that of the file, and no other
+abbrev pub file_under : DeviceFile → (name : List ℕ) → DeviceFile
+file_under file [] = file
+file_under file (byte ∷ name) = absent
+
+-- with units of these names, after these calls, where a disk has these files
+abbrev pub shelf_after : (files : List ℕ → DeviceFile) → (path : List ℕ) → (names : List (List ℕ))
+    → List Call → ShelfState
+shelf_after files path names calls = record {
+  names = names;
+  file = file_under (files path);
+  is_honest = are_answers_of files calls;
+}
