@@ -6,7 +6,7 @@ use Rattle.std.proofs.lemmas.Bool.{and_parts, and_from}
 use Rattle.arrayvec.specs.ArrayVec.{ArrayVec}
 use Rattle.page_bytes.specs.Each.{Each}
 use Rattle.io_state.specs.declared.position.Position.{Position}
-use Rattle.io_state.specs.declared.position.Position.TheVariants.{From}
+use Rattle.io_state.specs.declared.position.Position.TheVariants.{Invalid, Missing, From, After}
 use Rattle.io_state.specs.declared.modes.Relation.TheVariants.{NotLess}
 use Rattle.record_layout.specs.Schema.{Schema, value_of}
 use Rattle.std.proofs.Math.Seq.{take-append_seam}
@@ -19,7 +19,7 @@ use Rattle.indexed_file.proofs.TestLemmas.{either}
 use Rattle.record_listing.specs.declared.asked.Asked.{Asked}
 use Rattle.indexed_file.specs.Laws.{IsOf}
 use Rattle.record_listing.specs.Listed.{is_past, is_row_within, ComesBefore, Rise, AreListed}
-use Rattle.record_listing.specs.Reading.{behind_row, rows_from, rows_asked, ComesNext}
+use Rattle.record_listing.specs.Reading.{behind_row, comes_behind, rows_from, rows_asked, ComesNext}
 use Rattle.indexed_file.proofs.RankLemmas.{row_total, gt_back, differ}
 use Rattle.record_listing.proofs.RankLemmas.{admits_up, past_up, front_from}
 use Rattle.indexed_file.proofs.LeastLemmas.{least_is, none_passes}
@@ -83,6 +83,28 @@ module _ (schema : Schema) (file : File) (k : ℕ) (to : Option (ArrayVec ℕ)) 
       by : (o : Option Row) → least schema k (admits schema k position) file ≡ o → Some found ≡ option_map (found_of schema k file) o → rows_from schema file k to n position ≡ []
       by None e s = absurd (cc)
       by (Some row) e s = next_past schema file k to position n row e (subst (λ (f : Found). is_past to f.key.items ≡ true) (from_some _ _ s) past)
+
+-- a row that a position admits is behind that of the position
+behind_of : (schema : Schema) (file : File) (k : ℕ) (position : Position) (row : Row) → admits schema k position row ≡ true → comes_behind position (found_of schema k file row) ≡ true
+behind_of schema file k Invalid row is = refl
+behind_of schema file k Missing row is = refl
+behind_of schema file k (From value) row is = refl
+behind_of schema file k (After value stamp) row is = is
+
+-- so is a record that was found
+pub found_behind : (schema : Schema) (file : File) (k : ℕ) (position : Position) (found : Found) → Some found ≡ option_map (found_of schema k file) (least schema k (admits schema k position) file) → comes_behind position found ≡ true
+found_behind schema file k position found is = by (least schema k (admits schema k position) file) refl is
+  where
+    by : (o : Option Row) → least schema k (admits schema k position) file ≡ o → Some found ≡ option_map (found_of schema k file) o → comes_behind position found ≡ true
+    by None e s = absurd (cc)
+    by (Some row) e s =
+        subst (λ (f : Found). comes_behind position f ≡ true) (sym (from_some _ _ s))
+        (behind_of schema file k position row (least_is schema k (admits schema k position) file row e).passes)
+
+-- so what is not behind it was not found
+pub not_behind : (schema : Schema) (file : File) (k : ℕ) (position : Position) (found : Found) → Some found ≡ option_map (found_of schema k file) (least schema k (admits schema k position) file) → comes_behind position found ≡ false → ⊥
+not_behind schema file k position found is other =
+    let yes = found_behind schema file k position found is in absurd (cc)
 
 -- where none was found, there is none
 pub none_found : (schema : Schema) (file : File) (k : ℕ) (to : Option (ArrayVec ℕ)) (position : Position) → None ≡ option_map (found_of schema k file) (least schema k (admits schema k position) file) → (n : ℕ) → rows_from schema file k to n position ≡ []

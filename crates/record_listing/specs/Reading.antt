@@ -1,13 +1,16 @@
 -- The rows of an open file, one after another, and the text on its way to the writer.
 use Rattle.std.specs.Prelude.{◌≡◌, ◌<◌, ◌≤◌, ℕ, zero, suc, ◌+◌, List, [], ◌∷◌, ◌++◌, length, take, false}
-use Rattle.std.specs.Prelude.{Option, Some, None, Result, Ok, Err, IsTrue, IfOk, IfErr, if◌then◌else◌}
+use Rattle.std.specs.Prelude.{Bool, true, Option, Some, None, Result, Ok, Err, IsTrue, IfOk, IfErr}
+use Rattle.std.specs.Prelude.{if◌then◌else◌}
+use Rattle.std.specs.Ordering.{is_gt}
 use Rattle.std.specs.Option.{option_map_or}
 use Rattle.std.specs.Io.KnownBytes.{Appends}
 use Rattle.arrayvec.specs.ArrayVec.{ArrayVec}
 use Rattle.io_state.specs.declared.fault.Fault.{Fault}
 use Rattle.io_state.specs.declared.fault.Fault.TheVariants.{Memory}
 use Rattle.io_state.specs.declared.position.Position.{Position}
-use Rattle.io_state.specs.declared.position.Position.TheVariants.{From, After}
+use Rattle.io_state.specs.declared.position.Position.TheVariants.{Invalid, Missing, From, After}
+use Rattle.io_state.specs.Rank.{rank_cmp}
 use Rattle.record_layout.specs.Schema.{Schema, value_of}
 use Rattle.indexed_file.specs.declared.answer.Found.{Found}
 use Rattle.indexed_file.specs.File.{Row, File, stamp_of}
@@ -47,6 +50,18 @@ pub record OnlyReadsUnit {S : Type 0} (shown : Shown S) (old new : S) : Type 0 w
 -- the position behind a row
 abbrev pub behind_row : Schema → ℕ → Row → Position
 behind_row schema k row = After (key_of_row schema k row) (stamp_of k row)
+
+-- what was found is behind the record of a position, if it is that of one
+abbrev pub comes_behind : Position → Found → Bool
+comes_behind Invalid found = true
+comes_behind Missing found = true
+comes_behind (From value) found = true
+comes_behind (After value stamp) found = is_gt (rank_cmp found.key.items found.stamp value.items stamp)
+
+-- so it is, whatever the library says
+abbrev pub ComesBehind : Position → Option Found → Type 0
+ComesBehind position None = Unit {0}
+ComesBehind position (Some found) = comes_behind position found ≡ true
 
 -- the rows from a position on, as READ NEXT gives them one after another: up to the bound, and so
 -- many at most
