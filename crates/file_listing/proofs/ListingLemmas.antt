@@ -20,7 +20,8 @@ use Rattle.record_listing.specs.declared.end.ListEnd.TheVariants.{Listed as Line
 use Rattle.record_listing.specs.declared.end.ListFault.{ListFault}
 use Rattle.record_listing.specs.Listing.{EndsList as EndsNamed}
 use Rattle.file_listing.specs.Shelf.{shelf_state_of}
-use Rattle.file_listing.specs.Listing.{EndsWithIn, BreaksOffIn}
+use Rattle.file_listing.specs.Listing.{EndsWithIn, BreaksOffIn, EndsOfFile}
+use Rattle.page_store.specs.ShelfState.{ShelfState}
 use Rattle.file_listing.specs.declared.file_bytes.FileBytes.{FileBytes}
 use Rattle.file_listing.specs.declared.listing.FileList.TheVariants.{Listed, NoKey}
 
@@ -75,3 +76,24 @@ pub refused : {E : Type 0} (bytes : List ℕ) (reason : Reason) (verdict : Verdi
     → IsRight bytes (Unsound reason)
 refused bytes reason verdict result right is told =
     subst (IsRight bytes) told (subst (λ result. IfOk result (IsRight bytes)) is right)
+
+-- a library to which no name is attached shows of the empty name what the file of the shelf stands for
+module _ (shelf : ShelfState) (held : List Held) (schema : Schema) (file : File) (stands : Represents (shelf.file []).seen (Closed schema file))
+    (none : shelf.names ≡ []) (empty : held ≡ []) where
+  pub shown_of : IsShownTruly shelf held []
+  shown_of = rw empty (shown_truly shelf [] none (sound_of (shelf.file []).seen (Closed schema file) stands))
+
+  pub named_of_shelf : named_in (world_of shelf held) [] ≡ Closed schema file
+  named_of_shelf =
+      rw empty
+      (ap (λ (world : World). named_in world []) (world_at_first shelf none) ∙ named_is (shelf.file []).seen (Closed schema file) stands)
+
+-- so a list of it in the library ends as it does of that file
+pub listed_truly : (form : Form) (shelf : ShelfState) (held : List Held) (name : List ℕ) → shelf.names ≡ [] → held ≡ [] → name ≡ []
+    → (asked : Asked) (before behind : Option (List ℕ)) (result : Result ListEnd ListFault)
+    → (IsShownTruly shelf held name → EndsNamed form asked (named_in (world_of shelf held) name) before behind result)
+    → EndsOfFile (shelf.file []) form asked before behind result
+listed_truly form shelf held name none empty unnamed asked before behind result ends schema file stands =
+    let shown = subst (λ (n : List ℕ). IsShownTruly shelf held n) (sym unnamed) (shown_of shelf held schema file stands none empty) in
+    let is = subst (λ (n : List ℕ). named_in (world_of shelf held) n ≡ Closed schema file) (sym unnamed) (named_of_shelf shelf held schema file stands none empty) in
+    subst (λ (n : Named). EndsNamed form asked n before behind result) is (ends shown)

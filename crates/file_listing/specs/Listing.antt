@@ -1,15 +1,20 @@
 -- What the list of a file's bytes promises. All of this is ours.
-use Rattle.std.specs.Prelude.{◌≡◌, ◌⊎◌, ◌≤◌, ℕ, List, length, Option, Result, Ok, Err}
+use Rattle.std.specs.Prelude.{◌≡◌, ◌⊎◌, ◌≤◌, ℕ, List, [], length, Option, Result, Ok, Err, IsTrue}
 use Rattle.record_layout.specs.Schema.{Schema}
 use Rattle.indexed_file.specs.File.{File}
+use Rattle.indexed_file.specs.World.{Closed}
+use Rattle.page_store.specs.DeviceFile.{DeviceFile}
+use Rattle.page_store.specs.ShelfState.{ShelfState}
 use Rattle.shelf_file.specs.ClosedFile.{AreClosed}
+use Rattle.shelf_run.specs.Files.{Represents}
 use Rattle.file_checker.specs.Sound.{IsRight}
 use Rattle.file_checker.specs.declared.verdict.Verdict.TheVariants.{Unsound as IsRefused}
 use Rattle.record_forms.specs.declared.form.Form.{Form}
 use Rattle.record_forms.specs.declared.form.Form.TheVariants.{Text}
 use Rattle.record_listing.specs.declared.asked.Asked.{Asked}
+use Rattle.record_listing.specs.declared.end.ListEnd.{ListEnd}
 use Rattle.record_listing.specs.declared.end.ListFault.{ListFault}
-use Rattle.record_listing.specs.Listing.{WritesLines, WritesFront}
+use Rattle.record_listing.specs.Listing.{EndsList, WritesLines, WritesFront}
 use Rattle.file_listing.specs.declared.listing.FileList.{FileList}
 use Rattle.file_listing.specs.declared.listing.FileList.TheVariants.{Listed, NoKey, Unsound}
 
@@ -45,3 +50,17 @@ EndsFileListWith bytes asked before behind end = EndsWithIn Text bytes asked bef
 abbrev pub EndsFileList : List ℕ → Asked → (before behind : Option (List ℕ)) → Result FileList ListFault
     → Type 0
 EndsFileList bytes asked before behind result = EndsIn Text bytes asked before behind result
+
+-- a list of a file that is read page after page, between two states, ends as it does of the rows for
+-- which the file stands, if it stands for some
+abbrev pub EndsOfFile : DeviceFile → Form → Asked → (before behind : Option (List ℕ))
+    → Result ListEnd ListFault → Type 0
+EndsOfFile device form asked before behind result =
+    (schema : Schema) (file : File) → Represents device.seen (Closed schema file)
+    → EndsList form asked (Closed schema file) before behind result
+
+-- so a list of the file of the empty name of a shelf, where each answer was that of this file
+abbrev pub ListsTruly : (first last : ShelfState) → Form → Asked → (before behind : Option (List ℕ))
+    → Result ListEnd ListFault → Type 0
+ListsTruly first last form asked before behind result =
+    IsTrue last.is_honest → EndsOfFile (first.file []) form asked before behind result

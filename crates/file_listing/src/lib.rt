@@ -5,11 +5,15 @@
 //! file that is sound. The bytes are read once, before the first line, so nothing holds the file
 //! while its lines are read by another program.
 //!
+//! `list_shelf` lists the file of a shelf as it is read, and checks nothing first.
+//!
 //! Read `specs/Listing.antt` for what is promised, then `listing`; `file_bytes` is a shelf that has
 //! these bytes and is never written.
 #![tactic(auto)]
 
 mod file_bytes;
 mod listing;
+mod shelf_list;
 
 pub use listing::{FileList, list_file, list_file_as, list_sound};
+pub use shelf_list::list_shelf;
