@@ -6,7 +6,7 @@ use Rattle.recorded_system.specs.Calls.{Call, looked, made, measured, read, held
 use Rattle.recorded_system.specs.Calls.{entered, asked_of_folder, taken, taken_shared, streams_held}
 use Rattle.recorded_system.specs.Reading.{IsReading, AreReading}
 use Rattle.path_shelf.specs.Reads.{is_read, are_reads}
-use Rattle.path_shelf.specs.Shelf.{file_under}
+use Rattle.path_shelf.specs.Shelf.{file_of_empty_name}
 
 is_reading : (call : Call) → is_read call ≡ true → IsReading call
 is_reading (looked path found) is = tt
@@ -29,6 +29,6 @@ are_reading (call ∷ calls) is =
     (is_reading call parts.0, are_reading calls parts.1)
 
 -- a file that is there has the empty name
-pub named_where_there : (file : DeviceFile) (name : List ℕ) → IsThere (file_under file name) → file_under file name ≡ file
+pub named_where_there : (file : DeviceFile) (name : List ℕ) → IsThere (file_of_empty_name file name) → file_of_empty_name file name ≡ file
 named_where_there file [] there = refl
 named_where_there file (byte ∷ name) there = let some = there.there in absurd (cc)

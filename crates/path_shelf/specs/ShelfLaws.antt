@@ -2,9 +2,9 @@
 use Rattle.std.proofs.Common.{ℕ, List, [], ◌∷◌, refl}
 use Rattle.page_store.specs.DeviceFile.{DeviceFile}
 use Rattle.page_store.specs.Images.{Leaves}
-use Rattle.path_shelf.specs.Shelf.{file_under}
+use Rattle.path_shelf.specs.Shelf.{file_of_empty_name}
 
-pub left_as_read : (file : DeviceFile) → Leaves file file.seen → (name : List ℕ)
-    → Leaves (file_under file name) (file_under file name).seen
-left_as_read file leaves [] = leaves
-left_as_read file leaves (byte ∷ name) = refl
+pub image_by_name : (file : DeviceFile) → Leaves file file.seen → (name : List ℕ)
+    → Leaves (file_of_empty_name file name) (file_of_empty_name file name).seen
+image_by_name file leaves [] = leaves
+image_by_name file leaves (byte ∷ name) = refl

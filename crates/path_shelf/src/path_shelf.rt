@@ -5,7 +5,7 @@ ghost use Rattle.io_state.specs.declared.fault.Fault.TheVariants.{Device};
 ghost use Rattle.page_store.specs.ShelfState.{FaultHasCause};
 ghost use Rattle.recorded_system.specs.Reading.{AreReading};
 ghost use Rattle.path_shelf.specs.Reads.{are_reads};
-ghost use Rattle.path_shelf.specs.Shelf.{is_nil, shelf_after};
+ghost use Rattle.path_shelf.specs.Shelf.{is_empty_name, shelf_after};
 
 use folder_shelf::Disk;
 use io_state::{Fault, FileName};
@@ -58,7 +58,7 @@ impl<S: System + Drop, D: Disk> PathShelf<S, D> {
 // Whether the name of a unit is the empty one.
 fn is_unnamed(units: &[FileName], unit: usize) -> bool
     requires { unit < length units.now }
-    ensures { result ≡ is_nil (get_or (map (λ name. name.bytes) units.now) unit []) }
+    ensures { result ≡ is_empty_name (get_or (map (λ name. name.bytes) units.now) unit []) }
 {
     units[unit].is_empty()
 }
@@ -76,14 +76,14 @@ fn fail<T>(faults: &mut u64) -> Result<T, Fault>
 impl<S: System + Drop, D: Disk> Shelf for PathShelf<S, D> {
     ghost use Rattle.std.specs.Prelude.{map, string_bytes};
     ghost use Rattle.path_shelf.specs.Shelf.{shelf_after};
-    ghost use Rattle.path_shelf.specs.ShelfLaws.{left_as_read};
+    ghost use Rattle.path_shelf.specs.ShelfLaws.{image_by_name};
 
     ghost state = { λ shelf. shelf_after D.Disk.unseen.first (string_bytes shelf.path)
         (map (λ name. name.bytes) shelf.units.items) (S.state shelf.system).calls };
 
     ghost fault_count = { λ shelf. shelf.faults };
 
-    ghost reads_an_image = { λ shelf name _. left_as_read (D.Disk.unseen.first (string_bytes shelf.path))
+    ghost reads_an_image = { λ shelf name _. image_by_name (D.Disk.unseen.first (string_bytes shelf.path))
         (D.Disk.sound (string_bytes shelf.path)) name };
 
     fn faults(&self) -> u64 {
