@@ -1,5 +1,5 @@
 -- What putting a page does to the table.
-use Rattle.std.proofs.Common.{inl, inr, ◌≡◌, ◌≢◌, ℕ, ◌+◌, ◌<◌, ◌≤◌, false, nat_eq, List, [], ◌∷◌, ◌++◌, length, get_or, set, sym, ◌∙◌, ap, subst, arith}
+use Rattle.std.proofs.Common.{inl, inr, ◌≡◌, ◌≢◌, ℕ, ◌+◌, ◌<◌, ◌≤◌, true, false, nat_eq, List, [], ◌∷◌, ◌++◌, length, get_or, set, sym, ◌∙◌, ap, subst, arith}
 use Rattle.std.specs.Int.Bits.{bit_and}
 use Rattle.std.proofs.lemmas.Bool.{cases_Bool, eqb-true, eqb-false}
 use Rattle.std.proofs.lemmas.List.{length-set, length-append, get_or-set_same, get_or-set_other, get_or_append_left}
@@ -7,38 +7,42 @@ use Rattle.std.proofs.Math.Seq.{get_or-append_seam}
 use Rattle.page_cache.specs.Table.{IsTable, IsToldBy, IsToldIn, IsPut, IsFreeCell}
 use Rattle.page_cache.specs.declared.table.Table.{Table}
 
-as_told : (n m p c d : ℕ) (t u : Table) → u.mask ≡ t.mask → m ≡ n → d ≡ c → IsToldIn (bit_and n t.mask) c → get_or u.cells.items c 0 ≡ p → IsToldBy m p d u
-as_told n m p c d t u mask same is within told = rw (same, is) (record { within = subst (λ (low : ℕ). IsToldIn (bit_and n low) c) (sym mask) within; told = told })
+as_told : (n m p c : ℕ) (t u : Table) → u.mask ≡ t.mask → m ≡ n → IsToldIn (bit_and n t.mask) c → get_or u.cells.items c 0 ≡ p → IsToldBy m p u
+as_told n m p c t u mask same within told = rw same (record { cell = c; within = subst (λ (low : ℕ). IsToldIn (bit_and n low) c) (sym mask) within; told = told })
 
 -- a free cell tells where the page was put, and the others tell what they told
-pub table_put : (place n cell : ℕ) (ns after : List ℕ) (t u : Table) → IsTable ns t → IsToldIn (bit_and n t.mask) cell → cell < length t.cells.items → IsFreeCell (length ns) place cell t
-    → place < length t.told.items → u.cells.items ≡ set t.cells.items cell place → u.told.items ≡ set t.told.items place cell → u.mask ≡ t.mask → u.crowded ≡ t.crowded
-    → IsPut place n ns after → length after ≤ length t.told.items → IsTable after u
-table_put place n cell ns after t u table within low free there cells told mask crowded put few = record {
+pub table_put : (place n cell : ℕ) (ns after : List ℕ) (t u : Table) → IsTable ns t → IsToldIn (bit_and n t.mask) cell → cell < length t.cells.items → IsFreeCell ns place cell t
+    → u.cells.items ≡ set t.cells.items cell place → u.mask ≡ t.mask → u.crowded ≡ t.crowded
+    → IsPut place n ns after → IsTable after u
+table_put place n cell ns after t u table within low free cells mask crowded put = record {
   cells = let long = table.cells in let same = ap length cells ∙ length-set t.cells.items cell place in omega arith;
-  few = let same = ap length told ∙ length-set t.told.items place cell in omega arith;
   told = λ calm p taken. elim (cases_Bool (nat_eq p place)) [
     | inl hit ↦ this p (eqb-true p place hit)
     | inr miss ↦ other (sym crowded ∙ calm) p taken (eqb-false p place miss)
   ];
 }
   where
-    this : (p : ℕ) → p ≡ place → IsToldBy (get_or after p 0) p (get_or u.told.items p 0) u
-    this p is = subst (λ (k : ℕ). IsToldBy (get_or after k 0) k (get_or u.told.items k 0) u) (sym is)
-        (as_told n (get_or after place 0) place cell (get_or u.told.items place 0) t u mask put.this
-        (ap (λ (l : List ℕ). get_or l place 0) told ∙ get_or-set_same t.told.items place cell 0 there)
-        within
+    this : (p : ℕ) → p ≡ place → IsToldBy (get_or after p 0) p u
+    this p is = subst (λ (k : ℕ). IsToldBy (get_or after k 0) k u) (sym is)
+        (as_told n (get_or after place 0) place cell t u mask put.this within
         (ap (λ (l : List ℕ). get_or l cell 0) cells ∙ get_or-set_same t.cells.items cell place 0 low))
 
-    other : t.crowded ≡ false → (p : ℕ) → p < length after → p ≢ place → IsToldBy (get_or after p 0) p (get_or u.told.items p 0) u
+    other : t.crowded ≡ false → (p : ℕ) → p < length after → p ≢ place → IsToldBy (get_or after p 0) p u
     other calm p taken differs =
         let was = put.others p taken differs in
         let then = table.told calm p was.0 in
-        let c = get_or t.told.items p 0 in
-        as_told (get_or ns p 0) (get_or after p 0) p c (get_or u.told.items p 0) t u mask was.1
-        (ap (λ (l : List ℕ). get_or l p 0) told ∙ get_or-set_other t.told.items place p cell 0 differs)
-        then.within
-        (ap (λ (l : List ℕ). get_or l c 0) cells ∙ get_or-set_other t.cells.items cell c place 0 (λ same. free p was.0 differs same (ap (λ (k : ℕ). get_or t.cells.items k 0) (sym same) ∙ then.told)) ∙ then.told)
+        let c = then.cell in
+        as_told (get_or ns p 0) (get_or after p 0) p c t u mask was.1 then.within
+        (ap (λ (l : List ℕ). get_or l c 0) cells
+        ∙ get_or-set_other t.cells.items cell c place 0 (λ same. free p was.0 differs (subst (λ (d : ℕ). IsToldIn (bit_and (get_or ns p 0) t.mask) d) same then.within) (ap (λ (k : ℕ). get_or t.cells.items k 0) (sym same) ∙ then.told))
+        ∙ then.told)
+
+-- a crowded table tells nothing
+pub table_crowded : (ns after : List ℕ) (t u : Table) → IsTable ns t → u.cells.items ≡ t.cells.items → u.mask ≡ t.mask → u.crowded ≡ true → IsTable after u
+table_crowded ns after t u table cells mask crowded = record {
+  cells = let long = table.cells in let same = ap length cells in omega arith;
+  told = λ calm p taken. absurd (cc);
+}
 
 -- a page put in place of another one, or after the last
 pub put_set : (place n : ℕ) (ns : List ℕ) → place < length ns → IsPut place n ns (set ns place n)

@@ -45,8 +45,7 @@ impl Model for Frames {
 
     ghost invariant = { λ f. ArePaired f.numbers.items f.changed.items f.pages.items f.used.items
         (non_zero_usize_get f.cap) × (non_zero_usize_get f.cap ≤ vec_capacity f.numbers)
-        × (non_zero_usize_get f.cap ≤ vec_capacity f.pages) × IsTable f.numbers.items f.table
-        × (length f.table.told.items ≡ non_zero_usize_get f.cap) };
+        × (non_zero_usize_get f.cap ≤ vec_capacity f.pages) × IsTable f.numbers.items f.table };
 }
 
 impl Frames {
@@ -161,7 +160,7 @@ impl Frames {
         ensures same { self.new ≡ self.old }
     {
         let held = self.numbers.len();
-        if let Some(place) = self.table.in_the_way(held, n) {
+        if let Some(place) = self.table.in_the_way(&self.numbers, n) {
             return place;
         }
         if held < self.cap.get() {

@@ -1,5 +1,5 @@
 //! The table in which the place of a page is found.
-ghost use Rattle.std.specs.Prelude.{◌≡◌, ◌≢◌, ◌+◌, ◌<◌, ◌≤◌, ℕ, List, [], length, get_or, min, true, IfOk, IfSome};
+ghost use Rattle.std.specs.Prelude.{◌≡◌, ◌+◌, ◌<◌, ◌≤◌, List, ℕ, [], length, true, IfOk, IfSome, IsTrue, ◌↔◌};
 ghost use Rattle.std.specs.Int.Bits.{bit_and};
 ghost use Rattle.page_cache.specs.Places.{IsSeatOf};
 ghost use Rattle.page_cache.specs.Table.{IsTable, IsToldIn, IsPut, IsFreeCell, FoundFrom};
@@ -10,33 +10,30 @@ use std::alloc::{AllocError, Global};
 /// How many cells may tell the place of a page: those from the one of its low bits on.
 pub(crate) const WINDOW: usize = 8;
 
-// There are no more pages than numbers.
-const MOST_PAGES: usize = 1 << 32;
+// A place is told by 16 bits.
+const MOST_PLACES: usize = 1 << 16;
 
-/// Where pages stand, by the low bits of their numbers.
+/// Where pages stand, by the low bits of their numbers. It is small, since an open file fills it
+/// with zeros at first: 8 bytes for each place.
 #[derive(Drop)]
 pub(crate) struct Table {
     // The place that each cell tells.
-    pub(crate) cells: Vec<usize>,
-    // The cell that tells each place.
-    pub(crate) told: Vec<usize>,
+    pub(crate) cells: Vec<u16>,
     // The low bits of a number.
     pub(crate) mask: usize,
-    // Whether a page was put where no cell was free, which `Frames::choose` does not let happen. Then
-    // all places are looked at.
+    // Whether a page was put where no cell was free, which `Frames::choose` does not let happen, or
+    // at a place past the first 65,536. Then all places are looked at.
     pub(crate) crowded: bool,
 }
 
 impl Table {
     /// A table for this many places, of which none is taken.
     pub(crate) fn new(alloc: Global, most: usize) -> Result<Table, AllocError>
-        ensures empty { IfOk result (IsTable []) }
-        ensures places { IfOk result (λ table. length table.told.items ≡ most) }
+        ensures { IfOk result (IsTable []) }
     {
-        let many = (most.min(MOST_PAGES) * 4).next_power_of_two();
+        let many = (most.min(MOST_PLACES) * 4).next_power_of_two();
         Ok(Table {
             cells: vec![in alloc; 0; many + WINDOW]?,
-            told: vec![in alloc; 0; most]?,
             mask: many - 1,
             crowded: false,
         })
@@ -48,7 +45,7 @@ impl Table {
         requires { IsTable numbers.now self.now }
         ensures { IsSeatOf n numbers.now result }
     {
-        let place = self.cells[slot_of(n, self.mask)];
+        let place = usize::from(self.cells[slot_of(n, self.mask)]);
         if place < numbers.len() && numbers[place] == n {
             return Some(place);
         }
@@ -68,59 +65,62 @@ impl Table {
     }
 
     /// A place whose page has to go before page `n` is put, so that a cell is free for it.
-    pub(crate) fn in_the_way(&self, held: usize, n: u32) -> Option<usize>
-        requires long { self.now.mask + 8 ≤ length self.now.cells.items }
-        requires places { held ≤ length self.now.told.items }
-        ensures { IfSome result (λ place. place < held) }
+    pub(crate) fn in_the_way(&self, numbers: &[u32], n: u32) -> Option<usize>
+        requires { self.now.mask + 8 ≤ length self.now.cells.items }
+        ensures { IfSome result (λ place. place < length numbers.now) }
     {
-        if self.free_cell(held, held, n).is_some() {
+        if self.free_cell(numbers, numbers.len(), n).is_some() {
             return None;
         }
-        let other = self.cells[slot_of(n, self.mask)];
-        if other < held { Some(other) } else { None }
+        let other = usize::from(self.cells[slot_of(n, self.mask)]);
+        if other < numbers.len() {
+            Some(other)
+        } else {
+            None
+        }
     }
 
     /// Tells of page `n` that it is put at a place.
     pub(crate) fn put(&mut self, numbers: &[u32], place: usize, n: u32)
-        requires table { IsTable numbers.now self.old }
-        requires place { place < length self.old.told.items }
-        ensures tells { (after : List ℕ) → IsPut place n numbers.now after
-            → length after ≤ length self.old.told.items → IsTable after self.new }
-        ensures places { length self.new.told.items ≡ length self.old.told.items }
+        requires { IsTable numbers.now self.old }
+        ensures { (after : List ℕ) → IsPut place n numbers.now after → IsTable after self.new }
     {
-        match self.free_cell(numbers.len(), place, n) {
-            Some(cell) => {
-                self.cells[cell] = place;
-                self.told[place] = cell;
-            }
-            None => self.crowded = true,
+        match self.free_cell(numbers, place, n) {
+            Some(cell) if place < MOST_PLACES => self.cells[cell] = place as u16,
+            _ => self.crowded = true,
         }
     }
 
-    // A cell that may tell page n, and tells none of the first places but this one.
-    fn free_cell(&self, held: usize, place: usize, n: u32) -> Option<usize>
-        requires long { self.now.mask + 8 ≤ length self.now.cells.items }
-        requires places { held ≤ length self.now.told.items }
-        ensures { IfSome result (λ cell. IsToldIn (bit_and n self.now.mask) cell × (cell < length self.now.cells.items)
-            × IsFreeCell held place cell self.now) }
+    // A cell that may tell page n, and tells the page of no other place.
+    fn free_cell(&self, numbers: &[u32], place: usize, n: u32) -> Option<usize>
+        requires { self.now.mask + 8 ≤ length self.now.cells.items }
+        ensures { IfSome result (λ cell. IsToldIn (bit_and n self.now.mask) cell
+            × (cell < length self.now.cells.items) × IsFreeCell numbers.now place cell self.now) }
     {
         let from = slot_of(n, self.mask);
         for cell in from..from + WINDOW {
-            if self.is_free(held, place, cell) {
+            if self.is_free(numbers, place, cell) {
                 return Some(cell);
             }
         }
         None
     }
 
-    // Whether a cell tells none of the first places but this one.
-    fn is_free(&self, held: usize, place: usize, cell: usize) -> bool
-        requires cell { cell < length self.now.cells.items }
-        requires places { held ≤ length self.now.told.items }
-        ensures { result ≡ true → IsFreeCell held place cell self.now }
+    // Whether a cell tells the page of no other place than this one.
+    fn is_free(&self, numbers: &[u32], place: usize, cell: usize) -> bool
+        requires { cell < length self.now.cells.items }
+        ensures { result ≡ true → IsFreeCell numbers.now place cell self.now }
     {
-        let other = self.cells[cell];
-        other >= held || other == place || self.told[other] != cell
+        let other = usize::from(self.cells[cell]);
+        other >= numbers.len() || other == place || !self.may_tell(cell, numbers[other])
+    }
+
+    // Whether a cell is one of those that may tell page n.
+    fn may_tell(&self, cell: usize, n: u32) -> bool
+        ensures { IsTrue result ↔ IsToldIn (bit_and n self.now.mask) cell }
+    {
+        let from = slot_of(n, self.mask);
+        from <= cell && cell - from < WINDOW
     }
 }
 
@@ -134,12 +134,12 @@ fn slot_of(n: u32, mask: usize) -> usize
 }
 
 // The place of page n, by a look at the cells from this one on.
-fn told_from(cells: &[usize], from: usize, numbers: &[u32], n: u32) -> Option<usize>
+fn told_from(cells: &[u16], from: usize, numbers: &[u32], n: u32) -> Option<usize>
     requires { from + 8 ≤ length cells.now }
     ensures { FoundFrom from cells.now n numbers.now result }
 {
     for cell in from..from + WINDOW {
-        let place = cells[cell];
+        let place = usize::from(cells[cell]);
         if place < numbers.len() && numbers[place] == n {
             return Some(place);
         }

@@ -16,8 +16,7 @@ invariant_of-result c =
     let uses = c.in_ok-vec-2.ensures.len in
     let uses_long = c.in_ok-vec-2.field-0.ok.0 in
     let numbers_room = c.in_ok-with_capacity.ensures.exact in
-    let pages_room = c.in_ok-with_capacity-2.ensures.exact in
-    let places = c.in_ok-new.ensures.places in (
+    let pages_room = c.in_ok-with_capacity-2.ensures.exact in (
       record {
         long = omega arith;
         few = omega arith;
@@ -28,6 +27,5 @@ invariant_of-result c =
       },
       omega arith,
       omega arith,
-      subst (λ (ns : List ℕ). IsTable ns c.in_ok-new.field-0) (sym no_numbers) c.in_ok-new.ensures.empty,
-      places ∙ most,
+      subst (λ (ns : List ℕ). IsTable ns c.in_ok-new.field-0) (sym no_numbers) c.in_ok-new.ensures,
     )

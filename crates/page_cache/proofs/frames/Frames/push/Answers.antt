@@ -1,21 +1,11 @@
 use Rattle.std.proofs.Common.{◌≡◌, ◌<◌, [], ◌∷◌, ◌++◌, length, arith, ap, ◌∙◌, sym}
 use Rattle.std.specs.Prelude.{slice_set}
-use Rattle.std.proofs.lemmas.List.{length-append}
 use Rattle.std.specs.NonZero.{non_zero_usize_get}
 use Rattle.page_cache.specs.HeldFrames.{Frame, held_frames, put_at}
 use Rattle.page_cache.specs.Places.{marked, paired}
 use Rattle.page_cache.proofs.PlacesLemmas.{frames_long, push_rows, pushed}
 use Rattle.page_cache.proofs.TableLemmas.{put_last}
 use Rattle.page_cache.proofs.frames.Frames.push.Goals as goal
-
-pub put-requires-clause-place : goal.put-requires-clause-place
-put-requires-clause-place c =
-    let within = rw (← c.self.view_is) at c.requires.room in
-    let long = (frames_long _ _ _ _ _ c.self.invariant.0).2 in
-    let last = c.len-place.ensures in
-    let numbers = c.self.inside.numbers.ok.0 in
-    let places = c.self.invariant.4 in
-    omega arith
 
 pub index_mut-requires-2 : goal.index_mut-requires-2
 index_mut-requires-2 c =
@@ -64,15 +54,12 @@ invariant_of-self c =
     let numbers_room = c.self.invariant.1 in
     let pages_room = c.self.invariant.2 in
     let numbers_grow = c.add.ensures.room in
-    let longer = length-append ns (c.args.n ∷ []) in
-    let places = c.self.invariant.4 in
-    let tells = rw c.deref.ensures.value at c.put.ensures.tells in
+    let tells = rw c.deref.ensures.value at c.put.ensures in
     let pages_grow = c.add-2.ensures.room in (
       rw (c.add.ensures.items, c.add-2.ensures.items) (pushed c.args.n ns c.self.inside.changed.items c.self.inside.pages.items c.len-place.result c.args.changed c.args.page.now c.self.inside.used.items (non_zero_usize_get c.self.inside.cap) c.self.invariant.0 none low),
       omega arith,
       omega arith,
-      rw c.add.ensures.items (tells _ (put_last c.len-place.result c.args.n ns (c.len-place.ensures ∙ c.self.inside.numbers.ok.0)) (omega arith)),
-      c.put.ensures.places ∙ places,
+      rw c.add.ensures.items (tells _ (put_last c.len-place.result c.args.n ns (c.len-place.ensures ∙ c.self.inside.numbers.ok.0))),
     )
 
 pub returns : goal.returns

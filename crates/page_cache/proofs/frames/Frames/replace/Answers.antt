@@ -1,17 +1,9 @@
 use Rattle.std.proofs.Common.{◌<◌, length, arith, ap, ◌∙◌}
-use Rattle.std.proofs.lemmas.List.{length-set}
 use Rattle.std.specs.NonZero.{non_zero_usize_get}
 use Rattle.page_cache.specs.HeldFrames.{held_frames, put_at}
 use Rattle.page_cache.proofs.PlacesLemmas.{frames_long, put_rows, replaced}
 use Rattle.page_cache.proofs.TableLemmas.{put_set}
 use Rattle.page_cache.proofs.frames.Frames.replace.Goals as goal
-
-pub put-requires-clause-place : goal.put-requires-clause-place
-put-requires-clause-place c =
-    let within = rw (← c.self.view_is) at c.requires.held in
-    let long = (frames_long _ _ _ _ _ c.self.invariant.0).2 in
-    let few = c.self.invariant.3.few in
-    omega arith
 
 pub index_mut-requires-4 : goal.index_mut-requires-4
 index_mut-requires-4 c =
@@ -52,14 +44,11 @@ invariant_of-self c =
     let within = rw (← c.self.view_is) at c.requires.held in
     let long = (frames_long _ _ _ _ _ c.self.invariant.0).2 in
     let low : c.args.place < length c.self.inside.numbers.items = omega arith in
-    let same = length-set c.self.inside.numbers.items c.args.place c.args.n in
-    let few = c.self.invariant.3.few in
-    let tells = rw c.deref.ensures.value at c.put.ensures.tells in (
+    let tells = rw c.deref.ensures.value at c.put.ensures in (
       replaced c.args.n c.self.inside.numbers.items c.self.inside.changed.items c.self.inside.pages.items c.args.place c.args.changed c.args.page.now c.self.inside.used.items (non_zero_usize_get c.self.inside.cap) c.self.invariant.0 none,
       c.self.invariant.1,
       c.self.invariant.2,
-      tells _ (put_set c.args.place c.args.n c.self.inside.numbers.items low) (omega arith),
-      c.put.ensures.places ∙ c.self.invariant.4,
+      tells _ (put_set c.args.place c.args.n c.self.inside.numbers.items low),
     )
 
 pub returns : goal.returns
