@@ -1,6 +1,6 @@
 -- The first entry of a value, from what the tree tells of the range of its tree keys.
-use Rattle.std.proofs.Common.{◌≡◌, ◌≢◌, ℕ, ◌-◌, ◌^◌, ◌≤◌, false, not, cond, List, [], ◌∷◌, ◌++◌, length, take, map, Option, None, Some, Result, Ok, Err, refl, sym, ap, ◌∙◌, arith}
-use Rattle.std.specs.Prelude.{find, option_map, IfSome, ◌&&◌}
+use Rattle.std.proofs.Common.{◌≡◌, ◌≢◌, ℕ, ◌-◌, ◌^◌, ◌≤◌, Bool, true, false, not, cond, List, [], ◌∷◌, ◌++◌, length, take, map, Option, None, Some, Result, Ok, Err, refl, sym, ap, ◌∙◌, arith}
+use Rattle.std.specs.Prelude.{find, option_map, IfSome, IfErr, ◌&&◌}
 use Rattle.std.specs.Option.{option_map_or}
 use Rattle.std.specs.Int.{bytes_high_first}
 use Rattle.std.specs.Ordering.{nat_cmp, ordering_then, is_lt, is_gt, is_eq}
@@ -11,6 +11,7 @@ use Rattle.std.proofs.lemmas.Bool.Decides.{nat_tests}
 use Rattle.std.proofs.lemmas.Slice.Eq.{bytes_eq-Decides}
 use Rattle.std.proofs.lemmas.Grind.{common_steps}
 use Rattle.io_state.specs.declared.fault.Fault.{Fault}
+use Rattle.io_state.specs.declared.fault.Fault.TheVariants.{Damage}
 use Rattle.page_bytes.specs.Each.{Each}
 use Rattle.tree_node.specs.Order.{less}
 use Rattle.tree_node.proofs.OrderLemmas.{either}
@@ -21,7 +22,8 @@ use Rattle.io_state.specs.Rank.{value_cmp}
 use Rattle.bplus_tree.specs.Fields.{tree_shape}
 use Rattle.key_index.specs.Stored.{alt_bytes, IsAltEntry}
 use Rattle.key_index.specs.Entries.{entry_has_value, after_rank}
-use Rattle.key_index.specs.Calls.{IsAltFirst}
+use Rattle.key_index.specs.Calls.{IsAltFirst, filled_with}
+use Rattle.key_index.specs.declared.entry.AltFirst.{AltFirst}
 use Rattle.key_index.specs.declared.entry.AltEntry.{AltEntry}
 use Rattle.key_index.specs.declared.alt_index.AltIndex.{AltIndex}
 use Rattle.key_index.proofs.ListLemmas.{found, found_fits}
@@ -43,14 +45,29 @@ abbrev answer : Option AltEntry → Result (Option AltEntry) Fault
 answer o = Ok o
 
 -- what an answer is
-pub no_fault : (fault : Fault) (o : Option AltEntry) → Err fault ≡ Ok o → ⊥
+no_fault : (fault : Fault) (o : Option AltEntry) → Err fault ≡ Ok o → ⊥
 no_fault fault o e = cc
 
-pub one_entry : (a b : AltEntry) → answer (Some a) ≡ answer (Some b) → a ≡ b
+one_entry : (a b : AltEntry) → answer (Some a) ≡ answer (Some b) → a ≡ b
 one_entry a b e = cc
 
-pub some_entry : (a : AltEntry) → answer None ≡ answer (Some a) → ⊥
+some_entry : (a : AltEntry) → answer None ≡ answer (Some a) → ⊥
 some_entry a e = cc
+
+abbrev first_answer : Bool → AltEntry → Result (Option AltFirst) Fault
+first_answer followed entry = Ok (Some (record { entry = entry; followed = followed }))
+
+-- what is told of an entry that was filled is told of it as the first of its value
+pub first_told : (n e : AltEntry) (followed : Bool) (r : Result Bool Fault) → filled_with n r ≡ Ok (Some e)
+    → filled_with {E = AltFirst} (record { entry = n; followed = followed }) r ≡ Ok (Some (record { entry = e; followed = followed }))
+first_told n e followed (Ok true) told = ap (first_answer followed) (one_entry n e told)
+first_told n e followed (Ok false) told = absurd (some_entry e told)
+first_told n e followed (Err fault) told = absurd (no_fault fault (Some e) told)
+
+-- a fault that is told of an entry that was filled is the call's
+pub fault_told : (n : AltEntry) (r : Result Bool Fault) → IfErr (filled_with n r) (λ fault. fault ≡ Damage) → IfErr r (λ fault. fault ≡ Damage)
+fault_told n (Ok told) is = tt
+fault_told n (Err fault) is = is
 
 -- no entry has a value of another length
 pub no_value : (w p : ℕ) (v : List ℕ) → length v ≢ w → (entries : List AltEntry) → Each (IsAltEntry w p) entries → find (entry_has_value v) entries ≡ None

@@ -3,6 +3,7 @@ pub mod ListLemmas
 pub mod KeyLemmas
 pub mod StoredLemmas
 pub mod PlaceLemmas
+pub mod TailLemmas
 pub mod LookLemmas
 pub mod EditLemmas
 pub mod LawLemmas

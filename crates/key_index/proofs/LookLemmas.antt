@@ -8,11 +8,18 @@ use Rattle.io_state.specs.declared.fault.Fault.TheVariants.{Damage}
 use Rattle.page_bytes.specs.Each.{Each}
 use Rattle.pages.specs.Answer.{IsAnswer}
 use Rattle.tree_search.specs.Calls.{last_of}
+use Rattle.key_index.specs.Calls.{filled_with}
 use Rattle.key_index.proofs.ListLemmas.{found, found_fits, last, last_fits}
 
 -- a fault that is handed on is no damage where it was none
 pub fails : {X : Type 0} (r : Result X Fault) (fault : Fault) (P : X → Type 0) → IsErrAnd r (λ e. e ≡ fault) → fault ≢ Damage → IsAnswer r P
 fails r fault P was sound =
+    let p = err_from_is_err_and r was in
+    rw (p.1, p.2) (record { answer = tt; no_damage = sound })
+
+-- the same of a call that fills
+pub fails_filled : {E : Type 0} (n : E) (r : Result Bool Fault) (fault : Fault) (P : Option E → Type 0) → IsErrAnd r (λ e. e ≡ fault) → fault ≢ Damage → IsAnswer (filled_with n r) P
+fails_filled n r fault P was sound =
     let p = err_from_is_err_and r was in
     rw (p.1, p.2) (record { answer = tt; no_damage = sound })
 

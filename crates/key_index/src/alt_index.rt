@@ -92,22 +92,30 @@ impl AltIndex {
         self.tree.count()
     }
 
-    /// The entry of a value of any length and a stamp.
+    /// The entry of a value of any length and a stamp goes to `entry`. The answer is whether there
+    /// is one. Only the prime value is taken from the leaf, since the rest is known.
     pub fn find<P: Pages>(
         &self,
         pages: &mut P,
         value: &[u8],
         stamp: u64,
-    ) -> Result<Option<AltEntry>, Fault>
+        entry: &mut AltEntry,
+    ) -> Result<bool, Fault>
         requires ready { P.shown.IsReady pages.old }
-        ensures { FindsInAlt P.shown pages.old pages.new self.now (find (has_rank value.now stamp)) result }
+        ensures { FindsInAlt P.shown pages.old pages.new self.now (find (has_rank value.now stamp))
+            (filled_with entry.new result) }
     {
         if value.len() != usize::from(self.width) {
-            return Ok(None);
+            return Ok(false);
         }
         let wanted = rank_key(value, stamp);
-        let found = self.tree.find(pages, wanted.as_slice())?;
-        self.decode_found(found)
+        let mut bytes = [0; 250];
+        let prime = &mut bytes[..usize::from(self.prime)];
+        if !self.tree.find_tail(pages, wanted.as_slice(), prime)? {
+            return Ok(false);
+        }
+        entry.set(value, stamp, prime);
+        Ok(true)
     }
 
     /// The first entry whose value is not less than this one, which may have any length.
@@ -126,17 +134,23 @@ impl AltIndex {
         self.decode_found(found)
     }
 
-    /// The first entry of a value, and whether the next entry has the value too. A value of another
-    /// length than the key's is not found.
+    /// The first entry of a value goes to `first`, and whether the next entry has the value too. The
+    /// answer is whether there is one. A value of another length than the key's is not found.
     ///
     /// It asks one page a level, and more only where a leaf ends between two entries of the value
     /// or in front of its first entry; never more than twice the height.
-    pub fn first_of<P: Pages>(&self, pages: &mut P, value: &[u8]) -> Result<Option<AltFirst>, Fault>
+    pub fn first_of<P: Pages>(
+        &self,
+        pages: &mut P,
+        value: &[u8],
+        first: &mut AltFirst,
+    ) -> Result<bool, Fault>
         requires ready { P.shown.IsReady pages.old }
-        ensures { FindsFirstInAlt P.shown pages.old pages.new self.now value.now result }
+        ensures { FindsFirstInAlt P.shown pages.old pages.new self.now value.now
+            (filled_with first.new result) }
     {
         if value.len() != usize::from(self.width) {
-            return Ok(None);
+            return Ok(false);
         }
         let least = rank_key(value, 0);
         let greatest = rank_key(value, u64::MAX);
@@ -144,8 +158,8 @@ impl AltIndex {
             .tree
             .first_within(pages, least.as_slice(), greatest.as_slice())?;
         match found {
-            Some(First { entry, followed }) => self.decode_first(&entry, followed),
-            None => Ok(None),
+            Some(First { entry, followed }) => self.fill_first(&entry, followed, first),
+            None => Ok(false),
         }
     }
 
@@ -247,16 +261,15 @@ impl AltIndex {
         }
     }
 
-    /// The first entry of a value, whose bytes the tree gave, and whether another one follows.
-    /// Damage where they are not as many as an entry has.
-    fn decode_first(&self, bytes: &Entry, followed: bool) -> Result<Option<AltFirst>, Fault>
-        ensures told { TellsFirst self.now.width self.now.prime bytes.now.items followed result }
+    /// The first entry of a value, whose bytes the tree gave, goes to `first`, and whether another
+    /// one follows. Damage where they are not as many as an entry has.
+    fn fill_first(&self, bytes: &Entry, followed: bool, first: &mut AltFirst) -> Result<bool, Fault>
+        ensures told { TellsFirst self.now.width self.now.prime bytes.now.items followed
+            (filled_with first.new result) }
         ensures damage { IfErr result (λ fault. fault ≡ Fault.Damage) }
     {
-        match self.decode(bytes)? {
-            Some(entry) => Ok(Some(AltFirst { entry, followed })),
-            None => Ok(None),
-        }
+        first.followed = followed;
+        self.decode_into(bytes, &mut first.entry)
     }
 
     /// The entry whose bytes the tree gave. Damage where they are not as many as an entry has.

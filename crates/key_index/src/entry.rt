@@ -111,7 +111,7 @@ pub fn place_in(bytes: &[u8; 6]) -> Place
 }
 
 impl AltEntry {
-    ghost use Rattle.key_index.specs.Stored.{alt_entry_in, HasAltLength};
+    ghost use Rattle.key_index.specs.Stored.{alt_entry_in, entry_to, HasAltLength};
 
     /// The bytes of an entry.
     pub fn bytes(value: &[u8], stamp: u64, prime: &[u8]) -> Entry
@@ -151,6 +151,17 @@ impl AltEntry {
         put_bytes(&mut self.prime, &bytes[width + 8..]);
     }
 
+    /// Makes it the entry of a value, a stamp and a prime value.
+    pub fn set(&mut self, value: &[u8], stamp: u64, prime: &[u8])
+        requires value { length value.now ≤ 250 }
+        requires prime { length prime.now ≤ 250 }
+        ensures { self.new ≡ entry_to value.now stamp prime.now }
+    {
+        put_bytes(&mut self.value, value);
+        self.stamp = stamp;
+        put_bytes(&mut self.prime, prime);
+    }
+
     /// The entry of bytes whose first `width` are the value, and the last `prime` the prime value.
     pub fn read(bytes: &[u8], width: usize, prime: usize) -> AltEntry
         requires { HasAltLength width prime bytes.now }
@@ -160,6 +171,16 @@ impl AltEntry {
             value: key_of(&bytes[..width]),
             stamp: BigEndian::read_u64(&bytes[width..]),
             prime: key_of(&bytes[width + 8..]),
+        }
+    }
+}
+
+impl AltFirst {
+    /// A first entry to be filled.
+    pub fn blank() -> AltFirst {
+        AltFirst {
+            entry: AltEntry::blank(),
+            followed: false,
         }
     }
 }
@@ -178,7 +199,7 @@ fn put_bytes(value: &mut Key, bytes: &[u8])
 }
 
 /// A value that outlives its page.
-fn key_of(value: &[u8]) -> Key
+pub(crate) fn key_of(value: &[u8]) -> Key
     requires { length value.now ≤ 250 }
     ensures { result.items ≡ value.now }
 {

@@ -3,7 +3,7 @@
 ghost use Rattle.std.specs.Prelude.{◌≡◌, ◌+◌, ◌≤◌, Some, find};
 ghost use Rattle.bplus_tree.specs.Fields.{tree_shape};
 
-use crate::entry::{PrimeEntry, place_in};
+use crate::entry::{PrimeEntry, key_of, place_in};
 use crate::keys::greatest_key;
 use bplus_tree::Tree;
 use io_state::Fault;
@@ -83,8 +83,16 @@ impl PrimeIndex {
         requires ready { P.shown.IsReady pages.old }
         ensures { FindsInPrime P.shown pages.old pages.new self.now (find (has_prime value.now)) result }
     {
-        let found = self.tree.find(pages, value)?;
-        self.decode_found(found)
+        if value.len() != usize::from(self.width) {
+            return Ok(None);
+        }
+        match self.place_of(pages, value)? {
+            Some(place) => Ok(Some(PrimeEntry {
+                value: key_of(value),
+                place,
+            })),
+            None => Ok(None),
+        }
     }
 
     /// The place of the record of a value of any length, read from the leaf.

@@ -4,7 +4,7 @@ use Rattle.pages.specs.Answer.{IsAnswer}
 use Rattle.key_index.specs.Stored.{alt_bytes}
 use Rattle.key_index.specs.Calls.{IsAltFirst}
 use Rattle.key_index.specs.declared.entry.AltFirst.{AltFirst}
-use Rattle.key_index.proofs.LookLemmas.{fails}
+use Rattle.key_index.proofs.LookLemmas.{fails_filled}
 use Rattle.key_index.proofs.FirstLemmas.{no_value, first_none, the_first}
 use Rattle.key_index.proofs.alt_index.AltIndex.first_of.Goals as goal
 
@@ -20,7 +20,7 @@ returns-then-value-from g c = record {
 pub returns-in_err-found : goal.returns-in_err-found
 returns-in_err-found g c = record {
   found = λ honest entries own stands.
-      fails c.from_residual.result _ _ c.from_residual.ensures.1 (c.in_err-found.ensures.found honest (map alt_bytes entries) own stands.tree).no_damage;
+      fails_filled c.args.first.now c.from_residual.result _ _ c.from_residual.ensures.1 (c.in_err-found.ensures.found honest (map alt_bytes entries) own stands.tree).no_damage;
   reads = search rules;
 }
 
@@ -46,6 +46,6 @@ returns-in-Some g c = record {
       let long : length v ≡ index.width = omega arith in
       let first = rw c.in-Some.is at (c.in_ok-found.ensures.found honest (map alt_bytes entries) own stands.tree).answer in
       let the = the_first index v c.as_slice.result.now c.as_slice-2.result.now long (c.as_slice.ensures.value ∙ c.rank_key-least.ensures) (c.as_slice-2.ensures.value ∙ c.rank_key-greatest.ensures) entries stands.each c.in-Some.field-0 first in
-      subst (λ (r : Result (Option AltFirst) Fault). IsAnswer r (IsAltFirst v entries)) (sym (c.decode_first.ensures.told the.entry the.fits the.bytes)) (record { answer = the.is_first; no_damage = tt });
+      subst (λ (r : Result (Option AltFirst) Fault). IsAnswer r (IsAltFirst v entries)) (sym (c.fill_first.ensures.told the.entry the.fits the.bytes)) (record { answer = the.is_first; no_damage = tt });
   reads = search rules;
 }
