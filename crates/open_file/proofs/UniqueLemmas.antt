@@ -1,6 +1,6 @@
 -- The first entry of a value of a unique key: the one of stamp 0.
-use Rattle.std.proofs.Common.{◌≡◌, ℕ, ◌<◌, true, false, List, [], ◌∷◌, Some, None, refl, ap, sym, ◌∙◌, arith}
-use Rattle.std.specs.Prelude.{find, map, length, ◌&&◌, ◌==◌, cond, bytes_eq}
+use Rattle.std.proofs.Common.{◌≡◌, ℕ, ◌<◌, Bool, true, false, Result, Ok, Err, List, [], ◌∷◌, Some, None, refl, ap, sym, ◌∙◌, arith}
+use Rattle.std.specs.Prelude.{find, IfErr, map, length, ◌&&◌, ◌==◌, cond, bytes_eq}
 use Rattle.std.specs.Option.{option_map_or}
 use Rattle.std.specs.Ordering.{nat_cmp, ordering_then, is_gt, is_eq}
 use Rattle.std.specs.declared.cmp.Ordering.{Ordering}
@@ -16,7 +16,10 @@ use Rattle.indexed_file.specs.Sound.{is_file, is_row}
 use Rattle.page_bytes.specs.Each.{Each}
 use Rattle.key_index.specs.declared.entry.AltEntry.{AltEntry}
 use Rattle.key_index.specs.Entries.{entry_has_value, has_rank, after_rank}
-use Rattle.key_index.specs.Calls.{IsAltFirst}
+use Rattle.key_index.specs.declared.entry.AltFirst.{AltFirst}
+use Rattle.key_index.specs.Calls.{IsAltFirst, filled_with}
+use Rattle.io_state.specs.declared.fault.Fault.{Fault}
+use Rattle.pages.specs.Answer.{IsAnswer}
 use Rattle.open_file.specs.InOrder.{in_order, alt_entry, alt_entries}
 use Rattle.open_file.proofs.OrderLemmas.{either}
 use Rattle.open_file.proofs.PartsLemmas.{each_map}
@@ -62,6 +65,10 @@ never_followed v s (e ∷ entries) h =
     (λ yes. ap (λ b. option_map_or (entry_has_value v) (cond b (Some e) (find (after_rank v s) entries)) false) yes ∙ other v s e h.0 yes)
     (λ no. ap (λ b. option_map_or (entry_has_value v) (cond b (Some e) (find (after_rank v s) entries)) false) no ∙ never_followed v s entries h.1)
 
+-- an entry as the only one of its value
+abbrev pub first_alone : AltEntry → AltFirst
+first_alone e = record { entry = e; followed = false }
+
 -- so what is found of stamp 0 is the first entry of the value, and is not followed
 pub unique_none : (v : List ℕ) (entries : List AltEntry) → Each (λ (e : AltEntry). e.stamp ≡ 0) entries → find (has_rank v 0) entries ≡ None → IsAltFirst v entries None
 unique_none v entries h none = sym (found_alike v entries h) ∙ none
@@ -74,3 +81,15 @@ unique_some v entries h e found =
       sym (ap (λ (w : List ℕ). option_map_or (entry_has_value v) (find (after_rank w e.stamp) entries) false) value_is
           ∙ never_followed v e.stamp entries h),
     )
+
+-- what is told of the entry that was filled is told of it as the first of its value
+pub unique_first : (v : List ℕ) (entries : List AltEntry) → Each (λ (e : AltEntry). e.stamp ≡ 0) entries → (n : AltEntry) (r : Result Bool Fault)
+    → IsAnswer (filled_with n r) (λ found. found ≡ find (has_rank v 0) entries) → IsAnswer (filled_with (first_alone n) r) (IsAltFirst v entries)
+unique_first v entries h n (Ok true) told = record { answer = unique_some v entries h n (sym told.answer); no_damage = tt }
+unique_first v entries h n (Ok false) told = record { answer = unique_none v entries h (sym told.answer); no_damage = tt }
+unique_first v entries h n (Err fault) told = record { answer = tt; no_damage = told.no_damage }
+
+-- a call that fills gives up for the same cause, whatever it fills
+pub same_fault : {E F : Type 0} (n : E) (m : F) (C : Fault → Type 0) (r : Result Bool Fault) → IfErr (filled_with n r) C → IfErr (filled_with m r) C
+same_fault n m C (Ok told) is = tt
+same_fault n m C (Err fault) is = is

@@ -85,6 +85,6 @@ impl OpenFile {
         if !self.step_in_alternate(pages, k, index, position, &mut entry)? {
             return Ok(None);
         }
-        Ok(Some(self.deliver(pages, k, index, entry, area)?))
+        Ok(Some(self.deliver(pages, k, index, &entry, area)?))
     }
 }

@@ -2,6 +2,7 @@
 
 ghost use Rattle.std.specs.Prelude.{◌≡◌, ◌+◌, None, Ok};
 ghost use Rattle.pages.specs.PageCalls.{ReadsPages};
+ghost use Rattle.key_index.specs.Calls.{filled_with};
 ghost use Rattle.key_index.specs.Standing.{prime_height};
 ghost use Rattle.open_file.specs.Lent.{LendsPages, LendsArea, LendsAreaBy, LendsAreaByAlternate, IsAlternate};
 ghost use Rattle.open_file.specs.Lent.{IsAlternateBy};
@@ -101,37 +102,34 @@ impl OpenFile {
         ensures alone { AsksAlone P.shown self.now k (most_by_unique_key self.now k) pages.old pages.new }
         ensures reads { ReadsPages P.shown (most_by_key self.now k) pages.old pages.new result }
     {
-        match self.first_of(pages, k, key.as_slice())? {
-            Some(AltFirst { entry, followed }) => Ok(Some(self.found_of(
-                pages, entry, followed, area,
-            )?)),
-            None => Ok(None),
+        let mut first = AltFirst::blank();
+        if !self.first_of(pages, k, key.as_slice(), &mut first)? {
+            return Ok(None);
         }
+        Ok(Some(self.found_of(pages, &first.entry, first.followed, area)?))
     }
 
-    /// The first entry of a value of an alternate key, and whether the next entry has the value
-    /// too. Of a key that one record alone can have, the entry is the one of stamp 0.
+    /// The first entry of a value of an alternate key goes to `first`, and whether the next entry
+    /// has the value too. The answer is whether there is one. Of a key that one record alone can
+    /// have, the entry is the one of stamp 0.
     fn first_of<P: Pages>(
         &self,
         pages: &mut P,
         k: usize,
         value: &[u8],
-    ) -> Result<Option<AltFirst>, Fault>
+        first: &mut AltFirst,
+    ) -> Result<bool, Fault>
         requires lent { LendsPages P.shown pages.old self.now }
         requires key { IsAlternate self.now k }
-        ensures { TellsFirstOf P.shown self.now k value.now pages.old pages.new result }
+        ensures { TellsFirstOf P.shown self.now k value.now pages.old pages.new
+            (filled_with first.new result) }
     {
         let index = self.alternate(k);
         if self.schema.part(k as u8).has_duplicates() {
-            return index.first_of(pages, value);
+            return index.first_of(pages, value, first);
         }
-        match index.find(pages, value, 0)? {
-            Some(entry) => Ok(Some(AltFirst {
-                entry,
-                followed: false,
-            })),
-            None => Ok(None),
-        }
+        first.followed = false;
+        index.find(pages, value, 0, &mut first.entry)
     }
 
     /// What is told of the record of an entry of the index of an alternate key, and the record.
@@ -140,12 +138,12 @@ impl OpenFile {
         pages: &mut P,
         k: usize,
         index: AltIndex,
-        entry: AltEntry,
+        entry: &AltEntry,
         area: &mut [u8],
     ) -> Result<Found, Fault>
         requires lent { LendsArea P.shown pages.old self.now area.old }
         requires key { IsAlternateBy self.now k index }
-        ensures found { ReadsByEntry P.shown self.now k entry pages.old pages.new
+        ensures found { ReadsByEntry P.shown self.now k entry.now pages.old pages.new
             area.old area.new result }
         ensures keeps { ReadsInto P.shown (most_by_entry self.now index) pages.old pages.new
             area.old area.new result }
@@ -158,25 +156,20 @@ impl OpenFile {
     fn found_of<P: Pages>(
         &self,
         pages: &mut P,
-        entry: AltEntry,
+        entry: &AltEntry,
         repeated: bool,
         area: &mut [u8],
     ) -> Result<Found, Fault>
         requires { LendsArea P.shown pages.old self.now area.old }
-        ensures found { TellsByEntry P.shown self.now entry repeated pages.old pages.new
+        ensures found { TellsByEntry P.shown self.now entry.now repeated pages.old pages.new
             area.old area.new result }
         ensures keeps { ReadsInto P.shown (prime_height self.now.prime + 1) pages.old pages.new area.old
             area.new result }
     {
-        let AltEntry {
-            value,
-            stamp,
-            prime,
-        } = entry;
-        match self.fetch(pages, prime.as_slice(), area)? {
+        match self.fetch(pages, entry.prime.as_slice(), area)? {
             Some(length) => Ok(Found {
-                key: value,
-                stamp,
+                key: copy_of(&entry.value),
+                stamp: entry.stamp,
                 repeated,
                 length,
             }),
