@@ -188,14 +188,14 @@ fn names_come_from_their_first_bytes(rt: &impl Abort, index: &AltIndex, pages: &
 fn a_whole_name_is_looked_for(rt: &impl Abort, index: &AltIndex, pages: &mut MemoryPages) {
     begins(
         rt,
-        index.first_of(pages, b"SMITH"),
+        first_found(index, pages, b"SMITH"),
         b"SMITH",
         3,
         b"03",
         false,
     );
-    shows_none(rt, index.first_of(pages, b"SMIT"));
-    shows_none(rt, index.first_of(pages, b"SMYTH"));
+    shows_none(rt, first_found(index, pages, b"SMIT"));
+    shows_none(rt, first_found(index, pages, b"SMYTH"));
 }
 
 fn names_come_past_a_letter(rt: &impl Abort, index: &AltIndex, pages: &mut MemoryPages) {
@@ -248,14 +248,20 @@ fn duplicates_are_in_order(rt: &impl Abort, index: &AltIndex, pages: &mut Memory
 fn a_duplicate_is_found(rt: &impl Abort, index: &AltIndex, pages: &mut MemoryPages) {
     begins(
         rt,
-        index.first_of(pages, b"SMITH"),
+        first_found(index, pages, b"SMITH"),
         b"SMITH",
         2,
         b"01",
         true,
     );
-    shows(rt, index.find(pages, b"SMITH", 255), b"SMITH", 255, b"02");
-    shows_none(rt, index.find(pages, b"SMITH", 3));
+    shows(
+        rt,
+        name_found(index, pages, b"SMITH", 255),
+        b"SMITH",
+        255,
+        b"02",
+    );
+    shows_none(rt, name_found(index, pages, b"SMITH", 3));
 }
 
 fn a_duplicate_is_removed(rt: &impl Abort, index: &mut AltIndex, pages: &mut MemoryPages) {
@@ -308,6 +314,30 @@ fn values_of_250_bytes_are_told_apart_by_the_last(rt: HostRuntime) {
     let mut next = [255; 250];
     next[249] = 254;
     values_are_told_apart(&rt, &mut index, &mut pages, &greatest, &next, &[b'7'; 250]);
+}
+
+// The entry of a name and a stamp, in place of another one.
+fn name_found(
+    index: &AltIndex,
+    pages: &mut MemoryPages,
+    name: &[u8],
+    stamp: u64,
+) -> Result<Option<AltEntry>, Fault> {
+    let mut entry = AltEntry::blank();
+    entry.set(b"AGNES", 7, b"00");
+    let found = index.find(pages, name, stamp, &mut entry)?;
+    Ok(if found { Some(entry) } else { None })
+}
+
+// The first entry of a name.
+fn first_found(
+    index: &AltIndex,
+    pages: &mut MemoryPages,
+    name: &[u8],
+) -> Result<Option<AltFirst>, Fault> {
+    let mut first = AltFirst::blank();
+    let found = index.first_of(pages, name, &mut first)?;
+    Ok(if found { Some(first) } else { None })
 }
 
 // The next name of a cursor.
