@@ -1,4 +1,4 @@
-use Rattle.std.proofs.Common.{◌≡◌, ◌≢◌, ℕ, List, length, Some, sym, ap, ◌∙◌, arith, rules}
+use Rattle.std.proofs.Common.{◌≢◌, ℕ, List, length, Some, sym, ap, ◌∙◌, arith, rules}
 use Rattle.key_index.specs.declared.entry.PrimeEntry.{PrimeEntry}
 use Rattle.key_index.proofs.LookLemmas.{fails}
 use Rattle.key_index.proofs.PlaceLemmas.{no_prime, entry_found}

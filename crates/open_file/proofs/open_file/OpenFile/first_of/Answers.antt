@@ -1,4 +1,3 @@
-use Rattle.std.proofs.lemmas.Grind.{common_steps}
 use Rattle.std.proofs.Common.{◌≡◌, ℕ, ◌+◌, ◌-◌, ◌<◌, false, length, ap, sym, subst, ◌∙◌, arith}
 use Rattle.record_layout.specs.Schema.{key_at, has_duplicates}
 use Rattle.pages.specs.Answer.{IsAnswer}

@@ -1,4 +1,4 @@
-use Rattle.std.proofs.Common.{ℕ, List, ◌∙◌, arith, length, ap, sym, subst, nat_eq}
+use Rattle.std.proofs.Common.{ℕ, List, arith, length, ap, sym, subst, nat_eq}
 use Rattle.std.specs.List.{IsDistinct}
 use Rattle.page_cache.specs.Table.{IsTable}
 use Rattle.page_cache.proofs.PlacesLemmas.{distinct_none}
