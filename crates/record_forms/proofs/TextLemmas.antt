@@ -1,26 +1,75 @@
 -- Texts that are put together from parts.
-use Rattle.std.proofs.Common.{◌≡◌, ℕ, List, [], ◌∷◌, ◌++◌, flat_map, map, refl, sym, ap, ◌∙◌, append_assoc}
+use Rattle.std.proofs.Common.{◌≡◌, ◌<◌, ℕ, ◌+◌, List, [], ◌∷◌, ◌++◌, length, take, get_or, flat_map, map, Vec, vec_len, Result, Ok, Err, refl, sym, ap, subst, ◌∙◌, arith, append_assoc, length-append}
 use Rattle.std.proofs.lemmas.Grind.{flat_map-append}
-use Rattle.std.proofs.lemmas.List.Folds.{flat_map-map}
+use Rattle.std.proofs.lemmas.List.Folds.{flat_map-map, length-flat_map-take}
 use Rattle.deck_runner.specs.Line.{shown_byte}
 use Rattle.record_forms.specs.Columns.{text_of}
+use Rattle.record_forms.specs.Room.{Grows, LacksRoom, Adds}
 
 -- each byte as it is shown, and then changed
-fused : (f : ℕ → List ℕ) (bytes : List ℕ) → flat_map (λ byte. flat_map f (shown_byte byte)) bytes ≡ flat_map f (text_of bytes)
+pub fused : (f : ℕ → List ℕ) (bytes : List ℕ) → flat_map (λ byte. flat_map f (shown_byte byte)) bytes ≡ flat_map f (text_of bytes)
 fused f [] = refl
 fused f (byte ∷ bytes) = ap (λ (l : List ℕ). flat_map f (shown_byte byte) ++ l) (fused f bytes) ∙ sym (flat_map-append f (shown_byte byte) (text_of bytes))
 
--- what is shown of bytes stands in quotes
-pub in_quotes : (f : ℕ → List ℕ) (old bytes a b d : List ℕ) → a ≡ old ++ 34 ∷ [] → b ≡ a ++ flat_map (λ byte. flat_map f (shown_byte byte)) bytes → d ≡ b ++ 34 ∷ []
-    → d ≡ old ++ 34 ∷ (flat_map f (text_of bytes) ++ 34 ∷ [])
-in_quotes f old bytes a b d first shown last =
-    last ∙ ap (λ (l : List ℕ). l ++ 34 ∷ []) (shown ∙ ap (λ (l : List ℕ). l ++ flat_map (λ byte. flat_map f (shown_byte byte)) bytes) first ∙ ap (λ (l : List ℕ). (old ++ 34 ∷ []) ++ l) (fused f bytes))
-    ∙ ap (λ (l : List ℕ). l ++ 34 ∷ []) (append_assoc old (34 ∷ []) (flat_map f (text_of bytes)))
-    ∙ append_assoc old (34 ∷ flat_map f (text_of bytes)) (34 ∷ [])
+module _ {Z : Type 0} where
+  len_is : (v : Vec ℕ Z) → vec_len v ≡ length v.items
+  len_is v = v.ok.0
 
--- a first one, and the others each behind a comma
-pub with_commas : {A B : Type 0} (f : B → List ℕ) (g : A → B) (old a b : List ℕ) (first : A) (rest : List A) → a ≡ old ++ f (g first) → b ≡ a ++ flat_map (λ x. 44 ∷ f (g x)) rest
-    → b ≡ old ++ (f (g first) ++ flat_map (λ y. 44 ∷ f y) (map g rest))
-with_commas f g old a b first rest one more =
-    more ∙ ap (λ (l : List ℕ). l ++ flat_map (λ x. 44 ∷ f (g x)) rest) one ∙ append_assoc old (f (g first)) (flat_map (λ x. 44 ∷ f (g x)) rest)
-    ∙ ap (λ (l : List ℕ). old ++ (f (g first) ++ l)) (sym (flat_map-map (λ y. 44 ∷ f y) g rest))
+  pub grows_both : (a b c : Vec ℕ Z) (p q : List ℕ) → Grows a b p → Grows b c q → Grows a c (p ++ q)
+  grows_both a b c p q first second = record {
+    items = second.items ∙ ap (λ (l : List ℕ). l ++ q) first.items ∙ append_assoc a.items p q;
+    capacity = (let one = first.capacity in let two = second.capacity in omega (arith, one, two));
+  }
+
+  -- there was no room behind what was added
+  pub lacks_behind : (a b : Vec ℕ Z) (p q : List ℕ) → Grows a b p → LacksRoom b q → LacksRoom a (p ++ q)
+  lacks_behind a b p q first lacks =
+      let one = first.capacity in
+      let long : length b.items ≡ length a.items + length p = ap length first.items ∙ length-append a.items p in
+      let la = len_is a in
+      let lb = len_is b in
+      let both = length-append p q in
+      omega (arith, one, long, la, lb, both, lacks)
+
+  -- and none for more than what had no room
+  pub lacks_more : (a : Vec ℕ Z) (p q : List ℕ) → LacksRoom a p → LacksRoom a (p ++ q)
+  lacks_more a p q lacks = let both = length-append p q in omega (arith, both, lacks)
+
+  -- one part, and then another one
+  pub adds_both : {E : Type 0} (a b c : Vec ℕ Z) (p q : List ℕ) (result : Result Unit E) → Grows a b p → Adds b c q result → Adds a c (p ++ q) result
+  adds_both a b c p q (Ok done) first second = grows_both a b c p q first second
+  adds_both a b c p q (Err fault) first lacks = lacks_behind a b p q first lacks
+
+  -- what is shown of bytes stands in quotes
+  pub in_quotes : {E : Type 0} (f : ℕ → List ℕ) (bytes : List ℕ) (a b c d : Vec ℕ Z) (result : Result Unit E) → Grows a b (34 ∷ []) → Grows b c (flat_map (λ byte. flat_map f (shown_byte byte)) bytes) → Adds c d (34 ∷ []) result
+      → Adds a d (34 ∷ (flat_map f (text_of bytes) ++ 34 ∷ [])) result
+  in_quotes {E} f bytes a b c d result first shown last =
+      adds_both a b d (34 ∷ []) (flat_map f (text_of bytes) ++ 34 ∷ []) result first
+      (adds_both b c d (flat_map f (text_of bytes)) (34 ∷ []) result (subst (Grows b c) (fused f bytes) shown) last)
+
+  -- there is no room for what is shown of bytes, behind a quote
+  pub no_room_in_quotes : (f : ℕ → List ℕ) (bytes : List ℕ) (a b : Vec ℕ Z) → Grows a b (34 ∷ []) → LacksRoom b (flat_map (λ byte. flat_map f (shown_byte byte)) bytes)
+      → LacksRoom a (34 ∷ (flat_map f (text_of bytes) ++ 34 ∷ []))
+  no_room_in_quotes f bytes a b first lacks =
+      lacks_behind a b (34 ∷ []) (flat_map f (text_of bytes) ++ 34 ∷ []) first
+      (lacks_more b (flat_map f (text_of bytes)) (34 ∷ []) (subst (LacksRoom b) (fused f bytes) lacks))
+
+  -- a first one, and the others each behind a comma
+  pub with_commas : {A B E : Type 0} (f : B → List ℕ) (g : A → B) (a b c : Vec ℕ Z) (first : A) (rest : List A) (result : Result Unit E) → Grows a b (f (g first)) → Adds b c (flat_map (λ x. 44 ∷ f (g x)) rest) result
+      → Adds a c (f (g first) ++ flat_map (λ y. 44 ∷ f y) (map g rest)) result
+  with_commas {A} {B} {E} f g a b c first rest result one more =
+      adds_both a b c (f (g first)) (flat_map (λ y. 44 ∷ f y) (map g rest)) result one
+      (subst (λ (l : List ℕ). Adds b c l result) (sym (flat_map-map (λ y. 44 ∷ f y) g rest)) more)
+
+  -- it was refused, since there was no room
+  pub refused : {E : Type 0} (a b : Vec ℕ Z) (more : List ℕ) (result : Result Unit E) (fault : E) → result ≡ Err fault → LacksRoom a more → Adds a b more result
+  refused a b more result fault is lacks = rw is lacks
+
+  -- of the parts of some things, one after another, one had no room
+  pub no_room : {A : Type 0} (f : A → List ℕ) (a b : Vec ℕ Z) (things : List A) (i : ℕ) (d x : A) → i < length things → x ≡ get_or things i d → Grows a b (flat_map f (take i things)) → LacksRoom b (f x) → LacksRoom a (flat_map f things)
+  no_room f a b things i d x within is first lacks =
+      let one = ap (λ y. length (f y)) is in
+      let part = lacks_behind a b (flat_map f (take i things)) (f x) first lacks in
+      let both = length-append (flat_map f (take i things)) (f x) in
+      let long = length-flat_map-take f things i d within in
+      omega (arith, one, part, both, long)

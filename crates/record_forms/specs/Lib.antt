@@ -3,3 +3,4 @@ pub mod Csv
 pub mod Json
 pub mod Lines
 pub mod Parts
+pub mod Room

@@ -1,31 +1,32 @@
 //! A line of CSV.
-ghost use Rattle.std.specs.Prelude.{◌≡◌, ◌++◌, map, flat_map, OnOk};
+ghost use Rattle.std.specs.Prelude.{map, flat_map};
 ghost use Rattle.deck_runner.specs.Line.{shown_byte};
 ghost use Rattle.record_forms.specs.Columns.{text_of, column_name, column_value};
 ghost use Rattle.record_forms.specs.Csv.{doubled_quote, doubled_bytes, field, fields, csv_line};
 ghost use Rattle.record_forms.specs.Lines.{more_values, more_names};
+ghost use Rattle.record_forms.specs.Room.{Adds};
 
 use crate::column::{Column, cell_of};
 use crate::shown::{escape_of, is_plain};
+use crate::text::{add, add_char};
 use std::alloc::AllocError;
 
 /// Adds a byte to a field.
 fn add_byte(text: &mut Vec<u8>, byte: u8) -> Result<(), AllocError>
-    ensures { OnOk result (text.new.items ≡ text.old.items ++ flat_map doubled_quote (shown_byte byte)) }
+    ensures { Adds text.old text.new (flat_map doubled_quote (shown_byte byte)) result }
 {
     if byte == b'"' {
-        text.extend_from_slice(b"\"\"")
+        add(text, b"\"\"")
     } else if is_plain(byte) {
-        text.push(byte)?;
-        Ok(())
+        add_char(text, byte)
     } else {
-        text.extend_from_slice(&escape_of(byte))
+        add(text, &escape_of(byte))
     }
 }
 
 /// Adds bytes to a field.
 fn add_bytes(text: &mut Vec<u8>, bytes: &[u8]) -> Result<(), AllocError>
-    ensures { OnOk result (text.new.items ≡ text.old.items ++ doubled_bytes bytes.now) }
+    ensures { Adds text.old text.new (doubled_bytes bytes.now) result }
 {
     for byte in bytes {
         add_byte(text, *byte)?;
@@ -35,27 +36,26 @@ fn add_bytes(text: &mut Vec<u8>, bytes: &[u8]) -> Result<(), AllocError>
 
 /// Adds the field of bytes.
 fn add_field(text: &mut Vec<u8>, bytes: &[u8]) -> Result<(), AllocError>
-    ensures { OnOk result (text.new.items ≡ text.old.items ++ field (text_of bytes.now)) }
+    ensures { Adds text.old text.new (field (text_of bytes.now)) result }
 {
-    text.push(b'"')?;
+    add_char(text, b'"')?;
     add_bytes(text, bytes)?;
-    text.push(b'"')?;
-    Ok(())
+    add_char(text, b'"')
 }
 
 /// Adds the value of a column.
 fn add_value(text: &mut Vec<u8>, column: &Column, bytes: &[u8]) -> Result<(), AllocError>
-    ensures { OnOk result (text.new.items ≡ text.old.items ++ field (column_value bytes.now column.now)) }
+    ensures { Adds text.old text.new (field (column_value bytes.now column.now)) result }
 {
     add_field(text, cell_of(column, bytes))
 }
 
 /// Adds the values of columns, each behind a comma.
 fn add_more_values(text: &mut Vec<u8>, columns: &[Column], bytes: &[u8]) -> Result<(), AllocError>
-    ensures { OnOk result (text.new.items ≡ text.old.items ++ more_values bytes.now columns.now) }
+    ensures { Adds text.old text.new (more_values bytes.now columns.now) result }
 {
     for column in columns {
-        text.push(b',')?;
+        add_char(text, b',')?;
         add_value(text, column, bytes)?;
     }
     Ok(())
@@ -63,39 +63,36 @@ fn add_more_values(text: &mut Vec<u8>, columns: &[Column], bytes: &[u8]) -> Resu
 
 /// Adds the values of columns.
 fn add_values(text: &mut Vec<u8>, columns: &[Column], bytes: &[u8]) -> Result<(), AllocError>
-    ensures { OnOk result (text.new.items ≡ text.old.items
-        ++ fields (map (column_value bytes.now) columns.now)) }
+    ensures { Adds text.old text.new (fields (map (column_value bytes.now) columns.now)) result }
 {
     let Some((first, rest)) = columns.split_first() else {
         return Ok(());
     };
     add_value(text, first, bytes)?;
-    add_more_values(text, rest, bytes)?;
-    Ok(())
+    add_more_values(text, rest, bytes)
 }
 
 /// Adds the line of a record.
 pub fn add_line(text: &mut Vec<u8>, columns: &[Column], bytes: &[u8]) -> Result<(), AllocError>
-    ensures { OnOk result (text.new.items ≡ text.old.items
-        ++ csv_line (map (column_value bytes.now) columns.now)) }
+    ensures { Adds text.old text.new (csv_line (map (column_value bytes.now) columns.now)) result }
 {
     add_values(text, columns, bytes)?;
-    text.extend_from_slice(b"\r\n")
+    add(text, b"\r\n")
 }
 
 /// Adds the name of a column.
 fn add_name(text: &mut Vec<u8>, column: &Column) -> Result<(), AllocError>
-    ensures { OnOk result (text.new.items ≡ text.old.items ++ field (column_name column.now)) }
+    ensures { Adds text.old text.new (field (column_name column.now)) result }
 {
     add_field(text, column.name.as_str().as_bytes())
 }
 
 /// Adds the names of columns, each behind a comma.
 fn add_more_names(text: &mut Vec<u8>, columns: &[Column]) -> Result<(), AllocError>
-    ensures { OnOk result (text.new.items ≡ text.old.items ++ more_names columns.now) }
+    ensures { Adds text.old text.new (more_names columns.now) result }
 {
     for column in columns {
-        text.push(b',')?;
+        add_char(text, b',')?;
         add_name(text, column)?;
     }
     Ok(())
@@ -103,20 +100,19 @@ fn add_more_names(text: &mut Vec<u8>, columns: &[Column]) -> Result<(), AllocErr
 
 /// Adds the names of columns.
 fn add_names(text: &mut Vec<u8>, columns: &[Column]) -> Result<(), AllocError>
-    ensures { OnOk result (text.new.items ≡ text.old.items ++ fields (map column_name columns.now)) }
+    ensures { Adds text.old text.new (fields (map column_name columns.now)) result }
 {
     let Some((first, rest)) = columns.split_first() else {
         return Ok(());
     };
     add_name(text, first)?;
-    add_more_names(text, rest)?;
-    Ok(())
+    add_more_names(text, rest)
 }
 
 /// Adds the line of the names of columns.
 pub fn add_name_line(text: &mut Vec<u8>, columns: &[Column]) -> Result<(), AllocError>
-    ensures { OnOk result (text.new.items ≡ text.old.items ++ csv_line (map column_name columns.now)) }
+    ensures { Adds text.old text.new (csv_line (map column_name columns.now)) result }
 {
     add_names(text, columns)?;
-    text.extend_from_slice(b"\r\n")
+    add(text, b"\r\n")
 }

@@ -3,7 +3,7 @@
 //! A record has columns, each with a name and a place. `append_line` adds the line of a record, and
 //! `append_header` what stands before the first line: the names of the columns in CSV, and nothing
 //! otherwise. Every line is printable ASCII. A byte that is not, and a backslash, stands as the
-//! transcript of a run shows it.
+//! transcript of a run shows it. `line_room` sets memory aside in which no line wants more.
 //!
 //! `cut_columns` and `item_columns` make the columns of a record: between cuts, or those of its
 //! elementary items.
@@ -21,9 +21,10 @@ mod json;
 mod line;
 mod numbered;
 mod shown;
+mod text;
 
 pub use column::Column;
 pub use cuts::{CutFault, cut_columns, whole_column};
 pub use form::Form;
 pub use items::{elementary_items, item_columns};
-pub use line::{append_header, append_line};
+pub use line::{append_header, append_line, line_room};

@@ -1,8 +1,10 @@
 //! Bytes as the transcript shows them.
-ghost use Rattle.std.specs.Prelude.{◌≡◌, ◌≤◌, ◌++◌, OnOk, false};
+ghost use Rattle.std.specs.Prelude.{◌≡◌, ◌≤◌, false};
 ghost use Rattle.deck_runner.specs.Line.{hex_digit, is_plain, shown_byte};
 ghost use Rattle.record_forms.specs.Columns.{text_of};
+ghost use Rattle.record_forms.specs.Room.{Adds};
 
+use crate::text::{add, add_char};
 use std::alloc::AllocError;
 
 /// A hexadecimal digit, in lower case.
@@ -30,19 +32,18 @@ pub fn escape_of(byte: u8) -> [u8; 3]
 
 /// Adds a byte as it is shown.
 fn add_byte(text: &mut Vec<u8>, byte: u8) -> Result<(), AllocError>
-    ensures { OnOk result (text.new.items ≡ text.old.items ++ shown_byte byte) }
+    ensures { Adds text.old text.new (shown_byte byte) result }
 {
     if is_plain(byte) {
-        text.push(byte)?;
-        Ok(())
+        add_char(text, byte)
     } else {
-        text.extend_from_slice(&escape_of(byte))
+        add(text, &escape_of(byte))
     }
 }
 
 /// Adds bytes as they are shown.
 pub fn add_shown(text: &mut Vec<u8>, bytes: &[u8]) -> Result<(), AllocError>
-    ensures { OnOk result (text.new.items ≡ text.old.items ++ text_of bytes.now) }
+    ensures { Adds text.old text.new (text_of bytes.now) result }
 {
     for byte in bytes {
         add_byte(text, *byte)?;
