@@ -1,16 +1,19 @@
 -- Lines on their way to the writer.
-use Rattle.std.proofs.Common.{◌≡◌, ℕ, List, [], ◌∷◌, ◌++◌, Option, Result, Ok, Err, refl, sym, ap, subst, ◌∙◌, append_assoc, append-nil}
+use Rattle.std.proofs.Common.{◌≡◌, ◌≤◌, ℕ, length, Vec, vec_capacity, arith, List, [], ◌∷◌, ◌++◌, Option, Result, Ok, Err, refl, sym, ap, subst, ◌∙◌, append_assoc, append-nil}
 use Rattle.std.specs.Io.KnownBytes.{Appends}
 use Rattle.std.proofs.KnownBytes.{Appends-nil, Appends-trans}
 use Rattle.std.proofs.lemmas.Grind.{flat_map-append}
 use Rattle.indexed_file.specs.File.{Row}
 use Rattle.record_forms.specs.declared.form.Form.{Form}
 use Rattle.record_forms.specs.Lines.{line_in, form_header}
+use Rattle.record_forms.specs.Room.{Adds, IsLineRoom}
 use Rattle.record_listing.specs.Lines.{lines_of_rows, list_of}
 use Rattle.held_text.specs.Output.{AppendsFront, HoldsText}
+use Rattle.held_text.specs.declared.output.Refused.{Refused}
+use Rattle.std.specs.Prelude.{OnOk, OnErr}
 use Rattle.record_listing.specs.declared.rows.Stop.{Stop}
 use Rattle.record_listing.specs.declared.rows.Stop.TheVariants.{Library as GaveUp, Output as NotTaken}
-use Rattle.record_listing.specs.Reading.{IsOnItsWay, IsWrittenInPart, ComesOut, IsWritten}
+use Rattle.record_listing.specs.Reading.{HoldsLine, IsOnItsWay, IsWrittenInPart, ComesOut, IsWritten}
 
 module _ (form : Form) where
   lines_append : (a b : List Row) → lines_of_rows form (a ++ b) ≡ lines_of_rows form a ++ lines_of_rows form b
@@ -112,3 +115,17 @@ module _ (form : Form) where
 -- nothing was written
 pub unwritten : (text : List ℕ) (a : Option (List ℕ)) → IsWrittenInPart text a a
 unwritten text a = record { front = []; rest = text; text_is = refl; appends = Appends-nil a }
+
+-- a line for which a text has room stands in it
+pub in_room : {Z E : Type 0} (form : Form) (bytes : List ℕ) (most : ℕ) (old new : Vec ℕ Z) (result : Result Unit E) → Adds old new (line_in form bytes) result → old.items ≡ [] → IsLineRoom form most (vec_capacity old) → length bytes ≤ most → new.items ≡ line_in form bytes
+in_room form bytes most old new (Ok done) adds none room few = adds.items ∙ ap (λ (l : List ℕ). l ++ line_in form bytes) none
+in_room form bytes most old new (Err fault) adds none room few =
+    let fits = room bytes few in
+    let empty = ap (λ (l : List ℕ). length l) none in
+    let long = old.ok.0 in
+    absurd (omega (arith, adds, fits, empty, long))
+
+-- it is held, or the writer refused it
+pub held_or_refused : (a b : Option (List ℕ)) (held after text line : List ℕ) (result : Result Unit Refused) → text ≡ line → OnOk result (HoldsText a b held after text) → OnErr result (AppendsFront a b (held ++ text)) → HoldsLine a b held after line result
+held_or_refused a b held after text line (Ok done) is holds front = subst (HoldsText a b held after) is holds
+held_or_refused a b held after text line (Err refused) is holds front = subst (λ (l : List ℕ). AppendsFront a b (held ++ l)) is front

@@ -1,5 +1,5 @@
 -- One record more.
-use Rattle.std.proofs.Common.{◌≡◌, ◌≤◌, ◌<◌, ℕ, ◌+◌, ◌-◌, List, [], ◌∷◌, ◌++◌, length, take, Option, Some, Err, sym, ap, subst, ◌∙◌, arith}
+use Rattle.std.proofs.Common.{◌≡◌, ◌≤◌, ◌<◌, ℕ, ◌+◌, ◌-◌, List, [], ◌∷◌, ◌++◌, length, take, Option, Some, ap, subst, ◌∙◌, arith}
 use Rattle.std.specs.Prelude.{IsTrue}
 use Rattle.arrayvec.specs.ArrayVec.{ArrayVec}
 use Rattle.io_state.specs.declared.position.Position.{Position}
@@ -14,9 +14,7 @@ use Rattle.record_forms.specs.declared.form.Form.{Form}
 use Rattle.record_forms.specs.Lines.{line_in}
 use Rattle.record_listing.specs.Lines.{lines_of_rows}
 use Rattle.held_text.specs.Output.{AppendsFront, HoldsText}
-use Rattle.record_listing.specs.Reading.{OnlyReadsUnit, rows_from, RowsGoOn, ComesNext, IsOnItsWay, IsWrittenInPart, HoldsLine, ComesOut}
-use Rattle.record_listing.specs.declared.rows.Stop.{Stop}
-use Rattle.record_listing.specs.declared.rows.Stop.TheVariants.{Library as GaveUp, Output as NotTaken}
+use Rattle.record_listing.specs.Reading.{OnlyReadsUnit, rows_from, RowsGoOn, ComesNext, IsOnItsWay, IsWrittenInPart}
 use Rattle.record_listing.proofs.ListedLemmas.{no_more}
 use Rattle.record_listing.proofs.ReadingLemmas.{one_more, refused_line}
 use Rattle.record_listing.proofs.WorldLemmas.{still_true}
@@ -49,15 +47,6 @@ module _ (form : Form) (rows : List Row) (schema : Schema) (file : File) (k : �
   pub step_refused : AppendsFront b c (held ++ line_in form (take found.length area)) → IsWrittenInPart (lines_of_rows form rows) a c
   step_refused front =
       refused_line form rows (rows_from schema file k to (n - 1) (After found.key found.stamp)) next.row a b c held way_on (subst (λ (bytes : List ℕ). AppendsFront b c (held ++ line_in form bytes)) next.bytes front)
-
-  -- it is not held, or refused
-  pub step_stopped : (now : List ℕ) (stop : Stop) → HoldsLine b c held now (line_in form (take found.length area)) (Err stop) → ComesOut form rows a c now (Err stop)
-  step_stopped now (GaveUp fault) (want, same, kept) = (
-    rows_from schema file k to n position,
-    subst (λ (h : List ℕ). IsOnItsWay form rows (rows_from schema file k to n position) a c h) (sym kept)
-        (subst (λ (o : Option (List ℕ)). IsOnItsWay form rows (rows_from schema file k to n position) a o held) (sym same) way),
-  )
-  step_stopped now NotTaken front = step_refused front
 
 -- as many are done as are asked for
 pub all_done : (form : Form) (rows : List Row) (schema : Schema) (file : File) (k : ℕ) (to : Option (ArrayVec ℕ)) (n : ℕ) (position : Position) (a b : Option (List ℕ)) (held : List ℕ) → n ≤ 0

@@ -7,7 +7,6 @@ use Rattle.std.specs.Option.{option_map_or}
 use Rattle.std.specs.Io.KnownBytes.{Appends}
 use Rattle.arrayvec.specs.ArrayVec.{ArrayVec}
 use Rattle.io_state.specs.declared.fault.Fault.{Fault}
-use Rattle.io_state.specs.declared.fault.Fault.TheVariants.{Memory}
 use Rattle.io_state.specs.declared.position.Position.{Position}
 use Rattle.io_state.specs.declared.position.Position.TheVariants.{Invalid, Missing, From, After}
 use Rattle.io_state.specs.Rank.{rank_cmp}
@@ -26,6 +25,7 @@ use Rattle.record_listing.specs.declared.rows.Stop.TheVariants.{Library as GaveU
 use Rattle.record_listing.specs.Listed.{is_past}
 use Rattle.record_forms.specs.declared.form.Form.{Form}
 use Rattle.held_text.specs.Output.{AppendsFront, HoldsText}
+use Rattle.held_text.specs.declared.output.Refused.{Refused}
 use Rattle.record_listing.specs.Lines.{lines_of_rows, list_of}
 use Rattle.record_forms.specs.Lines.{line_in}
 
@@ -131,18 +131,15 @@ abbrev pub IsWritten : List ℕ → (before now : Option (List ℕ)) → Result 
 IsWritten text before now (Ok _) = Appends before now text
 IsWritten text before now (Err stop) = IsWrittenInPart text before now
 
--- the line of a record is held; or there is no memory for it, and what was held and written is as
--- it was; or the writer refused it or what was held
-abbrev pub HoldsLine : (before now : Option (List ℕ)) → (held held_after line : List ℕ) → Result Unit Stop
-    → Type 0
+-- the line of a record is held; or the writer refused it or what was held
+abbrev pub HoldsLine : (before now : Option (List ℕ)) → (held held_after line : List ℕ)
+    → Result Unit Refused → Type 0
 HoldsLine before now held held_after line (Ok _) = HoldsText before now held held_after line
-HoldsLine before now held held_after line (Err (GaveUp fault)) =
-    (fault ≡ Memory) × (now ≡ before) × (held_after ≡ held)
-HoldsLine before now held held_after line (Err NotTaken) = AppendsFront before now (held ++ line)
+HoldsLine before now held held_after line (Err refused) = AppendsFront before now (held ++ line)
 
 -- the line of the record in the first bytes of an area is held so
 abbrev pub HoldsRecord : Form → (size : ℕ) → (area : List ℕ) → (before now : Option (List ℕ))
-    → (held held_after : List ℕ) → Result Unit Stop → Type 0
+    → (held held_after : List ℕ) → Result Unit Refused → Type 0
 HoldsRecord form size area before now held held_after result =
     HoldsLine before now held held_after (line_in form (take size area)) result
 

@@ -46,6 +46,8 @@ fn list_open<L: Library, W: Write>(
     ensures leaves { LeavesListed L.shown (NamesFile 0 (L.shown.world lib.old) (L.shown.world lib.old))
         lib.old
         lib.new result }
+    ensures memory { result ≡ Err ListFault.Memory → IsFalse L.shown.may_want_memory
+        → W.contents out.new ≡ W.contents out.old }
 {
     let written = write_rows(alloc, lib, asked, form, greatest, out);
     let shut = lib.shut(0);
@@ -67,6 +69,8 @@ fn list_sound<L: Library, W: Write>(
     ensures ends { EndsSound L.shown lib.old lib.new form.now asked schema.now (W.contents out.old)
         (W.contents out.new) result }
     ensures leaves { LeavesListed L.shown (HasFileOf L.shown lib.old schema.now) lib.old lib.new result }
+    ensures memory { result ≡ Err ListFault.Memory → IsFalse L.shown.may_want_memory
+        → W.contents out.new ≡ W.contents out.old }
 {
     if usize::from(asked.key) >= schema.key_count() {
         return Ok(ListEnd::NoKey);
@@ -89,6 +93,8 @@ fn list_attached<L: Library, W: Write>(
     ensures ends { EndsAttached L.shown lib.old lib.new form.now asked (W.contents out.old)
         (W.contents out.new) result }
     ensures leaves { LeavesListed L.shown (Unit {0}) lib.old lib.new result }
+    ensures memory { result ≡ Err ListFault.Memory → IsFalse L.shown.may_want_memory
+        → W.contents out.new ≡ W.contents out.old }
 {
     match lib.look(0) {
         Ok(Seen::Absent) => Ok(ListEnd::Absent),
@@ -101,8 +107,9 @@ fn list_attached<L: Library, W: Write>(
 /// Writes the lines of the records of a file that are asked for in a form, in the order of the key,
 /// and closes the file. The library has this name attached then, and no other.
 ///
-/// `Input`: the device failed. `Output`: the writer refused a line. `Memory`. A part of the lines
-/// may have been written then, from the first one on.
+/// `Input`: the device failed. `Output`: the writer refused a line. A part of the lines may have been
+/// written then, from the first one on. `Memory`: the same; but nothing was written where the library
+/// itself wants no memory once the file is open.
 pub fn list_records<L: Library, W: Write>(
     alloc: Global,
     lib: &mut L,
@@ -117,6 +124,8 @@ pub fn list_records<L: Library, W: Write>(
         (NamesStay (L.shown.world lib.old) (L.shown.world lib.new)) }
     ensures closed { OnOk result (IsFalse (is_open (holding_at (L.shown.world lib.new) 0))) }
     ensures cause { TellsWhy L.shown name.bytes lib.old lib.new result }
+    ensures memory { result ≡ Err ListFault.Memory → IsFalse L.shown.may_want_memory
+        → W.contents out.new ≡ W.contents out.old }
     ensures keeps { Keeps L.shown lib.old lib.new }
 {
     match lib.attach(&[name]) {

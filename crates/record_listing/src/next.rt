@@ -1,5 +1,5 @@
 //! The next record.
-ghost use Rattle.std.specs.Prelude.{◌≡◌, length, IfOk, IfErr};
+ghost use Rattle.std.specs.Prelude.{◌≡◌, length, IfOk, IfErr, IsTrue};
 ghost use Rattle.indexed_file.specs.Calls.{MayAnswerShut};
 ghost use Rattle.record_listing.specs.Reading.{HasOpenFile, OnlyReadsUnit, GoesOnTruly, comes_behind, ComesBehind};
 
@@ -35,6 +35,7 @@ pub fn next_record<L: Library>(
     ensures goes { GoesOnTruly L.shown lib.old lib.new k to.now position.now area.new result }
     ensures rises { IfOk result (ComesBehind position.now) }
     ensures fault { IfErr result (MayAnswerShut L.shown 0 lib.old lib.new) }
+    ensures memory { result ≡ Err Fault.Memory → IsTrue L.shown.may_want_memory }
 {
     match lib.next(0, k, position, area) {
         Ok(Some(found)) => {

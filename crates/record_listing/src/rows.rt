@@ -1,15 +1,17 @@
 //! The records of an open file, one after another.
-ghost use Rattle.std.specs.Prelude.{◌≡◌, ◌⊎◌, [], length, IfOk, IfErr, true, false};
+ghost use Rattle.std.specs.Prelude.{◌≡◌, ◌≤◌, ◌⊎◌, [], length, take, vec_capacity, IfOk, IfErr, IsTrue, IsFalse, true};
+ghost use Rattle.std.specs.Prelude.{false};
 ghost use Rattle.record_forms.specs.Lines.{form_header};
+ghost use Rattle.record_forms.specs.Room.{IsLineRoom};
 ghost use Rattle.record_listing.specs.Reading.{CanListFile, BringsOut, WritesOut, IsWritten, HandsOver};
 ghost use Rattle.record_listing.specs.Reading.{HoldsRecord};
 
 use crate::asked::Asked;
 use crate::next::next_record;
-use held_text::{HeldText, write_text};
+use held_text::{HeldText, Refused, write_text};
 use indexed_file::{Found, Library};
 use io_state::{Fault, Key, Position};
-use record_forms::{Form, append_header, append_line};
+use record_forms::{Form, append_header, append_line, line_room};
 use std::alloc::{AllocError, Global};
 use std::io::Write;
 
@@ -22,7 +24,16 @@ pub enum Stop {
     Output,
 }
 
-/// Holds the line of the record in the first bytes of the area. It is put together in `line`.
+/// The first bytes of an area, as many of so many as it has.
+fn front_of(area: &[u8], size: u16) -> &[u8]
+    ensures front { result.now ≡ take size area.now }
+    ensures few { length result.now ≤ length area.now }
+{
+    &area[..usize::from(size).min(area.len())]
+}
+
+/// Holds the line of the record in the first bytes of the area. It is put together in `line`, which
+/// has room for it.
 fn hold_record<W: Write>(
     lines: &mut HeldText,
     line: &mut Vec<u8>,
@@ -30,35 +41,34 @@ fn hold_record<W: Write>(
     area: &[u8],
     size: u16,
     out: &mut W,
-) -> Result<(), Stop>
-    ensures { HoldsRecord form.now size area.now (W.contents out.old) (W.contents out.new) lines.old
+) -> Result<(), Refused>
+    requires room { IsLineRoom form.now (length area.now) (vec_capacity line.old) }
+    ensures held { HoldsRecord form.now size area.now (W.contents out.old) (W.contents out.new) lines.old
         lines.new result }
+    ensures room { IsLineRoom form.now (length area.now) (vec_capacity line.new) }
 {
     line.clear();
-    if append_line(line, form, &area[..usize::from(size).min(area.len())]).is_err() {
-        return Err(Stop::Library(Fault::Memory));
-    }
-    match lines.hold(line.as_slice(), out) {
-        Ok(()) => Ok(()),
-        Err(_) => Err(Stop::Output),
-    }
+    let _ = append_line(line, form, front_of(area, size));
+    lines.hold(line.as_slice(), out)
 }
 
-/// Holds the lines of the records that are asked for. Where a call of the library gives up, the
-/// first of them are held or written.
+/// Holds the lines of the records that are asked for, each of which has room in `line`. Where a call
+/// of the library gives up, the first of them are held or written.
 fn hold_rows<L: Library, W: Write>(
-    alloc: Global,
     lib: &mut L,
     asked: Asked,
     form: &Form,
     area: &mut [u8],
+    line: &mut Vec<u8>,
     lines: &mut HeldText,
     out: &mut W,
 ) -> Result<(), Stop>
     requires can { CanListFile L.shown lib.old asked.key (length area.old) }
+    requires room { IsLineRoom form.now (length area.old) (vec_capacity line.old) }
     requires empty { lines.old ≡ [] }
-    ensures { BringsOut L.shown asked lib.old lib.new form.now (W.contents out.old) (W.contents out.new)
-        lines.new result }
+    ensures brings { BringsOut L.shown asked lib.old lib.new form.now (W.contents out.old)
+        (W.contents out.new) lines.new result }
+    ensures memory { result ≡ Err (Stop.Library Fault.Memory) → IsTrue L.shown.may_want_memory }
 {
     let Asked {
         key,
@@ -66,7 +76,6 @@ fn hold_rows<L: Library, W: Write>(
         to,
         first,
     } = asked;
-    let mut line = Vec::new(alloc);
     let mut position = Position::From(from);
     let mut left = first;
     'more: while left > 0 {
@@ -75,12 +84,12 @@ fn hold_rows<L: Library, W: Write>(
             Ok(None) => return Ok(()),
             Err(fault) => return Err(Stop::Library(fault)),
         };
-        match hold_record(lines, &mut line, form, area, found.length, out) {
+        match hold_record(lines, line, form, area, found.length, out) {
             Ok(()) => {
                 position = Position::After(found.key, found.stamp);
                 left -= 1;
             }
-            Err(stop) => return Err(stop),
+            Err(_) => return Err(Stop::Output),
         }
     }
     Ok(())
@@ -125,6 +134,7 @@ fn blank_area(alloc: Global, size: u16) -> Result<Vec<u8>, AllocError>
 fn write_header<W: Write>(alloc: Global, form: &Form, out: &mut W) -> Result<(), Stop>
     ensures written { IsWritten (form_header form.now) (W.contents out.old) (W.contents out.new) result }
     ensures cause { IfErr result (λ stop. (stop ≡ Stop.Output) ⊎ (stop ≡ Stop.Library Fault.Memory)) }
+    ensures memory { result ≡ Err (Stop.Library Fault.Memory) → W.contents out.new ≡ W.contents out.old }
 {
     let mut header = Vec::new(alloc);
     if append_header(&mut header, form).is_err() {
@@ -137,7 +147,8 @@ fn write_header<W: Write>(alloc: Global, form: &Form, out: &mut W) -> Result<(),
 }
 
 /// Writes the list of the records of the open file of unit 0 that are asked for. Where that fails,
-/// a front of it may have been written.
+/// a front of it may have been written; but where the library itself wants no memory, what the list
+/// needs is set aside before its first byte.
 pub fn write_rows<L: Library, W: Write>(
     alloc: Global,
     lib: &mut L,
@@ -147,8 +158,10 @@ pub fn write_rows<L: Library, W: Write>(
     out: &mut W,
 ) -> Result<(), Stop>
     requires { CanListFile L.shown lib.old asked.key greatest }
-    ensures { WritesOut L.shown asked lib.old lib.new form.now (W.contents out.old)
+    ensures writes { WritesOut L.shown asked lib.old lib.new form.now (W.contents out.old)
         (W.contents out.new) result }
+    ensures memory { result ≡ Err (Stop.Library Fault.Memory) → IsFalse L.shown.may_want_memory
+        → W.contents out.new ≡ W.contents out.old }
 {
     let Ok(mut area) = blank_area(alloc, greatest) else {
         return Err(Stop::Library(Fault::Memory));
@@ -156,14 +169,17 @@ pub fn write_rows<L: Library, W: Write>(
     let Ok(mut lines) = HeldText::new(alloc) else {
         return Err(Stop::Library(Fault::Memory));
     };
+    let Ok(mut line) = line_room(alloc, form, greatest) else {
+        return Err(Stop::Library(Fault::Memory));
+    };
     match write_header(alloc, form, out) {
         Ok(()) => {
             let held = hold_rows(
-                alloc,
                 lib,
                 asked,
                 form,
                 area.as_mut_slice(),
+                &mut line,
                 &mut lines,
                 out,
             );

@@ -17,6 +17,6 @@ returns-clause-ends g c honest truly =
     let sound = file_is_sound (holding_at world 0) c.requires.file.opened (files.units 0 refl).holding in
     subst (EndsList c.args.form.now c.args.asked (Closed (schema_at world 0) (file_at world 0)) (g.W.Write.contents c.args.out.now) (g.W.Write.contents c.write_rows-written.new.out)) (sym c.end_of.ensures)
     (ends shown a d honest truly c.args.form.now (schema_at world 0) (file_at world 0) c.args.asked (g.W.Write.contents c.args.out.now) (g.W.Write.contents c.write_rows-written.new.out)
-    c.write_rows-written.result c.shut-shut.result c.requires.file.key sound (c.write_rows-written.ensures.rows (keeps.honest honest) truly)
-    (stop_before shown a b d c.write_rows-written.result keeps c.write_rows-written.ensures.cause)
-    (shut_after shown a b d c.shut-shut.result c.requires.file.attached c.write_rows-written.ensures.reads keeps c.requires.file.unbroken c.shut-shut.ensures.shuts.fault))
+    c.write_rows-written.result c.shut-shut.result c.requires.file.key sound (c.write_rows-written.ensures.writes.rows (keeps.honest honest) truly)
+    (stop_before shown a b d c.write_rows-written.result keeps c.write_rows-written.ensures.writes.cause)
+    (shut_after shown a b d c.shut-shut.result c.requires.file.attached c.write_rows-written.ensures.writes.reads keeps c.requires.file.unbroken c.shut-shut.ensures.shuts.fault))

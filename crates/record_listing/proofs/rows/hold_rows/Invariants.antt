@@ -1,9 +1,11 @@
-use Rattle.std.proofs.Common.{IsTrue}
+use Rattle.std.proofs.Common.{IsTrue, length, vec_capacity}
 use Rattle.indexed_file.specs.World.{schema_at, file_at, name_at}
+use Rattle.record_forms.specs.Room.{IsLineRoom}
 use Rattle.record_listing.specs.Reading.{OnlyReadsUnit, rows_from, rows_asked, IsOnItsWay}
 use Rattle.record_listing.proofs.rows.hold_rows.Given as goal
 
--- unit 0 was only read so far, and the lines of the rows that are still to come are not on their way
+-- unit 0 was only read so far, the lines of the rows that are still to come are not on their way, and
+-- there is room for each of them
 abbrev pub invariant-more : goal.invariant-more
 invariant-more g l =
     let shown = g.L.Library.shown in
@@ -14,6 +16,7 @@ invariant-more g l =
           → IsOnItsWay l.fn.form (rows_asked (schema_at world 0) (file_at world 0) l.fn.asked)
           (rows_from (schema_at world 0) (file_at world 0) l.fn.asked.key l.fn.asked.to l.left l.position)
           (g.W.Write.contents l.fn.out) (g.W.Write.contents l.out) l.lines;
+      room : IsLineRoom l.fn.form (length l.fn.area) (vec_capacity l.line);
     }
 
 abbrev pub decreases-more : goal.decreases-more

@@ -5,19 +5,19 @@ use Rattle.record_listing.proofs.ReadingLemmas.{behind_header, in_header}
 use Rattle.record_listing.proofs.WorldLemmas.{reads_self}
 use Rattle.record_listing.proofs.rows.write_rows.Goals as goal
 
-pub returns-in-Ok-write_header : goal.returns-in-Ok-write_header
-returns-in-Ok-write_header g c =
+pub returns-in-Ok-write_header-clause-writes : goal.returns-in-Ok-write_header-clause-writes
+returns-in-Ok-write_header-clause-writes g c =
     let world = g.L.Library.shown.world c.args.lib.now in
     record {
-      reads = c.hold_rows-held.ensures.reads;
+      reads = c.hold_rows-held.ensures.brings.reads;
       rows = λ honest truly.
           behind_header c.args.form.now (rows_asked (schema_at world 0) (file_at world 0) c.args.asked) (g.W.Write.contents c.args.out.now) (g.W.Write.contents c.write_header.new.out) (g.W.Write.contents c.hand_over.new.out) c.hand_over.result
-          c.in-Ok-write_header.ensures.written (c.hand_over.ensures.written c.args.form.now _ _ (c.hold_rows-held.ensures.rows honest truly));
+          c.in-Ok-write_header.ensures.written (c.hand_over.ensures.written c.args.form.now _ _ (c.hold_rows-held.ensures.brings.rows honest truly));
       cause = search rules;
     }
 
-pub returns : goal.returns
-returns g c =
+pub returns-clause-writes : goal.returns-clause-writes
+returns-clause-writes g c =
     let world = g.L.Library.shown.world c.args.lib.now in
     record {
       reads = reads_self g.L.Library.shown c.args.lib.now;
