@@ -40,6 +40,7 @@ pub fn list_sound<W: Write>(
 ) -> Result<FileList, ListFault>
     requires sound { (records : ℕ) × (pages : ℕ) × IsSound bytes.items records pages }
     ensures ends { EndsIn form.now bytes.items asked (W.contents out.old) (W.contents out.new) result }
+    ensures memory { result ≡ Err ListFault.Memory → W.contents out.new ≡ W.contents out.old }
 {
     let shelf = FileBytes::new(alloc, bytes);
     let frames = NonZeroUsize::new(FRAMES).unwrap_or(NonZeroUsize::MIN);
@@ -55,8 +56,8 @@ pub fn list_sound<W: Write>(
 /// Writes the lines of the records that are asked for of the file that has these bytes, in a form,
 /// once a check has found them sound.
 ///
-/// `Output`: the writer refused a line; a front of the list may have been written. `Memory`: the
-/// same, or nothing was written. `Input` never comes: the bytes are there.
+/// `Output`: the writer refused a line; a front of the list may have been written. `Memory`: nothing
+/// was written. `Input` never comes: the bytes are there.
 pub fn list_file_as<W: Write>(
     alloc: Global,
     bytes: Vec<u8>,
@@ -65,6 +66,7 @@ pub fn list_file_as<W: Write>(
     out: &mut W,
 ) -> Result<FileList, ListFault>
     ensures ends { EndsIn form.now bytes.items asked (W.contents out.old) (W.contents out.new) result }
+    ensures memory { result ≡ Err ListFault.Memory → W.contents out.new ≡ W.contents out.old }
 {
     match check_bytes(alloc, bytes.as_slice()) {
         Ok(Verdict::Sound { .. }) => list_sound(alloc, bytes, asked, form, out),
@@ -82,6 +84,7 @@ pub fn list_file<W: Write>(
     out: &mut W,
 ) -> Result<FileList, ListFault>
     ensures ends { EndsFileList bytes.items asked (W.contents out.old) (W.contents out.new) result }
+    ensures memory { result ≡ Err ListFault.Memory → W.contents out.new ≡ W.contents out.old }
 {
     list_file_as(alloc, bytes, asked, &Form::Text, out)
 }

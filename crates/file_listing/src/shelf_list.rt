@@ -20,8 +20,8 @@ const FRAMES: usize = 1024;
 /// Writes the lines of the records that are asked for of the file of the empty name, as they are read
 /// page after page, and gives the shelf back. No call writes.
 ///
-/// `Input`: the device failed. `Output`: the writer refused a line. `Memory`. A front of the list may
-/// have been written then.
+/// `Input`: the device failed. `Output`: the writer refused a line. A front of the list may have been
+/// written then. `Memory`: nothing was written.
 pub fn list_shelf<S: Shelf, W: Write>(
     alloc: Global,
     shelf: S,
@@ -32,6 +32,7 @@ pub fn list_shelf<S: Shelf, W: Write>(
     requires names { (S.state shelf).names ≡ [] }
     ensures ends { ListsTruly (S.state shelf) (S.state result.0) form.now asked (W.contents out.old)
         (W.contents out.new) result.1 }
+    ensures memory { result.1 ≡ Err ListFault.Memory → W.contents out.new ≡ W.contents out.old }
 {
     let frames = NonZeroUsize::new(FRAMES).unwrap_or(NonZeroUsize::MIN);
     let mut library = ShelfLibrary::new(alloc, shelf, PAGES, frames);
