@@ -8,7 +8,7 @@ ghost use Rattle.salvaged_records.specs.Lines.{GoOn, WritesRecords};
 use crate::slots::{is_heap_page, record_at};
 use held_text::HeldText;
 use page_bytes::PAGE_SIZE;
-use record_forms::{Form, append_line};
+use record_forms::{Form, append_line, line_room};
 use record_heap::Shape;
 use record_listing::ListFault;
 use std::alloc::Global;
@@ -94,7 +94,7 @@ fn hold_page<W: Write>(
     hold_slots(lines, line, count, page, shape, out)
 }
 
-/// Holds the lines of the records in the slots of pages.
+/// Holds the lines of the records in the slots of pages. The room for a line is set aside first.
 fn hold_pages<W: Write>(
     alloc: Global,
     lines: &mut HeldText,
@@ -106,7 +106,9 @@ fn hold_pages<W: Write>(
     ensures { OnOk result (GoOn (records_of_pages shape pages.now)
         (W.contents out.old) (W.contents out.new) lines.old lines.new count.old count.new) }
 {
-    let mut line = Vec::new(alloc);
+    let Ok(mut line) = line_room(alloc, &Form::Text, shape.greatest) else {
+        return Err(ListFault::Memory);
+    };
     for page in pages {
         hold_page(lines, &mut line, count, page, shape, out)?;
     }
