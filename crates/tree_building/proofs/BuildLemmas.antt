@@ -1,0 +1,227 @@
+-- A tree that is being built, leaf by leaf and entry by entry.
+use Rattle.std.proofs.Common.{◌≡◌, ℕ, ◌+◌, ◌≤◌, List, [], ◌∷◌, ◌++◌, length, map, None, IsSome, refl, ap, sym, subst, ◌∙◌, arith, flat_map, append_assoc}
+use Rattle.std.proofs.lemmas.Grind.{flat_map-append}
+use Rattle.std.proofs.lemmas.List.{map-append, length-append}
+use Rattle.tree_node.specs.declared.shape.Shape.{Shape}
+use Rattle.tree_node.specs.Leaf.{IsLeaf, leaf_entries, leaf_room}
+use Rattle.tree_node.proofs.OrderLemmas.{Each-weaker}
+use Rattle.node_balance.specs.declared.separator.Separator.{Separator}
+use Rattle.node_balance.specs.Fill.{least_entries}
+use Rattle.page_bytes.specs.Each.{Each}
+use Rattle.pages.specs.PageMap.{PageMap, Takes}
+use Rattle.pages.specs.Owners.{AreApart, ChangesPages}
+use Rattle.tree_search.specs.Tree.{TreeOf, page_of, entries_of, pages_of}
+use Rattle.tree_search.specs.Stored.{Holds}
+use Rattle.tree_search.specs.Calls.{IsWhole}
+use Rattle.tree_node.specs.Order.{Ascends}
+use Rattle.bplus_tree.specs.declared.tree.Tree.{Tree}
+use Rattle.bplus_tree.specs.Standing.{TreeStands, Changed}
+use Rattle.bplus_tree.proofs.RemoveLemmas.{changes_trans}
+use Rattle.tree_building.specs.declared.rising.Base.{Base}
+use Rattle.tree_building.specs.Rising.{HasRootOver}
+use Rattle.std.specs.Prelude.{Result, Ok}
+use Rattle.io_state.specs.declared.fault.Fault.{Fault}
+use Rattle.pages.specs.Answer.{IsAnswer}
+use Rattle.tree_building.proofs.RootLemmas.{answer_map}
+use Rattle.tree_building.proofs.LedLemmas.{no_bounds}
+use Rattle.tree_search.proofs.RowLemmas.{Each-append}
+use Rattle.bplus_tree.proofs.PageLemmas.{rows_still}
+use Rattle.tree_building.specs.declared.builder.TreeBuilder.{TreeBuilder}
+use Rattle.tree_building.specs.Level.{lead_of, IsBelow}
+use Rattle.tree_building.specs.Leaves.{HasNextLeaf}
+use Rattle.tree_building.specs.Pending.{TakesEntryBehind}
+use Rattle.tree_building.specs.Building.{AreInLeaves, HasWritten, IsBuilding, BuildsOn, WritesMore, StandsOver, FinishesTree}
+use Rattle.tree_building.proofs.PageLemmas.{taken_keeps, changes_more, changes_same, keeps_on}
+use Rattle.tree_building.proofs.RisingLemmas.{append_none, kids_live}
+
+-- one leaf more is written
+pub written_more : (shape : Shape) (before after : PageMap) (nodes now : List Separator) (entries : List (List ℕ)) (own leaf : List ℕ)
+    → AreInLeaves shape before nodes entries own → IsLeaf shape leaf → least_entries shape 0 ≤ length (leaf_entries shape leaf)
+    → HasNextLeaf shape leaf before after nodes now → HasWritten shape before after now (entries ++ leaf_entries shape leaf) own
+written_more shape before after nodes now entries own leaf w is large added =
+    let t : TreeOf 0 = (added.page, leaf_entries shape leaf) in
+    let kept = taken_keeps added.takes in
+    let live = kids_live shape before 0 w.leaves w.level.holds in
+    let changes : ChangesPages before after own (own ++ added.page ∷ []) =
+    subst (λ (l : List ℕ). ChangesPages before after l (own ++ added.page ∷ [])) (append_none own)
+    (changes_more before before after own [] own added.page leaf (changes_same before own w.apart) added.takes
+    (subst AreApart (sym (append_none own)) w.apart) tt (subst (Each (λ n. IsSome (before n))) w.own_are live)) in
+    record {
+      own_now = own ++ added.page ∷ [];
+      written = record {
+        leaves = w.leaves ++ t ∷ [];
+        level = record {
+          holds = Each-append (Holds shape after 0) w.leaves (t ∷ [])
+              (rows_still shape before after 0 w.leaves w.level.holds
+              (Each-weaker (λ n. IsSome (before n)) (λ n. after n ≡ before n) kept (flat_map (pages_of 0) w.leaves) live))
+              (record { bytes = leaf; there = added.takes.page; leaf = is; holds = refl }, tt);
+          below = Each-append (IsBelow shape 0) w.leaves (t ∷ []) w.level.below (record { large = large; filled = tt; led = tt }, tt);
+          keys = added.keys ∙ ap (λ l. l ++ lead_of shape.width 0 t ∷ []) w.level.keys ∙ sym (map-append (lead_of shape.width 0) w.leaves (t ∷ []));
+          leads = added.leads ∙ ap (λ l. l ++ added.page ∷ []) w.level.leads ∙ sym (map-append (page_of 0) w.leaves (t ∷ []));
+        };
+        own_are = flat_map-append (pages_of 0) w.leaves (t ∷ []) ∙ ap (λ l. l ++ added.page ∷ []) w.own_are;
+        apart = changes.apart;
+        has = flat_map-append (entries_of 0) w.leaves (t ∷ []) ∙ ap (λ l. l ++ (leaf_entries shape leaf ++ [])) w.has ∙ ap (λ l. entries ++ l) (append_none (leaf_entries shape leaf));
+      };
+      changes = changes;
+    }
+
+-- the first of two full leaves is written
+pub room_made : (before after : PageMap) (old new : TreeBuilder) (now : List Separator) (entries : List (List ℕ)) (own : List ℕ) → IsBuilding old before entries own
+    → HasNextLeaf old.shape old.lower before after old.leaves.items now → IsLeaf old.shape old.lower → leaf_room old.shape ≤ length (leaf_entries old.shape old.lower)
+    → new.shape ≡ old.shape → new.leaves.items ≡ now → new.lower ≡ old.upper → leaf_entries old.shape new.upper ≡ [] → new.count ≡ old.count
+    → BuildsOn before after new own entries
+room_made before after old new now entries own b added is full shape_is leaves_are lower_is none count_is =
+    let shape = old.shape in
+    let lower = leaf_entries shape old.lower in
+    let upper = leaf_entries shape old.upper in
+    let w = written_more shape before after old.leaves.items now b.front own old.lower b.written is (omega arith) added in
+    let first : leaf_entries new.shape new.lower ≡ upper = ap (λ (s : Shape). leaf_entries s new.lower) shape_is ∙ ap (leaf_entries shape) lower_is in
+    let second : leaf_entries new.shape new.upper ≡ [] = ap (λ (s : Shape). leaf_entries s new.upper) shape_is ∙ none in
+    record {
+      own_now = w.own_now;
+      building = record {
+        front = b.front ++ lower;
+        written = subst (λ (s : Shape). AreInLeaves s after new.leaves.items (b.front ++ lower) w.own_now) (sym shape_is)
+            (subst (λ (l : List Separator). AreInLeaves shape after l (b.front ++ lower) w.own_now) (sym leaves_are) w.written);
+        has = ap (λ l. (b.front ++ lower) ++ (l ++ leaf_entries new.shape new.upper)) first ∙ ap (λ l. (b.front ++ lower) ++ (upper ++ l)) second
+            ∙ ap (λ l. (b.front ++ lower) ++ l) (append_none upper) ∙ append_assoc b.front lower upper ∙ b.has;
+        count = count_is ∙ b.count;
+      };
+      changes = w.changes;
+    }
+
+-- nothing is written
+pub room_kept : (pages : PageMap) (builder : TreeBuilder) (entries : List (List ℕ)) (own : List ℕ) → IsBuilding builder pages entries own → BuildsOn pages pages builder own entries
+room_kept pages builder entries own b = record { own_now = own; building = b; changes = changes_same pages own b.written.apart }
+
+-- one entry more stands in the leaves that are not written
+pub entry_pushed : (before after : PageMap) (mid new : TreeBuilder) (entry own : List ℕ) (entries : List (List ℕ)) → BuildsOn before after mid own entries
+    → TakesEntryBehind mid.shape entry mid.lower mid.upper new.lower new.upper → new.shape ≡ mid.shape → new.leaves.items ≡ mid.leaves.items → new.count ≡ mid.count + 1
+    → BuildsOn before after new own (entries ++ entry ∷ [])
+entry_pushed before after mid new entry own entries goes takes shape_is leaves_are count_is =
+    let b = goes.building in
+    let lower = leaf_entries mid.shape mid.lower in
+    let upper = leaf_entries mid.shape mid.upper in
+    let had = b.count in
+    record {
+      own_now = goes.own_now;
+      building = record {
+        front = b.front;
+        written = subst (λ (s : Shape). AreInLeaves s after new.leaves.items b.front goes.own_now) (sym shape_is)
+            (subst (λ (l : List Separator). AreInLeaves mid.shape after l b.front goes.own_now) (sym leaves_are) b.written);
+        has = ap (λ l. b.front ++ l) (ap (λ (s : Shape). leaf_entries s new.lower ++ leaf_entries s new.upper) shape_is ∙ takes.has ∙ sym (append_assoc lower upper (entry ∷ [])))
+            ∙ sym (append_assoc b.front (lower ++ upper) (entry ∷ [])) ∙ ap (λ l. l ++ entry ∷ []) b.has;
+        count = omega (arith, length-append entries (entry ∷ []));
+      };
+      changes = goes.changes;
+    }
+
+pub none_written : (shape : Shape) (pages : PageMap) → AreInLeaves shape pages [] [] []
+none_written shape pages = record { leaves = []; level = record { holds = tt; below = tt; keys = refl; leads = refl }; own_are = refl; apart = tt; has = refl }
+
+-- two leaves are written, one behind the other
+pub two_written : (shape : Shape) (before mid after : PageMap) (first second : List Separator) (entries lower upper all : List (List ℕ)) (own : List ℕ)
+    → (one : HasWritten shape before mid first (entries ++ lower) own) → HasWritten shape mid after second ((entries ++ lower) ++ upper) one.own_now → lower ++ upper ≡ all
+    → HasWritten shape before after second (entries ++ all) own
+two_written shape before mid after first second entries lower upper all own one two same = record {
+  own_now = two.own_now;
+  written = subst (λ (l : List (List ℕ)). AreInLeaves shape after second l two.own_now) (append_assoc entries lower upper ∙ ap (λ l. entries ++ l) same) two.written;
+  changes = changes_trans before mid after own one.own_now two.own_now one.changes two.changes;
+}
+
+-- ---- the whole tree
+
+stands_of : (tree : Tree) (pages : PageMap) (entries : List (List ℕ)) (own : List ℕ) (shape : Shape) (root levels : ℕ) → tree.shape ≡ shape → tree.root ≡ root → tree.levels ≡ levels
+    → tree.count ≡ length entries → (value : TreeOf levels) → IsWhole shape pages levels root None None value → entries_of levels value ≡ entries → pages_of levels value ≡ own
+    → TreeStands tree pages entries own
+stands_of tree pages entries own shape root levels shape_is root_is levels_are count value whole has own_are =
+    subst (λ (l : ℕ). (v : TreeOf l) → IsWhole shape pages l root None None v → entries_of l v ≡ entries → pages_of l v ≡ own → TreeStands tree pages entries own) levels_are
+    (λ v whole has own_are. record {
+      value = v;
+      whole = subst (λ (s : Shape). IsWhole s pages tree.levels tree.root None None v) (sym shape_is)
+          (subst (λ (r : ℕ). IsWhole shape pages tree.levels r None None v) (sym root_is) whole);
+      has = has;
+      pages_are = own_are;
+      count = count;
+    }) value whole has own_are
+
+pub stands_over : (shape : Shape) (before after : PageMap) (nodes : List Separator) (entries : List (List ℕ)) (own : List ℕ) (base : Base) (tree : Tree) (count : ℕ)
+    → (w : AreInLeaves shape before nodes entries own) → HasRootOver shape before after 0 w.leaves base → Ascends shape.width (entries ++ []) → count ≡ length (entries ++ [])
+    → tree.shape ≡ shape → tree.root ≡ base.root → tree.levels ≡ base.levels → tree.count ≡ count → Changed before after tree own (entries ++ [])
+stands_over shape before after nodes entries own base tree count w root rises counted shape_is root_is levels_are count_is =
+    let all : flat_map (entries_of 0) w.leaves ≡ entries ++ [] = w.has ∙ sym (append_none entries) in
+    record {
+      own_now = pages_of base.levels root.tree;
+      stands = stands_of tree after (entries ++ []) (pages_of base.levels root.tree) shape base.root base.levels shape_is root_is levels_are (count_is ∙ counted) root.tree
+          (root.whole (subst (Ascends shape.width) (sym all) rises)) (root.has ∙ all) refl;
+      changes = subst (λ (l : List ℕ). ChangesPages before after l (pages_of base.levels root.tree)) w.own_are root.changes;
+    }
+
+no_leaves : (leaves : List (TreeOf 0)) → [] ≡ map (page_of 0) leaves → leaves ≡ []
+no_leaves [] e = refl
+no_leaves (t ∷ ts) e = cc e
+
+pub stands_alone : (shape : Shape) (before after : PageMap) (entries : List (List ℕ)) (own leaf : List ℕ) (root count : ℕ) (tree : Tree) → AreInLeaves shape before [] entries own
+    → Takes before after root leaf → IsLeaf shape leaf → Ascends shape.width (entries ++ leaf_entries shape leaf) → count ≡ length (entries ++ leaf_entries shape leaf)
+    → tree.shape ≡ shape → tree.root ≡ root → tree.levels ≡ 0 → tree.count ≡ count → Changed before after tree own (entries ++ leaf_entries shape leaf)
+stands_alone shape before after entries own leaf root count tree w takes is rises counted shape_is root_is levels_are count_is =
+    let none = no_leaves w.leaves w.level.leads in
+    let no_entries : entries ≡ [] = sym w.has ∙ ap (flat_map (entries_of 0)) none in
+    let no_pages : own ≡ [] = sym w.own_are ∙ ap (flat_map (pages_of 0)) none in
+    let all : leaf_entries shape leaf ≡ entries ++ leaf_entries shape leaf = sym (ap (λ l. l ++ leaf_entries shape leaf) no_entries) in
+    let value : TreeOf 0 = (root, leaf_entries shape leaf) in
+    let changes : ChangesPages before after [] (root ∷ []) = changes_more before before after [] [] [] root leaf (changes_same before [] tt) takes tt tt tt in
+    record {
+      own_now = root ∷ [];
+      stands = stands_of tree after (entries ++ leaf_entries shape leaf) (root ∷ []) shape root 0 shape_is root_is levels_are (count_is ∙ counted) value
+          (record {
+            stands = record {
+              holds = record { bytes = leaf; there = takes.page; leaf = is; holds = refl };
+              root = refl;
+              ordered = (subst (Ascends shape.width) (sym all) rises, no_bounds shape.width (leaf_entries shape leaf));
+            };
+            apart = changes.apart;
+            filled = tt;
+            rooted = tt;
+          }) all refl;
+      changes = subst (λ (l : List ℕ). ChangesPages before after l (root ∷ [])) (sym no_pages) changes;
+    }
+
+-- what stands over more leaves stands over those before, with the entries of the others
+pub more_stands : (shape : Shape) (before mid after : PageMap) (old new : List Separator) (more : List (List ℕ)) (count : ℕ) (result : Result Tree Fault) {still is_sound : Type 0}
+    → WritesMore shape old new more (Ok tt) before mid still → StandsOver shape new [] count result mid after is_sound → StandsOver shape old more count result before after is_sound
+more_stands shape before mid after old new more count result writes over = record {
+  stands = λ entries own w rises counted.
+      let all = append_none (entries ++ more) in
+      let had = (writes.writes entries own w).answer in
+      answer_map (over.stands (entries ++ more) had.own_now had.written (subst (Ascends shape.width) (sym all) rises) (counted ∙ sym (ap length all)))
+      (λ tree now. record {
+        own_now = now.own_now;
+        stands = subst (λ (l : List (List ℕ)). TreeStands tree after l now.own_now) all now.stands;
+        changes = changes_trans before mid after own had.own_now now.own_now had.changes now.changes;
+      });
+  kept = keeps_on writes.kept over.kept;
+  sound = over.sound;
+}
+
+-- what stands over the leaves of a builder, with the entries of those that were not written
+pub finishes : (old : TreeBuilder) (before after : PageMap) (more : List (List ℕ)) (result : Result Tree Fault) {is_sound : Type 0}
+    → leaf_entries old.shape old.lower ++ leaf_entries old.shape old.upper ≡ more
+    → StandsOver old.shape old.leaves.items more old.count result before after is_sound → FinishesTree old result before after is_sound
+finishes old before after more result same over = record {
+  finished = λ entries own b rises.
+      let all : b.front ++ more ≡ entries = ap (λ l. b.front ++ l) (sym same) ∙ b.has in
+      subst (λ (l : List (List ℕ)). IsAnswer result (λ tree. Changed before after tree own l)) all
+      (over.stands b.front own b.written (subst (Ascends old.shape.width) (sym all) rises) (b.count ∙ sym (ap length all)));
+  kept = over.kept;
+  sound = over.sound;
+}
+
+pub behind_none : (lower upper : List (List ℕ)) → length upper ≡ 0 → lower ++ upper ≡ lower
+behind_none lower [] e = append_none lower
+behind_none lower (x ∷ xs) e = absurd (omega arith)
+
+pub no_nodes : (nodes : List Separator) → length nodes ≡ 0 → nodes ≡ []
+no_nodes [] e = refl
+no_nodes (n ∷ ns) e = absurd (omega arith)

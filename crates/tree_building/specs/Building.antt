@@ -1,0 +1,100 @@
+-- A tree that is being built: the leaves that are written, and what comes of it.
+use Rattle.std.specs.Prelude.{◌≡◌, ◌≤◌, ℕ, List, [], ◌∷◌, ◌++◌, flat_map, length, Result}
+use Rattle.io_state.specs.declared.fault.Fault.{Fault}
+use Rattle.tree_node.specs.declared.shape.Shape.{Shape}
+use Rattle.tree_node.specs.Leaf.{leaf_entries, IsLeaf}
+use Rattle.node_balance.specs.Fill.{least_entries}
+use Rattle.tree_node.specs.Order.{Ascends}
+use Rattle.node_balance.specs.declared.separator.Separator.{Separator}
+use Rattle.pages.specs.PageMap.{PageMap}
+use Rattle.pages.specs.Owners.{AreApart, ChangesPages}
+use Rattle.pages.specs.Answer.{IsAnswer}
+use Rattle.tree_search.specs.Tree.{TreeOf, entries_of, pages_of}
+use Rattle.bplus_tree.specs.declared.tree.Tree.{Tree}
+use Rattle.bplus_tree.specs.Standing.{Changed}
+use Rattle.tree_building.specs.declared.builder.TreeBuilder.{TreeBuilder}
+use Rattle.tree_building.specs.Level.{IsLevel}
+use Rattle.tree_building.specs.Fresh.{KeepsInUse}
+
+-- these entries stand in these pages, in leaves that nodes head
+pub record AreInLeaves (shape : Shape) (pages : PageMap) (nodes : List Separator) (entries : List (List ℕ))
+    (own : List ℕ) : Type 0 where
+  pub leaves : List (TreeOf 0)
+  pub level : IsLevel shape pages 0 nodes leaves
+  pub own_are : flat_map (pages_of 0) leaves ≡ own
+  pub apart : AreApart own
+  pub has : flat_map (entries_of 0) leaves ≡ entries
+
+-- these are the entries of the builder, in order: those that are written in these pages, and then
+-- those of the two leaves that are not
+pub record IsBuilding (builder : TreeBuilder) (pages : PageMap) (entries : List (List ℕ))
+    (own : List ℕ) : Type 0 where
+  pub front : List (List ℕ)
+  pub written : AreInLeaves builder.shape pages builder.leaves.items front own
+  pub has : front ++ (leaf_entries builder.shape builder.lower ++ leaf_entries builder.shape builder.upper)
+      ≡ entries
+  pub count : builder.count ≡ length entries
+
+-- it has these entries now, and pages more that were not in use
+pub record BuildsOn (before after : PageMap) (new : TreeBuilder) (own : List ℕ)
+    (entries : List (List ℕ)) : Type 0 where
+  pub own_now : List ℕ
+  pub building : IsBuilding new after entries own_now
+  pub changes : ChangesPages before after own own_now
+
+-- the entries stay, and more of them may be written
+pub record MakesLeafRoom (old new : TreeBuilder) (result : Result Unit Fault) (before after : PageMap)
+    (is_sound : Type 0) : Type 0 where
+  pub made : (entries : List (List ℕ)) (own : List ℕ) → IsBuilding old before entries own
+      → IsAnswer result (λ done. BuildsOn before after new own entries)
+  pub kept : KeepsInUse before after
+  pub sound : is_sound
+
+-- one entry more comes behind them
+pub record Pushes (old new : TreeBuilder) (entry : List ℕ) (result : Result Unit Fault)
+    (before after : PageMap) (is_sound : Type 0) : Type 0 where
+  pub pushed : (entries : List (List ℕ)) (own : List ℕ) → IsBuilding old before entries own
+      → IsAnswer result (λ done. BuildsOn before after new own (entries ++ entry ∷ []))
+  pub kept : KeepsInUse before after
+  pub sound : is_sound
+
+-- a tree stands for them, where their keys rise
+pub record FinishesTree (old : TreeBuilder) (result : Result Tree Fault) (before after : PageMap)
+    (is_sound : Type 0) : Type 0 where
+  pub finished : (entries : List (List ℕ)) (own : List ℕ) → IsBuilding old before entries own
+      → Ascends old.shape.width entries → IsAnswer result (λ tree. Changed before after tree own entries)
+  pub kept : KeepsInUse before after
+  pub sound : is_sound
+
+-- of its nodes
+abbrev pub builder_shape : TreeBuilder → Shape
+builder_shape builder = builder.shape
+
+-- these entries are written, in these pages and in those that were not in use
+pub record HasWritten (shape : Shape) (before after : PageMap) (nodes : List Separator)
+    (entries : List (List ℕ)) (own : List ℕ) : Type 0 where
+  pub own_now : List ℕ
+  pub written : AreInLeaves shape after nodes entries own_now
+  pub changes : ChangesPages before after own own_now
+
+-- so many entries more are written, behind those before
+pub record WritesMore (shape : Shape) (old new : List Separator) (more : List (List ℕ))
+    (result : Result Unit Fault) (before after : PageMap) (is_sound : Type 0) : Type 0 where
+  pub writes : (entries : List (List ℕ)) (own : List ℕ) → AreInLeaves shape before old entries own
+      → IsAnswer result (λ done. HasWritten shape before after new (entries ++ more) own)
+  pub kept : KeepsInUse before after
+  pub sound : is_sound
+
+-- a tree stands over the leaves, for so many entries whose keys rise
+pub record StandsOver (shape : Shape) (nodes : List Separator) (more : List (List ℕ)) (count : ℕ)
+    (result : Result Tree Fault) (before after : PageMap) (is_sound : Type 0) : Type 0 where
+  pub stands : (entries : List (List ℕ)) (own : List ℕ) → AreInLeaves shape before nodes entries own
+      → Ascends shape.width (entries ++ more) → count ≡ length (entries ++ more)
+      → IsAnswer result (λ tree. Changed before after tree own (entries ++ more))
+  pub kept : KeepsInUse before after
+  pub sound : is_sound
+
+-- a leaf with as many entries as one must have that is no root
+pub record IsLargeLeaf (shape : Shape) (page : List ℕ) : Type 0 where
+  pub leaf : IsLeaf shape page
+  pub large : least_entries shape 0 ≤ length (leaf_entries shape page)

@@ -1,0 +1,32 @@
+-- A page that was not in use, and what a call keeps that writes no other.
+use Rattle.std.specs.Prelude.{◌≡◌, ◌≢◌, ◌≤◌, ℕ, List, Result, IsSome, IfErr}
+use Rattle.io_state.specs.declared.fault.Fault.{Fault}
+use Rattle.io_state.specs.declared.fault.Fault.TheVariants.{Device, Full, Broken}
+use Rattle.pages.specs.PageMap.{PageMap, Takes}
+use Rattle.pages.specs.ShownPages.{ShownPages}
+use Rattle.pages.specs.Answer.{IsAnswer}
+
+-- every page that was in use is as it was
+abbrev pub KeepsInUse : PageMap → PageMap → Type 0
+KeepsInUse before after = (n : ℕ) → IsSome (before n) → after n ≡ before n
+
+-- a page that was not in use has these bytes; a fault too keeps the pages in use
+pub record PutsPage (bytes : List ℕ) (result : Result ℕ Fault) (before after : PageMap)
+    (is_sound : Type 0) : Type 0 where
+  pub put : IsAnswer result (λ n. Takes before after n bytes)
+  pub kept : KeepsInUse before after
+  pub sound : is_sound
+
+-- Device only where the device has failed, Full only under this condition, and never Broken
+pub record IsBuildCause (failed lacks_room : Type 0) (fault : Fault) : Type 0 where
+  pub device : fault ≡ Device → failed
+  pub full : fault ≡ Full → lacks_room
+  pub not_broken : fault ≢ Broken
+
+-- what a call keeps, at a fault too, that takes pages and gives none back; it answers Full only
+-- where no page is left
+pub record TakesNewPages {S X : Type 0} (shown : ShownPages S) (old new : S)
+    (result : Result X Fault) : Type 0 where
+  pub few : (shown.state new).available ≤ (shown.state old).available
+  pub cause : IfErr result (IsBuildCause (shown.HasFailed old new) ((shown.state new).available ≡ 0))
+  pub step : shown.Writes old new
