@@ -6,7 +6,7 @@ ghost use Rattle.command_outcomes.specs.Told.{told_as, words_told_as};
 
 use crate::form_fault::FormFault;
 use command_words::WordsFault;
-use deck_diagnosis::DeckFaults;
+use deck_listing::DeckFaults;
 use deck_runner::RunFault;
 use explanations::{FAULT_NUMBERS, REASON_NUMBERS, STATUS_NUMBERS};
 use file_control::DeckFault;

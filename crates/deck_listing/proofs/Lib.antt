@@ -1,1 +1,4 @@
 pub mod KeyLemmas
+mod FaultLemmas
+mod PlaceLemmas
+mod TextLemmas

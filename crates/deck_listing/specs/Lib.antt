@@ -1,3 +1,6 @@
 pub mod Verbs
 pub mod Lines
 pub mod Listing
+pub mod Place
+pub mod Text
+pub mod Told

@@ -1,16 +1,25 @@
-//! The list of a deck: its files with their items and keys, and its verbs and paragraphs with their lines.
+//! The list of a deck, or why it is refused, in words.
 //!
-//! `list_deck` answers exactly the list of the deck that the bytes are, or a fault exactly where
-//! they are none. A verb has the number of its line in the transcript. It stands at the line of its
-//! word, and that of an OPEN or a CLOSE at the line of the file's name, as the deck was read.
+//! `list_deck` answers exactly the list of the deck that the bytes are: files with items and keys,
+//! verbs and paragraphs with their lines. `diagnose` tells of a refused deck at which words it goes
+//! wrong, why, and what was expected: the fault that the reader tells first, and up to nineteen
+//! further ones, by their lines. Each line is one of the deck, and each word stands there. What is
+//! said of it, and of which word, `deck_messages` and `later_faults` find; cases show it.
 //!
-//! Read `specs/Lines.antt` for the lines, `specs/Listing.antt` for the list, and then `listing`.
+//! Read `specs/Lines.antt`, `specs/Listing.antt` and `listing`; then `specs/Told.antt`,
+//! `specs/Place.antt`, `specs/Text.antt` and `faults`.
 #![tactic(auto)]
 
+mod diagnosis;
+mod faults;
 mod key_name;
 mod lines;
 mod listing;
+mod place;
 mod procedure;
+mod text;
 mod verbs;
 
+pub use diagnosis::Diagnosis;
+pub use faults::{DeckFaults, diagnose};
 pub use listing::list_deck;

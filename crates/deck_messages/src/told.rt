@@ -12,8 +12,7 @@ use crate::unknown::unknown;
 use crate::wanted::WantedWords;
 use deck_reader::DeckRefusal;
 use deck_words::{Cause, Refusal, WordPlace};
-use layout_messages::bad_layout;
-use refused_deck::{Message, Reading};
+use refused_deck::{Message, Reading, bad_layout};
 use std::alloc::{AllocError, Global};
 
 /// What is told of bytes that are no word.

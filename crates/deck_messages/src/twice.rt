@@ -1,8 +1,7 @@
 //! What stands a second time.
 
 use deck_words::{Twice, WordPlace};
-use layout_messages::item_word;
-use refused_deck::{Among, Message, Reading};
+use refused_deck::{Among, Message, Reading, item_word};
 use std::alloc::AllocError;
 
 fn already(

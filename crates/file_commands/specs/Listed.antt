@@ -6,7 +6,7 @@ use Rattle.std.specs.Io.KnownBytes.{Appends}
 use Rattle.deck_reader.specs.declared.deck.Deck.{Deck}
 use Rattle.deck_reader.specs.Deck.{IsDeck}
 use Rattle.deck_listing.specs.Listing.{Lists}
-use Rattle.deck_diagnosis.specs.Told.{AreTold}
+use Rattle.deck_listing.specs.Told.{AreTold}
 use Rattle.cobol_program.specs.Layout.{IsLaidOut}
 use Rattle.cobol_program.specs.declared.form.Form.{Form}
 use Rattle.cobol_program.specs.declared.form.Form.TheVariants.{Free, Fixed}

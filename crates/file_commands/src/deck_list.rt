@@ -9,8 +9,7 @@ ghost use Rattle.file_commands.specs.Listed.{IsRefusalOf, IsListFault, GivesText
 use crate::file_bytes::read_deck_bytes;
 use crate::text::write_text;
 use command_outcomes::{Fault, Outcome, RefusedDeck};
-use deck_diagnosis::diagnose;
-use deck_listing::list_deck;
+use deck_listing::{diagnose, list_deck};
 use file_control::DeckFault;
 use recorded_system::System;
 use std::alloc::Global;

@@ -1,3 +1,0 @@
-pub mod Place
-pub mod Text
-pub mod Told

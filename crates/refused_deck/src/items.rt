@@ -1,0 +1,229 @@
+//! Items that are no record, and the words by which they are told.
+
+use crate::entry::is_word;
+use crate::message::Message;
+use crate::reading::Reading;
+use deck_words::{Word, WordPlace};
+use record_layout::{Item, Layout, LayoutFault, Picture};
+use std::alloc::AllocError;
+
+/// Whether a picture has this letter or digit, the letter in capitals or small.
+fn has(text: &[u8], symbol: u8) -> bool {
+    text.contains(&symbol) || text.contains(&symbol.to_ascii_lowercase())
+}
+
+/// Whether each byte of a text is one of these.
+fn has_none_but(text: &[u8], bytes: &[u8]) -> bool {
+    text.iter().all(|byte| bytes.contains(byte))
+}
+
+/// Whether a picture that is none has digits alone, and so too many.
+fn is_of_many_digits(text: &[u8]) -> bool {
+    match text {
+        [b'9', b'(', first, .., b')'] => *first != b'0' && has_none_but(text, b"0123456789()"),
+        _ => has_none_but(text, b"9"),
+    }
+}
+
+/// Why a picture is none.
+fn picture_reason(text: &[u8]) -> &'static str {
+    if is_of_many_digits(text) {
+        "an item of digits has 1 to 18"
+    } else if has(text, b'S') {
+        "there are no signed numbers; a picture is X(n) or 9(n)"
+    } else if has(text, b'V') {
+        "there are no decimal points; a picture is X(n) or 9(n)"
+    } else if has(text, b'A') {
+        "a picture of letters is X(n); A is not read"
+    } else if has(text, b'Z') || has(text, b'B') {
+        "there are no edited pictures; a picture is X(n) or 9(n)"
+    } else if has(text, b'X') && has(text, b'9') && !has(text, b'(') {
+        "a picture of X and 9; a picture is X(n) or 9(n)"
+    } else {
+        "no picture; a picture is X(n) or 9(n)"
+    }
+}
+
+/// Why a level number is none of a record, if it is none anywhere in one.
+fn level_reason(level: u8, is_first: bool) -> Option<&'static str> {
+    match level {
+        1 if is_first => None,
+        _ if is_first => Some("a record description begins with level 01"),
+        1 => Some("a file has one record description, and one 01 level"),
+        88 => Some("there are no condition names, of level 88; leave the entry out"),
+        0 | 50..=99 => Some("the levels in a record are 01 to 49"),
+        _ => None,
+    }
+}
+
+/// The first item that is a group without items.
+fn empty_group(items: &[Item]) -> usize {
+    for (at, item) in items.iter().enumerate() {
+        let is_group = match items.get(at.saturating_add(1)) {
+            Some(next) => next.level > item.level,
+            None => false,
+        };
+        if item.picture.is_none() && !is_group {
+            return at;
+        }
+    }
+    0
+}
+
+fn has_name(item: &Item, name: &str) -> bool {
+    matches!(&item.name, Some(own) if own.as_str() == name)
+}
+
+/// The picture of an entry with these words, which is the last one before its period.
+pub fn picture_of(words: &[Word<'_>]) -> Option<WordPlace> {
+    let (_, before) = words.split_last()?;
+    Some(before.last()?.place())
+}
+
+/// The word by which the item of an entry with these words is told: its name, or else its level.
+fn told_word(words: &[Word<'_>], from: WordPlace) -> WordPlace {
+    match words {
+        [_, word, _, ..] if !is_word(word, "PIC") && !is_word(word, "PICTURE") => word.place(),
+        [level, ..] => level.place(),
+        [] => from,
+    }
+}
+
+/// Whether so many items have a fault, other than that they end too early.
+fn are_faulty(deck: &Reading<'_>, items: &[Item]) -> Result<bool, AllocError> {
+    match Layout::build(deck.alloc, items) {
+        Ok(_) | Err(LayoutFault::Empty) => Ok(false),
+        Err(LayoutFault::Memory) => Err(AllocError),
+        Err(_) => Ok(true),
+    }
+}
+
+/// The first item with a fault. More items than have one have one, so it is found by halves.
+fn first_faulty(deck: &Reading<'_>, items: &[Item]) -> Result<usize, AllocError> {
+    let mut sound = 0usize;
+    let mut faulty = items.len();
+    for _ in 0..usize::BITS {
+        let middle = sound.midpoint(faulty);
+        let front = items.split_at(middle.min(items.len())).0;
+        if middle == sound {
+            return Ok(sound);
+        }
+        if are_faulty(deck, front)? {
+            faulty = middle;
+        } else {
+            sound = middle;
+        }
+    }
+    Ok(sound)
+}
+
+/// The word by which an item of an FD is told.
+pub fn item_word(deck: &Reading<'_>, from: WordPlace, at: usize) -> Result<WordPlace, AllocError> {
+    let words = deck.entry_words(from, at.saturating_add(1))?;
+    Ok(told_word(&words, from))
+}
+
+/// The level of an item of an FD.
+fn level_word(deck: &Reading<'_>, from: WordPlace, at: usize) -> Result<WordPlace, AllocError> {
+    let words = deck.entry_words(from, at.saturating_add(1))?;
+    match words.first() {
+        Some(word) => Ok(word.place()),
+        None => Ok(from),
+    }
+}
+
+/// What is told of a level that fits no group behind the item before it.
+fn of_deeper(deck: &Reading<'_>, from: WordPlace, at: usize) -> Result<String, AllocError> {
+    let before = deck.shown(item_word(deck, from, at.saturating_sub(1))?);
+    format!(in deck.alloc;
+        "{before}, before it, has a picture, so it has no items of a greater level"
+    )
+}
+
+fn bad_level(
+    deck: &Reading<'_>,
+    from: WordPlace,
+    items: &[Item],
+    at: usize,
+) -> Result<Message, AllocError> {
+    let place = level_word(deck, from, at)?;
+    let level = items.get(at).map_or(0, |item| item.level);
+    let before = items.get(at.saturating_sub(1)).map_or(0, |item| item.level);
+    let why = match level_reason(level, at == 0) {
+        Some(reason) => String::from_str(deck.alloc, reason)?,
+        None if level > before => of_deeper(deck, from, at)?,
+        None => String::from_str(
+            deck.alloc,
+            "no item before it has this level; the items in a group have one level",
+        )?,
+    };
+    Ok(Message::new(deck.alloc, place, why))
+}
+
+fn bad_picture(deck: &Reading<'_>, from: WordPlace, at: usize) -> Result<Message, AllocError> {
+    let words = deck.entry_words(from, at.saturating_add(1))?;
+    let place = picture_of(&words).unwrap_or(from);
+    Message::saying(deck.alloc, place, picture_reason(deck.text(place)))
+}
+
+/// The line of the first item of an FD with the name of this one.
+fn first_line(
+    deck: &Reading<'_>,
+    from: WordPlace,
+    items: &[Item],
+    at: usize,
+) -> Result<u64, AllocError> {
+    let Some(
+        Item {
+            level: _,
+            name: Some(name),
+            picture: _,
+        },
+    ) = items.get(at)
+    else {
+        return Ok(from.line);
+    };
+    let first = items.iter().position(|item| has_name(item, name.as_str()));
+    Ok(item_word(deck, from, first.unwrap_or(at))?.line)
+}
+
+fn named_twice(
+    deck: &Reading<'_>,
+    from: WordPlace,
+    items: &[Item],
+    at: usize,
+) -> Result<Message, AllocError> {
+    let place = item_word(deck, from, at)?;
+    let line = first_line(deck, from, items, at)?;
+    let why = format!(in deck.alloc;
+        "an item of this name is in the record already, in line {line}"
+    )?;
+    Ok(Message::new(deck.alloc, place, why))
+}
+
+/// What is told of the items of an FD that stands there, which are no record.
+pub fn bad_items(
+    deck: &Reading<'_>,
+    from: WordPlace,
+    items: &[Item],
+    fault: LayoutFault,
+) -> Result<Message, AllocError> {
+    let at = match fault {
+        LayoutFault::Empty => empty_group(items),
+        _ => first_faulty(deck, items)?,
+    };
+    match fault {
+        LayoutFault::BadPicture => bad_picture(deck, from, at),
+        LayoutFault::BadLevel => bad_level(deck, from, items, at),
+        LayoutFault::DuplicateName => named_twice(deck, from, items, at),
+        LayoutFault::TooLong => {
+            let why = "with this item the record has more than 4,000 characters";
+            Message::saying(deck.alloc, item_word(deck, from, at)?, why)
+        }
+        LayoutFault::Empty => {
+            let why = "this item has neither a picture nor items of a greater level";
+            Message::saying(deck.alloc, item_word(deck, from, at)?, why)
+        }
+        LayoutFault::Memory => Err(AllocError),
+    }
+}
