@@ -2,8 +2,7 @@
 
 use deck_words::{NotAllowed, WordPlace};
 use io_state::Access;
-use refused_deck::{Among, Message, Reading, capitals};
-use std::alloc::AllocError;
+use refused_deck::{Among, Message, Reading, Told, capitals};
 
 /// The most characters of the name of a file.
 const NAME_LIMIT: usize = 64;
@@ -42,13 +41,7 @@ fn access_word(access: Access) -> &'static str {
 }
 
 /// What is told of a word that the access of its file does not allow.
-fn of_access(
-    deck: &Reading<'_>,
-    place: WordPlace,
-    file: usize,
-    what: &str,
-    wants: &str,
-) -> Result<Message, AllocError> {
+fn of_access(deck: &Reading<'_>, place: WordPlace, file: usize, what: &str, wants: &str) -> Told {
     let name = deck.known.file_name(file);
     let access = match deck.known.entry(file) {
         Some(selected) => access_word(selected.entry.access),
@@ -58,17 +51,13 @@ fn of_access(
     Ok(Message::new(deck.alloc, place, why))
 }
 
-fn no_key_of(deck: &Reading<'_>, place: WordPlace, file: usize) -> Result<Message, AllocError> {
+fn no_key_of(deck: &Reading<'_>, place: WordPlace, file: usize) -> Told {
     let file = deck.known.file_name(file);
     let why = format!(in deck.alloc; "no key of {file}")?;
     Message::new(deck.alloc, place, why).with_hint(deck.listed("its keys: ", &Among::KeysOf(file))?)
 }
 
-fn no_leading_key_of(
-    deck: &Reading<'_>,
-    place: WordPlace,
-    file: usize,
-) -> Result<Message, AllocError> {
+fn no_leading_key_of(deck: &Reading<'_>, place: WordPlace, file: usize) -> Told {
     let file = deck.known.file_name(file);
     let why = format!(in deck.alloc;
         "neither a key of {file} nor an item at the beginning of one"
@@ -77,11 +66,7 @@ fn no_leading_key_of(
 }
 
 /// What is told of an item of digits that does not take the source of a MOVE.
-fn not_taken(
-    deck: &Reading<'_>,
-    place: WordPlace,
-    source: WordPlace,
-) -> Result<Message, AllocError> {
+fn not_taken(deck: &Reading<'_>, place: WordPlace, source: WordPlace) -> Told {
     let name = capitals(deck.text(place));
     let picture = deck.known.picture(name.as_str()).unwrap_or("9(n)");
     let why = format!(in deck.alloc; "PIC {picture}, which takes digits alone")?;
@@ -93,11 +78,7 @@ fn not_taken(
 }
 
 /// What is told of something that is not allowed where it stands.
-pub fn not_allowed(
-    deck: &Reading<'_>,
-    place: WordPlace,
-    what: NotAllowed,
-) -> Result<Message, AllocError> {
+pub fn not_allowed(deck: &Reading<'_>, place: WordPlace, what: NotAllowed) -> Told {
     match what {
         NotAllowed::FileName => {
             let why = file_name_reason(inner(deck.text(place)));

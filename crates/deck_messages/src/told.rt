@@ -12,11 +12,11 @@ use crate::unknown::unknown;
 use crate::wanted::WantedWords;
 use deck_reader::DeckRefusal;
 use deck_words::{Cause, Refusal, WordPlace};
-use refused_deck::{Message, Reading, bad_layout};
+use refused_deck::{Message, Reading, Told, bad_layout};
 use std::alloc::{AllocError, Global};
 
 /// What is told of bytes that are no word.
-fn bad_word(deck: &Reading<'_>, place: WordPlace) -> Result<Message, AllocError> {
+fn bad_word(deck: &Reading<'_>, place: WordPlace) -> Told {
     let start = place.start as usize;
     let (_, text) = deck.bytes.split_at(start.min(deck.bytes.len()));
     let (length, why) = no_word(text);
@@ -30,7 +30,7 @@ fn message_by_deck(
     place: WordPlace,
     cause: Cause,
     wanted: &WantedWords<'_>,
-) -> Result<Message, AllocError> {
+) -> Told {
     match cause {
         Cause::BadWord => bad_word(deck, place),
         Cause::Expected(expected) => unexpected(deck, place, expected, wanted),
@@ -43,12 +43,7 @@ fn message_by_deck(
 }
 
 /// What is told of a fault.
-fn message(
-    deck: &Reading<'_>,
-    place: WordPlace,
-    cause: Cause,
-    wanted: &WantedWords<'_>,
-) -> Result<Message, AllocError>
+fn message(deck: &Reading<'_>, place: WordPlace, cause: Cause, wanted: &WantedWords<'_>) -> Told
     ensures { IfOk result (λ message. SaysCause cause (string_bytes message.why)) }
 {
     match text_of_cause(cause) {
@@ -58,7 +53,7 @@ fn message(
 }
 
 /// What is told of these bytes, which the reader refuses so.
-pub fn message_of(alloc: Global, bytes: &[u8], refusal: &DeckRefusal) -> Result<Message, AllocError>
+pub fn message_of(alloc: Global, bytes: &[u8], refusal: &DeckRefusal) -> Told
     ensures { IfOk result (λ message. SaysWhy refusal.now.refusal (string_bytes message.why)) }
 {
     match refusal.refusal {
@@ -66,7 +61,7 @@ pub fn message_of(alloc: Global, bytes: &[u8], refusal: &DeckRefusal) -> Result<
             let wanted = WantedWords {
                 wanted: &refusal.wanted,
             };
-            message(&Reading::of(alloc, bytes), place, cause, &wanted)
+            message(&Reading::of(alloc, bytes)?, place, cause, &wanted)
         }
         Refusal::Memory => Err(AllocError),
     }

@@ -4,7 +4,7 @@ use crate::lacking::{without, without_here};
 use crate::wanted::WantedWords;
 use deck_reader::{DeckRefusal, read_deck_told};
 use deck_words::{Cause, Expected, NameOf, Refusal, Wanted, WordPlace};
-use refused_deck::{Message, Reading, Shown, is_name, is_number, says, says_one_of};
+use refused_deck::{Message, Reading, Shown, Told, is_name, is_number, says, says_one_of};
 use std::alloc::AllocError;
 
 /// How many digits a sequence number has.
@@ -138,21 +138,17 @@ fn why_not_here(
 }
 
 /// What is told where the deck ends too early.
-fn of_end(deck: &Reading<'_>, wanted: &WantedWords<'_>) -> Result<Message, AllocError> {
+fn of_end(deck: &Reading<'_>, wanted: &WantedWords<'_>) -> Told {
     let alloc = deck.alloc;
-    let message = match deck.last_word() {
-        Some(last) => Message::saying(alloc, last, "the deck ends behind this word, too early")?,
+    let message = match deck.words.last() {
+        Some(last) => Message::saying(alloc, *last, "the deck ends behind this word, too early")?,
         None => Message::saying(alloc, START, "the deck has no word")?,
     };
     message.with_hint(wanted.expected(alloc)?)
 }
 
 /// What is told of a word that does not fit.
-fn of_word(
-    deck: &Reading<'_>,
-    place: WordPlace,
-    wanted: &WantedWords<'_>,
-) -> Result<Message, AllocError> {
+fn of_word(deck: &Reading<'_>, place: WordPlace, wanted: &WantedWords<'_>) -> Told {
     if let Some(message) = of_condition(deck, place)? {
         return Ok(message);
     }
@@ -169,7 +165,7 @@ fn of_no_verb(
     place: WordPlace,
     name: WordPlace,
     wanted: &WantedWords<'_>,
-) -> Result<Message, AllocError> {
+) -> Told {
     let alloc = deck.alloc;
     if let Some(verb) = wanted.misspelt(deck.text(name)) {
         let verb = Shown(verb);
@@ -189,7 +185,7 @@ fn of_paragraph(
     place: WordPlace,
     name: WordPlace,
     wanted: &WantedWords<'_>,
-) -> Result<Message, AllocError> {
+) -> Told {
     let alloc = deck.alloc;
     if deck.text(place).is_empty() {
         let why = "the deck ends behind this word, too early";
@@ -215,7 +211,7 @@ pub fn unexpected(
     place: WordPlace,
     expected: Expected,
     wanted: &WantedWords<'_>,
-) -> Result<Message, AllocError> {
+) -> Told {
     match expected {
         Expected::Paragraph(name) => of_paragraph(deck, place, name, wanted),
         _ if deck.text(place).is_empty() => of_end(deck, wanted),

@@ -2,16 +2,11 @@
 
 use crate::lacking::without;
 use deck_words::{Unknown, WordPlace};
-use refused_deck::{Among, Message, Named, Reading, capitals};
+use refused_deck::{Among, Message, Named, Reading, Told, capitals};
 use std::alloc::AllocError;
 
 /// What a name is where something else is wanted, or that nothing has it.
-fn of_name(
-    deck: &Reading<'_>,
-    place: WordPlace,
-    wants: &str,
-    nothing: &str,
-) -> Result<Message, AllocError> {
+fn of_name(deck: &Reading<'_>, place: WordPlace, wants: &str, nothing: &str) -> Told {
     let alloc = deck.alloc;
     let why = match deck.known.named(capitals(deck.text(place)).as_str()) {
         Some(Named::File) => format!(in alloc; "a file; {wants}")?,
@@ -23,15 +18,15 @@ fn of_name(
     Ok(Message::new(alloc, place, why))
 }
 
-fn no_select(deck: &Reading<'_>, place: WordPlace) -> Result<Message, AllocError> {
+fn no_select(deck: &Reading<'_>, place: WordPlace) -> Told {
     let why = "no SELECT entry selects a file of this name";
     Message::saying(deck.alloc, place, why)?
         .with_hint(deck.perhaps(&Among::Files, deck.text(place))?)?
         .with_hint(deck.listed("files: ", &Among::Files)?)
 }
 
-fn no_description(deck: &Reading<'_>, select: WordPlace) -> Result<Message, AllocError> {
-    let place = deck.subject(select)?;
+fn no_description(deck: &Reading<'_>, select: WordPlace) -> Told {
+    let place = deck.subject(select);
     Message::saying(deck.alloc, place, "this file has a SELECT entry and no FD")?.with_hint(
         deck.perhaps(&Among::Descriptions, deck.text(place))?,
     )
@@ -44,13 +39,13 @@ fn unknown_key(deck: &Reading<'_>, select: WordPlace, file: &str) -> Result<Word
     for key in &keys {
         let key = *key;
         if !items.contains(&key) {
-            return deck.named_in(select, key);
+            return Ok(deck.named_in(select, key));
         }
     }
     Ok(select)
 }
 
-fn no_key(deck: &Reading<'_>, select: WordPlace, file: usize) -> Result<Message, AllocError> {
+fn no_key(deck: &Reading<'_>, select: WordPlace, file: usize) -> Told {
     let file = deck.known.file_name(file);
     let place = unknown_key(deck, select, file)?;
     let why = format!(in deck.alloc;
@@ -61,9 +56,9 @@ fn no_key(deck: &Reading<'_>, select: WordPlace, file: usize) -> Result<Message,
         .with_hint(deck.listed("its items: ", &Among::ItemsOf(file))?)
 }
 
-fn no_length_item(deck: &Reading<'_>, fd: WordPlace, file: usize) -> Result<Message, AllocError> {
+fn no_length_item(deck: &Reading<'_>, fd: WordPlace, file: usize) -> Told {
     let name = deck.known.length_item(deck.known.file_name(file));
-    let place = deck.named_in(fd, name)?;
+    let place = deck.named_in(fd, name);
     let nothing = "no 77 item of WORKING-STORAGE has this name";
     of_name(deck, place, "DEPENDING ON wants a 77 item", nothing)?
         .with_hint(deck.perhaps(&Among::Storage, deck.text(place))?)?
@@ -80,7 +75,7 @@ fn file_meant(deck: &Reading<'_>, place: WordPlace) -> Result<String, AllocError
     }
 }
 
-fn no_file(deck: &Reading<'_>, place: WordPlace) -> Result<Message, AllocError> {
+fn no_file(deck: &Reading<'_>, place: WordPlace) -> Told {
     let verb = deck.verb(place);
     let wants = format!(in deck.alloc; "{verb} wants a file")?;
     let nothing = "no SELECT entry selects a file of this name";
@@ -106,7 +101,7 @@ fn record_meant(deck: &Reading<'_>, place: WordPlace, verb: &str) -> Result<Stri
     }
 }
 
-fn no_record(deck: &Reading<'_>, place: WordPlace) -> Result<Message, AllocError> {
+fn no_record(deck: &Reading<'_>, place: WordPlace) -> Told {
     let verb = deck.verb(place);
     let wants = format!(in deck.alloc; "{verb} wants a record")?;
     of_name(
@@ -119,7 +114,7 @@ fn no_record(deck: &Reading<'_>, place: WordPlace) -> Result<Message, AllocError
     .with_hint(deck.listed("records: ", &Among::Records)?)
 }
 
-fn no_key_item(deck: &Reading<'_>, place: WordPlace, file: usize) -> Result<Message, AllocError> {
+fn no_key_item(deck: &Reading<'_>, place: WordPlace, file: usize) -> Told {
     let file = deck.known.file_name(file);
     let wants = format!(in deck.alloc; "KEY IS wants an item of {file}")?;
     of_name(deck, place, wants.as_str(), "no item has this name")?.with_hint(deck.listed(
@@ -128,7 +123,7 @@ fn no_key_item(deck: &Reading<'_>, place: WordPlace, file: usize) -> Result<Mess
     )?)
 }
 
-fn no_receiver(deck: &Reading<'_>, place: WordPlace) -> Result<Message, AllocError> {
+fn no_receiver(deck: &Reading<'_>, place: WordPlace) -> Told {
     let name = capitals(deck.text(place));
     let record = Among::RecordOf(name.as_str());
     of_name(
@@ -141,11 +136,7 @@ fn no_receiver(deck: &Reading<'_>, place: WordPlace) -> Result<Message, AllocErr
     .with_hint(deck.listed("its record: ", &record)?)
 }
 
-fn no_operand(
-    deck: &Reading<'_>,
-    place: WordPlace,
-    unknown: Unknown,
-) -> Result<Message, AllocError> {
+fn no_operand(deck: &Reading<'_>, place: WordPlace, unknown: Unknown) -> Told {
     if let Some(text) = without(deck.text(place)) {
         return Message::not_read(deck.alloc, place, text);
     }
@@ -158,11 +149,7 @@ fn no_operand(
 }
 
 /// What is told of a name that nothing has.
-pub fn unknown(
-    deck: &Reading<'_>,
-    place: WordPlace,
-    unknown: Unknown,
-) -> Result<Message, AllocError> {
+pub fn unknown(deck: &Reading<'_>, place: WordPlace, unknown: Unknown) -> Told {
     match unknown {
         Unknown::Selected => no_select(deck, place),
         Unknown::Described => no_description(deck, place),

@@ -14,7 +14,7 @@ pub struct WantedWords<'w> {
 
 /// One of them, as it is told. A literal is told as a source of a MOVE or as the name of a file.
 #[derive(Clone, Copy)]
-struct Told<'a> {
+struct WantedText<'a> {
     wanted: &'a Wanted,
     is_source: bool,
 }
@@ -33,7 +33,7 @@ fn name_text(name: NameOf) -> &'static str {
     }
 }
 
-impl<'a> fmt::Display for Told<'a> {
+impl<'a> fmt::Display for WantedText<'a> {
     fn fmt<W: fmt::Write>(&self, f: &mut fmt::Formatter<W>) -> fmt::Result {
         match self.wanted {
             Wanted::Word(text) | Wanted::Sign(text) => {
@@ -104,7 +104,7 @@ impl<'w> WantedWords<'w> {
                 } else {
                     ", "
                 };
-                let told = Told { wanted, is_source };
+                let told = WantedText { wanted, is_source };
                 write!(list, "{before}{told}")?;
             }
         }

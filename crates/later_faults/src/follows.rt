@@ -5,6 +5,7 @@ use crate::mended::{Mend, MendedDeck};
 use deck_words::{Cause, LayoutCause, NotAllowed, WordPlace};
 use record_layout::LayoutFault;
 use refused_deck::{Reading, capitals};
+use std::alloc::AllocError;
 
 /// The file of whose record, lengths or keys a fault tells something as a whole.
 fn file_described(what: LayoutCause) -> Option<usize> {
@@ -96,39 +97,44 @@ impl MendedDeck {
 
     /// Whether a statement is not allowed for the sake of an entry that was mended, or of an item
     /// that is left out.
-    fn follows_in_statement(&self, what: NotAllowed, told: WordPlace) -> bool {
-        let deck = Reading::of(self.alloc, &self.bytes);
-        match file_accessed(what) {
+    fn follows_in_statement(&self, what: NotAllowed, told: WordPlace) -> Result<bool, AllocError> {
+        let deck = Reading::of(self.alloc, &self.bytes)?;
+        Ok(match file_accessed(what) {
             Some(file) => self.is_entry_mended(&deck, file),
             None => self.is_noted(told),
-        }
+        })
     }
 
     /// Whether items, lengths or keys are none for the sake of an entry that was mended.
-    fn follows_in_layout(&self, what: LayoutCause) -> bool {
-        let deck = Reading::of(self.alloc, &self.bytes);
-        match file_described(what) {
+    fn follows_in_layout(&self, what: LayoutCause) -> Result<bool, AllocError> {
+        let deck = Reading::of(self.alloc, &self.bytes)?;
+        Ok(match file_described(what) {
             Some(file) => {
                 self.is_entry_mended(&deck, file) || self.is_description_mended(&deck, file)
             }
             None => false,
-        }
+        })
     }
 
     /// Whether a fault, which is told at a word, follows only from one that was told before.
-    pub fn follows(&self, cause: Cause, place: WordPlace, told: WordPlace) -> bool {
+    pub fn follows(
+        &self,
+        cause: Cause,
+        place: WordPlace,
+        told: WordPlace,
+    ) -> Result<bool, AllocError> {
         if self.is_in_mend(told) {
-            return true;
+            return Ok(true);
         }
         if place.start == place.end {
-            return self.is_cut_behind(told);
+            return Ok(self.is_cut_behind(told));
         }
         match cause {
             Cause::Layout(what) => self.follows_in_layout(what),
             Cause::NotAllowed(what) => self.follows_in_statement(what, told),
-            Cause::Unknown(_) => self.is_noted(told) || self.is_told(told),
-            Cause::Expected(_) => self.is_behind_awaited(told),
-            Cause::BadWord | Cause::Twice(_) | Cause::Limit(_) => false,
+            Cause::Unknown(_) => Ok(self.is_noted(told) || self.is_told(told)),
+            Cause::Expected(_) => Ok(self.is_behind_awaited(told)),
+            Cause::BadWord | Cause::Twice(_) | Cause::Limit(_) => Ok(false),
         }
     }
 }

@@ -84,7 +84,7 @@ impl MendedDeck {
     ) -> Result<Passed, AllocError> {
         let message = message_of(self.alloc, &self.bytes, refusal)?;
         let told = message.place;
-        let follows = self.follows(cause, place, told);
+        let follows = self.follows(cause, place, told)?;
         self.note_told(cause, told)?;
         let is_last = ends_reading(place, cause)
             || is_of_another_form(self.text(place))

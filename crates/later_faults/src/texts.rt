@@ -70,7 +70,7 @@ pub fn texts_of(
     let Refusal::Fault(_, place, cause) = refusal.refusal else {
         return Ok(Vec::new(alloc));
     };
-    let deck = Reading::of(alloc, bytes);
+    let deck = Reading::of(alloc, bytes)?;
     match cause {
         Cause::Expected(Expected::Indexed) => these(alloc, &["INDEXED"]),
         Cause::Expected(_) => all_wanted(alloc, &refusal.wanted),

@@ -105,27 +105,14 @@ impl MendedDeck {
         text: &[u8],
     ) -> Result<bool, AllocError> {
         let behind = at.saturating_add(1);
-        let first = at.saturating_sub(1).max(1).min(at);
-        Ok(
-            self.goes_on_with(entry, Part { first: at, behind }, text)?
-                || self.goes_on_with(entry, Part { first, behind }, text)?
-                || self.goes_on_with(
-                    entry,
-                    Part {
-                        first: at,
-                        behind: at.saturating_add(2),
-                    },
-                    text,
-                )?
-                || self.goes_on_with(
-                    entry,
-                    Part {
-                        first: at,
-                        behind: at,
-                    },
-                    text,
-                )?,
-        )
+        let before = at.saturating_sub(1).max(1).min(at);
+        let further = at.saturating_add(2);
+        for &(first, behind) in &[(at, behind), (before, behind), (at, further), (at, at)] {
+            if self.goes_on_with(entry, Part { first, behind }, text)? {
+                return Ok(true);
+            }
+        }
+        Ok(false)
     }
 
     /// Tries texts that may be meant at a word of an entry.

@@ -1,82 +1,86 @@
 //! The words of an entry, each of which ends with its period.
 
-use crate::reading::{Reading, capitals};
-use deck_words::{Word, WordPlace, WordText, words};
+use crate::reading::{Reading, capitals, says};
+use deck_words::WordPlace;
 use io_state::Name;
-use std::alloc::AllocError;
-
-/// Whether a word is this one, in capitals.
-pub fn is_word(word: &Word<'_>, text: &str) -> bool {
-    match &word.text {
-        WordText::Plain(own) => own.as_str() == text,
-        WordText::Literal(_) | WordText::Sign(_) | WordText::Period => false,
-    }
-}
 
 impl<'a> Reading<'a> {
-    /// The words of an entry with its period: the first entry begins at a place, the further ones follow.
-    pub fn entry_words(&self, from: WordPlace, entry: usize) -> Result<Vec<Word<'a>>, AllocError> {
-        let mut found = Vec::new(self.alloc);
-        let Ok(words) = words(self.bytes) else {
-            return Ok(found);
-        };
-        let mut words = words;
-        let mut at = 0usize;
-        for _ in 0..words.len() {
-            if let Some(word) = words.next() {
-                let is_end = matches!(&word.text, WordText::Period);
-                if word.start >= from.start {
-                    if at == entry {
-                        found.push(word)?;
-                    }
-                    at = at.saturating_add(usize::from(is_end));
-                }
-            }
-        }
-        Ok(found)
+    /// Whether a word is this one, in capitals or small letters.
+    pub fn is_word(&self, place: WordPlace, text: &str) -> bool {
+        says(self.text(place), text)
     }
 
-    /// The first word of the entry in which a word stands.
-    pub fn entry_before(&self, place: WordPlace) -> Option<WordPlace> {
-        let mut words = words(self.bytes).ok()?;
-        let mut first = None;
-        let mut is_first = true;
-        for _ in 0..words.len() {
-            if let Some(word) = words.next() {
-                if word.start >= place.start {
-                    return first;
-                }
-                if is_first {
-                    first = Some(word.place());
-                }
-                is_first = matches!(&word.text, WordText::Period);
+    /// The words up to the first period, with it, and those behind it.
+    fn first_entry<'w>(&self, words: &'w [WordPlace]) -> (&'w [WordPlace], &'w [WordPlace]) {
+        for (at, word) in words.iter().enumerate() {
+            if self.is_word(*word, ".") {
+                return parted(words, at.saturating_add(1));
             }
         }
-        first
+        (words, &[])
+    }
+
+    /// The words of an entry with its period: the first entry begins at a place, the further ones follow.
+    pub fn entry_words(&self, from: WordPlace, entry: usize) -> &[WordPlace] {
+        let mut rest = self.words_parted(from).1;
+        for _ in 0..entry {
+            rest = self.first_entry(rest).1;
+        }
+        self.first_entry(rest).0
+    }
+
+    /// The first word of the entry in which the word before a place stands.
+    pub fn entry_before(&self, place: WordPlace) -> Option<WordPlace> {
+        let mut rest = self.words_before(place);
+        for _ in 0..rest.len() {
+            let behind = self.first_entry(rest).1;
+            if behind.is_empty() {
+                return rest.first().copied();
+            }
+            rest = behind;
+        }
+        None
+    }
+
+    /// The words before a place.
+    pub fn words_before(&self, place: WordPlace) -> &[WordPlace] {
+        self.words_parted(place).0
+    }
+
+    /// The words before a place, and those from it on.
+    fn words_parted(&self, place: WordPlace) -> (&[WordPlace], &[WordPlace]) {
+        let before = self
+            .words
+            .iter()
+            .take_while(|word| word.start < place.start);
+        parted(&self.words, before.count())
     }
 
     /// The word that an entry describes, which begins at a place: behind SELECT and OPTIONAL, FD, or 77.
-    pub fn subject(&self, from: WordPlace) -> Result<WordPlace, AllocError> {
-        let entry = self.entry_words(from, 0)?;
-        let mut words = entry.iter().skip(1);
-        match words.find(|word| !is_word(word, "OPTIONAL")) {
-            Some(word) => Ok(word.place()),
-            None => Ok(from),
+    pub fn subject(&self, from: WordPlace) -> WordPlace {
+        let mut words = self.entry_words(from, 0).iter().skip(1);
+        match words.find(|word| !self.is_word(**word, "OPTIONAL")) {
+            Some(word) => *word,
+            None => from,
         }
     }
 
     /// The same in capitals.
-    pub fn subject_name(&self, from: WordPlace) -> Result<Name, AllocError> {
-        Ok(capitals(self.text(self.subject(from)?)))
+    pub fn subject_name(&self, from: WordPlace) -> Name {
+        capitals(self.text(self.subject(from)))
     }
 
     /// The place of a name in an entry that begins at a place, behind its first two words.
-    pub fn named_in(&self, from: WordPlace, name: &str) -> Result<WordPlace, AllocError> {
-        let entry = self.entry_words(from, 0)?;
-        let mut words = entry.iter().skip(2);
-        match words.find(|word| is_word(word, name)) {
-            Some(word) => Ok(word.place()),
-            None => Ok(from),
+    pub fn named_in(&self, from: WordPlace, name: &str) -> WordPlace {
+        let mut words = self.entry_words(from, 0).iter().skip(2);
+        match words.find(|word| self.is_word(**word, name)) {
+            Some(word) => *word,
+            None => from,
         }
     }
+}
+
+/// The first of some words, so many, and the others.
+fn parted(words: &[WordPlace], count: usize) -> (&[WordPlace], &[WordPlace]) {
+    words.split_at(count.min(words.len()))
 }

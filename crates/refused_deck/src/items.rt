@@ -1,9 +1,8 @@
 //! Items that are no record, and the words by which they are told.
 
-use crate::entry::is_word;
-use crate::message::Message;
-use crate::reading::Reading;
-use deck_words::{Word, WordPlace};
+use crate::message::{Message, Told};
+use crate::reading::{Reading, says_one_of};
+use deck_words::WordPlace;
 use record_layout::{Item, Layout, LayoutFault, Picture};
 use std::alloc::AllocError;
 
@@ -70,23 +69,10 @@ fn empty_group(items: &[Item]) -> usize {
     0
 }
 
-fn has_name(item: &Item, name: &str) -> bool {
-    matches!(&item.name, Some(own) if own.as_str() == name)
-}
-
 /// The picture of an entry with these words, which is the last one before its period.
-pub fn picture_of(words: &[Word<'_>]) -> Option<WordPlace> {
+pub fn picture_of(words: &[WordPlace]) -> Option<WordPlace> {
     let (_, before) = words.split_last()?;
-    Some(before.last()?.place())
-}
-
-/// The word by which the item of an entry with these words is told: its name, or else its level.
-fn told_word(words: &[Word<'_>], from: WordPlace) -> WordPlace {
-    match words {
-        [_, word, _, ..] if !is_word(word, "PIC") && !is_word(word, "PICTURE") => word.place(),
-        [level, ..] => level.place(),
-        [] => from,
-    }
+    before.last().copied()
 }
 
 /// Whether so many items have a fault, other than that they end too early.
@@ -117,36 +103,26 @@ fn first_faulty(deck: &Reading<'_>, items: &[Item]) -> Result<usize, AllocError>
     Ok(sound)
 }
 
-/// The word by which an item of an FD is told.
-pub fn item_word(deck: &Reading<'_>, from: WordPlace, at: usize) -> Result<WordPlace, AllocError> {
-    let words = deck.entry_words(from, at.saturating_add(1))?;
-    Ok(told_word(&words, from))
-}
-
-/// The level of an item of an FD.
-fn level_word(deck: &Reading<'_>, from: WordPlace, at: usize) -> Result<WordPlace, AllocError> {
-    let words = deck.entry_words(from, at.saturating_add(1))?;
-    match words.first() {
-        Some(word) => Ok(word.place()),
-        None => Ok(from),
+/// The word by which an item of an FD is told: its name, or else its level.
+pub fn item_word(deck: &Reading<'_>, from: WordPlace, at: usize) -> WordPlace {
+    match deck.entry_words(from, at.saturating_add(1)) {
+        [_, word, _, ..] if !says_one_of(deck.text(*word), &["PIC", "PICTURE"]) => *word,
+        [level, ..] => *level,
+        [] => from,
     }
 }
 
 /// What is told of a level that fits no group behind the item before it.
 fn of_deeper(deck: &Reading<'_>, from: WordPlace, at: usize) -> Result<String, AllocError> {
-    let before = deck.shown(item_word(deck, from, at.saturating_sub(1))?);
+    let before = deck.shown(item_word(deck, from, at.saturating_sub(1)));
     format!(in deck.alloc;
         "{before}, before it, has a picture, so it has no items of a greater level"
     )
 }
 
-fn bad_level(
-    deck: &Reading<'_>,
-    from: WordPlace,
-    items: &[Item],
-    at: usize,
-) -> Result<Message, AllocError> {
-    let place = level_word(deck, from, at)?;
+fn bad_level(deck: &Reading<'_>, from: WordPlace, items: &[Item], at: usize) -> Told {
+    let level_word = deck.entry_words(from, at.saturating_add(1)).first();
+    let place = level_word.copied().unwrap_or(from);
     let level = items.get(at).map_or(0, |item| item.level);
     let before = items.get(at.saturating_sub(1)).map_or(0, |item| item.level);
     let why = match level_reason(level, at == 0) {
@@ -160,41 +136,24 @@ fn bad_level(
     Ok(Message::new(deck.alloc, place, why))
 }
 
-fn bad_picture(deck: &Reading<'_>, from: WordPlace, at: usize) -> Result<Message, AllocError> {
-    let words = deck.entry_words(from, at.saturating_add(1))?;
-    let place = picture_of(&words).unwrap_or(from);
+fn bad_picture(deck: &Reading<'_>, from: WordPlace, at: usize) -> Told {
+    let words = deck.entry_words(from, at.saturating_add(1));
+    let place = picture_of(words).unwrap_or(from);
     Message::saying(deck.alloc, place, picture_reason(deck.text(place)))
 }
 
-/// The line of the first item of an FD with the name of this one.
-fn first_line(
-    deck: &Reading<'_>,
-    from: WordPlace,
-    items: &[Item],
-    at: usize,
-) -> Result<u64, AllocError> {
-    let Some(
-        Item {
-            level: _,
-            name: Some(name),
-            picture: _,
-        },
-    ) = items.get(at)
-    else {
-        return Ok(from.line);
-    };
-    let first = items.iter().position(|item| has_name(item, name.as_str()));
-    Ok(item_word(deck, from, first.unwrap_or(at))?.line)
+/// The first of the items that has the name of this one.
+fn first_of_name(items: &[Item], at: usize) -> usize {
+    let name = items.get(at).and_then(|item| item.name);
+    items
+        .iter()
+        .position(|item| item.name == name)
+        .unwrap_or(at)
 }
 
-fn named_twice(
-    deck: &Reading<'_>,
-    from: WordPlace,
-    items: &[Item],
-    at: usize,
-) -> Result<Message, AllocError> {
-    let place = item_word(deck, from, at)?;
-    let line = first_line(deck, from, items, at)?;
+fn named_twice(deck: &Reading<'_>, from: WordPlace, items: &[Item], at: usize) -> Told {
+    let place = item_word(deck, from, at);
+    let line = item_word(deck, from, first_of_name(items, at)).line;
     let why = format!(in deck.alloc;
         "an item of this name is in the record already, in line {line}"
     )?;
@@ -202,12 +161,7 @@ fn named_twice(
 }
 
 /// What is told of the items of an FD that stands there, which are no record.
-pub fn bad_items(
-    deck: &Reading<'_>,
-    from: WordPlace,
-    items: &[Item],
-    fault: LayoutFault,
-) -> Result<Message, AllocError> {
+pub fn bad_items(deck: &Reading<'_>, from: WordPlace, items: &[Item], fault: LayoutFault) -> Told {
     let at = match fault {
         LayoutFault::Empty => empty_group(items),
         _ => first_faulty(deck, items)?,
@@ -218,11 +172,11 @@ pub fn bad_items(
         LayoutFault::DuplicateName => named_twice(deck, from, items, at),
         LayoutFault::TooLong => {
             let why = "with this item the record has more than 4,000 characters";
-            Message::saying(deck.alloc, item_word(deck, from, at)?, why)
+            Message::saying(deck.alloc, item_word(deck, from, at), why)
         }
         LayoutFault::Empty => {
             let why = "this item has neither a picture nor items of a greater level";
-            Message::saying(deck.alloc, item_word(deck, from, at)?, why)
+            Message::saying(deck.alloc, item_word(deck, from, at), why)
         }
         LayoutFault::Memory => Err(AllocError),
     }

@@ -1,10 +1,9 @@
 //! Keys that the records of a file do not have.
 
-use crate::entry::is_word;
-use crate::message::Message;
+use crate::message::{Message, Told};
 use crate::reading::Reading;
 use deck_entries::{Described, FileControlEntry, RecordLength, Selected};
-use deck_words::{Word, WordPlace};
+use deck_words::WordPlace;
 use io_state::Name;
 use record_layout::{Field, Layout, SchemaFault};
 use std::alloc::{AllocError, Global};
@@ -58,11 +57,16 @@ fn has_fault(
 }
 
 /// The last word among these that is a name, if the name is there twice; or the first one.
-fn word_of(words: &[Word<'_>], name: &str, is_last: bool) -> Option<WordPlace> {
+fn word_of(
+    deck: &Reading<'_>,
+    words: &[WordPlace],
+    name: &str,
+    is_last: bool,
+) -> Option<WordPlace> {
     let mut found = None;
     for word in words {
-        if is_word(word, name) && (is_last || found.is_none()) {
-            found = Some(word.place());
+        if deck.is_word(*word, name) && (is_last || found.is_none()) {
+            found = Some(*word);
         }
     }
     found
@@ -109,14 +113,14 @@ fn first_bad_key(
     keys: &[Name],
     least: u64,
     fault: SchemaFault,
-) -> Result<Message, AllocError> {
-    let words = deck.entry_words(from, 0)?;
+) -> Told {
+    let words = deck.entry_words(from, 0);
     for (at, name) in keys.iter().enumerate() {
         let before = keys.split_at(at.min(keys.len())).0;
         if let Some(field) = layout.field(name.as_str()) {
             if has_fault(layout, before, field, least, fault) {
                 let is_again = before.iter().any(|key| key.as_str() == name.as_str());
-                let place = word_of(&words, name.as_str(), is_again).unwrap_or(from);
+                let place = word_of(deck, words, name.as_str(), is_again).unwrap_or(from);
                 let why = key_reason(deck, layout, before, name, field, least)?;
                 return Ok(Message::new(deck.alloc, place, why));
             }
@@ -132,7 +136,7 @@ pub fn bad_keys(
     described: &Described,
     selected: &Selected,
     fault: SchemaFault,
-) -> Result<Message, AllocError> {
+) -> Told {
     let keys = key_names(deck.alloc, &selected.entry)?;
     match Layout::build(deck.alloc, described.items()) {
         Ok(layout) => {

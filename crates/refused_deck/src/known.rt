@@ -66,22 +66,11 @@ fn record_of(described: &Described) -> Option<&str> {
     }
 }
 
-fn has_item_name(item: &Item, name: &str) -> bool {
-    matches!(&item.name, Some(own) if own.as_str() == name)
-}
-
 /// Where an FD stands, and which of its items has this name.
 fn item_named(described: &Described, name: &str) -> Option<(WordPlace, usize)> {
     let mut items = described.items().iter();
-    let at = items.position(|item| has_item_name(item, name))?;
+    let at = items.position(|item| matches!(&item.name, Some(own) if own.as_str() == name))?;
     Some((described.place, at))
-}
-
-fn has_item(described: &Described, name: &str) -> bool {
-    described
-        .items()
-        .iter()
-        .any(|item| has_item_name(item, name))
 }
 
 impl Known {
@@ -190,7 +179,7 @@ impl Known {
             if record_of(described) == Some(name) {
                 return Some(Named::RecordOf(described.name.as_str()));
             }
-            if has_item(described, name) {
+            if item_named(described, name).is_some() {
                 return Some(Named::ItemOf(described.name.as_str()));
             }
         }
@@ -221,59 +210,43 @@ impl Known {
     /// The names of a kind, in the order in which the deck has them.
     pub fn names(&self, alloc: Global, among: &Among<'_>) -> Result<Vec<&str>, AllocError> {
         let mut names = Vec::new(alloc);
-        match among {
-            Among::Files => self.add_files(&mut names)?,
-            Among::Storage => self.add_storage(&mut names)?,
-            Among::KeysOf(file) => self.add_keys(&mut names, file)?,
-            _ => self.add_described(&mut names, among)?,
+        for selected in self.entries() {
+            add_selected(&mut names, selected, among)?;
         }
-        if matches!(among, Among::Targets) {
-            self.add_storage(&mut names)?;
+        for described in self.descriptions() {
+            add_described(&mut names, described, among)?;
+        }
+        if matches!(among, Among::Storage | Among::Targets) {
+            for item in self.storage() {
+                names.push(item.name.as_str())?;
+            }
         }
         Ok(names)
     }
+}
 
-    fn add_files<'a>(&'a self, names: &mut Vec<&'a str>) -> Result<(), AllocError> {
-        for selected in self.entries() {
-            names.push(selected.entry.name.as_str())?;
-        }
-        Ok(())
-    }
-
-    fn add_storage<'a>(&'a self, names: &mut Vec<&'a str>) -> Result<(), AllocError> {
-        for item in self.storage() {
-            names.push(item.name.as_str())?;
-        }
-        Ok(())
-    }
-
-    fn add_keys<'a>(&'a self, names: &mut Vec<&'a str>, file: &str) -> Result<(), AllocError> {
-        for selected in self.entries() {
-            if selected.entry.name.as_str() == file {
-                names.push(selected.entry.record_key.as_str())?;
-                for key in selected.entry.alternate_keys.as_slice() {
-                    names.push(key.0.as_str())?;
-                }
+/// Adds the names of a kind that one SELECT entry has.
+fn add_selected<'a>(
+    names: &mut Vec<&'a str>,
+    selected: &'a Selected,
+    among: &Among<'_>,
+) -> Result<(), AllocError> {
+    let own = selected.entry.name.as_str();
+    match among {
+        Among::Files => names.push(own)?,
+        Among::KeysOf(file) if own == *file => {
+            names.push(selected.entry.record_key.as_str())?;
+            for key in selected.entry.alternate_keys.as_slice() {
+                names.push(key.0.as_str())?;
             }
         }
-        Ok(())
+        _ => {}
     }
-
-    /// Adds the names of a kind that the FDs have.
-    fn add_described<'a>(
-        &'a self,
-        names: &mut Vec<&'a str>,
-        among: &Among<'_>,
-    ) -> Result<(), AllocError> {
-        for described in self.descriptions() {
-            add_names_of(names, described, among)?;
-        }
-        Ok(())
-    }
+    Ok(())
 }
 
 /// Adds the names of a kind that one FD has.
-fn add_names_of<'a>(
+fn add_described<'a>(
     names: &mut Vec<&'a str>,
     described: &'a Described,
     among: &Among<'_>,

@@ -1,12 +1,11 @@
 //! Lengths and keys that are not those of a record.
 
-use crate::entry::is_word;
 use crate::items::{bad_items, picture_of};
 use crate::keys::bad_keys;
-use crate::message::Message;
-use crate::reading::{Reading, is_number};
+use crate::message::{Message, Told};
+use crate::reading::{Reading, is_number, says, says_one_of};
 use deck_entries::{Described, RecordLength};
-use deck_words::{LayoutCause, Word, WordPlace};
+use deck_words::{LayoutCause, WordPlace};
 use record_layout::Picture;
 use std::alloc::AllocError;
 
@@ -29,44 +28,36 @@ fn lacking_digits(picture: &[u8]) -> &'static str {
 }
 
 /// The numbers of a RECORD clause, among the words of an FD.
-fn lengths_among(words: &[Word<'_>]) -> (Option<WordPlace>, Option<WordPlace>) {
+fn lengths_among(
+    deck: &Reading<'_>,
+    words: &[WordPlace],
+) -> (Option<WordPlace>, Option<WordPlace>) {
     let mut lengths = (None, None);
     let mut is_record = false;
     for word in words {
-        if is_word(word, "RECORD") {
+        let text = deck.text(*word);
+        if says(text, "RECORD") {
             is_record = true;
-        } else if is_word(word, "BLOCK") || is_word(word, "LABEL") {
+        } else if says_one_of(text, &["BLOCK", "LABEL"]) {
             is_record = false;
-        } else if is_record && is_digits(word) {
+        } else if is_record && is_number(text) {
             lengths = match lengths {
-                (None, _) => (Some(word.place()), None),
-                (first, _) => (first, Some(word.place())),
+                (None, _) => (Some(*word), None),
+                (first, _) => (first, Some(*word)),
             };
         }
     }
     lengths
 }
 
-fn is_digits(word: &Word<'_>) -> bool {
-    match word.plain() {
-        Some(text) => is_number(text.as_str().as_bytes()),
-        None => false,
-    }
-}
-
-fn other_length(deck: &Reading<'_>, place: WordPlace, length: u16) -> Result<Message, AllocError> {
+fn other_length(deck: &Reading<'_>, place: WordPlace, length: u16) -> Told {
     let why = format!(in deck.alloc; "the length of this record, by its items, is {length}")?;
     Ok(Message::new(deck.alloc, place, why))
 }
 
 /// What is told of the lengths of an FD that stands there, whose record has this one.
-fn bad_lengths(
-    deck: &Reading<'_>,
-    from: WordPlace,
-    described: &Described,
-    length: u16,
-) -> Result<Message, AllocError> {
-    let (first, second) = lengths_among(&deck.entry_words(from, 0)?);
+fn bad_lengths(deck: &Reading<'_>, from: WordPlace, described: &Described, length: u16) -> Told {
+    let (first, second) = lengths_among(deck, deck.entry_words(from, 0));
     let first = first.unwrap_or(from);
     let Some(RecordLength::Varying(lengths)) = &described.lengths else {
         return other_length(deck, first, length);
@@ -90,13 +81,13 @@ fn bad_length_item(
     from: WordPlace,
     described: &Described,
     greatest: u64,
-) -> Result<Message, AllocError> {
+) -> Told {
     let Some(RecordLength::Varying(lengths)) = &described.lengths else {
         return Ok(Message::new(deck.alloc, from, String::new(deck.alloc)));
     };
     let name = lengths.item.as_str();
     let place = deck.known.storage_place(name).unwrap_or(from);
-    let picture = picture_of(&deck.entry_words(place, 0)?).unwrap_or(place);
+    let picture = picture_of(deck.entry_words(place, 0)).unwrap_or(place);
     let digits = digits_of(greatest);
     let needs = lacking_digits(deck.text(picture));
     let why = format!(in deck.alloc;
@@ -106,18 +97,14 @@ fn bad_length_item(
 }
 
 /// What is told of a 77 item that is not of digits.
-fn bad_storage(deck: &Reading<'_>, from: WordPlace) -> Result<Message, AllocError> {
-    let place = picture_of(&deck.entry_words(from, 0)?).unwrap_or(from);
+fn bad_storage(deck: &Reading<'_>, from: WordPlace) -> Told {
+    let place = picture_of(deck.entry_words(from, 0)).unwrap_or(from);
     let why = "a 77 item is of digits alone; its picture is 9(n), of 1 to 18 digits";
     Message::saying(deck.alloc, place, why)
 }
 
 /// What is told of items, lengths or keys that are none.
-pub fn bad_layout(
-    deck: &Reading<'_>,
-    place: WordPlace,
-    cause: LayoutCause,
-) -> Result<Message, AllocError> {
+pub fn bad_layout(deck: &Reading<'_>, place: WordPlace, cause: LayoutCause) -> Told {
     let file = match cause {
         LayoutCause::Items(file, _)
         | LayoutCause::Length(file, _)

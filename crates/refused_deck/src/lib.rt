@@ -19,11 +19,10 @@ mod near;
 mod reading;
 mod shown;
 
-pub use entry::is_word;
 pub use items::item_word;
 pub use known::{Among, Known, Named};
 pub use layout::bad_layout;
-pub use message::Message;
+pub use message::{Message, Told};
 pub use near::is_near;
-pub use reading::{Reading, capitals, is_name, is_number, says, says_one_of};
+pub use reading::{Reading, capitals, is_name, is_number, says, says_one_of, word_places};
 pub use shown::Shown;

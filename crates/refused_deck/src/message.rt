@@ -12,6 +12,9 @@ pub struct Message {
     pub hints: Vec<String>,
 }
 
+/// A message; `AllocError` for want of memory.
+pub type Told = Result<Message, AllocError>;
+
 impl Message {
     pub fn new(alloc: Global, place: WordPlace, why: String) -> Self
         ensures { string_bytes result.why ≡ string_bytes why }
@@ -23,14 +26,14 @@ impl Message {
         }
     }
 
-    pub fn saying(alloc: Global, place: WordPlace, why: &str) -> Result<Self, AllocError>
+    pub fn saying(alloc: Global, place: WordPlace, why: &str) -> Told
         ensures { IfOk result (λ message. string_bytes message.why ≡ why.now) }
     {
         Ok(Message::new(alloc, place, String::from_str(alloc, why)?))
     }
 
     /// With a further line, unless that has no text.
-    pub fn with_hint(self, hint: String) -> Result<Self, AllocError> {
+    pub fn with_hint(self, hint: String) -> Told {
         let mut message = self;
         if !hint.as_str().is_empty() {
             message.hints.push(hint)?;
@@ -38,12 +41,12 @@ impl Message {
         Ok(message)
     }
 
-    pub fn with_text(self, alloc: Global, text: &str) -> Result<Self, AllocError> {
+    pub fn with_text(self, alloc: Global, text: &str) -> Told {
         self.with_hint(String::from_str(alloc, text)?)
     }
 
     /// What is told of a word that decks do not have, with what to do instead.
-    pub fn not_read(alloc: Global, place: WordPlace, text: &str) -> Result<Self, AllocError> {
+    pub fn not_read(alloc: Global, place: WordPlace, text: &str) -> Told {
         Message::saying(alloc, place, "not read")?.with_text(alloc, text)
     }
 }

@@ -4,7 +4,7 @@ use crate::known::{Among, Known};
 use crate::near::is_near;
 use crate::shown::Shown;
 use deck_parser::Parser;
-use deck_words::{NameOf, Word, WordPlace, WordText, words};
+use deck_words::{NameOf, WordPlace, words};
 use io_state::Name;
 use std::alloc::{AllocError, Global};
 
@@ -18,6 +18,8 @@ const VERBS: [&str; 9] = [
 pub struct Reading<'a> {
     pub alloc: Global,
     pub bytes: &'a [u8],
+    /// Where its words stand; none where they are none.
+    pub words: Vec<WordPlace>,
     pub known: Known,
 }
 
@@ -56,22 +58,34 @@ pub fn is_number(text: &[u8]) -> bool {
     }
 }
 
-/// The word of the language that a word is, if it is one of these.
-fn one_of(word: &Word<'_>, texts: &[&'static str]) -> Option<&'static str> {
-    let WordText::Plain(name) = &word.text else {
-        return None;
-    };
-    texts.iter().find(|text| name.as_str() == **text).copied()
+/// The verb that a word is, if it is one.
+fn verb_named(text: &[u8]) -> Option<&'static str> {
+    VERBS.iter().find(|verb| says(text, **verb)).copied()
+}
+
+/// Where the words of bytes stand; none where they are none.
+pub fn word_places(alloc: Global, bytes: &[u8]) -> Result<Vec<WordPlace>, AllocError> {
+    let mut places = Vec::new(alloc);
+    if let Ok(words) = words(bytes) {
+        let mut words = words;
+        for _ in 0..words.len() {
+            if let Some(word) = words.next() {
+                places.push(word.place())?;
+            }
+        }
+    }
+    Ok(places)
 }
 
 impl<'a> Reading<'a> {
     /// What is known of bytes that are refused.
-    pub fn of(alloc: Global, bytes: &'a [u8]) -> Self {
-        Reading {
+    pub fn of(alloc: Global, bytes: &'a [u8]) -> Result<Self, AllocError> {
+        Ok(Reading {
             alloc,
             bytes,
+            words: word_places(alloc, bytes)?,
             known: Known::of(alloc, bytes),
-        }
+        })
     }
 
     /// The bytes of a place.
@@ -82,36 +96,14 @@ impl<'a> Reading<'a> {
         }
     }
 
-    /// The place of the last word; none where the deck has no word.
-    pub fn last_word(&self) -> Option<WordPlace> {
-        let mut words = words(self.bytes).ok()?;
-        let mut last = None;
-        for _ in 0..words.len() {
-            if let Some(word) = words.next() {
-                last = Some(word.place());
-            }
-        }
-        last
-    }
-
     /// The verb of the statement in which a place is.
     pub fn verb(&self, place: WordPlace) -> &'static str {
-        let mut verb = "";
-        let Ok(words) = words(self.bytes) else {
-            return verb;
-        };
-        let mut words = words;
-        for _ in 0..words.len() {
-            if let Some(word) = words.next() {
-                if word.start >= place.start {
-                    return verb;
-                }
-                if let Some(text) = one_of(&word, &VERBS) {
-                    verb = text;
-                }
+        for word in self.words_before(place).iter().rev() {
+            if let Some(verb) = verb_named(self.text(*word)) {
+                return verb;
             }
         }
-        verb
+        ""
     }
 
     /// A line of the names of a kind, behind a heading; no text where there are none.
