@@ -8,6 +8,8 @@
 #![tactic(auto)]
 
 #[cfg(test)]
+mod built_trees;
+#[cfg(test)]
 mod checks;
 #[cfg(test)]
 mod heaps;
