@@ -10,13 +10,13 @@ pub record Grows {Z : Type 0} (old new : Vec ℕ Z) (more : List ℕ) : Type 0 w
   pub capacity : vec_capacity old ≤ vec_capacity new
 
 -- a text had no room for so much more
-abbrev pub LacksRoom : {Z : Type 0} → Vec ℕ Z → List ℕ → Type 0
-LacksRoom text more = vec_capacity text < vec_len text + length more
+abbrev pub LacksTextRoom : {Z : Type 0} → Vec ℕ Z → List ℕ → Type 0
+LacksTextRoom text more = vec_capacity text < vec_len text + length more
 
 -- more was added to a text; or it had no room for that
-abbrev pub Adds : {Z E : Type 0} → (old new : Vec ℕ Z) → List ℕ → Result Unit E → Type 0
-Adds old new more (Ok done) = Grows old new more
-Adds old new more (Err fault) = LacksRoom old more
+abbrev pub AddsInRoom : {Z E : Type 0} → (old new : Vec ℕ Z) → List ℕ → Result Unit E → Type 0
+AddsInRoom old new more (Ok done) = Grows old new more
+AddsInRoom old new more (Err fault) = LacksTextRoom old more
 
 -- so many bytes are room for the line of each record that has at most so many
 abbrev pub IsLineRoom : Form → (most room : ℕ) → Type 0

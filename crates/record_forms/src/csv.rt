@@ -4,7 +4,7 @@ ghost use Rattle.deck_runner.specs.Line.{shown_byte};
 ghost use Rattle.record_forms.specs.Columns.{text_of, column_name, column_value};
 ghost use Rattle.record_forms.specs.Csv.{doubled_quote, doubled_bytes, field, fields, csv_line};
 ghost use Rattle.record_forms.specs.Lines.{more_values, more_names};
-ghost use Rattle.record_forms.specs.Room.{Adds};
+ghost use Rattle.record_forms.specs.Room.{AddsInRoom};
 
 use crate::column::{Column, cell_of};
 use crate::shown::{escape_of, is_plain};
@@ -13,7 +13,7 @@ use std::alloc::AllocError;
 
 /// Adds a byte to a field.
 fn add_byte(text: &mut Vec<u8>, byte: u8) -> Result<(), AllocError>
-    ensures { Adds text.old text.new (flat_map doubled_quote (shown_byte byte)) result }
+    ensures { AddsInRoom text.old text.new (flat_map doubled_quote (shown_byte byte)) result }
 {
     if byte == b'"' {
         add(text, b"\"\"")
@@ -26,7 +26,7 @@ fn add_byte(text: &mut Vec<u8>, byte: u8) -> Result<(), AllocError>
 
 /// Adds bytes to a field.
 fn add_bytes(text: &mut Vec<u8>, bytes: &[u8]) -> Result<(), AllocError>
-    ensures { Adds text.old text.new (doubled_bytes bytes.now) result }
+    ensures { AddsInRoom text.old text.new (doubled_bytes bytes.now) result }
 {
     for byte in bytes {
         add_byte(text, *byte)?;
@@ -36,7 +36,7 @@ fn add_bytes(text: &mut Vec<u8>, bytes: &[u8]) -> Result<(), AllocError>
 
 /// Adds the field of bytes.
 fn add_field(text: &mut Vec<u8>, bytes: &[u8]) -> Result<(), AllocError>
-    ensures { Adds text.old text.new (field (text_of bytes.now)) result }
+    ensures { AddsInRoom text.old text.new (field (text_of bytes.now)) result }
 {
     add_char(text, b'"')?;
     add_bytes(text, bytes)?;
@@ -45,14 +45,14 @@ fn add_field(text: &mut Vec<u8>, bytes: &[u8]) -> Result<(), AllocError>
 
 /// Adds the value of a column.
 fn add_value(text: &mut Vec<u8>, column: &Column, bytes: &[u8]) -> Result<(), AllocError>
-    ensures { Adds text.old text.new (field (column_value bytes.now column.now)) result }
+    ensures { AddsInRoom text.old text.new (field (column_value bytes.now column.now)) result }
 {
     add_field(text, cell_of(column, bytes))
 }
 
 /// Adds the values of columns, each behind a comma.
 fn add_more_values(text: &mut Vec<u8>, columns: &[Column], bytes: &[u8]) -> Result<(), AllocError>
-    ensures { Adds text.old text.new (more_values bytes.now columns.now) result }
+    ensures { AddsInRoom text.old text.new (more_values bytes.now columns.now) result }
 {
     for column in columns {
         add_char(text, b',')?;
@@ -63,7 +63,7 @@ fn add_more_values(text: &mut Vec<u8>, columns: &[Column], bytes: &[u8]) -> Resu
 
 /// Adds the values of columns.
 fn add_values(text: &mut Vec<u8>, columns: &[Column], bytes: &[u8]) -> Result<(), AllocError>
-    ensures { Adds text.old text.new (fields (map (column_value bytes.now) columns.now)) result }
+    ensures { AddsInRoom text.old text.new (fields (map (column_value bytes.now) columns.now)) result }
 {
     let Some((first, rest)) = columns.split_first() else {
         return Ok(());
@@ -74,7 +74,7 @@ fn add_values(text: &mut Vec<u8>, columns: &[Column], bytes: &[u8]) -> Result<()
 
 /// Adds the line of a record.
 pub fn add_line(text: &mut Vec<u8>, columns: &[Column], bytes: &[u8]) -> Result<(), AllocError>
-    ensures { Adds text.old text.new (csv_line (map (column_value bytes.now) columns.now)) result }
+    ensures { AddsInRoom text.old text.new (csv_line (map (column_value bytes.now) columns.now)) result }
 {
     add_values(text, columns, bytes)?;
     add(text, b"\r\n")
@@ -82,14 +82,14 @@ pub fn add_line(text: &mut Vec<u8>, columns: &[Column], bytes: &[u8]) -> Result<
 
 /// Adds the name of a column.
 fn add_name(text: &mut Vec<u8>, column: &Column) -> Result<(), AllocError>
-    ensures { Adds text.old text.new (field (column_name column.now)) result }
+    ensures { AddsInRoom text.old text.new (field (column_name column.now)) result }
 {
     add_field(text, column.name.as_str().as_bytes())
 }
 
 /// Adds the names of columns, each behind a comma.
 fn add_more_names(text: &mut Vec<u8>, columns: &[Column]) -> Result<(), AllocError>
-    ensures { Adds text.old text.new (more_names columns.now) result }
+    ensures { AddsInRoom text.old text.new (more_names columns.now) result }
 {
     for column in columns {
         add_char(text, b',')?;
@@ -100,7 +100,7 @@ fn add_more_names(text: &mut Vec<u8>, columns: &[Column]) -> Result<(), AllocErr
 
 /// Adds the names of columns.
 fn add_names(text: &mut Vec<u8>, columns: &[Column]) -> Result<(), AllocError>
-    ensures { Adds text.old text.new (fields (map column_name columns.now)) result }
+    ensures { AddsInRoom text.old text.new (fields (map column_name columns.now)) result }
 {
     let Some((first, rest)) = columns.split_first() else {
         return Ok(());
@@ -111,7 +111,7 @@ fn add_names(text: &mut Vec<u8>, columns: &[Column]) -> Result<(), AllocError>
 
 /// Adds the line of the names of columns.
 pub fn add_name_line(text: &mut Vec<u8>, columns: &[Column]) -> Result<(), AllocError>
-    ensures { Adds text.old text.new (csv_line (map column_name columns.now)) result }
+    ensures { AddsInRoom text.old text.new (csv_line (map column_name columns.now)) result }
 {
     add_names(text, columns)?;
     add(text, b"\r\n")

@@ -4,7 +4,7 @@ ghost use Rattle.deck_runner.specs.Line.{shown_byte};
 ghost use Rattle.record_forms.specs.Columns.{text_of};
 ghost use Rattle.record_forms.specs.Json.{escaped, escaped_bytes, string, member, members, json_line};
 ghost use Rattle.record_forms.specs.Lines.{member_of, more_members};
-ghost use Rattle.record_forms.specs.Room.{Adds};
+ghost use Rattle.record_forms.specs.Room.{AddsInRoom};
 
 use crate::column::{Column, cell_of};
 use crate::shown::{escape_of, is_plain};
@@ -13,7 +13,7 @@ use std::alloc::AllocError;
 
 /// Adds a byte to a string. The backslash of what is shown stands behind another one.
 fn add_byte(text: &mut Vec<u8>, byte: u8) -> Result<(), AllocError>
-    ensures { Adds text.old text.new (flat_map escaped (shown_byte byte)) result }
+    ensures { AddsInRoom text.old text.new (flat_map escaped (shown_byte byte)) result }
 {
     if byte == b'"' {
         add(text, b"\\\"")
@@ -27,7 +27,7 @@ fn add_byte(text: &mut Vec<u8>, byte: u8) -> Result<(), AllocError>
 
 /// Adds bytes to a string.
 fn add_bytes(text: &mut Vec<u8>, bytes: &[u8]) -> Result<(), AllocError>
-    ensures { Adds text.old text.new (escaped_bytes bytes.now) result }
+    ensures { AddsInRoom text.old text.new (escaped_bytes bytes.now) result }
 {
     for byte in bytes {
         add_byte(text, *byte)?;
@@ -37,7 +37,7 @@ fn add_bytes(text: &mut Vec<u8>, bytes: &[u8]) -> Result<(), AllocError>
 
 /// Adds the string of bytes.
 fn add_string(text: &mut Vec<u8>, bytes: &[u8]) -> Result<(), AllocError>
-    ensures { Adds text.old text.new (string (text_of bytes.now)) result }
+    ensures { AddsInRoom text.old text.new (string (text_of bytes.now)) result }
 {
     add_char(text, b'"')?;
     add_bytes(text, bytes)?;
@@ -46,7 +46,7 @@ fn add_string(text: &mut Vec<u8>, bytes: &[u8]) -> Result<(), AllocError>
 
 /// Adds the member of a column.
 fn add_member(text: &mut Vec<u8>, column: &Column, bytes: &[u8]) -> Result<(), AllocError>
-    ensures { Adds text.old text.new (member (member_of bytes.now column.now)) result }
+    ensures { AddsInRoom text.old text.new (member (member_of bytes.now column.now)) result }
 {
     add_string(text, column.name.as_str().as_bytes())?;
     add_char(text, b':')?;
@@ -55,7 +55,7 @@ fn add_member(text: &mut Vec<u8>, column: &Column, bytes: &[u8]) -> Result<(), A
 
 /// Adds the members of columns, each behind a comma.
 fn add_more_members(text: &mut Vec<u8>, columns: &[Column], bytes: &[u8]) -> Result<(), AllocError>
-    ensures { Adds text.old text.new (more_members bytes.now columns.now) result }
+    ensures { AddsInRoom text.old text.new (more_members bytes.now columns.now) result }
 {
     for column in columns {
         add_char(text, b',')?;
@@ -66,7 +66,7 @@ fn add_more_members(text: &mut Vec<u8>, columns: &[Column], bytes: &[u8]) -> Res
 
 /// Adds the members of columns.
 fn add_members(text: &mut Vec<u8>, columns: &[Column], bytes: &[u8]) -> Result<(), AllocError>
-    ensures { Adds text.old text.new (members (map (member_of bytes.now) columns.now)) result }
+    ensures { AddsInRoom text.old text.new (members (map (member_of bytes.now) columns.now)) result }
 {
     let Some((first, rest)) = columns.split_first() else {
         return Ok(());
@@ -77,7 +77,7 @@ fn add_members(text: &mut Vec<u8>, columns: &[Column], bytes: &[u8]) -> Result<(
 
 /// Adds the line of a record.
 pub fn add_line(text: &mut Vec<u8>, columns: &[Column], bytes: &[u8]) -> Result<(), AllocError>
-    ensures { Adds text.old text.new (json_line (map (member_of bytes.now) columns.now)) result }
+    ensures { AddsInRoom text.old text.new (json_line (map (member_of bytes.now) columns.now)) result }
 {
     add_char(text, b'{')?;
     add_members(text, columns, bytes)?;

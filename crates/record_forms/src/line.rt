@@ -1,7 +1,7 @@
 //! The lines of records.
 ghost use Rattle.std.specs.Prelude.{IfOk, vec_capacity};
 ghost use Rattle.record_forms.specs.Lines.{text_line, line_in, form_header};
-ghost use Rattle.record_forms.specs.Room.{Adds, IsLineRoom};
+ghost use Rattle.record_forms.specs.Room.{AddsInRoom, IsLineRoom};
 
 use crate::form::Form;
 use crate::shown::add_shown;
@@ -11,7 +11,7 @@ use std::alloc::{AllocError, Global};
 
 /// Adds the line of a record in brackets.
 fn append_text_line(text: &mut Vec<u8>, bytes: &[u8]) -> Result<(), AllocError>
-    ensures { Adds text.old text.new (text_line bytes.now) result }
+    ensures { AddsInRoom text.old text.new (text_line bytes.now) result }
 {
     add_char(text, b'[')?;
     add_shown(text, bytes)?;
@@ -21,7 +21,7 @@ fn append_text_line(text: &mut Vec<u8>, bytes: &[u8]) -> Result<(), AllocError>
 /// Adds the line of a record of these bytes to a text. It is refused only where the text has no room
 /// for it and gets none; a part of the line may be left behind the text then.
 pub fn append_line(text: &mut Vec<u8>, form: &Form, bytes: &[u8]) -> Result<(), AllocError>
-    ensures { Adds text.old text.new (line_in form.now bytes.now) result }
+    ensures { AddsInRoom text.old text.new (line_in form.now bytes.now) result }
 {
     match form {
         Form::Text => append_text_line(text, bytes),
@@ -32,7 +32,7 @@ pub fn append_line(text: &mut Vec<u8>, form: &Form, bytes: &[u8]) -> Result<(), 
 
 /// Adds what stands before the first line to a text. It is refused as `append_line` is.
 pub fn append_header(text: &mut Vec<u8>, form: &Form) -> Result<(), AllocError>
-    ensures { Adds text.old text.new (form_header form.now) result }
+    ensures { AddsInRoom text.old text.new (form_header form.now) result }
 {
     match form {
         Form::Csv(columns) => csv::add_name_line(text, columns),

@@ -2,7 +2,7 @@
 ghost use Rattle.std.specs.Prelude.{◌≡◌, ◌≤◌, false};
 ghost use Rattle.deck_runner.specs.Line.{hex_digit, is_plain, shown_byte};
 ghost use Rattle.record_forms.specs.Columns.{text_of};
-ghost use Rattle.record_forms.specs.Room.{Adds};
+ghost use Rattle.record_forms.specs.Room.{AddsInRoom};
 
 use crate::text::{add, add_char};
 use std::alloc::AllocError;
@@ -32,7 +32,7 @@ pub fn escape_of(byte: u8) -> [u8; 3]
 
 /// Adds a byte as it is shown.
 fn add_byte(text: &mut Vec<u8>, byte: u8) -> Result<(), AllocError>
-    ensures { Adds text.old text.new (shown_byte byte) result }
+    ensures { AddsInRoom text.old text.new (shown_byte byte) result }
 {
     if is_plain(byte) {
         add_char(text, byte)
@@ -43,7 +43,7 @@ fn add_byte(text: &mut Vec<u8>, byte: u8) -> Result<(), AllocError>
 
 /// Adds bytes as they are shown.
 pub fn add_shown(text: &mut Vec<u8>, bytes: &[u8]) -> Result<(), AllocError>
-    ensures { Adds text.old text.new (text_of bytes.now) result }
+    ensures { AddsInRoom text.old text.new (text_of bytes.now) result }
 {
     for byte in bytes {
         add_byte(text, *byte)?;

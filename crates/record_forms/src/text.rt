@@ -1,12 +1,12 @@
 //! A text that grows.
 ghost use Rattle.std.specs.Prelude.{◌∷◌, []};
-ghost use Rattle.record_forms.specs.Room.{Adds};
+ghost use Rattle.record_forms.specs.Room.{AddsInRoom};
 
 use std::alloc::AllocError;
 
 /// Adds a character.
 pub fn add_char(text: &mut Vec<u8>, char: u8) -> Result<(), AllocError>
-    ensures { Adds text.old text.new (char ∷ []) result }
+    ensures { AddsInRoom text.old text.new (char ∷ []) result }
 {
     text.push(char)?;
     Ok(())
@@ -14,7 +14,7 @@ pub fn add_char(text: &mut Vec<u8>, char: u8) -> Result<(), AllocError>
 
 /// Adds characters.
 pub fn add(text: &mut Vec<u8>, more: &[u8]) -> Result<(), AllocError>
-    ensures { Adds text.old text.new more.now result }
+    ensures { AddsInRoom text.old text.new more.now result }
 {
     text.extend_from_slice(more)
 }

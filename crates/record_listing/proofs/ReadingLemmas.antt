@@ -6,7 +6,7 @@ use Rattle.std.proofs.lemmas.Grind.{flat_map-append}
 use Rattle.indexed_file.specs.File.{Row}
 use Rattle.record_forms.specs.declared.form.Form.{Form}
 use Rattle.record_forms.specs.Lines.{line_in, form_header}
-use Rattle.record_forms.specs.Room.{Adds, IsLineRoom}
+use Rattle.record_forms.specs.Room.{AddsInRoom, IsLineRoom}
 use Rattle.record_listing.specs.Lines.{lines_of_rows, list_of}
 use Rattle.held_text.specs.Output.{AppendsFront, HoldsText}
 use Rattle.held_text.specs.declared.output.Refused.{Refused}
@@ -117,7 +117,7 @@ pub unwritten : (text : List ℕ) (a : Option (List ℕ)) → IsWrittenInPart te
 unwritten text a = record { front = []; rest = text; text_is = refl; appends = Appends-nil a }
 
 -- a line for which a text has room stands in it
-pub in_room : {Z E : Type 0} (form : Form) (bytes : List ℕ) (most : ℕ) (old new : Vec ℕ Z) (result : Result Unit E) → Adds old new (line_in form bytes) result → old.items ≡ [] → IsLineRoom form most (vec_capacity old) → length bytes ≤ most → new.items ≡ line_in form bytes
+pub in_room : {Z E : Type 0} (form : Form) (bytes : List ℕ) (most : ℕ) (old new : Vec ℕ Z) (result : Result Unit E) → AddsInRoom old new (line_in form bytes) result → old.items ≡ [] → IsLineRoom form most (vec_capacity old) → length bytes ≤ most → new.items ≡ line_in form bytes
 in_room form bytes most old new (Ok done) adds none room few = adds.items ∙ ap (λ (l : List ℕ). l ++ line_in form bytes) none
 in_room form bytes most old new (Err fault) adds none room few =
     let fits = room bytes few in

@@ -2,12 +2,12 @@ use Rattle.std.proofs.Common.{rules, ◌∷◌, sym, subst, List, ◌≡◌, map
 use Rattle.record_forms.specs.declared.column.Column.{Column}
 use Rattle.record_forms.specs.Csv.{field, fields}
 use Rattle.record_forms.specs.Columns.{column_name}
-use Rattle.record_forms.specs.Room.{Adds}
+use Rattle.record_forms.specs.Room.{AddsInRoom}
 use Rattle.record_forms.proofs.TextLemmas.{with_commas}
 use Rattle.record_forms.proofs.csv.add_names.Goals as goal
 
 pub returns : goal.returns
 returns c =
     let is : c.args.columns.now ≡ c.in-Some.first.now ∷ c.in-Some.rest.now = search rules in
-    subst (λ (columns : List Column). Adds c.args.text.now c.add_more_names.new.text (fields (map column_name columns)) c.add_more_names.result) (sym is)
+    subst (λ (columns : List Column). AddsInRoom c.args.text.now c.add_more_names.new.text (fields (map column_name columns)) c.add_more_names.result) (sym is)
     (with_commas field column_name _ _ _ c.in-Some.first.now c.in-Some.rest.now c.add_more_names.result c.in_ok-add_name.ensures c.add_more_names.ensures)
