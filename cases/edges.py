@@ -9,6 +9,7 @@ import random
 import re
 import resource
 import shutil
+import signal
 import subprocess
 import sys
 import tempfile
@@ -430,6 +431,45 @@ def disk_that_is_full(room):
         subprocess.run(["umount", room.files], check=True)
 
 
+# ---- a load that is killed
+
+
+KEYED = deck()
+KEYED = KEYED.replace(b"RECORD KEY IS CUST-ID.", b"RECORD KEY IS CUST-ID\n        ALTERNATE RECORD KEY IS CUST-KIND WITH DUPLICATES.")
+KEYED = KEYED.replace(b"05 CUST-TEXT PIC X(994).", b"05 CUST-KIND PIC X(4).\n    05 CUST-TEXT PIC X(990).")
+
+
+def killed_load(room):
+    """A load into a new file is killed, by the limit on the size of a file: its first page is lost, and by the lengths of its deck the records come back that had reached the file."""
+    keyed, text, left, new = (room.place / it for it in ("keyed.deck", "text", "left", "new"))
+    keyed.write_bytes(KEYED)
+    records = [f"[{record(it)}]" for it in range(1, 401)]
+    text.write_text("".join(f"{it}\n" for it in records))
+    beside = ["--deck", keyed, "--file", "CUST"]
+
+    def limited():
+        resource.setrlimit(resource.RLIMIT_FSIZE, (50 * 4096, 50 * 4096))
+
+    ended = room.call([room.program, "load", keyed, "--folder", room.files, "--file", "CUST", "--frames", "1", text], preexec_fn=limited)
+    wants((ended.returncode, ended.stdout), (-signal.SIGXFSZ, b""), "the load")
+    room.wants_refused()
+    before = room.cust.read_bytes()
+    alone = room.call([room.program, "salvage", room.cust])
+    wants((alone.returncode, alone.stdout, alone.stderr), (1, b"", b"unsound 3\n"), "a salvage without a deck")
+    salvaged = room.call([room.program, "salvage", room.cust, *beside])
+    lines = salvaged.stdout.decode().splitlines()
+    wants((salvaged.returncode, salvaged.stderr), (1, f"salvaged {len(lines)} records, in doubt\n".encode()), "a salvage beside the deck")
+    wants((len(lines) > 100, len(set(lines)), set(lines) - set(records)), (True, len(lines), set()), "how many lines come back, how many of them differ, and those that were not loaded")
+    wants(room.cust.read_bytes(), before, "bytes of the file")
+    left.write_bytes(salvaged.stdout)
+    new.mkdir()
+    loaded = room.call([room.program, "load", keyed, "--folder", new, "--file", "CUST", left])
+    wants((loaded.returncode, loaded.stdout), (0, f"loaded {len(lines)}\n".encode()), "a load of what came back")
+    whole = room.call([room.program, "salvage", new / "cust.dat", *beside])
+    told = f"salvaged {len(lines)} records, all of them\n".encode()
+    wants((whole.returncode, whole.stdout.decode().splitlines(), whole.stderr), (0, sorted(lines), told), "a salvage of the new file")
+
+
 # ---- all of them
 
 
@@ -459,6 +499,7 @@ def trials():
     yield "a folder that may only be read", folder_only_read
     yield "a limit on the size of files", limit_on_file_size
     yield "a disk that is full", disk_that_is_full
+    yield "a load into a new file that is killed", killed_load
 
 
 def faults(program, trials=trials):

@@ -41,7 +41,7 @@ module _ {X I W : Type 0} (shelf : Ghosts X) (keeps_open : X → ℕ → Bool) (
     Comes = ComesOfRun old left input deck folder limits strict disk (calls_made before after) contents out out_after
 
     run_by : (done : Done) (ran : Option Ran) → done.ran ≡ ran → Comes ran done.outcome → Came done
-    run_by done None is comes = inl (begins_alone words (left input.reader) contents out out_after before comes.0.none_aside old after held done.outcome comes.0)
+    run_by done None is comes = inl (begins_alone disk words (left input.reader) contents out out_after before comes.0.none_aside old after held done.outcome comes.0)
     run_by done (Some ran) is comes = inr (inl (
       ran,
       is,
@@ -63,7 +63,7 @@ module _ {X I W : Type 0} (shelf : Ghosts X) (keeps_open : X → ℕ → Bool) (
   -- a session
   module _ (folder : Text) (limits : Limits) (asks : AskServe words folder limits.pages limits.frames.value) where
     pub serve_came : (done : Done) → ComesOfSession old shelf keeps_open disk (calls_made before after) folder limits left contents input input_after out out_after done.unclosed done.outcome → Came done
-    serve_came done (inl none) = inl (begins_alone words (left input.reader) contents out out_after before none.0.none_aside old after held done.outcome none.0)
+    serve_came done (inl none) = inl (begins_alone disk words (left input.reader) contents out out_after before none.0.none_aside old after held done.outcome none.0)
     serve_came done (inr session) = inr (inr (inl (record {
       folder = folder;
       pages = limits.pages;
@@ -81,7 +81,7 @@ module _ {X I W : Type 0} (shelf : Ghosts X) (keeps_open : X → ℕ → Bool) (
 
     pub load_came : (done : Done) → ComesOfLoad (IsBegun old.calls done.outcome) (IsLoadFault load.form) old (calls_made before after) out out_after done.outcome → Came done
     load_came done comes = elim comes.came [
-      | inl none ↦ inl (begins_alone words (left input.reader) contents out out_after before none.none_aside old after held done.outcome none)
+      | inl none ↦ inl (begins_alone disk words (left input.reader) contents out out_after before none.none_aside old after held done.outcome none)
       | inr is ↦ inr (inr (inr (load, subst (λ (base : List Call). IsBegun base done.outcome) held is)))
     ]
 

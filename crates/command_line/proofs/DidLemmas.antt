@@ -1,18 +1,21 @@
 -- What was done for words that ask for a list, a schema, a load or a run.
-use Rattle.std.proofs.Common.{◌≡◌, ◌⊎◌, ℕ, Bool, List, [], ◌∷◌, Option, Some, None, Result, Ok, Err, IfOk, IfErr, option_map, Bor, inl, inr, refl, sym, ap, subst}
+use Rattle.std.proofs.Common.{◌≡◌, ◌⊎◌, ℕ, Bool, true, false, List, [], ◌∷◌, Option, Some, None, Result, Ok, Err, IfOk, IfErr, option_map, Bor, inl, inr, refl, sym, ap, subst}
 use Rattle.std.proofs.lemmas.Result.{IfErr-weaker}
 use Rattle.clap.specs.Words.{Text}
+use Rattle.folder_shelf.specs.Replay.{Unseen}
 use Rattle.recorded_system.specs.Calls.{Call}
 use Rattle.clap.specs.declared.error.Error.{Error}
-use Rattle.command_words.specs.Asks.{Ask, AskCheck, AskExplain, AskHelp, AskNothing, AskSchema, AskServe, AskStat, AskSalvage, FormText, IfUsage, form_text}
+use Rattle.command_words.specs.Asks.{Ask, AskCheck, AskExplain, AskHelp, AskNothing, AskSchema, AskServe, AskStat, FormText, IfUsage, form_text}
 use Rattle.command_words.specs.declared.fault.WordsFault.{WordsFault}
 use Rattle.command_words.specs.declared.fault.WordsFault.TheVariants.{Usage as NotUnderstood, Memory as NoMemoryForWords}
 use Rattle.command_words.specs.declared.form_words.FormWords.{FormWords}
 use Rattle.command_words.specs.declared.limits.Limits.{Limits}
-use Rattle.command_words.specs.declared.request.Request.TheVariants.{Schema, List as ListRecords, Load}
+use Rattle.command_words.specs.declared.request.Request.TheVariants.{Schema, List as ListRecords, Load, Salvage}
 use Rattle.file_commands.specs.Forms.{IsFormRefused, IsListRefused}
 use Rattle.file_commands.specs.Listed.{IsListFault}
+use Rattle.file_commands.specs.ByIndex.{DoesByIndex}
 use Rattle.file_commands.specs.Records.{ListsAsked}
+use Rattle.file_commands.specs.Salvaged.{SalvagesFileAt}
 use Rattle.file_commands.specs.Schema.{IsSchemaDone, IsSchemaFault}
 use Rattle.file_commands.specs.declared.listing.Bounds.{Bounds}
 use Rattle.file_commands.specs.DeckFile.{IsDeckFault}
@@ -20,9 +23,9 @@ use Rattle.file_commands.specs.Front.{DoesBy}
 use Rattle.file_commands.specs.Verdicts.{ChecksFile}
 use Rattle.file_statistics.specs.declared.listing.FileStatisticsEnd.{FileStatisticsEnd}
 use Rattle.shelf_loading.specs.declared.end.ShelfEnd.{ShelfEnd}
-use Rattle.salvaged_records.specs.declared.salvaging.Salvage.{Salvage}
+use Rattle.command_line.specs.Lists.{ListsEitherWay}
 use Rattle.command_line.specs.LoadForm.{IsLoadFault}
-use Rattle.command_line.specs.Performed.{AskOfDeck, AskForLoad, AskForRecords, AskForRun, AskForSchema, Did, IsRunOutcome}
+use Rattle.command_line.specs.Performed.{AskOfDeck, AskForLoad, AskForRecords, AskForRun, AskForSalvage, AskForSchema, Did, IsRunOutcome}
 use Rattle.command_outcomes.specs.Status.{status_of}
 use Rattle.command_outcomes.specs.declared.fault.Fault.{Fault}
 use Rattle.command_outcomes.specs.declared.fault.Fault.TheVariants.{Deck, NoSuchFile, NotListed, Form as NoForm, Unexplained, Input, Output, Memory}
@@ -36,15 +39,20 @@ abbrev pub for_schema : (words : List Text) (file : Bor Text) (deck name : Optio
 for_schema words file deck name asked =
     record { file = file.now; deck = option_map (λ text. text.now) deck; name = option_map (λ text. text.now) name; asked = asked }
 
-abbrev pub for_records : (words : List Text) (file : Bor Text) (key : ℕ) (from to : Option (Bor Text)) (first : ℕ) (form : FormWords) (quiet : Bool) (wait : ℕ)
-    → Ask words (ListRecords file key from to first form quiet wait) → AskForRecords words
-for_records words file key from to first form quiet wait asked = record {
+abbrev pub for_salvage : (words : List Text) (file : Bor Text) (deck name : Option (Bor Text)) → Ask words (Salvage file deck name) → AskForSalvage words
+for_salvage words file deck name asked =
+    record { file = file.now; deck = option_map (λ text. text.now) deck; name = option_map (λ text. text.now) name; asked = asked }
+
+abbrev pub for_records : (words : List Text) (file : Bor Text) (key : ℕ) (from to : Option (Bor Text)) (first : ℕ) (form : FormWords) (checked quiet : Bool) (wait : ℕ)
+    → Ask words (ListRecords file key from to first form checked quiet wait) → AskForRecords words
+for_records words file key from to first form checked quiet wait asked = record {
   file = file.now;
   key = key;
   from = option_map (λ text. text.now) from;
   to = option_map (λ text. text.now) to;
   first = first;
   form = form_text form;
+  checked = checked;
   quiet = quiet;
   asked = asked.0;
 }
@@ -75,13 +83,31 @@ module _ (words : List Text) (list : AskForRecords words) where
   did_refused Memory h = tt
   did_refused fault h = absurd h
 
-  pub did_list : {W : Type 0} (input : Option (List ℕ)) (path : List ℕ) (bounds : Bounds) (contents : W → Option (List ℕ)) (old new : W) (calls : List Call) (result : Result Outcome Fault)
+  did_checked : {W : Type 0} (input : Option (List ℕ)) (path : List ℕ) (bounds : Bounds) (contents : W → Option (List ℕ)) (old new : W) (calls : List Call) (result : Result Outcome Fault)
       → IfOk result (ListsAsked input path bounds list.form contents old new calls) → IfErr result (IsListRefused list.form) → Did words result
-  did_list input path bounds contents old new calls (Ok (Records end)) done fault = list
-  did_list input path bounds contents old new calls (Ok OtherSchema) done fault = list
-  did_list input path bounds contents old new calls (Ok outcome) done fault = absurd done
-  did_list input path bounds contents old new calls (Err f) done (inl long) = subst (λ (x : Fault). Did words (Err x)) (sym long) list
-  did_list input path bounds contents old new calls (Err f) done (inr refused) = did_refused f refused
+  did_checked input path bounds contents old new calls (Ok (Records end)) done fault = list
+  did_checked input path bounds contents old new calls (Ok OtherSchema) done fault = inl list
+  did_checked input path bounds contents old new calls (Ok outcome) done fault = absurd done
+  did_checked input path bounds contents old new calls (Err f) done (inl long) = subst (λ (x : Fault). Did words (Err x)) (sym long) list
+  did_checked input path bounds contents old new calls (Err f) done (inr refused) = did_refused f refused
+
+  did_pages : (disk : Unseen) (input : Option (List ℕ)) (path : List ℕ) (bounds : Bounds) (before behind : Option (List ℕ)) (calls : List Call) (result : Result Outcome Fault)
+      → IfOk result (DoesByIndex disk input path bounds list.form before behind calls) → IfErr result (IsListRefused list.form) → Did words result
+  did_pages disk input path bounds before behind calls (Ok (Records end)) done fault = list
+  did_pages disk input path bounds before behind calls (Ok OtherSchema) done fault = inl list
+  did_pages disk input path bounds before behind calls (Ok outcome) done fault = absurd done
+  did_pages disk input path bounds before behind calls (Err f) done (inl long) = subst (λ (x : Fault). Did words (Err x)) (sym long) list
+  did_pages disk input path bounds before behind calls (Err f) done (inr refused) = did_refused f refused
+
+  pub did_list : {W : Type 0} (checked : Bool) (disk : Unseen) (input : Option (List ℕ)) (path : List ℕ) (bounds : Bounds) (form : FormWords) → form_text form ≡ list.form
+      → (contents : W → Option (List ℕ)) (old new : W) (calls : List Call) (result : Result Outcome Fault) → ListsEitherWay checked disk input path bounds form contents old new result calls → Did words result
+  did_list true disk input path bounds form same contents old new calls result lists =
+      did_checked input path bounds contents old new calls result (subst (λ (f : FormText). IfOk result (ListsAsked input path bounds f contents old new calls)) same lists.records)
+      (subst (λ (f : FormText). IfErr result (IsListRefused f)) same lists.fault)
+  did_list false disk input path bounds form same contents old new calls result lists =
+      did_pages disk input path bounds (contents old) (contents new) calls result
+      (subst (λ (f : FormText). IfOk result (DoesByIndex disk input path bounds f (contents old) (contents new) calls)) same lists.records)
+      (subst (λ (f : FormText). IfErr result (IsListRefused f)) same lists.fault)
 
 -- the words ask for a schema
 module _ (words : List Text) (schema : AskForSchema words) where
@@ -91,13 +117,28 @@ module _ (words : List Text) (schema : AskForSchema words) where
   did_schema (Ok (SchemaCompared told)) done fault = (schema, done)
   did_schema (Ok (SchemaRefused refusal)) done fault = schema
   did_schema (Ok outcome) done fault = absurd done
-  did_schema (Err (Deck fault)) done h = inl (inr (inr (schema, h)))
-  did_schema (Err NoSuchFile) done h = inr (inr (schema, h))
+  did_schema (Err (Deck fault)) done h = inl (inr (inr (inl (schema, h))))
+  did_schema (Err NoSuchFile) done h = inr (inr (inl (schema, h)))
   did_schema (Err (NoForm fault)) done h = inr (inl (schema, h.0, h.1))
   did_schema (Err Input) done h = tt
   did_schema (Err Output) done h = tt
   did_schema (Err Memory) done h = tt
   did_schema (Err fault) done h = absurd h
+
+-- the words ask for a salvage
+module _ (words : List Text) (salvage : AskForSalvage words) where
+  pub did_salvage : (input : Option (List ℕ)) (before behind : Option (List ℕ)) (calls : List Call) (result : Result Outcome Fault)
+      → IfOk result (SalvagesFileAt input salvage.file salvage.deck salvage.name before behind calls) → IfErr result (IsSchemaFault salvage.deck salvage.name) → Did words result
+  did_salvage input before behind calls (Ok (Salvaged end)) done fault = salvage
+  did_salvage input before behind calls (Ok OtherSchema) done fault = inr salvage
+  did_salvage input before behind calls (Ok outcome) (schema, first, asked, (bytes, are, so)) fault = absurd so
+  did_salvage input before behind calls (Err (Deck fault)) done h = inl (inr (inr (inr (salvage, h))))
+  did_salvage input before behind calls (Err NoSuchFile) done h = inr (inr (inr (salvage, h)))
+  did_salvage input before behind calls (Err (NoForm fault)) done h = inr (inr (inl (salvage, h.0, h.1)))
+  did_salvage input before behind calls (Err Input) done h = tt
+  did_salvage input before behind calls (Err Output) done h = tt
+  did_salvage input before behind calls (Err Memory) done h = tt
+  did_salvage input before behind calls (Err fault) done h = absurd h
 
 -- the words ask for a load
 module _ (words : List Text) (load : AskForLoad words) where
@@ -111,7 +152,7 @@ module _ (words : List Text) (load : AskForLoad words) where
 
   pub did_load : (result : Result Outcome Fault) → IfOk result (λ outcome. (end : ShelfEnd) × (outcome ≡ Loaded end)) → IfErr result (IsLoadFault load.form) → Did words result
   did_load (Ok outcome) done fault = subst (λ (o : Outcome). Did words (Ok o)) (sym done.1) load
-  did_load (Err f) done (inl none) = subst (λ (x : Fault). Did words (Err x)) (sym none.0) (inr (inr (load, refl, none.1)))
+  did_load (Err f) done (inl none) = subst (λ (x : Fault). Did words (Err x)) (sym none.0) (inr (inr (inr (load, refl, none.1))))
   did_load (Err f) done (inr refused) = load_refused f refused
 
 -- the words ask for a run
@@ -161,11 +202,6 @@ module _ (words : List Text) where
       → IfOk result (λ outcome. (end : FileStatisticsEnd) × (outcome ≡ Counted end) × P end) → IfErr result (λ fault. status_of fault ≡ 4) → Did words result
   did_count path asked P (Ok outcome) is four = subst (λ (o : Outcome). Did words (Ok o)) (sym is.1) (path, asked)
   did_count path asked P (Err fault) is four = did_fail words fault four
-
-  pub did_salvage : (path : Text) → AskSalvage words path → (P : Salvage → Type 0) (result : Result Outcome Fault)
-      → IfOk result (λ outcome. (end : Salvage) × (outcome ≡ Salvaged end) × P end) → IfErr result (λ fault. status_of fault ≡ 4) → Did words result
-  did_salvage path asked P (Ok outcome) is four = subst (λ (o : Outcome). Did words (Ok o)) (sym is.1) (path, asked)
-  did_salvage path asked P (Err fault) is four = did_fail words fault four
 
   -- a deck was told, or is refused
   deck_refused : AskOfDeck words → (fault : Fault) → IsListFault fault → Did words (Err fault)

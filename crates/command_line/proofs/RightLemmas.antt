@@ -1,24 +1,28 @@
 -- What an outcome is right of, by what is known of the command that gave it.
-use Rattle.std.proofs.Common.{◌≡◌, ℕ, Bool, List, [], ◌∷◌, Option, Some, None, Result, Ok, Err, Bor, map, sym, subst, refl}
+use Rattle.std.proofs.Common.{◌≡◌, ℕ, Bool, true, false, List, [], ◌∷◌, Option, Some, None, Result, Ok, Err, Bor, map, inl, inr, sym, subst, refl}
 use Rattle.std.specs.Prelude.{IfOk}
 use Rattle.clap.specs.Words.{Text}
+use Rattle.folder_shelf.specs.Replay.{Unseen}
 use Rattle.recorded_system.specs.Calls.{Call}
 use Rattle.schema_listing.specs.declared.comparing.Comparison.{Comparison}
-use Rattle.command_words.specs.Asks.{Ask, AskCheck, AskCobol, AskDeck, AskExplain, AskStat, AskSalvage, form_text}
+use Rattle.command_words.specs.Asks.{Ask, AskCheck, AskCobol, AskDeck, AskExplain, AskStat, form_text}
 use Rattle.command_words.specs.declared.form_words.FormWords.{FormWords}
 use Rattle.command_words.specs.declared.request.Request.TheVariants.{List as ListRecords}
 use Rattle.explanations.specs.Tables.{explanation}
 use Rattle.file_commands.specs.Counted.{CountsFileAt}
 use Rattle.file_commands.specs.Front.{DoesBy, IsDeckNamed}
 use Rattle.file_commands.specs.Listed.{TellsDeck, WritesList, WritesCobol}
+use Rattle.file_commands.specs.ByIndex.{DoesByIndex}
 use Rattle.file_commands.specs.Records.{ListsAsked}
 use Rattle.file_commands.specs.Salvaged.{SalvagesFileAt}
 use Rattle.file_commands.specs.Schema.{TellsAsked, ComparesAsked, IsOfSchema, IsSchemaDone}
 use Rattle.file_commands.specs.Verdicts.{ChecksFile, WritesVerdicts}
+use Rattle.file_commands.specs.declared.listing.Bounds.{Bounds}
 use Rattle.file_checker.specs.declared.verdict.Verdict.{Verdict}
 use Rattle.file_statistics.specs.declared.listing.FileStatisticsEnd.{FileStatisticsEnd}
 use Rattle.command_line.specs.Explained.{WritesExplanation}
-use Rattle.command_line.specs.Performed.{AskForSchema}
+use Rattle.command_line.specs.Performed.{AskForSalvage, AskForSchema}
+use Rattle.command_line.specs.Lists.{ListsEitherWay}
 use Rattle.command_line.specs.Right.{IsRightOf}
 use Rattle.command_line.proofs.DidLemmas.{for_records}
 use Rattle.command_outcomes.specs.declared.fault.Fault.{Fault}
@@ -26,9 +30,9 @@ use Rattle.command_outcomes.specs.declared.outcome.Outcome.{Outcome}
 use Rattle.command_outcomes.specs.declared.outcome.Outcome.TheVariants.{Helped, Checked, CheckedAll, SchemaTold, SchemaCompared, SchemaRefused, Explained, Listed, Records, OtherSchema, InCobol, Counted, Salvaged}
 use Rattle.command_outcomes.specs.declared.outcome.WorstCheck.{WorstCheck}
 
-module _ {W : Type 0} (words : List Text) (calls : List Call) (input : Option (List ℕ)) (contents : W → Option (List ℕ)) (old new : W) where
+module _ {W : Type 0} (disk : Unseen) (words : List Text) (calls : List Call) (input : Option (List ℕ)) (contents : W → Option (List ℕ)) (old new : W) where
   abbrev pub IsRight : Outcome → Type 0
-  IsRight = IsRightOf words calls input contents old new
+  IsRight = IsRightOf disk words calls input contents old new
 
   -- help was written
   pub right_help : (result : Result Outcome Fault) → IfOk result (λ outcome. outcome ≡ Helped) → IfOk result IsRight
@@ -60,10 +64,12 @@ module _ {W : Type 0} (words : List Text) (calls : List Call) (input : Option (L
   right_count path asked (Err fault) does = tt
 
   -- the records of a file were salvaged
-  pub right_salvage : (path : Text) → AskSalvage words path → (result : Result Outcome Fault) → DoesBy (SalvagesFileAt path contents old new) result calls → IfOk result IsRight
-  right_salvage path asked (Ok outcome) does = let done = does.right in
-      subst IsRight (sym done.1) (path, asked, subst (λ (o : Outcome). SalvagesFileAt path contents old new calls o) done.1 done)
-  right_salvage path asked (Err fault) does = tt
+  pub right_salvage : (salvage : AskForSalvage words) (result : Result Outcome Fault)
+      → IfOk result (SalvagesFileAt input salvage.file salvage.deck salvage.name (contents old) (contents new) calls) → IfOk result IsRight
+  right_salvage salvage (Ok (Salvaged end)) is = (salvage, is)
+  right_salvage salvage (Ok OtherSchema) is = inr (salvage, is)
+  right_salvage salvage (Ok outcome) (schema, first, asked, (bytes, are, so)) = absurd so
+  right_salvage salvage (Err fault) is = tt
 
   -- a deck was listed, or written in COBOL
   pub right_listed : (deck : Text) → AskDeck words deck → (result : Result Outcome Fault)
@@ -88,10 +94,25 @@ module _ {W : Type 0} (words : List Text) (calls : List Call) (input : Option (L
   right_schema schema (Err fault) told compared done = tt
 
   -- the records of a file were listed, or it is of another schema
-  pub right_list : (file : Bor Text) (key : ℕ) (from to : Option (Bor Text)) (first : ℕ) (form : FormWords) (quiet : Bool) (wait : ℕ)
-      → Ask words (ListRecords file key from to first form quiet wait) → (result : Result Outcome Fault)
-      → IfOk result (ListsAsked input file.now (record { key = key; from = from; to = to; first = first }) (form_text form) contents old new calls) → IfOk result IsRight
-  right_list file key from to first form quiet wait asked (Ok (Records end)) is = (for_records words file key from to first form quiet wait asked, is)
-  right_list file key from to first form quiet wait asked (Ok OtherSchema) is = (for_records words file key from to first form quiet wait asked, is)
-  right_list file key from to first form quiet wait asked (Ok outcome) is = absurd is
-  right_list file key from to first form quiet wait asked (Err fault) is = tt
+  module _ (file : Bor Text) (key : ℕ) (from to : Option (Bor Text)) (first : ℕ) (form : FormWords) (quiet : Bool) (wait : ℕ) where
+    abbrev bounds : Bounds
+    bounds = record { key = key; from = from; to = to; first = first }
+
+    by_check : Ask words (ListRecords file key from to first form true quiet wait) → (result : Result Outcome Fault)
+        → IfOk result (ListsAsked input file.now bounds (form_text form) contents old new calls) → IfOk result IsRight
+    by_check asked (Ok (Records end)) is = (for_records words file key from to first form true quiet wait asked, is)
+    by_check asked (Ok OtherSchema) is = inl (for_records words file key from to first form true quiet wait asked, is)
+    by_check asked (Ok outcome) is = absurd is
+    by_check asked (Err fault) is = tt
+
+    by_index : Ask words (ListRecords file key from to first form false quiet wait) → (result : Result Outcome Fault)
+        → IfOk result (DoesByIndex disk input file.now bounds (form_text form) (contents old) (contents new) calls) → IfOk result IsRight
+    by_index asked (Ok (Records end)) is = (for_records words file key from to first form false quiet wait asked, is)
+    by_index asked (Ok OtherSchema) is = inl (for_records words file key from to first form false quiet wait asked, is)
+    by_index asked (Ok outcome) is = absurd is
+    by_index asked (Err fault) is = tt
+
+    pub right_list : (checked : Bool) → Ask words (ListRecords file key from to first form checked quiet wait) → (result : Result Outcome Fault)
+        → ListsEitherWay checked disk input file.now bounds form contents old new result calls → IfOk result IsRight
+    right_list true asked result lists = by_check asked result lists.records
+    right_list false asked result lists = by_index asked result lists.records

@@ -61,7 +61,7 @@ abbrev pub CameFor : {X I W : Type 0} → (shelf : Ghosts X) → (X → ℕ → 
     → (words : List Text) → CallsMade → (I → Option (List ℕ)) → (W → Option (List ℕ))
     → (input input_after : StandardInput I) → (out out_after : W) → Done → Type 0
 CameFor shelf keeps_open disk words made left contents input input_after out out_after done =
-    ReadsAlone words (left input.reader) made contents out out_after done.outcome
+    ReadsAlone disk words (left input.reader) made contents out out_after done.outcome
     ⊎ ((ran : Ran) × (done.ran ≡ Some ran) × RanAsAsked words (left input.reader)
     disk made (wrote contents out out_after) ran.strict done.outcome)
     ⊎ ServedAsAsked shelf keeps_open words disk made

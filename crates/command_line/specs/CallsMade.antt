@@ -6,8 +6,8 @@ use Rattle.recorded_system.specs.SystemState.{SystemState}
 use Rattle.command_outcomes.specs.declared.fault.Fault.{Fault}
 use Rattle.command_outcomes.specs.declared.outcome.Outcome.{Outcome}
 
--- the calls that were set aside when a folder was entered, the newest in front; and the system, with
--- the calls since
+-- the calls that were set aside when a folder was entered, or before a file was read page after page, the
+-- newest in front; and the system, with the calls since
 pub record CallsMade : Type 0 where
   pub before : List Call
   pub system : SystemState
@@ -15,6 +15,10 @@ pub record CallsMade : Type 0 where
 -- the same, by its parts
 abbrev pub calls_made : List Call → SystemState → CallsMade
 calls_made before system = record { before = before; system = system }
+
+-- all of them, the newest in front
+abbrev pub all_calls : CallsMade → List Call
+all_calls made = made.system.calls ++ made.before
 
 -- it was told that a path is that of a folder, after these reads and what was asked before them
 abbrev pub folder_behind : (folder : List ℕ) → (reads base : List Call) → List Call

@@ -185,8 +185,9 @@ pub record AskForRecords (words : List Text) : Type 0 where
   pub to : Option Text
   pub first : ℕ
   pub form : FormText
+  pub checked : Bool
   pub quiet : Bool
-  pub asked : AskList words file key from to first form quiet
+  pub asked : AskList words file key from to first form checked quiet
 
 -- the words ask for a schema
 pub record AskForSchema (words : List Text) : Type 0 where
@@ -195,27 +196,37 @@ pub record AskForSchema (words : List Text) : Type 0 where
   pub name : Option Text
   pub asked : AskSchema words file deck name
 
--- the words ask for a file of a deck: to load a text into it, to have the columns of its record, or
--- to hold its schema against that of a file
+-- the words ask for what is left in a file
+pub record AskForSalvage (words : List Text) : Type 0 where
+  pub file : Text
+  pub deck : Option Text
+  pub name : Option Text
+  pub asked : AskSalvage words file deck name
+
+-- the words ask for a file of a deck: to load a text into it, to have the columns of its record, to
+-- hold its schema against that of a file, or to salvage a file by it
 abbrev pub AskOfFile : List Text → Type 0
 AskOfFile words =
     AskForLoad words ⊎ ((list : AskForRecords words) × IsDeckAsked list.form.deck list.form.name)
     ⊎ ((schema : AskForSchema words) × IsDeckAsked schema.deck schema.name)
+    ⊎ ((salvage : AskForSalvage words) × IsDeckAsked salvage.deck salvage.name)
 
 -- the words ask for a list in a form that has this fault, for a schema beside half of what is to be
--- held against it, or for a load by a word that asks for no form
+-- held against it, for a salvage beside half of a file of a deck, or for a load by a word that asks for
+-- no form
 abbrev pub AskForNoForm : List Text → FormFault → Type 0
 AskForNoForm words fault =
     ((list : AskForRecords words) × HasFormFault list.form fault)
     ⊎ ((schema : AskForSchema words) × IsHalf schema.deck schema.name × (fault ≡ HalfDeck))
+    ⊎ ((salvage : AskForSalvage words) × IsHalf salvage.deck salvage.name × (fault ≡ HalfDeck))
     ⊎ ((load : AskForLoad words) × (fault ≡ Kind) × IsNoFormWord load.form)
 
 -- what was done for the words: help was written for those that ask for it, files checked for those
--- that ask for that, records listed, or the file found to be of another schema than its deck, for
--- those that ask for records, a program written for those that ask for one in COBOL, a text loaded
+-- that ask for that, records listed for those that ask for records, or the file found to be of another
+-- schema than its deck, for these and for those that ask for a salvage, a program written for those that ask for one in COBOL, a text loaded
 -- for those that ask for that, the pages of a file counted for those that ask for that, the
--- records of a file salvaged for those that ask for that, requests answered for those that ask for a session, a schema told, compared or refused for those that ask
--- for one, and a run came to its end for those that ask for one; a fault that is told of the words is
+-- records of a file salvaged for those that ask for that, requests answered for those that ask for a
+-- session, a schema told, compared or refused for those that ask for one, and a run came to its end for those that ask for one; a fault that is told of the words is
 -- theirs. The input, the output or memory may fail for any words.
 abbrev pub Did : List Text → Result Outcome Fault → Type 0
 Did words (Ok Helped) = (text : Error) × AskHelp words text
@@ -230,11 +241,11 @@ Did words (Ok (SchemaRefused refusal)) = AskForSchema words
 Did words (Ok Explained) = (kind : Text) × (number : Text) × AskExplain words kind number
 Did words (Ok Listed) = (deck : Text) × AskDeck words deck
 Did words (Ok (Records list)) = AskForRecords words
-Did words (Ok OtherSchema) = AskForRecords words
+Did words (Ok OtherSchema) = AskForRecords words ⊎ AskForSalvage words
 Did words (Ok InCobol) = (deck : Text) × (fixed : Bool) × AskCobol words deck fixed
 Did words (Ok (Loaded end)) = AskForLoad words
 Did words (Ok (Counted end)) = (file : Text) × AskStat words file
-Did words (Ok (Salvaged end)) = (file : Text) × AskSalvage words file
+Did words (Ok (Salvaged end)) = AskForSalvage words
 Did words (Err (Deck fault)) = AskOfFile words ⊎ AskForRun words
 Did words (Err NoSuchFile) = AskOfFile words
 Did words (Err (NoForm fault)) = AskForNoForm words fault

@@ -1,23 +1,26 @@
 -- What an outcome means where no folder was entered: of what it is right, by the calls that were made, and
 -- what was written. All of this is ours.
-use Rattle.std.specs.Prelude.{◌≡◌, ◌⊎◌, ℕ, Bool, List, [], ◌∷◌, Option, Result, IfOk, ⊤}
+use Rattle.std.specs.Prelude.{◌≡◌, ◌⊎◌, ℕ, Bool, true, false, List, [], ◌∷◌, Option, Result, IfOk, ⊤}
 use Rattle.clap.specs.Words.{Text}
 use Rattle.recorded_system.specs.Calls.{Call}
 use Rattle.recorded_system.specs.Reading.{AreReading}
-use Rattle.command_words.specs.Asks.{Ask, AskCheck, AskCobol, AskDeck, AskExplain, AskStat, AskSalvage}
+use Rattle.command_words.specs.Asks.{Ask, AskCheck, AskCobol, AskDeck, AskExplain, AskStat}
 use Rattle.command_words.specs.declared.request.Request.{Request}
 use Rattle.command_words.specs.declared.request.Request.TheVariants.{Run, Serve, Load}
 use Rattle.file_commands.specs.Counted.{CountsFileAt}
 use Rattle.file_commands.specs.Front.{OfNamedDeck}
 use Rattle.file_commands.specs.Listed.{WritesList, WritesCobol}
+use Rattle.file_commands.specs.ByIndex.{ListsRecordsByIndex, FindsOther}
+use Rattle.file_listing.specs.declared.listing.FileList.{FileList}
+use Rattle.folder_shelf.specs.Replay.{Unseen}
 use Rattle.file_commands.specs.Records.{OfFormAndFile, ListsRecords, AgreesWith, WritesOther}
 use Rattle.file_commands.specs.Salvaged.{SalvagesFileAt}
 use Rattle.file_commands.specs.Schema.{TellsAsked, ComparesAsked}
 use Rattle.file_commands.specs.Verdicts.{ChecksFile, WritesVerdicts}
 use Rattle.explanations.specs.Tables.{explanation}
-use Rattle.command_line.specs.CallsMade.{CallsMade, BeginsWithStreams}
+use Rattle.command_line.specs.CallsMade.{CallsMade, all_calls, BeginsWithStreams}
 use Rattle.command_line.specs.Explained.{WritesExplanation}
-use Rattle.command_line.specs.Performed.{AskForRecords, AskForSchema}
+use Rattle.command_line.specs.Performed.{AskForRecords, AskForSalvage, AskForSchema}
 use Rattle.command_outcomes.specs.declared.fault.Fault.{Fault}
 use Rattle.command_outcomes.specs.declared.outcome.Outcome.{Outcome}
 use Rattle.command_outcomes.specs.declared.outcome.Outcome.TheVariants.{Helped, Checked, Ended, Served}
@@ -26,9 +29,35 @@ use Rattle.command_outcomes.specs.declared.outcome.Outcome.TheVariants.{SchemaRe
 use Rattle.command_outcomes.specs.declared.outcome.Outcome.TheVariants.{CheckedAll, Records, InCobol, Loaded}
 use Rattle.command_outcomes.specs.declared.outcome.Outcome.TheVariants.{Counted, OtherSchema, Salvaged}
 
--- words that are answered by these calls, with what the input had left at first, by what a writer has before
--- and after
-module _ {W : Type 0} (words : List Text) (calls : List Call) (input : Option (List ℕ))
+-- the records that words ask for were listed: after a check of the bytes that the first page of the file
+-- counts, or page after page
+abbrev pub ListsAsAsked : (checked : Bool) → {words : List Text} → Unseen → (input : Option (List ℕ))
+    → AskForRecords words → List Call → (before behind : Option (List ℕ)) → FileList → Type 0
+ListsAsAsked true disk input asked calls before behind list =
+    OfFormAndFile input asked.file asked.form calls (λ form schema bytes. AgreesWith schema bytes
+    × ListsRecords form bytes asked.key asked.from asked.to asked.first before behind list)
+ListsAsAsked false disk input asked calls before behind list =
+    ListsRecordsByIndex disk input asked.file asked.form asked.key asked.from asked.to asked.first before
+    behind calls list
+
+-- so the differences of the file from the deck whose columns they ask for
+abbrev pub DiffersAsAsked : (checked : Bool) → {words : List Text} → (input : Option (List ℕ))
+    → AskForRecords words → List Call → (before behind : Option (List ℕ)) → Type 0
+DiffersAsAsked true input asked calls before behind =
+    OfFormAndFile input asked.file asked.form calls (λ form schema bytes. WritesOther schema bytes before behind)
+DiffersAsAsked false input asked calls before behind =
+    FindsOther input asked.file asked.form before behind calls
+
+-- the records that are left in a file were salvaged as words ask for it, or its differences from a deck were
+-- written
+abbrev pub SalvagesAsAsked : {words : List Text} → (input : Option (List ℕ)) → AskForSalvage words → List Call
+    → (before behind : Option (List ℕ)) → Outcome → Type 0
+SalvagesAsAsked input asked calls before behind outcome =
+    SalvagesFileAt input asked.file asked.deck asked.name before behind calls outcome
+
+-- words that are answered by these calls, on a disk with these files at first, with what the input had left at
+-- first, by what a writer has before and after
+module _ {W : Type 0} (disk : Unseen) (words : List Text) (calls : List Call) (input : Option (List ℕ))
     (contents : W → Option (List ℕ)) (old new : W) where
   -- the outcome is right, of what was read and of what was written. A run, a session and a load have entered
   -- a folder, and are none of these; of the text of help nothing is said
@@ -60,13 +89,14 @@ module _ {W : Type 0} (words : List Text) (calls : List Call) (input : Option (L
       × OfNamedDeck calls input deck (λ bytes. WritesList bytes (contents old) (contents new))
   -- the records that the words ask for were written, in the form that they name, or it is told why not
   IsRightOf (Records list) = (asked : AskForRecords words)
-      × OfFormAndFile input asked.file asked.form calls (λ form schema bytes. AgreesWith schema bytes
-      × ListsRecords form bytes asked.key asked.from asked.to asked.first (contents old) (contents new) list)
-  -- the file is of another schema than the deck whose columns the words ask for, and the differences were
-  -- written
-  IsRightOf OtherSchema = (asked : AskForRecords words)
-      × OfFormAndFile input asked.file asked.form calls (λ form schema bytes.
-      WritesOther schema bytes (contents old) (contents new))
+      × ListsAsAsked asked.checked disk input asked calls (contents old) (contents new) list
+  -- the file is of another schema than the deck whose columns the words ask for, or by which it is to be
+  -- salvaged, and the differences were written
+  IsRightOf OtherSchema =
+      ((asked : AskForRecords words)
+      × DiffersAsAsked asked.checked input asked calls (contents old) (contents new))
+      ⊎ ((asked : AskForSalvage words)
+      × SalvagesAsAsked input asked calls (contents old) (contents new) OtherSchema)
   -- the deck that the words name was written as a program
   IsRightOf InCobol = (deck : Text) × (fixed : Bool) × AskCobol words deck fixed
       × OfNamedDeck calls input deck (λ bytes. WritesCobol bytes fixed (contents old) (contents new))
@@ -74,8 +104,8 @@ module _ {W : Type 0} (words : List Text) (calls : List Call) (input : Option (L
   IsRightOf (Counted end) = (path : Text) × AskStat words path
       × CountsFileAt path contents old new calls (Counted end)
   -- the records that are left in the file that the words name were written, or it is told why not
-  IsRightOf (Salvaged end) = (path : Text) × AskSalvage words path
-      × SalvagesFileAt path contents old new calls (Salvaged end)
+  IsRightOf (Salvaged end) = (asked : AskForSalvage words)
+      × SalvagesAsAsked input asked calls (contents old) (contents new) (Salvaged end)
 
 -- the request is for no run, no session and no load
 abbrev pub IsToRead : Request → Type 0
@@ -90,11 +120,11 @@ AskToRead words = (request : Request) × IsToRead request × Ask words request
 
 -- no folder was entered, and none but reads were made, of which the outcome is right; and nothing was written,
 -- where the words ask for a run, a session or a load
-pub record ReadsAlone {W : Type 0} (words : List Text) (input : Option (List ℕ)) (made : CallsMade)
-    (contents : W → Option (List ℕ)) (old new : W) (outcome : Result Outcome Fault) : Type 0 where
-  pub none_aside : made.before ≡ []
+pub record ReadsAlone {W : Type 0} (disk : Unseen) (words : List Text) (input : Option (List ℕ))
+    (made : CallsMade) (contents : W → Option (List ℕ)) (old new : W) (outcome : Result Outcome Fault) : Type
+    0 where
   pub reads : List Call
-  pub calls : BeginsWithStreams made.system.calls reads
+  pub calls : BeginsWithStreams (all_calls made) reads
   pub reading : AreReading reads
-  pub right : IfOk outcome (IsRightOf words reads input contents old new)
+  pub right : IfOk outcome (IsRightOf disk words reads input contents old new)
   pub unwritten : AskToRead words ⊎ (new ≡ old)

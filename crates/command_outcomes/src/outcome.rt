@@ -52,8 +52,8 @@ pub enum Outcome {
     Listed,
     /// The records of a file were listed, or it was found why not.
     Records(FileList),
-    /// The records of a file were not listed, since it is of another schema than the file of the
-    /// deck that the columns are those of: their differences were written.
+    /// The records of a file were not listed or salvaged, since it is of another schema than the file
+    /// of a deck that was named: their differences were written.
     OtherSchema,
     /// A deck was written as a COBOL program.
     InCobol,
@@ -173,8 +173,9 @@ fn tell_salvage<E: Write>(end: Salvage, err: &mut E) -> io::Result<()> {
 }
 
 impl Outcome {
-    /// Tells what was salvaged of a file, or why a file has no schema or no list, was not made, or
-    /// was not read, on standard error, as far as that takes it, and answers the exit status.
+    /// Tells what was salvaged of a file, or why a file has no schema or no list, is of another schema
+    /// than a deck, was not made, or was not read, on standard error, as far as that takes it, and
+    /// answers the exit status.
     fn report<E: Write>(self, err: &mut E) -> u8
         ensures { result ≡ status_for self }
     {
@@ -183,6 +184,9 @@ impl Outcome {
         }
         if let Outcome::Records(list) = self {
             let _ = tell_list(list, err);
+        }
+        if let Outcome::OtherSchema = self {
+            let _ = writeln!(err, "cobix: the file is of another schema than the deck");
         }
         if let Outcome::Counted(FileStatisticsEnd::Unsound(reason, place)) = self {
             let _ = tell_reason(reason, place, err);

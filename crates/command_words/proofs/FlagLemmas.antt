@@ -8,7 +8,7 @@ use Rattle.clap.specs.Words.{Row, Text, one_of, one_text, rows_of}
 use Rattle.clap.specs.Matches.{ReadsOne}
 use Rattle.clap.specs.declared.parser.matches.Found.{Found}
 use Rattle.clap.proofs.WalkLemmas.{one_text-rows}
-use Rattle.command_words.specs.Asks.{IsFlag, IsQuietRequest}
+use Rattle.command_words.specs.Asks.{IsFlag, IsCheckedRequest, IsQuietRequest}
 
 -- the text of this id is there, and this truth value
 abbrev pub GivenFlag : List Row → Text → Bool → Type 0
@@ -49,4 +49,12 @@ pub quiet_read : (f : Found) (read : Option Bool) → (one_text f (codes "quiet"
 quiet_read f None none some = tt
 quiet_read f (Some quiet) none some =
     let given = flag_read f (codes "quiet") (Some quiet) none some quiet refl in
+    record { text = given.0; given = given.1; is = given.2 }
+
+-- whether the file is to be checked first, where that was read
+pub checked_read : (f : Found) (read : Option Bool) → (one_text f (codes "checked") ≡ None → read ≡ None) → ((t : Text) → one_text f (codes "checked") ≡ Some t → ReadsOne {E = ParseBoolError} ParsesBool t read)
+    → IfSome read (IsCheckedRequest (rows_of f))
+checked_read f None none some = tt
+checked_read f (Some checked) none some =
+    let given = flag_read f (codes "checked") (Some checked) none some checked refl in
     record { text = given.0; given = given.1; is = given.2 }

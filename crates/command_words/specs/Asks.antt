@@ -71,6 +71,12 @@ pub record IsQuietRequest (rows : List Row) (quiet : Bool) : Type 0 where
   pub given : one_of (codes "quiet") rows ≡ Some text
   pub is : IsFlag text quiet
 
+-- the file is to be checked before it is listed, or not
+pub record IsCheckedRequest (rows : List Row) (checked : Bool) : Type 0 where
+  pub text : Text
+  pub given : one_of (codes "checked") rows ≡ Some text
+  pub is : IsFlag text checked
+
 -- the subcommand that was met is the check of these files, with progress or not
 pub record IsCheck (met : Option (Text × List Row)) (files : List Text) (quiet : Bool) : Type 0 where
   pub rows : List Row
@@ -138,7 +144,7 @@ pub record IsForm (rows : List Row) (form : FormText) : Type 0 where
 -- the subcommand that was met is to list records of this file in the order of a key, from a value
 -- on, to a value, and so many at most, in a form, with progress or not
 pub record IsList (met : Option (Text × List Row)) (file : Text) (key : ℕ) (from to : Option Text)
-    (first : ℕ) (form : FormText) (quiet : Bool) : Type 0 where
+    (first : ℕ) (form : FormText) (checked quiet : Bool) : Type 0 where
   pub rows : List Row
   pub is : met ≡ Some (codes "list", rows)
   pub file_given : first_of (codes "file") rows ≡ Some file
@@ -151,6 +157,7 @@ pub record IsList (met : Option (Text × List Row)) (file : Text) (key : ℕ) (f
   pub from_is : first_of (codes "from") rows ≡ from
   pub to_is : first_of (codes "to") rows ≡ to
   pub form_is : IsForm rows form
+  pub checked_is : IsCheckedRequest rows checked
   pub quiet_is : IsQuietRequest rows quiet
   pub seconds : ℕ
   pub wait_is : IsWaitRequest rows seconds
@@ -187,11 +194,15 @@ pub record IsStat (met : Option (Text × List Row)) (file : Text) : Type 0 where
   pub is : met ≡ Some (codes "stat", rows)
   pub file_given : first_of (codes "file") rows ≡ Some file
 
--- the subcommand that was met is to salvage the records of this file
-pub record IsSalvageRequest (met : Option (Text × List Row)) (file : Text) : Type 0 where
+-- the subcommand that was met is to salvage the records of this file, by itself or beside a file of
+-- a deck
+pub record IsSalvageRequest (met : Option (Text × List Row)) (file : Text) (deck name : Option Text) : Type
+    0 where
   pub rows : List Row
   pub is : met ≡ Some (codes "salvage", rows)
   pub file_given : first_of (codes "file") rows ≡ Some file
+  pub deck_is : first_of (codes "deck") rows ≡ deck
+  pub name_is : first_of (codes "name") rows ≡ name
 
 -- the subcommand that was met, with its values, is what is asked for
 abbrev pub IsRequestMet : Option (Text × List Row) → Request → Type 0
@@ -205,14 +216,15 @@ IsRequestMet met (Schema file deck name) = IsSchemaRequest met file.now (option_
     (option_map (λ text. text.now) name)
 IsRequestMet met (Explain kind number) = IsExplain met kind.now number.now
 IsRequestMet met (Deck deck) = IsDeckRequest met deck.now
-IsRequestMet met (ListRecords file key from to first form quiet wait) =
+IsRequestMet met (ListRecords file key from to first form checked quiet wait) =
     IsList met file.now key (option_map (λ text. text.now) from) (option_map (λ text. text.now) to) first
-    (form_text form) quiet × IsWaitMet met wait
+    (form_text form) checked quiet × IsWaitMet met wait
 IsRequestMet met (Cobol deck fixed) = IsCobol met deck.now fixed
 IsRequestMet met (Load deck folder file text form into limits quiet) =
     IsLoad met deck.now folder.now file.now text.now form.now into limits.pages limits.frames.value quiet
 IsRequestMet met (Stat file) = IsStat met file.now
-IsRequestMet met (Salvage file) = IsSalvageRequest met file.now
+IsRequestMet met (Salvage file deck name) = IsSalvageRequest met file.now
+    (option_map (λ text. text.now) deck) (option_map (λ text. text.now) name)
 IsRequestMet met (Help text) = ⊥
 
 -- the subcommand that was met is no run, or its values are none that a run can have; and so of each
@@ -238,7 +250,7 @@ IsNoDeckList met = (deck : Text) → ¬ (IsDeckRequest met deck)
 
 abbrev pub IsNoList : Option (Text × List Row) → Type 0
 IsNoList met = (file : Text) (key : ℕ) (from to : Option Text) (first : ℕ) (form : FormText)
-    (quiet : Bool) → ¬ (IsList met file key from to first form quiet)
+    (checked quiet : Bool) → ¬ (IsList met file key from to first form checked quiet)
 
 abbrev pub IsNoCobol : Option (Text × List Row) → Type 0
 IsNoCobol met = (deck : Text) (fixed : Bool) → ¬ (IsCobol met deck fixed)
@@ -251,7 +263,7 @@ abbrev pub IsNoStat : Option (Text × List Row) → Type 0
 IsNoStat met = (file : Text) → ¬ (IsStat met file)
 
 abbrev pub IsNoSalvage : Option (Text × List Row) → Type 0
-IsNoSalvage met = (file : Text) → ¬ (IsSalvageRequest met file)
+IsNoSalvage met = (file : Text) (deck name : Option Text) → ¬ (IsSalvageRequest met file deck name)
 
 -- it is no run, session, schema, explanation or list of a deck
 pub record IsNoRunOrList (met : Option (Text × List Row)) : Type 0 where
@@ -325,9 +337,9 @@ AskDeck words deck = AreFaultless words × IsDeckRequest (subcommand_of program_
 
 -- to list records of this file in a form, with progress or not
 abbrev pub AskList : List Text → (file : Text) (key : ℕ) (from to : Option Text) (first : ℕ)
-    (form : FormText) (quiet : Bool) → Type 0
-AskList words file key from to first form quiet =
-    AreFaultless words × IsList (subcommand_of program_app words) file key from to first form quiet
+    (form : FormText) (checked quiet : Bool) → Type 0
+AskList words file key from to first form checked quiet =
+    AreFaultless words × IsList (subcommand_of program_app words) file key from to first form checked quiet
 
 -- to write this deck in COBOL
 abbrev pub AskCobol : List Text → (deck : Text) (fixed : Bool) → Type 0
@@ -344,9 +356,10 @@ AskLoad words deck folder file text form into pages frames quiet =
 abbrev pub AskStat : List Text → (file : Text) → Type 0
 AskStat words file = AreFaultless words × IsStat (subcommand_of program_app words) file
 
--- to salvage the records of this file
-abbrev pub AskSalvage : List Text → (file : Text) → Type 0
-AskSalvage words file = AreFaultless words × IsSalvageRequest (subcommand_of program_app words) file
+-- to salvage the records of this file, by itself or beside a file of a deck
+abbrev pub AskSalvage : List Text → (file : Text) (deck name : Option Text) → Type 0
+AskSalvage words file deck name = AreFaultless words
+    × IsSalvageRequest (subcommand_of program_app words) file deck name
 
 -- to wait so many seconds for a lock that another run has
 abbrev pub AskWait : List Text → (seconds : ℕ) → Type 0
@@ -368,14 +381,15 @@ Ask words (Schema file deck name) = AskSchema words file.now (option_map (λ tex
     (option_map (λ text. text.now) name)
 Ask words (Explain kind number) = AskExplain words kind.now number.now
 Ask words (Deck deck) = AskDeck words deck.now
-Ask words (ListRecords file key from to first form quiet wait) =
+Ask words (ListRecords file key from to first form checked quiet wait) =
     AskList words file.now key (option_map (λ text. text.now) from)
-    (option_map (λ text. text.now) to) first (form_text form) quiet × AskWait words wait
+    (option_map (λ text. text.now) to) first (form_text form) checked quiet × AskWait words wait
 Ask words (Cobol deck fixed) = AskCobol words deck.now fixed
 Ask words (Load deck folder file text form into limits quiet) =
     AskLoad words deck.now folder.now file.now text.now form.now into limits.pages limits.frames.value quiet
 Ask words (Stat file) = AskStat words file.now
-Ask words (Salvage file) = AskSalvage words file.now
+Ask words (Salvage file deck name) = AskSalvage words file.now (option_map (λ text. text.now) deck)
+    (option_map (λ text. text.now) name)
 Ask words (Help text) = AskHelp words text
 
 -- for nothing, and the text tells why
@@ -388,5 +402,5 @@ abbrev pub seconds_of : Request → ℕ
 seconds_of (Run deck folder limits strict wait) = wait
 seconds_of (Check files quiet wait) = wait
 seconds_of (Serve folder limits wait) = wait
-seconds_of (ListRecords file key from to first form quiet wait) = wait
+seconds_of (ListRecords file key from to first form checked quiet wait) = wait
 seconds_of other = 0

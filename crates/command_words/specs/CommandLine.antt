@@ -105,13 +105,14 @@ abbrev pub first_rule : Rule
 first_rule = number_rule (codes "first") 0 18446744073709551615 (codes "18446744073709551615")
 
 -- `list FILE [--key N] [--from V] [--to V] [--first N] [--as FORM] [--cut N,N..] [--deck DECK
--- --file NAME] [--quiet] [--wait SECONDS]`
+-- --file NAME] [--checked] [--quiet] [--wait SECONDS]`
 abbrev pub list_shape : Shape
 list_shape = record (new_shape (codes "list")) {
   rules = word_rule (codes "file") ∷ number_rule (codes "key") 0 8 (codes "0") ∷ text_rule
       (codes "from") ∷ text_rule (codes "to")
       ∷ first_rule ∷ usual_rule (codes "as") (codes "text") ∷ text_rule (codes "cut") ∷ text_rule
-      (codes "deck") ∷ name_rule ∷ flag_rule (codes "quiet") ∷ wait_rule ∷ [];
+      (codes "deck") ∷ name_rule ∷ flag_rule (codes "checked")
+      ∷ flag_rule (codes "quiet") ∷ wait_rule ∷ [];
 }
 
 -- `cobol DECK [--fixed]`
@@ -135,9 +136,12 @@ load_shape = record (new_shape (codes "load")) {
 abbrev pub stat_shape : Shape
 stat_shape = record (new_shape (codes "stat")) { rules = word_rule (codes "file") ∷ [] }
 
--- `salvage FILE`
+-- `salvage FILE [--deck DECK --file NAME]`
 abbrev pub salvage_shape : Shape
-salvage_shape = record (new_shape (codes "salvage")) { rules = word_rule (codes "file") ∷ [] }
+salvage_shape = record (new_shape (codes "salvage")) {
+  rules = word_rule (codes "file") ∷ text_rule
+      (codes "deck") ∷ name_rule ∷ [];
+}
 
 -- the program with its version, and before its subcommands
 abbrev pub versioned_shape : Shape

@@ -36,6 +36,10 @@ with_limits frames app = with_rule (with_rule app pages_rule) (frames_rule frame
 abbrev pub with_quiet : App → App
 with_quiet app = with_rule app (flag_rule (codes "quiet"))
 
+-- with the option by which it checks the file first
+abbrev pub with_checked : App → App
+with_checked app = with_rule app (flag_rule (codes "checked"))
+
 -- with the option by which it waits for locks
 abbrev pub with_wait : App → App
 with_wait app = with_rule app wait_rule

@@ -2,7 +2,7 @@
 ghost use Rattle.std.specs.Prelude.{◌≡◌, ℕ, Bool, List, Option, Some, None, IfOk};
 ghost use Rattle.std.specs.Option.{IfSome};
 ghost use Rattle.clap.specs.Words.{Row, found_of, rows_of, subcommand_rows_of};
-ghost use Rattle.command_words.specs.Asks.{AreLimits, IsQuietRequest, IsWaitRequest, FormText, form_text, IsForm};
+ghost use Rattle.command_words.specs.Asks.{AreLimits, IsCheckedRequest, IsQuietRequest, IsWaitRequest, FormText, form_text, IsForm};
 ghost use Rattle.command_words.specs.Asks.{IsRequestMet, IsNoRun};
 ghost use Rattle.command_words.specs.Asks.{IsNoCheck, IsNoServe, IsNoSchema, IsNoExplain, IsNoDeckList};
 ghost use Rattle.command_words.specs.Asks.{IsNoList, IsNoCobol, IsNoLoad, IsNoStat, IsNoRunOrList};
@@ -71,6 +71,14 @@ fn quiet_of(long: &ArgMatches<'_>) -> Option<bool>
     ensures none { result ≡ None → (quiet : Bool) → IsQuietRequest (rows_of (found_of long.now)) quiet → ⊥ }
 {
     long.get_one("quiet")
+}
+
+/// Whether it is asked that a file is checked before it is listed.
+fn checked_of(list: &ArgMatches<'_>) -> Option<bool>
+    ensures some { IfSome result (IsCheckedRequest (rows_of (found_of list.now))) }
+    ensures none { result ≡ None → (checked : Bool) → IsCheckedRequest (rows_of (found_of list.now)) checked → ⊥ }
+{
+    list.get_one("checked")
 }
 
 /// The checks that the matches ask for, if they ask for some.
@@ -174,6 +182,7 @@ fn list_of<'a>(matches: &ArgMatches<'a>) -> Option<Request<'a>>
     let key = list.get_one("key")?;
     let first = list.get_one("first")?;
     let form = form_of(list)?;
+    let checked = checked_of(list)?;
     let quiet = quiet_of(list)?;
     let wait = wait_of(list)?;
     Some(Request::List {
@@ -183,6 +192,7 @@ fn list_of<'a>(matches: &ArgMatches<'a>) -> Option<Request<'a>>
         to: list.get_str("to"),
         first,
         form,
+        checked,
         quiet,
         wait,
     })
@@ -242,7 +252,11 @@ fn salvage_of<'a>(matches: &ArgMatches<'a>) -> Option<Request<'a>>
 {
     let salvage = met(matches, "salvage")?;
     let file = salvage.get_str("file")?;
-    Some(Request::Salvage { file })
+    Some(Request::Salvage {
+        file,
+        deck: salvage.get_str("deck"),
+        name: salvage.get_str("name"),
+    })
 }
 
 /// A run, a session, a schema, an explanation or the list of a deck that the matches ask for, if

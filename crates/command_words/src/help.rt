@@ -114,8 +114,10 @@ memory ran out ('cobix: memory')";
 /// What the list of a file's records is.
 pub const RECORDS: &str =
     "Each line is a record in brackets, as a transcript shows it. V is compared with the first bytes of each \
-value.
-The file is checked first, and read once before the first line.
+value; in V a backslash and two digits from 0 to f are a byte, as a line shows it.
+The file is read page after page, and no run changes it meanwhile. What is met that is not as it has to be \
+ends the list, and the lines before it stay. With '--checked' the whole file is checked first, and read once \
+before the first line.
 
 Forms:
   text  a record in brackets
@@ -131,8 +133,10 @@ is the rest
 
 Exit status:
   0   the lines were written
-  1   'unsound N' on standard error, as of 'cobix check', or the file does not have the key; no line was \
-written
+  1   'unsound N' on standard error, as of 'cobix check'; with '--checked', and where the first page tells it, \
+no line was written
+      'cobix: the file has no such key': no line was written
+      'cobix: the file is of another schema than the deck': a line for each difference, as of 'cobix schema'
   2   the deck is refused: 'cobix: line L: fault C'
   3   the command line is not understood, V is longer than 250 bytes, there is no such form, text is to have \
 columns, '--cut' is beside '--deck', '--deck' or '--file' is alone, the cuts are no rising numbers from 1 to \
@@ -170,16 +174,22 @@ pub const SALVAGED: &str =
     "FILE is a file that OPEN refuses with 91: a run or a load was killed and left its gate open, or the file \
 was damaged. It is read, and not changed. Each line is a record in brackets, which 'cobix load' takes into a \
 new file.
+A file that is being made has no first page until it is closed. With '--deck' and '--file', which go together, \
+the lengths and the keys are those of that file of the deck, where the first page is lost. Where it is there \
+and has others, no record is salvaged, and the differences are written.
 
 Exit status:
   0   'salvaged R records, all of them' on standard error: with its gate closed the file is sound, and these \
 are exactly its records, in the order of the prime key
   1   'salvaged R records, in doubt': the records in all slots that are in use, page by page. Nothing more is \
 known of them, and a prime value may come twice
-      'unsound N', as of 'cobix check': the first page is not that of a file; no line was written
-  3   the command line is not understood
-  4   the file could not be read ('cobix: input'), the lines could not be written ('cobix: output'), or \
-memory ran out ('cobix: memory')";
+      'unsound N', as of 'cobix check': the first page is not that of a file, and no deck is given; no line was \
+written
+      'cobix: the file is of another schema than the deck': a line for each difference, as of 'cobix schema'
+  2   the deck is refused: 'cobix: line L: fault C'
+  3   the command line is not understood, '--deck' or '--file' is alone, or the deck has no file NAME
+  4   the file or the deck could not be read ('cobix: input'), the lines could not be written ('cobix: output'), \
+or memory ran out ('cobix: memory')";
 
 /// What a load answers.
 pub const LOADED: &str =

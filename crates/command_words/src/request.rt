@@ -55,7 +55,8 @@ pub enum Request<'a> {
         deck: &'a str,
     },
     /// The records of the file of this path, in the order of a key: from this value on, to that
-    /// one, and so many at most, in this form; without progress where it is quiet.
+    /// one, and so many at most, in this form; after a check of the whole file, or as it is read;
+    /// without progress where it is quiet.
     List {
         file: &'a str,
         key: u8,
@@ -63,6 +64,7 @@ pub enum Request<'a> {
         to: Option<&'a str>,
         first: u64,
         form: FormWords<'a>,
+        checked: bool,
         quiet: bool,
         wait: u32,
     },
@@ -88,9 +90,12 @@ pub enum Request<'a> {
     Stat {
         file: &'a str,
     },
-    /// The records of the file of this path, whether or not its gate is closed.
+    /// The records that are left in the file of this path, whether or not its gate is closed; by the
+    /// lengths of the file of this name in that deck, where its first page is lost.
     Salvage {
         file: &'a str,
+        deck: Option<&'a str>,
+        name: Option<&'a str>,
     },
     /// This text: help, or the version.
     Help(Error),

@@ -3,7 +3,7 @@ ghost use Rattle.std.specs.Prelude.{◌≡◌, IfOk};
 ghost use Rattle.clap.specs.Words.{App, Rule, Shape, app_of, with_rule, with_subcommand};
 ghost use Rattle.clap.specs.Simple.{new_shape};
 ghost use Rattle.command_words.specs.Commands.{HasRule, IsApp, HasShape};
-ghost use Rattle.command_words.specs.Commands.{with_files, with_limits, with_quiet, with_wait};
+ghost use Rattle.command_words.specs.Commands.{with_files, with_limits, with_checked, with_quiet, with_wait};
 ghost use Rattle.command_words.specs.Commands.{with_deck, with_values, with_bounds, with_form};
 ghost use Rattle.command_words.specs.Commands.{with_file_words};
 ghost use Rattle.command_words.specs.Commands.{with_text};
@@ -100,6 +100,21 @@ fn with_quiet<'a>(
     with_argument(long, quiet)
 }
 
+/// `list` with the option by which it checks the file first.
+fn with_checked<'a>(
+    alloc: Global,
+    list: Result<Command<'a>, AllocError>,
+) -> Result<Command<'a>, AllocError>
+    ensures { (app : App) → IfOk list.entry (IsApp app) → IfOk result (IsApp (with_checked app)) }
+{
+    let checked = flag(
+        alloc,
+        "checked",
+        "Checks the whole file first, as 'cobix check' does, and reads it into memory",
+    );
+    with_argument(list, checked)
+}
+
 /// `run`, `check`, `serve` or `list` with the option by which it waits for locks.
 fn with_wait<'a>(
     alloc: Global,
@@ -162,7 +177,7 @@ fn serve_command<'a>(alloc: Global) -> Result<Command<'a>, AllocError>
     with_wait(alloc, with_limits(alloc, serve.arg(folder), "1024"))
 }
 
-/// `list` or `schema` with a deck, and a file of it.
+/// `list`, `schema` or `salvage` with a deck, and a file of it.
 fn with_deck<'a>(
     alloc: Global,
     listed: Result<Command<'a>, AllocError>,
@@ -303,7 +318,7 @@ fn list_command<'a>(alloc: Global) -> Result<Command<'a>, AllocError>
     );
     let bounded = with_bounds(alloc, list.arg(file));
     let formed = with_form(alloc, with_argument(bounded, first(alloc)));
-    with_wait(alloc, with_quiet(alloc, formed))
+    with_wait(alloc, with_quiet(alloc, with_checked(alloc, formed)))
 }
 
 /// `cobol`.
@@ -419,7 +434,12 @@ fn salvage_command<'a>(alloc: Global) -> Result<Command<'a>, AllocError>
         "Lists the records that are left in a file that is refused",
         SALVAGED,
     );
-    salvage.arg(file)
+    with_deck(
+        alloc,
+        salvage.arg(file),
+        "Takes the lengths and the keys of a file of the deck in this file, or '-' for standard input, where \
+         the first page of FILE is lost",
+    )
 }
 
 /// The program, with its version.

@@ -1,5 +1,5 @@
 -- What was read of the input, and of the files that words name.
-use Rattle.std.proofs.Common.{◌≡◌, ◌≤◌, ◌<◌, ◌+◌, ◌*◌, ◌-◌, ◌==◌, ℕ, Bool, true, false, List, [], ◌∷◌, ◌++◌, take, length, Option, Some, None, Result, Ok, Err, IfOk, IfErr, refl, sym, ap, subst, ◌∙◌, inl, inr, arith}
+use Rattle.std.proofs.Common.{◌≡◌, ◌≤◌, ◌+◌, ◌*◌, ◌-◌, ℕ, List, [], ◌∷◌, take, length, Option, Some, None, Result, Ok, Err, IfOk, IfErr, refl, sym, ap, subst, ◌∙◌, inr, arith}
 use Rattle.std.specs.Prelude.{◌≢◌, OnErr, slice_range, codes}
 use Rattle.std.specs.Global.{Vec}
 use Rattle.byteorder.specs.Endian.{big_number}
@@ -9,7 +9,7 @@ use Rattle.file_header.specs.Reading.{number_in}
 use Rattle.file_checker.specs.Sound.{asked_in}
 use Rattle.system_files.specs.Front.{IsFrontRead, IsTextRead}
 use Rattle.recorded_system.specs.Calls.{Call, taken, taken_shared}
-use Rattle.file_commands.specs.Front.{IsFrontOfNamed, IsTextNamed, IsTextTaken, GivesSuch, ReadsNamed, ReadsTextNamed, ReadsCounted, longest_line, asked_by, counted_calls}
+use Rattle.file_commands.specs.Front.{IsTextTaken, GivesSuch, ReadsNamed, ReadsTextNamed, ReadsCounted, longest_line, asked_by, counted_calls}
 use Rattle.command_outcomes.specs.Status.{status_of}
 use Rattle.command_outcomes.specs.declared.fault.Fault.{Fault}
 

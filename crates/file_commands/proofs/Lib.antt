@@ -7,3 +7,6 @@ pub mod ListLemmas
 pub mod VerdictLemmas
 pub mod RecordsLemmas
 pub mod DifferingLemmas
+pub mod ByIndexLemmas
+pub mod BoundLemmas
+pub mod SalvageLemmas

@@ -1,4 +1,5 @@
 pub mod Front
+pub mod Bound
 pub mod DeckFile
 pub mod Cuts
 pub mod Forms
@@ -9,3 +10,4 @@ pub mod Schema
 pub mod Counted
 pub mod Salvaged
 pub mod Differing
+pub mod ByIndex

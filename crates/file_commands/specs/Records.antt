@@ -18,6 +18,7 @@ use Rattle.command_outcomes.specs.declared.fault.Fault.TheVariants.{LongValue}
 use Rattle.command_words.specs.Asks.{FormText, form_text}
 use Rattle.command_words.specs.declared.form_words.FormWords.{FormWords}
 use Rattle.recorded_system.specs.Calls.{Call}
+use Rattle.file_commands.specs.Bound.{unescaped}
 use Rattle.file_commands.specs.Front.{OfCountedFile, word_in}
 use Rattle.file_commands.specs.Forms.{IsFormBy, IsListRefused}
 use Rattle.file_commands.specs.declared.listing.Bounds.{Bounds}
@@ -27,8 +28,8 @@ use Rattle.command_outcomes.specs.declared.outcome.Outcome.TheVariants.{Records,
 -- this is asked for by the number of a key, the first and the last value, and how many records at most
 pub record IsAskedFor (key : ℕ) (from to : Option (List ℕ)) (first : ℕ) (asked : Asked) : Type 0 where
   pub key_is : asked.key ≡ key
-  pub from_is : asked.from.items ≡ unwrap_or from []
-  pub to_is : option_map (λ value. value.items) asked.to ≡ to
+  pub from_is : asked.from.items ≡ unescaped (unwrap_or from [])
+  pub to_is : option_map (λ value. value.items) asked.to ≡ option_map unescaped to
   pub first_is : asked.first ≡ first
 
 -- the list of these bytes in a form ended so

@@ -1,5 +1,5 @@
 -- What is told of a file by its first page, as what was done. All of this is ours.
-use Rattle.std.specs.Prelude.{◌≡◌, ◌≢◌, ℕ, List, Option, None, Result, Ok, Err, IfOk, IfErr, IfSome, ⊤}
+use Rattle.std.specs.Prelude.{◌≡◌, ◌≢◌, ℕ, List, Option, None, Result, Ok, Err, IfOk, IfErr, ⊤}
 use denote.Ref.{Bor}
 use Rattle.clap.specs.Words.{Text}
 use Rattle.record_layout.specs.Schema.{Schema}

@@ -10,6 +10,8 @@
 //! Read `file_bytes` first, then `verdict` and `listing`; `deck` finds a file in a deck.
 #![tactic(auto)]
 
+mod bound;
+mod by_index;
 mod cobol;
 mod comparing;
 mod counting;
@@ -27,6 +29,7 @@ mod text;
 mod verdict;
 mod verdict_lines;
 
+pub use by_index::list_records;
 pub use cobol::write_cobol;
 pub use counting::count_path;
 pub use deck::{deck_of, file_named};
@@ -34,6 +37,6 @@ pub use deck_list::list_path;
 pub use differing::{differences_at, path_in};
 pub use file_bytes::{read_deck_bytes, read_text};
 pub use first_page::schema;
-pub use listing::{Bounds, list_records};
+pub use listing::{Bounds, list_checked};
 pub use salvaging::salvage_path;
 pub use verdict::{check_path, check_paths};

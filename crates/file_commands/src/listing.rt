@@ -4,13 +4,13 @@ ghost use Rattle.recorded_system.specs.Reading.{ByReads};
 ghost use Rattle.file_commands.specs.Front.{word_in, GivesSuch};
 ghost use Rattle.file_commands.specs.Records.{IsAskedBy, FitsValue, ToldOfList, ListsFile, TellsOther};
 
+use crate::bound::{last_of, value_of};
 use crate::file_bytes::{fault_of as not_read, read_counted};
 use crate::first_page::fault_of;
 use crate::forms::form_of;
 use command_outcomes::{Fault, Outcome};
 use command_words::FormWords;
 use file_listing::{FileList, list_file_as};
-use io_state::Key;
 use progress::Progress;
 use record_layout::Schema;
 use record_listing::{Asked, ListFault};
@@ -29,29 +29,8 @@ pub struct Bounds<'a> {
     pub first: u64,
 }
 
-/// A value, of which no key has more than 250 bytes.
-fn value_of(text: &str) -> Result<Key, Fault>
-    ensures { FitsValue (λ key. key.items ≡ text.now) result }
-{
-    let mut key = Key::new();
-    match key.try_extend_from_slice(text.as_bytes()) {
-        Ok(()) => Ok(key),
-        Err(_) => Err(Fault::LongValue),
-    }
-}
-
-/// A last value, if there is one.
-fn last_of(text: Option<&str>) -> Result<Option<Key>, Fault>
-    ensures { FitsValue (λ key. option_map (λ key. key.items) key ≡ word_in text.entry) result }
-{
-    match text {
-        Some(text) => Ok(Some(value_of(text)?)),
-        None => Ok(None),
-    }
-}
-
 /// What the words of a command line ask of a list.
-fn asked_by(bounds: Bounds<'_>) -> Result<Asked, Fault>
+pub fn asked_by(bounds: Bounds<'_>) -> Result<Asked, Fault>
     ensures { FitsValue (IsAskedBy bounds.entry) result }
 {
     let from = value_of(bounds.from.unwrap_or(""))?;
@@ -65,7 +44,7 @@ fn asked_by(bounds: Bounds<'_>) -> Result<Asked, Fault>
 }
 
 /// How a list ended, as what was done.
-fn ended(end: Result<FileList, ListFault>) -> Result<Outcome, Fault>
+pub fn ended(end: Result<FileList, ListFault>) -> Result<Outcome, Fault>
     ensures { ToldOfList end result }
 {
     match end {
@@ -78,7 +57,7 @@ fn ended(end: Result<FileList, ListFault>) -> Result<Outcome, Fault>
 
 /// Whether a file that has these bytes is of another schema than that of a deck, if there is one:
 /// the differences are written then, and nothing otherwise.
-fn is_other<W: Write>(
+pub fn is_other<W: Write>(
     alloc: Global,
     bytes: &[u8],
     schema: &Option<Schema>,
@@ -97,11 +76,11 @@ fn is_other<W: Write>(
 }
 
 /// Writes the lines of the records of the file of a path that are asked for, in the form that is
-/// asked for. `LongValue`: nothing was read or written. `Form`, `Deck`, `NoSuchFile`: there is no
+/// asked for, once a check has found it sound. `LongValue`: nothing was read or written. `Form`, `Deck`, `NoSuchFile`: there is no
 /// such form, and the file was not read. Where the columns are those of a deck, and OPEN in it would
 /// find the file to be of another schema, a line of each difference is written in place of the
 /// records. While the file is read, it is told how many bytes have come.
-pub fn list_records<S: System, I: Read, P: Progress, W: Write>(
+pub fn list_checked<S: System, I: Read, P: Progress, W: Write>(
     system: &mut S,
     alloc: Global,
     path: &str,

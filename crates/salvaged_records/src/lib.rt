@@ -13,4 +13,4 @@ mod salvaging;
 mod shape;
 mod slots;
 
-pub use salvaging::{Salvage, salvage_records};
+pub use salvaging::{Salvage, close_gate, salvage_records};

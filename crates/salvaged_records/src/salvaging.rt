@@ -35,8 +35,8 @@ pub enum Salvage {
     Unsound(Reason),
 }
 
-/// Closes the gate in the bytes of a file.
-fn close_gate(bytes: &mut [u8])
+/// Closes the gate in the bytes of a file: those that are held, and not in the file itself.
+pub fn close_gate(bytes: &mut [u8])
     ensures { bytes.new ≡ with_gate_closed bytes.old }
 {
     if !bytes.is_empty() {

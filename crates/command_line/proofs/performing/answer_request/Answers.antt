@@ -1,10 +1,10 @@
-use Rattle.std.proofs.Common.{◌≡◌, List, [], ◌∷◌, Bor, subst, sym, rules, inl, inr}
+use Rattle.std.proofs.Common.{◌≡◌, List, [], ◌∷◌, Bor, refl, subst, sym, rules, inl, inr}
 use Rattle.clap.specs.Words.{Text}
 use Rattle.command_words.specs.Asks.{Ask, AskCheck}
 use Rattle.recorded_system.proofs.ReadingLemmas.{by_none}
 use Rattle.file_commands.specs.Verdicts.{paths_of}
-use Rattle.command_line.proofs.CallsMadeLemmas.{reads_alone}
-use Rattle.command_line.proofs.DidLemmas.{for_schema, for_records, for_load, did_list, did_schema, did_help, did_explain, did_check, did_checks, did_count, did_salvage, did_deck, served_did}
+use Rattle.command_line.proofs.CallsMadeLemmas.{reads_alone, reads_aside}
+use Rattle.command_line.proofs.DidLemmas.{for_schema, for_salvage, for_records, for_load, did_list, did_schema, did_help, did_explain, did_check, did_checks, did_count, did_salvage, did_deck, served_did}
 use Rattle.command_line.proofs.RightLemmas.{right_help, right_explained, right_check, right_checks, right_count, right_salvage, right_listed, right_cobol, right_schema, right_list}
 use Rattle.command_line.proofs.CameLemmas.{run_did, run_came, serve_came, load_did, load_came}
 use Rattle.command_outcomes.specs.declared.outcome.Outcome.TheVariants.{Listed, InCobol}
@@ -22,9 +22,9 @@ returns-in-Help-clause-came g c words is =
     let asked = subst (Ask words) c.in-Help.is is in
     let input = g.I.Read.remaining c.args.input.now.reader in
     let held = g.S.System.state c.args.system in
-    rw c.without_run.ensures (inl (reads_alone words input g.W.Write.contents c.args.out.now c.write_help-told.new.out c.args.aside.now.calls c.requires.none_aside held held c.requires.held
+    rw c.without_run.ensures (inl (reads_alone g.D.Disk.unseen words input g.W.Write.contents c.args.out.now c.write_help-told.new.out c.args.aside.now.calls c.requires.none_aside held held c.requires.held
     {IsSo = λ _. ⊤} c.write_help-told.result (by_none held tt) (c.args.request, rw c.in-Help.is tt, is)
-    (λ calls so. right_help words calls input g.W.Write.contents c.args.out.now c.write_help-told.new.out c.write_help-told.result c.write_help-told.ensures.ok)))
+    (λ calls so. right_help g.D.Disk.unseen words calls input g.W.Write.contents c.args.out.now c.write_help-told.new.out c.write_help-told.result c.write_help-told.ensures.ok)))
 
 pub returns-in-Some-clause-did : goal.returns-in-Some-clause-did
 returns-in-Some-clause-did g c words is =
@@ -40,9 +40,9 @@ returns-in-Some-clause-came g c words is =
     let held = g.S.System.state c.args.system in
     let all = subst (λ (files : List (Bor Text)). AskCheck words (paths_of files) c.in-Check.quiet) (sym c.as_slice.ensures.value) asked.0 in
     let one = subst (λ (files : List Text). AskCheck words files c.in-Check.quiet) c.in-Some.ensures all in
-    rw c.without_run-in-Some.ensures (inl (reads_alone words input g.W.Write.contents c.args.out.now c.check_path-checked.new.out c.args.aside.now.calls c.requires.none_aside held (g.S.System.state c.check_path-checked.new.system) c.requires.held
+    rw c.without_run-in-Some.ensures (inl (reads_alone g.D.Disk.unseen words input g.W.Write.contents c.args.out.now c.check_path-checked.new.out c.args.aside.now.calls c.requires.none_aside held (g.S.System.state c.check_path-checked.new.system) c.requires.held
     c.check_path-checked.result c.check_path-checked.ensures (c.args.request, rw c.in-Check.is tt, is)
-    (λ calls so. right_check words calls input g.W.Write.contents c.args.out.now c.check_path-checked.new.out c.in-Some.file.now c.in-Check.quiet one c.check_path-checked.result so)))
+    (λ calls so. right_check g.D.Disk.unseen words calls input g.W.Write.contents c.args.out.now c.check_path-checked.new.out c.in-Some.file.now c.in-Check.quiet one c.check_path-checked.result so)))
 
 pub returns-in-Schema-clause-did : goal.returns-in-Schema-clause-did
 returns-in-Schema-clause-did g c words is =
@@ -54,9 +54,9 @@ returns-in-Schema-clause-came g c words is =
     let asked = subst (Ask words) c.in-Schema.is is in
     let input = g.I.Read.remaining c.args.input.now.reader in
     let held = g.S.System.state c.args.system in
-    rw c.without_run-in-Schema.ensures (inl (reads_alone words input g.W.Write.contents c.args.out.now c.schema-told.new.out c.args.aside.now.calls c.requires.none_aside held (g.S.System.state c.schema-told.new.system) c.requires.held
+    rw c.without_run-in-Schema.ensures (inl (reads_alone g.D.Disk.unseen words input g.W.Write.contents c.args.out.now c.schema-told.new.out c.args.aside.now.calls c.requires.none_aside held (g.S.System.state c.schema-told.new.system) c.requires.held
     c.schema-told.result c.schema-told.ensures (c.args.request, rw c.in-Schema.is tt, is)
-    (λ calls so. right_schema words calls input g.W.Write.contents c.args.out.now c.schema-told.new.out (for_schema words c.in-Schema.file c.in-Schema.deck c.in-Schema.name asked) c.schema-told.result so.told so.compared so.done)))
+    (λ calls so. right_schema g.D.Disk.unseen words calls input g.W.Write.contents c.args.out.now c.schema-told.new.out (for_schema words c.in-Schema.file c.in-Schema.deck c.in-Schema.name asked) c.schema-told.result so.told so.compared so.done)))
 
 pub returns-in-Explain-clause-did : goal.returns-in-Explain-clause-did
 returns-in-Explain-clause-did g c words is =
@@ -68,9 +68,9 @@ returns-in-Explain-clause-came g c words is =
     let asked = subst (Ask words) c.in-Explain.is is in
     let input = g.I.Read.remaining c.args.input.now.reader in
     let held = g.S.System.state c.args.system in
-    rw c.without_run-in-Explain.ensures (inl (reads_alone words input g.W.Write.contents c.args.out.now c.explain-told.new.out c.args.aside.now.calls c.requires.none_aside held held c.requires.held
+    rw c.without_run-in-Explain.ensures (inl (reads_alone g.D.Disk.unseen words input g.W.Write.contents c.args.out.now c.explain-told.new.out c.args.aside.now.calls c.requires.none_aside held held c.requires.held
     {IsSo = λ _. ⊤} c.explain-told.result (by_none held tt) (c.args.request, rw c.in-Explain.is tt, is)
-    (λ calls so. right_explained words calls input g.W.Write.contents c.args.out.now c.explain-told.new.out c.in-Explain.kind.now c.in-Explain.number.now asked c.explain-told.result c.explain-told.ensures.done c.explain-told.ensures.text)))
+    (λ calls so. right_explained g.D.Disk.unseen words calls input g.W.Write.contents c.args.out.now c.explain-told.new.out c.in-Explain.kind.now c.in-Explain.number.now asked c.explain-told.result c.explain-told.ensures.done c.explain-told.ensures.text)))
 
 pub returns-in-Deck-clause-did : goal.returns-in-Deck-clause-did
 returns-in-Deck-clause-did g c words is =
@@ -82,24 +82,26 @@ returns-in-Deck-clause-came g c words is =
     let asked = subst (Ask words) c.in-Deck.is is in
     let input = g.I.Read.remaining c.args.input.now.reader in
     let held = g.S.System.state c.args.system in
-    rw c.without_run-in-Deck.ensures (inl (reads_alone words input g.W.Write.contents c.args.out.now c.list_path-listed.new.out c.args.aside.now.calls c.requires.none_aside held (g.S.System.state c.list_path-listed.new.system) c.requires.held
+    rw c.without_run-in-Deck.ensures (inl (reads_alone g.D.Disk.unseen words input g.W.Write.contents c.args.out.now c.list_path-listed.new.out c.args.aside.now.calls c.requires.none_aside held (g.S.System.state c.list_path-listed.new.system) c.requires.held
     c.list_path-listed.result c.list_path-listed.ensures (c.args.request, rw c.in-Deck.is tt, is)
-    (λ calls so. right_listed words calls input g.W.Write.contents c.args.out.now c.list_path-listed.new.out c.in-Deck.deck.now asked c.list_path-listed.result so)))
+    (λ calls so. right_listed g.D.Disk.unseen words calls input g.W.Write.contents c.args.out.now c.list_path-listed.new.out c.in-Deck.deck.now asked c.list_path-listed.result so)))
 
 pub returns-in-List-clause-did : goal.returns-in-List-clause-did
 returns-in-List-clause-did g c words is =
     let asked = subst (Ask words) c.in-List.is is in
-    rw c.without_run-in-List.ensures (did_list words (for_records words c.in-List.file c.in-List.key c.in-List.from c.in-List.to c.in-List.first c.in-List.form c.in-List.quiet c.in-List.wait asked) (g.I.Read.remaining c.args.input.now.reader) c.in-List.file.now
-    (record { key = c.in-List.key; from = c.in-List.from; to = c.in-List.to; first = c.in-List.first }) g.W.Write.contents c.args.out.now c.list_records-listed.new.out c.list_records-listed.ensures.calls c.list_records-listed.result c.list_records-listed.ensures.so.records c.list_records-listed.ensures.so.fault)
+    let records = for_records words c.in-List.file c.in-List.key c.in-List.from c.in-List.to c.in-List.first c.in-List.form c.in-List.checked c.in-List.quiet c.in-List.wait asked in
+    rw c.without_run-in-List.ensures (did_list words records c.in-List.checked g.D.Disk.unseen (g.I.Read.remaining c.args.input.now.reader) c.in-List.file.now
+    (record { key = c.in-List.key; from = c.in-List.from; to = c.in-List.to; first = c.in-List.first }) c.in-List.form refl g.W.Write.contents c.args.out.now c.list-system.new.out
+    c.list-system.ensures.so.calls c.list-system.result.1 c.list-system.ensures.so.so)
 
 pub returns-in-List-clause-came : goal.returns-in-List-clause-came
 returns-in-List-clause-came g c words is =
     let asked = subst (Ask words) c.in-List.is is in
     let input = g.I.Read.remaining c.args.input.now.reader in
-    let held = g.S.System.state c.args.system in
-    rw c.without_run-in-List.ensures (inl (reads_alone words input g.W.Write.contents c.args.out.now c.list_records-listed.new.out c.args.aside.now.calls c.requires.none_aside held (g.S.System.state c.list_records-listed.new.system) c.requires.held
-    c.list_records-listed.result c.list_records-listed.ensures (c.args.request, rw c.in-List.is tt, is)
-    (λ calls so. right_list words calls input g.W.Write.contents c.args.out.now c.list_records-listed.new.out c.in-List.file c.in-List.key c.in-List.from c.in-List.to c.in-List.first c.in-List.form c.in-List.quiet c.in-List.wait asked c.list_records-listed.result so.records)))
+    rw c.without_run-in-List.ensures (inl (reads_aside g.D.Disk.unseen words input g.W.Write.contents c.args.out.now c.list-system.new.out c.list-system.new.aside.calls
+    (g.S.System.state c.args.system).calls (g.S.System.state c.list-system.result.0) c.requires.held c.list-system.result.1 c.list-system.ensures.so (c.args.request, rw c.in-List.is tt, is)
+    (λ calls so. right_list g.D.Disk.unseen words calls input g.W.Write.contents c.args.out.now c.list-system.new.out c.in-List.file c.in-List.key c.in-List.from c.in-List.to c.in-List.first c.in-List.form
+    c.in-List.quiet c.in-List.wait c.in-List.checked asked c.list-system.result.1 so)))
 
 pub returns-in-Stat-clause-did : goal.returns-in-Stat-clause-did
 returns-in-Stat-clause-did g c words is =
@@ -111,23 +113,25 @@ returns-in-Stat-clause-came g c words is =
     let asked = subst (Ask words) c.in-Stat.is is in
     let input = g.I.Read.remaining c.args.input.now.reader in
     let held = g.S.System.state c.args.system in
-    rw c.without_run-in-Stat.ensures (inl (reads_alone words input g.W.Write.contents c.args.out.now c.count_path-counted.new.out c.args.aside.now.calls c.requires.none_aside held (g.S.System.state c.count_path-counted.new.system) c.requires.held
+    rw c.without_run-in-Stat.ensures (inl (reads_alone g.D.Disk.unseen words input g.W.Write.contents c.args.out.now c.count_path-counted.new.out c.args.aside.now.calls c.requires.none_aside held (g.S.System.state c.count_path-counted.new.system) c.requires.held
     c.count_path-counted.result c.count_path-counted.ensures (c.args.request, rw c.in-Stat.is tt, is)
-    (λ calls so. right_count words calls input g.W.Write.contents c.args.out.now c.count_path-counted.new.out c.in-Stat.file.now asked c.count_path-counted.result so)))
+    (λ calls so. right_count g.D.Disk.unseen words calls input g.W.Write.contents c.args.out.now c.count_path-counted.new.out c.in-Stat.file.now asked c.count_path-counted.result so)))
 
 pub returns-in-Salvage-clause-did : goal.returns-in-Salvage-clause-did
 returns-in-Salvage-clause-did g c words is =
     let asked = subst (Ask words) c.in-Salvage.is is in
-    rw c.without_run-in-Salvage.ensures (did_salvage words c.in-Salvage.file.now asked _ c.salvage_path-salvaged.result c.salvage_path-salvaged.ensures.so.right c.salvage_path-salvaged.ensures.so.fault)
+    rw c.without_run-in-Salvage.ensures (did_salvage words (for_salvage words c.in-Salvage.file c.in-Salvage.deck c.in-Salvage.name asked) (g.I.Read.remaining c.args.input.now.reader)
+    (g.W.Write.contents c.args.out.now) (g.W.Write.contents c.salvage_path-salvaged.new.out) c.salvage_path-salvaged.ensures.calls c.salvage_path-salvaged.result
+    c.salvage_path-salvaged.ensures.so.records c.salvage_path-salvaged.ensures.so.fault)
 
 pub returns-in-Salvage-clause-came : goal.returns-in-Salvage-clause-came
 returns-in-Salvage-clause-came g c words is =
     let asked = subst (Ask words) c.in-Salvage.is is in
     let input = g.I.Read.remaining c.args.input.now.reader in
     let held = g.S.System.state c.args.system in
-    rw c.without_run-in-Salvage.ensures (inl (reads_alone words input g.W.Write.contents c.args.out.now c.salvage_path-salvaged.new.out c.args.aside.now.calls c.requires.none_aside held (g.S.System.state c.salvage_path-salvaged.new.system) c.requires.held
+    rw c.without_run-in-Salvage.ensures (inl (reads_alone g.D.Disk.unseen words input g.W.Write.contents c.args.out.now c.salvage_path-salvaged.new.out c.args.aside.now.calls c.requires.none_aside held (g.S.System.state c.salvage_path-salvaged.new.system) c.requires.held
     c.salvage_path-salvaged.result c.salvage_path-salvaged.ensures (c.args.request, rw c.in-Salvage.is tt, is)
-    (λ calls so. right_salvage words calls input g.W.Write.contents c.args.out.now c.salvage_path-salvaged.new.out c.in-Salvage.file.now asked c.salvage_path-salvaged.result so)))
+    (λ calls so. right_salvage g.D.Disk.unseen words calls input g.W.Write.contents c.args.out.now c.salvage_path-salvaged.new.out (for_salvage words c.in-Salvage.file c.in-Salvage.deck c.in-Salvage.name asked) c.salvage_path-salvaged.result so.records)))
 
 pub returns-in-Cobol-clause-did : goal.returns-in-Cobol-clause-did
 returns-in-Cobol-clause-did g c words is =
@@ -139,9 +143,9 @@ returns-in-Cobol-clause-came g c words is =
     let asked = subst (Ask words) c.in-Cobol.is is in
     let input = g.I.Read.remaining c.args.input.now.reader in
     let held = g.S.System.state c.args.system in
-    rw c.without_run-in-Cobol.ensures (inl (reads_alone words input g.W.Write.contents c.args.out.now c.write_cobol-written.new.out c.args.aside.now.calls c.requires.none_aside held (g.S.System.state c.write_cobol-written.new.system) c.requires.held
+    rw c.without_run-in-Cobol.ensures (inl (reads_alone g.D.Disk.unseen words input g.W.Write.contents c.args.out.now c.write_cobol-written.new.out c.args.aside.now.calls c.requires.none_aside held (g.S.System.state c.write_cobol-written.new.system) c.requires.held
     c.write_cobol-written.result c.write_cobol-written.ensures (c.args.request, rw c.in-Cobol.is tt, is)
-    (λ calls so. right_cobol words calls input g.W.Write.contents c.args.out.now c.write_cobol-written.new.out c.in-Cobol.deck.now c.in-Cobol.fixed asked c.write_cobol-written.result so)))
+    (λ calls so. right_cobol g.D.Disk.unseen words calls input g.W.Write.contents c.args.out.now c.write_cobol-written.new.out c.in-Cobol.deck.now c.in-Cobol.fixed asked c.write_cobol-written.result so)))
 
 -- the run, the session and the load that were begun are those that are asked for
 pub returns-in-Run-clause-did : goal.returns-in-Run-clause-did

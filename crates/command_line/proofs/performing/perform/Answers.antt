@@ -9,7 +9,7 @@ returns-in-Err-clause-did g c = rw c.without_run.ensures (rw c.of_words.ensures 
 
 pub returns-in-Err-clause-came : goal.returns-in-Err-clause-came
 returns-in-Err-clause-came g c = rw c.without_run.ensures
-    (inl (asks_nothing (map string_bytes c.args.words.now) (g.I.Read.remaining c.args.input.now.reader) g.W.Write.contents c.args.out.now c.args.out.now c.args.aside.now.calls c.requires.none_aside
+    (inl (asks_nothing g.D.Disk.unseen (map string_bytes c.args.words.now) (g.I.Read.remaining c.args.input.now.reader) g.W.Write.contents c.args.out.now c.args.out.now c.args.aside.now.calls c.requires.none_aside
     (g.S.System.state c.args.system) c.requires.unasked c.of_words.result refl))
 
 -- the numbers of closed streams were not taken
@@ -19,7 +19,7 @@ returns-in-Err-hold_closed_streams-clause-did g c = rw c.without_run-in-Err-hold
 
 pub returns-in-Err-hold_closed_streams-clause-came : goal.returns-in-Err-hold_closed_streams-clause-came
 returns-in-Err-hold_closed_streams-clause-came g c = rw c.without_run-in-Err-hold_closed_streams.ensures
-    (inl (holds_none (map string_bytes c.args.words.now) (g.I.Read.remaining c.args.input.now.reader) g.W.Write.contents c.args.out.now c.args.out.now c.args.aside.now.calls c.requires.none_aside
+    (inl (holds_none g.D.Disk.unseen (map string_bytes c.args.words.now) (g.I.Read.remaining c.args.input.now.reader) g.W.Write.contents c.args.out.now c.args.out.now c.args.aside.now.calls c.requires.none_aside
     (g.S.System.state c.args.system) (g.S.System.state c.hold_closed_streams.new.system) c.requires.unasked c.in-Err-hold_closed_streams.ensures.held c.in-Err-hold_closed_streams.fault refl))
 
 pub answer_request-requires : goal.answer_request-requires

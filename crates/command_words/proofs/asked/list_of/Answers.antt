@@ -3,7 +3,7 @@ use Rattle.std.specs.Prelude.{codes}
 use Rattle.std.specs.Str.Parse.{ParsesUnsigned, ExplainsUnsignedError, HasUnsignedDigitsIfOk}
 use Rattle.std.specs.declared.num.ParseIntError.{ParseIntError}
 use Rattle.clap.specs.Words.{Row, found_of, rows_of}
-use Rattle.command_words.specs.Asks.{IsForm, IsQuietRequest, IsWaitRequest}
+use Rattle.command_words.specs.Asks.{IsForm, IsCheckedRequest, IsQuietRequest, IsWaitRequest}
 use Rattle.command_words.proofs.MetLemmas.{no_text, same_rows, some_not_none, text_read}
 use Rattle.command_words.proofs.NumberLemmas.{Given, is_read, none_read, wait_met}
 use Rattle.command_words.proofs.asked.list_of.Goals as goal
@@ -13,17 +13,17 @@ abbrev Gives : ℕ → List ℕ → Result ℕ ParseIntError → Type 0
 Gives bits text read = ParsesUnsigned bits 10 text read × ExplainsUnsignedError 10 text read × HasUnsignedDigitsIfOk text read
 
 pub returns-in_err-list-clause-none : goal.returns-in_err-list-clause-none
-returns-in_err-list-clause-none c = λ none file key from to first form quiet list. c.met.ensures.none c.in_err-list.was list.rows list.is
+returns-in_err-list-clause-none c = λ none file key from to first form checked quiet list. c.met.ensures.none c.in_err-list.was list.rows list.is
 
 pub returns-in_err-file-clause-none : goal.returns-in_err-file-clause-none
 returns-in_err-file-clause-none c =
-    λ none file key from to first form quiet list.
+    λ none file key from to first form checked quiet list.
     let f = found_of c.in_ok-list.list.now in
     no_text f (codes "file") c.get_str.result c.get_str.ensures c.in_err-file.was list.rows (same_rows c.in_ok-list.ensures.some list.is) file list.file_given
 
 pub returns-in_err-key-clause-none : goal.returns-in_err-key-clause-none
 returns-in_err-key-clause-none c =
-    λ none file key from to first form quiet list.
+    λ none file key from to first form checked quiet list.
     let f = found_of c.in_ok-list.list.now in
     none_read f (codes "key") 8 (Gives 8) (λ t x g. g.0) c.get_one.result c.get_one.ensures.value c.in_err-key.was key
     (subst (λ (rows : List Row). Given rows (codes "key") 8 key) (same_rows c.in_ok-list.ensures.some list.is)
@@ -31,7 +31,7 @@ returns-in_err-key-clause-none c =
 
 pub returns-in_err-first-clause-none : goal.returns-in_err-first-clause-none
 returns-in_err-first-clause-none c =
-    λ none file key from to first form quiet list.
+    λ none file key from to first form checked quiet list.
     let f = found_of c.in_ok-list.list.now in
     none_read f (codes "first") 64 (Gives 64) (λ t x g. g.0) c.get_one-2.result c.get_one-2.ensures.value c.in_err-first.was first
     (subst (λ (rows : List Row). Given rows (codes "first") 64 first) (same_rows c.in_ok-list.ensures.some list.is)
@@ -39,19 +39,25 @@ returns-in_err-first-clause-none c =
 
 pub returns-in_err-form-clause-none : goal.returns-in_err-form-clause-none
 returns-in_err-form-clause-none c =
-    λ none file key from to first form quiet list.
+    λ none file key from to first form checked quiet list.
     c.form_of.ensures.none c.in_err-form.was form
     (subst (λ (rows : List Row). IsForm rows form) (same_rows c.in_ok-list.ensures.some list.is) list.form_is)
 
+pub returns-in_err-checked-clause-none : goal.returns-in_err-checked-clause-none
+returns-in_err-checked-clause-none c =
+    λ none file key from to first form checked quiet list.
+    c.checked_of.ensures.none c.in_err-checked.was checked
+    (subst (λ (rows : List Row). IsCheckedRequest rows checked) (same_rows c.in_ok-list.ensures.some list.is) list.checked_is)
+
 pub returns-in_err-quiet-clause-none : goal.returns-in_err-quiet-clause-none
 returns-in_err-quiet-clause-none c =
-    λ none file key from to first form quiet list.
+    λ none file key from to first form checked quiet list.
     c.quiet_of.ensures.none c.in_err-quiet.was quiet
     (subst (λ (rows : List Row). IsQuietRequest rows quiet) (same_rows c.in_ok-list.ensures.some list.is) list.quiet_is)
 
 pub returns-in_err-wait-clause-none : goal.returns-in_err-wait-clause-none
 returns-in_err-wait-clause-none c =
-    λ none file key from to first form quiet list.
+    λ none file key from to first form checked quiet list.
     c.wait_of.ensures.none c.in_err-wait.was list.seconds
     (subst (λ (rows : List Row). IsWaitRequest rows list.seconds) (same_rows c.in_ok-list.ensures.some list.is) list.wait_is)
 
@@ -73,6 +79,7 @@ returns-clause-some c =
         from_is = text_read f (codes "from") _ c.get_str-2.ensures;
         to_is = text_read f (codes "to") _ c.get_str-3.ensures;
         form_is = c.in_ok-form.ensures.some;
+        checked_is = c.in_ok-checked.ensures.some;
         quiet_is = c.in_ok-quiet.ensures.some;
         seconds = c.in_ok-wait.wait;
         wait_is = c.in_ok-wait.ensures.some;
@@ -81,4 +88,4 @@ returns-clause-some c =
     )
 
 pub returns-clause-none : goal.returns-clause-none
-returns-clause-none c = λ none file key from to first form quiet list. some_not_none none
+returns-clause-none c = λ none file key from to first form checked quiet list. some_not_none none

@@ -6,4 +6,4 @@ returns c =
     let filed = last_arg _ _ c.arg.result c.arg.ensures c.named-list.ensures c.word-file.ensures in
     let bounded = c.with_bounds-bounded.ensures _ filed in
     let formed = c.with_form-formed.ensures _ (c.with_argument.ensures _ _ bounded c.first.ensures) in
-    c.with_wait.ensures _ (c.with_quiet.ensures _ formed)
+    c.with_wait.ensures _ (c.with_quiet.ensures _ (c.with_checked.ensures _ formed))

@@ -2,4 +2,5 @@ use Rattle.command_words.proofs.ShapeLemmas.{last_arg}
 use Rattle.command_words.proofs.subcommands.salvage_command.Goals as goal
 
 pub returns : goal.returns
-returns c = last_arg _ _ c.arg.result c.arg.ensures c.named-salvage.ensures c.word-file.ensures
+returns c =
+    c.with_deck.ensures _ (last_arg _ _ c.arg.result c.arg.ensures c.named-salvage.ensures c.word-file.ensures)

@@ -1,6 +1,5 @@
-use Rattle.std.proofs.Common.{rules, ◌≡◌, Some, map, refl, sym, subst}
+use Rattle.std.proofs.Common.{rules, sym, subst}
 use Rattle.recorded_system.proofs.ReadingLemmas.{by_same}
-use Rattle.record_forms.specs.Parts.{part_of_column, item_parts}
 use Rattle.file_commands.specs.DeckFile.{IsDeckFault}
 use Rattle.file_commands.proofs.forms.columns_in.Goals as goal
 

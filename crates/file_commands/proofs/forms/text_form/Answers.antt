@@ -1,4 +1,4 @@
-use Rattle.std.proofs.Common.{◌≡◌, [], None, option_map, refl, sym, ap, subst}
+use Rattle.std.proofs.Common.{[], option_map, refl, sym, ap, subst}
 use Rattle.file_commands.specs.Front.{IsDeckReadBy}
 use Rattle.file_commands.proofs.forms.text_form.Goals as goal
 

@@ -3,7 +3,7 @@ use Rattle.recorded_system.proofs.ReadingLemmas.{by_none, by_same, by_both}
 use Rattle.file_listing.specs.Listing.{EndsIn}
 use Rattle.file_commands.specs.Records.{AgreesWith, WritesOther, TellsOther}
 use Rattle.file_commands.proofs.RecordsLemmas.{not_asked, no_form, broken_off, other_schema, listed}
-use Rattle.file_commands.proofs.listing.list_records.Goals as goal
+use Rattle.file_commands.proofs.listing.list_checked.Goals as goal
 
 pub returns-in-Err : goal.returns-in-Err
 returns-in-Err g c =

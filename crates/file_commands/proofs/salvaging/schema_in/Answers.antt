@@ -1,0 +1,22 @@
+use Rattle.std.proofs.Common.{ap, sym, subst, ◌∙◌}
+use Rattle.file_control.specs.Description.{FileDesc}
+use Rattle.recorded_system.proofs.ReadingLemmas.{by_same}
+use Rattle.file_commands.specs.DeckFile.{IsDeckFault}
+use Rattle.file_commands.proofs.salvaging.schema_in.Goals as goal
+
+pub returns-in-Err : goal.returns-in-Err
+returns-in-Err g c = by_same _ _ c.in-Err.ensures (λ calls came. record { right = tt; fault = came.fault })
+
+pub returns-in-Ok-file_in : goal.returns-in-Ok-file_in
+returns-in-Ok-file_in g c =
+    by_same _ _ c.in-Ok.ensures (λ calls came. record {
+      right = (
+        c.in-Ok-file_in.described.now,
+        record { bytes = came.right.0; is_read = came.right.1; deck = c.in-Ok.deck; is_deck = came.right.2; named = c.in-Ok-file_in.ensures.file },
+        c.copy.ensures ∙ ap (λ (x : FileDesc). x.schema) c.described.view_is,
+      );
+      fault = tt;
+    })
+
+pub returns : goal.returns
+returns g c = by_same _ _ c.in-Ok.ensures (λ calls came. record { right = tt; fault = subst IsDeckFault (sym c.in-Err-file_in.ensures.fault) tt })

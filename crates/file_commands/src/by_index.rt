@@ -1,0 +1,157 @@
+//! The list of the records of the file of a path, read page after page.
+ghost use Rattle.std.specs.Prelude.{◌≡◌, []};
+ghost use Rattle.recorded_system.specs.Reading.{ByReads};
+ghost use Rattle.path_listing.specs.ByPath.{ByReadsAside};
+ghost use Rattle.file_commands.specs.ByIndex.{TellsReason, ToldOfPages, ReadsStart, ListsPages, ListsByIndex};
+
+use crate::file_bytes::{fault_of as not_read, read_counted, read_first_page};
+use crate::forms::{ListForm, form_of};
+use crate::listing::{Bounds, asked_by, is_other};
+use command_outcomes::{Fault, Outcome};
+use command_words::FormWords;
+use file_checker::{Verdict, check_bytes};
+use file_listing::FileList;
+use folder_shelf::Disk;
+use path_listing::list_at_path;
+use progress::Progress;
+use record_forms::Form;
+use record_listing::{Asked, ListEnd, ListFault};
+use recorded_system::{CallRecord, System};
+use std::alloc::Global;
+use std::io::{Read, Write};
+
+/// What is listed of a file, in which form, and the first page of the file.
+#[derive(Drop)]
+pub struct ListStart {
+    pub asked: Asked,
+    pub told: ListForm,
+    pub page: Vec<u8>,
+}
+
+/// Why no file stands in the bytes of the file of a path, as a check of all of them tells. `Input`:
+/// also where the check finds a file, which another run has then closed since.
+fn reason_of<S: System, P: Progress>(
+    system: &mut S,
+    alloc: Global,
+    path: &str,
+    progress: &mut P,
+) -> Result<Outcome, Fault>
+    ensures { ByReads (TellsReason path.now result) (S.state system.old) (S.state system.new) }
+{
+    let bytes = match read_counted(system, path, progress) {
+        Ok(bytes) => bytes,
+        Err(fault) => return Err(not_read(fault)),
+    };
+    match check_bytes(alloc, bytes.as_slice()) {
+        Ok(Verdict::Unsound(reason)) => Ok(Outcome::Records(FileList::Unsound(reason))),
+        Ok(Verdict::Sound { .. }) => Err(Fault::Input),
+        Err(_) => Err(Fault::Memory),
+    }
+}
+
+/// Tells how a list that was read page after page ended. Where a page is not what its place requires,
+/// the whole file is checked, to tell why.
+fn told_pages<S: System, P: Progress>(
+    system: &mut S,
+    alloc: Global,
+    path: &str,
+    end: Result<ListEnd, ListFault>,
+    progress: &mut P,
+) -> Result<Outcome, Fault>
+    ensures { ByReads (ToldOfPages path.now end result) (S.state system.old) (S.state system.new) }
+{
+    match end {
+        Ok(ListEnd::Listed) => Ok(Outcome::Records(FileList::Listed)),
+        Ok(ListEnd::NoKey) => Ok(Outcome::Records(FileList::NoKey)),
+        Ok(ListEnd::Absent | ListEnd::Unsound | ListEnd::Damaged) => {
+            reason_of(system, alloc, path, progress)
+        }
+        Err(ListFault::Input) => Err(Fault::Input),
+        Err(ListFault::Output) => Err(Fault::Output),
+        Err(ListFault::Memory) => Err(Fault::Memory),
+    }
+}
+
+/// What is listed of the file of a path, in which form, and the first page of the file.
+fn read_start<S: System, I: Read>(
+    system: &mut S,
+    alloc: Global,
+    path: &str,
+    bounds: Bounds<'_>,
+    form: FormWords<'_>,
+    input: &mut I,
+) -> Result<ListStart, Fault>
+    ensures { ByReads (ReadsStart (I.remaining input.old) path.now bounds.entry form.entry result)
+        (S.state system.old) (S.state system.new) }
+{
+    let asked = match asked_by(bounds) {
+        Ok(asked) => asked,
+        Err(fault) => return Err(fault),
+    };
+    let told = match form_of(system, alloc, form, input) {
+        Ok(told) => told,
+        Err(fault) => return Err(fault),
+    };
+    match read_first_page(system, path) {
+        Ok(page) => Ok(ListStart { asked, told, page }),
+        Err(fault) => Err(fault),
+    }
+}
+
+/// Writes the lines of the records of the file of a path that are asked for, in a form, as the file is
+/// read page after page.
+fn list_pages<S: System + Drop, D: Disk, P: Progress, W: Write>(
+    system: S,
+    aside: &mut CallRecord,
+    alloc: Global,
+    path: &str,
+    asked: Asked,
+    form: &Form,
+    progress: &mut P,
+    out: &mut W,
+) -> (S, Result<Outcome, Fault>)
+    requires none_aside { aside.old.calls ≡ [] }
+    ensures { ByReadsAside (ListsPages D.Disk.unseen path.now form.now asked (W.contents out.old)
+        (W.contents out.new) result.1)
+        (S.state system).calls aside.new.calls (S.state result.0).calls }
+{
+    let (system, end) = list_at_path::<S, D, W>(system, aside, alloc, path, asked, form, out);
+    let mut system = system;
+    let done = told_pages(&mut system, alloc, path, end, progress);
+    (system, done)
+}
+
+/// Writes the lines of the records of the file of a path that are asked for, in the form that is
+/// asked for, as the file is read page after page; no run changes it meanwhile. It is as
+/// `list_checked`, but that a file is checked only where a page is met that is not what its place
+/// requires: the lines before it stay written then.
+pub fn list_records<S: System + Drop, D: Disk, I: Read, P: Progress, W: Write>(
+    system: S,
+    aside: &mut CallRecord,
+    alloc: Global,
+    path: &str,
+    bounds: Bounds<'_>,
+    form: FormWords<'_>,
+    input: &mut I,
+    progress: &mut P,
+    out: &mut W,
+) -> (S, Result<Outcome, Fault>)
+    requires none_aside { aside.old.calls ≡ [] }
+    ensures { ByReadsAside (ListsByIndex D.Disk.unseen (I.remaining input.old) path.now bounds.entry
+        form.entry W.contents out.old out.new result.1)
+        (S.state system).calls aside.new.calls (S.state result.0).calls }
+{
+    let mut system = system;
+    let start = match read_start(&mut system, alloc, path, bounds, form, input) {
+        Ok(start) => start,
+        Err(fault) => return (system, Err(fault)),
+    };
+    let ListStart { asked, told, page } = start;
+    match is_other(alloc, page.as_slice(), &told.schema, out) {
+        Ok(true) => (system, Ok(Outcome::OtherSchema)),
+        Ok(false) => list_pages::<S, D, P, W>(
+            system, aside, alloc, path, asked, &told.form, progress, out,
+        ),
+        Err(fault) => (system, Err(fault)),
+    }
+}
