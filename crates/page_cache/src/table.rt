@@ -13,8 +13,12 @@ pub(crate) const WINDOW: usize = 8;
 // A place is told by 16 bits.
 const MOST_PLACES: usize = 1 << 16;
 
-/// Where pages stand, by the low bits of their numbers. It is small, since an open file fills it
-/// with zeros at first: 8 bytes for each place.
+// What a cell tells at first: the last of these places, which no file with fewer frames has. A place
+// that has a page would keep the cells beside its own from others.
+const UNTOLD: u16 = u16::MAX;
+
+/// Where pages stand, by the low bits of their numbers. It is small, since an open file fills it at
+/// first: 8 bytes for each place.
 #[derive(Drop)]
 pub(crate) struct Table {
     // The place that each cell tells.
@@ -33,7 +37,7 @@ impl Table {
     {
         let many = (most.min(MOST_PLACES) * 4).next_power_of_two();
         Ok(Table {
-            cells: vec![in alloc; 0; many + WINDOW]?,
+            cells: vec![in alloc; UNTOLD; many + WINDOW]?,
             mask: many - 1,
             crowded: false,
         })
