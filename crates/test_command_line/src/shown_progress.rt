@@ -108,7 +108,8 @@ fn long_commands_tell_how_far_they_are(rt: HostRuntime) -> Result<(), Fail> {
     tells(&rt, &LOAD, "loaded 2\n", done(14, 0))?;
     let length = fs::metadata(&rt, "told/cust.dat")?.len();
     tells(&rt, &["check", "told/cust.dat"], CHECKED, done(length, 0))?;
-    tells(&rt, &["list", "told/cust.dat"], LINES, done(length, 0))
+    let list = ["list", "--checked", "told/cust.dat"];
+    tells(&rt, &list, LINES, done(length, 0))
 }
 
 #[test]
@@ -118,7 +119,7 @@ fn quiet_silences_them(rt: HostRuntime) -> Result<(), Fail> {
     let length = fs::metadata(&rt, "quiet/cust.dat")?.len();
     let check = ["check", "quiet/cust.dat", "--quiet"];
     tells(&rt, &check, CHECKED, done(length, 1))?;
-    let list = ["list", "--quiet", "quiet/cust.dat"];
+    let list = ["list", "--checked", "--quiet", "quiet/cust.dat"];
     tells(&rt, &list, LINES, done(length, 1))
 }
 
