@@ -7,7 +7,7 @@
 # `make library` proves and builds the library for C and Python (see docs/LIBRARY.md);
 # `make gnucobol` tries COBOL programs at length;
 # `make bench` measures its verbs beside those of GnuCOBOL, where cobc is there;
-# `make dist` and `make deb` pack what `make test` has passed: an archive, and a package for Debian (see docs/INSTALL.md);
+# `make dist` and `make deb` pack what `make test` has passed: an archive, and a package for Debian (see CONTRIBUTING.md);
 # `make install` puts the program that `make run` or `make test` built into PREFIX/bin, its manual page,
 # its completion for bash and its line for file(1) into PREFIX/share.
 .PHONY: try quick run test install library gnucobol bench dist deb
@@ -70,7 +70,7 @@ bench: $(PROGRAM)
 	benchmarks/decks/run $(PROGRAM) 10000 20 5 64
 	benchmarks/decks/run $(PROGRAM) 10000 20 5 4096
 
-# To be used without the kit: see docs/INSTALL.md.
+# To be used without the kit: see docs/FIRST-NIGHT.md.
 dist:
 	package/archive
 

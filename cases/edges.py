@@ -1,4 +1,4 @@
-"""What surrounds a run: streams that are closed or full, two runs over one folder, files and folders that may not be written, and devices that are full.
+"""What surrounds a run: streams that are closed or full, two runs over one folder, files and folders that may not be written, devices that are full, and a large file.
 
 `faults(program)` gives a Trial for each, with what is wrong with it, if anything. Each is performed in a folder of its own.
 Only a trial that tells what the machine lacks for it is skipped: any other error is a fault.
@@ -470,6 +470,28 @@ def killed_load(room):
     wants((whole.returncode, whole.stdout.decode().splitlines(), whole.stderr), (0, sorted(lines), told), "a salvage of the new file")
 
 
+# ---- a large file
+
+
+LARGE = 1100  # records, each of which takes a page
+
+
+def large_file(room):
+    """A file of more than a thousand pages is made, opened and changed. No contract says that there is memory for it at OPEN."""
+
+    def large(*statements):
+        return deck(*statements).replace(b"CUST-TEXT PIC X(994)", b"CUST-TEXT PIC X(3994)")
+
+    lines = room.run(large("OPEN OUTPUT CUST", *added(*range(1, LARGE + 1)), "CLOSE CUST"))
+    wants(lines, ["OPEN OUTPUT CUST 00", *["WRITE CUST 00"] * LARGE, "CLOSE CUST 00"], "the deck that makes it")
+    wants(int(room.check().stdout.split()[-1]) > 1000, True, "whether it has more than a thousand pages")
+    verbs = ["READ CUST", "REWRITE CUST-REC", "DELETE CUST", "WRITE CUST-REC", "READ CUST"]
+    lines = room.run(large("OPEN I-O CUST", f"MOVE {LARGE} TO CUST-ID", *verbs, "CLOSE CUST"))
+    told = ["OPEN I-O CUST 00", *[f"{it.removesuffix('-REC')} 00" for it in verbs], "CLOSE CUST 00"]
+    wants([it.split(" [")[0] for it in lines], told, "the deck that changes it")
+    room.wants_sound(LARGE)
+
+
 # ---- all of them
 
 
@@ -500,6 +522,7 @@ def trials():
     yield "a limit on the size of files", limit_on_file_size
     yield "a disk that is full", disk_that_is_full
     yield "a load into a new file that is killed", killed_load
+    yield "a file of more than a thousand pages", large_file
 
 
 def faults(program, trials=trials):

@@ -60,16 +60,25 @@ static pthread_mutex_t list_lock = PTHREAD_MUTEX_INITIALIZER;
 static cobix *list;
 static bool closes_at_end;
 
-/* At the end of the process. A session in which another thread is at work is left as it is. */
-static void close_all(void)
+/* A session in which no thread is at work and that was not closed yet, entered. NULL where there is none. */
+static cobix *enter_next(void)
 {
     pthread_mutex_lock(&list_lock);
-    for (cobix *session = list; session; session = session->next)
-        if (enter(session) == 0) {
-            cobix_engine_end(session->engine), session->engine = NULL;
-            leave(session, 0);
-        }
+    cobix *session = list;
+    while (session && enter(session) != 0)
+        session = session->next;
     pthread_mutex_unlock(&list_lock);
+    return session;
+}
+
+/* At the end of the process. A session in which another thread is at work is left as it is. The list is not locked while files are
+   closed: fork() in another thread takes the locks of both lists, this one last. */
+static void close_all(void)
+{
+    for (cobix *session = enter_next(); session; session = enter_next()) {
+        cobix_engine_end(session->engine), session->engine = NULL;
+        leave(session, 0);
+    }
 }
 
 static void before_fork(void) { pthread_mutex_lock(&list_lock); }
@@ -99,15 +108,16 @@ static void take_from_list(const cobix *session)
     pthread_mutex_unlock(&list_lock);
 }
 
-/* Whether the text is UTF-8, as far as its bytes begin and go on characters. */
+/* Whether the text is UTF-8: no character has more bytes than it needs, is half of a pair, or is past the last one. */
 static bool is_utf8(const char *text)
 {
     for (const unsigned char *at = (const unsigned char *)text; *at;) {
         int more = *at < 0x80 ? 0 : *at >= 0xC2 && *at < 0xE0 ? 1 : *at >= 0xE0 && *at < 0xF0 ? 2 : *at >= 0xF0 && *at < 0xF5 ? 3 : -1;
+        unsigned least = *at == 0xE0 ? 0xA0 : *at == 0xF0 ? 0x90 : 0x80, most = *at == 0xED ? 0x9F : *at == 0xF4 ? 0x8F : 0xBF;
         if (more < 0)
             return false;
-        for (at++; more > 0; more--, at++)
-            if ((*at & 0xC0) != 0x80)
+        for (at++; more > 0; more--, at++, least = 0x80, most = 0xBF)
+            if (*at < least || *at > most)
                 return false;
     }
     return true;

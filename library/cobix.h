@@ -29,7 +29,7 @@
  *
  * MEMORY. What a read delivers stays as it is until the next call in its session. Every other pointer that is given to a
  * call is the caller's, and is not kept. A session takes some 50 KiB, and an open file 4 KiB for each page that it holds.
- * Memory for as many pages as the frames of cobix_limits is had at OPEN, with the usual 1,024 4 MiB a file, and given back
+ * Memory for as many pages as the frames of cobix_limits is had at OPEN, with the usual 4,096 16 MiB a file, and given back
  * at CLOSE; what no page has used is not touched.
  *
  * OTHER RUNS. A file is under a shared lock (flock) from the first look at it, and under an exclusive one from its first
@@ -103,7 +103,7 @@ const char *cobix_message(int answer);
 
 /* ---- sessions and files */
 
-/* For a session. 0, or NULL for both, is: at most 1,048,576 pages a file, and 1,024 frames: pages of an open file that are
+/* For a session. 0, or NULL for both, is: at most 1,048,576 pages a file, and 4,096 frames: pages of an open file that are
    held in memory. Pages are at least 16, and frames at most 4,096. */
 typedef struct {
     uint32_t pages, frames;

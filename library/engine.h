@@ -10,7 +10,7 @@ struct engine;
 /* The longest body of a request, and the longest answer. */
 enum { ENGINE_REQUEST = 8192, ENGINE_ANSWER = 4005 };
 
-enum { ENGINE_FEWEST_PAGES = 16, ENGINE_PAGES = 1048576, ENGINE_FRAMES = 1024, ENGINE_MOST_FRAMES = 4096 };
+enum { ENGINE_FEWEST_PAGES = 16, ENGINE_PAGES = 1048576, ENGINE_FRAMES = 4096, ENGINE_MOST_FRAMES = 4096 };
 
 /* Begins a session over the folder of this path, which is UTF-8. At least ENGINE_FEWEST_PAGES pages, and 1 to ENGINE_MOST_FRAMES frames.
    NULL where memory is lacking. */

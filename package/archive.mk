@@ -1,4 +1,4 @@
-# cobix as it was proved and built: docs/INSTALL.md. `make check` compares each file with its checksum;
+# cobix as it was proved and built: docs/FIRST-NIGHT.md. `make check` compares each file with its checksum;
 # `make install` puts the program, the library and their pages into PREFIX;
 # `make handler` compiles the handler for GnuCOBOL, and puts it there too (it needs a C compiler and GnuCOBOL);
 # `make uninstall` takes all of that out of PREFIX.

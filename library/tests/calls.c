@@ -206,15 +206,16 @@ static void many_files(void)
 /* The path of a folder is UTF-8. */
 static void texts(void)
 {
-    static const char *const good[] = {"m\xC3\xBCller", "\xE2\x82\xAC", "\xF0\x9F\x98\x80"};
-    static const char *const bad[] = {"m\xFCller", "\xE2\x82", "\xC0\x80"};
+    enum { GOOD = 5, BAD = 7 };
+    static const char *const good[GOOD] = {"m\xC3\xBCller", "\xE2\x82\xAC", "\xF0\x9F\x98\x80", "\xED\x9F\xBF", "\xF4\x8F\xBF\xBF"};
+    static const char *const bad[BAD] = {"m\xFCller", "\xE2\x82", "\xC0\x80", "\xE0\x80\x80", "\xED\xA0\x80", "\xF0\x80\x80\x80", "\xF4\x90\x80\x80"};
     char path[4096];
     cobix *session;
-    for (int i = 0; i < 6; i++) {
-        snprintf(path, sizeof path, "%s/%s", folder, i < 3 ? good[i] : bad[i - 3]);
+    for (int i = 0; i < GOOD + BAD; i++) {
+        snprintf(path, sizeof path, "%s/%s", folder, i < GOOD ? good[i] : bad[i - GOOD]);
         CHECK("a folder", mkdir(path, 0700), 0);
-        CHECK("a session there", cobix_open(path, NULL, &session), i < 3 ? 0 : COBIX_NO_FOLDER);
-        CHECK("why not", i < 3 ? 0 : errno, i < 3 ? 0 : EILSEQ);
+        CHECK("a session there", cobix_open(path, NULL, &session), i < GOOD ? 0 : COBIX_NO_FOLDER);
+        CHECK("why not", i < GOOD ? 0 : errno, i < GOOD ? 0 : EILSEQ);
         CHECK("close", cobix_close(session), 0);
     }
     CHECK("words for a number that is none", strlen(cobix_message(1000)) > 0, true);

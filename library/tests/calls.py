@@ -64,11 +64,21 @@ with cobix.Session(folder, frames=2) as session:
         seen = make(other)
         raises(cobix.Fault, 30, seen.open, "input")
         file.release()
+        taken = make(session, "g.dat")
+        raises(cobix.Misuse, -1, file.open, "output")
+        raises(cobix.NotFound, 35, taken.open, "input")
+        raises(cobix.Misuse, -1, file.release)
         with seen.open("input"):
             check("what the first session left", len(list(seen)) == 99)
-    raises(ValueError, None, session.file, "g.dat", [Key("absent")], FIELDS)
+    raises(ValueError, None, session.file, "h.dat", [Key("absent")], FIELDS)
+    raises(cobix.Misuse, -7, session.file, "h.dat\0", KEYS, FIELDS)
+    raises(cobix.Misuse, -7, session.file, "h.dat", [Key("k", 65536, 5)], None, 65544, 65544)
+    raises(cobix.Misuse, -7, session.file, "h.dat", [Key("k", -1, 5)], None, 8, 8)
 raises(cobix.Misuse, -1, file.read_next)
 raises(cobix.Misuse, -3, cobix.Session, os.path.join(folder, "absent"))
+raises(cobix.Misuse, -3, cobix.Session, folder + "\0absent")
+raises(cobix.Misuse, -1, cobix.Session, folder, 1 << 32)
+raises(cobix.Misuse, -1, cobix.Session, folder, 0, -1)
 
 # An exception in the midst is told, and the file is closed.
 with cobix.Session(folder) as session:

@@ -425,7 +425,7 @@ static void held_pages(void)
         CHECK("close", cobix_close_file(file, false), 0);
         CHECK("input", cobix_open_file(file, COBIX_INPUT), 0);
         calls_of_a_walk(file);
-        CHECK("no page is read again, with 1,024 frames", calls_of_a_walk(file) == 0, usual);
+        CHECK("no page is read again, with the usual frames", calls_of_a_walk(file) == 0, usual);
         CHECK("close session", cobix_close(session), 0);
     }
 }

@@ -1,11 +1,15 @@
-/* Threads: sessions side by side, one session passed from thread to thread, and calls that overlap in one session.
+/* Threads: sessions side by side, one session passed from thread to thread, and calls that overlap in one session; and the locks of fork()
+   and of the end of a process, of which ThreadSanitizer tells where they are taken in two orders.
    The last line is "threads: N passed, M failed".    usage: threads FOLDER, which is empty */
 #define _GNU_SOURCE
 #include "check.h"
 #include "cobix.h"
 #include <pthread.h>
 #include <stdio.h>
+#include <stdlib.h>
 #include <string.h>
+#include <sys/wait.h>
+#include <unistd.h>
 
 enum { THREADS = 4, RECORDS = 2000, TURNS = 200 };
 
@@ -121,6 +125,32 @@ static void overlapping(void)
     CHECK("close session", cobix_close(session), 0);
 }
 
+static int end_of(pid_t child)
+{
+    int status = -1;
+    return child > 0 && waitpid(child, &status, 0) == child ? status : -1;
+}
+
+/* A process that has forked ends with a session open, which its end closes. */
+static void forking(void)
+{
+    cobix_file *file;
+    fflush(stdout);
+    pid_t child = fork();
+    if (child == 0) {
+        cobix *session = session_of("FORKING", &file);
+        int bad = !session || cobix_open_file(file, COBIX_OUTPUT) || cobix_write(file, "00001AAA", 8);
+        pid_t its_own = fork();
+        if (its_own == 0)
+            _exit(0);
+        exit(bad || end_of(its_own) != 0);
+    }
+    CHECK("a process that has forked ends", end_of(child), 0);
+    cobix *session = session_of("FORKING", &file);
+    CHECK("and has closed its file", cobix_open_file(file, COBIX_INPUT), 0);
+    CHECK("close session", cobix_close(session), 0);
+}
+
 int main(int count, char **words)
 {
     if (count != 2)
@@ -129,5 +159,6 @@ int main(int count, char **words)
     side_by_side();
     passed_on();
     overlapping();
+    forking();
     return told("threads");
 }

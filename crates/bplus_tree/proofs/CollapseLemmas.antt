@@ -4,10 +4,10 @@ use Rattle.std.specs.Prelude.{IsErrAnd}
 use Rattle.std.proofs.lemmas.List.{append-nil}
 use Rattle.io_state.specs.declared.fault.Fault.{Fault}
 use Rattle.tree_node.specs.declared.shape.Shape.{Shape}
-use Rattle.page_bytes.specs.Each.{Each}
+use Rattle.pages.specs.Each.{Each}
 use Rattle.pages.specs.PageMap.{PageMap}
 use Rattle.bplus_tree.specs.declared.collapse.Base.{Base}
-use Rattle.node_balance.specs.Fill.{least_entries}
+use Rattle.tree_node.specs.Fill.{least_entries}
 use Rattle.tree_search.specs.Tree.{TreeOf, page_of, entries_of, pages_of, Bound, IsRow, IsOrdered}
 use Rattle.tree_search.specs.Calls.{size_of, IsHalfFull, IsRooted, IsTree}
 use Rattle.tree_search.specs.Stored.{Holds, IsInnerAt}

@@ -2,10 +2,10 @@
 use Rattle.std.proofs.Common.{◌≡◌, ℕ, zero, suc, ◌+◌, ◌*◌, ◌≤◌, List, [], ◌∷◌, length, Some, None, refl, arith, flat_map}
 use Rattle.std.proofs.lemmas.List.{length-append}
 use Rattle.tree_node.specs.declared.shape.Shape.{Shape}
-use Rattle.page_bytes.specs.Each.{Each}
+use Rattle.pages.specs.Each.{Each}
 use Rattle.tree_node.proofs.LeafLemmas.{leaf_room_some}
 use Rattle.tree_node.proofs.InnerLemmas.{inner_room_some}
-use Rattle.node_balance.specs.Fill.{least_entries}
+use Rattle.tree_node.specs.Fill.{least_entries}
 use Rattle.tree_search.specs.Tree.{TreeOf, entries_of, Bound, IsRow, IsOrdered}
 use Rattle.tree_search.specs.Calls.{size_of, IsHalfFull}
 use Rattle.bplus_tree.specs.Count.{fewest, HaveManyEntries}

@@ -8,7 +8,7 @@ use Rattle.std.proofs.lemmas.Map.Steps.{length-le_from_distinct_below}
 use Rattle.tree_node.specs.declared.shape.Shape.{Shape}
 use Rattle.tree_node.proofs.OrderLemmas.{Each-weaker}
 use Rattle.tree_node.proofs.TableLemmas.{length_table}
-use Rattle.page_bytes.specs.Each.{Each}
+use Rattle.pages.specs.Each.{Each}
 use Rattle.pages.specs.PageMap.{PageMap}
 use Rattle.pages.specs.Owners.{IsOutside, AreApart}
 use Rattle.tree_search.specs.Tree.{TreeOf, entries_of, pages_of}

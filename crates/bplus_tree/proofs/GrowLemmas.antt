@@ -10,10 +10,10 @@ use Rattle.tree_node.specs.Leaf.{leaf_entries}
 use Rattle.tree_node.specs.Inner.{separators, children}
 use Rattle.tree_node.proofs.InnerLemmas.{inner_room_some}
 use Rattle.pages.specs.PageMap.{PageMap}
-use Rattle.node_balance.specs.declared.separator.Separator.{Separator}
+use Rattle.tree_node.specs.declared.separator.Separator.{Separator}
 use Rattle.tree_search.specs.Stored.{IsLeafAt, IsInnerAt}
 use Rattle.pages.specs.Answer.{IsAnswer}
-use Rattle.node_balance.specs.Put.{PutInLeaf, PutInInner}
+use Rattle.tree_node.specs.Put.{PutInLeaf, PutInInner}
 use Rattle.bplus_tree.specs.Split.{IsSplitOrWhole, WritesParts}
 use Rattle.bplus_tree.specs.Grow.{HasAddedToLeaf, HasAddedToInner}
 

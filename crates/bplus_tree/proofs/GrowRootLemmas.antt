@@ -2,12 +2,12 @@
 use Rattle.std.proofs.Common.{◌≡◌, ◌≢◌, ℕ, zero, suc, ◌+◌, ◌≤◌, add-one, List, [], ◌∷◌, ◌++◌, Some, None, Ok, IsSome, refl, ap, sym, subst}
 use Rattle.std.proofs.Common.{◌∙◌, arith, flat_map}
 use Rattle.std.proofs.lemmas.List.{append-nil}
-use Rattle.page_bytes.specs.Each.{Each}
+use Rattle.pages.specs.Each.{Each}
 use Rattle.tree_node.specs.declared.shape.Shape.{Shape}
 use Rattle.tree_node.proofs.OrderLemmas.{Each-weaker}
 use Rattle.pages.specs.PageMap.{PageMap}
 use Rattle.pages.specs.Owners.{IsOutside, ChangesPages}
-use Rattle.node_balance.specs.declared.separator.Separator.{Separator}
+use Rattle.tree_node.specs.declared.separator.Separator.{Separator}
 use Rattle.tree_search.specs.Tree.{TreeOf, page_of, entries_of, pages_of}
 use Rattle.tree_search.specs.Calls.{size_of, IsRooted, IsWhole}
 use Rattle.tree_search.specs.Stored.{Holds, IsInnerAt}

@@ -8,7 +8,7 @@ use Rattle.std.proofs.lemmas.Grind.{flat_map-append}
 use Rattle.arrayvec.specs.ArrayVec.{ArrayVec}
 use Rattle.io_state.specs.declared.fault.Fault.{Fault}
 use Rattle.io_state.specs.declared.fault.Fault.TheVariants.{Damage}
-use Rattle.page_bytes.specs.Each.{Each}
+use Rattle.pages.specs.Each.{Each}
 use Rattle.tree_node.specs.declared.shape.Shape.{Shape}
 use Rattle.tree_node.specs.Leaf.{IsLeaf, leaf_entries}
 use Rattle.tree_node.specs.Order.{Ascends}
@@ -19,7 +19,7 @@ use Rattle.pages.specs.PageMap.{PageMap, Writes}
 use Rattle.pages.specs.Owners.{ChangesPages}
 use Rattle.tree_search.specs.declared.descent.StepDown.{StepDown}
 use Rattle.tree_search.specs.declared.descent.Look.{Look}
-use Rattle.node_balance.specs.declared.separator.Separator.{Separator}
+use Rattle.tree_node.specs.declared.separator.Separator.{Separator}
 use Rattle.bplus_tree.specs.declared.insert.Grown.{Grown}
 use Rattle.bplus_tree.specs.declared.insert.Grown.TheVariants.{Present, Added}
 use Rattle.tree_search.specs.Tree.{TreeOf, page_of, entries_of, pages_of, IsRow, IsOrdered}

@@ -2,7 +2,7 @@
 use Rattle.std.proofs.Common.{◌≡◌, ◌≢◌, ℕ, zero, suc, List, [], ◌∷◌, ◌++◌, Some, None, IsSome, refl, ap, sym, subst, ◌∙◌, arith, flat_map}
 use mathlib.Core.Path.{fun_ext}
 use Rattle.tree_node.specs.declared.shape.Shape.{Shape}
-use Rattle.page_bytes.specs.Each.{Each}
+use Rattle.pages.specs.Each.{Each}
 use Rattle.tree_node.proofs.OrderLemmas.{Each-weaker}
 use Rattle.tree_search.specs.Tree.{TreeOf, pages_of}
 use Rattle.pages.specs.PageMap.{PageMap, Writes}

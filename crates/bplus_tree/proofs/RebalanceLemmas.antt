@@ -6,16 +6,16 @@ use Rattle.std.proofs.lemmas.List.{map-append, length-append, length-map, length
 use Rattle.std.proofs.lemmas.List.Edits.{remove-append_right, length-remove}
 use Rattle.std.proofs.lemmas.Grind.{flat_map-append}
 use Rattle.tree_node.specs.declared.shape.Shape.{Shape}
-use Rattle.page_bytes.specs.Each.{Each}
+use Rattle.pages.specs.Each.{Each}
 use Rattle.tree_node.specs.Inner.{separators, children}
 use Rattle.pages.specs.PageMap.{PageMap}
 use Rattle.bplus_tree.specs.declared.rebalance.Pair.{Pair}
-use Rattle.node_balance.specs.Fill.{least_entries}
+use Rattle.tree_node.specs.Fill.{least_entries}
 use Rattle.tree_search.specs.Tree.{TreeOf, page_of, entries_of, pages_of, pages_below, IsOrdered}
 use Rattle.tree_search.specs.Calls.{size_of, IsHalfFull}
 use Rattle.tree_search.specs.Stored.{Holds, IsInnerAt}
 use Rattle.pages.specs.Owners.{AreApart, ChangesPages}
-use Rattle.node_balance.specs.Balance.{IsNode, count_at, Joins, Shares}
+use Rattle.tree_node.specs.Balance.{IsNode, count_at, Joins, Shares}
 use Rattle.bplus_tree.specs.Rebalance.{AreThree, PairBytes, HasJoined, HasShared, IsBeside, IsParent, HasRead}
 use Rattle.bplus_tree.specs.Remove.{BecomesShort, AreFullBut, IsHalfFullWithRoot, LacksOne, LacksBelow}
 use Rattle.bplus_tree.proofs.RemoveLemmas.{Inner}

@@ -12,7 +12,7 @@ use Rattle.std.proofs.lemmas.Grind.{flat_map-append}
 use Rattle.arrayvec.specs.ArrayVec.{ArrayVec}
 use Rattle.io_state.specs.declared.fault.Fault.{Fault}
 use Rattle.tree_node.specs.declared.shape.Shape.{Shape}
-use Rattle.page_bytes.specs.Each.{Each}
+use Rattle.pages.specs.Each.{Each}
 use Rattle.tree_node.specs.Leaf.{IsLeaf, leaf_entries}
 use Rattle.tree_node.specs.Order.{less, Ascends, IsRank}
 use Rattle.tree_node.proofs.InnerLemmas.{inner_room_some}
@@ -22,7 +22,7 @@ use Rattle.tree_search.specs.declared.descent.StepDown.{StepDown}
 use Rattle.tree_search.specs.declared.descent.Look.{Look}
 use Rattle.bplus_tree.specs.declared.remove.Shrunk.{Shrunk}
 use Rattle.bplus_tree.specs.declared.remove.Shrunk.TheVariants.{Absent, Taken}
-use Rattle.node_balance.specs.Fill.{least_entries}
+use Rattle.tree_node.specs.Fill.{least_entries}
 use Rattle.tree_search.specs.Tree.{TreeOf, page_of, entries_of, pages_of, IsRow, IsOrdered}
 use Rattle.tree_search.specs.Calls.{size_of, IsRooted, entry_of, IsTree, IsWhole}
 use Rattle.tree_search.specs.Stored.{Holds, IsLeafAt, IsInnerAt}

@@ -3,18 +3,18 @@ use Rattle.std.proofs.Common.{◌≡◌, ℕ, zero, suc, ◌+◌, ◌<◌, ◌�
 use Rattle.std.proofs.lemmas.List.{map-append, length-append, take_at, drop_at, get_or_at, take-map, drop-map, take-append-drop}
 use Rattle.std.proofs.lemmas.Grind.{flat_map-append}
 use Rattle.tree_node.specs.declared.shape.Shape.{Shape}
-use Rattle.page_bytes.specs.Each.{Each}
+use Rattle.pages.specs.Each.{Each}
 use Rattle.tree_node.specs.Order.{less, Ascends}
 use Rattle.tree_node.specs.Leaf.{leaf_entries}
 use Rattle.tree_node.specs.Inner.{separators, children}
 use Rattle.tree_node.proofs.InnerLemmas.{length_separators, length_children}
 use Rattle.tree_node.proofs.OrderLemmas.{Each-weaker, less-trans, less_itself, not_less, compared}
 use Rattle.pages.specs.PageMap.{PageMap}
-use Rattle.node_balance.specs.Fill.{least_entries}
+use Rattle.tree_node.specs.Fill.{least_entries}
 use Rattle.tree_search.specs.Tree.{TreeOf, page_of, entries_of, pages_of, pages_below, Bound, NotBelow, Above, Below, IsRow, IsOrdered}
 use Rattle.tree_search.specs.Calls.{size_of, IsHalfFull, IsTree}
 use Rattle.tree_search.specs.Stored.{Holds, IsLeafAt, IsInnerAt}
-use Rattle.node_balance.specs.Balance.{LeavesJoined, LeavesShared, InnersJoined, InnersShared, AreJoined, AreShared}
+use Rattle.tree_node.specs.Balance.{LeavesJoined, LeavesShared, InnersJoined, InnersShared, AreJoined, AreShared}
 use Rattle.tree_search.proofs.RowLemmas.{Inside, Each-append, NotBelow-trans, above_not_below, Below-trans, row_split, row_rises}
 use Rattle.tree_search.proofs.RowLemmas.{each_left, each_right, ascends_join}
 use Rattle.bplus_tree.proofs.PageLemmas.{each_both, rows_still}

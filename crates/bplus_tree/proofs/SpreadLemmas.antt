@@ -1,6 +1,6 @@
 -- The pages of two neighbours, whose pages below them are shared anew or come under one of them.
 use Rattle.std.proofs.Common.{◌≡◌, ◌≢◌, ℕ, List, [], ◌∷◌, ◌++◌, None, IsSome, ap, sym, subst, ◌∙◌, append_assoc}
-use Rattle.page_bytes.specs.Each.{Each}
+use Rattle.pages.specs.Each.{Each}
 use Rattle.pages.specs.PageMap.{PageMap}
 use Rattle.pages.specs.Owners.{IsOutside, AreApart, ChangesPages}
 use Rattle.bplus_tree.proofs.PageLemmas.{each_both}

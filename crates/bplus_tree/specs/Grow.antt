@@ -7,8 +7,8 @@ use Rattle.tree_node.specs.Inner.{IsInner, separators, children}
 use Rattle.pages.specs.PageMap.{PageMap}
 use Rattle.pages.specs.ShownPages.{ShownPages}
 use Rattle.bplus_tree.specs.Changes.{CanWrite}
-use Rattle.node_balance.specs.declared.separator.Separator.{Separator}
-use Rattle.node_balance.specs.Fill.{least_entries}
+use Rattle.tree_node.specs.declared.separator.Separator.{Separator}
+use Rattle.tree_node.specs.Fill.{least_entries}
 use Rattle.tree_search.specs.Stored.{IsLeafAt, IsInnerAt}
 use Rattle.pages.specs.Answer.{IsAnswer}
 

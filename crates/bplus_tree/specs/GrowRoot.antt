@@ -5,7 +5,7 @@ use Rattle.tree_node.specs.declared.shape.Shape.{Shape}
 use Rattle.pages.specs.PageMap.{PageMap}
 use Rattle.pages.specs.Owners.{ChangesPages}
 use Rattle.bplus_tree.specs.declared.collapse.Base.{Base}
-use Rattle.node_balance.specs.declared.separator.Separator.{Separator}
+use Rattle.tree_node.specs.declared.separator.Separator.{Separator}
 use Rattle.tree_search.specs.Tree.{TreeOf, entries_of, pages_of}
 use Rattle.tree_search.specs.Calls.{IsRooted, IsWhole}
 use Rattle.pages.specs.Answer.{IsAnswer}

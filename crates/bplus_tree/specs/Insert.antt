@@ -5,7 +5,7 @@ use Rattle.io_state.specs.declared.fault.Fault.{Fault}
 use Rattle.tree_node.specs.declared.shape.Shape.{Shape}
 use Rattle.pages.specs.PageMap.{PageMap}
 use Rattle.pages.specs.Owners.{ChangesPages}
-use Rattle.node_balance.specs.declared.separator.Separator.{Separator}
+use Rattle.tree_node.specs.declared.separator.Separator.{Separator}
 use Rattle.bplus_tree.specs.declared.insert.Grown.{Grown}
 use Rattle.bplus_tree.specs.declared.insert.Grown.TheVariants.{Present, Added}
 use Rattle.tree_search.specs.Tree.{TreeOf, entries_of, pages_of, Above, Below}

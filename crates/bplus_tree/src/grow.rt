@@ -9,10 +9,11 @@ ghost use Rattle.bplus_tree.specs.Grow.{CanLead, AddsToLeaf, AddsToInner, IsRoot
 
 use crate::two_parts::write_parts;
 use io_state::Fault;
-use node_balance::{Separator, put_in_inner, put_in_leaf};
-use page_bytes::PAGE_SIZE;
-use pages::{Pages, copy, store};
-use tree_node::{InnerView, InnerViewMut, LeafView, Shape, is_inner, is_leaf, write_inner};
+use pages::{PAGE_SIZE, Pages, copy, store};
+use tree_node::{
+    InnerView, InnerViewMut, LeafView, Separator, Shape, is_inner, is_leaf, put_in_inner,
+    put_in_leaf, write_inner,
+};
 
 /// Puts an entry before entry `place` of a leaf. Where the leaf is full, its upper half goes to a
 /// new page, to which the separator leads that is answered.

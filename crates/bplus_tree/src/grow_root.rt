@@ -9,9 +9,8 @@ ghost use Rattle.bplus_tree.specs.GrowRoot.{GrowsRoot};
 use crate::collapse::Base;
 use crate::grow::add_root;
 use io_state::Fault;
-use node_balance::Separator;
 use pages::Pages;
-use tree_node::Shape;
+use tree_node::{Separator, Shape};
 
 /// Puts a new root above the root where that was split.
 ///

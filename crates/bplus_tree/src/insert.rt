@@ -11,10 +11,8 @@ ghost use Rattle.bplus_tree.specs.Subtree.{at_page};
 
 use crate::grow::{add_to_inner, add_to_leaf};
 use io_state::Fault;
-use node_balance::Separator;
-use page_bytes::PAGE_SIZE;
-use pages::Pages;
-use tree_node::{Entry, LeafView, LeafViewMut, Shape, is_leaf};
+use pages::{PAGE_SIZE, Pages};
+use tree_node::{Entry, LeafView, LeafViewMut, Separator, Shape, is_leaf};
 use tree_search::{Look, descend, has_key, seek};
 
 /// What an insert found, or did, below a page.

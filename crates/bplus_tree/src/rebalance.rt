@@ -6,16 +6,14 @@ ghost use Rattle.tree_node.specs.Inner.{IsInner, separators, children};
 ghost use Rattle.pages.specs.PageCalls.{ReadsPages};
 ghost use Rattle.tree_search.specs.LookUps.{WhenHonest};
 ghost use Rattle.bplus_tree.specs.Changes.{CanWrite, WhereSound, Alters, GivesPages};
-ghost use Rattle.node_balance.specs.Balance.{Balances};
-ghost use Rattle.node_balance.specs.Fill.{least_entries};
+ghost use Rattle.tree_node.specs.Balance.{Balances};
+ghost use Rattle.tree_node.specs.Fill.{least_entries};
 ghost use Rattle.bplus_tree.specs.Rebalance.{EndsJoined, EndsShared, IsPairAt, ReadsPair, pair_bytes};
 ghost use Rattle.bplus_tree.specs.Remove.{Rebalances};
 
 use io_state::Fault;
-use node_balance::balance;
-use page_bytes::PAGE_SIZE;
-use pages::{Pages, copy, store};
-use tree_node::{InnerView, Shape, is_inner};
+use pages::{PAGE_SIZE, Pages, copy, store};
+use tree_node::{InnerView, Shape, balance, is_inner};
 
 /// Two children side by side: the number of the separator between them, and their pages.
 #[derive(Clone, Copy)]

@@ -2,7 +2,7 @@
 
 ghost use Rattle.std.specs.Prelude.{◌≡◌, ◌+◌, ◌*◌, ◌<◌, ◌≤◌, ◌↔◌, false, IsTrue, length, remove};
 ghost use Rattle.tree_node.specs.Leaf.{IsLeaf, leaf_entries};
-ghost use Rattle.node_balance.specs.Fill.{least_entries};
+ghost use Rattle.tree_node.specs.Fill.{least_entries};
 ghost use Rattle.bplus_tree.specs.Changes.{CanWrite, WhereSound, Alters, EditsPages, EditsDown, GivesPages};
 ghost use Rattle.bplus_tree.specs.Remove.{Removes, HasPlace, OutOfLeaf, TakesBelow, TakesInPlace};
 ghost use Rattle.bplus_tree.specs.Remove.{TakesFromLeaf};
@@ -11,8 +11,7 @@ ghost use Rattle.bplus_tree.specs.Subtree.{at_page};
 
 use crate::rebalance::rebalance;
 use io_state::Fault;
-use page_bytes::PAGE_SIZE;
-use pages::Pages;
+use pages::{PAGE_SIZE, Pages};
 use tree_node::{Entry, LeafView, LeafViewMut, Shape, is_leaf};
 use tree_search::{Look, descend, fill, has_key, seek};
 

@@ -5,10 +5,8 @@ ghost use Rattle.bplus_tree.specs.Changes.{CanWrite, WhereSound, Alters, TakesOn
 ghost use Rattle.bplus_tree.specs.Split.{Splits, WritesParts};
 
 use io_state::Fault;
-use node_balance::Separator;
-use page_bytes::PAGE_SIZE;
-use pages::{Pages, store};
-use tree_node::TreeKey;
+use pages::{PAGE_SIZE, Pages, store};
+use tree_node::{Separator, TreeKey};
 
 /// Writes a page whole; and where it was split at a key, its upper part to a page that was free, to
 /// which the separator leads that is answered.

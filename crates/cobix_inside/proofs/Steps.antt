@@ -22,7 +22,7 @@ use Rattle.std.specs.Prelude.{Option, Some}
 use Rattle.std.specs.contracts.alloc.Global as heap
 use Rattle.std.proofs.alloc.Global.TheLaws as heap_laws
 use Rattle.std.specs.contracts.impls.GlobalAllocator.TheImpl.{ghosts}
-use Rattle.raw_box.proofs.Values.{both, al}
+use Rattle.cobix_inside.proofs.Values.{both, al}
 use Rattle.cobix_inside.specs.Lending.{lent_owns}
 use Rattle.cobix_inside.specs.contracts.open_session.OpenSession as session
 use Rattle.cobix_inside.specs.contracts.handle.Handle as held

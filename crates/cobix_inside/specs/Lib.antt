@@ -1,2 +1,3 @@
+pub mod NewLibrary
 pub mod Lending
 pub mod Sessions

@@ -2,7 +2,7 @@
 use Rattle.std.specs.Prelude.{◌≡◌, ℕ, Bool, List, []}
 use Rattle.folder_shelf.specs.Replay.{Unseen}
 use Rattle.indexed_file.specs.Shown.{Shown}
-use Rattle.file_session.specs.Files.{Files, files_at_start}
+use Rattle.serve.specs.Files.{Files, files_at_start}
 use Rattle.page_store.specs.ShelfState.{ShelfState}
 use Rattle.serve.specs.ExactSession.{ExactAfter}
 use Rattle.serve.specs.NoFalseFile.{NoFalseFileAfter}

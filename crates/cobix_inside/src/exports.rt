@@ -2,7 +2,7 @@
 ghost use Rattle.std.specs.Prelude.{◌≡◌, ◌≤◌, ℕ, true, List, [], Some, is_some, IfSome, length};
 ghost use Rattle.std.specs.NonZero.{non_zero_usize_get};
 ghost use Rattle.serve.specs.AnswerRoom.{AnswersInto};
-ghost use Rattle.inside_session.specs.NewLibrary.{shown_inside, IsNewInside};
+ghost use Rattle.cobix_inside.specs.NewLibrary.{shown_inside, IsNewInside};
 ghost use Rattle.serve.specs.ExactSession.{ExactInRequests};
 ghost use Rattle.folder_shelf.specs.Replay.{folder_after};
 ghost use Rattle.shelf_session.specs.SessionOnShelf.{ExactOnShelf};
@@ -10,26 +10,25 @@ ghost use Rattle.cobix_inside.specs.Sessions.{IsNewSession, ClosesAll, NoneFalse
 ghost use Rattle.cobix_inside.specs.declared.open_session.OpenSession.{OpenSession};
 
 use crate::handle::Handle;
+use crate::library::{AskedLibrary, AskedShelf, asked_library};
+use crate::limits::Limits;
 use crate::open_session::OpenSession;
 use asked_system::AskedSystem;
-use file_session::{FreePlaces, Session};
-use folder_shelf::{Disk, EmptyDisk, FolderShelf};
-use growing_library::GrowingLibrary;
-use inside_session::{AskedLibrary, Limits, asked_library};
+use folder_shelf::{Disk, EmptyDisk};
+use indexed_file::GrowingLibrary;
 use page_store::Shelf;
-use recorded_system::RecordedSystem;
-use request_frames::AnswerFrame;
-use serve::{answer_into, close_all, exact_in_requests, no_false_file_in_requests};
+use serve::{
+    FreePlaces, Session, answer_into, close_all, exact_in_requests, no_false_file_in_requests,
+};
 use shelf_session::exact_on_shelf;
 use std::alloc::Global;
 use std::io::{Stdin, Stdout};
 
 // A session in memory of its own. None where that was refused.
-fn boxed(alloc: Global, session: Session<AskedLibrary<EmptyDisk>>) -> Option<Box<OpenSession>>
+fn boxed(alloc: Global, session: Session<AskedLibrary>) -> Option<Box<OpenSession>>
     ensures { IfSome result (λ made. made.value.session ≡ session) }
 {
-    let frame = AnswerFrame::new();
-    Box::new(alloc, OpenSession { session, frame }).ok()
+    Box::new(alloc, OpenSession { session }).ok()
 }
 
 // A session in which no file is described. None where the path is no text, or memory was refused.
@@ -40,14 +39,14 @@ fn session(
     limits: Limits,
 ) -> Option<Box<OpenSession>>
     ensures { IfSome result (λ made. IsNewSession
-        (IsNewInside ⟦<FolderShelf<RecordedSystem<AskedSystem>, EmptyDisk> as Shelf>⟧
+        (IsNewInside ⟦<AskedShelf as Shelf>⟧
         (⟦<EmptyDisk as Disk>⟧).unseen folder.now limits.pages (non_zero_usize_get limits.frames))
         made.value.session) }
 {
     let folder = std::str::from_utf8(folder).ok()?;
     let folder = folder.to_string(alloc).ok()?;
     let places = FreePlaces::new(alloc).ok()?;
-    let library: AskedLibrary<EmptyDisk> = asked_library(alloc, system, folder, limits);
+    let library: AskedLibrary = asked_library(alloc, system, folder, limits);
     boxed(alloc, Session::new(alloc, library, places))
 }
 
@@ -66,7 +65,7 @@ pub extern "C" fn cobix_inside_begin(
 ) -> bool
     ensures held { result ≡ true → is_some out.new.value ≡ true }
     ensures made { (new : OpenSession) → result ≡ true → out.new.value ≡ Some new
-        → IsNewSession (IsNewInside ⟦<FolderShelf<RecordedSystem<AskedSystem>, EmptyDisk> as Shelf>⟧
+        → IsNewSession (IsNewInside ⟦<AskedShelf as Shelf>⟧
         (⟦<EmptyDisk as Disk>⟧).unseen folder.now pages frames) new.session }
 {
     let Some(limits) = Limits::of(pages, frames) else {
@@ -85,11 +84,11 @@ pub extern "C" fn cobix_inside_begin(
 /// bytes it has.
 fn answer_in(opened: &mut OpenSession, body: &[u8], room: &mut [u8]) -> usize
     requires room { 4005 ≤ length room.old }
-    ensures answered { AnswersInto (shown_inside ⟦<FolderShelf<RecordedSystem<AskedSystem>, EmptyDisk> as Shelf>⟧)
-        (⟦<AskedLibrary<EmptyDisk> as GrowingLibrary>⟧).keeps_open
+    ensures answered { AnswersInto (shown_inside ⟦<AskedShelf as Shelf>⟧)
+        (⟦<AskedLibrary as GrowingLibrary>⟧).keeps_open
         body.now opened.old.session opened.new.session room.old room.new result }
 {
-    answer_into(&mut opened.session, &mut opened.frame, body, room)
+    answer_into(&mut opened.session, body, room)
 }
 
 /// Does what the body of a frame asks for, and puts the frame of the answer into the room. How many
@@ -105,8 +104,8 @@ pub extern "C" fn cobix_inside_answer(
     requires room { 4005 ≤ length room.old }
     ensures held { is_some out.new.value ≡ true }
     ensures answered { (old new : OpenSession) → handle.value ≡ Some old → out.new.value ≡ Some new
-        → AnswersInto (shown_inside ⟦<FolderShelf<RecordedSystem<AskedSystem>, EmptyDisk> as Shelf>⟧)
-        (⟦<AskedLibrary<EmptyDisk> as GrowingLibrary>⟧).keeps_open
+        → AnswersInto (shown_inside ⟦<AskedShelf as Shelf>⟧)
+        (⟦<AskedLibrary as GrowingLibrary>⟧).keeps_open
         body.now old.session new.session room.old room.new result }
 {
     let mut held = handle.into_box();
@@ -128,7 +127,7 @@ fn give_up(held: Box<OpenSession>)
 pub extern "C" fn cobix_inside_end(handle: Handle) -> usize
     requires held { is_some handle.value ≡ true }
     ensures closed { (old : OpenSession) → handle.value ≡ Some old
-        → ClosesAll (shown_inside ⟦<FolderShelf<RecordedSystem<AskedSystem>, EmptyDisk> as Shelf>⟧)
+        → ClosesAll (shown_inside ⟦<AskedShelf as Shelf>⟧)
         old.session result }
 {
     let mut held = handle.into_box();
@@ -139,10 +138,10 @@ pub extern "C" fn cobix_inside_end(handle: Handle) -> usize
 
 /// What a session begins with: before its first request it has had no false file. It does nothing.
 pub fn no_false_file_at_first()
-    ensures { NoneFalseAtFirst (shown_inside ⟦<FolderShelf<RecordedSystem<AskedSystem>, EmptyDisk> as Shelf>⟧)
-        (⟦<AskedLibrary<EmptyDisk> as GrowingLibrary>⟧).keeps_open }
+    ensures { NoneFalseAtFirst (shown_inside ⟦<AskedShelf as Shelf>⟧)
+        (⟦<AskedLibrary as GrowingLibrary>⟧).keeps_open }
 {
-    no_false_file_in_requests::<AskedLibrary<EmptyDisk>>();
+    no_false_file_in_requests::<AskedLibrary>();
 }
 
 /// What a session begins with, and what becomes of it: before its first request it is exact, over what
@@ -150,20 +149,20 @@ pub fn no_false_file_at_first()
 /// fault, the files of the folder represent what the definitions leave. It does nothing.
 pub fn exact_from_first()
     ensures begun { (path : List ℕ) → (pages frames : ℕ)
-        → NewSessionsAreExact (shown_inside ⟦<FolderShelf<RecordedSystem<AskedSystem>, EmptyDisk> as Shelf>⟧)
-        (⟦<AskedLibrary<EmptyDisk> as GrowingLibrary>⟧).keeps_open
-        (λ library. (⟦<FolderShelf<RecordedSystem<AskedSystem>, EmptyDisk> as Shelf>⟧).state library.shelf)
+        → NewSessionsAreExact (shown_inside ⟦<AskedShelf as Shelf>⟧)
+        (⟦<AskedLibrary as GrowingLibrary>⟧).keeps_open
+        (λ library. (⟦<AskedShelf as Shelf>⟧).state library.shelf)
         (folder_after (⟦<EmptyDisk as Disk>⟧).unseen path [] [])
-        (IsNewInside ⟦<FolderShelf<RecordedSystem<AskedSystem>, EmptyDisk> as Shelf>⟧
+        (IsNewInside ⟦<AskedShelf as Shelf>⟧
         (⟦<EmptyDisk as Disk>⟧).unseen path pages frames) }
     ensures requests { ExactInRequests
-        (shown_inside ⟦<FolderShelf<RecordedSystem<AskedSystem>, EmptyDisk> as Shelf>⟧)
-        (⟦<AskedLibrary<EmptyDisk> as GrowingLibrary>⟧).keeps_open }
+        (shown_inside ⟦<AskedShelf as Shelf>⟧)
+        (⟦<AskedLibrary as GrowingLibrary>⟧).keeps_open }
     ensures files { ExactOnShelf
-        (shown_inside ⟦<FolderShelf<RecordedSystem<AskedSystem>, EmptyDisk> as Shelf>⟧)
-        (⟦<AskedLibrary<EmptyDisk> as GrowingLibrary>⟧).keeps_open
-        (λ library. (⟦<FolderShelf<RecordedSystem<AskedSystem>, EmptyDisk> as Shelf>⟧).state library.shelf) }
+        (shown_inside ⟦<AskedShelf as Shelf>⟧)
+        (⟦<AskedLibrary as GrowingLibrary>⟧).keeps_open
+        (λ library. (⟦<AskedShelf as Shelf>⟧).state library.shelf) }
 {
-    exact_in_requests::<AskedLibrary<EmptyDisk>>();
-    exact_on_shelf::<FolderShelf<RecordedSystem<AskedSystem>, EmptyDisk>>();
+    exact_in_requests::<AskedLibrary>();
+    exact_on_shelf::<AskedShelf>();
 }

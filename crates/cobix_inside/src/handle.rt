@@ -7,7 +7,7 @@ ghost use Rattle.std.specs.Coded.{coded_option};
 ghost use Rattle.cobix_inside.specs.Lending.{lent_owns};
 
 use crate::open_session::OpenSession;
-use raw_box::RawBox;
+use crate::raw_box::RawBox;
 use std::alloc::Global;
 use std::marker::Model;
 

@@ -4,10 +4,14 @@
 //! an allocator and for the handles of the streams, and has functions of its own in the place of
 //! `read` and `write`, which make the calls that a session asks of the system.
 //!
-//! A request is answered as the definitions of `serve` say, and no crash leaves a false file behind
-//! requests that were answered since the session began. Read `exports`.
+//! A request is answered as the definitions of `serve` say, and no crash leaves a false file after
+//! requests that were answered since the session began. One library serves all files of a session,
+//! over its folder and with its limits. Read `library`, then `exports`.
 #![tactic(auto)]
 
 mod exports;
 mod handle;
+mod library;
+mod limits;
 mod open_session;
+mod raw_box;

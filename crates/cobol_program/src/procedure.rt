@@ -3,9 +3,9 @@
 use crate::lines::Lines;
 use crate::moves::{add_fill, add_move, add_move_to_item};
 use crate::verbs::{add_on, add_sentence_on, add_verb};
+use deck_reader::Statement;
 use file_control::{FileDesc, LengthItem};
 use io_state::FileStatement;
-use procedure_division::Statement;
 use record_layout::{Figure, Placed};
 
 /// Adds the procedure of a status that is no success: the program goes on.

@@ -7,7 +7,7 @@ use Rattle.recorded_system.specs.Reading.{AreReading, ByReads, with_calls}
 use Rattle.recorded_system.specs.SystemState.{SystemState, with_call}
 use Rattle.recorded_system.proofs.ReadingLemmas.{by_same, by_none}
 use Rattle.folder_shelf.specs.Replay.{Unseen}
-use Rattle.path_listing.specs.ByPath.{ByReadsAside}
+use Rattle.record_listing.specs.ByPath.{ByReadsAside}
 use Rattle.command_line.specs.CallsMade.{CallsMade, calls_made, all_calls, BeginsNothing, BeginsWithStreams, streams_first}
 use Rattle.command_line.specs.Loaded.{ComesOfLoad}
 use Rattle.command_line.specs.Right.{AskToRead, IsRightOf, ReadsAlone}

@@ -7,12 +7,13 @@ use Rattle.recorded_system.specs.SystemState.{SystemState}
 use Rattle.folder_shelf.specs.Replay.{Unseen}
 use Rattle.command_words.specs.Asks.{AskRun, AskServe}
 use Rattle.command_words.specs.declared.limits.Limits.{Limits}
-use Rattle.standard_input.specs.declared.standard_input.StandardInput.{StandardInput}
+use Rattle.streams.specs.declared.standard_input.StandardInput.{StandardInput}
 use Rattle.command_line.specs.Answered.{CameFor}
 use Rattle.command_line.specs.AskedSession.{BeginsSession, ComesOfSession}
 use Rattle.command_line.specs.CallsMade.{CallsMade, calls_made, streams_first}
 use Rattle.command_line.specs.LoadForm.{IsLoadFault}
-use Rattle.command_line.specs.Loaded.{BeginsLoadOfDeck, ComesOfLoad}
+use Rattle.command_line.specs.Loaded.{BeginsLoadOfDeck, ComesOfLoad, options_of}
+use Rattle.record_loading.specs.declared.options.LoadOptions.{LoadOptions}
 use Rattle.command_line.specs.Performed.{AskForLoad, AskForRun, BeginsRun, ComesOfRun, Did, wrote}
 use Rattle.command_line.specs.Session.{streams_of}
 use Rattle.command_line.specs.declared.done.Done.{Done}
@@ -20,7 +21,7 @@ use Rattle.command_line.specs.declared.done.Ran.{Ran}
 use Rattle.command_line.proofs.CallsMadeLemmas.{begins_alone}
 use Rattle.command_line.proofs.DidLemmas.{did_fail, did_load, did_run}
 use Rattle.command_line.proofs.LoadingLemmas.{load_done, told_end}
-use Rattle.shelf_loading.specs.declared.end.ShelfEnd.{ShelfEnd}
+use Rattle.record_loading.specs.declared.shelf_end.ShelfEnd.{ShelfEnd}
 use Rattle.command_outcomes.specs.Status.{status_of}
 use Rattle.command_outcomes.specs.declared.fault.Fault.{Fault}
 use Rattle.command_outcomes.specs.declared.outcome.Outcome.{Outcome}
@@ -76,7 +77,7 @@ module _ {X I W : Type 0} (shelf : Ghosts X) (keeps_open : X → ℕ → Bool) (
   -- a load
   module _ (load : AskForLoad words) where
     abbrev pub IsBegun : List Call → Result Outcome Fault → Type 0
-    IsBegun base outcome = BeginsLoadOfDeck base (left input.reader) load.deck load.folder load.file load.text load.form load.into disk (calls_made before after)
+    IsBegun base outcome = BeginsLoadOfDeck base (left input.reader) load.deck load.folder load.file load.text load.form load.into (options_of load.lines) disk (calls_made before after)
         (contents out) (contents out_after) outcome
 
     pub load_came : (done : Done) → ComesOfLoad (IsBegun old.calls done.outcome) (IsLoadFault load.form) old (calls_made before after) out out_after done.outcome → Came done
@@ -101,15 +102,15 @@ module _ {I W : Type 0} (old : SystemState) (left : I → Option (List ℕ)) (in
 
 -- what was done for words that ask for a load
 load_done_by : {W : Type 0} (old : SystemState) (made : CallsMade) (out out_after : W) (before behind : Option (List ℕ)) (outcome : Result Outcome Fault) (base : List Call) (input : Option (List ℕ))
-    (deck folder file text form : Text) (into : Bool) (disk : Unseen)
-    → BeginsLoadOfDeck base input deck folder file text form into disk made before behind outcome → IfOk outcome (λ o. (end : ShelfEnd) × (o ≡ LoadEnded end))
-load_done_by old made out out_after before behind outcome base input deck folder file text form into disk is =
+    (deck folder file text form : Text) (into : Bool) (options : LoadOptions) (disk : Unseen)
+    → BeginsLoadOfDeck base input deck folder file text form into options disk made before behind outcome → IfOk outcome (λ o. (end : ShelfEnd) × (o ≡ LoadEnded end))
+load_done_by old made out out_after before behind outcome base input deck folder file text form into options disk is =
     let loads = is.3.2 in told_end _ _ loads.end loads.calls before behind outcome loads.told
 
 pub load_did : {W : Type 0} (words : List Text) (load : AskForLoad words) {old : SystemState} {made : CallsMade} {out out_after : W} {before behind : Option (List ℕ)} {base : List Call}
     {input : Option (List ℕ)} {disk : Unseen} (outcome : Result Outcome Fault)
-    → ComesOfLoad (BeginsLoadOfDeck base input load.deck load.folder load.file load.text load.form load.into disk made before behind outcome) (IsLoadFault load.form) old made out out_after outcome
+    → ComesOfLoad (BeginsLoadOfDeck base input load.deck load.folder load.file load.text load.form load.into (options_of load.lines) disk made before behind outcome) (IsLoadFault load.form) old made out out_after outcome
     → Did words outcome
 load_did words load {old} {made} {out} {out_after} {before} {behind} {base} {input} {disk} outcome comes =
     did_load words load outcome (load_done old made out out_after outcome _ comes.came
-    (load_done_by old made out out_after before behind outcome base input load.deck load.folder load.file load.text load.form load.into disk)) comes.fault
+    (load_done_by old made out out_after before behind outcome base input load.deck load.folder load.file load.text load.form load.into (options_of load.lines) disk)) comes.fault

@@ -5,6 +5,7 @@ use Rattle.clap.specs.Words.{Text}
 use Rattle.folder_shelf.specs.Replay.{Unseen}
 use Rattle.recorded_system.specs.Calls.{Call}
 use Rattle.clap.specs.declared.error.Error.{Error}
+use Rattle.command_words.specs.declared.line_options.LineOptions.{LineOptions}
 use Rattle.command_words.specs.Asks.{Ask, AskCheck, AskExplain, AskHelp, AskNothing, AskSchema, AskServe, AskStat, FormText, IfUsage, form_text}
 use Rattle.command_words.specs.declared.fault.WordsFault.{WordsFault}
 use Rattle.command_words.specs.declared.fault.WordsFault.TheVariants.{Usage as NotUnderstood, Memory as NoMemoryForWords}
@@ -22,7 +23,7 @@ use Rattle.file_commands.specs.DeckFile.{IsDeckFault}
 use Rattle.file_commands.specs.Front.{DoesBy}
 use Rattle.file_commands.specs.Verdicts.{ChecksFile}
 use Rattle.file_statistics.specs.declared.listing.FileStatisticsEnd.{FileStatisticsEnd}
-use Rattle.shelf_loading.specs.declared.end.ShelfEnd.{ShelfEnd}
+use Rattle.record_loading.specs.declared.shelf_end.ShelfEnd.{ShelfEnd}
 use Rattle.command_line.specs.Lists.{ListsEitherWay}
 use Rattle.command_line.specs.LoadForm.{IsLoadFault}
 use Rattle.command_line.specs.Performed.{AskOfDeck, AskForLoad, AskForRecords, AskForRun, AskForSalvage, AskForSchema, Did, IsRunOutcome}
@@ -57,9 +58,9 @@ for_records words file key from to first form checked quiet wait asked = record 
   asked = asked.0;
 }
 
-abbrev pub for_load : (words : List Text) (deck folder file text form : Bor Text) (into : Bool) (limits : Limits) (quiet : Bool)
-    → Ask words (Load deck folder file text form into limits quiet) → AskForLoad words
-for_load words deck folder file text form into limits quiet asked = record {
+abbrev pub for_load : (words : List Text) (deck folder file text form : Bor Text) (into : Bool) (limits : Limits) (lines : LineOptions) (quiet : Bool)
+    → Ask words (Load deck folder file text form into limits lines quiet) → AskForLoad words
+for_load words deck folder file text form into limits lines quiet asked = record {
   deck = deck.now;
   folder = folder.now;
   file = file.now;
@@ -68,6 +69,7 @@ for_load words deck folder file text form into limits quiet asked = record {
   into = into;
   pages = limits.pages;
   frames = limits.frames.value;
+  lines = lines;
   quiet = quiet;
   asked = asked;
 }

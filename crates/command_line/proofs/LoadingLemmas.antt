@@ -11,10 +11,11 @@ use Rattle.folder_shelf.specs.Within.{StaysWithin}
 use Rattle.page_store.specs.ShelfState.{ShelfState}
 use Rattle.record_layout.specs.Schema.{Schema}
 use Rattle.shelf_run.specs.ShelfRun.{LeavesFiles}
-use Rattle.record_loading.specs.Loading.{Listing}
+use Rattle.record_loading.specs.Passing.{LoadSource}
+use Rattle.record_loading.specs.declared.options.LoadOptions.{LoadOptions}
 use Rattle.record_loading.specs.declared.end.Load.{Load}
-use Rattle.shelf_loading.specs.Loaded.{EndsLoad, KeepsOtherNames, IsSafeLoad}
-use Rattle.shelf_loading.specs.declared.end.ShelfEnd.{ShelfEnd}
+use Rattle.record_loading.specs.Loaded.{KeepsOtherNames, IsSafeLoad}
+use Rattle.record_loading.specs.declared.shelf_end.ShelfEnd.{ShelfEnd}
 use Rattle.command_line.specs.CallsMade.{CallsMade, BeginsNothing, folder_behind}
 use Rattle.command_line.specs.Folder.{folder_at_first}
 use Rattle.system_files.specs.Front.{IsTextRead}
@@ -22,7 +23,7 @@ use Rattle.file_commands.specs.DeckFile.{IsDeckFault}
 use Rattle.file_commands.specs.Front.{IsDeckNamed, IsTextNamed, longest_line}
 use Rattle.file_commands.proofs.DeckLemmas.{not_there}
 use Rattle.command_line.specs.LoadForm.{IsLoadFault}
-use Rattle.command_line.specs.Loaded.{LoadsFolder, LoadsDeck, TellsLoad, IsShelfFault, ComesOfLoad, BeginsLoad, BeginsLoadOfDeck}
+use Rattle.command_line.specs.Loaded.{EndsLoadOf, LoadsFolder, LoadsDeck, TellsLoad, IsShelfFault, ComesOfLoad, BeginsLoad, BeginsLoadOfDeck}
 use Rattle.command_line.proofs.FolderLemmas.{untouched}
 use Rattle.command_outcomes.specs.Status.{status_of}
 use Rattle.command_outcomes.specs.declared.fault.Fault.{Fault}
@@ -31,7 +32,7 @@ use Rattle.command_outcomes.specs.declared.outcome.Outcome.TheVariants.{Loaded a
 
 -- a load over the folder of a path, which was entered in a system that was asked nothing yet
 module _ (disk : Unseen) (path : List ℕ) (calls : List Call) (at_first : SystemState) (enters : at_first ≡ record { folder = path; names = []; calls = entered path ∷ calls }) (no_calls : calls ≡ [])
-    (system : SystemState) (name : List ℕ) (schema : Schema) (load : Load) (list : Listing) where
+    (system : SystemState) (name : List ℕ) (schema : Schema) (load : Load) (source : LoadSource) where
   abbrev pub first : ShelfState
   first = folder_state disk at_first
 
@@ -42,18 +43,18 @@ module _ (disk : Unseen) (path : List ℕ) (calls : List Call) (at_first : Syste
   from_first : (IsSo : ShelfState → ShelfState → Type 0) → IsSo first last → IsSo (folder_at_first disk path) last
   from_first IsSo = subst (λ (old : ShelfState). IsSo old last) (untouched disk path calls at_first enters no_calls)
 
-  pub load_ended : StaysWithin system → (end : ShelfEnd) → EndsLoad name schema load list first end last → KeepsOtherNames name first last → IsSafeLoad name first last
-      → LoadsFolder disk path name schema load list system (Ok end)
+  pub load_ended : StaysWithin system → (end : ShelfEnd) → EndsLoadOf name schema load source first end last → KeepsOtherNames name first last → IsSafeLoad name first last
+      → LoadsFolder disk path name schema load source system (Ok end)
   load_ended within end ends others safe = record {
     within = within;
-    ends = from_first (λ old new. EndsLoad name schema load list old end new) ends;
+    ends = from_first (λ old new. EndsLoadOf name schema load source old end new) ends;
     nothing = tt;
     others = from_first (KeepsOtherNames name) others;
     safe = from_first (IsSafeLoad name) safe;
   }
 
   pub load_failed : StaysWithin system → (fault : Fault) → LeavesFiles first last → KeepsOtherNames name first last → IsSafeLoad name first last
-      → LoadsFolder disk path name schema load list system (Err fault)
+      → LoadsFolder disk path name schema load source system (Err fault)
   load_failed within fault nothing others safe = record {
     within = within;
     ends = tt;
@@ -75,9 +76,9 @@ text_at_first reads old new deck path text unread other is = record {
 }
 
 -- what else is known of the text of a load
-pub loads_as : {A B : List ℕ → Type 0} {disk : Unseen} {system : SystemState} {bytes folder name word : List ℕ} {into : Bool} {before behind : Option (List ℕ)} {outcome : Result Outcome Fault}
-    → ((text : List ℕ) → A text → B text) → LoadsDeck disk system A bytes folder name word into before behind outcome
-    → LoadsDeck disk system B bytes folder name word into before behind outcome
+pub loads_as : {A B : List ℕ → Type 0} {disk : Unseen} {system : SystemState} {bytes folder name word : List ℕ} {into : Bool} {options : LoadOptions} {before behind : Option (List ℕ)} {outcome : Result Outcome Fault}
+    → ((text : List ℕ) → A text → B text) → LoadsDeck disk system A bytes folder name word into options before behind outcome
+    → LoadsDeck disk system B bytes folder name word into options before behind outcome
 loads_as so known = record {
   deck = known.deck;
   is_deck = known.is_deck;
@@ -141,15 +142,15 @@ begins_nothing_after old between made out out_after outcome first none = record 
   told = none.told;
 }
 
-module _ {W : Type 0} (old between : SystemState) (made : CallsMade) (at_first behind_deck : Option (List ℕ)) (deck folder file text form : List ℕ) (into : Bool) (disk : Unseen) (before behind : Option (List ℕ))
+module _ {W : Type 0} (old between : SystemState) (made : CallsMade) (at_first behind_deck : Option (List ℕ)) (deck folder file text form : List ℕ) (into : Bool) (options : LoadOptions) (disk : Unseen) (before behind : Option (List ℕ))
     (out out_after : W) (outcome : Result Outcome Fault) (bytes : List ℕ) (reads : List Call) (is_deck : IsDeckNamed reads at_first deck bytes)
     (noted : between.calls ≡ folder_behind folder reads old.calls) (first : ByReads (λ _. ⊤) old between)
     (unread : (deck ≡ codes "-" → ⊥) → behind_deck ≡ at_first) (not_both : deck ≡ codes "-" → text ≡ codes "-" → ⊥) where
   abbrev IsOfBytes : List Call → Type 0
-  IsOfBytes base = BeginsLoad base behind_deck bytes folder file text form into disk made before behind outcome
+  IsOfBytes base = BeginsLoad base behind_deck bytes folder file text form into options disk made before behind outcome
 
   abbrev IsOfDeck : Type 0
-  IsOfDeck = BeginsLoadOfDeck old.calls at_first deck folder file text form into disk made before behind outcome
+  IsOfDeck = BeginsLoadOfDeck old.calls at_first deck folder file text form into options disk made before behind outcome
 
   of_deck : IsOfBytes between.calls → IsOfDeck
   of_deck is = (

@@ -2,18 +2,18 @@
 use Rattle.std.proofs.Common.{◌≡◌, ◌≢◌, ◌⊎◌, ◌≤◌, ℕ, zero, suc, nat_lt, Bool, true, false, ◌&&◌, if◌then◌else◌, List, Result, Ok, Err, IfErr, inl, inr, refl, sym, ◌∙◌, arith}
 use Rattle.file_checker.specs.declared.verdict.Verdict.{Verdict}
 use Rattle.file_checker.specs.declared.verdict.Verdict.TheVariants.{Sound, Unsound}
-use Rattle.file_listing.specs.declared.listing.FileList.{FileList}
-use Rattle.file_listing.specs.declared.listing.FileList.TheVariants as lists
+use Rattle.record_listing.specs.declared.file_list.FileList.{FileList}
+use Rattle.record_listing.specs.declared.file_list.FileList.TheVariants as lists
 use Rattle.file_statistics.specs.declared.listing.FileStatisticsEnd.{FileStatisticsEnd}
 use Rattle.file_statistics.specs.declared.listing.FileStatisticsEnd.TheVariants as counts
 use Rattle.schema_listing.specs.declared.comparing.Comparison.{Comparison}
 use Rattle.schema_listing.specs.declared.comparing.Comparison.TheVariants.{Same, Different}
-use Rattle.shelf_loading.specs.Answer.{is_loaded}
-use Rattle.shelf_loading.specs.declared.end.ShelfEnd.{ShelfEnd}
-use Rattle.shelf_loading.specs.declared.end.ShelfEnd.TheVariants as ends
+use Rattle.record_loading.specs.Answer.{is_loaded}
+use Rattle.record_loading.specs.declared.shelf_end.ShelfEnd.{ShelfEnd}
+use Rattle.record_loading.specs.declared.shelf_end.ShelfEnd.TheVariants as ends
 use Rattle.salvaged_records.specs.declared.salvaging.Salvage.{Salvage}
 use Rattle.salvaged_records.specs.declared.salvaging.Salvage.TheVariants as salvages
-use Rattle.standard_output.specs.LineEnds.{has_failed_line}
+use Rattle.streams.specs.LineEnds.{has_failed_line}
 use Rattle.command_outcomes.specs.Status.{status_of, status_by, status_of_worst, status_of_list, status_where, status_of_comparison, status_of_load, status_of_count, status_of_salvage, status_for, exit_status, IsExitStatus}
 use Rattle.command_outcomes.specs.declared.fault.Fault.{Fault}
 use Rattle.command_outcomes.specs.declared.fault.Fault.TheVariants as faults

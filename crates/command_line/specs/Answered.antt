@@ -4,13 +4,13 @@ use Rattle.std.specs.Prelude.{Option, Some, None, Result, Ok}
 use Rattle.clap.specs.Words.{Text}
 use Rattle.page_store.specs.declared.shelf.Shelf.{Ghosts}
 use Rattle.folder_shelf.specs.Replay.{Unseen}
-use Rattle.standard_input.specs.declared.standard_input.StandardInput.{StandardInput}
-use Rattle.standard_output.specs.LineEnds.{has_failed_line}
-use Rattle.standard_output.specs.Writes.{taken_by}
-use Rattle.standard_output.specs.declared.standard_output.StandardOutput.{StandardOutput}
+use Rattle.streams.specs.declared.standard_input.StandardInput.{StandardInput}
+use Rattle.streams.specs.LineEnds.{has_failed_line}
+use Rattle.streams.specs.Writes.{taken_by}
+use Rattle.streams.specs.declared.standard_output.StandardOutput.{StandardOutput}
 use Rattle.command_line.specs.AskedSession.{ServedAsAsked}
 use Rattle.command_line.specs.CallsMade.{CallsMade, streams_first}
-use Rattle.command_line.specs.Loaded.{BeginsLoadOfDeck}
+use Rattle.command_line.specs.Loaded.{BeginsLoadOfDeck, options_of}
 use Rattle.command_line.specs.Performed.{wrote, Did, RanAsAsked, AskForLoad}
 use Rattle.command_line.specs.Right.{ReadsAlone}
 use Rattle.command_line.specs.Session.{streams_of}
@@ -53,7 +53,7 @@ abbrev pub LoadedAsAsked : (words : List Text) → (input : Option (List ℕ)) �
     → (before behind : Option (List ℕ)) → Result Outcome Fault → Type 0
 LoadedAsAsked words input disk made before behind outcome = (load : AskForLoad words)
     × BeginsLoadOfDeck streams_first input load.deck load.folder load.file load.text load.form load.into
-    disk made before behind outcome
+    (options_of load.lines) disk made before behind outcome
 
 -- for the words the program came to this, by these calls: no folder was entered, and only reads were made;
 -- or the run, the session or the load was begun that the words ask for

@@ -8,7 +8,7 @@ use Rattle.folder_shelf.specs.Replay.{Unseen}
 use Rattle.folder_shelf.specs.Within.{StaysWithin}
 use Rattle.io_state.specs.declared.status.Status.{Status}
 use Rattle.indexed_file.specs.Shown.{Shown}
-use Rattle.standard_input.specs.declared.standard_input.StandardInput.{StandardInput}
+use Rattle.streams.specs.declared.standard_input.StandardInput.{StandardInput}
 use Rattle.command_words.specs.Asks.{AskServe}
 use Rattle.command_words.specs.declared.limits.Limits.{Limits}
 use Rattle.serve.specs.Serving.{Exchange, Streams}

@@ -15,20 +15,24 @@ use Rattle.deck_reader.specs.declared.deck.Deck.{Deck}
 use Rattle.deck_reader.specs.Deck.{IsDeck}
 use Rattle.shelf_run.specs.ShelfRun.{LeavesFiles}
 use Rattle.record_forms.specs.declared.form.Form.{Form}
-use Rattle.record_loading.specs.Loading.{Listing, listing}
+use Rattle.page_store.specs.ShelfState.{ShelfState}
+use Rattle.command_words.specs.declared.line_options.LineOptions.{LineOptions}
+use Rattle.record_loading.specs.Passing.{LoadSource}
+use Rattle.record_loading.specs.declared.options.LoadOptions.{LoadOptions}
+use Rattle.record_loading.specs.declared.rejected.RejectedLine.{RejectedLine}
 use Rattle.record_loading.specs.declared.end.Load.{Load}
 use Rattle.record_loading.specs.declared.end.Load.TheVariants.{New, Into}
-use Rattle.shelf_loading.specs.Answer.{answer_of}
-use Rattle.shelf_loading.specs.Loaded.{EndsLoad, KeepsOtherNames, IsSafeLoad, is_compared}
-use Rattle.shelf_loading.specs.declared.end.ShelfEnd.{ShelfEnd}
-use Rattle.shelf_loading.specs.declared.end.ShelfEnd.TheVariants.{IsThere, Loaded}
+use Rattle.record_loading.specs.Answer.{answer_of}
+use Rattle.record_loading.specs.Loaded.{EndsLoad, KeepsOtherNames, IsSafeLoad, is_compared}
+use Rattle.record_loading.specs.declared.shelf_end.ShelfEnd.{ShelfEnd}
+use Rattle.record_loading.specs.declared.shelf_end.ShelfEnd.TheVariants.{IsThere, Loaded}
 use Rattle.command_line.specs.CallsMade.{CallsMade, BeginsNothing, folder_behind}
 use Rattle.command_line.specs.Folder.{OverFolder}
 use Rattle.command_line.specs.LoadForm.{IsFormOf, IsLoadFault, form_word}
 use Rattle.file_commands.specs.DeckFile.{IsFileOf, IsDeckFault}
 use Rattle.file_commands.specs.Differing.{AreDifferencesOf}
 use Rattle.file_commands.specs.Front.{IsTextNamed, IsDeckNamed}
-use Rattle.standard_input.specs.declared.standard_input.StandardInput.{StandardInput}
+use Rattle.streams.specs.declared.standard_input.StandardInput.{StandardInput}
 use Rattle.command_line.specs.declared.load_form.FormKind.{FormKind}
 use Rattle.command_line.specs.declared.loading.Loading.{Loading}
 use Rattle.command_outcomes.specs.Status.{status_of}
@@ -42,23 +46,37 @@ abbrev pub load_of : Bool → Load
 load_of true = Into
 load_of false = New
 
+-- which lines the words ask for
+abbrev pub options_of : LineOptions → LoadOptions
+options_of lines = record { skip = lines.skip; keep_going = lines.keep_going }
+
+-- a text in a form, of which these lines are to be loaded
+abbrev pub load_source : Form → (text : List ℕ) → LoadOptions → LoadSource
+load_source form text options = record { form = form; text = text; options = options }
+
+-- a load ended so, of some lines that were rejected and told
+abbrev pub EndsLoadOf : (name : List ℕ) → Schema → Load → LoadSource → (old : ShelfState) → ShelfEnd
+    → (new : ShelfState) → Type 0
+EndsLoadOf name schema load source old end new = (told : List RejectedLine)
+    × EndsLoad name schema load (record { source = source; told = told }) old end new
+
 -- a load of a text into the file of a name in the folder of this path, which the system entered, and of
 -- whose files alone it was asked since: how it ended, and what it left where it came to nothing; all other names stand for what they stood for; and
 -- no crash leaves a false file
 pub record LoadsFolder (disk : Unseen) (folder name : List ℕ) (schema : Schema) (load : Load)
-    (list : Listing) (system : SystemState) (result : Result ShelfEnd Fault) : Type 0 where
+    (source : LoadSource) (system : SystemState) (result : Result ShelfEnd Fault) : Type 0 where
   pub within : StaysWithin system
   pub ends : OverFolder disk folder system (λ first last.
-      IfOk result (λ end. EndsLoad name schema load list first end last))
+      IfOk result (λ end. EndsLoadOf name schema load source first end last))
   pub nothing : OverFolder disk folder system (λ first last. OnErr result (LeavesFiles first last))
   pub others : OverFolder disk folder system (KeepsOtherNames name)
   pub safe : OverFolder disk folder system (IsSafeLoad name)
 
--- so of a load of a text in a form into a file that is described
-abbrev pub LoadsDescribed : (disk : Unseen) → (path : List ℕ) → FileDesc → Load → Form
-    → (text : List ℕ) → SystemState → Result ShelfEnd Fault → Type 0
-LoadsDescribed disk path file load form text system result =
-    LoadsFolder disk path file.file file.schema load (listing form text) system result
+-- so of a load of a text into a file that is described
+abbrev pub LoadsDescribed : (disk : Unseen) → (path : List ℕ) → FileDesc → Load → LoadSource → SystemState
+    → Result ShelfEnd Fault → Type 0
+LoadsDescribed disk path file load source system result =
+    LoadsFolder disk path file.file file.schema load source system result
 
 -- why nothing was loaded
 abbrev pub IsShelfFault : Fault → Type 0
@@ -110,7 +128,7 @@ TellsLoad path schema (Err fault) calls before behind outcome =
 -- in the form that a word asks for, which left this system, and it was told how that ended
 pub record LoadsDeck
     (disk : Unseen) (system : SystemState) (IsTheText : List ℕ → Type 0) (bytes folder name word : List ℕ)
-    (into : Bool) (before behind : Option (List ℕ)) (outcome : Result Outcome Fault) : Type 0 where
+    (into : Bool) (options : LoadOptions) (before behind : Option (List ℕ)) (outcome : Result Outcome Fault) : Type 0 where
   pub deck : Deck
   pub is_deck : IsDeck bytes deck
   pub file : FileDesc
@@ -121,7 +139,7 @@ pub record LoadsDeck
   pub is_text : IsTheText text
   pub end : Result ShelfEnd Fault
   pub left : SystemState
-  pub loads : LoadsFolder disk folder file.file file.schema (load_of into) (listing form text) left end
+  pub loads : LoadsFolder disk folder file.file file.schema (load_of into) (load_source form text options) left end
   pub calls : List Call
   pub behind_load : system ≡ with_calls calls left
   pub told : TellsLoad (file_path folder file.file) file.schema end calls before behind outcome
@@ -137,11 +155,11 @@ pub record ComesOfLoad {W : Type 0} (IsBegun : Type 0) (IsSuch : Fault → Type 
 -- a load was begun, behind what was asked before: a text was read of the path, or of the input where the
 -- path is a hyphen, and loaded into a file of the deck that the bytes are
 abbrev pub BeginsLoad : (base : List Call) → (input : Option (List ℕ)) → (bytes folder : List ℕ)
-    → (file text form : List ℕ) → (into : Bool) → Unseen → CallsMade → (before behind : Option (List ℕ))
+    → (file text form : List ℕ) → (into : Bool) → LoadOptions → Unseen → CallsMade → (before behind : Option (List ℕ))
     → Result Outcome Fault → Type 0
-BeginsLoad base input bytes folder file text form into disk made before behind outcome =
+BeginsLoad base input bytes folder file text form into options disk made before behind outcome =
     (reads : List Call) × (made.before ≡ reads ++ base)
-    × LoadsDeck disk made.system (IsTextNamed reads input text) bytes folder file form into before behind
+    × LoadsDeck disk made.system (IsTextNamed reads input text) bytes folder file form into options before behind
     outcome
 
 abbrev pub LoadsBytes : {I W : Type 0} → (old : SystemState) → (I → Option (List ℕ)) → StandardInput I
@@ -149,17 +167,17 @@ abbrev pub LoadsBytes : {I W : Type 0} → (old : SystemState) → (I → Option
     → (W → Option (List ℕ)) → (out out_after : W) → Result Outcome Fault → Type 0
 LoadsBytes old left input disk made bytes path kind asks contents out out_after outcome = ComesOfLoad
     (BeginsLoad old.calls (left input.reader) bytes (string_bytes path) asks.file.now asks.text.now
-    (form_word kind) asks.into disk made (contents out) (contents out_after) outcome)
+    (form_word kind) asks.into asks.lines disk made (contents out) (contents out_after) outcome)
     IsDeckFault old made out out_after outcome
 
 -- so of the bytes of a deck that were read of a path, or of the input where the path is a hyphen, once it
 -- was told that the folder is one
 abbrev pub BeginsLoadOfDeck : (base : List Call) → (input : Option (List ℕ)) → (deck folder : List ℕ)
-    → (file text form : List ℕ) → (into : Bool) → Unseen → CallsMade → (before behind : Option (List ℕ))
+    → (file text form : List ℕ) → (into : Bool) → LoadOptions → Unseen → CallsMade → (before behind : Option (List ℕ))
     → Result Outcome Fault → Type 0
-BeginsLoadOfDeck base input deck folder file text form into disk made before behind outcome =
+BeginsLoadOfDeck base input deck folder file text form into options disk made before behind outcome =
     (bytes : List ℕ) × (reads : List Call) × IsDeckNamed reads input deck bytes
-    × BeginsLoad (folder_behind folder reads base) input bytes folder file text form into disk made
+    × BeginsLoad (folder_behind folder reads base) input bytes folder file text form into options disk made
     before behind outcome
 
 abbrev pub LoadsAsked : {I W : Type 0} → (old : SystemState) → (I → Option (List ℕ)) → StandardInput I
@@ -167,5 +185,5 @@ abbrev pub LoadsAsked : {I W : Type 0} → (old : SystemState) → (I → Option
     → Result Outcome Fault → Type 0
 LoadsAsked old left input disk made deck folder asks contents out out_after outcome = ComesOfLoad
     (BeginsLoadOfDeck old.calls (left input.reader) deck folder asks.file.now asks.text.now asks.form.now
-    asks.into disk made (contents out) (contents out_after) outcome)
+    asks.into asks.lines disk made (contents out) (contents out_after) outcome)
     (IsLoadFault asks.form.now) old made out out_after outcome

@@ -17,6 +17,7 @@ use Rattle.deck_runner.specs.declared.run_end.RunEnd.{RunEnd}
 use Rattle.shelf_run.specs.ShelfRun.{OnShelf, Runs, BreaksOff, LeavesFiles, StaysSound}
 use Rattle.shelf_run.specs.ExactRun.{IsExactRun}
 use Rattle.command_words.specs.Asks.{FormText, AskRun, AskCheck, AskServe, AskSchema, AskExplain, AskDeck}
+use Rattle.command_words.specs.declared.line_options.LineOptions.{LineOptions}
 use Rattle.command_words.specs.Asks.{AskList, AskCobol, AskLoad, AskStat, AskSalvage, AskHelp, AskNothing}
 use Rattle.command_words.specs.declared.limits.Limits.{Limits}
 use Rattle.command_line.specs.CallsMade.{CallsMade, BeginsNothing, folder_behind, streams_first}
@@ -26,7 +27,7 @@ use Rattle.command_line.specs.LoadForm.{IsNoFormWord}
 use Rattle.file_commands.specs.DeckFile.{IsDeckAsked, IsHalf}
 use Rattle.file_commands.specs.Forms.{HasFormFault}
 use Rattle.file_commands.specs.Front.{IsDeckNamed}
-use Rattle.standard_input.specs.declared.standard_input.StandardInput.{StandardInput}
+use Rattle.streams.specs.declared.standard_input.StandardInput.{StandardInput}
 use Rattle.command_line.specs.declared.done.Ran.{Ran}
 use Rattle.command_outcomes.specs.Status.{status_of}
 use Rattle.command_outcomes.specs.declared.form_fault.FormFault.{FormFault}
@@ -174,8 +175,9 @@ pub record AskForLoad (words : List Text) : Type 0 where
   pub into : Bool
   pub pages : ℕ
   pub frames : ℕ
+  pub lines : LineOptions
   pub quiet : Bool
-  pub asked : AskLoad words deck folder file text form into pages frames quiet
+  pub asked : AskLoad words deck folder file text form into pages frames lines quiet
 
 -- the words ask for records of a file
 pub record AskForRecords (words : List Text) : Type 0 where

@@ -11,7 +11,7 @@ use Rattle.file_commands.specs.Counted.{CountsFileAt}
 use Rattle.file_commands.specs.Front.{OfNamedDeck}
 use Rattle.file_commands.specs.Listed.{WritesList, WritesCobol}
 use Rattle.file_commands.specs.ByIndex.{ListsRecordsByIndex, FindsOther}
-use Rattle.file_listing.specs.declared.listing.FileList.{FileList}
+use Rattle.record_listing.specs.declared.file_list.FileList.{FileList}
 use Rattle.folder_shelf.specs.Replay.{Unseen}
 use Rattle.file_commands.specs.Records.{OfFormAndFile, ListsRecords, AgreesWith, WritesOther}
 use Rattle.file_commands.specs.Salvaged.{SalvagesFileAt}
@@ -111,7 +111,7 @@ module _ {W : Type 0} (disk : Unseen) (words : List Text) (calls : List Call) (i
 abbrev pub IsToRead : Request → Type 0
 IsToRead (Run deck folder limits strict wait) = ⊥
 IsToRead (Serve folder limits wait) = ⊥
-IsToRead (Load deck folder file text form into limits quiet) = ⊥
+IsToRead (Load deck folder file text form into limits lines quiet) = ⊥
 IsToRead request = ⊤
 
 -- so do the words ask

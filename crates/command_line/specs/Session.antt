@@ -10,8 +10,8 @@ use Rattle.shelf_library.specs.Library.{shown_by}
 use Rattle.shelf_library.specs.State.{LibraryState}
 use Rattle.shelf_library.specs.declared.library.ShelfLibrary.{ShelfLibrary}
 use Rattle.shelf_run.specs.ShelfRun.{over_shelf}
-use Rattle.standard_input.specs.Source.{source_of}
-use Rattle.standard_input.specs.declared.standard_input.StandardInput.{StandardInput}
+use Rattle.streams.specs.Source.{source_of}
+use Rattle.streams.specs.declared.standard_input.StandardInput.{StandardInput}
 use Rattle.shelf_session.specs.SessionOnShelf.{IsExactSessionOn}
 use Rattle.serve.specs.Serving.{Exchange, Streams, streams, IsServedToEnd}
 use Rattle.serve.specs.declared.end.SessionEnd.{SessionEnd}

@@ -5,9 +5,9 @@ use crate::missed::write_path;
 use file_commands::deck_of;
 use file_control::FileDesc;
 use recorded_system::System;
-use standard_output::StandardOutput;
 use std::alloc::Global;
 use std::io::{self, Write};
+use streams::StandardOutput;
 use system_files::Cause;
 
 /// Tells why the file of this name in the folder answered 30 first, by the line of this number. There

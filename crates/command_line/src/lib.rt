@@ -19,12 +19,14 @@ mod load_form;
 mod loading;
 mod missed;
 mod performing;
+mod rejected_lines;
 mod session;
-mod streams;
+mod standard_streams;
 mod told_load;
 mod transcript;
 
 pub use explaining::every_reason_is_explained;
 pub use performing::program;
+pub use rejected_lines::RejectedLines;
 pub use session::{ServedEnd, serve_folder};
 pub use transcript::write_transcript;

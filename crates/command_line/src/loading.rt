@@ -2,33 +2,32 @@
 ghost use Rattle.std.specs.Prelude.{◌≡◌, [], true, false, codes, string_bytes, IfErr};
 ghost use Rattle.record_reading.specs.Whole.{IsWholeForm};
 ghost use Rattle.command_line.specs.CallsMade.{calls_made};
-ghost use Rattle.command_line.specs.Loaded.{load_of, LoadsDescribed, IsShelfFault, LoadsBytes};
+ghost use Rattle.command_line.specs.Loaded.{load_of, options_of, load_source, LoadsDescribed, IsShelfFault, LoadsBytes};
 
 use crate::load_form::{FormKind, form_of};
 use crate::told_load::{room_and_path, tell_end};
 use command_outcomes::{Fault, Outcome};
-use command_words::Limits;
+use command_words::{Limits, LineOptions};
 use file_commands::{deck_of, file_named, read_text};
 use file_control::FileDesc;
 use folder_shelf::{Disk, FolderShelf};
-use progress::Progress;
 use record_forms::Form;
-use record_loading::Load;
+use record_loading::{Load, LoadOptions, RejectLog, ShelfEnd, ShelfFault, load_lines_on_shelf};
 use record_reading::items_are_whole;
 use recorded_system::{CallRecord, System};
-use shelf_loading::{ShelfEnd, ShelfFault, load_on_shelf};
-use standard_input::StandardInput;
 use std::alloc::Global;
 use std::io::{Read, Write};
+use streams::{Progress, StandardInput};
 
 /// What is asked of a load: the name of a file in the deck, the path of a text, the word for its
-/// form, whether the file is there, and the limits of its pages.
+/// form, whether the file is there, which lines, and the limits of its pages.
 #[derive(Clone, Copy)]
 pub struct Loading<'a> {
     pub file: &'a str,
     pub text: &'a str,
     pub form: &'a str,
     pub into: bool,
+    pub lines: LoadOptions,
     pub limits: Limits,
 }
 
@@ -47,6 +46,16 @@ fn load_of(into: bool) -> Load
     if into { Load::Into } else { Load::New }
 }
 
+/// Which lines the words ask for.
+pub fn options_of(lines: LineOptions) -> LoadOptions
+    ensures { result ≡ options_of lines }
+{
+    LoadOptions {
+        skip: lines.skip,
+        keep_going: lines.keep_going,
+    }
+}
+
 /// Why nothing was loaded, as the program tells it.
 fn told_fault(fault: ShelfFault) -> Fault
     ensures { IsShelfFault result }
@@ -59,34 +68,38 @@ fn told_fault(fault: ShelfFault) -> Fault
 
 /// Loads a text in a form into a file over a folder of a system whose record is empty. It is told how
 /// many bytes of the text are written. The system that it gives back has what was asked and answered.
-fn load_over_folder<S: System + Drop, D: Disk, P: Progress>(
+fn load_over_folder<S: System + Drop, D: Disk, R: RejectLog, P: Progress>(
     system: S,
     alloc: Global,
     folder: String,
     file: &FileDesc,
     load: Load,
     form: &Form,
+    options: LoadOptions,
     text: &[u8],
     limits: Limits,
+    rejects: &mut R,
     progress: &mut P,
 ) -> (S, Result<ShelfEnd, Fault>)
     requires unasked { (S.state system).calls ≡ [] }
     requires whole { IsWholeForm form.now file.now.schema.greatest }
-    ensures loads { LoadsDescribed D.Disk.unseen (string_bytes folder) file.now load form.now text.now
-        (S.state result.0) result.1 }
+    ensures loads { LoadsDescribed D.Disk.unseen (string_bytes folder) file.now load
+        (load_source form.now text.now options) (S.state result.0) result.1 }
     ensures fault { IfErr result.1 IsShelfFault }
 {
     let shelf: FolderShelf<S, D> = FolderShelf::new(system, folder);
-    let (shelf, end) = load_on_shelf(
+    let (shelf, end) = load_lines_on_shelf(
         alloc,
         shelf,
         file.file,
         &file.schema,
         load,
         form,
+        options,
         text,
         limits.pages,
         limits.frames,
+        rejects,
         progress,
     );
     progress.wipe();
@@ -101,7 +114,7 @@ fn load_over_folder<S: System + Drop, D: Disk, P: Progress>(
 /// Loads a text of this kind into a file of the deck that the bytes are, over the files of a folder,
 /// and tells how that ended. What was asked before the folder is entered is set aside. `Deck`,
 /// `NoSuchFile`: nothing was written or changed, and no folder entered.
-pub fn load_deck<S: System + Drop, D: Disk, I: Read, P: Progress, W: Write>(
+pub fn load_deck<S: System + Drop, D: Disk, I: Read, R: RejectLog, P: Progress, W: Write>(
     system: S,
     aside: &mut CallRecord,
     alloc: Global,
@@ -110,6 +123,7 @@ pub fn load_deck<S: System + Drop, D: Disk, I: Read, P: Progress, W: Write>(
     kind: FormKind,
     asked: Loading<'_>,
     input: &mut StandardInput<I>,
+    rejects: &mut R,
     progress: &mut P,
     out: &mut W,
 ) -> (S, Result<Outcome, Fault>)
@@ -141,15 +155,17 @@ pub fn load_deck<S: System + Drop, D: Disk, I: Read, P: Progress, W: Write>(
         Err(fault) => return (system, Err(fault)),
     };
     system.exchange_record(aside);
-    let (mut system, end) = load_over_folder::<S, D, P>(
+    let (mut system, end) = load_over_folder::<S, D, R, P>(
         system,
         alloc,
         folder,
         file,
         load_of(asked.into),
         &form,
+        asked.lines,
         text.as_slice(),
         asked.limits,
+        rejects,
         progress,
     );
     match end {

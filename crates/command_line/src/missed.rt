@@ -2,8 +2,8 @@
 
 use command_outcomes::{Fault, Outcome};
 use recorded_system::{System, Unread};
-use standard_output::StandardOutput;
 use std::io::{self, ErrorKind, Write};
+use streams::StandardOutput;
 use system_files::Cause;
 
 /// What a fault says was not read or written.

@@ -8,15 +8,14 @@ ghost use Rattle.command_line.specs.Session.{ServedAt, session_told_as, session_
 use command_outcomes::Fault;
 use command_words::Limits;
 use folder_shelf::{Disk, FolderShelf};
-use growing_shelf::GrowingShelf;
-use page_store::Shelf;
+use page_store::{GrowingShelf, Shelf};
 use recorded_system::System;
 use serve::{ServeFault, serve};
 use shelf_library::ShelfLibrary;
 use shelf_session::exact_on_shelf;
-use standard_input::{ReadsAhead, StandardInput};
 use std::alloc::Global;
 use std::io::{Read, Write};
+use streams::{ReadsAhead, StandardInput};
 
 /// How a session ended: why, if not with its input, and how many of the files that were open then were
 /// closed with another status than 00.

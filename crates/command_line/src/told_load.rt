@@ -8,8 +8,8 @@ use command_outcomes::{Fault, Outcome};
 use file_commands::{differences_at, path_in};
 use file_control::FileDesc;
 use record_layout::Schema;
+use record_loading::{ShelfEnd, add_answer, is_compared};
 use recorded_system::System;
-use shelf_loading::{ShelfEnd, add_answer, is_compared};
 use std::alloc::Global;
 use std::io::Write;
 

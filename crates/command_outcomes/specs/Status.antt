@@ -2,14 +2,14 @@
 use Rattle.std.specs.Prelude.{◌≡◌, ◌⊎◌, ℕ, Bool, true, false, Result, Ok, Err}
 use Rattle.file_checker.specs.declared.verdict.Verdict.{Verdict}
 use Rattle.file_checker.specs.declared.verdict.Verdict.TheVariants.{Sound, Unsound}
-use Rattle.file_listing.specs.declared.listing.FileList.{FileList}
-use Rattle.file_listing.specs.declared.listing.FileList.TheVariants.{Listed as RecordsListed, NoKey}
-use Rattle.file_listing.specs.declared.listing.FileList.TheVariants.{Unsound as NoFile}
+use Rattle.record_listing.specs.declared.file_list.FileList.{FileList}
+use Rattle.record_listing.specs.declared.file_list.FileList.TheVariants.{Listed as RecordsListed, NoKey}
+use Rattle.record_listing.specs.declared.file_list.FileList.TheVariants.{Unsound as NoFile}
 use Rattle.schema_listing.specs.declared.comparing.Comparison.{Comparison}
 use Rattle.schema_listing.specs.declared.comparing.Comparison.TheVariants.{Same, Different}
-use Rattle.shelf_loading.specs.Answer.{is_loaded}
-use Rattle.shelf_loading.specs.declared.end.ShelfEnd.{ShelfEnd}
-use Rattle.shelf_loading.specs.declared.end.ShelfEnd.TheVariants.{IsThere, Loaded as LoadEnds}
+use Rattle.record_loading.specs.Answer.{is_loaded}
+use Rattle.record_loading.specs.declared.shelf_end.ShelfEnd.{ShelfEnd}
+use Rattle.record_loading.specs.declared.shelf_end.ShelfEnd.TheVariants.{IsThere, Loaded as LoadEnds}
 use Rattle.file_statistics.specs.declared.listing.FileStatisticsEnd.{FileStatisticsEnd}
 use Rattle.file_statistics.specs.declared.listing.FileStatisticsEnd.TheVariants.{Listed as CountListed}
 use Rattle.file_statistics.specs.declared.listing.FileStatisticsEnd.TheVariants.{Unsound as NotCounted}

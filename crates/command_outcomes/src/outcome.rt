@@ -8,12 +8,12 @@ use crate::fault::Fault;
 use deck_runner::RunEnd;
 use explanations::REASON_LINES;
 use file_checker::{Reason, Verdict};
-use file_listing::FileList;
 use file_statistics::FileStatisticsEnd;
-use page_marks::FaultPlace;
+use pages::FaultPlace;
+use record_listing::FileList;
+use record_loading::{ShelfEnd, is_loaded};
 use salvaged_records::Salvage;
 use schema_listing::{Comparison, Refusal};
-use shelf_loading::{ShelfEnd, is_loaded};
 use std::io::{self, Write};
 
 /// What is worst of several files that were checked.

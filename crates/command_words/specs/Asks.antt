@@ -10,6 +10,7 @@ use Rattle.command_words.specs.CommandLine.{program_app}
 use Rattle.command_words.specs.declared.fault.WordsFault.{WordsFault}
 use Rattle.command_words.specs.declared.fault.WordsFault.TheVariants.{Usage}
 use Rattle.command_words.specs.declared.form_words.FormWords.{FormWords}
+use Rattle.command_words.specs.declared.line_options.LineOptions.{LineOptions}
 use Rattle.command_words.specs.declared.request.Request.{Request}
 use Rattle.command_words.specs.declared.request.Request.TheVariants.{Run, Check, Serve, Schema, Explain, Deck}
 use Rattle.command_words.specs.declared.request.Request.TheVariants.{List as ListRecords, Cobol, Load, Stat}
@@ -171,10 +172,20 @@ pub record IsCobol (met : Option (Text × List Row)) (deck : Text) (fixed : Bool
   pub fixed_given : one_of (codes "fixed") rows ≡ Some fixed_text
   pub fixed_is : IsFlag fixed_text fixed
 
+-- the values ask for these lines of a text
+pub record AreLineOptions (rows : List Row) (lines : LineOptions) : Type 0 where
+  pub skip_text : Text
+  pub skip_given : one_of (codes "skip") rows ≡ Some skip_text
+  pub skip_is : IsNumber 64 skip_text lines.skip
+  pub keep_text : Text
+  pub keep_given : one_of (codes "keep-going") rows ≡ Some keep_text
+  pub keep_is : IsFlag keep_text lines.keep_going
+
 -- the subcommand that was met is to load the lines of this text, in a form, into a file of this
--- deck over this folder, into the one that is there or not, with these limits, with progress or not
+-- deck over this folder, into the one that is there or not, with these limits, these of the lines,
+-- with progress or not
 pub record IsLoad (met : Option (Text × List Row)) (deck folder file text form : Text) (into : Bool)
-    (pages frames : ℕ) (quiet : Bool) : Type 0 where
+    (pages frames : ℕ) (lines : LineOptions) (quiet : Bool) : Type 0 where
   pub rows : List Row
   pub is : met ≡ Some (codes "load", rows)
   pub deck_given : first_of (codes "deck") rows ≡ Some deck
@@ -186,6 +197,7 @@ pub record IsLoad (met : Option (Text × List Row)) (deck folder file text form 
   pub into_given : one_of (codes "into") rows ≡ Some into_text
   pub into_is : IsFlag into_text into
   pub limits : AreLimits rows pages frames
+  pub lines_are : AreLineOptions rows lines
   pub quiet_is : IsQuietRequest rows quiet
 
 -- the subcommand that was met is to count what this file has
@@ -220,8 +232,9 @@ IsRequestMet met (ListRecords file key from to first form checked quiet wait) =
     IsList met file.now key (option_map (λ text. text.now) from) (option_map (λ text. text.now) to) first
     (form_text form) checked quiet × IsWaitMet met wait
 IsRequestMet met (Cobol deck fixed) = IsCobol met deck.now fixed
-IsRequestMet met (Load deck folder file text form into limits quiet) =
-    IsLoad met deck.now folder.now file.now text.now form.now into limits.pages limits.frames.value quiet
+IsRequestMet met (Load deck folder file text form into limits lines quiet) =
+    IsLoad met deck.now folder.now file.now text.now form.now into limits.pages limits.frames.value
+    lines quiet
 IsRequestMet met (Stat file) = IsStat met file.now
 IsRequestMet met (Salvage file deck name) = IsSalvageRequest met file.now
     (option_map (λ text. text.now) deck) (option_map (λ text. text.now) name)
@@ -256,8 +269,8 @@ abbrev pub IsNoCobol : Option (Text × List Row) → Type 0
 IsNoCobol met = (deck : Text) (fixed : Bool) → ¬ (IsCobol met deck fixed)
 
 abbrev pub IsNoLoad : Option (Text × List Row) → Type 0
-IsNoLoad met = (deck folder file text form : Text) (into : Bool) (pages frames : ℕ) (quiet : Bool)
-    → ¬ (IsLoad met deck folder file text form into pages frames quiet)
+IsNoLoad met = (deck folder file text form : Text) (into : Bool) (pages frames : ℕ) (lines : LineOptions)
+    (quiet : Bool) → ¬ (IsLoad met deck folder file text form into pages frames lines quiet)
 
 abbrev pub IsNoStat : Option (Text × List Row) → Type 0
 IsNoStat met = (file : Text) → ¬ (IsStat met file)
@@ -345,12 +358,12 @@ AskList words file key from to first form checked quiet =
 abbrev pub AskCobol : List Text → (deck : Text) (fixed : Bool) → Type 0
 AskCobol words deck fixed = AreFaultless words × IsCobol (subcommand_of program_app words) deck fixed
 
--- to load the lines of this text, in a form, into a file of this deck, with progress or not
+-- to load these lines of this text, in a form, into a file of this deck, with progress or not
 abbrev pub AskLoad : List Text → (deck folder file text form : Text) (into : Bool) (pages frames : ℕ)
-    (quiet : Bool) → Type 0
-AskLoad words deck folder file text form into pages frames quiet =
+    (lines : LineOptions) (quiet : Bool) → Type 0
+AskLoad words deck folder file text form into pages frames lines quiet =
     AreFaultless words × IsLoad (subcommand_of program_app words) deck folder file text form into pages
-    frames quiet
+    frames lines quiet
 
 -- to count what this file has
 abbrev pub AskStat : List Text → (file : Text) → Type 0
@@ -385,8 +398,9 @@ Ask words (ListRecords file key from to first form checked quiet wait) =
     AskList words file.now key (option_map (λ text. text.now) from)
     (option_map (λ text. text.now) to) first (form_text form) checked quiet × AskWait words wait
 Ask words (Cobol deck fixed) = AskCobol words deck.now fixed
-Ask words (Load deck folder file text form into limits quiet) =
-    AskLoad words deck.now folder.now file.now text.now form.now into limits.pages limits.frames.value quiet
+Ask words (Load deck folder file text form into limits lines quiet) =
+    AskLoad words deck.now folder.now file.now text.now form.now into limits.pages limits.frames.value
+    lines quiet
 Ask words (Stat file) = AskStat words file.now
 Ask words (Salvage file deck name) = AskSalvage words file.now (option_map (λ text. text.now) deck)
     (option_map (λ text. text.now) name)

@@ -100,6 +100,10 @@ explain_shape = record (new_shape (codes "explain")) {
 abbrev pub deck_shape : Shape
 deck_shape = record (new_shape (codes "deck")) { rules = word_rule (codes "deck") ∷ [] }
 
+-- how many lines of a text a load skips
+abbrev pub skip_rule : Rule
+skip_rule = number_rule (codes "skip") 0 18446744073709551615 (codes "0")
+
 -- `[--first N]`
 abbrev pub first_rule : Rule
 first_rule = number_rule (codes "first") 0 18446744073709551615 (codes "18446744073709551615")
@@ -122,12 +126,14 @@ cobol_shape = record (new_shape (codes "cobol")) {
       (codes "fixed") ∷ [];
 }
 
--- `load DECK --folder DIR --file NAME TEXT [--as FORM] [--into] [--pages N] [--frames N] [--quiet]`
+-- `load DECK --folder DIR --file NAME TEXT [--as FORM] [--into] [--skip N] [--keep-going] [--pages N]
+-- [--frames N] [--quiet]`
 abbrev pub load_shape : Shape
 load_shape = record (new_shape (codes "load")) {
   rules = word_rule (codes "deck") ∷ option_rule (codes "folder") ∷ option_rule (codes "file") ∷ word_rule
       (codes "text") ∷ usual_rule (codes "as") (codes "text")
       ∷ flag_rule (codes "into")
+      ∷ skip_rule ∷ flag_rule (codes "keep-going")
       ∷ pages_rule
       ∷ frames_rule (codes "64") ∷ flag_rule (codes "quiet") ∷ [];
 }

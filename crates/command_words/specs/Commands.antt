@@ -5,7 +5,7 @@ use Rattle.clap.specs.declared.builder.arg.Arg.{Arg}
 use Rattle.clap.specs.declared.builder.command.Command.{Command}
 use Rattle.clap.specs.declared.builder.command.Command.TheViews.{out-Command}
 use Rattle.command_words.specs.CommandLine.{word_rule, option_rule, text_rule, usual_rule, name_rule}
-use Rattle.command_words.specs.CommandLine.{flag_rule, number_rule, pages_rule, frames_rule, wait_rule}
+use Rattle.command_words.specs.CommandLine.{flag_rule, number_rule, pages_rule, frames_rule, wait_rule, skip_rule}
 
 -- an argument of this rule, for its own command alone
 abbrev pub HasRule : Rule → Arg → Type 0
@@ -69,3 +69,7 @@ with_file_words app = with_rule (with_rule app (option_rule (codes "file"))) (wo
 abbrev pub with_text : App → App
 with_text app = with_rule (with_rule (with_file_words app) (usual_rule (codes "as") (codes "text")))
     (flag_rule (codes "into"))
+
+-- with the options by which it skips lines, and keeps going
+abbrev pub with_line_options : App → App
+with_line_options app = with_rule (with_rule app skip_rule) (flag_rule (codes "keep-going"))

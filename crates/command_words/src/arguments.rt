@@ -1,7 +1,7 @@
 //! The arguments of the subcommands.
 ghost use Rattle.std.specs.Prelude.{codes};
 ghost use Rattle.command_words.specs.CommandLine.{word_rule, words_rule, option_rule, text_rule, usual_rule};
-ghost use Rattle.command_words.specs.CommandLine.{name_rule, flag_rule, number_rule, first_rule, wait_rule};
+ghost use Rattle.command_words.specs.CommandLine.{name_rule, flag_rule, number_rule, first_rule, wait_rule, skip_rule};
 ghost use Rattle.command_words.specs.Commands.{HasRule};
 
 use clap::builder::ValueParser;
@@ -35,6 +35,20 @@ pub fn first<'a>(alloc: Global) -> Arg<'a>
         "The most records that are listed; where it is not given, all of them",
     );
     first.hide_default_value(true)
+}
+
+/// The option `--skip`.
+pub fn skip<'a>(alloc: Global) -> Arg<'a>
+    ensures { HasRule skip_rule result }
+{
+    number(
+        alloc,
+        "skip",
+        0,
+        18_446_744_073_709_551_615,
+        "0",
+        "How many lines behind the header are passed over, unread",
+    )
 }
 
 /// The option `--wait`.

@@ -2,7 +2,7 @@
 ghost use Rattle.std.specs.Prelude.{◌≡◌, ℕ, Bool, List, Option, Some, None, IfOk};
 ghost use Rattle.std.specs.Option.{IfSome};
 ghost use Rattle.clap.specs.Words.{Row, found_of, rows_of, subcommand_rows_of};
-ghost use Rattle.command_words.specs.Asks.{AreLimits, IsCheckedRequest, IsQuietRequest, IsWaitRequest, FormText, form_text, IsForm};
+ghost use Rattle.command_words.specs.Asks.{AreLimits, AreLineOptions, IsCheckedRequest, IsQuietRequest, IsWaitRequest, FormText, form_text, IsForm};
 ghost use Rattle.command_words.specs.Asks.{IsRequestMet, IsNoRun};
 ghost use Rattle.command_words.specs.Asks.{IsNoCheck, IsNoServe, IsNoSchema, IsNoExplain, IsNoDeckList};
 ghost use Rattle.command_words.specs.Asks.{IsNoList, IsNoCobol, IsNoLoad, IsNoStat, IsNoRunOrList};
@@ -10,6 +10,7 @@ ghost use Rattle.command_words.specs.Asks.{IsNoSalvage, IsNoRecords, IsNone};
 
 use crate::form_words::FormWords;
 use crate::limits::Limits;
+use crate::line_options::LineOptions;
 use crate::request::Request;
 use clap::ArgMatches;
 use std::alloc::{AllocError, Global};
@@ -209,6 +210,17 @@ fn cobol_of<'a>(matches: &ArgMatches<'a>) -> Option<Request<'a>>
     Some(Request::Cobol { deck, fixed })
 }
 
+/// Which lines of a text are to be loaded.
+fn line_options_of(load: &ArgMatches<'_>) -> Option<LineOptions>
+    ensures some { IfSome result (AreLineOptions (rows_of (found_of load.now))) }
+    ensures none { result ≡ None → (lines : LineOptions)
+        → AreLineOptions (rows_of (found_of load.now)) lines → ⊥ }
+{
+    let skip = load.get_one("skip")?;
+    let keep_going = load.get_one("keep-going")?;
+    Some(LineOptions { skip, keep_going })
+}
+
 /// The load that the matches ask for, if they ask for one.
 fn load_of<'a>(matches: &ArgMatches<'a>) -> Option<Request<'a>>
     ensures some { IfSome result (IsRequestMet (subcommand_rows_of matches.now)) }
@@ -222,6 +234,7 @@ fn load_of<'a>(matches: &ArgMatches<'a>) -> Option<Request<'a>>
     let form = load.get_str("as")?;
     let into = load.get_one("into")?;
     let limits = limits_of(load)?;
+    let lines = line_options_of(load)?;
     let quiet = quiet_of(load)?;
     Some(Request::Load {
         deck,
@@ -231,6 +244,7 @@ fn load_of<'a>(matches: &ArgMatches<'a>) -> Option<Request<'a>>
         form,
         into,
         limits,
+        lines,
         quiet,
     })
 }

@@ -195,6 +195,8 @@ or memory ran out ('cobix: memory')";
 pub const LOADED: &str =
     "TEXT is what 'cobix list' writes in the same form. The lines are read first, and then written one after \
 another, up to the first that is refused.
+With '--keep-going' a line that is no record of this file, or whose WRITE answers 22, is told on standard \
+error, as 'cobix: line L: status 22' or 'cobix: line L: no record of this file', and passed over.
 Without '--into' a file that is there is left as it is, whatever it is.
 
 Forms:
@@ -206,8 +208,9 @@ The columns are the elementary items of the record of NAME, as 'cobix list' has 
 is padded, cut or converted.
 
 Exit status:
-  0   'loaded N': the records of all N lines were written
-  1   'line L: status S': the WRITE of line L answered S; or 'line L: no record of this file'. The lines \
+  0   'loaded N': the records of all N lines were written, but for those that '--skip' passes over
+  1   'loaded N, rejected M': N records were written, and M lines told and passed over ('--keep-going')
+      'line L: status S': the WRITE of line L answered S; or 'line L: no record of this file'. The lines \
 before it were loaded
       'open: status S' or 'close: status S': OPEN or CLOSE answered S
       'cobix: the file is there already': nothing was done

@@ -15,10 +15,12 @@ mod fault;
 mod form_words;
 mod help;
 mod limits;
+mod line_options;
 mod request;
 mod subcommands;
 
 pub use fault::WordsFault;
 pub use form_words::FormWords;
 pub use limits::Limits;
+pub use line_options::LineOptions;
 pub use request::{Request, read_words};

@@ -9,6 +9,7 @@ use crate::asked::request_of;
 use crate::fault::WordsFault;
 use crate::form_words::FormWords;
 use crate::limits::Limits;
+use crate::line_options::LineOptions;
 use crate::subcommands::command;
 use clap::error::ErrorKind;
 use clap::{ArgMatches, Command, Error};
@@ -75,7 +76,8 @@ pub enum Request<'a> {
     },
     /// To write the lines of the text of this path, or of standard input where it is `-`, which are
     /// in this form, as records into the file of this name in the deck in the file of a path: into
-    /// the file that is there, or into a new one; without progress where it is quiet.
+    /// the file that is there, or into a new one; which lines those are, and whether one that is
+    /// rejected ends that; without progress where it is quiet.
     Load {
         deck: &'a str,
         folder: &'a str,
@@ -84,6 +86,7 @@ pub enum Request<'a> {
         form: &'a str,
         into: bool,
         limits: Limits,
+        lines: LineOptions,
         quiet: bool,
     },
     /// What the file of this path has: its pages, its slots, and the levels of its trees.

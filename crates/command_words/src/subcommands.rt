@@ -6,7 +6,7 @@ ghost use Rattle.command_words.specs.Commands.{HasRule, IsApp, HasShape};
 ghost use Rattle.command_words.specs.Commands.{with_files, with_limits, with_checked, with_quiet, with_wait};
 ghost use Rattle.command_words.specs.Commands.{with_deck, with_values, with_bounds, with_form};
 ghost use Rattle.command_words.specs.Commands.{with_file_words};
-ghost use Rattle.command_words.specs.Commands.{with_text};
+ghost use Rattle.command_words.specs.Commands.{with_text, with_line_options};
 ghost use Rattle.command_words.specs.CommandLine.{run_shape, check_shape, serve_shape, schema_shape};
 ghost use Rattle.command_words.specs.CommandLine.{explain_shape, deck_shape, list_shape, cobol_shape};
 ghost use Rattle.command_words.specs.CommandLine.{load_shape, stat_shape, salvage_shape};
@@ -14,7 +14,7 @@ ghost use Rattle.command_words.specs.CommandLine.{versioned_shape, program_shape
 ghost use Rattle.command_words.specs.CommandLine.{lists_app, records_app, loads_app, program_app};
 
 use crate::arguments::{
-    deck, first, flag, folder, name, number, option, text, usual, wait, word, words,
+    deck, first, flag, folder, name, number, option, skip, text, usual, wait, word, words,
 };
 use crate::help::{
     ANSWERS, COBOL, COUNTED, EXPLAINED, LISTED, LOADED, REASONS, RECORDS, SALVAGED, SCHEMA,
@@ -385,6 +385,22 @@ fn with_text<'a>(
     with_argument(formed, into)
 }
 
+/// A load with the options by which it skips lines, and keeps going.
+fn with_line_options<'a>(
+    alloc: Global,
+    load: Result<Command<'a>, AllocError>,
+) -> Result<Command<'a>, AllocError>
+    ensures { (app : App) → IfOk load.entry (IsApp app) → IfOk result (IsApp (with_line_options app)) }
+{
+    let keep_going = flag(
+        alloc,
+        "keep-going",
+        "Tells of a line that is rejected, and goes on behind it",
+    );
+    let skipping = with_argument(load, skip(alloc));
+    with_argument(skipping, keep_going)
+}
+
 /// `load`.
 fn load_command<'a>(alloc: Global) -> Result<Command<'a>, AllocError>
     ensures { IfOk result (HasShape load_shape) }
@@ -396,7 +412,8 @@ fn load_command<'a>(alloc: Global) -> Result<Command<'a>, AllocError>
         LOADED,
     );
     let written = with_text(alloc, with_files(alloc, Ok(load)));
-    with_quiet(alloc, with_limits(alloc, written, "64"))
+    let lined = with_line_options(alloc, written);
+    with_quiet(alloc, with_limits(alloc, lined, "64"))
 }
 
 /// `stat`.

@@ -2,25 +2,28 @@
 use Rattle.std.proofs.Common.{◌≡◌, ℕ, ◌≤◌, ◌-◌, List, [], length, drop, sym, ap, ◌∙◌, arith}
 use Rattle.std.proofs.Math.Seq.{drop-append_seam}
 use Rattle.std.proofs.lemmas.List.{length-append, length-drop}
-use Rattle.deck_entries.specs.FileControlEntry.{FileControlEntry, select_behind}
-use Rattle.deck_parser.specs.Rule.{each_behind, where_it_gives}
+use Rattle.record_layout.specs.Layout.{Entry}
 use Rattle.deck_words.specs.Word.{Word}
-use Rattle.deck_parser.proofs.RestLemmas.{LeavesRest, EndsWith, end_of_end, rest_each, rest_as, steps}
-use Rattle.deck_parser.proofs.LocatedLemmas.{rest_with_line}
-use Rattle.deck_entries.proofs.EntryRestLemmas.{rest_select_behind}
 use Rattle.deck_parser.specs.Operand.{digits}
+use Rattle.deck_parser.specs.Rule.{each_behind, any_behind}
+use Rattle.deck_parser.proofs.RestLemmas.{LeavesRest, EndsWith, end_of_end, rest_each, rest_any, rest_as, steps}
+use Rattle.deck_parser.proofs.LocatedLemmas.{rest_with_line}
+use Rattle.deck_entries.specs.FileControlEntry.{FileControlEntry}
 use Rattle.deck_entries.specs.declared.divisions.Divisions.{Divisions}
-use Rattle.deck_entries.specs.FileDescription.{count, length_clause, description_clause, picture_clause, item, FileDescription, description_behind, storage_item, with_one}
-use Rattle.deck_entries.specs.Divisions.{more_entry, file_control_paragraph, more_description, data_division, SpellsDivisions}
+use Rattle.deck_entries.specs.declared.clauses.Clauses.{Clauses}
+use Rattle.deck_entries.specs.FileDescription.{count, length_clause, label, block, record_clause, description_clause, no_clauses}
+use Rattle.deck_entries.specs.FileDescription.{picture_clause, level, item_name, may_item_name, item, more_item}
+use Rattle.deck_entries.specs.FileDescription.{FileDescription, described_name, description_behind, StorageEntry, storage_item, more_storage}
+use Rattle.deck_entries.specs.Divisions.{more_entry, file_control_paragraph, more_description, storage_section, data_division, SpellsDivisions}
+use Rattle.deck_entries.proofs.EntryRestLemmas.{rest_select_behind}
 
 -- ---- file control
 
 rest_more_entry : (earlier : List FileControlEntry) → LeavesRest (more_entry earlier)
 unfolding more_entry
-rest_more_entry earlier = rest_as _ _ (rest_select_behind earlier)
+rest_more_entry earlier = rest_as _ _ _ (rest_select_behind earlier)
 
-rest_entries : LeavesRest (each_behind (λ earlier. where_it_gives (with_one earlier) (select_behind earlier)) [])
-unfolding more_entry
+rest_entries : LeavesRest (each_behind more_entry [])
 rest_entries = rest_each more_entry rest_more_entry _
 
 rest_file_control : LeavesRest file_control_paragraph
@@ -29,31 +32,43 @@ rest_file_control = search (steps, rest_entries) depth 24
 
 -- ---- file descriptions
 
-rest_description_clause : LeavesRest description_clause
-unfolding description_clause length_clause count digits
-rest_description_clause = search steps depth 24
+rest_description_clause : (said : Clauses) → LeavesRest (description_clause said)
+unfolding description_clause label block record_clause length_clause count digits
+rest_description_clause said = search steps depth 24
+
+rest_clauses : LeavesRest (any_behind description_clause no_clauses)
+rest_clauses = rest_any description_clause rest_description_clause _
 
 rest_picture_clause : LeavesRest picture_clause
 unfolding picture_clause
 rest_picture_clause = search steps depth 24
 
-rest_item : LeavesRest item
-unfolding item
-rest_item = search (steps, rest_picture_clause) depth 24
+rest_more_item : (earlier : List Entry) → LeavesRest (more_item earlier)
+unfolding more_item item level may_item_name item_name
+rest_more_item earlier = search (steps, rest_picture_clause) depth 24
+
+rest_items : LeavesRest (each_behind more_item [])
+rest_items = rest_each more_item rest_more_item _
 
 rest_more_description : (selected : List FileControlEntry) (earlier : List FileDescription) → LeavesRest (more_description selected earlier)
-unfolding more_description description_behind
-rest_more_description selected earlier = search (steps, rest_with_line, rest_description_clause, rest_item) depth 24
+unfolding more_description description_behind described_name
+rest_more_description selected earlier = search (steps, rest_with_line, rest_clauses, rest_items) depth 24
 
-rest_descriptions : (selected : List FileControlEntry) → LeavesRest (each_behind (λ earlier. where_it_gives (with_one earlier) (description_behind selected earlier)) [])
-unfolding more_description
+rest_descriptions : (selected : List FileControlEntry) → LeavesRest (each_behind (more_description selected) [])
 rest_descriptions selected = rest_each (more_description selected) (rest_more_description selected) _
 
 -- ---- data division
 
+rest_more_storage : (earlier : List StorageEntry) → LeavesRest (more_storage earlier)
+unfolding more_storage storage_item
+rest_more_storage earlier = search (steps, rest_with_line, rest_picture_clause) depth 24
+
+rest_storage_items : LeavesRest (any_behind more_storage [])
+rest_storage_items = rest_any more_storage rest_more_storage _
+
 rest_data_division : (selected : List FileControlEntry) → LeavesRest (data_division selected)
-unfolding data_division storage_item
-rest_data_division selected = search (steps, rest_with_line, rest_descriptions, rest_picture_clause) depth 24
+unfolding data_division storage_section
+rest_data_division selected = search (steps, rest_descriptions, rest_storage_items) depth 24
 
 -- ---- both
 

@@ -2,20 +2,24 @@
 -- storage. ANSI X3.23-1985, Nucleus and Indexed I-O modules: identification, environment and data
 -- divisions. Which paragraphs and sections there are is ours.
 use Rattle.std.specs.Prelude.{ℕ, List, [], codes, Option, unwrap_or, option_map, option_and_then}
-use Rattle.deck_parser.specs.Rule.{Rule, optional, onto, where_it_gives, each_behind}
+use Rattle.deck_parser.specs.Rule.{Rule, optional, any_behind, where_it_gives, each_behind, Stop, stop_behind}
 use Rattle.deck_parser.specs.Notation.{the, name, period, ◌▸◌, ◌⊗◌, ◌<$>◌}
 use Rattle.deck_entries.specs.FileControlEntry.{select_behind}
 use Rattle.deck_entries.specs.FileControlEntry.{FileControlEntry}
 use Rattle.deck_words.specs.Word.{Word}
 use Rattle.deck_entries.specs.declared.divisions.Divisions.{Divisions}
 use Rattle.deck_entries.specs.FileDescription.{FileDescription, StorageEntry, description_behind}
-use Rattle.deck_entries.specs.FileDescription.{storage_item, with_one}
+use Rattle.deck_entries.specs.FileDescription.{more_storage, with_one}
 
 -- two words and a period
 abbrev pub division_heading : List ℕ → List ℕ → Rule (Unit {0})
 division_heading first second = the first ▸ the second ▸ period
 
 -- ---- file control
+
+-- the earlier entries, and one more
+unfoldable pub more_entry : List FileControlEntry → Rule (List FileControlEntry)
+more_entry earlier = where_it_gives (with_one earlier) (select_behind earlier)
 
 -- [IDENTIFICATION DIVISION . PROGRAM-ID . name .]
 -- ENVIRONMENT DIVISION . INPUT-OUTPUT SECTION . FILE-CONTROL . {select}..
@@ -25,18 +29,24 @@ file_control_paragraph =
     ▸ the (codes "PROGRAM-ID") ▸ period ▸ name ▸ period)
     ▸ division_heading (codes "ENVIRONMENT") (codes "DIVISION")
     ▸ division_heading (codes "INPUT-OUTPUT") (codes "SECTION")
-    ▸ the (codes "FILE-CONTROL") ▸ period
-    ▸ each_behind (λ earlier. where_it_gives (with_one earlier) (select_behind earlier)) []
+    ▸ the (codes "FILE-CONTROL") ▸ period ▸ each_behind more_entry []
 
 -- ---- data division
+
+-- the earlier descriptions, and one more
+unfoldable pub more_description : List FileControlEntry → List FileDescription → Rule (List FileDescription)
+more_description selected earlier = where_it_gives (with_one earlier) (description_behind selected earlier)
+
+-- [WORKING-STORAGE SECTION . {77 item}..?]
+unfoldable pub storage_section : Rule (List StorageEntry)
+storage_section = (λ said. unwrap_or said []) <$> optional
+    (division_heading (codes "WORKING-STORAGE") (codes "SECTION") ▸ any_behind more_storage [])
 
 -- DATA DIVISION . FILE SECTION . {fd}.. [WORKING-STORAGE SECTION . {77 item}..?]
 unfoldable pub data_division : List FileControlEntry → Rule (List FileDescription × List StorageEntry)
 data_division selected =
     (division_heading (codes "DATA") (codes "DIVISION") ▸ division_heading (codes "FILE") (codes "SECTION")
-    ▸ each_behind (λ earlier. where_it_gives (with_one earlier) (description_behind selected earlier)) [])
-    ⊗ ((λ said. unwrap_or said []) <$> optional
-    (division_heading (codes "WORKING-STORAGE") (codes "SECTION") ▸ onto with_one [] storage_item))
+    ▸ each_behind (more_description selected) []) ⊗ storage_section
 
 -- ---- both
 
@@ -58,17 +68,7 @@ reads_divisions words =
       b.1,
     )) ((data_division a.0).reads a.1)) (file_control_paragraph.reads words)
 
--- ---- parts of these rules, for the contracts of the functions that read them
-
--- the earlier entries, and one more
-unfoldable pub more_entry : List FileControlEntry → Rule (List FileControlEntry)
-more_entry earlier = where_it_gives (with_one earlier) (select_behind earlier)
-
--- the earlier descriptions, and one more
-unfoldable pub more_description : List FileControlEntry → List FileDescription → Rule (List FileDescription)
-more_description selected earlier = where_it_gives (with_one earlier) (description_behind selected earlier)
-
--- [WORKING-STORAGE SECTION . {77 item}..?]
-unfoldable pub storage_section : Rule (List StorageEntry)
-storage_section = (λ said. unwrap_or said []) <$> optional
-    (division_heading (codes "WORKING-STORAGE") (codes "SECTION") ▸ onto with_one [] storage_item)
+-- where the reading stops of words of which nothing is read
+abbrev pub divisions_stop : List Word → Stop
+divisions_stop words = stop_behind (file_control_paragraph.reads words) (file_control_paragraph.stops words)
+    (λ a. (data_division a.0).stops a.1)

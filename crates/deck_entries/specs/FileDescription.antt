@@ -1,6 +1,7 @@
 -- File description entries, their items, and the items of the working storage. ANSI X3.23-1985,
 -- Indexed I-O module, file description entry, and Nucleus module, data description entry. Which
--- clauses there are is ours.
+-- clauses there are, and the codes, is ours: 2 for a number that is no level, 3 for a file without an
+-- entry, 4 for what stands a second time.
 use Rattle.std.specs.Prelude.{ℕ, Bool, true, false, not, ◌&&◌, List, [], ◌∷◌, ◌++◌, nat_le, if◌then◌else◌}
 use Rattle.std.specs.Prelude.{unwrap_or, codes, Option, Some, None, is_some}
 use Rattle.std.specs.List.{list_any}
@@ -10,7 +11,8 @@ use Rattle.record_layout.specs.Picture.{number}
 use Rattle.record_layout.specs.Reading.{capped_size}
 use Rattle.deck_parser.specs.Class.{levels, pictures}
 use Rattle.deck_parser.specs.Located.{with_line}
-use Rattle.deck_parser.specs.Rule.{Rule, one, optional, onto, some_onto, where_it_gives}
+use Rattle.deck_parser.specs.Rule.{Rule, one, optional, each_behind, any_behind, unless_barred, where_it_gives}
+use Rattle.deck_parser.specs.Rule.{where_it_gives_or}
 use Rattle.deck_parser.specs.Operand.{digits}
 use Rattle.deck_parser.specs.Notation.{the, name, period, ◌▸◌, ◌◂◌, ◌⊗◌, ◌∣◌, ◌<$>◌, may}
 use Rattle.deck_entries.specs.FileControlEntry.{FileControlEntry, is_selected}
@@ -26,11 +28,6 @@ count = (λ text. capped_size (number text)) <$> digits
 
 -- ---- clauses of a file description
 
-pub data DescriptionClause : Type 0 where
-  Label : DescriptionClause
-  Block : DescriptionClause
-  Record : RecordLength → DescriptionClause
-
 -- [IS] VARYING [IN] [SIZE] [FROM] number TO number [CHARACTERS] DEPENDING [ON] name
 -- [CONTAINS] number [CHARACTERS]
 unfoldable pub length_clause : Rule RecordLength
@@ -41,23 +38,29 @@ length_clause =
     ⊗ (may (codes "CHARACTERS") ▸ the (codes "DEPENDING") ▸ may (codes "ON") ▸ name))
     ∣ (Fixed <$> may (codes "CONTAINS") ▸ count ◂ may (codes "CHARACTERS"))
 
--- LABEL (RECORD | RECORDS) [IS | ARE] (STANDARD | OMITTED)
--- BLOCK [CONTAINS] number [TO number] [RECORDS | CHARACTERS]
--- RECORD ([IS] VARYING .. | [CONTAINS] ..)
-unfoldable pub description_clause : Rule DescriptionClause
-description_clause =
-    ((λ _. Label) <$> the (codes "LABEL") ▸ (the (codes "RECORD") ∣ the (codes "RECORDS"))
-    ▸ optional (the (codes "IS") ∣ the (codes "ARE")) ▸ (the (codes "STANDARD") ∣ the (codes "OMITTED")))
-    ∣ ((λ _. Block) <$> the (codes "BLOCK") ▸ may (codes "CONTAINS") ▸ count
-    ▸ optional (the (codes "TO") ▸ count) ▸ optional (the (codes "RECORDS") ∣ the (codes "CHARACTERS")))
-    ∣ (Record <$> the (codes "RECORD") ▸ length_clause)
+abbrev pub no_clauses : Clauses
+no_clauses = record { label = false; block = false; lengths = None }
 
--- with one clause more, unless it is one a second time
-abbrev pub with_clause : Clauses → DescriptionClause → Option Clauses
-with_clause clauses Label = if clauses.label then None else Some (record clauses { label = true })
-with_clause clauses Block = if clauses.block then None else Some (record clauses { block = true })
-with_clause clauses (Record said) = if is_some clauses.lengths then None else Some
-    (record clauses { lengths = Some said })
+-- LABEL (RECORD | RECORDS) [IS | ARE] (STANDARD | OMITTED)
+unfoldable pub label : Clauses → Rule Clauses
+label said = unless_barred said.label 4 ((λ _. record said { label = true })
+    <$> the (codes "LABEL") ▸ (the (codes "RECORD") ∣ the (codes "RECORDS"))
+    ▸ optional (the (codes "IS") ∣ the (codes "ARE")) ▸ (the (codes "STANDARD") ∣ the (codes "OMITTED")))
+
+-- BLOCK [CONTAINS] number [TO number] [RECORDS | CHARACTERS]
+unfoldable pub block : Clauses → Rule Clauses
+block said = unless_barred said.block 4 ((λ _. record said { block = true })
+    <$> the (codes "BLOCK") ▸ may (codes "CONTAINS") ▸ count
+    ▸ optional (the (codes "TO") ▸ count) ▸ optional (the (codes "RECORDS") ∣ the (codes "CHARACTERS")))
+
+-- RECORD ([IS] VARYING .. | [CONTAINS] ..)
+unfoldable pub record_clause : Clauses → Rule Clauses
+record_clause said = unless_barred (is_some said.lengths) 4 ((λ lengths. record said { lengths = Some lengths })
+    <$> the (codes "RECORD") ▸ length_clause)
+
+-- one of these, beside those that there are; each stands once at most
+unfoldable pub description_clause : Clauses → Rule Clauses
+description_clause said = label said ∣ block said ∣ record_clause said
 
 -- ---- items
 
@@ -65,17 +68,33 @@ with_clause clauses (Record said) = if is_some clauses.lengths then None else So
 unfoldable pub picture_clause : Rule (List ℕ)
 picture_clause = (the (codes "PIC") ∣ the (codes "PICTURE")) ▸ may (codes "IS") ▸ one pictures
 
--- number [name | FILLER] [(PIC | PICTURE) [IS] picture] . ; the number is at most 99, FILLER is no name
+-- a number of one or two digits, which is at most 99
+unfoldable pub level : Rule ℕ
+level = where_it_gives_or (λ _. 2)
+    (λ text. if nat_le (number text) 99 then Some (number text) else None) (one levels)
+
+-- name | FILLER, which is no name
+unfoldable pub item_name : Rule (Option (List ℕ))
+item_name = (Some <$> name) ∣ ((λ _. None) <$> the (codes "FILLER"))
+
+-- the name that is said, if any
+unfoldable pub may_item_name : Rule (Option (List ℕ))
+may_item_name = (λ said. unwrap_or said None) <$> optional item_name
+
+-- number [name | FILLER] [(PIC | PICTURE) [IS] picture] .
 unfoldable pub item : Rule Entry
 item =
-    (λ (said : ℕ × (Option (Option (List ℕ)) × Option (List ℕ))).
-    record { level = said.0; name = unwrap_or said.1.0 None; picture = said.1.1 })
-    <$> where_it_gives (λ text. if nat_le (number text) 99 then Some (number text) else None) (one levels)
-    ⊗ optional ((Some <$> name) ∣ ((λ _. None) <$> the (codes "FILLER"))) ⊗ optional picture_clause ◂ period
+    (λ (said : ℕ × (Option (List ℕ) × Option (List ℕ))).
+    record { level = said.0; name = said.1.0; picture = said.1.1 })
+    <$> level ⊗ may_item_name ⊗ optional picture_clause ◂ period
 
 -- with one more at the end
 abbrev pub with_one : {A : Type 0} → List A → A → Option (List A)
 with_one xs x = Some (xs ++ x ∷ [])
+
+-- the earlier items, and one more
+unfoldable pub more_item : List Entry → Rule (List Entry)
+more_item earlier = where_it_gives (with_one earlier) item
 
 -- ---- file descriptions
 
@@ -86,15 +105,22 @@ pub record FileDescription : Type 0 where
   pub lengths : Option RecordLength
   pub items : List Entry
 
--- FD name {clause}..? . {item}.. ; the name is that of an entry, and of no earlier description
+abbrev pub is_described : List FileDescription → List ℕ → Bool
+is_described earlier name = list_any (λ description. bytes_eq description.name name) earlier
+
+-- the name of an entry that no earlier description has
+unfoldable pub described_name : List FileControlEntry → List FileDescription → Rule (List ℕ)
+described_name entries earlier =
+    where_it_gives_or (λ text. if is_selected entries text then 4 else 3) (λ text. if is_selected entries text
+    && not (is_described earlier text) then Some text else None) name
+
+-- FD name {clause}..? . {item}..
 unfoldable pub description_behind : List FileControlEntry → List FileDescription → Rule FileDescription
 description_behind entries earlier =
     (λ (said : ℕ × (List ℕ × (Clauses × List Entry))).
     record { line = said.0; name = said.1.0; lengths = said.1.1.0.lengths; items = said.1.1.1 })
-    <$> with_line (the (codes "FD") ▸ where_it_gives (λ text. if is_selected entries text
-    && not (list_any (λ description. bytes_eq description.name text) earlier) then Some text else None) name
-    ⊗ onto with_clause (record { label = false; block = false; lengths = None }) description_clause
-    ⊗ (period ▸ some_onto with_one [] item))
+    <$> with_line (the (codes "FD") ▸ described_name entries earlier
+    ⊗ any_behind description_clause no_clauses ⊗ (period ▸ each_behind more_item []))
 
 -- ---- working storage
 
@@ -110,48 +136,6 @@ storage_item =
     (λ (said : ℕ × (List ℕ × List ℕ)). record { line = said.0; name = said.1.0; picture = said.1.1 })
     <$> with_line (the (codes "77") ▸ name ⊗ picture_clause ◂ period)
 
--- ---- parts of these rules, for the contracts of the functions that read them
-
-abbrev pub no_clauses : Clauses
-no_clauses = record { label = false; block = false; lengths = None }
-
--- LABEL (RECORD | RECORDS) [IS | ARE] (STANDARD | OMITTED)
-unfoldable pub label : Rule DescriptionClause
-label =
-    (λ _. Label) <$> the (codes "LABEL") ▸ (the (codes "RECORD") ∣ the (codes "RECORDS"))
-    ▸ optional (the (codes "IS") ∣ the (codes "ARE")) ▸ (the (codes "STANDARD") ∣ the (codes "OMITTED"))
-
--- BLOCK [CONTAINS] number [TO number] [RECORDS | CHARACTERS]
-unfoldable pub block : Rule DescriptionClause
-block =
-    (λ _. Block) <$> the (codes "BLOCK") ▸ may (codes "CONTAINS") ▸ count
-    ▸ optional (the (codes "TO") ▸ count) ▸ optional (the (codes "RECORDS") ∣ the (codes "CHARACTERS"))
-
--- RECORD [CONTAINS] .. | RECORD [IS] VARYING ..
-unfoldable pub record_clause : Rule DescriptionClause
-record_clause = Record <$> the (codes "RECORD") ▸ length_clause
-
--- the clause of a rule, beside these
-abbrev pub added_to : Clauses → Rule DescriptionClause → Rule Clauses
-added_to clauses rule = where_it_gives (with_clause clauses) rule
-
--- the number of one or two digits
-unfoldable pub level : Rule ℕ
-level = where_it_gives (λ text. if nat_le (number text) 99 then Some (number text) else None) (one levels)
-
--- FILLER is no name
-unfoldable pub item_name : Rule (Option (List ℕ))
-item_name = ((λ n. Some n) <$> name) ∣ ((λ _. None) <$> the (codes "FILLER"))
-
--- the name that is said, if any
-unfoldable pub may_item_name : Rule (Option (List ℕ))
-may_item_name = (λ said. unwrap_or said None) <$> optional item_name
-
-abbrev pub is_described : List FileDescription → List ℕ → Bool
-is_described earlier name = list_any (λ description. bytes_eq description.name name) earlier
-
--- the name of an entry that no earlier description has
-unfoldable pub described_name : List FileControlEntry → List FileDescription → Rule (List ℕ)
-described_name entries earlier =
-    where_it_gives (λ text. if is_selected entries text
-    && not (is_described earlier text) then Some text else None) name
+-- the earlier items, and one more
+unfoldable pub more_storage : List StorageEntry → Rule (List StorageEntry)
+more_storage earlier = where_it_gives (with_one earlier) storage_item

@@ -1,11 +1,11 @@
 //! The clauses of a file description.
 ghost use Rattle.std.specs.Prelude.{◌≡◌};
 ghost use Rattle.deck_parser.specs.Class.{begins};
-ghost use Rattle.deck_parser.specs.Rule.{onto};
-ghost use Rattle.deck_parser.specs.Reading.{Reads};
+ghost use Rattle.deck_parser.specs.Rule.{any_behind};
+ghost use Rattle.deck_parser.specs.Reading.{ReadsRule};
 ghost use Rattle.deck_entries.specs.FileDescription.{label as label_clause, block as block_clause};
-ghost use Rattle.deck_entries.specs.FileDescription.{record_clause, description_clause};
-ghost use Rattle.deck_entries.specs.FileDescription.{no_clauses, with_clause, added_to};
+ghost use Rattle.deck_entries.specs.FileDescription.{record_clause, description_clause, no_clauses};
+ghost use Rattle.deck_entries.specs.declared.clauses.Clauses.{Clauses as Said};
 
 use crate::record_length::{RecordLength, count, length_clause};
 use crate::words::{eat_one, expect_one};
@@ -28,13 +28,13 @@ struct ClauseLines {
     lengths: u64,
 }
 
-#[tactic(auto, unfolding(crate::specs::FileDescription::label), using(deck_parser::proofs::RepeatLemmas::never_added))]
+#[tactic(auto, unfolding(crate::specs::FileDescription::label))]
 fn label(
     parser: &mut Parser<'_>,
     clauses: Clauses,
     lines: &mut ClauseLines,
 ) -> Result<Clauses, Refusal>
-    ensures { Reads ((added_to clauses label_clause).reads parser.old) result parser.new }
+    ensures { ReadsRule (label_clause clauses) parser.old result parser.new }
 {
     if clauses.label {
         return Err(parser.fault(Cause::Twice(Twice::Clause(lines.label))));
@@ -49,13 +49,13 @@ fn label(
     Ok(clauses)
 }
 
-#[tactic(auto, unfolding(crate::specs::FileDescription::block, deck_parser::specs::Notation::the), using(deck_parser::proofs::RepeatLemmas::never_added))]
+#[tactic(auto, unfolding(crate::specs::FileDescription::block, deck_parser::specs::Notation::the))]
 fn block(
     parser: &mut Parser<'_>,
     clauses: Clauses,
     lines: &mut ClauseLines,
 ) -> Result<Clauses, Refusal>
-    ensures { Reads ((added_to clauses block_clause).reads parser.old) result parser.new }
+    ensures { ReadsRule (block_clause clauses) parser.old result parser.new }
 {
     if clauses.block {
         return Err(parser.fault(Cause::Twice(Twice::Clause(lines.block))));
@@ -73,13 +73,13 @@ fn block(
     Ok(clauses)
 }
 
-#[tactic(auto, unfolding(crate::specs::FileDescription::record_clause), using(deck_parser::proofs::RepeatLemmas::never_added))]
+#[tactic(auto, unfolding(crate::specs::FileDescription::record_clause))]
 fn record_clause(
     parser: &mut Parser<'_>,
     clauses: Clauses,
     lines: &mut ClauseLines,
 ) -> Result<Clauses, Refusal>
-    ensures { Reads ((added_to clauses record_clause).reads parser.old) result parser.new }
+    ensures { ReadsRule (record_clause clauses) parser.old result parser.new }
 {
     if clauses.lengths.is_some() {
         return Err(parser.fault(Cause::Twice(Twice::Clause(lines.lengths))));
@@ -92,9 +92,9 @@ fn record_clause(
 }
 
 /// Whether a clause comes next.
-#[tactic(auto, unfolding(crate::specs::FileDescription::description_clause, deck_parser::specs::Notation::the))]
+#[tactic(auto, unfolding(crate::specs::FileDescription::description_clause, crate::specs::FileDescription::label, crate::specs::FileDescription::block, crate::specs::FileDescription::record_clause, deck_parser::specs::Notation::the))]
 fn sees_clause(parser: &Parser<'_>) -> bool
-    ensures { result ≡ begins description_clause.starts parser.now }
+    ensures { (said : Said) → result ≡ begins (description_clause said).starts parser.now }
 {
     parser.sees_one_of(&[b"LABEL", b"BLOCK", b"RECORD"])
 }
@@ -104,7 +104,7 @@ fn clause(
     clauses: Clauses,
     lines: &mut ClauseLines,
 ) -> Result<Clauses, Refusal>
-    ensures { Reads ((added_to clauses description_clause).reads parser.old) result parser.new }
+    ensures { ReadsRule (description_clause clauses) parser.old result parser.new }
 {
     if parser.sees(b"LABEL") {
         return label(parser, clauses, lines);
@@ -117,7 +117,7 @@ fn clause(
 
 /// The clauses that come next, if any.
 pub fn read_clauses(parser: &mut Parser<'_>) -> Result<Clauses, Refusal>
-    ensures { Reads ((onto with_clause no_clauses description_clause).reads parser.old) result parser.new }
+    ensures { ReadsRule (any_behind description_clause no_clauses) parser.old result parser.new }
 {
     let mut clauses = Clauses {
         label: false,

@@ -2,7 +2,7 @@
 ghost use Rattle.std.specs.Prelude.{◌≡◌, []};
 ghost use Rattle.deck_parser.specs.Class.{begins};
 ghost use Rattle.deck_parser.specs.Rule.{each_behind};
-ghost use Rattle.deck_parser.specs.Reading.{Reads, ReadsAs};
+ghost use Rattle.deck_parser.specs.Reading.{ReadsAs, ReadsRule, Stops};
 ghost use Rattle.deck_entries.specs.FileDescription.{is_described, described_name, description_behind};
 ghost use Rattle.deck_entries.specs.Divisions.{more_description};
 
@@ -123,8 +123,9 @@ fn described_name(
     entries: &[Selected],
     earlier: &[Described],
 ) -> Result<Name, Refusal>
-    ensures { ReadsAs (λ name. name.bytes) (described_name entries.now earlier.now) parser.old result
+    ensures reads { ReadsAs (λ name. name.bytes) (described_name entries.now earlier.now) parser.old result
         parser.new }
+    ensures stops { Stops (described_name entries.now earlier.now) parser.old result }
 {
     let place = parser.place();
     let name = parser.name(NameOf::File)?;
@@ -145,7 +146,7 @@ fn description(
     entries: &[Selected],
     earlier: &[Described],
 ) -> Result<Described, Refusal>
-    ensures { Reads ((description_behind entries.now earlier.now).reads parser.old) result parser.new }
+    ensures { ReadsRule (description_behind entries.now earlier.now) parser.old result parser.new }
 {
     let place = parser.word_place();
     parser.expect(b"FD")?;
@@ -176,7 +177,7 @@ fn one_more(
     entries: &[Selected],
     earlier: Descriptions,
 ) -> Result<Descriptions, Refusal>
-    ensures { Reads ((more_description entries.now earlier).reads parser.old) result parser.new }
+    ensures { ReadsRule (more_description entries.now earlier) parser.old result parser.new }
 {
     let description = description(parser, alloc, entries, earlier.as_slice())?;
     let mut descriptions = earlier;
@@ -198,7 +199,7 @@ pub fn read_descriptions(
     alloc: Global,
     entries: &[Selected],
 ) -> Result<Descriptions, Refusal>
-    ensures { Reads ((each_behind (more_description entries.now) []).reads parser.old) result parser.new }
+    ensures { ReadsRule (each_behind (more_description entries.now) []) parser.old result parser.new }
 {
     let mut read = one_more(parser, alloc, entries, Descriptions::new(alloc))?;
     'more: while sees_description(parser, entries, &read) {

@@ -1,11 +1,11 @@
 //! The divisions before the procedure.
-ghost use Rattle.std.specs.Prelude.{◌≡◌, [], codes};
+ghost use Rattle.std.specs.Prelude.{◌≡◌, [], codes, IfErr};
 ghost use Rattle.deck_parser.specs.Class.{begins};
 ghost use Rattle.deck_parser.specs.Rule.{optional, each_behind};
 ghost use Rattle.deck_parser.specs.Notation.{the, name, period, ◌▸◌, eaten};
-ghost use Rattle.deck_parser.specs.Reading.{Reads, ReadsAs};
+ghost use Rattle.deck_parser.specs.Reading.{Reads, ReadsAs, ReadsRule, Stops, TellsStop};
 ghost use Rattle.deck_entries.specs.Divisions.{division_heading, more_entry};
-ghost use Rattle.deck_entries.specs.Divisions.{file_control_paragraph, reads_divisions};
+ghost use Rattle.deck_entries.specs.Divisions.{file_control_paragraph, reads_divisions, divisions_stop};
 
 use crate::description_entry::{Descriptions, read_descriptions};
 use crate::entry::Selected;
@@ -69,8 +69,10 @@ impl Entries {
 /// The identification division, if it comes next: whether it did.
 #[tactic(auto, unfolding(deck_parser::specs::Notation::the, deck_parser::specs::Notation::name))]
 fn may_identification(parser: &mut Parser<'_>) -> Result<bool, Refusal>
-    ensures { ReadsAs eaten (optional (division_heading (codes "IDENTIFICATION") (codes "DIVISION")
+    ensures reads { ReadsAs eaten (optional (division_heading (codes "IDENTIFICATION") (codes "DIVISION")
         ▸ the (codes "PROGRAM-ID") ▸ period ▸ name ▸ period)) parser.old result parser.new }
+    ensures stops { Stops (optional (division_heading (codes "IDENTIFICATION") (codes "DIVISION")
+        ▸ the (codes "PROGRAM-ID") ▸ period ▸ name ▸ period)) parser.old result }
 {
     if parser.sees(b"IDENTIFICATION") {
         heading(parser, b"IDENTIFICATION", b"DIVISION")?;
@@ -86,7 +88,7 @@ fn may_identification(parser: &mut Parser<'_>) -> Result<bool, Refusal>
 /// The entries with the next one.
 #[tactic(auto, unfolding(crate::specs::Divisions::more_entry))]
 fn one_more(parser: &mut Parser<'_>, alloc: Global, earlier: Entries) -> Result<Entries, Refusal>
-    ensures { Reads ((more_entry earlier).reads parser.old) result parser.new }
+    ensures { ReadsRule (more_entry earlier) parser.old result parser.new }
 {
     let selected = select(parser, alloc, earlier.as_slice())?;
     let mut entries = earlier;
@@ -95,7 +97,7 @@ fn one_more(parser: &mut Parser<'_>, alloc: Global, earlier: Entries) -> Result<
 }
 
 /// Whether an entry comes next.
-#[tactic(auto, unfolding(crate::specs::Divisions::more_entry, crate::specs::FileControlEntry::select_behind, deck_parser::specs::Notation::the))]
+#[tactic(auto, unfolding(crate::specs::Divisions::more_entry, crate::specs::FileControlEntry::select_behind, crate::specs::FileControlEntry::select_word, deck_parser::specs::Notation::the))]
 fn sees_entry(parser: &Parser<'_>, earlier: &Entries) -> bool
     ensures { result ≡ begins (more_entry earlier.now).starts parser.now }
 {
@@ -104,7 +106,7 @@ fn sees_entry(parser: &Parser<'_>, earlier: &Entries) -> bool
 
 /// One entry or more.
 fn read_entries(parser: &mut Parser<'_>, alloc: Global) -> Result<Entries, Refusal>
-    ensures { Reads ((each_behind more_entry []).reads parser.old) result parser.new }
+    ensures { ReadsRule (each_behind more_entry []) parser.old result parser.new }
 {
     let mut read = one_more(parser, alloc, Entries::new(alloc))?;
     'more: while sees_entry(parser, &read) {
@@ -114,9 +116,9 @@ fn read_entries(parser: &mut Parser<'_>, alloc: Global) -> Result<Entries, Refus
 }
 
 /// The divisions up to the file control entries.
-#[tactic(auto, unfolding(crate::specs::Divisions::file_control_paragraph, crate::specs::Divisions::more_entry))]
+#[tactic(auto, unfolding(crate::specs::Divisions::file_control_paragraph))]
 pub fn read_file_control(parser: &mut Parser<'_>, alloc: Global) -> Result<Entries, Refusal>
-    ensures { Reads (file_control_paragraph.reads parser.old) result parser.new }
+    ensures { ReadsRule file_control_paragraph parser.old result parser.new }
 {
     may_identification(parser)?;
     heading(parser, b"ENVIRONMENT", b"DIVISION")?;
@@ -128,9 +130,10 @@ pub fn read_file_control(parser: &mut Parser<'_>, alloc: Global) -> Result<Entri
 }
 
 /// The divisions before the procedure.
-#[tactic(auto, unfolding(crate::specs::Divisions::data_division, crate::specs::Divisions::more_description, crate::specs::Divisions::storage_section))]
+#[tactic(auto, unfolding(crate::specs::Divisions::data_division))]
 pub fn read_divisions(parser: &mut Parser<'_>, alloc: Global) -> Result<Divisions, Refusal>
-    ensures { Reads (reads_divisions parser.old) result parser.new }
+    ensures reads { Reads (reads_divisions parser.old) result parser.new }
+    ensures stops { IfErr result (TellsStop (divisions_stop parser.old)) }
 {
     let entries = read_file_control(parser, alloc)?;
     heading(parser, b"DATA", b"DIVISION")?;

@@ -1,9 +1,5 @@
 //! A file control entry: SELECT, ASSIGN, and the clauses of an indexed file.
-ghost use Rattle.std.specs.Prelude.{◌≡◌};
-ghost use Rattle.deck_entries.specs.FileControlEntry.{no_clauses, control_entry_of};
-ghost use Rattle.deck_parser.specs.Reading.{Makes};
-
-use deck_words::{Cause, Expected, Refusal, WordPlace};
+use deck_words::WordPlace;
 use io_state::{Access, FileName, Name};
 use std::alloc::{AllocError, Global};
 use std::marker::Model;
@@ -157,9 +153,8 @@ impl Model for Clauses {
 }
 
 impl Clauses {
-    ghost use Rattle.std.specs.Prelude.{◌≡◌};
-    ghost use Rattle.deck_entries.specs.FileControlEntry.{no_clauses, control_entry_of};
-    ghost use Rattle.deck_parser.specs.Reading.{Makes};
+    ghost use Rattle.std.specs.Prelude.{◌≡◌, true};
+    ghost use Rattle.deck_entries.specs.FileControlEntry.{no_clauses, entry_keys_of};
 
     pub fn new(alloc: Global) -> Self
         ensures { result ≡ no_clauses }
@@ -179,39 +174,85 @@ impl Clauses {
         }
     }
 
-    /// The entry that the clauses make, unless INDEXED or RECORD KEY is missing, which is told of its end.
-    pub fn entry(
-        self,
-        place: WordPlace,
-        optional: bool,
-        name: Name,
-        file_name: FileName,
-        end: WordPlace,
-    ) -> Result<FileControlEntry, Refusal>
-        ensures { Makes (control_entry_of (place.line, (optional, (name.bytes, (file_name.bytes, self))))) result }
+    /// What the clauses of a whole entry say, if INDEXED and RECORD KEY stand in it.
+    pub fn keys(self) -> Option<EntryKeys>
+        requires { self.indexed ≡ true }
+        ensures { result ≡ entry_keys_of self }
     {
         let Clauses {
-            indexed,
+            indexed: _,
             access,
             record_key,
             alternate_keys,
             status: _,
             lines: _,
         } = self;
-        if !indexed {
-            return Err(end.fault(Cause::Expected(Expected::Indexed)));
-        }
         let Some(record_key) = record_key else {
-            return Err(end.fault(Cause::Expected(Expected::RecordKey)));
+            return None;
         };
-        Ok(FileControlEntry {
-            place,
-            name,
-            file_name,
-            optional,
+        Some(EntryKeys {
             access: access.unwrap_or(Access::Sequential),
             record_key,
             alternate_keys,
         })
+    }
+}
+
+/// What the clauses of a whole entry say: the access mode and the keys. Contracts see the key's name
+/// as its bytes.
+#[derive(Drop)]
+pub struct EntryKeys {
+    pub access: Access,
+    pub record_key: Name,
+    pub alternate_keys: AlternateKeys,
+}
+
+impl Model for EntryKeys {
+    ghost use Rattle.deck_entries.specs.FileControlEntry.{EntryKeys as Said};
+
+    ghost Value = { Said };
+
+    ghost view = { λ keys. record {
+      access = keys.access;
+      record_key = keys.record_key.bytes;
+      alternate_keys = keys.alternate_keys;
+    } };
+}
+
+impl EntryKeys {
+    ghost use Rattle.std.specs.Prelude.{◌≡◌};
+
+    /// The entry of a file with these keys.
+    pub fn entry(
+        self,
+        place: WordPlace,
+        optional: bool,
+        name: Name,
+        file_name: FileName,
+    ) -> FileControlEntry
+        ensures { result ≡ record {
+          line = place.line;
+          name = name.bytes;
+          file_name = file_name.bytes;
+          optional = optional;
+          access = self.access;
+          record_key = self.record_key;
+          alternate_keys = self.alternate_keys;
+        } }
+    {
+        let EntryKeys {
+            access,
+            record_key,
+            alternate_keys,
+        } = self;
+        FileControlEntry {
+            place,
+            name,
+            file_name,
+            optional,
+            access,
+            record_key,
+            alternate_keys,
+        }
     }
 }

@@ -1,11 +1,11 @@
 //! The items of a record, as they are described.
-ghost use Rattle.std.specs.Prelude.{◌≡◌, [], option_map};
-ghost use Rattle.record_layout.specs.Layout.{entry_of_item};
+ghost use Rattle.std.specs.Prelude.{◌≡◌, List, [], option_map};
+ghost use Rattle.record_layout.specs.Layout.{Entry, entry_of_item};
 ghost use Rattle.deck_parser.specs.Class.{begins};
-ghost use Rattle.deck_parser.specs.Rule.{optional, some_onto, where_it_gives};
-ghost use Rattle.deck_parser.specs.Reading.{Reads, ReadsAs};
+ghost use Rattle.deck_parser.specs.Rule.{optional, each_behind};
+ghost use Rattle.deck_parser.specs.Reading.{ReadsAs, ReadsRule, Stops};
 ghost use Rattle.deck_entries.specs.FileDescription.{level, item_name, may_item_name, picture_clause};
-ghost use Rattle.deck_entries.specs.FileDescription.{item, with_one};
+ghost use Rattle.deck_entries.specs.FileDescription.{item, more_item};
 
 use crate::record_length::number_of;
 use crate::words::expect_one;
@@ -70,7 +70,7 @@ impl Items {
 
 #[tactic(auto, unfolding(crate::specs::FileDescription::level))]
 fn level(parser: &mut Parser<'_>) -> Result<u8, Refusal>
-    ensures { Reads (level.reads parser.old) result parser.new }
+    ensures { ReadsRule level parser.old result parser.new }
 {
     let place = parser.place();
     let digits = parser.level()?;
@@ -83,7 +83,8 @@ fn level(parser: &mut Parser<'_>) -> Result<u8, Refusal>
 
 #[tactic(auto, unfolding(crate::specs::FileDescription::item_name, deck_parser::specs::Notation::the, deck_parser::specs::Notation::name))]
 fn item_name(parser: &mut Parser<'_>) -> Result<Option<Name>, Refusal>
-    ensures { ReadsAs (option_map (λ name. name.bytes)) item_name parser.old result parser.new }
+    ensures reads { ReadsAs (option_map (λ name. name.bytes)) item_name parser.old result parser.new }
+    ensures stops { Stops item_name parser.old result }
 {
     if parser.sees_name(NameOf::Item) {
         let name = parser.name(NameOf::Item)?;
@@ -95,7 +96,8 @@ fn item_name(parser: &mut Parser<'_>) -> Result<Option<Name>, Refusal>
 
 #[tactic(auto, unfolding(crate::specs::FileDescription::may_item_name, crate::specs::FileDescription::item_name, deck_parser::specs::Notation::the, deck_parser::specs::Notation::name))]
 fn may_item_name(parser: &mut Parser<'_>) -> Result<Option<Name>, Refusal>
-    ensures { ReadsAs (option_map (λ name. name.bytes)) may_item_name parser.old result parser.new }
+    ensures reads { ReadsAs (option_map (λ name. name.bytes)) may_item_name parser.old result parser.new }
+    ensures stops { Stops may_item_name parser.old result }
 {
     if parser.sees_name_or(NameOf::Item, b"FILLER") {
         return item_name(parser);
@@ -105,7 +107,8 @@ fn may_item_name(parser: &mut Parser<'_>) -> Result<Option<Name>, Refusal>
 
 #[tactic(auto, unfolding(crate::specs::FileDescription::picture_clause))]
 pub fn picture_clause(parser: &mut Parser<'_>) -> Result<Name, Refusal>
-    ensures { ReadsAs (λ name. name.bytes) picture_clause parser.old result parser.new }
+    ensures reads { ReadsAs (λ name. name.bytes) picture_clause parser.old result parser.new }
+    ensures stops { Stops picture_clause parser.old result }
 {
     expect_one(parser, b"PIC", b"PICTURE")?;
     parser.eat(b"IS");
@@ -114,8 +117,9 @@ pub fn picture_clause(parser: &mut Parser<'_>) -> Result<Name, Refusal>
 
 #[tactic(auto, unfolding(crate::specs::FileDescription::picture_clause, deck_parser::specs::Notation::the))]
 fn may_picture_clause(parser: &mut Parser<'_>) -> Result<Option<Name>, Refusal>
-    ensures { ReadsAs (option_map (λ name. name.bytes)) (optional picture_clause) parser.old result
+    ensures reads { ReadsAs (option_map (λ name. name.bytes)) (optional picture_clause) parser.old result
         parser.new }
+    ensures stops { Stops (optional picture_clause) parser.old result }
 {
     if parser.sees_one_of(&[b"PIC", b"PICTURE"]) {
         let picture = picture_clause(parser)?;
@@ -126,7 +130,8 @@ fn may_picture_clause(parser: &mut Parser<'_>) -> Result<Option<Name>, Refusal>
 
 #[tactic(auto, unfolding(crate::specs::FileDescription::item, crate::specs::FileDescription::level, crate::specs::FileDescription::may_item_name, crate::specs::FileDescription::item_name))]
 fn item(parser: &mut Parser<'_>) -> Result<Item, Refusal>
-    ensures { ReadsAs entry_of_item item parser.old result parser.new }
+    ensures reads { ReadsAs entry_of_item item parser.old result parser.new }
+    ensures stops { Stops item parser.old result }
 {
     let level = level(parser)?;
     let name = may_item_name(parser)?;
@@ -140,16 +145,17 @@ fn item(parser: &mut Parser<'_>) -> Result<Item, Refusal>
 }
 
 /// Whether an item comes next.
-#[tactic(auto, unfolding(crate::specs::FileDescription::item))]
+#[tactic(auto, unfolding(crate::specs::FileDescription::more_item, crate::specs::FileDescription::item, crate::specs::FileDescription::level))]
 fn sees_item(parser: &Parser<'_>) -> bool
-    ensures { result ≡ begins item.starts parser.now }
+    ensures { (earlier : List Entry) → result ≡ begins (more_item earlier).starts parser.now }
 {
     parser.sees_level()
 }
 
 /// The items with the next one.
+#[tactic(auto, unfolding(crate::specs::FileDescription::more_item))]
 fn one_more(parser: &mut Parser<'_>, items: Items) -> Result<Items, Refusal>
-    ensures { Reads ((where_it_gives (with_one items) item).reads parser.old) result parser.new }
+    ensures { ReadsRule (more_item items) parser.old result parser.new }
 {
     let item = item(parser)?;
     let mut items = items;
@@ -159,7 +165,7 @@ fn one_more(parser: &mut Parser<'_>, items: Items) -> Result<Items, Refusal>
 
 /// One item or more.
 pub fn read_items(parser: &mut Parser<'_>, alloc: Global) -> Result<Items, Refusal>
-    ensures { Reads ((some_onto with_one [] item).reads parser.old) result parser.new }
+    ensures { ReadsRule (each_behind more_item []) parser.old result parser.new }
 {
     let mut items = one_more(parser, Items::new(alloc))?;
     'more: while sees_item(parser) {

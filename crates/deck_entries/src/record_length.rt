@@ -2,7 +2,7 @@
 ghost use Rattle.std.specs.Prelude.{◌≡◌};
 ghost use Rattle.record_layout.specs.Picture.{number};
 ghost use Rattle.record_layout.specs.Reading.{capped_size};
-ghost use Rattle.deck_parser.specs.Reading.{Reads};
+ghost use Rattle.deck_parser.specs.Reading.{ReadsRule};
 ghost use Rattle.deck_entries.specs.FileDescription.{count, length_clause};
 
 use deck_parser::Parser;
@@ -62,7 +62,7 @@ pub fn number_of(digits: &[u8]) -> u64
 /// A number of at most 18 digits, counted up to one past the greatest length of a record.
 #[tactic(auto, unfolding(crate::specs::FileDescription::count))]
 pub fn count(parser: &mut Parser<'_>) -> Result<u64, Refusal>
-    ensures { Reads (count.reads parser.old) result parser.new }
+    ensures { ReadsRule count parser.old result parser.new }
 {
     let digits = parser.digits()?;
     Ok(number_of(digits.as_str().as_bytes()))
@@ -71,7 +71,7 @@ pub fn count(parser: &mut Parser<'_>) -> Result<u64, Refusal>
 /// What stands behind RECORD.
 #[tactic(auto, unfolding(crate::specs::FileDescription::length_clause, deck_parser::specs::Notation::the))]
 pub fn length_clause(parser: &mut Parser<'_>) -> Result<RecordLength, Refusal>
-    ensures { Reads (length_clause.reads parser.old) result parser.new }
+    ensures { ReadsRule length_clause parser.old result parser.new }
 {
     if !parser.sees_one_of(&[b"IS", b"VARYING"]) {
         parser.eat(b"CONTAINS");

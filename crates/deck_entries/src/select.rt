@@ -1,17 +1,17 @@
 //! The words of a file control entry.
 ghost use Rattle.std.specs.Prelude.{◌≡◌};
 ghost use Rattle.deck_parser.specs.Class.{begins};
-ghost use Rattle.deck_parser.specs.Rule.{some_onto};
-ghost use Rattle.deck_parser.specs.Reading.{Reads, ReadsAs};
+ghost use Rattle.deck_parser.specs.Rule.{each_behind};
+ghost use Rattle.deck_parser.specs.Reading.{ReadsAs, ReadsRule, Stops};
 ghost use Rattle.deck_entries.specs.FileControlEntry.{indexed, mode, access, record_key};
 ghost use Rattle.deck_entries.specs.FileControlEntry.{duplicates, alternate, status, clause};
-ghost use Rattle.deck_entries.specs.FileControlEntry.{no_clauses, with_clause, added_to, select_behind};
+ghost use Rattle.deck_entries.specs.FileControlEntry.{Clauses, no_clauses, entry_end, entry_keys, select_behind};
 ghost use Rattle.deck_entries.specs.FileControlEntry.{select_word, new_name, new_file_name};
 ghost use Rattle.deck_entries.specs.FileControlEntry.{is_selected, is_assigned};
 
-use crate::entry::{Clauses, Selected};
+use crate::entry::{Clauses, EntryKeys, Selected};
 use deck_parser::Parser;
-use deck_words::{Cause, Limit, NameOf, NotAllowed, Refusal, Twice};
+use deck_words::{Cause, Expected, Limit, NameOf, NotAllowed, Refusal, Twice};
 use io_state::{Access, FileName, Name, file_name_of};
 use std::alloc::Global;
 
@@ -21,9 +21,9 @@ const ALTERNATE_LIMIT: usize = 8;
 /// The most files of a deck.
 const FILE_LIMIT: usize = 8;
 
-#[tactic(auto, unfolding(crate::specs::FileControlEntry::indexed, deck_parser::specs::Notation::the), using(deck_parser::proofs::RepeatLemmas::never_added))]
+#[tactic(auto, unfolding(crate::specs::FileControlEntry::indexed, deck_parser::specs::Notation::the))]
 fn indexed(parser: &mut Parser<'_>, clauses: Clauses) -> Result<Clauses, Refusal>
-    ensures { Reads ((added_to clauses indexed).reads parser.old) result parser.new }
+    ensures { ReadsRule (indexed clauses) parser.old result parser.new }
 {
     if clauses.indexed {
         return Err(parser.fault(Cause::Twice(Twice::Clause(clauses.lines.indexed))));
@@ -41,7 +41,7 @@ fn indexed(parser: &mut Parser<'_>, clauses: Clauses) -> Result<Clauses, Refusal
 
 #[tactic(auto, unfolding(crate::specs::FileControlEntry::mode, deck_parser::specs::Notation::the))]
 fn mode(parser: &mut Parser<'_>) -> Result<Access, Refusal>
-    ensures { Reads (mode.reads parser.old) result parser.new }
+    ensures { ReadsRule mode parser.old result parser.new }
 {
     if parser.eat(b"SEQUENTIAL") {
         return Ok(Access::Sequential);
@@ -53,9 +53,9 @@ fn mode(parser: &mut Parser<'_>) -> Result<Access, Refusal>
     Ok(Access::Dynamic)
 }
 
-#[tactic(auto, unfolding(crate::specs::FileControlEntry::access), using(deck_parser::proofs::RepeatLemmas::never_added))]
+#[tactic(auto, unfolding(crate::specs::FileControlEntry::access))]
 fn access(parser: &mut Parser<'_>, clauses: Clauses) -> Result<Clauses, Refusal>
-    ensures { Reads ((added_to clauses access).reads parser.old) result parser.new }
+    ensures { ReadsRule (access clauses) parser.old result parser.new }
 {
     if clauses.access.is_some() {
         return Err(parser.fault(Cause::Twice(Twice::Clause(clauses.lines.access))));
@@ -70,9 +70,9 @@ fn access(parser: &mut Parser<'_>, clauses: Clauses) -> Result<Clauses, Refusal>
     Ok(clauses)
 }
 
-#[tactic(auto, unfolding(crate::specs::FileControlEntry::record_key), using(deck_parser::proofs::RepeatLemmas::never_added))]
+#[tactic(auto, unfolding(crate::specs::FileControlEntry::record_key))]
 fn record_key(parser: &mut Parser<'_>, clauses: Clauses) -> Result<Clauses, Refusal>
-    ensures { Reads ((added_to clauses record_key).reads parser.old) result parser.new }
+    ensures { ReadsRule (record_key clauses) parser.old result parser.new }
 {
     if clauses.record_key.is_some() {
         return Err(parser.fault(Cause::Twice(Twice::Clause(clauses.lines.record_key))));
@@ -89,9 +89,9 @@ fn record_key(parser: &mut Parser<'_>, clauses: Clauses) -> Result<Clauses, Refu
 
 #[tactic(auto, unfolding(crate::specs::FileControlEntry::duplicates, deck_parser::specs::Notation::the))]
 fn duplicates(parser: &mut Parser<'_>) -> Result<bool, Refusal>
-    ensures { Reads (duplicates.reads parser.old) result parser.new }
+    ensures { ReadsRule duplicates parser.old result parser.new }
 {
-    if parser.sees(b"WITH") || parser.sees(b"DUPLICATES") {
+    if parser.sees_one_of(&[b"WITH", b"DUPLICATES"]) {
         parser.eat(b"WITH");
         parser.expect(b"DUPLICATES")?;
         Ok(true)
@@ -100,9 +100,9 @@ fn duplicates(parser: &mut Parser<'_>) -> Result<bool, Refusal>
     }
 }
 
-#[tactic(auto, unfolding(crate::specs::FileControlEntry::alternate), using(deck_parser::proofs::RepeatLemmas::never_added))]
+#[tactic(auto, unfolding(crate::specs::FileControlEntry::alternate))]
 fn alternate(parser: &mut Parser<'_>, clauses: Clauses) -> Result<Clauses, Refusal>
-    ensures { Reads ((added_to clauses alternate).reads parser.old) result parser.new }
+    ensures { ReadsRule (alternate clauses) parser.old result parser.new }
 {
     if clauses.alternate_keys.len() >= ALTERNATE_LIMIT {
         return Err(parser.fault(Cause::Limit(Limit::AlternateKeys)));
@@ -118,9 +118,9 @@ fn alternate(parser: &mut Parser<'_>, clauses: Clauses) -> Result<Clauses, Refus
     Ok(clauses)
 }
 
-#[tactic(auto, unfolding(crate::specs::FileControlEntry::status), using(deck_parser::proofs::RepeatLemmas::never_added))]
+#[tactic(auto, unfolding(crate::specs::FileControlEntry::status))]
 fn status(parser: &mut Parser<'_>, clauses: Clauses) -> Result<Clauses, Refusal>
-    ensures { Reads ((added_to clauses status).reads parser.old) result parser.new }
+    ensures { ReadsRule (status clauses) parser.old result parser.new }
 {
     if clauses.status {
         return Err(parser.fault(Cause::Twice(Twice::Clause(clauses.lines.status))));
@@ -137,9 +137,9 @@ fn status(parser: &mut Parser<'_>, clauses: Clauses) -> Result<Clauses, Refusal>
 }
 
 /// Whether a clause comes next.
-#[tactic(auto, unfolding(crate::specs::FileControlEntry::clause, deck_parser::specs::Notation::the))]
+#[tactic(auto, unfolding(crate::specs::FileControlEntry::clause, crate::specs::FileControlEntry::indexed, crate::specs::FileControlEntry::access, crate::specs::FileControlEntry::record_key, crate::specs::FileControlEntry::alternate, crate::specs::FileControlEntry::status, deck_parser::specs::Notation::the))]
 fn sees_clause(parser: &Parser<'_>) -> bool
-    ensures { result ≡ begins clause.starts parser.now }
+    ensures { (said : Clauses) → result ≡ begins (clause said).starts parser.now }
 {
     parser.sees_one_of(&[
         b"ORGANIZATION",
@@ -153,7 +153,7 @@ fn sees_clause(parser: &Parser<'_>) -> bool
 }
 
 fn clause(parser: &mut Parser<'_>, clauses: Clauses) -> Result<Clauses, Refusal>
-    ensures { Reads ((added_to clauses clause).reads parser.old) result parser.new }
+    ensures { ReadsRule (clause clauses) parser.old result parser.new }
 {
     if parser.sees_one_of(&[b"ORGANIZATION", b"INDEXED"]) {
         return indexed(parser, clauses);
@@ -172,7 +172,7 @@ fn clause(parser: &mut Parser<'_>, clauses: Clauses) -> Result<Clauses, Refusal>
 
 /// One clause or more.
 fn all_clauses(parser: &mut Parser<'_>, alloc: Global) -> Result<Clauses, Refusal>
-    ensures { Reads ((some_onto with_clause no_clauses clause).reads parser.old) result parser.new }
+    ensures { ReadsRule (each_behind clause no_clauses) parser.old result parser.new }
 {
     let mut clauses = clause(parser, Clauses::new(alloc))?;
     'more: while sees_clause(parser) {
@@ -181,9 +181,34 @@ fn all_clauses(parser: &mut Parser<'_>, alloc: Global) -> Result<Clauses, Refusa
     Ok(clauses)
 }
 
+/// The period, and what the clauses say together, unless INDEXED or RECORD KEY is missing.
+#[tactic(auto, unfolding(crate::specs::FileControlEntry::entry_end))]
+fn entry_end(parser: &mut Parser<'_>, clauses: Clauses) -> Result<EntryKeys, Refusal>
+    ensures { ReadsRule (entry_end clauses) parser.old result parser.new }
+{
+    let end = parser.place();
+    parser.period()?;
+    if !clauses.indexed {
+        return Err(end.fault(Cause::Expected(Expected::Indexed)));
+    }
+    match clauses.keys() {
+        Some(keys) => Ok(keys),
+        None => Err(end.fault(Cause::Expected(Expected::RecordKey))),
+    }
+}
+
+/// The clauses, up to the period.
+#[tactic(auto, unfolding(crate::specs::FileControlEntry::entry_keys))]
+fn entry_keys(parser: &mut Parser<'_>, alloc: Global) -> Result<EntryKeys, Refusal>
+    ensures { ReadsRule entry_keys parser.old result parser.new }
+{
+    let clauses = all_clauses(parser, alloc)?;
+    entry_end(parser, clauses)
+}
+
 #[tactic(auto, unfolding(crate::specs::FileControlEntry::select_word, deck_parser::specs::Notation::the))]
 fn select_word(parser: &mut Parser<'_>, earlier: &[Selected]) -> Result<(), Refusal>
-    ensures { Reads ((select_word earlier.now).reads parser.old) result parser.new }
+    ensures { ReadsRule (select_word earlier.now) parser.old result parser.new }
 {
     let place = parser.place();
     parser.expect(b"SELECT")?;
@@ -196,7 +221,8 @@ fn select_word(parser: &mut Parser<'_>, earlier: &[Selected]) -> Result<(), Refu
 
 #[tactic(auto, unfolding(crate::specs::FileControlEntry::new_name))]
 fn new_name(parser: &mut Parser<'_>, earlier: &[Selected]) -> Result<Name, Refusal>
-    ensures { ReadsAs (λ name. name.bytes) (new_name earlier.now) parser.old result parser.new }
+    ensures reads { ReadsAs (λ name. name.bytes) (new_name earlier.now) parser.old result parser.new }
+    ensures stops { Stops (new_name earlier.now) parser.old result }
 {
     let place = parser.place();
     let name = parser.name(NameOf::File)?;
@@ -215,7 +241,8 @@ fn new_file_name(
     alloc: Global,
     earlier: &[Selected],
 ) -> Result<FileName, Refusal>
-    ensures { ReadsAs (λ name. name.bytes) (new_file_name earlier.now) parser.old result parser.new }
+    ensures reads { ReadsAs (λ name. name.bytes) (new_file_name earlier.now) parser.old result parser.new }
+    ensures stops { Stops (new_file_name earlier.now) parser.old result }
 {
     let place = parser.place();
     let text = parser.literal(alloc)?;
@@ -236,7 +263,7 @@ pub fn select(
     alloc: Global,
     earlier: &[Selected],
 ) -> Result<Selected, Refusal>
-    ensures { Reads ((select_behind earlier.now).reads parser.old) result parser.new }
+    ensures { ReadsRule (select_behind earlier.now) parser.old result parser.new }
 {
     let place = parser.word_place();
     select_word(parser, earlier)?;
@@ -247,14 +274,11 @@ pub fn select(
     parser.eat(b"TO");
     let literal_line = parser.line();
     let file_name = new_file_name(parser, alloc, earlier)?;
-    let clauses = all_clauses(parser, alloc)?;
-    let end = parser.place();
-    parser.period()?;
-    let entry = clauses.entry(place, optional, name, file_name, end)?;
+    let keys = entry_keys(parser, alloc)?;
     Ok(Selected {
         name_line,
         literal_line,
-        entry,
+        entry: keys.entry(place, optional, name, file_name),
     })
 }
 

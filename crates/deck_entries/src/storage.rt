@@ -1,9 +1,9 @@
 //! The items of the working storage.
-ghost use Rattle.std.specs.Prelude.{◌≡◌, []};
+ghost use Rattle.std.specs.Prelude.{◌≡◌, List, []};
 ghost use Rattle.deck_parser.specs.Class.{begins};
-ghost use Rattle.deck_parser.specs.Rule.{onto, where_it_gives};
-ghost use Rattle.deck_parser.specs.Reading.{Reads};
-ghost use Rattle.deck_entries.specs.FileDescription.{storage_item, with_one};
+ghost use Rattle.deck_parser.specs.Rule.{any_behind};
+ghost use Rattle.deck_parser.specs.Reading.{ReadsRule};
+ghost use Rattle.deck_entries.specs.FileDescription.{StorageEntry, storage_item, more_storage};
 ghost use Rattle.deck_entries.specs.Divisions.{storage_section};
 
 use crate::item::picture_clause;
@@ -88,7 +88,7 @@ impl StorageItems {
 
 #[tactic(auto, unfolding(crate::specs::FileDescription::storage_item))]
 fn storage_item(parser: &mut Parser<'_>) -> Result<StorageItem, Refusal>
-    ensures { Reads (storage_item.reads parser.old) result parser.new }
+    ensures { ReadsRule storage_item parser.old result parser.new }
 {
     let place = parser.word_place();
     parser.expect(b"77")?;
@@ -103,8 +103,9 @@ fn storage_item(parser: &mut Parser<'_>) -> Result<StorageItem, Refusal>
 }
 
 /// The items with the next one.
+#[tactic(auto, unfolding(crate::specs::FileDescription::more_storage))]
 fn one_more(parser: &mut Parser<'_>, items: StorageItems) -> Result<StorageItems, Refusal>
-    ensures { Reads ((where_it_gives (with_one items) storage_item).reads parser.old) result parser.new }
+    ensures { ReadsRule (more_storage items) parser.old result parser.new }
 {
     let item = storage_item(parser)?;
     let mut items = items;
@@ -113,16 +114,16 @@ fn one_more(parser: &mut Parser<'_>, items: StorageItems) -> Result<StorageItems
 }
 
 /// Whether an item comes next.
-#[tactic(auto, unfolding(crate::specs::FileDescription::storage_item, deck_parser::specs::Notation::the))]
+#[tactic(auto, unfolding(crate::specs::FileDescription::more_storage, crate::specs::FileDescription::storage_item, deck_parser::specs::Notation::the))]
 fn sees_item(parser: &Parser<'_>) -> bool
-    ensures { result ≡ begins storage_item.starts parser.now }
+    ensures { (earlier : List StorageEntry) → result ≡ begins (more_storage earlier).starts parser.now }
 {
     parser.sees(b"77")
 }
 
 /// The items that come next, if any.
 fn items(parser: &mut Parser<'_>, alloc: Global) -> Result<StorageItems, Refusal>
-    ensures { Reads ((onto with_one [] storage_item).reads parser.old) result parser.new }
+    ensures { ReadsRule (any_behind more_storage []) parser.old result parser.new }
 {
     let mut items = StorageItems::new(alloc);
     'more: while sees_item(parser) {
@@ -134,7 +135,7 @@ fn items(parser: &mut Parser<'_>, alloc: Global) -> Result<StorageItems, Refusal
 /// The working storage, if it comes next.
 #[tactic(auto, unfolding(crate::specs::Divisions::storage_section, deck_parser::specs::Notation::the))]
 pub fn storage_section(parser: &mut Parser<'_>, alloc: Global) -> Result<StorageItems, Refusal>
-    ensures { Reads (storage_section.reads parser.old) result parser.new }
+    ensures { ReadsRule storage_section parser.old result parser.new }
 {
     if parser.sees(b"WORKING-STORAGE") {
         heading(parser, b"WORKING-STORAGE", b"SECTION")?;

@@ -1,7 +1,7 @@
 //! Words that stand for one another.
 ghost use Rattle.deck_parser.specs.Rule.{optional};
 ghost use Rattle.deck_parser.specs.Notation.{the, ◌∣◌, eaten};
-ghost use Rattle.deck_parser.specs.Reading.{Reads, ReadsAs};
+ghost use Rattle.deck_parser.specs.Reading.{ReadsAs, ReadsRule, Stops};
 ghost use Rattle.deck_entries.specs.Divisions.{division_heading};
 
 use deck_parser::Parser;
@@ -14,7 +14,7 @@ pub fn expect_one(
     first: &'static [u8],
     second: &'static [u8],
 ) -> Result<(), Refusal>
-    ensures { Reads ((the first.now ∣ the second.now).reads parser.old) result parser.new }
+    ensures { ReadsRule (the first.now ∣ the second.now) parser.old result parser.new }
 {
     if parser.eat(first) {
         return Ok(());
@@ -29,7 +29,8 @@ pub fn eat_one(
     first: &'static [u8],
     second: &'static [u8],
 ) -> Result<bool, Refusal>
-    ensures { ReadsAs eaten (optional (the first.now ∣ the second.now)) parser.old result parser.new }
+    ensures reads { ReadsAs eaten (optional (the first.now ∣ the second.now)) parser.old result parser.new }
+    ensures stops { Stops (optional (the first.now ∣ the second.now)) parser.old result }
 {
     if parser.sees_one_of(&[first, second]) {
         expect_one(parser, first, second)?;
@@ -45,7 +46,7 @@ pub fn heading(
     first: &'static [u8],
     second: &'static [u8],
 ) -> Result<(), Refusal>
-    ensures { Reads ((division_heading first.now second.now).reads parser.old) result parser.new }
+    ensures { ReadsRule (division_heading first.now second.now) parser.old result parser.new }
 {
     parser.expect(first)?;
     parser.expect(second)?;

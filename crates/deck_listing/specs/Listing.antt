@@ -7,8 +7,8 @@ use Rattle.std.specs.Option.{option_map_or}
 use Rattle.record_layout.specs.Layout.{Placed}
 use Rattle.record_layout.specs.declared.schema.KeyPart.{KeyPart}
 use Rattle.file_control.specs.Description.{FileDesc}
-use Rattle.procedure_division.specs.declared.statement.Statement.{Statement}
-use Rattle.procedure_division.specs.StatementPlaces.{Paragraph}
+use Rattle.deck_reader.specs.declared.statement.Statement.{Statement}
+use Rattle.deck_reader.specs.StatementPlaces.{Paragraph}
 use Rattle.deck_reader.specs.declared.deck.Deck.{Deck}
 use Rattle.deck_reader.specs.Deck.{IsDeck}
 use Rattle.deck_listing.specs.Verbs.{Verb, verb_of}

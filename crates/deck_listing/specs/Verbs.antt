@@ -3,9 +3,9 @@ use Rattle.std.specs.Prelude.{ℕ, ◌+◌, List, [], Option, Some, None, slice_
 use Rattle.std.specs.Option.{option_map_or}
 use Rattle.io_state.specs.declared.statement.FileStatement.{FileStatement}
 use Rattle.file_control.specs.Description.{FileDesc}
-use Rattle.procedure_division.specs.declared.statement.Statement.{Statement}
-use Rattle.procedure_division.specs.declared.statement.Statement.TheVariants.{Perform, Move, MoveLength}
-use Rattle.procedure_division.specs.declared.statement.Statement.TheVariants.{StopRun}
+use Rattle.deck_reader.specs.declared.statement.Statement.{Statement}
+use Rattle.deck_reader.specs.declared.statement.Statement.TheVariants.{Perform, Move, MoveLength}
+use Rattle.deck_reader.specs.declared.statement.Statement.TheVariants.{StopRun}
 
 -- a verb: its number, from 1, the name of its file, and what it does there
 pub record Verb : Type 0 where

@@ -7,8 +7,8 @@ ghost use Rattle.deck_listing.specs.Listing.{procedure_lines};
 
 use crate::lines::{add_paragraph, add_verb};
 use crate::verbs::verb_of;
+use deck_reader::{Paragraph, Statement, StatementPlaces};
 use file_control::FileDesc;
-use procedure_division::{Paragraph, Statement, StatementPlaces};
 use std::alloc::AllocError;
 
 /// Adds the lines of paragraphs.

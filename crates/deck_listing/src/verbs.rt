@@ -2,9 +2,9 @@
 ghost use Rattle.std.specs.Prelude.{◌≡◌, ◌^◌, ◌<◌};
 ghost use Rattle.deck_listing.specs.Verbs.{file_name_at, verb_of};
 
+use deck_reader::Statement;
 use file_control::FileDesc;
 use io_state::{FileStatement, Name};
-use procedure_division::Statement;
 use std::marker::Model;
 
 /// A verb: its number in the transcript, from 1, the name of its file, and what it does there.

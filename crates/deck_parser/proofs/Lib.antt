@@ -7,3 +7,5 @@ pub mod NotationLemmas
 pub mod OperandLemmas
 pub mod RestLemmas
 pub mod LocatedLemmas
+pub mod EitherLemmas
+pub mod FollowLemmas

@@ -6,8 +6,8 @@ use Rattle.deck_parser.proofs.RuleLemmas.{Lawful, lawful_one, lawful_as}
 
 pub lawful_sign : (text : List ℕ) → Lawful (sign text)
 unfolding sign
-lawful_sign text = lawful_as _ _ (lawful_one (signs text))
+lawful_sign text = lawful_as _ _ _ (lawful_one (signs text))
 
 pub lawful_digits : Lawful digits
 unfolding digits
-lawful_digits = lawful_as _ _ (lawful_one numbers)
+lawful_digits = lawful_as _ _ _ (lawful_one numbers)

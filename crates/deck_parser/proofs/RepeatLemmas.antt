@@ -6,7 +6,7 @@ use Rattle.std.specs.Option.{option_map}
 use Rattle.std.proofs.lemmas.Bool.{false≢true}
 use Rattle.deck_words.specs.Word.{Word}
 use Rattle.deck_parser.specs.Class.{begins, all_apart}
-use Rattle.deck_parser.specs.Rule.{Rule, where_it_gives, SpellsTurns, onto, some_onto, reads_onto_from, many, reads_many_from, SpellsMany}
+use Rattle.deck_parser.specs.Rule.{Rule, where_it_gives, SpellsTurns, onto, some_onto, reads_onto_from, many, reads_many_from, SpellsMany, stop_behind, stops_again_from, stops_again}
 use Rattle.deck_words.proofs.TestLemmas.{both_true, not_is, bind_some, bind_is, bind_same, map_some, none_mapped}
 use Rattle.deck_parser.proofs.ClassLemmas.{begins_apart, neither_begins}
 use Rattle.deck_parser.proofs.RuleLemmas.{Lawful}
@@ -63,6 +63,37 @@ module _ {A : Type 0} (p : Rule A) (lawful_p : Lawful p) where
 
   pub lawful_many : Lawful (many p)
   lawful_many = record { sound = λ xs words rest e. many_sound (length words) xs words rest e; complete = λ fit xs words rest s no. many_complete fit (length words) xs words rest (omega arith) s no; first = many_first }
+
+  -- what is read takes a word at least
+  pub takes_a_word : (many p).is_fit ≡ true → (x : A) (words rest : List Word) → p.reads words ≡ Some (x, rest) → length rest < length words
+  takes_a_word fit x words rest e =
+      elim (lawful_p.first (many_fit fit).0 x words rest (lawful_p.sound x words rest e)) [
+        | inl h ↦ h.1
+        | inr h ↦ absurd (false≢true (sym (many_fit fit).1 ∙ h.0))
+      ]
+
+  -- ---- where the reading stops
+
+  more_stops : (many p).is_fit ≡ true → (m n : ℕ) (words : List Word) → length words < m → length words < n → stops_again_from p m words ≡ stops_again_from p n words
+  more_stops fit zero n words a b = absurd (omega (arith, a))
+  more_stops fit (suc m) zero words a b = absurd (omega (arith, b))
+  more_stops fit (suc m) (suc n) words a b =
+      let again : (r : Option (A × List Word)) → p.reads words ≡ r → stop_behind r (p.stops words) (λ (x : A × List Word). stops_again_from p m x.1) ≡ stop_behind r (p.stops words) (λ (x : A × List Word). stops_again_from p n x.1) = λ r. elim r as (λ r. p.reads words ≡ r → stop_behind r (p.stops words) (λ (x : A × List Word). stops_again_from p m x.1) ≡ stop_behind r (p.stops words) (λ (x : A × List Word). stops_again_from p n x.1)) [
+        | None ↦ λ _. refl
+        | Some x ↦ λ e. let less = takes_a_word fit x.0 words x.1 e in more_stops fit m n x.1 (omega (arith, less, a)) (omega (arith, less, b))
+      ] in
+      again (p.reads words) refl
+
+  -- it stops where it stops behind what is read first
+  pub next_stop : (many p).is_fit ≡ true → (x : A) (words rest : List Word) → p.reads words ≡ Some (x, rest) → stops_again p words ≡ stops_again p rest
+  next_stop fit x words rest e =
+      let less = takes_a_word fit x words rest e in
+      ap (λ (r : Option (A × List Word)). stop_behind r (p.stops words) (λ (x : A × List Word). stops_again_from p (length words) x.1)) e
+      ∙ more_stops fit (length words) (suc (length rest)) rest (omega (arith, less)) (omega arith)
+
+  -- where nothing is read, it stops as one reading does
+  pub stops_here : (words : List Word) → p.reads words ≡ None → stops_again p words ≡ p.stops words
+  stops_here words e = ap (λ (r : Option (A × List Word)). stop_behind r (p.stops words) (λ (x : A × List Word). stops_again_from p (length words) x.1)) e
 
 -- ---- any number of times, each value added to what there is
 
@@ -178,14 +209,6 @@ module _ {A S : Type 0} (add : S → A → Option S) (p : Rule A) (lawful_p : La
     first = λ fit t words rest m. some_first fit s t words rest (some_adds add p s t words rest m);
   }
 
-  -- what is read takes a word at least
-  pub takes_a_word : (many p).is_fit ≡ true → (x : A) (words rest : List Word) → p.reads words ≡ Some (x, rest) → length rest < length words
-  takes_a_word fit x words rest e =
-      elim (lawful_p.first (many_fit p lawful_p fit).0 x words rest (lawful_p.sound x words rest e)) [
-        | inl h ↦ h.1
-        | inr h ↦ absurd (false≢true (sym (many_fit p lawful_p fit).1 ∙ h.0))
-      ]
-
   -- more turns than there are words change nothing
   more_turns : (many p).is_fit ≡ true → (m n : ℕ) (s : S) (words : List Word) → length words ≤ m → length words ≤ n → reads_onto_from add p m s words ≡ reads_onto_from add p n s words
   more_turns fit zero zero s words a b = refl
@@ -196,7 +219,7 @@ module _ {A S : Type 0} (add : S → A → Option S) (p : Rule A) (lawful_p : La
   more_turns fit (suc m) (suc n) s words a b =
       let again : (r : Option (A × List Word)) → p.reads words ≡ r → option_and_then (λ a. option_and_then (λ u. reads_onto_from add p m u a.1) (add s a.0)) r ≡ option_and_then (λ a. option_and_then (λ u. reads_onto_from add p n u a.1) (add s a.0)) r = λ r. elim r as (λ r. p.reads words ≡ r → option_and_then (λ a. option_and_then (λ u. reads_onto_from add p m u a.1) (add s a.0)) r ≡ option_and_then (λ a. option_and_then (λ u. reads_onto_from add p n u a.1) (add s a.0)) r) [
         | None ↦ λ _. refl
-        | Some x ↦ λ e. let less = takes_a_word fit x.0 words x.1 e in
+        | Some x ↦ λ e. let less = takes_a_word p lawful_p fit x.0 words x.1 e in
             bind_same (λ u. reads_onto_from add p m u x.1) (λ u. reads_onto_from add p n u x.1) (add s x.0) (λ u. more_turns fit m n u x.1 (omega (arith, less, a)) (omega (arith, less, b)))
       ] in
       ap (λ v. cond (begins p.starts words) v (Some (s, words))) (again (p.reads words) refl)
@@ -205,7 +228,7 @@ module _ {A S : Type 0} (add : S → A → Option S) (p : Rule A) (lawful_p : La
   next_turn_by : (many p).is_fit ≡ true → (s : S) (words : List Word) (x : A) (rest : List Word) (t : S) → begins p.starts words ≡ true → p.reads words ≡ Some (x, rest) → add s x ≡ Some t → (onto add s p).reads words ≡ (onto add t p).reads rest
   next_turn_by fit s [] x rest t i e q = absurd (false≢true i)
   next_turn_by fit s (w ∷ words) x rest t i e q =
-      let less = takes_a_word fit x (w ∷ words) rest e in
+      let less = takes_a_word p lawful_p fit x (w ∷ words) rest e in
       rw (i, e, q) (more_turns fit (length words) (length rest) t rest (omega (arith, less)) (omega arith))
 
   pub next_turn : (many p).is_fit ≡ true → (s : S) (words rest : List Word) (t : S) → begins p.starts words ≡ true → (where_it_gives (add s) p).reads words ≡ Some (t, rest) → (onto add s p).reads words ≡ (onto add t p).reads rest
@@ -219,7 +242,7 @@ module _ {A S : Type 0} (add : S → A → Option S) (p : Rule A) (lawful_p : La
   turn_takes_a_word fit s t words rest e =
       let a = bind_some (λ a. option_map (λ y. (y, a.1)) (add s a.0)) (p.reads words) (t, rest) e in
       let b = map_some (λ y. (y, a.0.1)) (add s a.0.0) (t, rest) a.2 in
-      subst (λ r. length r < length words) (ap (λ (r : S × List Word). r.1) b.2) (takes_a_word fit a.0.0 words a.0.1 a.1)
+      subst (λ r. length r < length words) (ap (λ (r : S × List Word). r.1) b.2) (takes_a_word p lawful_p fit a.0.0 words a.0.1 a.1)
 
   pub no_turn : (s : S) (words : List Word) → begins p.starts words ≡ false → (onto add s p).reads words ≡ Some (s, words)
   no_turn s [] i = refl

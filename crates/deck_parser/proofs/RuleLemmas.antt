@@ -5,7 +5,7 @@ use Rattle.std.specs.Option.{option_map}
 use Rattle.std.proofs.lemmas.Bool.{false≢true}
 use Rattle.deck_words.specs.Word.{Word}
 use Rattle.deck_parser.specs.Class.{Class, is_in, begins, all_apart}
-use Rattle.deck_parser.specs.Rule.{Rule, one, in_turn, optional, where_it_gives}
+use Rattle.deck_parser.specs.Rule.{Rule, one, in_turn, optional, unless_barred, where_it_gives_or}
 use Rattle.deck_parser.specs.Notation.{◌∣◌}
 use Rattle.deck_words.proofs.TestLemmas.{both_true, not_is, or_true, bind_some, map_some}
 use Rattle.deck_parser.proofs.ClassLemmas.{begins_apart, begins-append, neither_begins, nothing_begins}
@@ -157,18 +157,32 @@ module _ {A : Type 0} (p q : Rule A) (lawful_p : Lawful p) (lawful_q : Lawful q)
 
 -- ---- the value that a function gives for a rule's
 
-module _ {A B : Type 0} (f : A → Option B) (p : Rule A) (lawful_p : Lawful p) where
-  as_sound : (y : B) (words rest : List Word) → (where_it_gives f p).reads words ≡ Some (y, rest) → (where_it_gives f p).Spells y words rest
+module _ {A B : Type 0} (code : A → ℕ) (f : A → Option B) (p : Rule A) (lawful_p : Lawful p) where
+  as_sound : (y : B) (words rest : List Word) → (where_it_gives_or code f p).reads words ≡ Some (y, rest) → (where_it_gives_or code f p).Spells y words rest
   as_sound y words rest e =
       let a = bind_some (λ a. option_map (λ y. (y, a.1)) (f a.0)) (p.reads words) (y, rest) e in
       let b = map_some (λ y. (y, a.0.1)) (f a.0.0) (y, rest) a.2 in
       (a.0.0, b.1 ∙ ap (λ (v : B). Some v) (ap (λ r. r.0) b.2), lawful_p.sound a.0.0 words rest (a.1 ∙ ap (λ (r : List Word). Some (a.0.0, r)) (ap (λ r. r.1) b.2)))
 
-  pub lawful_as : Lawful (where_it_gives f p)
+  pub lawful_as : Lawful (where_it_gives_or code f p)
   lawful_as = record {
     sound = as_sound;
     complete = λ fit y words rest s no. rw (lawful_p.complete fit s.0 words rest s.2 no, s.1);
     first = λ fit y words rest s. lawful_p.first fit s.0 words rest s.2;
+  }
+
+-- ---- a rule that may be barred
+
+module _ {A : Type 0} (code : ℕ) (p : Rule A) (lawful_p : Lawful p) where
+  unless_sound : (barred : Bool) (x : A) (words rest : List Word) → (unless_barred barred code p).reads words ≡ Some (x, rest) → (unless_barred barred code p).Spells x words rest
+  unless_sound true x words rest e = absurd (cc)
+  unless_sound false x words rest e = (refl, lawful_p.sound x words rest e)
+
+  pub lawful_unless : (barred : Bool) → Lawful (unless_barred barred code p)
+  lawful_unless barred = record {
+    sound = unless_sound barred;
+    complete = λ fit x words rest s no. rw (s.0) (lawful_p.complete fit x words rest s.1 no);
+    first = λ fit x words rest s. lawful_p.first fit x words rest s.1;
   }
 
 -- no words spell two values

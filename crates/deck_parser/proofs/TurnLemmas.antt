@@ -5,9 +5,12 @@ use Rattle.std.proofs.lemmas.Option.{some_pair_parts}
 use Rattle.std.proofs.lemmas.Bool.{false≢true}
 use Rattle.deck_words.specs.Word.{Word}
 use Rattle.deck_parser.specs.Class.{Class, begins, all_apart}
-use Rattle.deck_parser.specs.Rule.{Rule, SpellsTurns, reads_further_from, each_behind}
+use Rattle.deck_parser.specs.Rule.{Rule, SpellsTurns, reads_further_from, each_behind, any_behind, Stop, stop_behind, stops_further_from}
 use Rattle.deck_words.proofs.TestLemmas.{bind_some, bind_is}
 use Rattle.deck_parser.proofs.ClassLemmas.{begins_apart, neither_begins}
+use Rattle.deck_parser.specs.Reading.{Refuses, TellsStop}
+use Rattle.deck_words.specs.declared.fault.Refusal.{Refusal}
+use Rattle.deck_words.specs.declared.fault.Refusal.TheVariants.{Memory, Fault}
 use Rattle.deck_parser.proofs.RuleLemmas.{Lawful}
 
 -- the words spell values up to a last one, in any number of turns
@@ -23,6 +26,14 @@ SpellsInTurn next s = (each_behind next s).Spells
 
 abbrev pub reads_in_turn : {S : Type 0} → (S → Rule S) → S → List Word → Option (S × List Word)
 reads_in_turn next s = (each_behind next s).reads
+
+-- where the reading of the turns stops
+abbrev pub stops_further : {S : Type 0} → (S → Rule S) → S → List Word → Stop
+stops_further next s words = stops_further_from next (suc (length words)) s words
+
+-- what is read, and where the reading stops, is what is read from this value on of these words
+abbrev pub GoesOn : {S : Type 0} → (S → Rule S) → Option (S × List Word) → Stop → S → List Word → Type 0
+GoesOn next read stop s words = (read ≡ reads_further next s words) × (stop ≡ stops_further next s words)
 
 -- what is asked of the rules: each is lawful, fit and not empty, and all begin and go on with the same words
 pub record AreAlike {S : Type 0} (next : S → Rule S) (starts goes_on : List Class) : Type 0 where
@@ -119,6 +130,23 @@ module _ {S : Type 0} (next : S → Rule S) (starts goes_on : List Class) (alike
     first = λ _. in_turn_first s;
   }
 
+  any_complete : (s t : S) (words rest : List Word) → SpellsFurther next s t words rest → begins (starts ++ goes_on) rest ≡ false → reads_further next s words ≡ Some (t, rest)
+  any_complete s t words rest h no_more = further_complete (length words) s t h.0 words rest (omega arith) h.1 no_more
+
+  any_first : (s t : S) (words rest : List Word) → SpellsFurther next s t words rest → ((begins (next s).starts words ≡ true) × (length rest < length words)) ⊎ ((true ≡ true) × (words ≡ rest))
+  any_first s t words rest h =
+      elim (turns_first s t h.0 words rest h.1) [
+        | inl k ↦ inl (subst (λ cs. begins cs words ≡ true) (sym (alike.starts_are s)) k.0, k.1)
+        | inr k ↦ inr (refl, k)
+      ]
+
+  pub lawful_any : (s : S) → Lawful (any_behind next s)
+  lawful_any s = record {
+    sound = λ t words rest e. further_sound (length words) s t words rest e;
+    complete = λ _ t words rest h no. any_complete s t words rest h (subst (λ cs. begins (cs ++ goes_on) rest ≡ false) (alike.starts_are s) (subst (λ cs. begins ((next s).starts ++ cs) rest ≡ false) (alike.goes_on_is s) no));
+    first = λ _. any_first s;
+  }
+
   -- ---- how the reading goes on
 
   -- more turns than there are words change nothing
@@ -150,6 +178,57 @@ module _ {S : Type 0} (next : S → Rule S) (starts goes_on : List Class) (alike
 
   pub no_first_in_turn : (s : S) (words : List Word) → (next s).reads words ≡ None → reads_in_turn next s words ≡ None
   no_first_in_turn s words e = ap (λ (o : Option (S × List Word)). option_and_then (λ (a : S × List Word). reads_further next a.0 a.1) o) e
+
+  -- ---- where the reading stops
+
+  more_stops : (m n : ℕ) (s : S) (words : List Word) → length words < m → length words < n → stops_further_from next m s words ≡ stops_further_from next n s words
+  more_stops zero n s words a b = absurd (omega (arith, a))
+  more_stops (suc m) zero s words a b = absurd (omega (arith, b))
+  more_stops (suc m) (suc n) s words a b =
+      let again : (r : Option (S × List Word)) → (next s).reads words ≡ r → stop_behind r ((next s).stops words) (λ (x : S × List Word). stops_further_from next m x.0 x.1) ≡ stop_behind r ((next s).stops words) (λ (x : S × List Word). stops_further_from next n x.0 x.1) = λ r. elim r as (λ r. (next s).reads words ≡ r → stop_behind r ((next s).stops words) (λ (x : S × List Word). stops_further_from next m x.0 x.1) ≡ stop_behind r ((next s).stops words) (λ (x : S × List Word). stops_further_from next n x.0 x.1)) [
+        | None ↦ λ _. refl
+        | Some x ↦ λ e. let less = turn_takes_some s x.0 words x.1 e in
+            more_stops m n x.0 x.1 (omega (arith, less, a)) (omega (arith, less, b))
+      ] in
+      again ((next s).reads words) refl
+
+  -- it stops where it stops behind what is read first
+  next_stop : (s u : S) (words middle : List Word) → (next s).reads words ≡ Some (u, middle) → stops_further next s words ≡ stops_further next u middle
+  next_stop s u words middle e =
+      let less = turn_takes_some s u words middle e in
+      ap (λ (r : Option (S × List Word)). stop_behind r ((next s).stops words) (λ (x : S × List Word). stops_further_from next (length words) x.0 x.1)) e
+      ∙ more_stops (length words) (suc (length middle)) u middle (omega (arith, less)) (omega arith)
+
+  -- where nothing is read, it stops as one turn does
+  stops_here : (s : S) (words : List Word) → (next s).reads words ≡ None → stops_further next s words ≡ (next s).stops words
+  stops_here s words e = ap (λ (r : Option (S × List Word)). stop_behind r ((next s).stops words) (λ (x : S × List Word). stops_further_from next (length words) x.0 x.1)) e
+
+  -- ---- how a loop over the turns goes on
+
+  no_further : (s : S) (words : List Word) → begins (next s).starts words ≡ true → (next s).reads words ≡ None → reads_further next s words ≡ None
+  no_further s [] i e = absurd (false≢true i)
+  no_further s (w ∷ words) i e = rw (i, e) refl
+
+  ended_further : (s : S) (words : List Word) → begins (next s).starts words ≡ false → reads_further next s words ≡ Some (s, words)
+  ended_further s [] i = refl
+  ended_further s (w ∷ words) i = rw i refl
+
+  pub begun : (s u : S) (words middle : List Word) → (next s).reads words ≡ Some (u, middle) → GoesOn next (reads_in_turn next s words) (stops_further next s words) u middle
+  begun s u words middle e = (first_in_turn s u words middle e, next_stop s u words middle e)
+
+  pub further : (read : Option (S × List Word)) (stop : Stop) (s u : S) (words middle : List Word) → GoesOn next read stop s words → begins (next s).starts words ≡ true → (next s).reads words ≡ Some (u, middle) → GoesOn next read stop u middle
+  further read stop s u words middle so_far i e =
+      (so_far.0 ∙ next_further s u words middle i e, so_far.1 ∙ next_stop s u words middle e)
+
+  pub not_further : (read : Option (S × List Word)) (stop : Stop) (s : S) (words : List Word) (refusal : Refusal) → GoesOn next read stop s words → begins (next s).starts words ≡ true → Refuses ((next s).reads words) refusal × TellsStop ((next s).stops words) refusal → Refuses read refusal × TellsStop stop refusal
+  not_further read stop s words Memory so_far i r = (tt, tt)
+  not_further read stop s words (Fault line place cause) so_far i r = (
+    so_far.0 ∙ no_further s words i r.0,
+    subst (λ (s : Stop). TellsStop s (Fault line place cause)) (sym (so_far.1 ∙ stops_here s words r.0)) r.1,
+  )
+
+  pub finished : (read : Option (S × List Word)) (stop : Stop) (s : S) (words : List Word) → GoesOn next read stop s words → begins (next s).starts words ≡ false → read ≡ Some (s, words)
+  finished read stop s words so_far i = so_far.0 ∙ ended_further s words i
 
 -- ---- what each turn keeps
 

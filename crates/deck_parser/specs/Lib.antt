@@ -7,3 +7,4 @@ pub mod Reading
 pub mod Scanning
 pub mod Unfit
 pub mod Located
+pub mod Following

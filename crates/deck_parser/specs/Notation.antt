@@ -38,6 +38,7 @@ abbrev pub ◌∣◌ : {A : Type 0} → Rule A → Rule A → Rule A
 p ∣ q = record {
   Spells = λ x words rest. p.Spells x words rest ⊎ q.Spells x words rest;
   reads = λ words. if begins p.starts words then p.reads words else q.reads words;
+  stops = λ words. if begins p.starts words then p.stops words else q.stops words;
   starts = p.starts ++ q.starts;
   goes_on = p.goes_on ++ q.goes_on;
   may_be_empty = q.may_be_empty;

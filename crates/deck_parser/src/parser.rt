@@ -6,11 +6,11 @@ ghost use Rattle.deck_parser.specs.Class.{periods};
 ghost use Rattle.deck_parser.specs.Unfit.{IsFirstLine, IsRefusedThere, IsUnfit};
 ghost use Rattle.deck_words.specs.Word.{first_line};
 ghost use Rattle.deck_words.specs.Wanted.{class_wanted};
-ghost use Rattle.deck_parser.specs.Rule.{one};
+ghost use Rattle.deck_parser.specs.Rule.{one, stop_at};
 ghost use Rattle.deck_parser.specs.Notation.{the, may, eaten, name, literal, period};
 ghost use Rattle.deck_parser.specs.Operand.{sign, digits};
-ghost use Rattle.deck_parser.specs.Reading.{Reads, ReadsAs, Eats};
-ghost use Rattle.deck_words.specs.Fault.{IsFault};
+ghost use Rattle.deck_parser.specs.Reading.{Reads, ReadsAs, Eats, Stops, TellsStop};
+ghost use Rattle.deck_words.specs.Fault.{IsFault, cause_code};
 
 use crate::name::{is_name_text, is_number_text};
 use deck_words::{
@@ -212,6 +212,7 @@ impl<'a> Parser<'a> {
     pub fn fault(&self, cause: Cause) -> Refusal
         ensures fault { IsFault result }
         ensures at { IsRefusedThere self.now result }
+        ensures stops { TellsStop (stop_at self.now (cause_code cause)) result }
     {
         self.place().fault(cause)
     }
@@ -308,6 +309,7 @@ impl<'a> Parser<'a> {
     pub fn expect(&mut self, text: &'static [u8]) -> Result<(), Refusal>
         ensures reads { Reads ((the text.now).reads self.old) result self.new }
         ensures unfit { IfErr result (IsUnfit WantedClass.Word self.old) }
+        ensures stops { Stops (the text.now) self.old result }
     {
         match &self.next {
             Some(word) if is_this(word, text) => {
@@ -341,6 +343,7 @@ impl<'a> Parser<'a> {
     pub fn name(&mut self, of: NameOf) -> Result<Name, Refusal>
         ensures reads { ReadsAs (λ name. name.bytes) name self.old result self.new }
         ensures unfit { IfErr result (IsUnfit WantedClass.Name self.old) }
+        ensures stops { Stops name self.old result }
     {
         let Some(word) = &self.next else {
             return Err(self.unfit(Wanted::Name(of)));
@@ -359,6 +362,7 @@ impl<'a> Parser<'a> {
     pub fn level(&mut self) -> Result<Name, Refusal>
         ensures reads { ReadsAs (λ level. level.bytes) (one levels) self.old result self.new }
         ensures unfit { IfErr result (IsUnfit WantedClass.Level self.old) }
+        ensures stops { Stops (one levels) self.old result }
     {
         let Some(word) = &self.next else {
             return Err(self.unfit(Wanted::Level));
@@ -377,6 +381,7 @@ impl<'a> Parser<'a> {
     pub fn picture(&mut self) -> Result<Name, Refusal>
         ensures reads { ReadsAs (λ text. text.bytes) (one pictures) self.old result self.new }
         ensures unfit { IfErr result (IsUnfit WantedClass.Picture self.old) }
+        ensures stops { Stops (one pictures) self.old result }
     {
         let Some(word) = &self.next else {
             return Err(self.unfit(Wanted::Picture));
@@ -396,6 +401,7 @@ impl<'a> Parser<'a> {
     pub fn digits(&mut self) -> Result<Name, Refusal>
         ensures reads { ReadsAs (λ text. text.bytes) digits self.old result self.new }
         ensures at { IfErr result (IsRefusedThere self.old) }
+        ensures stops { Stops digits self.old result }
     {
         let Some(word) = &self.next else {
             return Err(self.unfit(Wanted::Number));
@@ -418,6 +424,7 @@ impl<'a> Parser<'a> {
     pub fn literal(&mut self, alloc: Global) -> Result<Bytes, Refusal>
         ensures reads { Reads (literal.reads self.old) result self.new }
         ensures unfit { IfErr result (IsUnfit WantedClass.Literal self.old) }
+        ensures stops { Stops literal self.old result }
     {
         let Some(word) = &self.next else {
             return Err(self.unfit(Wanted::Literal));
@@ -435,6 +442,7 @@ impl<'a> Parser<'a> {
     pub fn period(&mut self) -> Result<(), Refusal>
         ensures reads { Reads (period.reads self.old) result self.new }
         ensures unfit { IfErr result (IsUnfit WantedClass.Period self.old) }
+        ensures stops { Stops period self.old result }
     {
         match &self.next {
             Some(word) if is_period(word) => {
@@ -478,6 +486,7 @@ impl<'a> Parser<'a> {
     pub fn expect_sign(&mut self, text: &'static [u8]) -> Result<(), Refusal>
         ensures reads { Reads ((sign text.now).reads self.old) result self.new }
         ensures unfit { IfErr result (IsUnfit WantedClass.Sign self.old) }
+        ensures stops { Stops (sign text.now) self.old result }
     {
         match &self.next {
             Some(word) if is_sign(word, text) => {
@@ -509,6 +518,7 @@ impl<'a> Parser<'a> {
     pub fn end(&self, wanted: Wanted) -> Result<(), Refusal>
         ensures end { MatchResult result (λ _. self.now ≡ []) (λ _. self.now ≢ []) }
         ensures unfit { IfErr result (IsUnfit (class_wanted wanted) self.now) }
+        ensures stops { IfErr result (TellsStop (stop_at self.now 2)) }
     {
         if self.next.is_none() {
             Ok(())

@@ -7,10 +7,10 @@ use Rattle.file_control.specs.declared.description.Description.{Description}
 use Rattle.file_control.specs.Description.{FileDesc, LengthItem}
 use Rattle.file_control.specs.Whole.{IsDescription}
 use Rattle.file_control.specs.Described.{AreDescribed}
-use Rattle.procedure_division.specs.declared.placed.PlacedStatements.{PlacedStatements}
-use Rattle.procedure_division.specs.Names.{Names, names_of}
-use Rattle.procedure_division.specs.Procedure.{procedure, IsProcedure}
-use Rattle.procedure_division.specs.OnlyAllowed.{HaveOnlyAllowed}
+use Rattle.deck_reader.specs.declared.placed.PlacedStatements.{PlacedStatements}
+use Rattle.deck_reader.specs.Names.{Names, names_of}
+use Rattle.deck_reader.specs.Procedure.{procedure, IsProcedure}
+use Rattle.deck_reader.specs.OnlyAllowed.{HaveOnlyAllowed}
 use Rattle.deck_reader.specs.declared.deck.Deck.{Deck}
 use Rattle.deck_reader.specs.Deck.{Spells}
 use Rattle.deck_reader.specs.CanBeRun.{CanBeRun}

@@ -1,1 +1,9 @@
+pub mod PlaceLemmas
+pub mod ProcedureLemmas
+pub mod PlacedLemmas
+pub mod JoinLemmas
+pub mod GivesLemmas
+pub mod SourceLemmas
+pub mod AllowedLemmas
+pub mod LineLemmas
 pub mod DeckLemmas

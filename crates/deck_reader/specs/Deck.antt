@@ -6,7 +6,7 @@ use Rattle.deck_words.specs.Word.{Word}
 use Rattle.deck_words.specs.Words.{HasWords}
 use Rattle.file_control.specs.declared.description.Description.{Description}
 use Rattle.file_control.specs.Whole.{IsDescription}
-use Rattle.procedure_division.specs.Procedure.{procedure}
+use Rattle.deck_reader.specs.Procedure.{procedure}
 use Rattle.deck_reader.specs.declared.deck.Deck.{Deck}
 
 -- the words are a description, and behind it, from the word PROCEDURE to the end, a procedure of the

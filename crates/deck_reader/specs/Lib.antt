@@ -1,3 +1,14 @@
+pub mod Names
+pub mod Places
+pub mod StatementPlaces
+pub mod Placed
+pub mod StatementRules
+pub mod Procedure
+pub mod Parts
+pub mod Allowed
+pub mod OnlyAllowed
+pub mod Reading
+pub mod EachHasItsLine
 pub mod Deck
 pub mod CanBeRun
 pub mod FirstFault

@@ -4,22 +4,23 @@ ghost use Rattle.deck_words.specs.Fault.{told, IsFault, IsTold, HasNoneIfTold, G
 ghost use Rattle.deck_words.specs.OneReading.{Determines};
 ghost use Rattle.deck_words.specs.Word.{Word};
 ghost use Rattle.file_control.specs.FirstFault.{TellsFault};
-ghost use Rattle.procedure_division.specs.Names.{names_of};
-ghost use Rattle.procedure_division.specs.Procedure.{IsProcedure};
+ghost use Rattle.deck_reader.specs.Names.{names_of};
+ghost use Rattle.deck_reader.specs.Procedure.{IsProcedure};
 ghost use Rattle.deck_reader.specs.declared.deck.Deck.{Deck};
 ghost use Rattle.deck_reader.specs.Deck.{Spells, IsDeck};
 ghost use Rattle.deck_reader.specs.CanBeRun.{CanBeRun};
-ghost use Rattle.deck_reader.specs.FirstFault.{IsWordsFault, IsFaultOfDeck};
+ghost use Rattle.deck_reader.specs.FirstFault.{IsProcedureFault, IsWordsFault, IsFaultOfDeck};
 
+use crate::division::{one_procedure, only_allowed, read_procedure};
+use crate::names::Names;
+use crate::placed::PlacedStatements;
+use crate::places::StatementPlaces;
 use crate::refusal::{DeckRefusal, wanted_of};
+use crate::statement_list::StatementList;
 use deck_words::{Refusal, scan};
 use file_control::{
     DeckFault, Description, FileDesc, FileList, ItemList, LengthItem, Words, are_described,
     describe, one_description, one_reading,
-};
-use procedure_division::{
-    Names, PlacedStatements, StatementList, StatementPlaces, one_procedure, only_allowed,
-    read_procedure,
 };
 use std::alloc::Global;
 
@@ -40,7 +41,8 @@ fn statements_of(
     items: &[LengthItem],
     words: &Words<'_>,
 ) -> Result<PlacedStatements, Refusal>
-    ensures { GivesOrRefuses (IsProcedure (names_of files.now items.now) words.now) result }
+    ensures statements { GivesOrRefuses (IsProcedure (names_of files.now items.now) words.now) result }
+    ensures fault { TellsFault (IsProcedureFault (names_of files.now items.now) words.now) result }
 {
     let names = Names::new(alloc, files, items)?;
     read_procedure(alloc, &names, words)

@@ -1,8 +1,9 @@
 //! Why a deck is refused.
 
+use crate::division::wanted_in_procedure;
+use crate::names::Names;
 use deck_words::{Cause, Expected, Refusal, WantedList, WordPlace, scan};
 use file_control::{Description, Words, describe, wanted_in_description};
-use procedure_division::{Names, wanted_in_procedure};
 use std::alloc::{AllocError, Global};
 
 /// The first fault of a deck, and, of a word that does not fit, the words and classes that were

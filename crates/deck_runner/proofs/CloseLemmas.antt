@@ -6,8 +6,8 @@ use Rattle.indexed_file.specs.World.{World}
 use Rattle.deck_runner.specs.Line.{Line}
 use Rattle.deck_runner.specs.Run.{RunFile, Run, change_at}
 use Rattle.io_state.specs.declared.statement.FileStatement.TheVariants.{Close}
-use Rattle.procedure_division.specs.declared.statement.Statement.{Statement}
-use Rattle.procedure_division.specs.declared.statement.Statement.TheVariants.{Perform}
+use Rattle.deck_reader.specs.declared.statement.Statement.{Statement}
+use Rattle.deck_reader.specs.declared.statement.Statement.TheVariants.{Perform}
 use Rattle.indexed_file.specs.Shown.{Shown}
 use Rattle.deck_runner.specs.Steps.{left_by, IsStepOn, is_still_open, close_of, close_at, closes_from}
 use Rattle.deck_runner.specs.Stretches.{Point, IsStretch, AreStretches, AreStretchesInPart, ClosesAt, ClosesAtInPart, ClosesFiles, ClosesInPart}

@@ -9,7 +9,7 @@ use Rattle.indexed_file.proofs.AmongLemmas.{among_more, among_rest, among_passes
 use Rattle.indexed_file.proofs.ImageLemmas.{each_weaker, may_within, AllPassTest}
 use Rattle.indexed_file.specs.Shown.{Shown}
 use Rattle.indexed_file.proofs.TestLemmas.{either}
-use Rattle.procedure_division.specs.declared.statement.Statement.{Statement}
+use Rattle.deck_reader.specs.declared.statement.Statement.{Statement}
 use Rattle.deck_runner.specs.Line.{Line}
 use Rattle.deck_runner.specs.Stretches.{Point, IsStretch, name_by, trace_by}
 use Rattle.deck_runner.specs.NoFalseFile.{Ledger, IsOfLedger, during, behind, behind_by, images_by, StandsBy, trace_for, Judged, IsSafeStretch, NoFalseFile, ImagesAreOfLedger}

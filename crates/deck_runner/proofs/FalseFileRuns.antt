@@ -4,7 +4,7 @@ use Rattle.indexed_file.specs.Images.{Stays}
 use Rattle.indexed_file.specs.Moments.{EndsNow, EachImage}
 use Rattle.indexed_file.proofs.ImageLemmas.{each_weaker}
 use Rattle.indexed_file.specs.Shown.{Shown}
-use Rattle.procedure_division.specs.declared.statement.Statement.{Statement}
+use Rattle.deck_reader.specs.declared.statement.Statement.{Statement}
 use Rattle.deck_reader.specs.declared.deck.Deck.{Deck}
 use Rattle.deck_runner.specs.Line.{Line}
 use Rattle.deck_runner.specs.Steps.{until_stop, closes_from, AreStepsInPart}

@@ -6,7 +6,7 @@ use Rattle.std.proofs.lemmas.Grind.{flat_map-append}
 use Rattle.std.proofs.lemmas.List.Elements.{All-nil, All-cons, All-append, All-tail}
 use Rattle.io_state.specs.declared.statement.FileStatement.{FileStatement}
 use Rattle.deck_runner.specs.Line.{Line, transcript_line}
-use Rattle.held_text.specs.Output.{AppendsFront, AddsText}
+use Rattle.streams.specs.Output.{AppendsFront, AddsText}
 use Rattle.deck_runner.specs.Reads.{only_reads, IsOfReading}
 use Rattle.deck_runner.proofs.FrontLemmas.{cut}
 use Rattle.deck_runner.specs.HeldLines.{MakesWay, SoFar, so_far, ReadBehindFirst, AreHeld, GoOut, AreRefused}

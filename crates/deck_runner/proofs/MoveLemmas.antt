@@ -5,7 +5,7 @@ use Rattle.record_layout.specs.declared.area.Source.{Source}
 use Rattle.record_layout.specs.Picture.{number}
 use Rattle.record_layout.specs.Area.{moved, fitted}
 use Rattle.indexed_file.specs.World.{World}
-use Rattle.procedure_division.specs.declared.statement.Statement.TheVariants.{Move, MoveLength}
+use Rattle.deck_reader.specs.declared.statement.Statement.TheVariants.{Move, MoveLength}
 use Rattle.deck_runner.specs.Run.{RunFile, LengthValue}
 use Rattle.deck_runner.specs.Steps.{IsStep}
 use Rattle.verbs.specs.Held.{state_of}
@@ -16,7 +16,7 @@ use Rattle.deck_runner.specs.Stretches.{IsStretch, HasCauses, ShowsRun, name_by,
 use Rattle.indexed_file.specs.Images.{untouched}
 use Rattle.indexed_file.proofs.ImageLemmas.{goes_none}
 use Rattle.indexed_file.specs.Shown.{Shown}
-use Rattle.procedure_division.specs.declared.statement.Statement.{Statement}
+use Rattle.deck_reader.specs.declared.statement.Statement.{Statement}
 use Rattle.deck_runner.specs.Line.{Line}
 use Rattle.deck_runner.specs.Run.{Run}
 use Rattle.deck_runner.proofs.FrameLemmas.{change_is_set, run_get, run_set}

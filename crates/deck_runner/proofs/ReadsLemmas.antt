@@ -21,8 +21,8 @@ use Rattle.verbs.specs.Checks.{Check, unless_refused}
 use Rattle.verbs.specs.Connector.{Session, FileState, Outcome}
 use Rattle.verbs.specs.Marred.{MarsRead, Step}
 use Rattle.verbs.specs.Reading.{delivered_or, read_next_checks, next_row, read_next_in, read_checks, equal_row, read_in, started, related_row, start_in}
-use Rattle.procedure_division.specs.declared.statement.Statement.{Statement}
-use Rattle.procedure_division.specs.declared.statement.Statement.TheVariants.{Perform, Move, MoveLength, StopRun}
+use Rattle.deck_reader.specs.declared.statement.Statement.{Statement}
+use Rattle.deck_reader.specs.declared.statement.Statement.TheVariants.{Perform, Move, MoveLength, StopRun}
 use Rattle.deck_runner.specs.Line.{Line}
 use Rattle.deck_runner.specs.Reads.{only_reads, IsOfReading, FilesStay, ReadsChangeNoFile}
 use Rattle.deck_runner.specs.Run.{RunFile, Run, change_at}

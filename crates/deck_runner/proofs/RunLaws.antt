@@ -10,8 +10,8 @@ use Rattle.io_state.specs.declared.status.Status.TheVariants.{PermanentError, Su
 use Rattle.verbs.specs.Faults.{is_unclean}
 use Rattle.verbs.specs.Checks.{check, unless_refused}
 use Rattle.verbs.specs.Opening.{ended, closed, close_in}
-use Rattle.procedure_division.specs.declared.statement.Statement.{Statement}
-use Rattle.procedure_division.specs.declared.statement.Statement.TheVariants.{Perform, StopRun}
+use Rattle.deck_reader.specs.declared.statement.Statement.{Statement}
+use Rattle.deck_reader.specs.declared.statement.Statement.TheVariants.{Perform, StopRun}
 use Rattle.deck_runner.specs.Line.{Line, is_clean}
 use Rattle.deck_runner.specs.Run.{RunFile, LengthValue, Run, change_at, outcome_on, performed, items_after_read, line_of, after_statement, lines_of_run, after_run}
 use Rattle.deck_runner.specs.Steps.{line_by, left_by, IsStepOn, IsStep, AreSteps, until_stop, is_still_open, closes_from, IsRun, CleanRunsAreExact}

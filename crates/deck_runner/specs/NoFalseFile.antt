@@ -8,7 +8,7 @@ use Rattle.indexed_file.specs.World.{World, Named}
 use Rattle.indexed_file.specs.Images.{Trace, untouched, IsAmong}
 use Rattle.indexed_file.specs.Moments.{Moments, EachImage}
 use Rattle.indexed_file.specs.Shown.{Shown}
-use Rattle.procedure_division.specs.declared.statement.Statement.{Statement}
+use Rattle.deck_reader.specs.declared.statement.Statement.{Statement}
 use Rattle.deck_runner.specs.Line.{Line}
 use Rattle.deck_runner.specs.Run.{Run}
 use Rattle.deck_reader.specs.declared.deck.Deck.{Deck}

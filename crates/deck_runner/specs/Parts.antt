@@ -1,10 +1,10 @@
 -- The parts of a run: what each asks for, and what it leaves. All of this is ours.
 use Rattle.std.specs.Prelude.{◌≤◌, ◌<◌, ℕ, List, [], ◌∷◌, All, length, Option, Result, IfOk, OnErr}
-use Rattle.held_text.specs.declared.output.Refused.{Refused}
+use Rattle.streams.specs.declared.output.Refused.{Refused}
 use Rattle.indexed_file.specs.Shown.{Shown}
 use Rattle.io_state.specs.declared.statement.FileStatement.{FileStatement}
-use Rattle.procedure_division.specs.declared.statement.Statement.{Statement}
-use Rattle.procedure_division.specs.declared.statement.Statement.TheVariants.{Perform}
+use Rattle.deck_reader.specs.declared.statement.Statement.{Statement}
+use Rattle.deck_reader.specs.declared.statement.Statement.TheVariants.{Perform}
 use Rattle.deck_runner.specs.declared.run_end.RunEnd.{RunEnd}
 use Rattle.deck_runner.specs.declared.running_deck.RunningDeck.{RunningDeck}
 use Rattle.deck_runner.specs.Line.{Line}

@@ -5,7 +5,7 @@ use Rattle.indexed_file.specs.Shown.{Shown}
 use Rattle.io_state.specs.declared.statement.FileStatement.{FileStatement}
 use Rattle.io_state.specs.declared.statement.FileStatement.TheVariants.{Open, Close, ReadNext, Read, Start}
 use Rattle.io_state.specs.declared.statement.FileStatement.TheVariants.{Write, Rewrite, Delete}
-use Rattle.procedure_division.specs.declared.statement.Statement.{Statement}
+use Rattle.deck_reader.specs.declared.statement.Statement.{Statement}
 use Rattle.deck_runner.specs.Line.{Line}
 use Rattle.deck_runner.specs.Stretches.{Point, IsBrokenOff}
 

@@ -7,9 +7,9 @@ use Rattle.verbs.specs.Connector.{Outcome}
 use Rattle.io_state.specs.declared.statement.FileStatement.{FileStatement}
 use Rattle.io_state.specs.declared.statement.FileStatement.TheVariants.{Close}
 use Rattle.verbs.specs.Marred.{Step}
-use Rattle.procedure_division.specs.declared.statement.Statement.{Statement}
-use Rattle.procedure_division.specs.declared.statement.Statement.TheVariants.{Perform, Move, MoveLength}
-use Rattle.procedure_division.specs.declared.statement.Statement.TheVariants.{StopRun}
+use Rattle.deck_reader.specs.declared.statement.Statement.{Statement}
+use Rattle.deck_reader.specs.declared.statement.Statement.TheVariants.{Perform, Move, MoveLength}
+use Rattle.deck_reader.specs.declared.statement.Statement.TheVariants.{StopRun}
 use Rattle.deck_runner.specs.Line.{Line, is_clean}
 use Rattle.deck_runner.specs.Run.{RunFile, Run, change_at, items_after_read, after_statement, lines_of_run}
 use Rattle.deck_runner.specs.Run.{after_run}

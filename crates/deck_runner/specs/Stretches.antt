@@ -13,9 +13,9 @@ use Rattle.verbs.specs.Full.{TellsRoom, lacks_room}
 use Rattle.verbs.specs.Performed.{StatusHasCause}
 use Rattle.verbs.specs.Traces.{trace_of}
 use Rattle.verbs.specs.Verbs.{perform}
-use Rattle.procedure_division.specs.declared.statement.Statement.{Statement}
-use Rattle.procedure_division.specs.declared.statement.Statement.TheVariants.{Perform, Move, MoveLength}
-use Rattle.procedure_division.specs.declared.statement.Statement.TheVariants.{StopRun}
+use Rattle.deck_reader.specs.declared.statement.Statement.{Statement}
+use Rattle.deck_reader.specs.declared.statement.Statement.TheVariants.{Perform, Move, MoveLength}
+use Rattle.deck_reader.specs.declared.statement.Statement.TheVariants.{StopRun}
 use Rattle.deck_runner.specs.Line.{Line, is_clean}
 use Rattle.deck_runner.specs.Run.{RunFile, Run, lines_of_run}
 use Rattle.deck_runner.specs.Running.{unit_names, length_for}

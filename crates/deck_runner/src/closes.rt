@@ -5,10 +5,10 @@ ghost use Rattle.deck_runner.specs.Parts.{CanRun, RunsPart, CloseOf, AllCloses};
 
 use crate::run_end::RunEnd;
 use crate::running_deck::RunningDeck;
-use held_text::{HeldText, Refused};
 use indexed_file::Library;
 use io_state::FileStatement;
 use std::io::Write;
+use streams::{HeldText, Refused};
 
 impl RunningDeck {
     /// Closes the file of a place, if it is still open, and adds its line to those that are held.

@@ -9,10 +9,10 @@ use crate::beginning::begin;
 use crate::fault::RunFault;
 use crate::run_end::RunEnd;
 use deck_reader::{Deck, read_deck};
-use held_text::{HeldText, Refused};
 use indexed_file::Library;
 use std::alloc::Global;
 use std::io::Write;
+use streams::{HeldText, Refused};
 
 /// Runs a deck that was read. `Output` and `Memory` are as for its bytes.
 fn run_read<L: Library, W: Write>(

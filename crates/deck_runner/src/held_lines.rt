@@ -1,12 +1,12 @@
 //! The lines that are on their way to the writer.
 ghost use Rattle.std.specs.Prelude.{◌≡◌, OnOk, OnErr};
-ghost use Rattle.held_text.specs.Output.{AppendsFront};
+ghost use Rattle.streams.specs.Output.{AppendsFront};
 ghost use Rattle.deck_runner.specs.Reads.{only_reads};
 ghost use Rattle.deck_runner.specs.HeldLines.{MakesWay};
 
-use held_text::{HeldText, Refused};
 use io_state::FileStatement;
 use std::io::Write;
+use streams::{HeldText, Refused};
 
 /// Whether a statement leaves all files as they are: READ and START.
 fn only_reads(statement: &FileStatement) -> bool

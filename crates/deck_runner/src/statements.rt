@@ -7,11 +7,11 @@ ghost use Rattle.deck_runner.specs.Parts.{CanRun, RunsPart, VerbOn, OneStatement
 use crate::held_lines::make_way;
 use crate::run_end::RunEnd;
 use crate::running_deck::RunningDeck;
-use held_text::{HeldText, Refused};
+use deck_reader::Statement;
 use indexed_file::Library;
 use io_state::FileStatement;
-use procedure_division::Statement;
 use std::io::Write;
+use streams::{HeldText, Refused};
 
 /// STOP RUN.
 fn is_stop(statement: &Statement) -> bool

@@ -9,10 +9,10 @@ ghost use Rattle.deck_runner.specs.Reads.{ReadsChangeNoFile};
 
 use crate::run_end::RunEnd;
 use crate::running_deck::RunningDeck;
-use held_text::{HeldText, Refused};
+use deck_reader::Statement;
 use indexed_file::Library;
-use procedure_division::Statement;
 use std::io::Write;
+use streams::{HeldText, Refused};
 
 impl RunningDeck {
     /// Runs the statements up to STOP RUN, and then closes the files that are still open. Each

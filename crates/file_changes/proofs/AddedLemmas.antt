@@ -10,7 +10,7 @@ use Rattle.indexed_file.specs.File.{Row, File, stamp_of}
 use Rattle.indexed_file.specs.Change.{clashes, is_there, added, new_row}
 use Rattle.indexed_file.specs.Sound.{is_file, is_length}
 use Rattle.indexed_file.proofs.SoundLemmas.{added_is_file}
-use Rattle.page_bytes.specs.Each.{Each}
+use Rattle.pages.specs.Each.{Each}
 use Rattle.pages.specs.PageMap.{PageMap}
 use Rattle.record_heap.specs.declared.shape.Place.{Place}
 use Rattle.record_heap.specs.Chain.{put_slot}

@@ -9,7 +9,7 @@ use Rattle.indexed_file.specs.File.{Row}
 use Rattle.io_state.specs.Rank.{value_cmp}
 use Rattle.indexed_file.specs.Rank.{row_cmp}
 use Rattle.indexed_file.specs.Change.{inserted}
-use Rattle.page_bytes.specs.Each.{Each}
+use Rattle.pages.specs.Each.{Each}
 use Rattle.key_index.specs.Entries.{with_alt}
 use Rattle.open_file.specs.InOrder.{put_row, in_order, alt_entry, alt_entries}
 use Rattle.open_file.proofs.OrderLemmas.{either, not_below, not_back}

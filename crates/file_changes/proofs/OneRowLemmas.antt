@@ -13,7 +13,7 @@ use Rattle.indexed_file.specs.Sound.{is_row, are_rows}
 use Rattle.indexed_file.proofs.OrderLemmas.{below_differs}
 use Rattle.indexed_file.proofs.ApartLemmas.{apart_back}
 use Rattle.indexed_file.proofs.RowLemmas.{is_before, row_parts, rows_parts}
-use Rattle.page_bytes.specs.Each.{Each}
+use Rattle.pages.specs.Each.{Each}
 use Rattle.key_index.specs.Entries.{has_rank, without_rank}
 use Rattle.open_file.specs.InOrder.{in_order, alt_entry, alt_entries}
 use Rattle.open_file.proofs.OrderLemmas.{either, from_some}

@@ -21,7 +21,7 @@ use Rattle.indexed_file.specs.Sound.{is_row, are_apart, is_file}
 use Rattle.indexed_file.proofs.TestLemmas.{all_from_both}
 use Rattle.indexed_file.proofs.RowLemmas.{row_parts, each_row}
 use Rattle.indexed_file.proofs.ApartLemmas.{are_unlike, apart_from_new, unlike_from_no_clash}
-use Rattle.page_bytes.specs.Each.{Each}
+use Rattle.pages.specs.Each.{Each}
 use Rattle.file_changes.specs.Adding.{stamp_in}
 use Rattle.open_file.proofs.PartsLemmas.{from_eq, each_map}
 use Rattle.file_changes.proofs.ChangedLemmas.{stamp_of_new}

@@ -6,7 +6,7 @@ use Rattle.std.proofs.lemmas.Grind.{common_steps}
 use Rattle.record_layout.specs.Schema.{Schema}
 use Rattle.indexed_file.specs.File.{Row}
 use Rattle.indexed_file.specs.Rank.{row_cmp}
-use Rattle.page_bytes.specs.Each.{Each}
+use Rattle.pages.specs.Each.{Each}
 use Rattle.key_index.specs.declared.entry.AltEntry.{AltEntry}
 use Rattle.open_file.specs.InOrder.{put_row, in_order, alt_entry, alt_entries}
 use Rattle.open_file.proofs.OrderLemmas.{either, not_below}

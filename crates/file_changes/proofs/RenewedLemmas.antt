@@ -8,7 +8,7 @@ use Rattle.indexed_file.specs.Rank.{has_value}
 use Rattle.indexed_file.specs.Change.{others_in, changed_row}
 use Rattle.indexed_file.specs.Sound.{is_row, are_rows}
 use Rattle.indexed_file.proofs.RowLemmas.{rows_parts}
-use Rattle.page_bytes.specs.Each.{Each}
+use Rattle.pages.specs.Each.{Each}
 use Rattle.key_index.specs.declared.entry.PrimeEntry.{PrimeEntry}
 use Rattle.key_index.specs.Entries.{has_prime}
 use Rattle.record_heap.specs.declared.shape.Place.{Place}

@@ -14,7 +14,7 @@ use Rattle.indexed_file.specs.Change.{is_there, is_changed, others_in, repeats_c
 use Rattle.indexed_file.specs.Sound.{is_row, are_rows}
 use Rattle.indexed_file.specs.Answers.{replaced_answer_at}
 use Rattle.indexed_file.specs.declared.answer.Replaced.TheVariants.{Done, Clash}
-use Rattle.page_bytes.specs.Each.{Each}
+use Rattle.pages.specs.Each.{Each}
 use Rattle.file_changes.specs.Replacing.{new_there}
 use Rattle.open_file.proofs.OrderLemmas.{either}
 use Rattle.open_file.proofs.PartsLemmas.{each_map, each_both}

@@ -12,7 +12,7 @@ use Rattle.indexed_file.specs.Rank.{has_value}
 use Rattle.indexed_file.specs.Change.{inserted, others_in}
 use Rattle.indexed_file.specs.Sound.{are_rows}
 use Rattle.indexed_file.proofs.RowLemmas.{is_before, rows_parts}
-use Rattle.page_bytes.specs.Each.{Each}
+use Rattle.pages.specs.Each.{Each}
 use Rattle.key_index.specs.Entries.{has_rank, with_alt}
 use Rattle.open_file.specs.InOrder.{in_order, alt_entry, alt_entries}
 use Rattle.open_file.proofs.OrderLemmas.{either, from_some, not_back}

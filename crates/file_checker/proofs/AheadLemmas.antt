@@ -2,18 +2,18 @@
 use Rattle.std.proofs.Common.{◌≡◌, ◌≢◌, ℕ, zero, suc, ◌+◌, ◌^◌, ◌<◌, ◌≤◌, ltb, ◌||◌, nat_eq, nat_lt, Bool, true, false, List, [], ◌∷◌, ◌++◌, length, map, slice_index_or, Option, Some, None, IsSome, refl, ap, sym, subst, ◌∙◌, arith}
 use Rattle.std.specs.Prelude.{IsTrue, find}
 use Rattle.std.proofs.lemmas.Bool.{and_parts, eq-eqb, lt-ltb, ltb-true}
-use Rattle.page_bytes.specs.Each.{Each}
+use Rattle.pages.specs.Each.{Each}
 use Rattle.pages.specs.Owners.{IsOutside}
 use Rattle.pages.specs.PageMap.{PageMap}
 use Rattle.page_alloc.specs.Chain.{chain, is_among}
 use Rattle.page_alloc.proofs.ChainLemmas.{in_use, is_chain}
-use Rattle.page_marks.specs.Marks.{IsUnmarked, Marks, marked_in}
-use Rattle.page_marks.specs.PageList.{pages_in}
-use Rattle.page_marks.specs.Parted.{all_of, own_at}
-use Rattle.page_marks.proofs.EachLemmas.{each_weaker}
-use Rattle.page_marks.proofs.MarksLemmas.{marks_on, outside_reached}
-use Rattle.page_marks.proofs.PartLemmas.{each_part}
-use Rattle.page_marks.proofs.RefusedLemmas.{still_unmarked}
+use Rattle.pages.specs.Marks.{IsUnmarked, Marks, marked_in}
+use Rattle.pages.specs.PageList.{pages_in}
+use Rattle.pages.specs.Parted.{all_of, own_at}
+use Rattle.pages.proofs.EachLemmas.{each_weaker}
+use Rattle.pages.proofs.MarksLemmas.{marks_on, outside_reached}
+use Rattle.pages.proofs.PartLemmas.{each_part}
+use Rattle.pages.proofs.RefusedLemmas.{still_unmarked}
 use Rattle.page_walks.specs.declared.leaf.Leaf.{Leaf}
 use Rattle.page_walks.specs.FreeWalk.{FreeAhead, FreeWalked, page_in}
 use Rattle.page_walks.specs.Spots.{IsLeafThere, entries_at, spots_in}
@@ -54,8 +54,8 @@ use Rattle.open_file.proofs.HeaderLemmas.{read_back}
 use Rattle.open_file.proofs.OrderLemmas.{either}
 use Rattle.open_file.proofs.PartsLemmas.{found_at, some_none}
 use Rattle.open_file.proofs.RowLemmas.{each_row}
-use Rattle.row_checks.specs.Ahead.{PrimesLead, RowsAhead}
-use Rattle.row_checks.specs.Rows.{PrimesRise, places_in, rows_in}
+use Rattle.file_checker.specs.RowsAhead.{PrimesLead, RowsAhead}
+use Rattle.file_checker.specs.Rows.{PrimesRise, places_in, rows_in}
 use Rattle.file_checker.specs.Ahead.{AlternatesAhead}
 use Rattle.file_checker.specs.Parts.{AlternatesFound, PagesStand}
 use Rattle.file_checker.proofs.RowsAheadLemmas.{all_at, primes_rise, rows_read, slots_are, slots_there}

@@ -9,18 +9,18 @@ use Rattle.bplus_tree.specs.declared.tree.Tree.{Tree}
 use Rattle.bplus_tree.specs.Standing.{TreeStands}
 use Rattle.bplus_tree.specs.Fields.{tree_shape, tree_levels, tree_count}
 use Rattle.tree_search.proofs.DescentLemmas.{tree_ascends}
-use Rattle.page_marks.specs.Marks.{Marks}
-use Rattle.page_marks.specs.PageList.{pages_in}
-use Rattle.page_marks.specs.Parted.{own_at, all_of}
-use Rattle.page_marks.proofs.MarksLemmas.{marks_on}
-use Rattle.page_marks.proofs.PartLemmas.{low_or_not}
+use Rattle.pages.specs.Marks.{Marks}
+use Rattle.pages.specs.PageList.{pages_in}
+use Rattle.pages.specs.Parted.{own_at, all_of}
+use Rattle.pages.proofs.MarksLemmas.{marks_on}
+use Rattle.pages.proofs.PartLemmas.{low_or_not}
 use Rattle.page_walks.specs.declared.spot.Spot.{Spot}
 use Rattle.page_walks.specs.Spots.{entries_at, entry_at_spot}
 use Rattle.page_walks.specs.TreeWalk.{TreeWalked}
 use Rattle.key_index.specs.declared.alt_index.AltIndex.{AltIndex}
 use Rattle.open_file.specs.Fields.{alternates_of, prime_index_of}
 use Rattle.open_file.specs.declared.open_file.OpenFile.{OpenFile}
-use Rattle.row_checks.specs.Rows.{EntriesRise}
+use Rattle.file_checker.specs.Rows.{EntriesRise}
 use Rattle.file_checker.specs.Parts.{AlternateFound, AlternatesFound}
 
 -- the entries of a tree that stands rise

@@ -1,12 +1,12 @@
 -- Alternate indexes that walks have yet to find.
 use Rattle.std.proofs.Common.{◌≡◌, ℕ, ◌+◌, ◌<◌, Bool, List, length, map, slice_index_or, Result, Ok, Err, IfErr, IsErrAnd, refl, sym, subst, arith}
-use Rattle.page_bytes.specs.Each.{Each}
-use Rattle.page_marks.specs.declared.walk_fault.WalkFault.{WalkFault}
-use Rattle.page_marks.specs.declared.walk_fault.WalkFault.TheVariants.{Memory as NoMemory, At}
-use Rattle.page_marks.specs.Marks.{Marks, marked_in}
-use Rattle.page_marks.specs.PageList.{pages_in}
-use Rattle.page_marks.specs.Refused.{RefusesRightly}
-use Rattle.page_marks.proofs.RefusedLemmas.{still_unmarked}
+use Rattle.pages.specs.Each.{Each}
+use Rattle.pages.specs.declared.walk_fault.WalkFault.{WalkFault}
+use Rattle.pages.specs.declared.walk_fault.WalkFault.TheVariants.{Memory as NoMemory, At}
+use Rattle.pages.specs.Marks.{Marks, marked_in}
+use Rattle.pages.specs.PageList.{pages_in}
+use Rattle.pages.specs.Refused.{RefusesRightly}
+use Rattle.pages.proofs.RefusedLemmas.{still_unmarked}
 use Rattle.page_walks.specs.declared.leaf.Leaf.{Leaf}
 use Rattle.page_walks.specs.Spots.{IsLeafThere, entries_at, spots_in}
 use Rattle.page_walks.specs.TreeAhead.{TreeUnmarked}
@@ -18,10 +18,10 @@ use Rattle.key_index.specs.Stored.{alt_bytes}
 use Rattle.open_file.specs.declared.open_file.OpenFile.{OpenFile}
 use Rattle.open_file.specs.Fields.{alternates_of, file_schema}
 use Rattle.open_file.specs.InOrder.{alt_entries}
-use Rattle.row_checks.specs.declared.row_fault.RowFault.{RowFault}
-use Rattle.row_checks.specs.declared.row_fault.RowFault.TheVariants.{Memory as NoRoom, Index}
-use Rattle.row_checks.specs.Ahead.{AlternateAhead, RefusesRows}
-use Rattle.row_checks.specs.Rows.{rows_in}
+use Rattle.file_checker.specs.declared.row_fault.RowFault.{RowFault}
+use Rattle.file_checker.specs.declared.row_fault.RowFault.TheVariants.{Memory as NoRoom, Index}
+use Rattle.file_checker.specs.RowsAhead.{AlternateAhead, RefusesRows}
+use Rattle.file_checker.specs.Rows.{rows_in}
 use Rattle.file_header.specs.declared.header.Header.{Header}
 use Rattle.file_checker.specs.declared.stop.Stop.{Stop}
 use Rattle.file_checker.specs.declared.stop.Stop.TheVariants.{Memory, Unsound}

@@ -5,15 +5,15 @@ use Rattle.std.specs.List.{position_or_len}
 use Rattle.std.proofs.lemmas.Bool.{cases_Bool, lt-ltb}
 use Rattle.std.proofs.lemmas.List.Quantifiers.{position-Some}
 use Rattle.page_alloc.specs.Chain.{is_among}
-use Rattle.page_marks.specs.declared.fault_place.FaultPlace.{FaultPlace}
-use Rattle.page_marks.specs.declared.page_fault.PageFault.{PageFault}
-use Rattle.page_marks.specs.declared.page_fault.PageFault.TheVariants.{Shared as SharedPage, Node as WrongNode, Order as WrongOrder, Chain, Count}
-use Rattle.page_marks.specs.declared.walk_fault.WalkFault.{WalkFault}
-use Rattle.page_marks.specs.declared.walk_fault.WalkFault.TheVariants.{Memory as NoMemory, At}
-use Rattle.page_marks.specs.Marks.{IsUnmarked, Marks, marked_in}
-use Rattle.page_marks.specs.PageList.{pages_in}
-use Rattle.page_marks.specs.Told.{TellsOfFault}
-use Rattle.page_marks.proofs.PartLemmas.{low_or_not}
+use Rattle.pages.specs.declared.fault_place.FaultPlace.{FaultPlace}
+use Rattle.pages.specs.declared.page_fault.PageFault.{PageFault}
+use Rattle.pages.specs.declared.page_fault.PageFault.TheVariants.{Shared as SharedPage, Node as WrongNode, Order as WrongOrder, Chain, Count}
+use Rattle.pages.specs.declared.walk_fault.WalkFault.{WalkFault}
+use Rattle.pages.specs.declared.walk_fault.WalkFault.TheVariants.{Memory as NoMemory, At}
+use Rattle.pages.specs.Marks.{IsUnmarked, Marks, marked_in}
+use Rattle.pages.specs.PageList.{pages_in}
+use Rattle.pages.specs.Told.{TellsOfFault}
+use Rattle.pages.proofs.PartLemmas.{low_or_not}
 use Rattle.page_walks.specs.declared.leaf.Leaf.{Leaf}
 use Rattle.page_walks.specs.FreeWalk.{FreeWalked}
 use Rattle.page_walks.specs.TreeFaults.{IsTreeFault, LeadsDown, MarksBelow, root_place}
@@ -28,10 +28,10 @@ use Rattle.open_file.specs.Fields.{heap_of, prime_index_of}
 use Rattle.open_file.specs.Headers.{IsOpenedBy}
 use Rattle.open_file.specs.declared.open_file.OpenFile.{OpenFile}
 use Rattle.open_file.proofs.OrderLemmas.{either}
-use Rattle.row_checks.specs.declared.row_fault.RowFault.{RowFault}
-use Rattle.row_checks.specs.declared.row_fault.RowFault.TheVariants.{Memory as NoRoom, Index as WrongIndex}
-use Rattle.row_checks.specs.Ahead.{PrimesLead}
-use Rattle.row_checks.specs.Faults.{IsAlternateFault, TellsOfRows}
+use Rattle.file_checker.specs.declared.row_fault.RowFault.{RowFault}
+use Rattle.file_checker.specs.declared.row_fault.RowFault.TheVariants.{Memory as NoRoom, Index as WrongIndex}
+use Rattle.file_checker.specs.RowsAhead.{PrimesLead}
+use Rattle.file_checker.specs.RowFaults.{IsAlternateFault, TellsOfRows}
 use Rattle.file_checker.specs.declared.verdict.Reason.{Reason}
 use Rattle.file_checker.specs.declared.stop.Stop.{Stop}
 use Rattle.file_checker.specs.declared.stop.Stop.TheVariants.{Memory, Unsound}

@@ -1,3 +1,15 @@
+pub mod EntryLemmas
+pub mod SpotLemmas
+pub mod StampLemmas
+pub mod SlotLemmas
+pub mod ByteLemmas
+pub mod RowLemmas
+pub mod SortedLemmas
+pub mod AlternateRowLemmas
+pub mod LawLemmas
+pub mod SearchLemmas
+pub mod PrimeAheadLemmas
+pub mod RowFaultLemmas
 pub mod ReadLemmas
 pub mod AlternateLemmas
 pub mod StandLemmas

@@ -8,8 +8,8 @@ use Rattle.file_checker.specs.declared.verdict.CheckFault.{CheckFault}
 use Rattle.file_checker.specs.declared.verdict.CheckFault.TheVariants.{Input}
 use borrow.Rule.Slice.PartMut.{put_mid, post_of}
 use Rattle.std.specs.Io.KnownBytes.{Consumes, Keeps}
-use Rattle.page_bytes.specs.Each.{Each}
-use Rattle.page_marks.proofs.EachLemmas.{each_join}
+use Rattle.pages.specs.Each.{Each}
+use Rattle.pages.proofs.EachLemmas.{each_join}
 use Rattle.page_store.specs.DeviceFile.{page_of_bytes}
 use Rattle.file_checker.specs.Bytes.{HasLess, HasGiven, HasGivenLess, HasGivenPages, bytes_of_pages, AreRead, AreFirstPages, ReadsOrEnds}
 

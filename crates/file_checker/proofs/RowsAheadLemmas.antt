@@ -5,8 +5,8 @@ use Rattle.std.specs.List.{list_all}
 use Rattle.std.specs.Ordering.{is_lt}
 use Rattle.std.proofs.Math.Seq.{drop-append_seam}
 use Rattle.std.proofs.lemmas.Bool.{and_parts, eq-eqb, lt-ltb}
-use Rattle.page_bytes.specs.Each.{Each}
-use Rattle.page_marks.specs.PageList.{pages_in}
+use Rattle.pages.specs.Each.{Each}
+use Rattle.pages.specs.PageList.{pages_in}
 use Rattle.page_walks.specs.declared.spot.Spot.{Spot}
 use Rattle.page_walks.specs.Spots.{entries_at}
 use Rattle.record_layout.specs.Schema.{Schema, prime_of}
@@ -35,7 +35,7 @@ use Rattle.open_file.proofs.OrderLemmas.{either}
 use Rattle.open_file.proofs.PartsLemmas.{from_eq}
 use Rattle.open_file.proofs.ReadOffLemmas.{stamps_back}
 use Rattle.bplus_tree.specs.Fields.{tree_shape}
-use Rattle.row_checks.specs.Rows.{PrimesRise, place_at, places_in, prime_at, row_at, rows_in}
+use Rattle.file_checker.specs.Rows.{PrimesRise, place_at, places_in, prime_at, row_at, rows_in}
 
 -- ---- rows read back
 

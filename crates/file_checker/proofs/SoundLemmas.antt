@@ -8,8 +8,8 @@ use Rattle.std.specs.Io.KnownBytes.{Consumes}
 use Rattle.pages.specs.PageMap.{PageMap}
 use Rattle.page_store.specs.DeviceFile.{page_of_bytes}
 use Rattle.page_alloc.specs.Chain.{chain, used}
-use Rattle.page_marks.specs.declared.fault_place.FaultPlace.{FaultPlace}
-use Rattle.page_marks.specs.declared.fault_place.FaultPlace.TheVariants.{File as TheFile}
+use Rattle.pages.specs.declared.fault_place.FaultPlace.{FaultPlace}
+use Rattle.pages.specs.declared.fault_place.FaultPlace.TheVariants.{File as TheFile}
 use Rattle.page_walks.specs.FreeWalk.{page_in}
 use Rattle.page_walks.specs.WholeFile.{pages_used_in}
 use Rattle.file_header.specs.declared.header.Header.{Header}

@@ -5,10 +5,10 @@ use Rattle.pages.specs.PageMap.{PageMap}
 use Rattle.bplus_tree.specs.declared.tree.Tree.{Tree}
 use Rattle.bplus_tree.specs.Standing.{TreeStands}
 use Rattle.bplus_tree.specs.Fields.{tree_shape}
-use Rattle.page_marks.specs.Marks.{Marks}
-use Rattle.page_marks.specs.PageList.{pages_in}
-use Rattle.page_marks.specs.Parted.{own_at, all_of}
-use Rattle.page_marks.proofs.MarksLemmas.{marks_on, outside_reached}
+use Rattle.pages.specs.Marks.{Marks}
+use Rattle.pages.specs.PageList.{pages_in}
+use Rattle.pages.specs.Parted.{own_at, all_of}
+use Rattle.pages.proofs.MarksLemmas.{marks_on, outside_reached}
 use Rattle.page_walks.specs.declared.spot.Spot.{Spot}
 use Rattle.page_walks.specs.Spots.{entries_at}
 use Rattle.page_walks.specs.TreeWalk.{TreeWalked}
@@ -30,9 +30,9 @@ use Rattle.open_file.specs.InOrder.{alt_entries, prime_entries}
 use Rattle.open_file.specs.Parts.{Parts, prime_pages, alternate_pages}
 use Rattle.open_file.specs.Paths.{IsOnPath}
 use Rattle.open_file.specs.Stands.{Stands}
-use Rattle.row_checks.specs.Alternate.{RanksDiffer}
-use Rattle.row_checks.specs.Laws.{RowsMakeAFile}
-use Rattle.row_checks.specs.Rows.{RowsStand, places_in, rows_in, row_at}
+use Rattle.file_checker.specs.Alternate.{RanksDiffer}
+use Rattle.file_checker.specs.RowLaws.{RowsMakeAFile}
+use Rattle.file_checker.specs.Rows.{RowsStand, places_in, rows_in, row_at}
 use Rattle.file_checker.specs.Parts.{AlternatesFound, PagesStand}
 use Rattle.file_checker.specs.Lost.{LeavesOut}
 use Rattle.file_checker.proofs.AlternateLemmas.{spots_many}

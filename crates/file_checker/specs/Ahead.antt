@@ -1,9 +1,9 @@
 -- What the walks of a file that stands have yet to find.
 use Rattle.std.specs.Prelude.{◌≡◌, ◌≢◌, ℕ, ◌≤◌, ◌<◌, Bool, List, length, slice_index_or, ⊤}
-use Rattle.page_bytes.specs.Each.{Each}
+use Rattle.pages.specs.Each.{Each}
 use Rattle.pages.specs.Owners.{IsOutside}
-use Rattle.page_marks.specs.Marks.{IsUnmarked}
-use Rattle.page_marks.specs.PageList.{pages_in}
+use Rattle.pages.specs.Marks.{IsUnmarked}
+use Rattle.pages.specs.PageList.{pages_in}
 use Rattle.page_walks.specs.declared.leaf.Leaf.{Leaf}
 use Rattle.page_walks.specs.Spots.{spots_in}
 use Rattle.key_index.specs.declared.alt_index.AltIndex.{AltIndex}
@@ -11,8 +11,8 @@ use Rattle.key_index.specs.Standing.{AltStands, alt_key}
 use Rattle.open_file.specs.Fields.{alternates_of, file_schema}
 use Rattle.open_file.specs.InOrder.{alt_entries}
 use Rattle.open_file.specs.declared.open_file.OpenFile.{OpenFile}
-use Rattle.row_checks.specs.Rows.{rows_in}
-use Rattle.row_checks.specs.Ahead.{PrimesLead}
+use Rattle.file_checker.specs.Rows.{rows_in}
+use Rattle.file_checker.specs.RowsAhead.{PrimesLead}
 use Rattle.file_checker.specs.declared.stop.Stop.{Stop}
 use Rattle.file_checker.specs.declared.stop.Stop.TheVariants.{Memory, Unsound}
 

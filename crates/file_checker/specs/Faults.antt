@@ -1,11 +1,11 @@
 -- What is wrong with the pages of a file, and where.
 use Rattle.std.specs.Prelude.{◌≡◌, ◌⊎◌, ℕ, ◌<◌, Bool, true, List, length, slice_index_or, Some}
-use Rattle.page_bytes.specs.Each.{Each}
+use Rattle.pages.specs.Each.{Each}
 use Rattle.page_alloc.specs.Chain.{chain, is_among}
-use Rattle.page_marks.specs.declared.fault_place.FaultPlace.{FaultPlace}
-use Rattle.page_marks.specs.declared.page_fault.PageFault.{PageFault}
-use Rattle.page_marks.specs.Marks.{marked_in}
-use Rattle.page_marks.specs.PageList.{pages_in}
+use Rattle.pages.specs.declared.fault_place.FaultPlace.{FaultPlace}
+use Rattle.pages.specs.declared.page_fault.PageFault.{PageFault}
+use Rattle.pages.specs.Marks.{marked_in}
+use Rattle.pages.specs.PageList.{pages_in}
 use Rattle.page_walks.specs.declared.leaf.Leaf.{Leaf}
 use Rattle.page_walks.specs.FreeWalk.{IsFreeFault, page_in}
 use Rattle.page_walks.specs.Spots.{IsLeafThere, entries_at, spots_in}
@@ -20,7 +20,7 @@ use Rattle.file_header.specs.declared.header.Header.{Header}
 use Rattle.open_file.specs.Fields.{alternates_of, heap_of, prime_index_of}
 use Rattle.open_file.specs.Headers.{IsOpenedBy}
 use Rattle.open_file.specs.declared.open_file.OpenFile.{OpenFile}
-use Rattle.row_checks.specs.Faults.{IsAlternateFault, IsRowFault}
+use Rattle.file_checker.specs.RowFaults.{IsAlternateFault, IsRowFault}
 
 -- ---- which pages the parts of a file reach
 

@@ -1,18 +1,18 @@
 -- Why the walks of a file that can be opened stop.
 use Rattle.std.specs.Prelude.{◌≡◌, ◌⊎◌, ℕ, Bool, true, List, length, ⊤, Result, OnOk, IfErr}
-use Rattle.page_marks.specs.declared.fault_place.FaultPlace.{FaultPlace}
-use Rattle.page_marks.specs.Marks.{marked_in}
+use Rattle.pages.specs.declared.fault_place.FaultPlace.{FaultPlace}
+use Rattle.pages.specs.Marks.{marked_in}
 use Rattle.page_walks.specs.declared.leaf.Leaf.{Leaf}
 use Rattle.open_file.specs.declared.open_file.OpenFile.{OpenFile}
-use Rattle.page_marks.specs.declared.page_fault.PageFault.{PageFault}
-use Rattle.page_marks.specs.declared.page_fault.PageFault.TheVariants.{Shared as SharedPage}
-use Rattle.page_marks.specs.declared.page_fault.PageFault.TheVariants.{Node as WrongNode}
-use Rattle.page_marks.specs.declared.page_fault.PageFault.TheVariants.{Order as WrongOrder, Chain}
-use Rattle.page_marks.specs.declared.page_fault.PageFault.TheVariants.{Count}
-use Rattle.page_marks.specs.declared.walk_fault.WalkFault.{WalkFault}
-use Rattle.page_marks.specs.declared.walk_fault.WalkFault.TheVariants.{Memory as NoMemory, At}
-use Rattle.row_checks.specs.declared.row_fault.RowFault.{RowFault}
-use Rattle.row_checks.specs.declared.row_fault.RowFault.TheVariants.{Memory as NoRoom, Index as WrongIndex}
+use Rattle.pages.specs.declared.page_fault.PageFault.{PageFault}
+use Rattle.pages.specs.declared.page_fault.PageFault.TheVariants.{Shared as SharedPage}
+use Rattle.pages.specs.declared.page_fault.PageFault.TheVariants.{Node as WrongNode}
+use Rattle.pages.specs.declared.page_fault.PageFault.TheVariants.{Order as WrongOrder, Chain}
+use Rattle.pages.specs.declared.page_fault.PageFault.TheVariants.{Count}
+use Rattle.pages.specs.declared.walk_fault.WalkFault.{WalkFault}
+use Rattle.pages.specs.declared.walk_fault.WalkFault.TheVariants.{Memory as NoMemory, At}
+use Rattle.file_checker.specs.declared.row_fault.RowFault.{RowFault}
+use Rattle.file_checker.specs.declared.row_fault.RowFault.TheVariants.{Memory as NoRoom, Index as WrongIndex}
 use Rattle.file_header.specs.declared.header.Header.{Header}
 use Rattle.file_checker.specs.declared.verdict.Reason.{Reason}
 use Rattle.file_checker.specs.declared.verdict.Reason.TheVariants.{Short, Gate, Header as NoHeader}

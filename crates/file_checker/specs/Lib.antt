@@ -1,3 +1,10 @@
+pub mod Rows
+pub mod Leading
+pub mod Alternate
+pub mod Search
+pub mod RowsAhead
+pub mod RowLaws
+pub mod RowFaults
 pub mod Numbers
 pub mod Bytes
 pub mod Parts

@@ -3,10 +3,10 @@ use Rattle.std.specs.Prelude.{◌≡◌, ℕ, ◌+◌, ◌<◌, ◌≤◌, Bool,
 use Rattle.std.specs.Prelude.{slice_index_or}
 use Rattle.pages.specs.Owners.{IsOutside}
 use Rattle.page_alloc.specs.Chain.{chain}
-use Rattle.page_marks.specs.declared.fault_place.FaultPlace.{FaultPlace}
-use Rattle.page_marks.specs.declared.fault_place.FaultPlace.TheVariants.{Page}
-use Rattle.page_marks.specs.PageList.{pages_in}
-use Rattle.page_marks.specs.Parted.{all_of}
+use Rattle.pages.specs.declared.fault_place.FaultPlace.{FaultPlace}
+use Rattle.pages.specs.declared.fault_place.FaultPlace.TheVariants.{Page}
+use Rattle.pages.specs.PageList.{pages_in}
+use Rattle.pages.specs.Parted.{all_of}
 use Rattle.open_file.specs.Parts.{heap_pages, prime_pages, alternate_pages}
 use Rattle.record_heap.specs.Standing.{HeapStands, slot_shape}
 use Rattle.record_heap.specs.Walk.{slots_of}

@@ -1,9 +1,9 @@
 -- What is found of the parts of a file whose pages were read into a list.
 use Rattle.std.specs.Prelude.{◌≡◌, ℕ, ◌<◌, Bool, false, List, IsSome, length, slice_index_or}
 use Rattle.indexed_file.specs.File.{File}
-use Rattle.page_marks.specs.Marks.{Marks, marked_in}
-use Rattle.page_marks.specs.PageList.{pages_in}
-use Rattle.page_marks.specs.Parted.{own_at, all_of}
+use Rattle.pages.specs.Marks.{Marks, marked_in}
+use Rattle.pages.specs.PageList.{pages_in}
+use Rattle.pages.specs.Parted.{own_at, all_of}
 use Rattle.page_alloc.specs.Chain.{chain}
 use Rattle.page_walks.specs.declared.spot.Spot.{Spot}
 use Rattle.page_walks.specs.Spots.{entries_at}
@@ -18,7 +18,7 @@ use Rattle.open_file.specs.Fields.{alternates_of}
 use Rattle.open_file.specs.declared.open_file.OpenFile.{OpenFile}
 use Rattle.open_file.specs.Headers.{IsOpenedBy}
 use Rattle.open_file.specs.Stands.{Stands}
-use Rattle.row_checks.specs.Alternate.{AlternateStands}
+use Rattle.file_checker.specs.Alternate.{AlternateStands}
 
 -- the index stands in pages of its own, and its entries are those of the rows
 pub record AlternateFound (opened : OpenFile) (list : List (List ℕ)) (primes : List Spot)

@@ -14,8 +14,7 @@ use crate::stop::Stop;
 use crate::verdict::{CheckFault, Reason, Verdict};
 use byteorder::{BigEndian, ByteOrder};
 use file_header::Header;
-use page_bytes::PAGE_SIZE;
-use page_marks::FaultPlace;
+use pages::{FaultPlace, PAGE_SIZE};
 use std::alloc::Global;
 use std::io::Read;
 

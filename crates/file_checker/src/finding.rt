@@ -4,7 +4,7 @@ ghost use Rattle.std.specs.Prelude.{◌≡◌};
 ghost use Rattle.file_checker.specs.Findings.{verdict_of};
 
 use crate::verdict::{Reason, Verdict};
-use page_marks::FaultPlace;
+use pages::FaultPlace;
 
 /// What a file is: one of so many records in so many pages, the first page among them, or not
 /// sound, and where that was met. The place of the first three reasons is the file as a whole.

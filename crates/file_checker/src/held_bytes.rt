@@ -5,7 +5,7 @@ ghost use Rattle.std.specs.Option.{IfSome};
 ghost use Rattle.file_header.specs.Reading.{header_in};
 ghost use Rattle.file_header.specs.Bounds.{IsHeader};
 ghost use Rattle.page_store.specs.DeviceFile.{page_of_bytes};
-ghost use Rattle.page_marks.specs.declared.fault_place.FaultPlace.TheVariants.{File as TheFile};
+ghost use Rattle.pages.specs.declared.fault_place.FaultPlace.TheVariants.{File as TheFile};
 ghost use Rattle.file_checker.specs.Sound.{IsRight, IsRightFinding, IsRightOfPages, IsUnsoundAt};
 ghost use Rattle.file_checker.specs.Bytes.{AreAllPages, AreFrontOf};
 
@@ -15,8 +15,7 @@ use crate::stop::Stop;
 use crate::verdict::{Reason, Verdict};
 use byteorder::{BigEndian, ByteOrder};
 use file_header::Header;
-use page_bytes::PAGE_SIZE;
-use page_marks::FaultPlace;
+use pages::{FaultPlace, PAGE_SIZE};
 use std::alloc::{AllocError, Global};
 
 /// Where the first page counts the pages, itself among them.

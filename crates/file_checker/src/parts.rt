@@ -6,19 +6,19 @@ ghost use Rattle.file_header.specs.Bounds.{IsHeader};
 ghost use Rattle.open_file.specs.Stands.{IsShaped};
 ghost use Rattle.file_checker.specs.Ahead.{AlternatesAhead, StopsRightly};
 ghost use Rattle.file_checker.specs.Later.{ChecksPages, StopsWalk, TellsOfIndexes};
-ghost use Rattle.row_checks.specs.Ahead.{PrimesLead};
+ghost use Rattle.file_checker.specs.RowsAhead.{PrimesLead};
 ghost use Rattle.file_checker.specs.Lost.{first_unmarked};
 ghost use Rattle.file_checker.specs.Parts.{AllFound, AlternatesCount, MayCheckParts};
 
+use crate::alternate::check_alternate;
+use crate::prime_rows::check_rows;
 use crate::stop::Stop;
 use crate::verdict::Reason;
 use file_header::Header;
 use open_file::OpenFile;
-use page_bytes::PAGE_SIZE;
-use page_marks::{FaultPlace, mark};
 use page_walks::{Leaf, walk_free, walk_tree};
+use pages::{FaultPlace, PAGE_SIZE, mark};
 use record_heap::walk_heap;
-use row_checks::{check_alternate, check_rows};
 use std::alloc::Global;
 
 /// Walks the index of each alternate key, and compares it with the rows to which the entries of

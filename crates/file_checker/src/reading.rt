@@ -7,7 +7,7 @@ ghost use Rattle.file_checker.specs.Bytes.{TakesPart, ReadsPageOrEnds, SkipsOrEn
 ghost use Rattle.file_checker.specs.Bytes.{BreaksOffAt};
 
 use crate::verdict::CheckFault;
-use page_bytes::PAGE_SIZE;
+use pages::PAGE_SIZE;
 use std::io::{ErrorKind, Read};
 
 /// So many interrupted reads in a row are a fault of the input.

@@ -3,9 +3,9 @@
 ghost use Rattle.std.specs.Prelude.{◌≡◌};
 ghost use Rattle.file_checker.specs.Later.{IsMet, reason_by_walk};
 
+use crate::row_fault::RowFault;
 use crate::verdict::Reason;
-use page_marks::{FaultPlace, PageFault, WalkFault};
-use row_checks::RowFault;
+use pages::{FaultPlace, PageFault, WalkFault};
 use thiserror::Error;
 
 /// Why a list of pages was not found to be a file.

@@ -5,10 +5,10 @@ use Rattle.record_listing.specs.declared.asked.Asked.{Asked}
 use Rattle.record_listing.specs.declared.end.ListEnd.{ListEnd}
 use Rattle.record_listing.specs.declared.end.ListEnd.TheVariants.{Listed as LinesWritten, NoKey as HasNoKey, Absent, Unsound as NotOpened, Damaged}
 use Rattle.record_listing.specs.declared.end.ListFault.{ListFault}
-use Rattle.file_listing.specs.declared.listing.FileList.{FileList}
-use Rattle.file_listing.specs.declared.listing.FileList.TheVariants.{Listed, NoKey, Unsound}
+use Rattle.record_listing.specs.declared.file_list.FileList.{FileList}
+use Rattle.record_listing.specs.declared.file_list.FileList.TheVariants.{Listed, NoKey, Unsound}
 use Rattle.folder_shelf.specs.Replay.{Unseen}
-use Rattle.path_listing.specs.ByPath.{ByReadsAside, ListsAtPath}
+use Rattle.record_listing.specs.ByPath.{ByReadsAside, ListsAtPath}
 use Rattle.recorded_system.specs.Calls.{Call}
 use Rattle.recorded_system.specs.SystemState.{SystemState}
 use Rattle.recorded_system.specs.Reading.{ByReads}

@@ -4,8 +4,8 @@ use Rattle.record_layout.specs.Schema.{Schema}
 use Rattle.record_listing.specs.declared.asked.Asked.{Asked}
 use Rattle.record_listing.specs.declared.end.ListFault.{ListFault}
 use Rattle.record_forms.specs.declared.form.Form.{Form}
-use Rattle.file_listing.specs.Listing.{EndsIn}
-use Rattle.file_listing.specs.declared.listing.FileList.{FileList}
+use Rattle.record_listing.specs.FileList.{EndsIn}
+use Rattle.record_listing.specs.declared.file_list.FileList.{FileList}
 use Rattle.command_words.specs.Asks.{form_text}
 use Rattle.command_words.specs.declared.form_words.FormWords.{FormWords}
 use Rattle.recorded_system.specs.Calls.{Call}

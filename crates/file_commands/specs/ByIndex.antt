@@ -13,10 +13,10 @@ use Rattle.record_listing.specs.declared.end.ListEnd.TheVariants.{Absent, Unsoun
 use Rattle.record_listing.specs.declared.end.ListFault.{ListFault}
 use Rattle.file_checker.specs.Sound.{IsRight}
 use Rattle.file_checker.specs.declared.verdict.Verdict.TheVariants.{Unsound as IsRefused}
-use Rattle.file_listing.specs.declared.listing.FileList.{FileList}
-use Rattle.file_listing.specs.declared.listing.FileList.TheVariants.{Listed, NoKey, Unsound}
+use Rattle.record_listing.specs.declared.file_list.FileList.{FileList}
+use Rattle.record_listing.specs.declared.file_list.FileList.TheVariants.{Listed, NoKey, Unsound}
 use Rattle.folder_shelf.specs.Replay.{Unseen}
-use Rattle.path_listing.specs.ByPath.{ListsAtPath}
+use Rattle.record_listing.specs.ByPath.{ListsAtPath}
 use Rattle.path_shelf.specs.Answers.{are_answers_of}
 use Rattle.recorded_system.specs.Calls.{Call, taken_shared}
 use Rattle.command_outcomes.specs.Status.{status_of}

@@ -9,8 +9,8 @@ use Rattle.schema_listing.specs.Comparing.{comparison_of, TellsDifferences}
 use Rattle.schema_listing.specs.declared.comparing.Comparison.TheVariants.{Same, Different}
 use Rattle.record_listing.specs.declared.asked.Asked.{Asked}
 use Rattle.record_forms.specs.declared.form.Form.{Form}
-use Rattle.file_listing.specs.Listing.{EndsWithIn}
-use Rattle.file_listing.specs.declared.listing.FileList.{FileList}
+use Rattle.record_listing.specs.FileList.{EndsWithIn}
+use Rattle.record_listing.specs.declared.file_list.FileList.{FileList}
 use Rattle.record_listing.specs.declared.end.ListFault.{ListFault}
 use Rattle.command_outcomes.specs.Status.{status_of}
 use Rattle.command_outcomes.specs.declared.fault.Fault.{Fault}

@@ -1,7 +1,7 @@
 //! The list of the records of the file of a path, read page after page.
 ghost use Rattle.std.specs.Prelude.{◌≡◌, []};
 ghost use Rattle.recorded_system.specs.Reading.{ByReads};
-ghost use Rattle.path_listing.specs.ByPath.{ByReadsAside};
+ghost use Rattle.record_listing.specs.ByPath.{ByReadsAside};
 ghost use Rattle.file_commands.specs.ByIndex.{TellsReason, ToldOfPages, ReadsStart, ListsPages, ListsByIndex};
 
 use crate::file_bytes::{fault_of as not_read, read_counted, read_first_page};
@@ -10,15 +10,13 @@ use crate::listing::{Bounds, asked_by, is_other};
 use command_outcomes::{Fault, Outcome};
 use command_words::FormWords;
 use file_checker::{Verdict, check_bytes};
-use file_listing::FileList;
 use folder_shelf::Disk;
-use path_listing::list_at_path;
-use progress::Progress;
 use record_forms::Form;
-use record_listing::{Asked, ListEnd, ListFault};
+use record_listing::{Asked, FileList, ListEnd, ListFault, list_at_path};
 use recorded_system::{CallRecord, System};
 use std::alloc::Global;
 use std::io::{Read, Write};
+use streams::Progress;
 
 /// What is listed of a file, in which form, and the first page of the file.
 #[derive(Drop)]

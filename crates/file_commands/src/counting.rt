@@ -8,10 +8,10 @@ ghost use Rattle.command_outcomes.specs.Status.{status_of};
 use crate::file_bytes::{fault_of as not_read, read_counted};
 use command_outcomes::{Fault, Outcome};
 use file_statistics::{FileStatisticsEnd, StatisticsFault, list_statistics};
-use progress::Silent;
 use recorded_system::System;
 use std::alloc::Global;
 use std::io::Write;
+use streams::Silent;
 
 /// Why nothing is told of a file, or not all.
 fn fault_of(fault: StatisticsFault) -> Fault

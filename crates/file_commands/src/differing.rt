@@ -7,12 +7,12 @@ ghost use Rattle.file_commands.specs.Differing.{differences_of_page, GivesDiffer
 
 use command_outcomes::Fault;
 use io_state::FileName;
-use page_bytes::PAGE_SIZE;
-use progress::Silent;
+use pages::PAGE_SIZE;
 use record_layout::Schema;
 use recorded_system::System;
 use schema_listing::compare_schema;
 use std::alloc::Global;
+use streams::Silent;
 
 /// A line for each difference of the schema of the file that begins with these bytes from that of a
 /// deck; none, where its first page is none.

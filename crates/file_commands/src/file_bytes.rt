@@ -10,11 +10,11 @@ ghost use Rattle.file_commands.specs.Front.{ReadsDeckNamed, ReadsTextNamed, Read
 use byteorder::{BigEndian, ByteOrder};
 use command_outcomes::Fault;
 use file_control::DECK_LIMIT;
-use page_bytes::PAGE_SIZE;
-use progress::{Progress, Silent};
+use pages::PAGE_SIZE;
 use recorded_system::System;
 use std::alloc::Global;
 use std::io::{ErrorKind, Read};
+use streams::{Progress, Silent};
 use system_files::{Cause, ReadFault, read_front, read_lines};
 
 /// The bytes that are read of a deck: one more than the longest deck has.

@@ -10,14 +10,13 @@ use crate::first_page::fault_of;
 use crate::forms::form_of;
 use command_outcomes::{Fault, Outcome};
 use command_words::FormWords;
-use file_listing::{FileList, list_file_as};
-use progress::Progress;
 use record_layout::Schema;
-use record_listing::{Asked, ListFault};
+use record_listing::{Asked, FileList, ListFault, list_file_as};
 use recorded_system::System;
 use schema_listing::{Comparison, compare_schema};
 use std::alloc::Global;
 use std::io::{Read, Write};
+use streams::Progress;
 
 /// What is asked of the list of a file: the number of a key, the first and the last value, and how
 /// many records at most.

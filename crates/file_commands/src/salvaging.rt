@@ -11,13 +11,13 @@ use crate::deck::{deck_at, file_in};
 use crate::file_bytes::fault_of as not_read;
 use crate::listing::is_other;
 use command_outcomes::{Fault, FormFault, Outcome};
-use progress::Silent;
 use record_layout::Schema;
 use record_listing::ListFault;
 use recorded_system::System;
 use salvaged_records::{close_gate, salvage_records};
 use std::alloc::Global;
 use std::io::{Read, Write};
+use streams::Silent;
 
 /// The most bytes of a file: those of as many pages as can be numbered.
 const MOST_BYTES: usize = 17_592_186_044_416;

@@ -13,10 +13,10 @@ use crate::file_bytes::{fault_of, read_counted};
 use crate::verdict_lines::{named_line, unread_line, verdict_line};
 use command_outcomes::{Fault, Outcome, WorstCheck};
 use file_checker::{Verdict, check_bytes};
-use progress::Progress;
 use recorded_system::System;
 use std::alloc::Global;
 use std::io::Write;
+use streams::Progress;
 use system_files::{Cause, ReadFault};
 
 /// Why there is no verdict on a file.

@@ -10,12 +10,12 @@ use Rattle.deck_parser.specs.Operand.{digits}
 use Rattle.deck_parser.specs.Notation.{the, name, literal, period}
 use Rattle.deck_entries.specs.FileControlEntry.{FileControlEntry}
 use Rattle.deck_words.specs.Word.{Word}
-use Rattle.deck_entries.specs.FileControlEntry.{mode, clause, select_behind}
+use Rattle.deck_entries.specs.FileControlEntry.{mode, indexed, access, record_key, duplicates, alternate, status, clause, entry_end, entry_keys, select_word, new_name, new_file_name, select_behind}
 use Rattle.deck_words.proofs.TestLemmas.{bind_some, bind_is, map_some}
 use Rattle.deck_parser.proofs.ClassLemmas.{begins_apart}
 use Rattle.deck_entries.specs.declared.divisions.Divisions.{Divisions}
-use Rattle.deck_entries.specs.FileDescription.{count, length_clause, description_clause, picture_clause, item, FileDescription, StorageEntry, description_behind, storage_item}
-use Rattle.deck_entries.specs.Divisions.{file_control_paragraph, data_division, SpellsDivisions, reads_divisions}
+use Rattle.deck_entries.specs.FileDescription.{count, length_clause, label, block, record_clause, description_clause, picture_clause, level, item_name, may_item_name, item, more_item, FileDescription, StorageEntry, described_name, description_behind, storage_item, more_storage}
+use Rattle.deck_entries.specs.Divisions.{more_entry, file_control_paragraph, more_description, storage_section, data_division, SpellsDivisions, reads_divisions}
 use Rattle.file_control.specs.declared.description.Description.{Description}
 use Rattle.file_control.specs.Description.{FileDesc, LengthItem}
 use Rattle.file_control.specs.Whole.{Describe, IsDescription}
@@ -23,7 +23,7 @@ use Rattle.file_control.specs.FirstFault.{HasDivisions}
 use Rattle.deck_entries.proofs.DivisionLemmas.{lawful_file_control, file_control_is_fit, lawful_data_division, data_division_is_fit}
 
 control_goes_on : all_apart (this (codes "DATA") ∷ []) file_control_paragraph.goes_on ≡ true
-unfolding file_control_paragraph select_behind clause mode the name literal period is_reserved
+unfolding file_control_paragraph more_entry select_behind select_word new_name new_file_name entry_keys entry_end clause indexed access record_key duplicates alternate status mode the name literal period is_reserved
 control_goes_on = refl
 
 data_starts : (selected : List FileControlEntry) → (data_division selected).starts ≡ this (codes "DATA") ∷ []
@@ -35,7 +35,7 @@ unfolding data_division the
 data_some selected = refl
 
 data_goes_on : (selected : List FileControlEntry) → all_apart (this (codes "PROCEDURE") ∷ []) (data_division selected).goes_on ≡ true
-unfolding data_division storage_item description_behind description_clause length_clause count digits item picture_clause the name period is_reserved
+unfolding data_division storage_section more_storage storage_item more_description description_behind described_name description_clause label block record_clause length_clause count digits more_item item level may_item_name item_name picture_clause the name period is_reserved
 data_goes_on selected = refl
 
 pub reads_sound : (divisions : Divisions) (words rest : List Word) → reads_divisions words ≡ Some (divisions, rest) → SpellsDivisions divisions words rest

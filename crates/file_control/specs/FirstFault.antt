@@ -1,8 +1,10 @@
--- The first fault of the files and the 77-level items of a deck, by its line and its code. In which
--- order they are looked at is ours.
+-- The first fault of the entries of a deck, and of the files and the 77-level items that they
+-- describe, by its line and its code. In which order they are looked at is ours.
 use Rattle.std.specs.Prelude.{◌≡◌, ◌≤◌, ◌⊎◌, ℕ, Bool, true, not, List, [], ◌∷◌, ◌++◌, length, drop, codes, find}
 use Rattle.std.specs.Prelude.{Option, Some, None, is_some, position, bytes_eq, IsTrue, IsFalse, Result, IfErr}
 use Rattle.deck_parser.specs.Class.{this, begins}
+use Rattle.deck_parser.specs.Rule.{Stop, stop_at, stop_behind}
+use Rattle.deck_parser.specs.Unfit.{IsFirstLine}
 use Rattle.deck_words.specs.Fault.{IsFault, told, fault_of}
 use Rattle.deck_words.specs.Word.{Word}
 use Rattle.deck_words.specs.declared.fault.DeckFault.{DeckFault}
@@ -13,7 +15,7 @@ use Rattle.deck_entries.specs.FileDescription.{FileDescription, StorageEntry}
 use Rattle.deck_entries.specs.declared.divisions.Divisions.{Divisions}
 use Rattle.deck_entries.specs.declared.record_length.RecordLength.{RecordLength}
 use Rattle.deck_entries.specs.declared.record_length.RecordLength.TheVariants.{Fixed, Varying}
-use Rattle.deck_entries.specs.Divisions.{SpellsDivisions}
+use Rattle.deck_entries.specs.Divisions.{SpellsDivisions, reads_divisions, divisions_stop}
 use Rattle.file_control.specs.Checks.{are_keys_named, are_new}
 use Rattle.file_control.specs.Description.{FileDesc, IsFile, GivesKeys, DependsOn, HasDigits}
 use Rattle.file_control.specs.Description.{least_length, has_name, with_names}
@@ -88,9 +90,21 @@ HasDivisions words divisions =
     (count : ℕ) × (count ≤ length words) × SpellsDivisions divisions words (drop count words)
     × IsTrue (begins (this (codes "PROCEDURE") ∷ []) (drop count words))
 
+-- where the reading of words stops that have no divisions: where the rules stop, or, with code 2, at
+-- the first word behind what they read
+abbrev pub entries_stop : List Word → Stop
+entries_stop words = stop_behind (reads_divisions words) (divisions_stop words) (λ read. stop_at read.1 2)
+
+-- the words have no divisions, and the fault is told where their reading stops: in the line of the
+-- word there, and with the code that it has
+pub record IsEntriesFault (words : List Word) (fault : DeckFault) : Type 0 where
+  pub none : (divisions : Divisions) → HasDivisions words divisions → ⊥
+  pub line : IsFirstLine (entries_stop words).words fault.line
+  pub code : fault.code ≡ (entries_stop words).code
+
 -- the words have no description: they have no divisions, or these have a fault, and this is the first
 abbrev pub IsDescriptionFault : List Word → DeckFault → Type 0
-IsDescriptionFault words fault = ((divisions : Divisions) → HasDivisions words divisions → ⊥)
+IsDescriptionFault words fault = IsEntriesFault words fault
     ⊎ ((divisions : Divisions) × HasDivisions words divisions × IsContentsFault divisions fault)
 
 -- ---- what is told

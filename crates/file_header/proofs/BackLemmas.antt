@@ -4,8 +4,8 @@ use Rattle.std.proofs.lemmas.List.{append-nil, append_assoc}
 use Rattle.std.proofs.lemmas.Bool.Decides.{Decides-eqb}
 use Rattle.byteorder.specs.Endian.{big_number, big_bytes}
 use Rattle.byteorder.specs.Numbers.{big_number-reads_back}
-use Rattle.page_bytes.specs.Chunks.{chunks}
-use Rattle.page_bytes.proofs.ChunkLemmas.{one_chunk}
+use Rattle.pages.specs.Chunks.{chunks}
+use Rattle.pages.proofs.ChunkLemmas.{one_chunk}
 use Rattle.record_layout.specs.declared.schema.KeyKind.{KeyKind}
 use Rattle.record_layout.specs.declared.schema.KeyKind.TheVariants.{Prime, Unique, Duplicates}
 use Rattle.record_layout.specs.declared.schema.KeyPart.{KeyPart}

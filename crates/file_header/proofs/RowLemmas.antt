@@ -1,8 +1,8 @@
 -- The rows of the keys: one more read, one more written.
 use Rattle.std.proofs.Common.{◌≡◌, ℕ, ◌+◌, ◌-◌, ◌*◌, ◌<◌, ◌≤◌, List, [], ◌∷◌, ◌++◌, length, map, take, drop, get_or, slice_range, flat_map, zip, min, length-drop, refl, ap, ◌∙◌, arith}
 use Rattle.std.proofs.lemmas.List.{map-append, drop-drop, append_assoc, drop_more}
-use Rattle.page_bytes.proofs.ChunkLemmas.{chunks-add}
-use Rattle.page_bytes.specs.Chunks.{chunks}
+use Rattle.pages.proofs.ChunkLemmas.{chunks-add}
+use Rattle.pages.specs.Chunks.{chunks}
 use Rattle.record_layout.specs.declared.schema.KeyPart.{KeyPart}
 use Rattle.file_header.specs.declared.header.TreeNumbers.{TreeNumbers}
 use Rattle.file_header.specs.FirstPage.{key_row_bytes}

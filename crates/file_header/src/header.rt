@@ -4,7 +4,7 @@ use crate::bounds::is_within;
 use crate::key_rows::key_rows;
 use crate::numbers::{END, GATE, first_bytes, numbers_in};
 use arrayvec::ArrayVec;
-use page_bytes::PAGE_SIZE;
+use pages::PAGE_SIZE;
 use record_layout::Schema;
 
 /// The tree of a key: how many levels it has, and the page of its root.

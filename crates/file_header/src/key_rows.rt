@@ -19,7 +19,7 @@ use crate::header::TreeNumbers;
 use crate::numbers::END;
 use arrayvec::ArrayVec;
 use byteorder::{BigEndian, ByteOrder};
-use page_bytes::PAGE_SIZE;
+use pages::PAGE_SIZE;
 use record_layout::{KeyKind, KeyPart};
 
 const OFFSET: usize = 0;

@@ -27,7 +27,7 @@ ghost use Rattle.file_header.specs.Reading.{least_in, greatest_in, numbers_in};
 use crate::header::Header;
 use crate::key_rows::{parts_in, trees_in};
 use byteorder::{BigEndian, ByteOrder};
-use page_bytes::PAGE_SIZE;
+use pages::PAGE_SIZE;
 use record_layout::Schema;
 
 pub const GATE: usize = 0;

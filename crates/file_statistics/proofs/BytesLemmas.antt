@@ -8,7 +8,7 @@ use Rattle.file_header.specs.declared.header.Header.{Header}
 use Rattle.file_header.specs.Reading.{header_in}
 use Rattle.open_file.proofs.ClosedLemmas.{opened_by, is_opened, opened_stands}
 use Rattle.shelf_file.specs.ClosedFile.{live_in}
-use Rattle.page_counts.specs.Levels.{AreShown}
+use Rattle.page_walks.specs.Levels.{AreShown}
 use Rattle.std.proofs.Math.Nat.{le-div_iff_mul-le}
 use Rattle.file_header.specs.Bounds.{IsHeader}
 use Rattle.file_header.proofs.ReadLemmas.{first_read}

@@ -1,15 +1,15 @@
 -- The counts of a tree that stands.
 use Rattle.std.proofs.Common.{◌≡◌, ℕ, ◌<◌, ◌≤◌, ◌^◌, List, [], ◌∷◌, length, None, ap, sym, subst, ◌∙◌, arith}
 use Rattle.pages.specs.PageMap.{PageMap}
-use Rattle.page_bytes.specs.Each.{Each}
+use Rattle.pages.specs.Each.{Each}
 use Rattle.tree_search.specs.Tree.{TreeOf}
 use Rattle.bplus_tree.specs.declared.tree.Tree.{Tree}
 use Rattle.bplus_tree.specs.Standing.{TreeStands}
 use Rattle.bplus_tree.specs.Fields.{tree_shape, tree_root, tree_levels, tree_count}
-use Rattle.page_counts.specs.declared.level.TreeCounts.{TreeCounts}
-use Rattle.page_counts.specs.Rows.{IsLeafIn, entries_in_row}
-use Rattle.page_counts.specs.Levels.{IsTreeIn, AreShown, AreCounts, LevelsHaveAllPages, levels_of, all_pages}
-use Rattle.page_counts.specs.Runs.{values_of, AreTogether, IsGreatestCount, TreesKeepTogether}
+use Rattle.page_walks.specs.declared.level.TreeCounts.{TreeCounts}
+use Rattle.page_walks.specs.Rows.{IsLeafIn, entries_in_row}
+use Rattle.page_walks.specs.Levels.{IsTreeIn, AreShown, AreCounts, LevelsHaveAllPages, levels_of, all_pages}
+use Rattle.page_walks.specs.Runs.{values_of, AreTogether, IsGreatestCount, TreesKeepTogether}
 use Rattle.file_statistics.specs.declared.statistics.KeyStatistics.{KeyStatistics}
 use Rattle.file_statistics.specs.Statistics.{AreKeyCounts, HasTreeStanding}
 

@@ -2,13 +2,13 @@
 use Rattle.std.proofs.Common.{◌≡◌, ◌≢◌, ℕ, zero, suc, ◌+◌, ◌<◌, ◌≤◌, ◌⊎◌, inl, inr, true, false, ltb, nat_eq, List, [], ◌∷◌, ◌++◌, length, slice_index_or, Option, Some, None, IsSome, refl, ap, sym, ◌∙◌, arith, subst}
 use Rattle.std.proofs.lemmas.Bool.{and_parts, or_parts, eqb-false, ltb-true, lt-ltb}
 use Rattle.std.proofs.lemmas.List.{length-append}
-use Rattle.page_bytes.specs.Each.{Each}
+use Rattle.pages.specs.Each.{Each}
 use Rattle.pages.specs.PageMap.{PageMap}
 use Rattle.pages.specs.Owners.{IsOutside, AreApart}
-use Rattle.page_marks.specs.Parted.{own_at, all_of}
+use Rattle.pages.specs.Parted.{own_at, all_of}
 use Rattle.open_file.specs.Parts.{heap_pages}
-use Rattle.page_marks.proofs.EachLemmas.{each_weaker, each_join, each_left, each_right, apart_join, outside_symm}
-use Rattle.page_marks.proofs.PartLemmas.{low_or_not}
+use Rattle.pages.proofs.EachLemmas.{each_weaker, each_join, each_left, each_right, apart_join, outside_symm}
+use Rattle.pages.proofs.PartLemmas.{low_or_not}
 use Rattle.page_alloc.specs.FreePage.{next_of}
 use Rattle.page_alloc.specs.Chain.{is_page, is_among, chain}
 use Rattle.page_alloc.proofs.ChainLemmas.{chain_step, still_none, in_use}

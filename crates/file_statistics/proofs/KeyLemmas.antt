@@ -2,7 +2,7 @@
 use Rattle.std.proofs.Common.{◌≡◌, ℕ, zero, suc, ◌+◌, ◌<◌, ◌≤◌, ◌⊎◌, inl, inr, List, [], ◌∷◌, ◌++◌, length, slice_index_or, refl, ap, sym, ◌∙◌, arith, subst}
 use Rattle.std.proofs.lemmas.List.{length-append}
 use Rattle.pages.specs.PageMap.{PageMap}
-use Rattle.page_marks.proofs.PartLemmas.{low_or_not}
+use Rattle.pages.proofs.PartLemmas.{low_or_not}
 use Rattle.bplus_tree.specs.declared.tree.Tree.{Tree}
 use Rattle.bplus_tree.specs.Standing.{TreeStands}
 use Rattle.key_index.specs.declared.alt_index.AltIndex.{AltIndex}
@@ -10,7 +10,7 @@ use Rattle.open_file.specs.Fields.{alternates_of, prime_index_of}
 use Rattle.open_file.specs.declared.open_file.OpenFile.{OpenFile}
 use Rattle.open_file.specs.Stands.{Stands}
 use Rattle.indexed_file.specs.File.{File}
-use Rattle.page_counts.specs.Levels.{AreShown}
+use Rattle.page_walks.specs.Levels.{AreShown}
 use Rattle.file_statistics.specs.declared.statistics.KeyStatistics.{KeyStatistics}
 use Rattle.file_statistics.specs.Statistics.{AreKeyCounts, KeysCounted}
 

@@ -1,9 +1,9 @@
 -- How many pages a file has, by its parts.
 use Rattle.std.proofs.Common.{◌≡◌, ◌≢◌, ℕ, zero, suc, ◌<◌, ◌≤◌, ◌⊎◌, inl, inr, List, [], ◌∷◌, ◌++◌, length, refl, ap, sym, ◌∙◌, arith, subst}
-use Rattle.page_bytes.specs.Each.{Each}
+use Rattle.pages.specs.Each.{Each}
 use Rattle.pages.specs.Owners.{IsOutside, AreApart}
-use Rattle.page_marks.specs.Parted.{own_at, all_of}
-use Rattle.page_marks.proofs.EachLemmas.{each_weaker, each_join, each_left, each_right, apart_join}
+use Rattle.pages.specs.Parted.{own_at, all_of}
+use Rattle.pages.proofs.EachLemmas.{each_weaker, each_join, each_left, each_right, apart_join}
 
 -- the page stands in the list
 record Split (n : ℕ) (ns : List ℕ) : Type 0 where

@@ -3,7 +3,7 @@ use Rattle.std.proofs.Common.{◌≡◌, ℕ, ◌+◌, List, [], ◌∷◌, ◌+
 use Rattle.std.specs.Prelude.{bytes_eq}
 use Rattle.std.specs.Ordering.{is_lt}
 use Rattle.std.proofs.Math.Seq.{take-append_seam}
-use Rattle.page_bytes.specs.Each.{Each}
+use Rattle.pages.specs.Each.{Each}
 use Rattle.record_layout.specs.Schema.{Schema, value_of}
 use Rattle.indexed_file.specs.File.{Row}
 use Rattle.indexed_file.specs.Rank.{row_cmp}
@@ -13,8 +13,8 @@ use Rattle.key_index.specs.Stored.{prime_bytes, alt_bytes, IsPrimeEntry, IsAltEn
 use Rattle.open_file.specs.InOrder.{put_row, in_order, alt_entry, alt_entries, prime_entries}
 use Rattle.open_file.specs.Stored.{AreAt}
 use Rattle.open_file.proofs.OrderLemmas.{either}
-use Rattle.page_counts.specs.Runs.{values_of, count_of_value, IsGreatestCount}
-use Rattle.page_counts.proofs.RunLemmas.{one_if, count_step}
+use Rattle.page_walks.specs.Runs.{values_of, count_of_value, IsGreatestCount}
+use Rattle.page_walks.proofs.RunLemmas.{one_if, count_step}
 use Rattle.file_statistics.specs.Statistics.{values_in}
 
 -- a value that stands before other bytes

@@ -1,6 +1,6 @@
 -- What is counted of a file by its header.
 use Rattle.std.proofs.Common.{◌≡◌, ℕ, zero, suc, ◌+◌, ◌-◌, ◌*◌, ◌<◌, List, length, slice_index_or, ap, sym, ◌∙◌, arith, subst}
-use Rattle.page_marks.specs.Parted.{own_at, all_of}
+use Rattle.pages.specs.Parted.{own_at, all_of}
 use Rattle.open_file.specs.Parts.{heap_pages}
 use Rattle.record_heap.specs.Slot.{room}
 use Rattle.record_heap.specs.Standing.{slot_shape}
@@ -13,8 +13,8 @@ use Rattle.open_file.specs.Headers.{IsOpenedBy}
 use Rattle.open_file.proofs.HeaderLemmas.{read_back}
 use Rattle.open_file.proofs.FilledLemmas.{counted}
 use Rattle.open_file.proofs.PartsLemmas.{found_at}
-use Rattle.page_counts.specs.Levels.{AreShown}
-use Rattle.page_counts.specs.Runs.{IsGreatestCount}
+use Rattle.page_walks.specs.Levels.{AreShown}
+use Rattle.page_walks.specs.Runs.{IsGreatestCount}
 use Rattle.file_statistics.specs.declared.statistics.KeyStatistics.{KeyStatistics}
 use Rattle.file_statistics.specs.declared.statistics.FileStatistics.{FileStatistics}
 use Rattle.file_statistics.specs.Statistics.{live_by, all_key_pages, PagesHoldFile, HasFile}

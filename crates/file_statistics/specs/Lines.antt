@@ -1,7 +1,7 @@
 -- The lines that tell what is counted of a file. Their form is ours.
 use Rattle.std.specs.Prelude.{ℕ, ◌+◌, ◌-◌, ◌/◌, List, [], ◌∷◌, ◌++◌, length, codes, decimal, replicate}
-use Rattle.page_counts.specs.declared.level.Level.{Level}
-use Rattle.page_counts.specs.Fill.{fill_of}
+use Rattle.page_walks.specs.declared.level.Level.{Level}
+use Rattle.page_walks.specs.Fill.{fill_of}
 use Rattle.file_statistics.specs.declared.statistics.KeyStatistics.{KeyStatistics}
 use Rattle.file_statistics.specs.declared.statistics.FileStatistics.{FileStatistics}
 

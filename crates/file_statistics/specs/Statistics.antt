@@ -5,7 +5,7 @@ use Rattle.record_layout.specs.Schema.{Schema, value_of}
 use Rattle.indexed_file.specs.File.{Row, File}
 use Rattle.pages.specs.PageMap.{PageMap}
 use Rattle.page_alloc.specs.Chain.{chain, used}
-use Rattle.page_marks.specs.Parted.{own_at}
+use Rattle.pages.specs.Parted.{own_at}
 use Rattle.open_file.specs.Parts.{heap_pages, prime_pages, alternate_pages}
 use Rattle.file_header.specs.declared.header.Header.{Header}
 use Rattle.bplus_tree.specs.declared.tree.Tree.{Tree}
@@ -20,8 +20,8 @@ use Rattle.open_file.specs.InOrder.{alt_entries, prime_entries}
 use Rattle.open_file.specs.declared.open_file.OpenFile.{OpenFile}
 use Rattle.open_file.specs.Headers.{IsOpenedBy}
 use Rattle.open_file.specs.Stands.{Stands}
-use Rattle.page_counts.specs.Levels.{levels_of, AreShown}
-use Rattle.page_counts.specs.Runs.{values_of, IsGreatestCount}
+use Rattle.page_walks.specs.Levels.{levels_of, AreShown}
+use Rattle.page_walks.specs.Runs.{values_of, IsGreatestCount}
 use Rattle.file_statistics.specs.declared.statistics.KeyStatistics.{KeyStatistics}
 use Rattle.file_statistics.specs.declared.statistics.FileStatistics.{FileStatistics}
 

@@ -2,7 +2,7 @@
 
 ghost use Rattle.std.specs.Prelude.{◌≡◌, ◌<◌, ◌≤◌, ◌^◌, ◌++◌, ◌∷◌, [], IfOk, OnOk, length};
 ghost use Rattle.bplus_tree.specs.Fields.{tree_shape};
-ghost use Rattle.page_counts.specs.Levels.{all_pages};
+ghost use Rattle.page_walks.specs.Levels.{all_pages};
 ghost use Rattle.file_header.specs.Bounds.{IsHeader};
 ghost use Rattle.file_statistics.specs.Statistics.{HasTreeStanding, HasFileStanding, CountsKey, KeysCounted};
 ghost use Rattle.open_file.specs.Fields.{alternates_of};
@@ -12,8 +12,8 @@ use crate::statistics::{FileStatistics, KeyStatistics};
 use bplus_tree::Tree;
 use file_header::Header;
 use open_file::OpenFile;
-use page_bytes::PAGE_SIZE;
-use page_counts::{Level, TreeCounts, count_tree, level_laws, longest_run, run_laws};
+use page_walks::{Level, TreeCounts, count_tree, level_laws, longest_run, run_laws};
+use pages::PAGE_SIZE;
 use std::alloc::{AllocError, Global};
 
 /// The pages of these levels.

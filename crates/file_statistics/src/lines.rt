@@ -1,6 +1,6 @@
 //! The lines.
 ghost use Rattle.std.specs.Prelude.{◌≡◌, ◌++◌, ◌+◌, ◌<◌, ◌≤◌, ◌^◌, length, replicate, decimal, OnOk, IfOk};
-ghost use Rattle.page_counts.specs.declared.level.Level.{Level};
+ghost use Rattle.page_walks.specs.declared.level.Level.{Level};
 ghost use Rattle.file_statistics.specs.Lines.{bar_of, level_place, level_fill, level_line, level_lines};
 ghost use Rattle.file_statistics.specs.Lines.{key_entries, key_start, key_statistics_text, keys_text};
 ghost use Rattle.file_statistics.specs.Lines.{number_behind};
@@ -9,7 +9,7 @@ ghost use Rattle.file_statistics.specs.Lines.{statistics_text};
 
 use crate::statistics::{FileStatistics, KeyStatistics};
 use itoa::Buffer;
-use page_counts::Level;
+use page_walks::Level;
 use std::alloc::{AllocError, Global};
 
 /// Adds a text.

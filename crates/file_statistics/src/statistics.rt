@@ -1,6 +1,6 @@
 //! What is counted of a file.
 
-use page_counts::Level;
+use page_walks::Level;
 
 /// What is counted of the tree of a key: its pages, its entries, how many of these have one value
 /// at most, and its levels, the root's first.

@@ -9,9 +9,8 @@ ghost use Rattle.folder_shelf.specs.Replay.{folder_state};
 ghost use Rattle.folder_shelf.specs.Within.{StaysWithin};
 
 use crate::disk::Disk;
-use growing_shelf::GrowingShelf;
 use io_state::{Fault, FileName};
-use page_store::Shelf;
+use page_store::{GrowingShelf, Shelf};
 use recorded_system::System;
 use std::marker::PhantomData;
 use system_files::Cause;

@@ -9,7 +9,7 @@ use Rattle.std.specs.Int.{bytes_high_first}
 use Rattle.std.proofs.lemmas.Cmp.{nat_list_cmp_total}
 use Rattle.std.proofs.lemmas.Map.Text.{is_eq-slice_cmp}
 use Rattle.arrayvec.specs.ArrayVec.{ArrayVec}
-use Rattle.page_bytes.specs.Each.{Each}
+use Rattle.pages.specs.Each.{Each}
 use Rattle.pages.specs.PageMap.{PageMap}
 use Rattle.tree_node.specs.Order.{less}
 use Rattle.bplus_tree.specs.declared.tree.Tree.{Tree}

@@ -12,7 +12,7 @@ use Rattle.std.specs.Int.{bytes_high_first}
 use Rattle.std.proofs.lemmas.Cmp.{nat_list_cmp_total}
 use Rattle.std.proofs.lemmas.Map.Text.{is_eq-slice_cmp}
 use Rattle.byteorder.specs.Numbers.{length-bytes_high_first}
-use Rattle.page_bytes.specs.Each.{Each}
+use Rattle.pages.specs.Each.{Each}
 use Rattle.tree_node.specs.Order.{less}
 use Rattle.io_state.specs.Rank.{value_cmp}
 use Rattle.key_index.specs.Keys.{greatest_key}

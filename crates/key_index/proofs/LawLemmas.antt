@@ -1,6 +1,6 @@
 -- An index that stands: what is read off its pages, and that it stands while they stay.
 use Rattle.std.proofs.Common.{◌≡◌, ℕ, List, [], ◌∷◌, map, IsSome, refl, sym, ap, subst, ◌∙◌}
-use Rattle.page_bytes.specs.Each.{Each}
+use Rattle.pages.specs.Each.{Each}
 use Rattle.pages.specs.PageMap.{PageMap}
 use Rattle.pages.specs.Owners.{IsOutside, ChangesPages}
 use Rattle.bplus_tree.specs.declared.tree.Tree.{Tree}

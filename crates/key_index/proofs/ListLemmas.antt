@@ -1,7 +1,7 @@
 -- Look-ups and edits of a list of entries, and of the list of what stands for each of them.
 use Rattle.std.proofs.Common.{◌≡◌, ℕ, Bool, true, false, not, cond, List, [], ◌∷◌, map, Some, refl, ap, ◌∙◌}
 use Rattle.std.specs.Prelude.{find, filter, option_map, IfSome}
-use Rattle.page_bytes.specs.Each.{Each}
+use Rattle.pages.specs.Each.{Each}
 use Rattle.tree_search.specs.Calls.{last_of}
 
 module _ {X : Type 0} (bytes : X → List ℕ) (Fits : X → Type 0) where

@@ -6,7 +6,7 @@ use Rattle.std.proofs.lemmas.Slice.Eq.{bytes_eq-Decides}
 use Rattle.std.proofs.lemmas.Grind.{common_steps}
 use Rattle.tree_node.proofs.OrderLemmas.{either}
 use Rattle.byteorder.specs.Endian.{big_number}
-use Rattle.page_bytes.specs.Each.{Each}
+use Rattle.pages.specs.Each.{Each}
 use Rattle.record_heap.specs.declared.shape.Place.{Place}
 use Rattle.tree_search.specs.Calls.{entry_of}
 use Rattle.tree_search.specs.Tail.{filled_tail, IsTail, TellsPresence}

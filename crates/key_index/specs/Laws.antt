@@ -1,6 +1,6 @@
 -- Laws of an index that stands.
 use Rattle.std.specs.Prelude.{◌≡◌, ℕ, List, IsSome}
-use Rattle.page_bytes.specs.Each.{Each}
+use Rattle.pages.specs.Each.{Each}
 use Rattle.pages.specs.PageMap.{PageMap}
 use Rattle.pages.specs.Owners.{IsOutside, AreApart, ChangesPages}
 use Rattle.key_index.specs.declared.entry.PrimeEntry.{PrimeEntry}

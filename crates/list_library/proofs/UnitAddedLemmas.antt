@@ -6,7 +6,7 @@ use Rattle.std.proofs.lemmas.Bool.{and_from}
 use Rattle.indexed_file.specs.World.{World, FileUnit, Named, Shut, name_in, named_in}
 use Rattle.indexed_file.specs.SoundWorld.{is_sound_unit}
 use Rattle.indexed_file.proofs.TestLemmas.{either}
-use Rattle.growing_library.specs.Growing.{IsNewName, has_unit_named, with_added_unit, shut_unit}
+use Rattle.indexed_file.specs.Growing.{IsNewName, has_unit_named, with_added_unit, shut_unit}
 use Rattle.list_library.specs.Units.{in_place_among, named_among, TakesPlace}
 use Rattle.list_library.proofs.NameLemmas.{one_more}
 use Rattle.list_library.proofs.ShownLemmas.{sound_joined, sound_among}

@@ -7,8 +7,7 @@ ghost use Rattle.list_library.specs.Units.{absent_unit, in_place_among, named_am
 
 use crate::list_unit::ListUnit;
 use crate::wanted::Wanted;
-use growing_library::GrowingLibrary;
-use indexed_file::{Added, Found, Library, Replaced, Seen};
+use indexed_file::{Added, Found, GrowingLibrary, Library, Replaced, Seen};
 use io_state::{Fault, FileName, Key, Position, Relation};
 use record_layout::Schema;
 use std::alloc::Global;

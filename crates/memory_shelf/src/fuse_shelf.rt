@@ -11,9 +11,8 @@ ghost use Rattle.memory_shelf.specs.FusedCalls.{LooksBehindFuse, ReadsBehindFuse
 ghost use Rattle.memory_shelf.specs.FusedCalls.{WritesBehindFuse};
 
 use crate::fuse::{Call, Fuse, Kind, Turn};
-use growing_shelf::GrowingShelf;
 use io_state::{Fault, FileName};
-use page_store::Shelf;
+use page_store::{GrowingShelf, Shelf};
 
 /// A shelf over another one, of which one counted call fails, or every call from that one on.
 #[derive(Drop)]

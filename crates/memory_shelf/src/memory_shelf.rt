@@ -8,9 +8,8 @@ ghost use Rattle.memory_shelf.specs.MemShelves.{AddsCrashed, KeepsOthersThan};
 
 use crate::crash::Image;
 use crate::memory_file::MemFile;
-use growing_shelf::GrowingShelf;
 use io_state::{Fault, FileName};
-use page_store::Shelf;
+use page_store::{GrowingShelf, Shelf};
 use std::alloc::Global;
 
 /// Files in memory. The device fails only where a file cannot grow, for want of memory.

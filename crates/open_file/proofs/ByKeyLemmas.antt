@@ -14,7 +14,7 @@ use Rattle.indexed_file.specs.File.{Row, File, stamp_of}
 use Rattle.io_state.specs.Rank.{value_cmp}
 use Rattle.indexed_file.specs.Rank.{has_value, is_repeated, least}
 use Rattle.indexed_file.specs.Sound.{are_rows, is_file, are_apart}
-use Rattle.page_bytes.specs.Each.{Each}
+use Rattle.pages.specs.Each.{Each}
 use Rattle.key_index.specs.declared.entry.AltEntry.{AltEntry}
 use Rattle.key_index.specs.Entries.{entry_has_value}
 use Rattle.open_file.specs.InOrder.{in_order, alt_entry, alt_entries}

@@ -4,9 +4,9 @@ use Rattle.std.specs.Prelude.{count_by, IsTrue, None, false, min}
 use Rattle.std.specs.List.{All, zip}
 use Rattle.std.proofs.lemmas.List.{length-map}
 use Rattle.byteorder.specs.Endian.{big_bytes}
-use Rattle.page_bytes.specs.Each.{Each}
-use Rattle.page_marks.specs.Parted.{own_at}
-use Rattle.page_marks.proofs.EachLemmas.{each_weaker}
+use Rattle.pages.specs.Each.{Each}
+use Rattle.pages.specs.Parted.{own_at}
+use Rattle.pages.proofs.EachLemmas.{each_weaker}
 use Rattle.record_layout.specs.declared.schema.KeyPart.{KeyPart}
 use Rattle.record_layout.specs.Schema.{Schema, IsSchema, IsKey, AreKeys, key_at, no_key, has_duplicates, value_of, prime_of}
 use Rattle.indexed_file.specs.File.{Row, File, stamp_of}

@@ -2,11 +2,11 @@
 use Rattle.std.proofs.Common.{◌≢◌, ◌⊎◌, inl, inr, ℕ, zero, suc, ◌==◌, ◌<◌, List, [], ◌∷◌, ◌++◌, length, IsSome, refl, ap, arith}
 use Rattle.std.specs.Prelude.{slice_index_or}
 use Rattle.std.specs.List.{All, AllPairs, Contains, concat}
-use Rattle.page_bytes.specs.Each.{Each}
+use Rattle.pages.specs.Each.{Each}
 use Rattle.pages.specs.PageMap.{PageMap}
 use Rattle.pages.specs.Owners.{IsOutside, AreApart}
-use Rattle.page_marks.specs.Parted.{own_at, Parted}
-use Rattle.page_marks.proofs.EachLemmas.{each_weaker, each_both, each_join, each_left, each_right, outside_symm, apart_right, apart_across, apart_join}
+use Rattle.pages.specs.Parted.{own_at, Parted}
+use Rattle.pages.proofs.EachLemmas.{each_weaker, each_both, each_join, each_left, each_right, outside_symm, apart_right, apart_across, apart_join}
 use Rattle.record_heap.specs.Chain.{IsOneOf}
 use Rattle.record_heap.proofs.StandLemmas.{each_of}
 use Rattle.open_file.proofs.ClosedHeapLemmas.{contains, one_of, each_one}

@@ -6,9 +6,9 @@ use Rattle.std.specs.Simd.{first_chunks}
 use Rattle.std.proofs.lemmas.Grind.{common_steps}
 use Rattle.std.proofs.lemmas.List.{length-map}
 use Rattle.byteorder.specs.Endian.{big_number}
-use Rattle.page_bytes.specs.Each.{Each}
-use Rattle.page_bytes.specs.Chunks.{chunks}
-use Rattle.page_bytes.proofs.ChunkLemmas.{length-chunks}
+use Rattle.pages.specs.Each.{Each}
+use Rattle.pages.specs.Chunks.{chunks}
+use Rattle.pages.proofs.ChunkLemmas.{length-chunks}
 use Rattle.pages.specs.PageMap.{PageMap}
 use Rattle.tree_node.specs.declared.shape.Shape.{Shape}
 use Rattle.tree_node.specs.Table.{count_of, table}

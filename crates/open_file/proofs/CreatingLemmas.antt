@@ -6,7 +6,7 @@ use Rattle.std.proofs.lemmas.Grind.{common_steps}
 use Rattle.std.proofs.Math.Seq.{get_or-append_seam}
 use Rattle.record_layout.specs.declared.schema.KeyPart.{KeyPart}
 use Rattle.record_layout.specs.Schema.{Schema, IsSchema, AreKeys, is_duplicates, has_duplicates}
-use Rattle.page_bytes.specs.Each.{Each}
+use Rattle.pages.specs.Each.{Each}
 use Rattle.pages.specs.PageMap.{PageMap}
 use Rattle.pages.specs.Owners.{IsOutside, ChangesPages}
 use Rattle.key_index.specs.declared.prime_index.PrimeIndex.{PrimeIndex}
@@ -19,8 +19,8 @@ use Rattle.record_heap.specs.Standing.{HeapStands}
 use Rattle.record_heap.proofs.StandLemmas.{heap_kept}
 use Rattle.open_file.specs.Stored.{stamps_length}
 use Rattle.open_file.specs.Parts.{Parts, heap_pages, prime_pages, alternate_pages}
-use Rattle.page_marks.specs.Parted.{own_at, Parted}
-use Rattle.page_marks.proofs.EachLemmas.{outside_symm}
+use Rattle.pages.specs.Parted.{own_at, Parted}
+use Rattle.pages.proofs.EachLemmas.{outside_symm}
 use Rattle.open_file.specs.Stands.{Stands, heights_in}
 use Rattle.open_file.specs.Creating.{IsIndexOf, AreIndexesOf}
 use Rattle.open_file.specs.declared.open_file.OpenFile.{OpenFile}

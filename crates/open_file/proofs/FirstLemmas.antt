@@ -11,7 +11,7 @@ use Rattle.record_layout.specs.Schema.{Schema, value_of}
 use Rattle.indexed_file.specs.File.{Row}
 use Rattle.io_state.specs.Rank.{value_cmp}
 use Rattle.indexed_file.specs.Rank.{row_cmp, has_value}
-use Rattle.page_bytes.specs.Each.{Each}
+use Rattle.pages.specs.Each.{Each}
 use Rattle.key_index.specs.declared.entry.AltEntry.{AltEntry}
 use Rattle.record_heap.specs.declared.shape.Place.{Place}
 use Rattle.record_heap.specs.Chain.{Slots}

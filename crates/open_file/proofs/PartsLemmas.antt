@@ -6,9 +6,9 @@ use Rattle.std.proofs.lemmas.Bool.{ltb-true, ltb-false}
 use Rattle.std.proofs.lemmas.Grind.{common_steps}
 use Rattle.std.proofs.lemmas.List.{get_or-set_same as set_same, get_or-set_other as set_other, length-set as set_length, get_or_past}
 pub use Rattle.std.proofs.lemmas.List.{get_or_default as same_default}
-use Rattle.page_bytes.specs.Each.{Each}
-use Rattle.page_marks.proofs.EachLemmas.{outside_symm}
-pub use Rattle.page_marks.proofs.EachLemmas.{each_weaker as each_map, each_both}
+use Rattle.pages.specs.Each.{Each}
+use Rattle.pages.proofs.EachLemmas.{outside_symm}
+pub use Rattle.pages.proofs.EachLemmas.{each_weaker as each_map, each_both}
 use Rattle.pages.specs.PageMap.{PageMap}
 use Rattle.pages.specs.Owners.{IsOutside, ChangesPages}
 use Rattle.key_index.specs.declared.entry.PrimeEntry.{PrimeEntry}
@@ -23,7 +23,7 @@ use Rattle.record_heap.specs.Found.{HeapHas}
 use Rattle.record_heap.proofs.StandLemmas.{heap_kept, chain_live}
 use Rattle.record_heap.specs.Standing.{first_heap_page}
 use Rattle.open_file.specs.Parts.{Parts, but_at, heap_pages, prime_pages, alternate_pages}
-use Rattle.page_marks.specs.Parted.{own_at, Parted}
+use Rattle.pages.specs.Parted.{own_at, Parted}
 use Rattle.open_file.proofs.OrderLemmas.{either}
 
 -- ---- lists

@@ -15,7 +15,7 @@ use Rattle.io_state.specs.Rank.{value_cmp}
 use Rattle.indexed_file.specs.Rank.{row_cmp, lower_of, lowest, least, has_value}
 use Rattle.indexed_file.specs.Sound.{is_row, is_stamp, are_rows, are_apart, is_file}
 use Rattle.indexed_file.proofs.RowLemmas.{are_stamps, row_parts}
-use Rattle.page_bytes.specs.Each.{Each}
+use Rattle.pages.specs.Each.{Each}
 use Rattle.open_file.specs.InOrder.{put_row, in_order}
 use Rattle.open_file.proofs.OrderLemmas.{either, not_below, not_back}
 use Rattle.open_file.proofs.PartsLemmas.{from_eq, each_map}

@@ -15,7 +15,7 @@ use Rattle.record_layout.specs.Schema.{Schema, value_of}
 use Rattle.indexed_file.specs.File.{Row, stamp_of}
 use Rattle.io_state.specs.Rank.{value_cmp}
 use Rattle.indexed_file.specs.Rank.{row_cmp, satisfies}
-use Rattle.page_bytes.specs.Each.{Each}
+use Rattle.pages.specs.Each.{Each}
 use Rattle.open_file.specs.InOrder.{alt_entry}
 use Rattle.open_file.specs.Steps.{leads_alt, is_wanted_value}
 use Rattle.open_file.proofs.OrderLemmas.{either, by_not_lt, tied_ge, above}

@@ -13,7 +13,7 @@ use Rattle.record_layout.specs.Schema.{Schema, key_at, has_duplicates}
 use Rattle.indexed_file.specs.File.{Row, File, stamp_of}
 use Rattle.io_state.specs.Rank.{value_cmp}
 use Rattle.indexed_file.specs.Sound.{is_file, is_row}
-use Rattle.page_bytes.specs.Each.{Each}
+use Rattle.pages.specs.Each.{Each}
 use Rattle.key_index.specs.declared.entry.AltEntry.{AltEntry}
 use Rattle.key_index.specs.Entries.{entry_has_value, has_rank, after_rank}
 use Rattle.key_index.specs.declared.entry.AltFirst.{AltFirst}

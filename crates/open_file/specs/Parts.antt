@@ -9,7 +9,7 @@ use Rattle.key_index.specs.Standing.{AltStands, PrimeStands}
 use Rattle.record_heap.specs.declared.heap.Heap.{Heap}
 use Rattle.record_heap.specs.Chain.{Slots}
 use Rattle.record_heap.specs.Standing.{HeapStands}
-use Rattle.page_marks.specs.Parted.{own_at, Parted}
+use Rattle.pages.specs.Parted.{own_at, Parted}
 
 -- The pages of each part, where a list has them all: first those of the heap, then those of the prime
 -- index, then those of each alternate index.

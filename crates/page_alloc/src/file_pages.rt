@@ -2,9 +2,8 @@
 
 use crate::paged_file::PagedFile;
 use io_state::Fault;
-use page_bytes::PAGE_SIZE;
 use page_store::Shelf;
-use pages::Pages;
+use pages::{PAGE_SIZE, Pages};
 
 /// An open file and the shelf that it is on, for one call.
 #[derive(Drop)]

@@ -11,9 +11,9 @@ ghost use Rattle.page_alloc.specs.Steps.{MayOpenGateOnShelf};
 
 use crate::pager::Pager;
 use io_state::Fault;
-use page_bytes::PAGE_SIZE;
 use page_cache::Cache;
 use page_store::{Shelf, Store};
+use pages::PAGE_SIZE;
 use std::alloc::Global;
 use std::num::NonZeroUsize;
 

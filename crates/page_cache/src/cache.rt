@@ -11,8 +11,8 @@ ghost use Rattle.page_cache.specs.Lending.{SameFrames};
 use crate::frame;
 use crate::frames::Frames;
 use io_state::Fault;
-use page_bytes::PAGE_SIZE;
 use page_store::{Shelf, Store};
+use pages::PAGE_SIZE;
 use std::alloc::Global;
 use std::num::NonZeroUsize;
 

@@ -9,7 +9,7 @@ ghost use Rattle.page_cache.specs.HeldFrames.{held_frames, IsSeated, CanSeat, pu
 
 use crate::places;
 use crate::table::Table;
-use page_bytes::PAGE_SIZE;
+use pages::PAGE_SIZE;
 use std::alloc::{AllocError, Global};
 use std::marker::Model;
 use std::num::NonZeroUsize;

@@ -9,8 +9,8 @@ ghost use Rattle.page_cache.specs.Calls.{ShowsSame};
 
 use crate::cache::Cache;
 use io_state::Fault;
-use page_bytes::PAGE_SIZE;
 use page_store::Shelf;
+use pages::PAGE_SIZE;
 
 impl Cache {
     /// Reads the header page, past the frames.

@@ -9,3 +9,4 @@ pub mod ShelfCalls
 pub mod StoreCalls
 pub mod QuietFacts
 pub mod PageFacts
+pub mod AddedUnit

@@ -11,7 +11,7 @@ ghost use Rattle.page_store.specs.StoreCalls.{WritesPage};
 use crate::gate::{self, CLOSED};
 use crate::shelf::Shelf;
 use io_state::Fault;
-use page_bytes::PAGE_SIZE;
+use pages::PAGE_SIZE;
 
 /// The number of bytes of a page.
 pub const PAGE: u64 = PAGE_SIZE as u64;

@@ -3,17 +3,17 @@ use Rattle.std.proofs.Common.{◌≡◌, ◌≢◌, ◌⊎◌, ℕ, ◌<◌, ◌
 use Rattle.std.proofs.lemmas.Bool.{lt-ltb, le-ltb, eqb-false, or_parts}
 use Rattle.std.proofs.lemmas.Bool.Decides.{eqb_tells}
 use Rattle.std.proofs.Math.Dec.{eqb}
-use Rattle.page_bytes.specs.Each.{Each}
+use Rattle.pages.specs.Each.{Each}
 use Rattle.pages.specs.Owners.{IsOutside}
 use Rattle.page_alloc.specs.Chain.{is_page, is_among, used}
 use Rattle.bplus_tree.proofs.PageLemmas.{holds_still}
 use Rattle.bplus_tree.specs.Fields.{tree_shape, tree_levels}
-use Rattle.page_marks.specs.Marks.{Marks}
-use Rattle.page_marks.specs.PageList.{pages_in}
-use Rattle.page_marks.specs.Parted.{all_of}
-use Rattle.page_marks.proofs.EachLemmas.{each_weaker}
-use Rattle.page_marks.proofs.MarksLemmas.{outside_reached}
-use Rattle.page_marks.proofs.PartLemmas.{each_part, low_or_not, parted}
+use Rattle.pages.specs.Marks.{Marks}
+use Rattle.pages.specs.PageList.{pages_in}
+use Rattle.pages.specs.Parted.{all_of}
+use Rattle.pages.proofs.EachLemmas.{each_weaker}
+use Rattle.pages.proofs.MarksLemmas.{outside_reached}
+use Rattle.pages.proofs.PartLemmas.{each_part, low_or_not, parted}
 use Rattle.page_walks.specs.FreeWalk.{page_in, FreeWalked}
 use Rattle.page_walks.specs.WholeFile.{pages_used_in, WalksPartTheFile, TreesStay}
 use Rattle.page_walks.proofs.FreeLemmas.{not_among}

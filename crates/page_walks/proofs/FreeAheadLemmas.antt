@@ -2,12 +2,12 @@
 use Rattle.std.proofs.Common.{◌≡◌, ℕ, zero, suc, ◌<◌, Bool, true, false, ltb, ◌&&◌, List, [], ◌∷◌, length, Option, Some, None, refl, ap, sym, ◌∙◌, subst, arith}
 use Rattle.std.specs.Prelude.{if◌then◌else◌, ◌==◌, nat_eq, option_and_then}
 use Rattle.std.proofs.lemmas.Bool.{and_parts, ltb-true, eqb-true, false≢true}
-use Rattle.page_bytes.specs.Each.{Each}
+use Rattle.pages.specs.Each.{Each}
 use Rattle.page_alloc.specs.FreePage.{is_free, next_of}
 use Rattle.page_alloc.specs.Chain.{is_page, is_among, chain}
-use Rattle.page_marks.specs.Marks.{IsUnmarked, Marks, marked_in}
-use Rattle.page_marks.proofs.EachLemmas.{outside_symm}
-use Rattle.page_marks.proofs.RefusedLemmas.{still_unmarked}
+use Rattle.pages.specs.Marks.{IsUnmarked, Marks, marked_in}
+use Rattle.pages.proofs.EachLemmas.{outside_symm}
+use Rattle.pages.proofs.RefusedLemmas.{still_unmarked}
 use Rattle.page_walks.specs.FreeWalk.{page_in, FreeAhead, IsFreePage, IsFreePageAt, IsFreePagePath}
 use Rattle.page_walks.proofs.FileLemmas.{among_outside}
 

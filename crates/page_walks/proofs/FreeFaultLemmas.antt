@@ -1,13 +1,13 @@
 -- What is wrong with the chain of free pages.
 use Rattle.std.proofs.Common.{◌≡◌, ◌≢◌, ℕ, ◌<◌, Bool, true, false, List, length, refl, sym, ◌∙◌, subst, inl, inr}
 use Rattle.page_alloc.specs.Chain.{is_among}
-use Rattle.page_marks.specs.declared.fault_place.FaultPlace.TheVariants.{Page}
-use Rattle.page_marks.specs.declared.page_fault.PageFault.TheVariants.{Shared, Chain}
-use Rattle.page_marks.specs.declared.walk_fault.WalkFault.{WalkFault}
-use Rattle.page_marks.specs.declared.walk_fault.WalkFault.TheVariants.{At}
-use Rattle.page_marks.specs.Marks.{IsUnmarked, marked_in}
+use Rattle.pages.specs.declared.fault_place.FaultPlace.TheVariants.{Page}
+use Rattle.pages.specs.declared.page_fault.PageFault.TheVariants.{Shared, Chain}
+use Rattle.pages.specs.declared.walk_fault.WalkFault.{WalkFault}
+use Rattle.pages.specs.declared.walk_fault.WalkFault.TheVariants.{At}
+use Rattle.pages.specs.Marks.{IsUnmarked, marked_in}
 use Rattle.page_walks.specs.FreeWalk.{FreeFront, IsFreeFault, TellsOfNext}
-use Rattle.page_marks.specs.Told.{TellsOfFault}
+use Rattle.pages.specs.Told.{TellsOfFault}
 use Rattle.page_walks.proofs.FileLemmas.{among_outside}
 
 module _ (list : List (List ℕ)) (first count from at passed : ℕ) (marks now : List Bool) (front : FreeFront list first from at passed (marked_in marks) (marked_in now)) where

@@ -5,8 +5,8 @@ use Rattle.std.proofs.lemmas.Bool.{and_from, lt-ltb, ne_eqb}
 use Rattle.pages.specs.Owners.{IsOutside, AreApart}
 use Rattle.page_alloc.specs.FreePage.{is_free}
 use Rattle.page_alloc.specs.Chain.{is_page, is_among, chain}
-use Rattle.page_marks.specs.Marks.{Marks}
-use Rattle.page_marks.proofs.MarksLemmas.{marks_none, marks_on}
+use Rattle.pages.specs.Marks.{Marks}
+use Rattle.pages.proofs.MarksLemmas.{marks_none, marks_on}
 use Rattle.page_walks.specs.FreeWalk.{page_in, IsFreePageAt, IsFreePagePath, FreeFront, FreeWalked, last_page}
 
 path_more : (list : List (List ℕ)) (first : ℕ) (own : List ℕ) (n next : ℕ) → IsFreePagePath list first own n → IsFreePageAt list n next → IsFreePagePath list first (own ++ n ∷ []) next

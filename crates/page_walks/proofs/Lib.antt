@@ -8,3 +8,7 @@ pub mod OrderAheadLemmas
 pub mod TreeAheadLemmas
 pub mod TreeFaultLemmas
 pub mod FreeFaultLemmas
+pub mod RowLemmas
+pub mod TreeLemmas
+pub mod RunLemmas
+pub mod TogetherLemmas

@@ -1,6 +1,6 @@
 -- What keys that rise between two bounds tell of each of them.
 use Rattle.std.proofs.Common.{◌≡◌, ℕ, zero, suc, ◌<◌, List, [], ◌∷◌, length, take, drop, get_or, Some, arith, subst, sym}
-use Rattle.page_bytes.specs.Each.{Each}
+use Rattle.pages.specs.Each.{Each}
 use Rattle.tree_node.specs.Order.{Ascends}
 use Rattle.tree_node.proofs.OrderLemmas.{Each-weaker}
 use Rattle.tree_search.specs.Tree.{Bound, Above, Below, NotBelow}

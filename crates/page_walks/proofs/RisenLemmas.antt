@@ -2,7 +2,7 @@
 use Rattle.std.proofs.Common.{◌≡◌, ℕ, suc, ◌<◌, true, false, List, [], ◌∷◌, length, take, drop, get_or, Some, None, refl, ap, sym, ◌∙◌, arith, subst}
 use Rattle.std.proofs.Math.Seq.{drop-cons}
 use Rattle.tree_node.specs.Order.{less, Ascends}
-use Rattle.page_bytes.specs.Each.{Each}
+use Rattle.pages.specs.Each.{Each}
 use Rattle.tree_node.proofs.OrderLemmas.{less-trans, less_itself, either, Each-weaker}
 use Rattle.tree_search.specs.Tree.{Bound, NotBelow, Above, Below}
 use Rattle.tree_search.proofs.RowLemmas.{NotBelow-trans, Below-trans}

@@ -3,13 +3,13 @@ use Rattle.std.proofs.Common.{◌≡◌, ℕ, zero, suc, ◌<◌, ◌≤◌, Boo
 use Rattle.std.proofs.lemmas.List.{length-map, append-nil}
 use Rattle.std.proofs.lemmas.Bool.{false≢true, ltb-true}
 use Rattle.std.proofs.Math.Seq.{drop-cons}
-use Rattle.page_bytes.specs.Each.{Each}
+use Rattle.pages.specs.Each.{Each}
 use Rattle.pages.specs.Owners.{IsOutside, AreApart}
 use Rattle.pages.specs.PageMap.{PageMap}
 use Rattle.tree_node.specs.declared.shape.Shape.{Shape}
 use Rattle.tree_node.specs.Leaf.{leaf_entries}
 use Rattle.tree_node.specs.Inner.{separators, children}
-use Rattle.node_balance.specs.Fill.{least_entries}
+use Rattle.tree_node.specs.Fill.{least_entries}
 use Rattle.tree_search.specs.Tree.{TreeOf, page_of, pages_of, entries_of, Bound, IsRow, IsOrdered}
 use Rattle.tree_search.specs.Calls.{size_of, IsHalfFull, IsRooted}
 use Rattle.tree_search.specs.Stored.{Holds}
@@ -19,13 +19,13 @@ use Rattle.bplus_tree.specs.Fields.{tree_shape, tree_root, tree_levels, tree_cou
 use Rattle.bplus_tree.specs.ReadOff.{entries_in}
 use Rattle.bplus_tree.proofs.PageLemmas.{apart_left}
 use Rattle.bplus_tree.proofs.ReadOffLemmas.{reads_its_entries}
-use Rattle.page_marks.specs.Marks.{IsUnmarked, Marks, marked_in}
-use Rattle.page_marks.specs.PageList.{pages_in}
-use Rattle.page_marks.proofs.EachLemmas.{apart_right, apart_across, each_join, each_left, each_right, outside_symm}
-use Rattle.page_marks.specs.declared.walk_fault.WalkFault.{WalkFault}
-use Rattle.page_marks.specs.declared.walk_fault.WalkFault.TheVariants.{Memory}
-use Rattle.page_marks.specs.Refused.{RefusesRightly}
-use Rattle.page_marks.proofs.RefusedLemmas.{for_memory, still_unmarked}
+use Rattle.pages.specs.Marks.{IsUnmarked, Marks, marked_in}
+use Rattle.pages.specs.PageList.{pages_in}
+use Rattle.pages.proofs.EachLemmas.{apart_right, apart_across, each_join, each_left, each_right, outside_symm}
+use Rattle.pages.specs.declared.walk_fault.WalkFault.{WalkFault}
+use Rattle.pages.specs.declared.walk_fault.WalkFault.TheVariants.{Memory}
+use Rattle.pages.specs.Refused.{RefusesRightly}
+use Rattle.pages.proofs.RefusedLemmas.{for_memory, still_unmarked}
 use Rattle.page_walks.specs.declared.spot.Spot.{Spot}
 use Rattle.page_walks.specs.Order.{AreBetween}
 use Rattle.page_walks.specs.declared.leaf.Leaf.{Leaf}

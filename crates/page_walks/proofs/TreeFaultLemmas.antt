@@ -3,15 +3,15 @@ use Rattle.std.proofs.Common.{◌≡◌, ◌≢◌, ◌⊎◌, ℕ, zero, suc, �
 use Rattle.std.specs.Prelude.{nat_eq}
 use Rattle.std.proofs.lemmas.Bool.{eqb-true, eqb-false}
 use Rattle.std.proofs.lemmas.List.{length-map}
-use Rattle.page_marks.specs.declared.fault_place.FaultPlace.{FaultPlace}
-use Rattle.page_marks.specs.declared.fault_place.FaultPlace.TheVariants.{Page}
-use Rattle.page_marks.specs.declared.page_fault.PageFault.{PageFault}
-use Rattle.page_marks.specs.declared.page_fault.PageFault.TheVariants.{Shared, Node, Order, Chain, Count}
-use Rattle.page_marks.specs.Marks.{IsUnmarked, Marks, marked_in}
-use Rattle.page_marks.specs.PageList.{pages_in}
+use Rattle.pages.specs.declared.fault_place.FaultPlace.{FaultPlace}
+use Rattle.pages.specs.declared.fault_place.FaultPlace.TheVariants.{Page}
+use Rattle.pages.specs.declared.page_fault.PageFault.{PageFault}
+use Rattle.pages.specs.declared.page_fault.PageFault.TheVariants.{Shared, Node, Order, Chain, Count}
+use Rattle.pages.specs.Marks.{IsUnmarked, Marks, marked_in}
+use Rattle.pages.specs.PageList.{pages_in}
 use Rattle.tree_node.specs.declared.shape.Shape.{Shape}
 use Rattle.tree_node.specs.Inner.{separators, children}
-use Rattle.node_balance.specs.Fill.{least_entries}
+use Rattle.tree_node.specs.Fill.{least_entries}
 use Rattle.tree_search.specs.Tree.{Bound}
 use Rattle.bplus_tree.specs.declared.tree.Tree.{Tree}
 use Rattle.bplus_tree.specs.Fields.{tree_shape, tree_root, tree_levels, tree_count}

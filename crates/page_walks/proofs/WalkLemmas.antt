@@ -4,19 +4,19 @@ use Rattle.std.proofs.lemmas.List.{length-map, append_assoc, map-append, take_al
 use Rattle.std.proofs.lemmas.Grind.{flat_map-append}
 use Rattle.std.proofs.Math.Seq.{take-suc}
 use Rattle.std.proofs.lemmas.Bool.{lt-ltb}
-use Rattle.page_bytes.specs.Each.{Each}
+use Rattle.pages.specs.Each.{Each}
 use Rattle.pages.specs.PageMap.{PageMap}
 use Rattle.tree_node.specs.declared.shape.Shape.{Shape}
 use Rattle.tree_node.specs.Leaf.{leaf_entries}
 use Rattle.tree_node.specs.Inner.{separators, children}
-use Rattle.node_balance.specs.Fill.{least_entries}
+use Rattle.tree_node.specs.Fill.{least_entries}
 use Rattle.tree_search.specs.Tree.{TreeOf, page_of, pages_of, entries_of, Bound, IsRow, IsOrdered}
 use Rattle.tree_search.specs.Calls.{size_of, IsHalfFull, IsRooted}
 use Rattle.tree_search.specs.Stored.{Holds}
-use Rattle.page_marks.specs.Marks.{Marks, marked_in}
-use Rattle.page_marks.specs.PageList.{pages_in}
-use Rattle.page_marks.proofs.EachLemmas.{each_join}
-use Rattle.page_marks.proofs.MarksLemmas.{marks_none, marks_on}
+use Rattle.pages.specs.Marks.{Marks, marked_in}
+use Rattle.pages.specs.PageList.{pages_in}
+use Rattle.pages.proofs.EachLemmas.{each_join}
+use Rattle.pages.proofs.MarksLemmas.{marks_none, marks_on}
 use Rattle.page_walks.specs.Order.{AreBetween}
 use Rattle.bplus_tree.specs.declared.tree.Tree.{Tree}
 use Rattle.bplus_tree.specs.Fields.{tree_shape, tree_root, tree_levels, tree_count}

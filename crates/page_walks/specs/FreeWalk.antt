@@ -3,14 +3,14 @@ use Rattle.std.specs.Prelude.{◌≡◌, ◌≢◌, ◌⊎◌, ℕ, ◌<◌, ◌
 use Rattle.std.specs.Prelude.{slice_index_or}
 use Rattle.page_alloc.specs.FreePage.{is_free, next_of}
 use Rattle.page_alloc.specs.Chain.{chain, is_among}
-use Rattle.page_bytes.specs.Each.{Each}
-use Rattle.page_marks.specs.declared.fault_place.FaultPlace.{FaultPlace}
-use Rattle.page_marks.specs.declared.fault_place.FaultPlace.TheVariants.{Page}
-use Rattle.page_marks.specs.declared.page_fault.PageFault.{PageFault}
-use Rattle.page_marks.specs.declared.page_fault.PageFault.TheVariants.{Shared, Node, Order, Chain, Count}
-use Rattle.page_marks.specs.declared.walk_fault.WalkFault.{WalkFault}
-use Rattle.page_marks.specs.declared.walk_fault.WalkFault.TheVariants.{At}
-use Rattle.page_marks.specs.Marks.{IsUnmarked, Marks}
+use Rattle.pages.specs.Each.{Each}
+use Rattle.pages.specs.declared.fault_place.FaultPlace.{FaultPlace}
+use Rattle.pages.specs.declared.fault_place.FaultPlace.TheVariants.{Page}
+use Rattle.pages.specs.declared.page_fault.PageFault.{PageFault}
+use Rattle.pages.specs.declared.page_fault.PageFault.TheVariants.{Shared, Node, Order, Chain, Count}
+use Rattle.pages.specs.declared.walk_fault.WalkFault.{WalkFault}
+use Rattle.pages.specs.declared.walk_fault.WalkFault.TheVariants.{At}
+use Rattle.pages.specs.Marks.{IsUnmarked, Marks}
 
 -- the bytes of a page, as they were read
 abbrev pub page_in : List (List ℕ) → ℕ → List ℕ

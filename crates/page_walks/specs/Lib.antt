@@ -5,3 +5,7 @@ pub mod TreeAhead
 pub mod TreeFaults
 pub mod FreeWalk
 pub mod WholeFile
+pub mod Rows
+pub mod Levels
+pub mod Fill
+pub mod Runs

@@ -1,18 +1,18 @@
 -- Trees that no walk has reached, and what a walk has yet to find of them.
 use Rattle.std.specs.Prelude.{◌≡◌, ◌≤◌, ℕ, Bool, List, map, flat_map}
 use Rattle.std.specs.Option.{option_copied}
-use Rattle.page_bytes.specs.Each.{Each}
+use Rattle.pages.specs.Each.{Each}
 use Rattle.pages.specs.Owners.{AreApart}
 use Rattle.pages.specs.PageMap.{PageMap}
 use Rattle.tree_node.specs.declared.shape.Shape.{Shape}
-use Rattle.node_balance.specs.Fill.{least_entries}
+use Rattle.tree_node.specs.Fill.{least_entries}
 use Rattle.tree_search.specs.Tree.{TreeOf, page_of, pages_of, Bound, IsRow, IsOrdered}
 use Rattle.tree_search.specs.Calls.{size_of, IsHalfFull, IsTree}
 use Rattle.tree_search.specs.Stored.{Holds}
 use Rattle.bplus_tree.specs.declared.tree.Tree.{Tree}
 use Rattle.bplus_tree.specs.Standing.{TreeStands}
-use Rattle.page_marks.specs.Marks.{IsUnmarked}
-use Rattle.page_marks.specs.PageList.{pages_in}
+use Rattle.pages.specs.Marks.{IsUnmarked}
+use Rattle.pages.specs.PageList.{pages_in}
 use Rattle.page_walks.specs.declared.tree_walk.Limits.{Limits}
 
 -- the tree stands in these pages, none of which was reached

@@ -2,13 +2,13 @@
 use Rattle.std.specs.Prelude.{◌≡◌, ℕ, zero, suc, ◌≤◌, Bool, List, [], ◌∷◌, ◌++◌, length, map, flat_map, take}
 use Rattle.std.specs.Prelude.{slice_index_or, Some, ⊤}
 use Rattle.std.specs.Option.{option_copied}
-use Rattle.page_bytes.specs.Each.{Each}
+use Rattle.pages.specs.Each.{Each}
 use Rattle.pages.specs.PageMap.{PageMap}
 use Rattle.tree_node.specs.declared.shape.Shape.{Shape}
 use Rattle.tree_node.specs.Order.{Ascends}
 use Rattle.tree_node.specs.Leaf.{IsLeaf, leaf_entries}
 use Rattle.tree_node.specs.Inner.{IsInner, separators}
-use Rattle.node_balance.specs.Fill.{least_entries}
+use Rattle.tree_node.specs.Fill.{least_entries}
 use Rattle.bplus_tree.specs.declared.tree.Tree.{Tree}
 use Rattle.tree_search.specs.Tree.{TreeOf, page_of, pages_of, entries_of, Bound}
 use Rattle.tree_search.specs.Calls.{size_of, IsHalfFull, IsTree}
@@ -16,8 +16,8 @@ use Rattle.tree_search.specs.Tree.{IsOrdered}
 use Rattle.tree_search.specs.Stored.{Holds}
 use Rattle.bplus_tree.specs.Standing.{TreeStands}
 use Rattle.bplus_tree.specs.Fields.{tree_shape}
-use Rattle.page_marks.specs.Marks.{Marks, marked_in}
-use Rattle.page_marks.specs.PageList.{pages_in}
+use Rattle.pages.specs.Marks.{Marks, marked_in}
+use Rattle.pages.specs.PageList.{pages_in}
 use Rattle.page_walks.specs.declared.spot.Spot.{Spot}
 use Rattle.page_walks.specs.declared.leaf.Leaf.{Leaf}
 use Rattle.page_walks.specs.declared.tree_walk.Limits.{Limits}

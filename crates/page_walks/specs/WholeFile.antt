@@ -1,13 +1,13 @@
 -- A file whose pages were all reached.
 use Rattle.std.specs.Prelude.{◌≡◌, ℕ, ◌<◌, Bool, true, false, List, [], ◌∷◌, length}
-use Rattle.page_bytes.specs.Each.{Each}
+use Rattle.pages.specs.Each.{Each}
 use Rattle.pages.specs.PageMap.{PageMap}
 use Rattle.page_alloc.specs.Chain.{chain, used}
 use Rattle.bplus_tree.specs.declared.tree.Tree.{Tree}
 use Rattle.bplus_tree.specs.Standing.{TreeStands}
-use Rattle.page_marks.specs.Marks.{Marks}
-use Rattle.page_marks.specs.PageList.{pages_in}
-use Rattle.page_marks.specs.Parted.{Parted, own_at, all_of}
+use Rattle.pages.specs.Marks.{Marks}
+use Rattle.pages.specs.PageList.{pages_in}
+use Rattle.pages.specs.Parted.{Parted, own_at, all_of}
 use Rattle.page_walks.specs.FreeWalk.{page_in, FreeWalked}
 
 -- the pages in use of a file whose free pages are those from the first one on, so many

@@ -6,15 +6,14 @@
 //! | 4 to 7 | next free page, 0 at the end of the chain |
 
 ghost use Rattle.std.specs.Prelude.{◌≡◌, IfErr, IfOk, OnOk};
-ghost use Rattle.page_marks.specs.Marks.{marked_in};
-ghost use Rattle.page_marks.specs.Refused.{RefusesRightly};
+ghost use Rattle.pages.specs.Marks.{marked_in};
+ghost use Rattle.pages.specs.Refused.{RefusesRightly};
 ghost use Rattle.page_walks.specs.FreeWalk.{FreeAhead, FreeWalked, IsFreeFault, IsFreePage, IsFreePageAt};
 ghost use Rattle.page_walks.specs.FreeWalk.{TellsOfNext};
-ghost use Rattle.page_marks.specs.Told.{TellsOfFault};
+ghost use Rattle.pages.specs.Told.{TellsOfFault};
 
 use byteorder::{BigEndian, ByteOrder};
-use page_bytes::PAGE_SIZE;
-use page_marks::{PageFault, WalkFault, mark};
+use pages::{PAGE_SIZE, PageFault, WalkFault, mark};
 
 /// The first four bytes, as a number.
 const FREE: u32 = 0x4600_0000;

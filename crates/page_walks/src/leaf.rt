@@ -3,7 +3,7 @@
 ghost use Rattle.std.specs.Prelude.{◌≡◌, ◌↔◌, [], ◌∷◌, ◌++◌, IsTrue, IfErr, OnOk, length};
 ghost use Rattle.page_walks.specs.Spots.{spots_in};
 
-use page_marks::WalkFault;
+use pages::WalkFault;
 
 /// A leaf of a tree: its page, and how many entries it has.
 #[derive(Clone, Copy, Debug, PartialEq, Eq)]

@@ -1,21 +1,29 @@
-//! Walks over the pages of a file that was read into a list: of a tree, and of the free pages.
+//! Walks over the pages of a file that was read into a list: of a tree, and of the free pages; and
+//! counts over the pages of a tree that a walk has found.
 //!
 //! A walk finds that a part of the file stands as its calls keep it, and marks the pages of the
 //! part, or says why it does not stand. Nothing is asked of what the pages hold. What an entry says
-//! besides its key is not known here.
+//! besides its key is not known here. A count tells the pages and entries of each level of a tree,
+//! and how many entries have one value at most.
 //!
-//! Read `specs/TreeWalk.antt` and `tree_walk`, then `free_walk`.
+//! Read `specs/TreeWalk.antt` and `tree_walk`, then `free_walk`; `specs/Levels.antt`, then `levels`.
 #![tactic(auto)]
 
 mod free_walk;
 mod law;
 mod leaf;
+mod level;
+mod levels;
 mod order;
+mod runs;
 mod spot;
 mod tree_walk;
 
 pub use free_walk::walk_free;
 pub use law::{trees_stay, walks_part_the_file};
 pub use leaf::Leaf;
+pub use level::{Level, TreeCounts};
+pub use levels::{count_tree, level_laws};
+pub use runs::{longest_run, run_laws};
 pub use spot::Spot;
 pub use tree_walk::walk_tree;

@@ -9,7 +9,7 @@ ghost use Rattle.tree_search.specs.Tree.{NotBelow, Above, Below};
 ghost use Rattle.page_walks.specs.Order.{AreSeparatorsBetween, AreLeafKeysInside};
 ghost use Rattle.page_walks.specs.Order.{IsLeafKeyAstray, IsSeparatorAstray};
 
-use page_bytes::PAGE_SIZE;
+use pages::PAGE_SIZE;
 use tree_node::{InnerView, LeafView, Shape};
 
 /// The bytes `a` come before the bytes `b`.

@@ -2,7 +2,7 @@
 
 ghost use Rattle.std.specs.Prelude.{◌≡◌, ◌↔◌, IsSome, IfSome};
 
-use page_bytes::PAGE_SIZE;
+use pages::PAGE_SIZE;
 use tree_node::{LeafView, Shape, is_leaf};
 
 /// A place in a leaf of a tree: the leaf's page, and how many entries stand before it.

@@ -1,13 +1,13 @@
 //! A tree over the pages of a file that were read.
 
 ghost use Rattle.std.specs.Prelude.{◌≡◌, ◌<◌, min, IfErr, IfOk, OnOk, length, slice_index_or, []};
-ghost use Rattle.page_bytes.specs.Each.{Each};
+ghost use Rattle.pages.specs.Each.{Each};
 ghost use Rattle.bplus_tree.specs.Fields.{tree_shape};
 ghost use Rattle.tree_node.specs.Leaf.{IsLeaf, leaf_room};
-ghost use Rattle.node_balance.specs.Fill.{least_entries};
-ghost use Rattle.page_marks.specs.Refused.{RefusesRightly};
+ghost use Rattle.tree_node.specs.Fill.{least_entries};
+ghost use Rattle.pages.specs.Refused.{RefusesRightly};
 ghost use Rattle.page_walks.specs.Spots.{IsLeafThere};
-ghost use Rattle.page_marks.specs.Told.{TellsOfFault};
+ghost use Rattle.pages.specs.Told.{TellsOfFault};
 ghost use Rattle.page_walks.specs.TreeAhead.{AwaitsBelow, TreeUnmarked};
 ghost use Rattle.page_walks.specs.TreeFaults.{IsNodeFault, IsSomewhereBelow, IsTreeFault, MarksBelow};
 ghost use Rattle.page_walks.specs.TreeFaults.{node_place, root_place};
@@ -16,8 +16,7 @@ ghost use Rattle.page_walks.specs.TreeWalk.{IsInnerWithin, IsLeafWithin, AddsLea
 use crate::leaf::{Leaf, have_entries, push};
 use crate::order::{check_keys, check_separators};
 use bplus_tree::Tree;
-use page_bytes::PAGE_SIZE;
-use page_marks::{PageFault, WalkFault, mark};
+use pages::{PAGE_SIZE, PageFault, WalkFault, mark};
 use std::alloc::Global;
 use tree_node::{InnerView, LeafView, Shape, is_inner, is_leaf};
 

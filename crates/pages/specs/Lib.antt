@@ -1,3 +1,5 @@
+pub mod Chunks
+pub mod Each
 pub mod PageMap
 pub mod Owners
 pub mod PagesState
@@ -7,3 +9,9 @@ pub mod ShownPages
 pub mod PageChanges
 pub mod Lending
 pub mod PageCalls
+pub mod Marks
+pub mod Refused
+pub mod Told
+pub mod PageList
+pub mod Parted
+pub mod PartLaw

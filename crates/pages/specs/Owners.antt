@@ -1,6 +1,6 @@
 -- Pages that belong to one part of a file, and what a change of that part leaves of the others.
 use Rattle.std.specs.Prelude.{◌≡◌, ◌≢◌, ℕ, List, [], ◌∷◌, IsSome, ⊤}
-use Rattle.page_bytes.specs.Each.{Each}
+use Rattle.pages.specs.Each.{Each}
 use Rattle.pages.specs.PageMap.{PageMap}
 
 -- the page is none of these

@@ -4,9 +4,9 @@ ghost use Rattle.std.specs.Prelude.{◌≡◌, OnErr};
 ghost use Rattle.pages.specs.PageCalls.{ReadsPages};
 ghost use Rattle.pages.specs.PageChanges.{StoresPage, CopiesOut, FindsNoDamage};
 
+use crate::PAGE_SIZE;
 use crate::pages::Pages;
 use io_state::Fault;
-use page_bytes::PAGE_SIZE;
 
 /// Copies page `n` into `to`, which at a fault is as it was.
 pub fn copy<P: Pages>(pages: &mut P, n: u32, to: &mut [u8; PAGE_SIZE]) -> Result<(), Fault>

@@ -7,8 +7,8 @@ ghost use Rattle.pages.specs.ShownPages.{ShownPages};
 ghost use Rattle.pages.specs.PageChanges.{TakesUnused, GivesBack, OpensForChange};
 ghost use Rattle.pages.specs.Lending.{LendsToRead, LendsToWrite};
 
+use crate::PAGE_SIZE;
 use io_state::Fault;
-use page_bytes::PAGE_SIZE;
 
 /// The pages of a file that is open. Page numbers are from 0.
 ///

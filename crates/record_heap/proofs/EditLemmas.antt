@@ -4,10 +4,10 @@ use Rattle.std.proofs.lemmas.List.{drop-drop, length-append, length-drop, length
 use Rattle.std.proofs.lemmas.Slice.{take-put_mid_below}
 use Rattle.std.proofs.Math.Nat.{suc-mul}
 use borrow.Rule.Slice.PartMut.{put_mid}
-use Rattle.page_bytes.specs.Chunks.{chunks}
-use Rattle.page_bytes.proofs.ChunkLemmas.{times_less, get_or-chunks, length-chunks}
-use Rattle.page_bytes.proofs.ChunkLemmas.{chunks_set_behind}
-use Rattle.page_bytes.proofs.RoomLemmas.{room_fits}
+use Rattle.pages.specs.Chunks.{chunks}
+use Rattle.pages.proofs.ChunkLemmas.{times_less, get_or-chunks, length-chunks}
+use Rattle.pages.proofs.ChunkLemmas.{chunks_set_behind}
+use Rattle.pages.proofs.RoomLemmas.{room_fits}
 use Rattle.record_heap.specs.declared.shape.Shape.{Shape}
 use Rattle.std.proofs.lemmas.Bool.Decides.{eqb_tells}
 use Rattle.std.proofs.Math.Dec.{eqb}

@@ -4,7 +4,7 @@ use Rattle.std.proofs.lemmas.Bool.{lt-ltb, le-ltb}
 use Rattle.std.specs.Prelude.{nat_lt}
 use Rattle.std.proofs.lemmas.Bool.Decides.{eqb_tells}
 use Rattle.std.proofs.Math.Dec.{eqb}
-use Rattle.page_bytes.specs.Each.{Each}
+use Rattle.pages.specs.Each.{Each}
 use Rattle.pages.specs.PageMap.{PageMap, Takes, Writes}
 use Rattle.pages.specs.Owners.{IsOutside, AreApart, ChangesPages}
 use Rattle.record_heap.specs.declared.shape.Place.{Place}
@@ -109,37 +109,48 @@ live_free None here free = cc here
 live_free (Some bytes) here free = some_none bytes free
 
 -- pages in use are not the free one
-free_outside : (pages : PageMap) (own : List ℕ) (n : ℕ) → pages n ≡ None → Each (λ m. IsSome (pages m)) own → IsOutside own n
+pub free_outside : (pages : PageMap) (own : List ℕ) (n : ℕ) → pages n ≡ None → Each (λ m. IsSome (pages m)) own → IsOutside own n
 free_outside pages [] n free live = tt
 free_outside pages (m ∷ ms) n free live = (λ e. live_free (pages m) live.0 (ap pages (sym e) ∙ free), free_outside pages ms n free live.1)
 
 -- pages alone: the heap with a page that was free
-pub heap_grown : (heap : Heap) (before after : PageMap) (slots : Slots) (own bytes : List ℕ) (n : ℕ) → HeapStands heap before slots own → heap.free.page ≡ 0 → 1 ≤ n → 1 ≤ room heap.shape
+pub stands_grown : (heap : Heap) (before after : PageMap) (slots : Slots) (own bytes : List ℕ) (n : ℕ) → HeapStands heap before slots own → heap.free.page ≡ 0 → 1 ≤ n → 1 ≤ room heap.shape
     → Takes before after n bytes → IsHeapPage heap.first bytes → AreLinked heap.shape n (room heap.shape) bytes
-    → HeapHas before after (record heap { first = n; free = record { page = n; slot = 0 } }) own slots
-heap_grown heap before after slots own bytes n stands none some wide takes page linked =
+    → HeapStands (record heap { first = n; free = record { page = n; slot = 0 } }) after slots (n ∷ own)
+stands_grown heap before after slots own bytes n stands none some wide takes page linked =
     let live = chain_live before heap.first own stands.chain in
     let outside = free_outside before own n takes.free live in
     let same = each_weaker (λ m. n ≢ m) (λ m. after m ≡ before m) (λ m d. takes.others m (λ e. d (sym e))) own outside in
     let still : (q : Place) → q.page ≢ n → slot_of heap.shape after q ≡ slot_of heap.shape before q = λ q d. slot_still heap.shape before after q (takes.others q.page d) in
     let heap_page : IsHeapAt after n heap.first = record { bytes = bytes; there = takes.page; heap = page } in
     record {
-      own_now = n ∷ own;
-      stands = record {
-        chain = (refl, (heap.first, heap_page, chain_same before after heap.first own same stands.chain));
-        apart = (outside, stands.apart);
-        keeps = grown (room heap.shape) own (used_at heap.shape before) (used_at heap.shape after) (behind_at heap.shape before) (behind_at heap.shape after) slots heap.free n stands.keeps none some wide outside
-            (λ j below. ap behind_in (slot_there heap.shape after (record { page = n; slot = j }) n bytes refl takes.page) ∙ linked j below) (λ q d. ap (used_in heap.shape) (still q d));
-      };
-      changes = record {
-        others = λ m here out. let d : m ≢ n = λ e. taken_not m here e in (takes.others m d, (d, out));
-        no_stray = λ m here out. (subst (λ (o : Option (List ℕ)). IsSome o) (takes.others m out.0) here, out.1);
-        apart = (outside, stands.apart);
-      };
+      chain = (refl, (heap.first, heap_page, chain_same before after heap.first own same stands.chain));
+      apart = (outside, stands.apart);
+      keeps = grown (room heap.shape) own (used_at heap.shape before) (used_at heap.shape after) (behind_at heap.shape before) (behind_at heap.shape after) slots heap.free n stands.keeps none some wide outside
+          (λ j below. ap behind_in (slot_there heap.shape after (record { page = n; slot = j }) n bytes refl takes.page) ∙ linked j below) (λ q d. ap (used_in heap.shape) (still q d));
+    }
+
+-- one page more was taken
+pub changes_grown : (before after : PageMap) (own bytes : List ℕ) (n : ℕ) → Each (λ m. IsSome (before m)) own → AreApart own → Takes before after n bytes → ChangesPages before after own (n ∷ own)
+changes_grown before after own bytes n live apart takes =
+    let outside = free_outside before own n takes.free live in
+    record {
+      others = λ m here out. let d : m ≢ n = λ e. taken_not m here e in (takes.others m d, (d, out));
+      no_stray = λ m here out. (subst (λ (o : Option (List ℕ)). IsSome o) (takes.others m out.0) here, out.1);
+      apart = (outside, apart);
     }
   where
     taken_not : (m : ℕ) → IsSome (before m) → m ≡ n → ⊥
     taken_not m here e = live_free (before m) here (ap before e ∙ takes.free)
+
+pub heap_grown : (heap : Heap) (before after : PageMap) (slots : Slots) (own bytes : List ℕ) (n : ℕ) → HeapStands heap before slots own → heap.free.page ≡ 0 → 1 ≤ n → 1 ≤ room heap.shape
+    → Takes before after n bytes → IsHeapPage heap.first bytes → AreLinked heap.shape n (room heap.shape) bytes
+    → HeapHas before after (record heap { first = n; free = record { page = n; slot = 0 } }) own slots
+heap_grown heap before after slots own bytes n stands none some wide takes page linked = record {
+  own_now = n ∷ own;
+  stands = stands_grown heap before after slots own bytes n stands none some wide takes page linked;
+  changes = changes_grown before after own bytes n (chain_live before heap.first own stands.chain) stands.apart takes;
+}
 
 -- its chains: the new page is the first one, and its slots are free in rising order
 pub chains_grown : (heap : Heap) (before after : PageMap) (slots : Slots) (own bytes : List ℕ) (n : ℕ) → heap.free.page ≡ 0 → 1 ≤ room heap.shape

@@ -4,13 +4,13 @@ use Rattle.std.specs.Prelude.{nat_lt}
 use Rattle.std.proofs.lemmas.Bool.{false≢true, ltb-true}
 use Rattle.byteorder.specs.Endian.{big_number}
 use Rattle.byteorder.specs.Numbers.{big_number-reads_back}
-use Rattle.page_bytes.specs.Each.{Each}
+use Rattle.pages.specs.Each.{Each}
 use Rattle.pages.specs.Owners.{AreApart, IsOutside}
 use Rattle.pages.specs.PageMap.{PageMap}
-use Rattle.page_marks.specs.Marks.{IsUnmarked, Marks, marked_in}
-use Rattle.page_marks.specs.PageList.{pages_in}
-use Rattle.page_marks.proofs.EachLemmas.{each_weaker, outside_symm}
-use Rattle.page_marks.proofs.RefusedLemmas.{still_unmarked}
+use Rattle.pages.specs.Marks.{IsUnmarked, Marks, marked_in}
+use Rattle.pages.specs.PageList.{pages_in}
+use Rattle.pages.proofs.EachLemmas.{each_weaker, outside_symm}
+use Rattle.pages.proofs.RefusedLemmas.{still_unmarked}
 use Rattle.record_heap.specs.declared.heap.Heap.{Heap}
 use Rattle.record_heap.specs.declared.shape.Shape.{Shape}
 use Rattle.record_heap.specs.declared.shape.Place.{Place}

@@ -5,6 +5,7 @@ pub mod StandLemmas
 pub mod GrowLemmas
 pub mod HeapLemmas
 pub mod OrderLemmas
+pub mod FillingLemmas
 pub mod WalkLemmas
 pub mod SlotMarkLemmas
 pub mod SlotWalkLemmas

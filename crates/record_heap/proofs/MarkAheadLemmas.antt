@@ -7,8 +7,8 @@ use Rattle.std.proofs.lemmas.List.{length-set, get_or-set_same, get_or-set_other
 use Rattle.std.proofs.lemmas.Option.{slice_get_within, slice_get-get_or, get_or_from_slice_get}
 use Rattle.std.proofs.Math.Dec.{eqb}
 use Rattle.std.proofs.Math.Nat.{suc-mul}
-use Rattle.page_bytes.specs.Each.{Each}
-use Rattle.page_bytes.proofs.ChunkLemmas.{times_less}
+use Rattle.pages.specs.Each.{Each}
+use Rattle.pages.proofs.ChunkLemmas.{times_less}
 use Rattle.pages.specs.Owners.{AreApart}
 use Rattle.record_heap.specs.declared.shape.Place.{Place}
 use Rattle.record_heap.specs.declared.slot_marks.SlotMarks.{SlotMarks}

@@ -1,7 +1,7 @@
 -- The order of a heap's chains after its calls.
 use Rattle.std.proofs.Common.{◌≡◌, ◌≢◌, ℕ, ◌≤◌, ◌∙◌, ap, subst, List, [], ◌∷◌, Some, None, Ok, refl, sym, arith}
 use Rattle.std.specs.Prelude.{IsTrue, ⊤}
-use Rattle.page_bytes.specs.Each.{Each}
+use Rattle.pages.specs.Each.{Each}
 use Rattle.pages.specs.PageMap.{PageMap}
 use Rattle.pages.specs.PagesState.{PagesState}
 use Rattle.record_heap.specs.declared.shape.Place.{Place}

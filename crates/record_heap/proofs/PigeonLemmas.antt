@@ -5,10 +5,10 @@ use Rattle.std.proofs.lemmas.List.{length-map}
 use Rattle.std.proofs.lemmas.Bool.Decides.{eqb_tells}
 use Rattle.std.proofs.Math.Dec.{eqb}
 use Rattle.std.proofs.Math.Nat.{suc-mul}
-use Rattle.page_bytes.specs.Each.{Each}
+use Rattle.pages.specs.Each.{Each}
 use Rattle.pages.specs.Owners.{AreApart}
-use Rattle.page_bytes.proofs.ChunkLemmas.{times_less}
-use Rattle.page_marks.proofs.EachLemmas.{each_both}
+use Rattle.pages.proofs.ChunkLemmas.{times_less}
+use Rattle.pages.proofs.EachLemmas.{each_both}
 use Rattle.record_heap.specs.declared.shape.Place.{Place}
 use Rattle.record_heap.specs.Chain.{AreOnce, IsOneOf}
 use Rattle.record_heap.proofs.ChainLemmas.{place_made}

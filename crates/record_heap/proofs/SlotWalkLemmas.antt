@@ -4,7 +4,7 @@ use Rattle.std.specs.Prelude.{slice_index, nat_lt, if◌then◌else◌}
 use Rattle.std.proofs.lemmas.Bool.{lt-ltb, ltb-true}
 use Rattle.std.proofs.lemmas.Bool.Decides.{eqb_tells}
 use Rattle.std.proofs.Math.Dec.{eqb}
-use Rattle.page_bytes.specs.Each.{Each}
+use Rattle.pages.specs.Each.{Each}
 use Rattle.pages.specs.PageMap.{PageMap}
 use Rattle.record_heap.specs.declared.shape.Shape.{Shape}
 use Rattle.record_heap.specs.declared.shape.Place.{Place}
@@ -12,7 +12,7 @@ use Rattle.record_heap.specs.Slot.{room, head, length_in_slot, used_in, behind_i
 use Rattle.record_heap.specs.Slots.{slot_at}
 use Rattle.record_heap.specs.Chain.{IsOneOf, IsPlaceOf, IsFreeChain, KeepsSlots}
 use Rattle.record_heap.specs.Calls.{slot_of, used_at, behind_at}
-use Rattle.page_marks.specs.PageList.{pages_in}
+use Rattle.pages.specs.PageList.{pages_in}
 use Rattle.record_heap.specs.declared.slot_marks.SlotMarks.{SlotMarks}
 use Rattle.record_heap.specs.SlotMarks.{marked_slot}
 use Rattle.record_heap.specs.Walk.{is_in_list, slots_of, IsUsedAt, IsFreeAt, SlotMarked, PageMarked, AreMarked, IsFreePath, SlotsWalked, TakesMark}

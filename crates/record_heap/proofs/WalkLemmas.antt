@@ -1,12 +1,12 @@
 -- A walk goes one step on, and what it finds at its end.
 use Rattle.std.proofs.Common.{◌≡◌, ◌≢◌, ℕ, ◌^◌, ◌<◌, ◌≤◌, Bool, true, false, List, [], ◌∷◌, ◌++◌, Option, Some, refl, sym, subst, arith}
-use Rattle.page_bytes.specs.Each.{Each}
+use Rattle.pages.specs.Each.{Each}
 use Rattle.pages.specs.PageMap.{PageMap}
 use Rattle.record_heap.specs.declared.shape.Place.{Place}
 use Rattle.record_heap.specs.Chain.{AreOnce}
 use Rattle.record_heap.specs.Calls.{IsHeapAt}
-use Rattle.page_marks.specs.Marks.{Marks}
-use Rattle.page_marks.proofs.MarksLemmas.{marks_on}
+use Rattle.pages.specs.Marks.{Marks}
+use Rattle.pages.proofs.MarksLemmas.{marks_on}
 use Rattle.record_heap.specs.Standing.{IsPageChain}
 use Rattle.record_heap.specs.Walk.{IsPagePath, PagesWalked, IsFreePath}
 

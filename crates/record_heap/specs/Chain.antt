@@ -1,7 +1,7 @@
 -- Places of slots: those in use, and the chain of the free ones.
 use Rattle.std.specs.Prelude.{◌≡◌, ◌≢◌, ◌⊎◌, ℕ, ◌≤◌, ◌<◌, Bool, ◌==◌, ◌&&◌, List, [], ◌∷◌, Option, Some, None}
 use Rattle.std.specs.Prelude.{⊤, if◌then◌else◌}
-use Rattle.page_bytes.specs.Each.{Each}
+use Rattle.pages.specs.Each.{Each}
 use Rattle.record_heap.specs.declared.shape.Place.{Place}
 
 -- the stamps and the record at each place in use

@@ -1,14 +1,14 @@
 -- What is wrong with a heap, and where.
 use Rattle.std.specs.Prelude.{◌≡◌, ◌≢◌, ◌⊎◌, ℕ, ◌<◌, ◌≤◌, Bool, true, List, [], ◌∷◌, length, ⊤}
-use Rattle.page_bytes.specs.Each.{Each}
-use Rattle.page_marks.specs.declared.fault_place.FaultPlace.{FaultPlace}
-use Rattle.page_marks.specs.declared.fault_place.FaultPlace.TheVariants.{Page, Entry}
-use Rattle.page_marks.specs.declared.page_fault.PageFault.{PageFault}
-use Rattle.page_marks.specs.declared.page_fault.PageFault.TheVariants.{Shared, Node, Order, Chain, Count}
-use Rattle.page_marks.specs.declared.walk_fault.WalkFault.{WalkFault}
-use Rattle.page_marks.specs.declared.walk_fault.WalkFault.TheVariants.{Memory, At}
-use Rattle.page_marks.specs.Marks.{IsUnmarked}
-use Rattle.page_marks.specs.PageList.{pages_in}
+use Rattle.pages.specs.Each.{Each}
+use Rattle.pages.specs.declared.fault_place.FaultPlace.{FaultPlace}
+use Rattle.pages.specs.declared.fault_place.FaultPlace.TheVariants.{Page, Entry}
+use Rattle.pages.specs.declared.page_fault.PageFault.{PageFault}
+use Rattle.pages.specs.declared.page_fault.PageFault.TheVariants.{Shared, Node, Order, Chain, Count}
+use Rattle.pages.specs.declared.walk_fault.WalkFault.{WalkFault}
+use Rattle.pages.specs.declared.walk_fault.WalkFault.TheVariants.{Memory, At}
+use Rattle.pages.specs.Marks.{IsUnmarked}
+use Rattle.pages.specs.PageList.{pages_in}
 use Rattle.pages.specs.Owners.{AreApart}
 use Rattle.record_heap.specs.declared.shape.Shape.{Shape}
 use Rattle.record_heap.specs.declared.shape.Place.{Place}

@@ -1,8 +1,8 @@
 -- The slots of a heap page.
-use Rattle.std.specs.Prelude.{◌≡◌, ◌+◌, ◌<◌, ℕ, Some, nat_lt, List, [], ◌∷◌, ◌++◌, take, drop, length}
+use Rattle.std.specs.Prelude.{◌≡◌, ◌+◌, ◌<◌, ◌≤◌, ℕ, Some, nat_lt, List, [], ◌∷◌, ◌++◌, take, drop, length}
 use Rattle.std.specs.Prelude.{replicate, slice_index_or, slice_set, if◌then◌else◌}
 use Rattle.byteorder.specs.Endian.{big_bytes}
-use Rattle.page_bytes.specs.Chunks.{chunks}
+use Rattle.pages.specs.Chunks.{chunks}
 use Rattle.record_heap.specs.declared.shape.Shape.{Shape}
 use Rattle.record_heap.specs.declared.shape.Place.{Place}
 use Rattle.record_heap.specs.Slot.{size, room, behind_in}
@@ -50,3 +50,8 @@ AreLinked shape n count page = (i : ℕ) → i < count
 pub record IsNewPage (shape : Shape) (n next : ℕ) (page : List ℕ) : Type 0 where
   pub heap : IsHeapPage next page
   pub linked : AreLinked shape n (room shape) page
+
+-- the slots of page n from this one on are free, and linked in rising order
+abbrev pub AreLinkedFrom : Shape → ℕ → ℕ → List ℕ → Type 0
+AreLinkedFrom shape n from page = (i : ℕ) → from ≤ i → i < room shape
+    → behind_in (slot_at shape page i) ≡ Some (behind_new (room shape) n i)

@@ -1,6 +1,6 @@
 -- A heap in the pages that it owns.
 use Rattle.std.specs.Prelude.{◌≡◌, ℕ, List, [], ◌∷◌, Option, Some, IsSome}
-use Rattle.page_bytes.specs.Each.{Each}
+use Rattle.pages.specs.Each.{Each}
 use Rattle.pages.specs.PageMap.{PageMap}
 use Rattle.pages.specs.Owners.{AreApart}
 use Rattle.record_heap.specs.declared.shape.Shape.{Shape}

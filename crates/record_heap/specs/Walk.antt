@@ -2,7 +2,7 @@
 use Rattle.std.specs.Prelude.{◌≡◌, ◌≢◌, ◌⊎◌, ℕ, ◌≤◌, ◌<◌, ◌^◌, ◌==◌, ◌&&◌, nat_lt, Bool, true, false, List, []}
 use Rattle.std.specs.Prelude.{◌∷◌, Option, Some, None, Result, IfOk, if◌then◌else◌, length}
 use Rattle.std.specs.Global.{Vec}
-use Rattle.page_bytes.specs.Each.{Each}
+use Rattle.pages.specs.Each.{Each}
 use Rattle.pages.specs.Owners.{AreApart}
 use Rattle.pages.specs.PageMap.{PageMap}
 use Rattle.record_heap.specs.declared.shape.Shape.{Shape}
@@ -15,8 +15,8 @@ use Rattle.record_heap.specs.Calls.{slot_of, used_at, behind_at, IsHeapAt}
 use Rattle.record_heap.specs.declared.slot_marks.SlotMarks.{SlotMarks}
 use Rattle.record_heap.specs.SlotMarks.{HasMark, marked_slot, SetsMark}
 use Rattle.record_heap.specs.Standing.{HeapStands, IsPageChain}
-use Rattle.page_marks.specs.Marks.{IsUnmarked, Marks, marked_in}
-use Rattle.page_marks.specs.PageList.{pages_in}
+use Rattle.pages.specs.Marks.{IsUnmarked, Marks, marked_in}
+use Rattle.pages.specs.PageList.{pages_in}
 
 -- these heap pages lead from the first one to this
 abbrev pub IsPagePath : PageMap → ℕ → List ℕ → ℕ → Type 0

@@ -4,8 +4,7 @@ use crate::calls::{fill, link, read_record, read_used, refill};
 use crate::shape::{Place, Shape};
 use crate::slots::new_page;
 use io_state::Fault;
-use page_bytes::PAGE_SIZE;
-use pages::{Pages, store};
+use pages::{PAGE_SIZE, Pages, store};
 
 /// Records, each with its stamps before it, in slots. `first` is the first page of the chain of
 /// heap pages, and `free` the first free slot; page 0 is none.

@@ -10,6 +10,7 @@
 #![tactic(auto)]
 
 mod bits;
+mod builder;
 mod calls;
 mod heap;
 mod laws;
@@ -19,6 +20,7 @@ mod slot_marks;
 mod slots;
 mod walk;
 
+pub use builder::HeapBuilder;
 pub use heap::Heap;
 pub use laws::heap_laws;
 pub use shape::{Place, Shape};

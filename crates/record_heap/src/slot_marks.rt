@@ -9,7 +9,7 @@ ghost use Rattle.record_heap.specs.SlotMarks.{SameSlots, SetsMark, marked_slot};
 
 use crate::bits::Bits;
 use crate::shape::Place;
-use page_marks::WalkFault;
+use pages::WalkFault;
 use std::alloc::Global;
 
 /// A mark for each slot of these pages, in their order, of one bit. Where a page stands among them

@@ -16,7 +16,7 @@ ghost use Rattle.record_heap.specs.Slots.{IsNewPage};
 use crate::shape::{Place, Shape};
 use crate::slot;
 use byteorder::{BigEndian, ByteOrder};
-use page_bytes::PAGE_SIZE;
+use pages::PAGE_SIZE;
 
 /// The next heap page.
 pub const NEXT: usize = 4;

@@ -3,9 +3,9 @@
 ghost use Rattle.std.specs.Prelude.{◌≡◌, false, ◌<◌, ◌≤◌, IfErr, IfOk, OnOk, length};
 ghost use Rattle.record_heap.specs.Slot.{room, size};
 ghost use Rattle.record_heap.specs.Calls.{IsHeapAt};
-ghost use Rattle.page_marks.specs.PageList.{pages_in};
-ghost use Rattle.page_marks.specs.Refused.{RefusesRightly};
-ghost use Rattle.page_marks.specs.Told.{TellsOfFault};
+ghost use Rattle.pages.specs.PageList.{pages_in};
+ghost use Rattle.pages.specs.Refused.{RefusesRightly};
+ghost use Rattle.pages.specs.Told.{TellsOfFault};
 ghost use Rattle.record_heap.specs.Chain.{IsOneOf};
 ghost use Rattle.record_heap.specs.Faults.{AreOwnPages, IsChainFault, IsHeapFault, IsLinkFault, IsSlotFault};
 ghost use Rattle.record_heap.specs.Faults.{IsWrongOfPage, IsWrongSlot, TellsOfChain, TellsOfPage};
@@ -22,8 +22,7 @@ use crate::slot::{behind, is_used};
 use crate::slot_marks::SlotMarks;
 use crate::slots::{FIRST_SLOT, NEXT, NEXT_END, slot, start_of};
 use byteorder::{BigEndian, ByteOrder};
-use page_bytes::PAGE_SIZE;
-use page_marks::{FaultPlace, PageFault, WalkFault, mark};
+use pages::{FaultPlace, PAGE_SIZE, PageFault, WalkFault, mark};
 use std::alloc::Global;
 
 /// The place of a slot.

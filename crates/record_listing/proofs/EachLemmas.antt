@@ -1,6 +1,6 @@
 -- What is so of each of some rows.
 use Rattle.std.proofs.Common.{List, [], ◌∷◌}
-use Rattle.page_bytes.specs.Each.{Each}
+use Rattle.pages.specs.Each.{Each}
 use Rattle.indexed_file.specs.File.{Row}
 
 pub each_weaker : (P Q : Row → Type 0) → ((row : Row) → P row → Q row) → (rows : List Row) → Each P rows → Each Q rows

@@ -6,3 +6,6 @@ pub mod ReadingLemmas
 pub mod WorldLemmas
 pub mod StepLemmas
 pub mod ListingLemmas
+pub mod FileLemmas
+pub mod FileListLemmas
+pub mod AsideLemmas

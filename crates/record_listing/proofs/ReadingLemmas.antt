@@ -8,8 +8,8 @@ use Rattle.record_forms.specs.declared.form.Form.{Form}
 use Rattle.record_forms.specs.Lines.{line_in, form_header}
 use Rattle.record_forms.specs.Room.{AddsInRoom, IsLineRoom}
 use Rattle.record_listing.specs.Lines.{lines_of_rows, list_of}
-use Rattle.held_text.specs.Output.{AppendsFront, HoldsText}
-use Rattle.held_text.specs.declared.output.Refused.{Refused}
+use Rattle.streams.specs.Output.{AppendsFront, HoldsText}
+use Rattle.streams.specs.declared.output.Refused.{Refused}
 use Rattle.std.specs.Prelude.{OnOk, OnErr}
 use Rattle.record_listing.specs.declared.rows.Stop.{Stop}
 use Rattle.record_listing.specs.declared.rows.Stop.TheVariants.{Library as GaveUp, Output as NotTaken}

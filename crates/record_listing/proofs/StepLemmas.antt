@@ -13,7 +13,7 @@ use Rattle.indexed_file.specs.Shown.{Shown}
 use Rattle.record_forms.specs.declared.form.Form.{Form}
 use Rattle.record_forms.specs.Lines.{line_in}
 use Rattle.record_listing.specs.Lines.{lines_of_rows}
-use Rattle.held_text.specs.Output.{AppendsFront, HoldsText}
+use Rattle.streams.specs.Output.{AppendsFront, HoldsText}
 use Rattle.record_listing.specs.Reading.{OnlyReadsUnit, rows_from, RowsGoOn, ComesNext, IsOnItsWay, IsWrittenInPart}
 use Rattle.record_listing.proofs.ListedLemmas.{no_more}
 use Rattle.record_listing.proofs.ReadingLemmas.{one_more, refused_line}

@@ -3,7 +3,7 @@ use Rattle.std.specs.Prelude.{◌≡◌, ◌⊎◌, ◌≤◌, ℕ, Bool, false,
 use Rattle.std.specs.Prelude.{Some, None, IsTrue}
 use Rattle.std.specs.Ordering.{is_lt, is_gt}
 use Rattle.arrayvec.specs.ArrayVec.{ArrayVec}
-use Rattle.page_bytes.specs.Each.{Each}
+use Rattle.pages.specs.Each.{Each}
 use Rattle.io_state.specs.declared.modes.Relation.TheVariants.{NotLess}
 use Rattle.record_layout.specs.Schema.{Schema, value_of}
 use Rattle.indexed_file.specs.Laws.{IsOf}

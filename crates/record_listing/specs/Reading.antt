@@ -24,8 +24,8 @@ use Rattle.record_listing.specs.declared.rows.Stop.{Stop}
 use Rattle.record_listing.specs.declared.rows.Stop.TheVariants.{Library as GaveUp, Output as NotTaken}
 use Rattle.record_listing.specs.Listed.{is_past}
 use Rattle.record_forms.specs.declared.form.Form.{Form}
-use Rattle.held_text.specs.Output.{AppendsFront, HoldsText}
-use Rattle.held_text.specs.declared.output.Refused.{Refused}
+use Rattle.streams.specs.Output.{AppendsFront, HoldsText}
+use Rattle.streams.specs.declared.output.Refused.{Refused}
 use Rattle.record_listing.specs.Lines.{lines_of_rows, list_of}
 use Rattle.record_forms.specs.Lines.{line_in}
 

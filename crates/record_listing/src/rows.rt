@@ -8,12 +8,12 @@ ghost use Rattle.record_listing.specs.Reading.{HoldsRecord};
 
 use crate::asked::Asked;
 use crate::next::next_record;
-use held_text::{HeldText, Refused, write_text};
 use indexed_file::{Found, Library};
 use io_state::{Fault, Key, Position};
 use record_forms::{Form, append_header, append_line, line_room};
 use std::alloc::{AllocError, Global};
 use std::io::Write;
+use streams::{HeldText, Refused, write_text};
 
 /// Why not all lines were written.
 #[derive(Clone, Copy, Debug, PartialEq, Eq)]

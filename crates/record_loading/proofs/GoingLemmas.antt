@@ -1,5 +1,6 @@
 -- The parts of a load follow one another.
-use Rattle.std.proofs.Common.{◌≡◌, ◌<◌, ℕ, ◌+◌, true, false, List, [], ◌∷◌, length, slice_set, slice_index_or, inr, refl, ◌∙◌}
+use Rattle.std.proofs.Common.{◌≡◌, ◌<◌, ℕ, Bool, true, false, not, ◌&&◌, List, [], ◌∷◌, length, slice_set, slice_index_or, refl, sym, subst, ◌∙◌, arith, true≢false}
+use denote.Ref.{Bor}
 use Rattle.io_state.specs.declared.status.Status.{Status}
 use Rattle.io_state.specs.declared.statement.FileStatement.{FileStatement}
 use Rattle.io_state.specs.declared.statement.FileStatement.TheVariants.{Write}
@@ -13,14 +14,18 @@ use Rattle.verbs.specs.Held.{Held, silent}
 use Rattle.verbs.specs.Fits.{Fits}
 use Rattle.verbs.specs.Performed.{FileInMemory, IsPerformed, Trusted, in_memory, state_in}
 use Rattle.verbs.proofs.WorldLemmas.{only_twice}
+use Rattle.record_forms.specs.declared.form.Form.{Form}
 use Rattle.record_listing.proofs.WorldLemmas.{keeps_self, keeps_both, still_true}
 use Rattle.record_reading.specs.ReadLine.{ReadsRecord, BeginsWithNoRecord}
-use Rattle.record_reading.specs.Header.{header_lines}
-use Rattle.record_loading.specs.declared.end.LinesEnd.TheVariants.{NoRecord}
-use Rattle.record_loading.specs.Loading.{Listing, IsWrittenUpTo, IsRefusedAt}
-use Rattle.record_loading.specs.Going.{LoadGoesOn, LeavesLines}
+use Rattle.record_loading.specs.declared.options.LoadOptions.{LoadOptions}
+use Rattle.record_loading.specs.declared.rejected.RejectReason.TheVariants.{Refused, NoRecord}
+use Rattle.record_loading.specs.declared.writing.PassedLine.TheVariants.{Written, Rejected, Stopped}
+use Rattle.record_loading.specs.Going.{LoadGoesOn, PassesLineOf}
+use Rattle.record_loading.specs.Passing.{behind_line, is_refused_for_keys, ends_lines}
+use Rattle.record_loading.proofs.HeaderLemmas.{shorter}
+use Rattle.record_loading.proofs.PassingLemmas.{behind_shorter}
 use Rattle.record_loading.proofs.RealLemmas.{real_goes, real_both}
-use Rattle.record_loading.proofs.WrittenLemmas.{written_here, refused_here}
+use Rattle.record_loading.proofs.WrittenLemmas.{written_here, keys_here, refused_here}
 
 abbrev no_unit : FileUnit
 no_unit = record { name = []; named = Absent; holding = Shut }
@@ -31,6 +36,11 @@ set_self (unit ∷ units) = refl
 
 only_self : (w : World) → OnlyAt 0 w w
 only_self w = λ i. record { units = set_self w.units i; elsewhere = w.elsewhere }
+
+both_true : (first second : Bool) → not (first && second) ≡ false → (first ≡ true) × (second ≡ true)
+both_true true true e = (refl, refl)
+both_true true false e = absurd (true≢false e)
+both_true false second e = absurd (true≢false e)
 
 module _ {S : Type 0} (shown : Shown S) where
   pub goes_self : (held : Held) (library : S) → Fits held (shown.world library) 0 → LoadGoesOn shown (in_memory held library []) (in_memory held library [])
@@ -73,28 +83,66 @@ module _ {S : Type 0} (shown : Shown S) where
           real_both shown joins ends a.library b.library c.library (first.real (second.keeps.honest honest) truly standing) (trusted _ second.keeps second.real honest truly standing);
     }
 
-  -- the rest of the text begins with the line of no record
-  pub nothing_read : (a : FileInMemory S) (held : Held) (library : S) (area : List ℕ) (list : Listing) (rest : List ℕ) (count line : ℕ) → line ≡ count + 1 + header_lines list.form → 0 < length rest
-      → BeginsWithNoRecord list.form rest a.held.connector.schema.least a.held.connector.schema.greatest
-      → Trusted shown 0 (in_memory a.held a.library []) (in_memory held library []) (IsWrittenUpTo a.held.connector.schema list count rest (state_in shown 0 a) (state_in shown 0 (in_memory held library area)))
-      → Trusted shown 0 (in_memory a.held a.library []) (in_memory held library []) (LeavesLines shown list (NoRecord line) a (in_memory held library []))
-  nothing_read a held library area list rest count line line_is some none so_far honest truly standing =
-      (area, inr (count, line_is, record { rest = rest; first = so_far honest truly standing; some = some; none = none }))
+-- ---- a line
+
+module _ {S : Type 0} (shown : Shown S) (options : LoadOptions) (form : Form) (text : List ℕ) (held : Held) (library : S) (area area_now : List ℕ) where
+  abbrev now : FileInMemory S
+  now = in_memory held library area
+
+  -- no record was read, and nothing was done
+  module _ (same : length area_now ≡ length area) (fits : Fits held (shown.world library) 0) (none : BeginsWithNoRecord form text held.connector.schema.least (length area))
+      (whole : length area ≡ held.connector.schema.greatest) (some : 0 < length text) where
+    none_of : BeginsWithNoRecord form text held.connector.schema.least held.connector.schema.greatest
+    none_of = subst (λ (greatest : ℕ). BeginsWithNoRecord form text held.connector.schema.least greatest) whole none
+
+    pub nothing_passed : (behind : Bor (List ℕ)) → behind.now ≡ behind_line text → options.keep_going ≡ true → PassesLineOf shown options form text now (in_memory held library area_now) (Rejected NoRecord behind)
+    nothing_passed behind is going = record {
+      goes = goes_self shown held library fits;
+      shorter = subst (λ (l : List ℕ). length l < length text) (sym is) (behind_shorter text some);
+      line = λ honest truly standing. (going, record { some = some; none = none_of; behind = is; area = area_now; area_length = same; file = refl });
+    }
+
+    pub nothing_ends : options.keep_going ≡ false → PassesLineOf shown options form text now (in_memory held library area_now) (Stopped NoRecord)
+    nothing_ends stays = record {
+      goes = goes_self shown held library fits;
+      shorter = tt;
+      line = λ honest truly standing. (area, [], record { some = some; none = none_of; ends = stays; file = refl });
+    }
 
   -- a record was read, and WRITE was answered so
-  module _ (a : FileInMemory S) (held after : Held) (library later : S) (area area_now : List ℕ) (n : ℕ) (status : Status) (list : Listing) (rest behind : List ℕ) (count : ℕ)
-      (some : 0 < length (shown.world a.library).units) (goes : LoadGoesOn shown (in_memory a.held a.library []) (in_memory held library []))
-      (does : IsPerformed shown 0 Write n (in_memory held library area_now) (silent status) (in_memory after later area_now))
-      (so_far : Trusted shown 0 (in_memory a.held a.library []) (in_memory held library []) (IsWrittenUpTo a.held.connector.schema list count rest (state_in shown 0 a) (state_in shown 0 (in_memory held library area))))
-      (reads : ReadsRecord list.form rest a.held.connector.schema.least area area_now n behind) (whole : length area ≡ a.held.connector.schema.greatest) (same : length area_now ≡ length area) where
-    pub written : is_successful status ≡ true → Trusted shown 0 (in_memory a.held a.library []) (in_memory after later [])
-        (IsWrittenUpTo a.held.connector.schema list (count + 1) behind (state_in shown 0 a) (state_in shown 0 (in_memory after later area_now)))
-    written success honest truly standing =
-        written_here list a.held.connector.schema rest (state_in shown 0 (in_memory held library area)) area_now n behind same reads whole (so_far (does.keeps.honest honest) truly standing)
-        (trusted (in_memory a.held a.library []) (in_memory held library []) (in_memory after later []) some goes _ does.keeps does.step honest truly standing) success
+  module _ (held_after : Held) (later : S) (n : ℕ) (status : Status) (behind : Bor (List ℕ)) (does : IsPerformed shown 0 Write n (in_memory held library area_now) (silent status) (in_memory held_after later area_now))
+      (reads : ReadsRecord form text held.connector.schema.least area area_now n behind.now) (whole : length area ≡ held.connector.schema.greatest) (same : length area_now ≡ length area) where
+    goes : LoadGoesOn shown (in_memory held library []) (in_memory held_after later [])
+    goes = goes_performed shown Write n (in_memory held library area_now) (silent status) (in_memory held_after later area_now) does
 
-    pub refused : is_successful status ≡ false → Trusted shown 0 (in_memory a.held a.library []) (in_memory after later [])
-        (IsRefusedAt a.held.connector.schema list count status (state_in shown 0 a) (state_in shown 0 (in_memory after later area_now)))
-    refused failed honest truly standing =
-        refused_here list a.held.connector.schema rest (state_in shown 0 (in_memory held library area)) area_now n behind same reads whole (so_far (does.keeps.honest honest) truly standing)
-        (trusted (in_memory a.held a.library []) (in_memory held library []) (in_memory after later []) some goes _ does.keeps does.step honest truly standing) failed
+    fewer : length behind.now < length text
+    fewer = let some = shorter form text area area_now n behind.now reads.line in omega (arith, some)
+
+    pub line_written : is_successful status ≡ true → PassesLineOf shown options form text now (in_memory held_after later area_now) (Written behind)
+    line_written success = record {
+      goes = goes;
+      shorter = fewer;
+      line = λ honest truly standing.
+          written_here form held.connector.schema text (state_in shown 0 now) area_now n behind.now same reads (state_in shown 0 (in_memory held_after later area_now)) status whole (does.step honest truly standing) success;
+    }
+
+    pub line_rejected : ends_lines options.keep_going status ≡ false → PassesLineOf shown options form text now (in_memory held_after later area_now) (Rejected (Refused status) behind)
+    line_rejected goes_on =
+        let both = both_true options.keep_going (is_refused_for_keys status) goes_on in
+        record {
+          goes = goes;
+          shorter = fewer;
+          line = λ honest truly standing.
+              (both.0, keys_here form held.connector.schema text (state_in shown 0 now) area_now n behind.now same reads (state_in shown 0 (in_memory held_after later area_now)) status whole (does.step honest truly standing) both.1);
+        }
+
+    pub line_ends : is_successful status ≡ false → ends_lines options.keep_going status ≡ true → PassesLineOf shown options form text now (in_memory held_after later area_now) (Stopped (Refused status))
+    line_ends failed ends = record {
+      goes = goes;
+      shorter = tt;
+      line = λ honest truly standing. (
+        area_now,
+        behind.now,
+        refused_here form held.connector.schema text (state_in shown 0 now) area_now n behind.now same reads (state_in shown 0 (in_memory held_after later area_now)) status options.keep_going whole (does.step honest truly standing) failed ends,
+      );
+    }

@@ -3,3 +3,10 @@ pub mod WrittenLemmas
 pub mod RealLemmas
 pub mod GoingLemmas
 pub mod LoadLemmas
+pub mod LoadedLemmas
+pub mod SameLemmas
+pub mod OfSchemaLemmas
+mod PassingLemmas
+mod PassedLemmas
+mod PlaceLemmas
+mod UsualLemmas

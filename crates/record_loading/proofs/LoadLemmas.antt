@@ -37,10 +37,10 @@ module _ {S : Type 0} (shown : Shown S) (schema : Schema) (mode : OpenMode) (lis
   goes_open = goes_performed shown (Open mode) 0 (in_memory (at_start schema) start []) (silent status) (in_memory opened begun []) (opens 0 [])
 
   -- OPEN was no success
-  pub not_opened : is_successful status ≡ false → Believed shown 0 start begun (LoadsUnit shown schema mode list area start (NotOpened status) begun)
-  not_opened failed honest truly = record {
+  pub not_opened : is_successful status ≡ false → list.told ≡ [] → Believed shown 0 start begun (LoadsUnit shown schema mode list area start (NotOpened status) begun)
+  not_opened failed untold honest truly = record {
     after = state_in shown 0 (in_memory opened begun area);
-    loads = (failed, (opens 0 area).step honest truly tt);
+    loads = (failed, untold, (opens 0 area).step honest truly tt);
     named = refl;
     real = goes_open.real honest truly tt;
   }

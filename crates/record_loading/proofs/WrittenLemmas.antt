@@ -1,22 +1,30 @@
--- Records are written one after another.
-use Rattle.std.proofs.Common.{◌≡◌, ℕ, ◌+◌, true, false, not, List, [], ◌∷◌, ◌++◌, length, take, drop, flat_map, refl, sym, ap, ◌∙◌, subst, arith, append_assoc, append-nil, length-append}
-use Rattle.std.specs.Prelude.{IsTrue}
+-- What the WRITE of the record of a line leaves.
+use Rattle.std.proofs.Common.{◌≡◌, ℕ, Bool, true, false, not, List, ◌++◌, length, take, drop, Option, Some, None, cond, refl, sym, ap, ◌∙◌, subst, arith, true≢false}
+use Rattle.std.specs.Prelude.{◌&&◌, IsTrue}
+use Rattle.std.specs.List.{list_any}
+use Rattle.std.specs.Option.{option_map_or}
+use Rattle.std.specs.Ordering.{is_gt}
 use Rattle.std.proofs.lemmas.List.{length-take-le, take-append-drop}
-use Rattle.std.proofs.lemmas.List.Concat.{flat_map-append}
 use Rattle.io_state.specs.declared.status.Status.{Status}
 use Rattle.io_state.specs.declared.status.Status.TheVariants.{Successful, Duplicate, OptionalAbsent, AtEnd, OutOfSequence, DuplicateKey, RecordNotFound, BoundaryViolation, PermanentError, FileAbsent, ClosedWithLock, AttributeConflict, AlreadyOpen, NotOpen, NoRecordRead, WrongLength, NoNextRecord, NotOpenForReading, NotOpenForWriting, NotOpenForUpdating, OutOfMemory, Damaged, ConnectorFailed}
 use Rattle.io_state.specs.declared.statement.FileStatement.{FileStatement}
 use Rattle.io_state.specs.declared.statement.FileStatement.TheVariants.{Write}
+use Rattle.io_state.specs.Permission.{is_for_writing, is_sequential}
+use Rattle.io_state.specs.Rank.{value_cmp}
 use Rattle.io_state.specs.Status.{is_successful}
-use Rattle.record_layout.specs.Schema.{Schema}
-use Rattle.verbs.specs.Connector.{FileState, Outcome, answers}
+use Rattle.record_layout.specs.Schema.{Schema, prime_of, has_duplicates}
+use Rattle.indexed_file.specs.Change.{is_there, clashes, added}
+use Rattle.indexed_file.specs.Rank.{highest_of}
+use Rattle.indexed_file.specs.Sound.{is_length}
+use Rattle.verbs.specs.Connector.{Session, FileState, Outcome, answers, file_of, refused}
 use Rattle.verbs.specs.Faults.{is_unclean}
 use Rattle.verbs.specs.Marred.{Step}
 use Rattle.verbs.specs.Verbs.{perform}
+use Rattle.verbs.specs.Writing.{write_in, written_record, changed}
 use Rattle.deck_runner.proofs.CleanLemmas.{clean_step}
-use Rattle.record_forms.specs.Lines.{line_in, form_header}
+use Rattle.record_forms.specs.declared.form.Form.{Form}
 use Rattle.record_reading.specs.ReadLine.{ReadsRecord}
-use Rattle.record_loading.specs.Loading.{Listing, CanBeRecord, with_record, write_of, AreWritten, IsWrittenUpTo, IsRefusedAt}
+use Rattle.record_loading.specs.Passing.{Passing, CanBeRecord, with_record, write_of, is_refused_for_keys, ends_lines, IsRecordWritten, IsRefusedForKeys, IsRefusal}
 
 -- ---- a step that was a success
 
@@ -50,9 +58,78 @@ pub success_step : (statement : FileStatement) (n : ℕ) (s : FileState) (status
     → is_successful status ≡ true → Step statement n s (answers status next) → perform statement n s ≡ answers status next
 success_step statement n s status next success step = clean_step statement n s (answers status next) (success_is_clean statement status success) step
 
+-- ---- a WRITE that is refused for its keys
+
+keys_are_clean : (statement : FileStatement) (status : Status) → is_refused_for_keys status ≡ true → not (is_unclean statement status) ≡ true
+keys_are_clean statement Successful e = absurd (cc)
+keys_are_clean statement Duplicate e = absurd (cc)
+keys_are_clean statement OptionalAbsent e = absurd (cc)
+keys_are_clean statement AtEnd e = absurd (cc)
+keys_are_clean statement OutOfSequence e = absurd (cc)
+keys_are_clean statement DuplicateKey e = refl
+keys_are_clean statement RecordNotFound e = absurd (cc)
+keys_are_clean statement BoundaryViolation e = absurd (cc)
+keys_are_clean statement PermanentError e = absurd (cc)
+keys_are_clean statement FileAbsent e = absurd (cc)
+keys_are_clean statement ClosedWithLock e = absurd (cc)
+keys_are_clean statement AttributeConflict e = absurd (cc)
+keys_are_clean statement AlreadyOpen e = absurd (cc)
+keys_are_clean statement NotOpen e = absurd (cc)
+keys_are_clean statement NoRecordRead e = absurd (cc)
+keys_are_clean statement WrongLength e = absurd (cc)
+keys_are_clean statement NoNextRecord e = absurd (cc)
+keys_are_clean statement NotOpenForReading e = absurd (cc)
+keys_are_clean statement NotOpenForWriting e = absurd (cc)
+keys_are_clean statement NotOpenForUpdating e = absurd (cc)
+keys_are_clean statement OutOfMemory e = absurd (cc)
+keys_are_clean statement Damaged e = absurd (cc)
+keys_are_clean statement ConnectorFailed e = absurd (cc)
+
+-- a step that was refused for its keys is what it should be
+keys_step : (statement : FileStatement) (n : ℕ) (s : FileState) (status : Status) (next : FileState)
+    → is_refused_for_keys status ≡ true → Step statement n s (answers status next) → perform statement n s ≡ answers status next
+keys_step statement n s status next keys step = clean_step statement n s (answers status next) (keys_are_clean statement status keys) step
+
+-- what is refused for its keys leaves the file, and what its name stands for
+abbrev Leaves : FileState → Outcome → Type 0
+Leaves s o = is_refused_for_keys o.status ≡ true → (o.next.file ≡ s.file) × (o.next.named ≡ s.named)
+
+leaves_either : (test : Bool) (s : FileState) (x y : Outcome) → Leaves s x → Leaves s y → Leaves s (cond test x y)
+leaves_either true s x y first second = first
+leaves_either false s x y first second = second
+
+changes : (again : Bool) {A : Type 0} → is_refused_for_keys (cond again Duplicate Successful) ≡ true → A
+changes true e = absurd (true≢false (sym e))
+changes false e = absurd (true≢false (sym e))
+
+refused_leaves : (status : Status) (s : FileState) (session : Session) → is_refused_for_keys status ≡ false → Leaves s (refused status s session)
+refused_leaves status s session other e = absurd (true≢false (sym e ∙ other))
+
+written_leaves : (bytes : List ℕ) (s : FileState) (session : Session) → Leaves s (written_record bytes s session)
+written_leaves bytes s session =
+    let schema = s.connector.schema in
+    let rows = (file_of s).rows in
+    let is_late = λ (highest : List ℕ). not (is_gt (value_cmp (prime_of schema bytes) highest)) in
+    let again = list_any (λ part. has_duplicates part && is_there part bytes rows) schema.keys in
+    let stored = changed (cond again Duplicate Successful) (added schema bytes (file_of s)) s session in
+    leaves_either (is_sequential s.connector.access && option_map_or is_late (highest_of schema rows) false) s (refused OutOfSequence s session) (cond (clashes schema bytes rows) (refused DuplicateKey s session) stored)
+    (refused_leaves OutOfSequence s session refl)
+    (leaves_either (clashes schema bytes rows) s (refused DuplicateKey s session) stored (λ e. (refl, refl)) (λ e. changes again e))
+
+write_leaves : (n : ℕ) (s : FileState) (session : Option Session) → Leaves s (write_in n s session)
+write_leaves n s None = λ e. absurd (true≢false (sym e))
+write_leaves n s (Some session) =
+    let last = written_record (take n s.area) s session in
+    let third = cond (not (is_length s.connector.schema n)) (refused WrongLength s session) last in
+    let second = cond (not (is_for_writing s.connector.access session.mode)) (refused NotOpenForWriting s session) third in
+    leaves_either session.failed s (refused ConnectorFailed s session) second (refused_leaves ConnectorFailed s session refl)
+    (leaves_either (not (is_for_writing s.connector.access session.mode)) s (refused NotOpenForWriting s session) third (refused_leaves NotOpenForWriting s session refl)
+    (leaves_either (not (is_length s.connector.schema n)) s (refused WrongLength s session) last (refused_leaves WrongLength s session refl)
+    (written_leaves (take n s.area) s session)))
+
 -- ---- a record
 
-module _ (list : Listing) (schema : Schema) (text : List ℕ) (s : FileState) (area : List ℕ) (n : ℕ) (behind : List ℕ) (same : length area ≡ length s.area) (reads : ReadsRecord list.form text schema.least s.area area n behind) where
+module _ (form : Form) (schema : Schema) (text : List ℕ) (s : FileState) (area : List ℕ) (n : ℕ) (behind : List ℕ) (same : length area ≡ length s.area) (reads : ReadsRecord form text schema.least s.area area n behind) where
   length_read : length (take n area) ≡ n
   length_read = let within = reads.line.within in length-take-le n area (omega (arith, same, within))
 
@@ -78,39 +155,49 @@ module _ (list : Listing) (schema : Schema) (text : List ℕ) (s : FileState) (a
         length_is = record { least = omega (arith, is, long); greatest = omega (arith, is, within, whole) };
       }
 
-  -- its WRITE was no success
-  pub refused_here : {count : ℕ} {before next : FileState} {status : Status} → length s.area ≡ schema.greatest → IsWrittenUpTo schema list count text before s
-      → Step Write n (record s { area = area }) (answers status next) → is_successful status ≡ false → IsRefusedAt schema list count status before next
-  refused_here {count} {before} {next} {status} whole so_far step failed = record {
+  abbrev passing : FileState → Passing
+  passing next = record { text = text; behind = behind; before = s; after = next }
+
+  -- it was written
+  pub written_here : (next : FileState) (status : Status) → length s.area ≡ schema.greatest → Step Write n (record s { area = area }) (answers status next) → is_successful status ≡ true
+      → IsRecordWritten schema form (passing next)
+  written_here next status whole step success =
+      let bytes = take n area in
+      let should : write_of bytes s ≡ answers status next = success_step Write (length bytes) (with_record bytes s) status next success (step_is (answers status next) step) in
+      record {
+        bytes = bytes;
+        text_is = reads.line.line;
+        can_be = can_be whole;
+        success = subst (λ (o : Outcome). IsTrue (is_successful o.status)) (sym should) success;
+        file = sym (ap (λ (o : Outcome). o.next) should);
+      }
+
+  -- its WRITE was refused for its keys
+  pub keys_here : (next : FileState) (status : Status) → length s.area ≡ schema.greatest → Step Write n (record s { area = area }) (answers status next) → is_refused_for_keys status ≡ true
+      → IsRefusedForKeys schema form status (passing next)
+  keys_here next status whole step keys =
+      let bytes = take n area in
+      let should : write_of bytes s ≡ answers status next = keys_step Write (length bytes) (with_record bytes s) status next keys (step_is (answers status next) step) in
+      let stays = write_leaves (length bytes) (with_record bytes s) s.connector.session (subst (λ (o : Outcome). is_refused_for_keys o.status ≡ true) (sym should) keys) in
+      record {
+        bytes = bytes;
+        text_is = reads.line.line;
+        can_be = can_be whole;
+        status_is = sym (ap (λ (o : Outcome). o.status) should);
+        of_keys = keys;
+        file = sym (ap (λ (o : Outcome). o.next) should);
+        same_file = sym (ap (λ (o : Outcome). o.next.file) should) ∙ stays.0;
+        same_name = sym (ap (λ (o : Outcome). o.next.named) should) ∙ stays.1;
+      }
+
+  -- its WRITE was no success, and ends the lines
+  pub refused_here : (next : FileState) (status : Status) (keep_going : Bool) → length s.area ≡ schema.greatest → Step Write n (record s { area = area }) (answers status next) → is_successful status ≡ false
+      → ends_lines keep_going status ≡ true → IsRefusal schema form keep_going status (passing next)
+  refused_here next status keep_going whole step failed ends = record {
     bytes = take n area;
-    rest = behind;
-    between = s;
-    first = subst (λ (l : List ℕ). IsWrittenUpTo schema list count l before s) reads.line.line so_far;
+    text_is = reads.line.line;
     can_be = can_be whole;
     step = step_is (answers status next) step;
     no_success = failed;
+    ends = ends;
   }
-
-  -- it was written
-  pub written_here : {count : ℕ} {before next : FileState} {status : Status} → length s.area ≡ schema.greatest → IsWrittenUpTo schema list count text before s
-      → Step Write n (record s { area = area }) (answers status next) → is_successful status ≡ true → IsWrittenUpTo schema list (count + 1) behind before next
-  written_here {count} {before} {next} {status} whole so_far step success =
-      let bytes = take n area in
-      let records = so_far.records in
-      let line : List ℕ → List ℕ = line_in list.form in
-      let should : write_of bytes s ≡ answers status next = success_step Write (length bytes) (with_record bytes s) status next success (step_is (answers status next) step) in
-      record {
-        records = records ++ bytes ∷ [];
-        text_is = so_far.text_is ∙ ap (λ (l : List ℕ). form_header list.form ++ l)
-            (ap (λ (l : List ℕ). flat_map line records ++ l) reads.line.line
-            ∙ sym (append_assoc (flat_map line records) (line bytes) behind)
-            ∙ ap (λ (l : List ℕ). l ++ behind) (sym (flat_map-append line records (bytes ∷ []) ∙ ap (λ (l : List ℕ). flat_map line records ++ l) (append-nil (line bytes)))));
-        count_is = (let one = length-append records (bytes ∷ []) in let many = so_far.count_is in omega (arith, one, many));
-        written = written_more records before so_far.written (can_be whole) (subst (λ (o : Outcome). IsTrue (is_successful o.status)) (sym should) success) (ap (λ (o : Outcome). o.next) should);
-      }
-    where
-      written_more : (records : List (List ℕ)) (start : FileState) → AreWritten schema records start s → CanBeRecord schema (take n area)
-          → IsTrue (is_successful (write_of (take n area) s).status) → (write_of (take n area) s).next ≡ next → AreWritten schema (records ++ take n area ∷ []) start next
-      written_more [] start is can good e =
-          subst (λ (t : FileState). AreWritten schema (take n area ∷ []) t next) is (can, good, sym e)
-      written_more (first ∷ records) start is can good e = (is.0, is.1, written_more records (write_of first start).next is.2 can good e)

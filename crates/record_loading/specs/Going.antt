@@ -1,5 +1,5 @@
 -- The parts of a load, on unit 0 of a library.
-use Rattle.std.specs.Prelude.{◌≡◌, ◌≤◌, ℕ, false, List, [], length}
+use Rattle.std.specs.Prelude.{◌≡◌, ◌≤◌, ◌<◌, ℕ, false, List, [], length, IsTrue, ⊤}
 use Rattle.io_state.specs.declared.modes.Access.TheVariants.{Dynamic}
 use Rattle.io_state.specs.declared.modes.OpenMode.{OpenMode}
 use Rattle.record_layout.specs.Schema.{Schema}
@@ -15,7 +15,11 @@ use Rattle.record_forms.specs.declared.form.Form.{Form}
 use Rattle.record_reading.specs.Whole.{IsWholeForm}
 use Rattle.record_loading.specs.declared.end.LinesEnd.{LinesEnd}
 use Rattle.record_loading.specs.declared.end.LoadEnd.{LoadEnd}
-use Rattle.record_loading.specs.Loading.{Listing, listing, LinesLeave, Loads}
+use Rattle.record_loading.specs.declared.options.LoadOptions.{LoadOptions}
+use Rattle.record_loading.specs.declared.writing.PassedLine.{PassedLine}
+use Rattle.record_loading.specs.declared.writing.PassedLine.TheVariants.{Written, Rejected, Stopped}
+use Rattle.record_loading.specs.Passing.{Passing, IsRecordWritten, IsRejected, IsEnd}
+use Rattle.record_loading.specs.Loading.{Listing, LinesLeave, Loads}
 use Rattle.record_loading.specs.Real.{AllStayReal}
 
 -- the area is as long as the greatest record, of which the columns of the form are the whole
@@ -43,6 +47,43 @@ pub record LoadGoesOn {S : Type 0} (shown : Shown S) (before after : FileInMemor
   pub standing : StaysStanding shown 0 before after
   pub real : Trusted shown 0 before after (AllStayReal shown before.library after.library)
 
+-- a line left the file so, where these bytes stand in the record area
+abbrev pub passing_in : {S : Type 0} → Shown S → (text behind : List ℕ) → FileInMemory S → FileInMemory S
+    → (area : List ℕ) → Passing
+passing_in shown text behind before after area = record {
+  text = text;
+  behind = behind;
+  before = state_in shown 0 before;
+  after = state_in shown 0 (in_memory after.held after.library area);
+}
+
+-- what came of a line: what it left of the file, where some bytes stand in the record area
+abbrev pub ComesOfLine : {S : Type 0} → Shown S → LoadOptions → Form → (text : List ℕ) → FileInMemory S
+    → FileInMemory S → PassedLine → Type 0
+ComesOfLine shown options form text before after (Written behind) =
+    IsRecordWritten before.held.connector.schema form (passing_in shown text behind.now before after after.area)
+ComesOfLine shown options form text before after (Rejected reason behind) =
+    IsTrue options.keep_going
+    × IsRejected before.held.connector.schema form reason
+    (passing_in shown text behind.now before after after.area)
+ComesOfLine shown options form text before after (Stopped reason) = (area : List ℕ) × (behind : List ℕ)
+    × IsEnd before.held.connector.schema form options.keep_going reason
+    (passing_in shown text behind before after area)
+
+-- the text behind a line is shorter
+abbrev pub IsShorter : (text : List ℕ) → PassedLine → Type 0
+IsShorter text (Written behind) = length behind.now < length text
+IsShorter text (Rejected reason behind) = length behind.now < length text
+IsShorter text (Stopped reason) = ⊤
+
+-- the first line of a text was passed, or it ends the lines
+pub record PassesLineOf {S : Type 0} (shown : Shown S) (options : LoadOptions) (form : Form) (text : List ℕ)
+    (before after : FileInMemory S) (passed : PassedLine) : Type 0 where
+  pub goes : LoadGoesOn shown (in_memory before.held before.library []) (in_memory after.held after.library [])
+  pub shorter : IsShorter text passed
+  pub line : Trusted shown 0 (in_memory before.held before.library []) (in_memory after.held after.library [])
+      (ComesOfLine shown options form text before after passed)
+
 -- the lines of a text leave the file so, where some bytes stand in the record area
 abbrev pub LeavesLines : {S : Type 0} → Shown S → Listing → LinesEnd → FileInMemory S → FileInMemory S
     → Type 0
@@ -58,10 +99,10 @@ pub record WritesListing {S : Type 0} (shown : Shown S) (list : Listing) (before
       (LeavesLines shown list end before after)
 
 -- so, from one state of the connector and the library to another, of a text in a form
-abbrev pub WritesLinesOf : {S : Type 0} → Shown S → Form → (text : List ℕ) → (held : Held) → (old : S)
+abbrev pub WritesLinesOf : {S : Type 0} → Shown S → Listing → (held : Held) → (old : S)
     → (area : List ℕ) → (held_after : Held) → (new : S) → LinesEnd → Type 0
-WritesLinesOf shown form text held old area held_after new end =
-    WritesListing shown (listing form text) (in_memory held old area) (in_memory held_after new []) end
+WritesLinesOf shown list held old area held_after new end =
+    WritesListing shown list (in_memory held old area) (in_memory held_after new []) end
 
 -- a load leaves the file of unit 0 so, which was closed, and no image becomes a false one
 pub record LoadsUnit {S : Type 0} (shown : Shown S) (schema : Schema) (mode : OpenMode) (list : Listing)

@@ -1,109 +1,106 @@
 -- The records of a text, written into a file one after another. All of this is ours.
-use Rattle.std.specs.Prelude.{◌≡◌, ◌⊎◌, ◌<◌, ℕ, ◌+◌, false, List, [], ◌∷◌, ◌++◌, length, drop, replicate}
-use Rattle.std.specs.Prelude.{flat_map, None, IsTrue, bytes_eq}
+use Rattle.std.specs.Prelude.{◌≡◌, ◌⊎◌, ℕ, false, List, [], ◌++◌, length, replicate}
+use Rattle.std.specs.Prelude.{None, IsTrue, bytes_eq}
 use Rattle.io_state.specs.Status.{is_successful}
 use Rattle.io_state.specs.declared.modes.Access.TheVariants.{Dynamic}
 use Rattle.io_state.specs.declared.modes.OpenMode.{OpenMode}
 use Rattle.io_state.specs.declared.modes.OpenMode.TheVariants.{Output, InputOutput}
 use Rattle.io_state.specs.declared.status.Status.{Status}
-use Rattle.io_state.specs.declared.statement.FileStatement.TheVariants.{Open, Close, Write}
+use Rattle.io_state.specs.declared.statement.FileStatement.TheVariants.{Open, Close}
 use Rattle.record_layout.specs.Schema.{Schema}
 use Rattle.indexed_file.specs.World.{World, named_in}
 use Rattle.indexed_file.specs.Shown.{Shown}
 use Rattle.record_listing.specs.Listing.{TrueFor}
-use Rattle.verbs.specs.Connector.{FileState, Outcome, closed_connector, answers}
-use Rattle.verbs.specs.Fits.{IsRecordOf}
+use Rattle.verbs.specs.Connector.{FileState, closed_connector, answers}
 use Rattle.verbs.specs.Marred.{Step}
 use Rattle.verbs.specs.Verbs.{perform}
 use Rattle.record_forms.specs.declared.form.Form.{Form}
-use Rattle.record_forms.specs.Lines.{line_in, form_header}
-use Rattle.record_reading.specs.ReadLine.{AreBytes, BeginsWithNoRecord}
-use Rattle.record_reading.specs.Header.{header_lines, LacksHeader}
+use Rattle.record_forms.specs.Lines.{form_header}
+use Rattle.record_reading.specs.Header.{LacksHeader}
 use Rattle.record_loading.specs.declared.end.Load.{Load}
 use Rattle.record_loading.specs.declared.end.Load.TheVariants.{New, Into}
 use Rattle.record_loading.specs.declared.end.LinesEnd.{LinesEnd}
 use Rattle.record_loading.specs.declared.end.LinesEnd.TheVariants.{Loaded, Refused, NoRecord}
 use Rattle.record_loading.specs.declared.end.LoadEnd.{LoadEnd}
 use Rattle.record_loading.specs.declared.end.LoadEnd.TheVariants.{NotOpened, Opened}
+use Rattle.record_loading.specs.declared.options.LoadOptions.{LoadOptions}
+use Rattle.record_loading.specs.declared.rejected.RejectedLine.{RejectedLine}
+use Rattle.record_loading.specs.declared.rejected.RejectReason.{RejectReason}
+use Rattle.record_loading.specs.declared.rejected.RejectReason.TheVariants.{Refused as Refuses, NoRecord as IsNoRecord}
+use Rattle.record_loading.specs.Passing.{LoadSource, Place, PassesLines, IsEnd, behind_lines, number_of_line}
 
--- a text that is to be the list of records in a form: what stands before the first line, and then a
--- line for each record
+-- what is loaded, and the lines that were told as rejected
 pub record Listing : Type 0 where
-  pub form : Form
-  pub text : List ℕ
+  pub source : LoadSource
+  pub told : List RejectedLine
 
 -- the same, by its parts
+abbrev pub listing_by : Form → List ℕ → LoadOptions → (told : List RejectedLine) → Listing
+listing_by form text options told =
+    record { source = record { form = form; text = text; options = options }; told = told }
+
+-- no line is skipped, and the first that is rejected ends a load
+abbrev pub usual_options : LoadOptions
+usual_options = record { skip = 0; keep_going = false }
+
+-- so of a text in a form: no line is passed over, and none is told
 abbrev pub listing : Form → List ℕ → Listing
-listing form text = record { form = form; text = text }
+listing form text = listing_by form text usual_options []
 
 -- how OPEN opens the file
 abbrev pub mode_of : Load → OpenMode
 mode_of New = Output
 mode_of Into = InputOutput
 
--- a record that a file of this schema can have
-pub record CanBeRecord (schema : Schema) (bytes : List ℕ) : Type 0 where
-  pub are_bytes : AreBytes bytes
-  pub length_is : IsRecordOf schema bytes
+-- the place behind the header and behind the lines that are skipped
+abbrev pub place_at_first : LoadSource → (lines : List ℕ) → FileState → Place
+place_at_first source lines file =
+    record { rest = behind_lines source.options.skip lines; records = 0; told = []; file = file }
 
--- the record is put into the beginning of the record area
-abbrev pub with_record : List ℕ → FileState → FileState
-with_record bytes s = record s { area = bytes ++ drop (length bytes) s.area }
+-- the first lines of a text, behind what stands before them and behind those that are skipped, were passed
+-- up to this place
+pub record IsPassedUpTo (schema : Schema) (source : LoadSource) (before : FileState) (place : Place) : Type 0 where
+  pub lines : List ℕ
+  pub text_is : source.text ≡ form_header source.form ++ lines
+  pub count : ℕ
+  pub passed : PassesLines schema source count (place_at_first source lines before) place
 
--- what the WRITE of a record should answer and leave
-abbrev pub write_of : List ℕ → FileState → Outcome
-write_of bytes s = perform Write (length bytes) (with_record bytes s)
+-- the lines were all passed: so many records were written, and so many lines rejected, which are those that
+-- were told
+pub record ArePassed (schema : Schema) (list : Listing) (before : FileState) (records rejected : ℕ)
+    (after : FileState) : Type 0 where
+  pub passed : IsPassedUpTo schema list.source before
+      (record { rest = []; records = records; told = list.told; file = after })
+  pub rejected_is : rejected ≡ length list.told
 
--- WRITEs of records that the file can have, one after another: each should be a success, and it was
-abbrev pub AreWritten : Schema → List (List ℕ) → FileState → FileState → Type 0
-AreWritten schema [] before after = after ≡ before
-AreWritten schema (bytes ∷ records) before after =
-    CanBeRecord schema bytes × IsTrue (is_successful (write_of bytes before).status)
-    × AreWritten schema records (write_of bytes before).next after
-
--- the first lines of a text, so many, are those of records that were written, behind what stands
--- before them; this rest of the text is left
-pub record IsWrittenUpTo (schema : Schema) (list : Listing) (count : ℕ) (rest : List ℕ)
-    (before after : FileState) : Type 0 where
-  pub records : List (List ℕ)
-  pub text_is : list.text ≡ form_header list.form ++ (flat_map (line_in list.form) records ++ rest)
-  pub count_is : count ≡ length records
-  pub written : AreWritten schema records before after
-
--- so many lines come first; then comes the line of a record whose WRITE was answered so
-pub record IsRefusedAt (schema : Schema) (list : Listing) (count : ℕ) (status : Status)
-    (before after : FileState) : Type 0 where
-  pub bytes : List ℕ
-  pub rest : List ℕ
-  pub between : FileState
-  pub first : IsWrittenUpTo schema list count (line_in list.form bytes ++ rest) before between
-  pub can_be : CanBeRecord schema bytes
-  pub step : Step Write (length bytes) (with_record bytes between) (answers status after)
-  pub no_success : is_successful status ≡ false
-
--- so many lines come first; then comes what is the line of no record that the file can have
-pub record IsNoRecordAt (schema : Schema) (list : Listing) (count : ℕ)
-    (before after : FileState) : Type 0 where
-  pub rest : List ℕ
-  pub first : IsWrittenUpTo schema list count rest before after
-  pub some : 0 < length rest
-  pub none : BeginsWithNoRecord list.form rest schema.least schema.greatest
+-- lines were passed, and the line of this number behind them ended that for this reason
+pub record IsEndedAt (schema : Schema) (list : Listing) (before : FileState) (line : ℕ) (reason : RejectReason)
+    (after : FileState) : Type 0 where
+  pub place : Place
+  pub passed : IsPassedUpTo schema list.source before place
+  pub told : place.told ≡ list.told
+  pub line_is : line ≡ number_of_line list.source place
+  pub behind : List ℕ
+  pub end : IsEnd schema list.source.form list.source.options.keep_going reason
+      (record { text = place.rest; behind = behind; before = place.file; after = after })
 
 -- the text does not begin with what stands before its first line (for text that is nothing, and
--- each text begins with that), and nothing was written
-abbrev pub IsHeadless : Listing → (line : ℕ) → FileState → FileState → Type 0
-IsHeadless list line before after = (line ≡ 1) × LacksHeader list.form list.text × (after ≡ before)
+-- each text begins with that), and nothing was written and told
+pub record IsHeadless (list : Listing) (line : ℕ) (before after : FileState) : Type 0 where
+  pub line_is : line ≡ 1
+  pub lacks : LacksHeader list.source.form list.source.text
+  pub told : list.told ≡ []
+  pub file : after ≡ before
 
 -- what the lines of a text leave of an open file: line 1 is the first of the text, which in CSV is
 -- that of the names
 abbrev pub LinesLeave : Schema → Listing → FileState → LinesEnd → FileState → Type 0
-LinesLeave schema list before (Loaded records) after = IsWrittenUpTo schema list records [] before after
+LinesLeave schema list before (Loaded records rejected) after =
+    ArePassed schema list before records rejected after
 LinesLeave schema list before (Refused line status) after =
-    (count : ℕ) × (line ≡ count + 1 + header_lines list.form)
-    × IsRefusedAt schema list count status before after
+    IsEndedAt schema list before line (Refuses status) after
 LinesLeave schema list before (NoRecord line) after =
-    IsHeadless list line before after ⊎ ((count : ℕ) × (line ≡ count + 1 + header_lines list.form)
-    × IsNoRecordAt schema list count before after)
+    IsHeadless list line before after ⊎ IsEndedAt schema list before line IsNoRecord after
 
 -- OPEN should be a success, and it was; then came the lines, and CLOSE was answered so
 pub record IsLoaded (schema : Schema) (mode : OpenMode) (list : Listing) (before : FileState)
@@ -116,7 +113,7 @@ pub record IsLoaded (schema : Schema) (mode : OpenMode) (list : Listing) (before
 -- what a load leaves of a file
 abbrev pub Loads : Schema → OpenMode → Listing → FileState → LoadEnd → FileState → Type 0
 Loads schema mode list before (NotOpened status) after =
-    (is_successful status ≡ false) × Step (Open mode) 0 before (answers status after)
+    (is_successful status ≡ false) × (list.told ≡ []) × Step (Open mode) 0 before (answers status after)
 Loads schema mode list before (Opened lines closed) after =
     IsLoaded schema mode list before lines closed after
 
@@ -142,11 +139,11 @@ abbrev pub LoadsTruly : {S : Type 0} → Shown S → (name : List ℕ) → Schem
 LoadsTruly shown name schema mode list old new end =
     TrueFor shown name old new (LoadsNamed name schema mode list (shown.world old) end (shown.world new))
 
--- so a load of a text in a form does
-abbrev pub LoadsText : {S : Type 0} → Shown S → (name : List ℕ) → Schema → Load → Form → (text : List ℕ)
+-- so a load of a text does
+abbrev pub LoadsText : {S : Type 0} → Shown S → (name : List ℕ) → Schema → Load → Listing
     → (old new : S) → LoadEnd → Type 0
-LoadsText shown name schema load form text old new end =
-    LoadsTruly shown name schema (mode_of load) (listing form text) old new end
+LoadsText shown name schema load list old new end =
+    LoadsTruly shown name schema (mode_of load) list old new end
 
 -- every other name stands for what it stood for
 abbrev pub OthersStay : (name : List ℕ) → (old new : World) → Type 0

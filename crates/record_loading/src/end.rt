@@ -17,12 +17,13 @@ pub enum Load {
 /// How the lines of a text ended, the first of which is line 1.
 #[derive(Clone, Copy, Debug, PartialEq, Eq)]
 pub enum LinesEnd {
-    /// The record of each line was written.
-    Loaded { records: u64 },
-    /// The WRITE of the record of this line was no success. Those of the lines before it were written.
+    /// So many records were written, and so many lines rejected and passed over.
+    Loaded { records: u64, rejected: u64 },
+    /// The WRITE of the record of this line was no success. Those of the lines before it were written,
+    /// but for lines that were skipped or rejected.
     Refused { line: u64, status: Status },
     /// This line is the line of no record that the file can have. The records of the lines before
-    /// it were written.
+    /// it were written, but for lines that were skipped.
     NoRecord { line: u64 },
 }
 

@@ -3,15 +3,35 @@
 //! `load_records` opens the file of a name in a library, writes the record of each line, and closes
 //! the file. The text is what `record_listing` writes, in one of its forms. The first line that is
 //! the line of no record of the file, or whose WRITE is refused, ends it: what was written before
-//! stays. Where the library is honest and what it shows of the name is true, the file is left as
+//! stays. By its options a load skips the first lines, and goes on behind such a line: it is told, and
+//! passed over. Where the library is honest and what it shows of the name is true, the file is left as
 //! the definitions of OPEN, WRITE and CLOSE leave it.
 //!
-//! Read `record_reading` for a line, `specs/Loading.antt` for what is promised, and then `loading`.
+//! `load_lines_on_shelf` joins this to the library of files in pages, and `load_on_shelf` is the same where no
+//! line is skipped, and the first that is rejected ends the load. A new file is made only where its name
+//! has none: a load never replaces a file. What is promised is said of the files of the shelf alone:
+//! what a read gives of them before the load and after it, and what a crash may leave of them in
+//! between. `add_answer` makes the lines that tell of a load.
+//!
+//! Read `record_reading` for a line, `specs/Passing.antt` for what comes of a line, `specs/Loading.antt`
+//! for what is promised, and then `loading`;
+//! `specs/Loaded.antt`, `specs/Answer.antt` and `shelf_load` for files of a shelf.
 #![tactic(auto)]
 
+mod answer;
 mod end;
 mod loading;
+mod options;
+mod passing;
+mod rejected;
+mod shelf_end;
+mod shelf_load;
 mod writing;
 
+pub use answer::{add_answer, add_rejected_line, is_loaded};
 pub use end::{LinesEnd, Load, LoadEnd, LoadFault};
 pub use loading::load_records;
+pub use options::LoadOptions;
+pub use rejected::{RejectLog, RejectReason, RejectedLine};
+pub use shelf_end::{ShelfEnd, ShelfFault, is_compared};
+pub use shelf_load::{load_lines_on_shelf, load_on_shelf};

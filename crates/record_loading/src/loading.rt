@@ -6,18 +6,21 @@ ghost use Rattle.deck_runner.specs.Beginning.{IsUntouched};
 ghost use Rattle.record_forms.specs.Lines.{form_header};
 ghost use Rattle.record_reading.specs.Whole.{IsWholeForm};
 ghost use Rattle.record_listing.specs.Listing.{HasShutUnit, TrueFor};
-ghost use Rattle.record_loading.specs.Loading.{listing, LoadsText, OthersStay};
+ghost use Rattle.record_loading.specs.Loading.{listing_by, LoadsText, OthersStay};
 ghost use Rattle.record_loading.specs.Going.{HasAreaFor, LoadsUnitTruly};
 ghost use Rattle.record_loading.specs.Real.{AllStayReal};
+ghost use Rattle.record_loading.specs.Told.{TellsRejected};
 
 use crate::end::{Load, LoadEnd, LoadFault, mode_of};
+use crate::options::LoadOptions;
+use crate::rejected::RejectLog;
 use crate::writing::write_listing;
 use indexed_file::Library;
 use io_state::{Access, FileName, OpenMode};
-use progress::Progress;
 use record_forms::{Form, append_header};
 use record_layout::Schema;
 use std::alloc::{AllocError, Global};
+use streams::Progress;
 use verbs::Connector;
 
 /// A record area of spaces.
@@ -39,21 +42,23 @@ fn header_of(alloc: Global, form: &Form) -> Result<Vec<u8>, AllocError>
 }
 
 /// Loads the records into the file of unit 0, which is closed.
-fn load_attached<L: Library, P: Progress>(
+fn load_attached<L: Library, P: Progress, R: RejectLog>(
     lib: &mut L,
     schema: &Schema,
     mode: OpenMode,
     area: &mut [u8],
     form: &Form,
     header: &[u8],
+    options: LoadOptions,
     text: &[u8],
+    rejects: &mut R,
     progress: &mut P,
 ) -> LoadEnd
     requires unit { HasShutUnit L.shown lib.old }
     requires area { HasAreaFor form.now schema.now area.old }
     requires header { header.now ≡ form_header form.now }
-    ensures loads { LoadsUnitTruly L.shown lib.old lib.new schema.now mode (listing form.now text.now)
-        area.old result }
+    ensures loads { TellsRejected R.tells rejects.old rejects.new (λ told. LoadsUnitTruly L.shown lib.old lib.new
+        schema.now mode (listing_by form.now text.now options told) area.old result) }
     ensures only { OnlyAt 0 (L.shown.world lib.old) (L.shown.world lib.new) }
     ensures keeps { Keeps L.shown lib.old lib.new }
 {
@@ -70,7 +75,9 @@ fn load_attached<L: Library, P: Progress>(
         area,
         form,
         header,
+        options,
         text,
+        rejects,
         progress,
     );
     let closed = connector.close(lib, 0, false);
@@ -78,29 +85,35 @@ fn load_attached<L: Library, P: Progress>(
 }
 
 /// Opens the file of a name, writes the record of each line of a text in a form, and closes the
-/// file. The library has this name attached then, and no other. The first line that is the line of
-/// no record of the file, or whose WRITE is no success, ends it, and what was written before stays.
-/// Line 1 is no record's where the form has a header and the text does not begin with it. Where a
-/// crash could leave no false file before the load, it can leave none at any moment of it. After
-/// each record it is told how many bytes of the text are written.
+/// file. The library has this name attached then, and no other. The first lines behind the header
+/// are skipped, so many as `options` says. The first line that is the line of no record of the file,
+/// or whose WRITE is no success, ends it, and what was written before stays. Where `options` says that
+/// it is to keep going, a line that is no record's, or whose WRITE is refused for its keys, with 22,
+/// is told and passed over. Line 1 is no record's where the form has a header and the text does not
+/// begin with it, which always ends it. Where a crash could leave no false file before the load, it can
+/// leave none at any moment of it. After each line it is told how many bytes of the text are done.
 ///
 /// `Memory`: nothing was done.
-pub fn load_records<L: Library, P: Progress>(
+pub fn load_records<L: Library, P: Progress, R: RejectLog>(
     alloc: Global,
     lib: &mut L,
     name: FileName,
     schema: &Schema,
     load: Load,
     form: &Form,
+    options: LoadOptions,
     text: &[u8],
+    rejects: &mut R,
     progress: &mut P,
 ) -> Result<LoadEnd, LoadFault>
     requires whole { IsWholeForm form.now schema.now.greatest }
-    ensures loads { IfOk result
-        (LoadsText L.shown name.bytes schema.now load form.now text.now lib.old lib.new) }
+    ensures loads { IfOk result (λ end. TellsRejected R.tells rejects.old rejects.new (λ told.
+        LoadsText L.shown name.bytes schema.now load (listing_by form.now text.now options told)
+        lib.old lib.new end)) }
     ensures real { TrueFor L.shown name.bytes lib.old lib.new (AllStayReal L.shown lib.old lib.new) }
     ensures others { OthersStay name.bytes (L.shown.world lib.old) (L.shown.world lib.new) }
     ensures memory { OnErr result (IsUntouched L.shown lib.old lib.new) }
+    ensures untold { OnErr result (rejects.new ≡ rejects.old) }
     ensures keeps { Keeps L.shown lib.old lib.new }
 {
     let Ok(mut area) = blank_area(alloc, schema.greatest()) else {
@@ -117,7 +130,9 @@ pub fn load_records<L: Library, P: Progress>(
             area.as_mut_slice(),
             form,
             header.as_slice(),
+            options,
             text,
+            rejects,
             progress,
         )),
         Err(_) => Err(LoadFault::Memory),

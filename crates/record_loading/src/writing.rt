@@ -1,15 +1,33 @@
 //! The records of lines are written into an open file.
-ghost use Rattle.std.specs.Prelude.{◌≡◌, ◌++◌};
+ghost use Rattle.std.specs.Prelude.{◌≡◌, ◌++◌, ◌<◌, length};
 ghost use Rattle.record_forms.specs.Lines.{form_header};
 ghost use Rattle.verbs.specs.Performed.{in_memory};
-ghost use Rattle.record_loading.specs.Going.{TakesLines, WritesLinesOf};
+ghost use Rattle.record_loading.specs.Passing.{lines_end, ends_lines};
+ghost use Rattle.record_loading.specs.Told.{TellsRejected};
+ghost use Rattle.record_loading.specs.Loading.{listing_by};
+ghost use Rattle.record_loading.specs.Going.{TakesLines, PassesLineOf, WritesLinesOf};
 
 use crate::end::LinesEnd;
+use crate::options::LoadOptions;
+use crate::passing::{behind_line, behind_lines};
+use crate::rejected::{RejectLog, RejectReason, RejectedLine, is_refused_for_keys};
 use indexed_file::Library;
-use progress::Progress;
+use io_state::Status;
 use record_forms::Form;
 use record_reading::{behind_header, header_lines, read_record};
+use streams::Progress;
 use verbs::Connector;
+
+/// What became of a line; with the text behind it, where the load goes on.
+#[derive(Clone, Copy)]
+pub enum PassedLine<'a> {
+    /// Its record was written.
+    Written(&'a [u8]),
+    /// It was rejected, and passed over.
+    Rejected(RejectReason, &'a [u8]),
+    /// It ends the load.
+    Stopped(RejectReason),
+}
 
 /// Tells how many bytes of a text are done, of which this is the rest.
 fn tell_progress<P: Progress>(progress: &mut P, text: &[u8], rest: &[u8]) {
@@ -17,68 +35,131 @@ fn tell_progress<P: Progress>(progress: &mut P, text: &[u8], rest: &[u8]) {
     progress.at(done as u64, text.len() as u64);
 }
 
-/// Writes the records of lines, which are all of the text behind its header, into the file of unit
-/// 0, one after another. The first line that is the line of no record of the file, or whose WRITE
-/// is no success, ends it. After each line it is told how many bytes of the text are written.
-fn write_lines<L: Library, P: Progress>(
+/// The end of lines at the line of this number.
+fn stopped_at(line: u64, reason: RejectReason) -> LinesEnd
+    ensures { result ≡ lines_end line reason }
+{
+    match reason {
+        RejectReason::Refused(status) => LinesEnd::Refused { line, status },
+        RejectReason::NoRecord => LinesEnd::NoRecord { line },
+    }
+}
+
+/// Whether a WRITE that was answered so, and is no success, ends a load.
+fn ends_lines(keep_going: bool, status: Status) -> bool
+    ensures { result ≡ ends_lines keep_going status }
+{
+    !(keep_going && is_refused_for_keys(status))
+}
+
+/// Writes the record of the first line of a text into the file of unit 0, or rejects the line.
+fn pass_line<'a, L: Library>(
     connector: &mut Connector,
     lib: &mut L,
     least: u16,
     area: &mut [u8],
     form: &Form,
+    options: LoadOptions,
+    text: &'a [u8],
+) -> PassedLine<'a>
+    requires takes { TakesLines L.shown form.now least (in_memory connector.old lib.old area.old) }
+    requires some { 0 < length text.now }
+    ensures { PassesLineOf L.shown options form.now text.now (in_memory connector.old lib.old area.old)
+        (in_memory connector.new lib.new area.new) result }
+{
+    let Some(line) = read_record(form, text, least, area) else {
+        if options.keep_going {
+            return PassedLine::Rejected(RejectReason::NoRecord, behind_line(text));
+        }
+        return PassedLine::Stopped(RejectReason::NoRecord);
+    };
+    let status = connector.write(lib, 0, area, line.length as u16);
+    if status.is_success() {
+        return PassedLine::Written(line.behind);
+    }
+    if ends_lines(options.keep_going, status) {
+        return PassedLine::Stopped(RejectReason::Refused(status));
+    }
+    PassedLine::Rejected(RejectReason::Refused(status), line.behind)
+}
+
+/// Writes the records of lines, which are all of the text behind its header, into the file of unit
+/// 0, one after another, but for those that are skipped. The first line that is the line of no record
+/// of the file, or whose WRITE is no success, ends it; where it is to keep going, such a line is told
+/// and passed over, if its WRITE was refused for its keys. After each line it is told how many bytes of
+/// the text are done.
+fn write_lines<L: Library, P: Progress, R: RejectLog>(
+    connector: &mut Connector,
+    lib: &mut L,
+    least: u16,
+    area: &mut [u8],
+    form: &Form,
+    options: LoadOptions,
     text: &[u8],
     lines: &[u8],
+    rejects: &mut R,
     progress: &mut P,
 ) -> LinesEnd
     requires takes { TakesLines L.shown form.now least (in_memory connector.old lib.old area.old) }
     requires lines { text.now ≡ form_header form.now ++ lines.now }
-    ensures { WritesLinesOf L.shown form.now text.now connector.old lib.old area.old
-        connector.new lib.new result }
+    ensures { TellsRejected R.tells rejects.old rejects.new (λ told. WritesLinesOf L.shown
+        (listing_by form.now text.now options told) connector.old lib.old area.old connector.new lib.new
+        result) }
 {
-    let mut rest = lines;
+    let mut rest = behind_lines(lines, options.skip);
     let mut records = 0;
+    let mut rejected = 0;
     let before = header_lines(form);
     'more: while !rest.is_empty() {
-        let Some(line) = read_record(form, rest, least, area) else {
-            return LinesEnd::NoRecord {
-                line: records + 1 + before,
-            };
-        };
-        let status = connector.write(lib, 0, area, line.length as u16);
-        if !status.is_success() {
-            return LinesEnd::Refused {
-                line: records + 1 + before,
-                status,
-            };
+        let number = before + options.skip + records + rejected + 1;
+        match pass_line(connector, lib, least, area, form, options, rest) {
+            PassedLine::Written(behind) => {
+                records += 1;
+                rest = behind;
+            }
+            PassedLine::Rejected(reason, behind) => {
+                progress.wipe();
+                rejects.tell(RejectedLine {
+                    line: number,
+                    reason,
+                });
+                rejected += 1;
+                rest = behind;
+            }
+            PassedLine::Stopped(reason) => return stopped_at(number, reason),
         }
-        records += 1;
-        rest = line.behind;
         tell_progress(progress, text, rest);
     }
-    LinesEnd::Loaded { records }
+    LinesEnd::Loaded { records, rejected }
 }
 
-/// Writes the records of a text into the file of unit 0, one after another. The first line that is
-/// the line of no record of the file, or whose WRITE is no success, ends it; and so does the first
-/// one, where the text does not begin with its header. After each line it is told how many bytes of
-/// the text are written.
-pub fn write_listing<L: Library, P: Progress>(
+/// Writes the records of a text into the file of unit 0, one after another, but for those that are
+/// skipped. The first line that is the line of no record of the file, or whose WRITE is no success, ends
+/// it; where it is to keep going, such a line is told and passed over, if its WRITE was refused for its
+/// keys. Where the text does not begin with its header, its first line ends it. After each line it is
+/// told how many bytes of the text are done.
+pub fn write_listing<L: Library, P: Progress, R: RejectLog>(
     connector: &mut Connector,
     lib: &mut L,
     least: u16,
     area: &mut [u8],
     form: &Form,
     header: &[u8],
+    options: LoadOptions,
     text: &[u8],
+    rejects: &mut R,
     progress: &mut P,
 ) -> LinesEnd
     requires takes { TakesLines L.shown form.now least (in_memory connector.old lib.old area.old) }
     requires header { header.now ≡ form_header form.now }
-    ensures { WritesLinesOf L.shown form.now text.now connector.old lib.old area.old
-        connector.new lib.new result }
+    ensures { TellsRejected R.tells rejects.old rejects.new (λ told. WritesLinesOf L.shown
+        (listing_by form.now text.now options told) connector.old lib.old area.old connector.new lib.new
+        result) }
 {
     let Some(lines) = behind_header(text, header) else {
         return LinesEnd::NoRecord { line: 1 };
     };
-    write_lines(connector, lib, least, area, form, text, lines, progress)
+    write_lines(
+        connector, lib, least, area, form, options, text, lines, rejects, progress,
+    )
 }

@@ -7,3 +7,7 @@ pub mod ValueLemmas
 pub mod ValuesLemmas
 pub mod LineLemmas
 pub mod WholeLemmas
+mod MistakeLemmas
+mod ColumnLemmas
+mod LongLemmas
+mod FormLemmas

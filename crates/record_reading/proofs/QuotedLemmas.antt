@@ -36,7 +36,7 @@ pub no_backslash : (byte : ℕ) → is_plain byte ≡ true → byte ≡ 92 → �
 no_backslash byte plain is = true≢false (sym plain ∙ ap is_plain is)
 
 -- what is shown by its digits is no quote
-coded_no_quote : (byte : ℕ) → is_plain byte ≡ false → byte ≢ 34
+pub coded_no_quote : (byte : ℕ) → is_plain byte ≡ false → byte ≢ 34
 coded_no_quote byte coded is = true≢false (sym (ap is_plain is) ∙ coded)
 
 -- ---- digits are no quotes and no backslashes
@@ -107,7 +107,7 @@ escaped_coded byte p =
     ∙ ap (λ (l : List ℕ). 92 ∷ 92 ∷ l) (two escaped (hex_digit (byte / 16)) (hex_digit (byte % 16)) (one_escaped _ (digit_34 (byte / 16)) (digit_92 (byte / 16))) (one_escaped _ (digit_34 (byte % 16)) (digit_92 (byte % 16))))
     ∙ ap (λ (l : List ℕ). 92 ∷ l) (sym (shown_coded byte p))
 
-quote_is : (quoting : Quoting) (byte : ℕ) → byte ≡ 34 → quoted_byte quoting byte ≡ quote_in quoting
+pub quote_is : (quoting : Quoting) (byte : ℕ) → byte ≡ 34 → quoted_byte quoting byte ≡ quote_in quoting
 quote_is Doubled byte is = ap (quoted_byte Doubled) is
 quote_is Escaped byte is = ap (quoted_byte Escaped) is
 
@@ -171,12 +171,12 @@ apart_csv a b x y Coded Plain p q e = others a b x y (coded_no_quote a p) q.0 e
 apart_csv a b x y Coded Coded p q e = others a b x y (coded_no_quote a p) (coded_no_quote b q) e
 
 -- a byte of each look, in JSON
-abbrev text_in : Look → ℕ → List ℕ
+abbrev pub text_in : Look → ℕ → List ℕ
 text_in Quote byte = 92 ∷ 34 ∷ []
 text_in Plain byte = byte ∷ []
 text_in Coded byte = 92 ∷ shown_byte byte
 
-escaped_is : (look : Look) (byte : ℕ) → IsLook look byte → quoted_byte Escaped byte ≡ text_in look byte
+pub escaped_is : (look : Look) (byte : ℕ) → IsLook look byte → quoted_byte Escaped byte ≡ text_in look byte
 escaped_is Quote byte p = quote_is Escaped byte p
 escaped_is Plain byte p = escaped_plain byte p.0 p.1
 escaped_is Coded byte p = escaped_coded byte p

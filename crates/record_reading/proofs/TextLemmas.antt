@@ -1,15 +1,16 @@
 -- A line of text is read, a byte of its record after another.
-use Rattle.std.proofs.Common.{◌≡◌, ◌<◌, ◌≤◌, ℕ, ◌+◌, List, [], ◌∷◌, ◌++◌, length, take, drop, slice_set, flat_map, refl, sym, ap, ◌∙◌, subst, arith, append_assoc, append-nil, length-append, length-set, suc, zero, add-one, Option, Some, None}
+use Rattle.std.proofs.Common.{◌≡◌, ◌<◌, ◌≤◌, ℕ, ◌+◌, List, [], ◌∷◌, ◌++◌, length, take, drop, slice_set, flat_map, refl, sym, ap, ◌∙◌, subst, arith, append_assoc, append-nil, length-append, length-set, suc, zero, add-one}
 use Rattle.std.proofs.lemmas.List.{take_more_set, drop-set-lt, length-take-le, append_cancel_left}
 use Rattle.std.proofs.lemmas.List.Concat.{flat_map-append}
 use Rattle.deck_runner.specs.Line.{shown_byte}
-use Rattle.std.specs.Option.{IfSome}
+use Rattle.std.specs.Prelude.{Result, Ok, Err, IfOk}
 use Rattle.record_forms.specs.declared.form.Form.{Form}
 use Rattle.record_forms.specs.declared.form.Form.TheVariants.{Text}
 use Rattle.record_reading.specs.declared.line.Line.{Line}
+use Rattle.record_reading.specs.declared.mistake.LineMistake.{LineMistake}
 use Rattle.record_forms.specs.Lines.{text_line}
 use Rattle.record_reading.specs.ReadLine.{AreBytes, ReadsLine, BeginsWithNoLine}
-use Rattle.record_reading.specs.Part.{ReadsPart, HasNoPart, Anything, line_text}
+use Rattle.record_reading.specs.Part.{ReadsPart, Anything, line_text}
 use Rattle.record_reading.proofs.ShownLemmas.{shown_apart, no_end}
 
 -- what is left of the bytes of a record, of which these were read, where this text is left
@@ -158,10 +159,10 @@ text_part text area area_now n behind same read = record {
 }
 
 -- the same of what was answered
-pub text_parts : (form : Form) (result : Option Line) (text area area_now : List ℕ) → form ≡ Text → length area_now ≡ length area
-    → IfSome result (λ line. ReadsLine Text text area area_now line.length line.behind.now)
-    → IfSome result (λ line. ReadsPart (line_text form) Anything text area 0 (length area) area_now line.length line.behind.now)
-text_parts form None text area area_now is same read = tt
-text_parts form (Some line) text area area_now is same read =
+pub text_parts : (form : Form) (result : Result Line LineMistake) (text area area_now : List ℕ) → form ≡ Text → length area_now ≡ length area
+    → IfOk result (λ line. ReadsLine Text text area area_now line.length line.behind.now)
+    → IfOk result (λ line. ReadsPart (line_text form) Anything text area 0 (length area) area_now line.length line.behind.now)
+text_parts form (Err mistake) text area area_now is same read = tt
+text_parts form (Ok line) text area area_now is same read =
     subst (λ (f : Form). ReadsPart (line_text f) Anything text area 0 (length area) area_now line.length line.behind.now) (sym is)
     (text_part text area area_now line.length line.behind.now same read)

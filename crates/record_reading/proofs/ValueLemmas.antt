@@ -49,5 +49,5 @@ module _ (quoting : Quoting) (is_first : Bool) (name text opened : List ℕ) (fr
         (known.0, cc);
   }
 
-  pub no_value : ((behind : List ℕ) → rest ≡ 34 ∷ behind → ⊥) → HasNoPart (value_text quoting is_first name) (EndsValue quoting) text from to
-  no_value none bytes behind are room ends is = none behind (sym (between bytes behind are room ends is).1)
+  pub no_value : ((behind : List ℕ) → EndsValue quoting behind → rest ≡ 34 ∷ behind → ⊥) → HasNoPart (value_text quoting is_first name) (EndsValue quoting) text from to
+  no_value none bytes behind are room ends is = none behind ends (sym (between bytes behind are room ends is).1)

@@ -132,10 +132,10 @@ module _ (quoting : Quoting) (columns : List Column) (text area : List ℕ) (is_
     offset_is = read.tiled.0
 
     -- up to where the bytes of the column may reach
-    at_end : (at ≡ read.start) → column_end column at ≡ at + column.length
+    pub at_end : (at ≡ read.start) → column_end column at ≡ at + column.length
     at_end here = ap (λ (b : Bool). if b then at + column.length else at) (eq-eqb at column.offset (here ∙ sym offset_is))
 
-    at_none : (at < read.start) → column_end column at ≡ at
+    pub at_none : (at < read.start) → column_end column at ≡ at
     at_none less =
         let offset = offset_is in
         ap (λ (b : Bool). if b then at + column.length else at) (ne_eqb at column.offset (λ same. omega (arith, same, less, offset)))
@@ -184,7 +184,7 @@ module _ (quoting : Quoting) (columns : List Column) (text area : List ℕ) (is_
     -- one column more is read
     module _ (area_next : List ℕ) (next : ℕ) (behind_value : List ℕ)
         (part : ReadsPart (value_text quoting is_first column.name.bytes) (EndsValue quoting) rest area_now at (column_end column at) area_next next behind_value) where
-      short_cell : length part.bytes ≤ column.length
+      pub short_cell : length part.bytes ≤ column.length
       short_cell =
           let place = part.at_is in
           let within = part.within in
@@ -195,7 +195,7 @@ module _ (quoting : Quoting) (columns : List Column) (text area : List ℕ) (is_
           by_test true = omega arith
           by_test false = omega arith
 
-      no_cell : at < read.start → part.bytes ≡ []
+      pub no_cell : at < read.start → part.bytes ≡ []
       no_cell less = empty part.bytes (let place = part.at_is in let within = part.within in let end = at_none less in omega (arith, place, within, end))
         where
           empty : (l : List ℕ) → length l ≤ 0 → l ≡ []

@@ -3,3 +3,4 @@ pub mod Whole
 pub mod Quoted
 pub mod Part
 pub mod Header
+pub mod Mistake

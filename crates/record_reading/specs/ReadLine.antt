@@ -1,6 +1,6 @@
 -- The record whose line a text begins with, in a form.
 use Rattle.std.specs.Prelude.{◌≡◌, ◌<◌, ◌≤◌, ℕ, List, ◌++◌, length, take, drop}
-use Rattle.page_bytes.specs.Each.{Each}
+use Rattle.pages.specs.Each.{Each}
 use Rattle.record_forms.specs.declared.form.Form.{Form}
 use Rattle.record_reading.specs.declared.line.Line.{Line}
 use Rattle.record_forms.specs.Lines.{line_in}

@@ -12,13 +12,13 @@
 mod call_record;
 mod recorded_system;
 mod shared_file;
-mod streams;
+mod standard_streams;
 mod system;
 mod unit;
 mod unread;
 
 pub use call_record::CallRecord;
 pub use recorded_system::RecordedSystem;
-pub use streams::{HoldsStreams, StreamFault};
+pub use standard_streams::{HoldsStreams, StreamFault};
 pub use system::System;
 pub use unread::Unread;

@@ -7,12 +7,11 @@ ghost use Rattle.recorded_system.specs.SystemState.{file_path};
 
 use crate::call_record::CallRecord;
 use crate::shared_file::{SharedFile, measure_shared, read_shared};
-use crate::streams::{HoldsStreams, StreamFault, hold_numbers};
+use crate::standard_streams::{HoldsStreams, StreamFault, hold_numbers};
 use crate::system::System;
 use crate::unit::Unit;
 use crate::unread::{Unread, cause_of, cause_of_folder, keep_cause, why_not};
 use io_state::{Fault, FileName};
-use progress::{Progress, ProgressReader};
 use std::alloc::Global;
 use std::fs::OpenFile;
 use std::io::Read;
@@ -20,6 +19,7 @@ use std::mem;
 use std::os::fd::AsRawFd;
 use std::os::unix::fs::FileExt;
 use std::rt::{Clock, Files};
+use streams::{Progress, ProgressReader};
 use system_files::{
     Cause, KeptFile, KeptFolder, Lines, LockFile, LockWait, ReadFault, read_front, read_lines,
 };

@@ -9,7 +9,7 @@ ghost use Rattle.recorded_system.specs.Reading.{TakesText};
 use crate::call_record::CallRecord;
 use crate::unread::Unread;
 use io_state::{Fault, FileName};
-use progress::Progress;
+use streams::Progress;
 use system_files::{Cause, ReadFault};
 
 /// Files and folders of a system, with a record of each call on one and of its answer.

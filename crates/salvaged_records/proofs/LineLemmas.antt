@@ -1,11 +1,13 @@
 -- Lines on their way to the writer, and more of them.
 use Rattle.std.proofs.Common.{◌≡◌, ◌<◌, ℕ, suc, ◌+◌, ◌-◌, ◌^◌, List, [], ◌∷◌, ◌++◌, length, take, get_or, Option, Some, None, refl, sym, ap, subst, ◌∙◌, append_assoc, append-nil, arith}
-use Rattle.std.specs.Prelude.{flat_map, min}
+use Rattle.std.specs.Prelude.{flat_map, min, ◌≤◌, Vec, vec_capacity, Result, Ok, Err}
+use Rattle.record_forms.specs.Room.{AddsInRoom, Grows, IsLineRoom}
+use Rattle.record_forms.specs.declared.form.Form.{Form}
 use Rattle.std.specs.Io.KnownBytes.{Appends}
 use Rattle.std.proofs.KnownBytes.{Appends-nil, Appends-trans}
 use Rattle.std.proofs.Math.Seq.{take-suc}
 use Rattle.std.proofs.lemmas.Grind.{flat_map-append}
-use Rattle.held_text.specs.Output.{HoldsText}
+use Rattle.streams.specs.Output.{HoldsText}
 use Rattle.record_heap.specs.declared.shape.Shape.{Shape}
 use Rattle.record_listing.specs.Lines.{record_text_line}
 use Rattle.salvaged_records.specs.Lines.{AreOnTheirWay, GoOn, WritesRecords, lines_counted}
@@ -88,3 +90,15 @@ all_written records a b c held now count none goes written =
       written = subst (Appends a c) (sym way.text) (Appends-trans a b c way.taken now way.appends written);
       counted = way.counted;
     }
+
+-- where an empty text has room for the line of a record, the line was added
+pub line_added : {Z E : Type 0} (line : List ℕ) (old new : Vec ℕ Z) (result : Result Unit E) → AddsInRoom old new line result → old.items ≡ [] → length line ≤ vec_capacity old → Grows old new line
+line_added line old new (Ok done) adds none fits = adds
+line_added line old new (Err fault) adds none fits =
+    let empty = ap (λ (l : List ℕ). length l) none in
+    let long = old.ok.0 in
+    absurd (omega (arith, adds, fits, empty, long))
+
+-- what is room for each line stays so where there is more
+pub still_room : (form : Form) (most room more : ℕ) → IsLineRoom form most room → room ≤ more → IsLineRoom form most more
+still_room form most room more is wider bytes few = let fits = is bytes few in omega (arith, fits, wider)

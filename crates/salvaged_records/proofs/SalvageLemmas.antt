@@ -10,9 +10,9 @@ use Rattle.file_header.specs.declared.header.Header.{Header}
 use Rattle.file_header.specs.FirstPage.{IsFirstPage}
 use Rattle.page_store.specs.DeviceFile.{page_of_bytes}
 use Rattle.file_checker.specs.Bytes.{AreAllPages}
-use Rattle.file_listing.specs.Listing.{EndsWithIn}
-use Rattle.file_listing.specs.declared.listing.FileList.{FileList}
-use Rattle.file_listing.specs.declared.listing.FileList.TheVariants.{Listed, NoKey, Unsound}
+use Rattle.record_listing.specs.FileList.{EndsWithIn}
+use Rattle.record_listing.specs.declared.file_list.FileList.{FileList}
+use Rattle.record_listing.specs.declared.file_list.FileList.TheVariants.{Listed, NoKey, Unsound}
 use Rattle.salvaged_records.specs.declared.salvaging.Salvage.TheVariants.{All as AllSalvaged}
 use Rattle.salvaged_records.specs.Salvaged.{AreAllAsked, EndsWith}
 

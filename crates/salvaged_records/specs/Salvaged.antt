@@ -9,8 +9,8 @@ use Rattle.file_header.specs.FirstPage.{IsFirstPage}
 use Rattle.file_checker.specs.Bytes.{AreAllPages}
 use Rattle.file_checker.specs.Sound.{IsRight, IsSound, IsUnsound}
 use Rattle.file_checker.specs.declared.verdict.Verdict.TheVariants.{Unsound as IsRefused}
-use Rattle.file_listing.specs.Listing.{EndsFileListWith}
-use Rattle.file_listing.specs.declared.listing.FileList.TheVariants.{Listed}
+use Rattle.record_listing.specs.FileList.{EndsFileListWith}
+use Rattle.record_listing.specs.declared.file_list.FileList.TheVariants.{Listed}
 use Rattle.record_listing.specs.declared.asked.Asked.{Asked}
 use Rattle.record_listing.specs.declared.end.ListFault.{ListFault}
 use Rattle.salvaged_records.specs.Lines.{WritesRecords}

@@ -11,12 +11,11 @@ use crate::heap_pages::write_pages;
 use crate::shape::shape_of;
 use file_checker::{Reason, Verdict, check_bytes};
 use file_header::Header;
-use file_listing::list_sound;
 use io_state::Key;
-use page_bytes::PAGE_SIZE;
+use pages::PAGE_SIZE;
 use record_forms::Form;
 use record_layout::Schema;
-use record_listing::{Asked, ListFault};
+use record_listing::{Asked, ListFault, list_sound};
 use std::alloc::Global;
 use std::io::Write;
 
@@ -65,7 +64,8 @@ fn list_all<W: Write>(
     out: &mut W,
 ) -> Result<Salvage, ListFault>
     requires sound { (pages : ℕ) × IsSound bytes.items records pages }
-    ensures { IfOk result (EndsWith deck.now bytes.items (W.contents out.old) (W.contents out.new)) }
+    ensures ends { IfOk result (EndsWith deck.now bytes.items (W.contents out.old) (W.contents out.new)) }
+    ensures memory { result ≡ Err ListFault.Memory → W.contents out.new ≡ W.contents out.old }
 {
     match list_sound(alloc, bytes, all_records(), &Form::Text, out) {
         // A file that is sound has a prime key, so it was listed.
@@ -87,7 +87,8 @@ fn list_slots<W: Write>(
     requires refused { IsRight bytes.now (Verdict.Unsound reason) }
     requires pages { AreAllPages bytes.now pages.now }
     requires schema { IsSchemaFor deck.now bytes.now schema.now }
-    ensures { IfOk result (EndsWith deck.now bytes.now (W.contents out.old) (W.contents out.new)) }
+    ensures ends { IfOk result (EndsWith deck.now bytes.now (W.contents out.old) (W.contents out.new)) }
+    ensures memory { result ≡ Err ListFault.Memory → W.contents out.new ≡ W.contents out.old }
 {
     match write_pages(alloc, pages, shape_of(schema), out) {
         Ok(count) => Ok(Salvage::Slots(count)),
@@ -125,7 +126,8 @@ fn list_refused<W: Write>(
     out: &mut W,
 ) -> Result<Salvage, ListFault>
     requires refused { IsRight bytes.now (Verdict.Unsound reason) }
-    ensures { IfOk result (EndsWith deck.now bytes.now (W.contents out.old) (W.contents out.new)) }
+    ensures ends { IfOk result (EndsWith deck.now bytes.now (W.contents out.old) (W.contents out.new)) }
+    ensures memory { result ≡ Err ListFault.Memory → W.contents out.new ≡ W.contents out.old }
 {
     let pages = pages_in(bytes);
     match first_header(pages) {
@@ -143,15 +145,16 @@ fn list_refused<W: Write>(
 /// the first page, or by the schema of a deck where that is lost: a file that was being made has
 /// none until it is closed. The file is not touched: the gate is closed in these bytes alone.
 ///
-/// `Output`: the writer refused a line; a front of the lines may have been written. `Memory`: the
-/// same, or nothing was written. `Input` never comes: the bytes are there.
+/// `Output`: the writer refused a line; a front of the lines may have been written. `Memory`: nothing
+/// was written. `Input` never comes: the bytes are there.
 pub fn salvage_records<W: Write>(
     alloc: Global,
     bytes: Vec<u8>,
     deck: &Option<Schema>,
     out: &mut W,
 ) -> Result<Salvage, ListFault>
-    ensures { Ends deck.now bytes.items (W.contents out.old) (W.contents out.new) result }
+    ensures ends { Ends deck.now bytes.items (W.contents out.old) (W.contents out.new) result }
+    ensures memory { result ≡ Err ListFault.Memory → W.contents out.new ≡ W.contents out.old }
 {
     let mut bytes = bytes;
     close_gate(bytes.as_mut_slice());

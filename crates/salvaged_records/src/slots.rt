@@ -7,14 +7,14 @@
 //! | 4 to 7 | next heap page, 0 at the end of the chain |
 //! | 8 to 15 | zero |
 //! | from 16 | as many slots of one size as fit |
-ghost use Rattle.std.specs.Prelude.{◌≡◌, ◌≤◌, ◌<◌, length, IfSome};
+ghost use Rattle.std.specs.Prelude.{◌≡◌, ◌+◌, ◌≤◌, ◌<◌, length, IfSome};
 ghost use Rattle.std.specs.Option.{option_copied};
 ghost use Rattle.record_heap.specs.Slot.{room, size, length_in_slot, used_in, record_in};
 ghost use Rattle.record_heap.specs.Slots.{slot_at, start_of};
 ghost use Rattle.salvaged_records.specs.Slots.{is_heap_page, record_at};
 
 use byteorder::{BigEndian, ByteOrder};
-use page_bytes::PAGE_SIZE;
+use pages::PAGE_SIZE;
 use record_heap::Shape;
 
 /// The mark of a slot in use.
@@ -66,6 +66,7 @@ fn stored_in<'a>(slot: &'a [u8], shape: Shape) -> Option<&'a [u8]>
     requires { size shape ≤ length slot.now }
     ensures value { option_copied result ≡ used_in shape slot.now }
     ensures least { IfSome result (λ stored. shape.stamps ≤ length stored.now) }
+    ensures most { IfSome result (λ stored. length stored.now ≤ shape.stamps + shape.greatest) }
 {
     let record = record_length(slot, shape);
     let is_long = shape.least as usize <= record && record <= shape.greatest as usize;
@@ -79,7 +80,8 @@ fn stored_in<'a>(slot: &'a [u8], shape: Shape) -> Option<&'a [u8]>
 /// The record in a slot, where it is in use.
 fn record_in<'a>(slot: &'a [u8], shape: Shape) -> Option<&'a [u8]>
     requires { size shape ≤ length slot.now }
-    ensures { option_copied result ≡ record_in shape slot.now }
+    ensures value { option_copied result ≡ record_in shape slot.now }
+    ensures most { IfSome result (λ bytes. length bytes.now ≤ shape.greatest) }
 {
     match stored_in(slot, shape) {
         Some(stored) => Some(&stored[shape.stamps as usize..]),
@@ -101,7 +103,8 @@ fn slot(page: &[u8; PAGE_SIZE], shape: Shape, i: usize) -> &[u8]
 /// The record in slot `i`, where it is in use.
 pub fn record_at(page: &[u8; PAGE_SIZE], shape: Shape, i: usize) -> Option<&[u8]>
     requires { i < room shape }
-    ensures { option_copied result ≡ record_at shape page.now i }
+    ensures value { option_copied result ≡ record_at shape page.now i }
+    ensures most { IfSome result (λ bytes. length bytes.now ≤ shape.greatest) }
 {
     record_in(slot(page, shape, i), shape)
 }

@@ -4,7 +4,7 @@ ghost use Rattle.file_header.specs.Bounds.{IsHeader};
 ghost use Rattle.schema_listing.specs.Listing.{read_off, number_of_refusal};
 
 use file_header::Header;
-use page_bytes::PAGE_SIZE;
+use pages::PAGE_SIZE;
 
 /// Why no schema is told.
 #[derive(Clone, Copy, Debug, PartialEq, Eq)]

@@ -9,7 +9,7 @@ ghost use Rattle.schema_listing.specs.Lines.{all_header_lines};
 
 use file_header::{Header, TreeNumbers};
 use itoa::Buffer;
-use page_bytes::PAGE_SIZE;
+use pages::PAGE_SIZE;
 use record_layout::{KeyKind, KeyPart, Schema};
 use std::alloc::{AllocError, Global};
 

@@ -8,7 +8,7 @@ ghost use Rattle.schema_listing.specs.Listing.{read_front, WritesSchemaLines, Te
 use crate::first_page::{Refusal, header_of};
 use crate::lines::schema_lines;
 use file_header::Header;
-use page_bytes::PAGE_SIZE;
+use pages::PAGE_SIZE;
 use std::alloc::Global;
 use std::io::{self, ErrorKind, Read, Write};
 use thiserror::Error;

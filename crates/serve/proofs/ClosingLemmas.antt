@@ -4,8 +4,8 @@ use Rattle.std.specs.Prelude.{Option, Some, None, if◌then◌else◌}
 use Rattle.std.specs.Option.{IfSome}
 use Rattle.io_state.specs.declared.status.Status.{Status}
 use Rattle.indexed_file.specs.Shown.{Shown}
-use Rattle.file_session.specs.Files.{Files}
-use Rattle.file_session.specs.Steps.{ClosesFirst}
+use Rattle.serve.specs.Files.{Files}
+use Rattle.serve.specs.Steps.{ClosesFirst}
 use Rattle.serve.specs.Serving.{ClosesAllFiles, ClosesAndCounts, is_failed_close, failed_of, failed_among}
 
 -- the closes so far, and those that follow, are those of all; so many were made, of so many at most, and so many of them failed

@@ -6,9 +6,9 @@ use Rattle.std.specs.Io.KnownBytes.{Appends}
 use Rattle.std.proofs.KnownBytes.{Appends-trans}
 use Rattle.byteorder.specs.Endian.{big_bytes}
 use Rattle.indexed_file.specs.Shown.{Shown}
-use Rattle.request_frames.specs.Answer.{framed}
-use Rattle.file_session.specs.Files.{Files}
-use Rattle.standard_input.specs.Source.{Source, GivesBytes, HasEnded, HasFailed}
+use Rattle.serve.specs.Answer.{framed}
+use Rattle.serve.specs.Files.{Files}
+use Rattle.streams.specs.Source.{Source, GivesBytes, HasEnded, HasFailed}
 use Rattle.serve.specs.Input.{NoLength, FrameBreaksOff, IsTooLongFrame}
 use Rattle.serve.specs.Answers.{answer_frame}
 use Rattle.serve.specs.Reads.{AsksOnlyToRead}

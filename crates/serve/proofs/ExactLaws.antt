@@ -5,10 +5,10 @@ use Rattle.io_state.specs.declared.status.Status.TheVariants.{Successful}
 use Rattle.indexed_file.specs.Moments.{JoinsStretches, EndsNow}
 use Rattle.indexed_file.specs.Shown.{Shown}
 use Rattle.indexed_file.specs.World.{named_in}
-use Rattle.request_frames.specs.Reading.{request_in}
+use Rattle.serve.specs.Reading.{request_in}
 use Rattle.verbs.specs.Faults.{is_unclean}
-use Rattle.file_session.specs.Files.{Files, files_at_start}
-use Rattle.file_session.specs.Steps.{close_request}
+use Rattle.serve.specs.Files.{Files, files_at_start}
+use Rattle.serve.specs.Steps.{close_request}
 use Rattle.serve.specs.Answers.{AnswersRequest}
 use Rattle.serve.specs.ExactFiles.{ExactFiles, exact_at_start, ServesExactly, EndsExactly}
 use Rattle.serve.specs.ExactSession.{files_in_session, AreCleanCloses, AreWithoutFault, ExactInCloses, ExactAfter, ExactInRequests, ExactSession}

@@ -22,15 +22,15 @@ use Rattle.verbs.specs.Verbs.{perform}
 use Rattle.deck_runner.specs.Running.{unit_names}
 use Rattle.deck_runner.proofs.CleanLemmas.{clean_step}
 use Rattle.deck_runner.proofs.FrameLemmas.{unit_elsewhere}
-use Rattle.request_frames.specs.Answer.{Told, Refuses, Does, Tells}
-use Rattle.request_frames.specs.Reading.{request_in}
-use Rattle.request_frames.specs.Request.{Described, Performed, Asked, Describing, Performing, Releasing}
-use Rattle.request_frames.specs.declared.refusal.Refusal.{Refusal}
-use Rattle.request_frames.specs.declared.refusal.Refusal.TheVariants as refusal
-use Rattle.file_session.specs.Files.{number_limit, NumberedFile, FileTable, Files, file_of_number, is_open_file, is_free_number, is_named_file, has_file_name, order_after, memory_of, files_at_start}
-use Rattle.file_session.specs.Steps.{PerformsRequest, Describes, GivesUnit, AddsLast, IsShutUnit, Releases, RefusesDescription, ClosesFirst, refusal_by, refusal_of_file, file_described, with_bytes, record_by, close_request}
-use Rattle.file_session.proofs.CallLemmas.{not_named, free_below, free_none}
-use Rattle.file_session.proofs.UnitLemmas.{unit_in_front, unit_behind}
+use Rattle.serve.specs.Answer.{Told, Refuses, Does, Tells}
+use Rattle.serve.specs.Reading.{request_in}
+use Rattle.serve.specs.Request.{Described, Performed, Asked, Describing, Performing, Releasing}
+use Rattle.serve.specs.declared.refusal.Refusal.{Refusal}
+use Rattle.serve.specs.declared.refusal.Refusal.TheVariants as refusal
+use Rattle.serve.specs.Files.{number_limit, NumberedFile, FileTable, Files, file_of_number, is_open_file, is_free_number, is_named_file, has_file_name, order_after, memory_of, files_at_start}
+use Rattle.serve.specs.Steps.{PerformsRequest, Describes, GivesUnit, AddsLast, IsShutUnit, Releases, RefusesDescription, ClosesFirst, refusal_by, refusal_of_file, file_described, with_bytes, record_by, close_request}
+use Rattle.serve.proofs.CallLemmas.{not_named, free_below, free_none}
+use Rattle.serve.proofs.UnitLemmas.{unit_in_front, unit_behind}
 use Rattle.serve.specs.Answers.{AnswersRequest}
 use Rattle.serve.specs.ExactFiles.{ExactFile, ExactFiles, exact_at_start, with_exact, IsFree, HasNamed, exact_described, DescribesExactly, RefusesExactly, exact_refusal, exact_outcome, after_verb, PerformsExactly, exact_release, AnswersExactly, ServesExactly, ClosesExactly}
 use Rattle.serve.specs.ExactSession.{file_in_session, place_in_session, files_in_session, is_clean_answer, AreCleanAnswers, AreCleanCloses, IsSoOfDescribed, IsSoOfAllDescribed}

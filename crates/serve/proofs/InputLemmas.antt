@@ -5,10 +5,10 @@ use Rattle.std.proofs.Math.Seq.{take-append-add}
 use borrow.Rule.Slice.PartMut.{put_mid, post_of}
 use Rattle.std.specs.Io.KnownBytes.{Consumes, Keeps}
 use Rattle.std.proofs.KnownBytes.{Consumes-nil, Consumes-trans, Consumes-kept}
-use Rattle.standard_input.specs.Reads.{bytes_of_reads, TellFailure}
-use Rattle.standard_input.specs.Source.{Source, GivesBytes, HasFailed}
+use Rattle.streams.specs.Reads.{bytes_of_reads, TellFailure}
+use Rattle.streams.specs.Source.{Source, GivesBytes, HasFailed}
 use Rattle.byteorder.specs.Endian.{big_number, big_bytes}
-use Rattle.request_frames.specs.Answer.{framed}
+use Rattle.serve.specs.Answer.{framed}
 use Rattle.std.specs.Prelude.{Ok}
 use Rattle.serve.specs.Input.{GivesLess, BeginsWithFrame, NoLength, NoBody, FrameBreaksOff, Came}
 use Rattle.serve.specs.declared.input.Next.{Next}

@@ -12,7 +12,7 @@ use Rattle.indexed_file.specs.Images.{Trace, untouched, AllStay, Stays, LibraryM
 use Rattle.indexed_file.specs.Moments.{JoinsStretches, EndsNow}
 use Rattle.indexed_file.specs.Shown.{Shown}
 use Rattle.indexed_file.proofs.TestLemmas.{either}
-use Rattle.growing_library.specs.Growing.{AddsUnit, LetsFileGo}
+use Rattle.indexed_file.specs.Growing.{AddsUnit, LetsFileGo}
 use Rattle.verbs.specs.declared.answer.Answer.{Answer}
 use Rattle.verbs.specs.Fits.{IsStanding}
 use Rattle.verbs.specs.Performed.{IsPerformed, state_in}
@@ -21,12 +21,12 @@ use Rattle.verbs.proofs.WorldLemmas.{name_after}
 use Rattle.deck_runner.specs.NoFalseFile.{Ledger, during, behind, StandsBy}
 use Rattle.deck_runner.proofs.FalseFileLaws.{stands_during, stands_behind}
 use Rattle.deck_runner.proofs.FrameLemmas.{unit_elsewhere, as_many_units, standing_elsewhere}
-use Rattle.request_frames.specs.Request.{Described, Performed}
-use Rattle.file_session.specs.Files.{number_limit, NumberedFile, FileTable, Files, file_of_number, is_named_file, is_free_number, memory_of, files_at_start}
-use Rattle.file_session.specs.Steps.{PerformsRequest, Describes, GivesUnit, AddsLast, LibraryStays, file_described, with_bytes}
-use Rattle.file_session.proofs.CallLemmas.{not_named}
-use Rattle.file_session.proofs.FilesLemmas.{none_some}
-use Rattle.file_session.proofs.UnitLemmas.{unit_in_front}
+use Rattle.serve.specs.Request.{Described, Performed}
+use Rattle.serve.specs.Files.{number_limit, NumberedFile, FileTable, Files, file_of_number, is_named_file, is_free_number, memory_of, files_at_start}
+use Rattle.serve.specs.Steps.{PerformsRequest, Describes, GivesUnit, AddsLast, LibraryStays, file_described, with_bytes}
+use Rattle.serve.proofs.CallLemmas.{not_named}
+use Rattle.serve.proofs.FilesLemmas.{none_some}
+use Rattle.serve.proofs.UnitLemmas.{unit_in_front}
 use Rattle.serve.specs.Ledgers.{JudgedFiles, none_judged, IsDescribed, WereTrue, AllStand, AllReal, StandsNow}
 use Rattle.serve.specs.NoFalseFile.{LedgersStay, LedgersGoOn, trace_for_file, ledgers_during, ledgers_behind}
 

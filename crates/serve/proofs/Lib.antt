@@ -1,3 +1,10 @@
+pub mod KeyLemmas
+pub mod WritingLemmas
+pub mod OrderLemmas
+pub mod FilesLemmas
+pub mod CallLemmas
+pub mod UnitLemmas
+pub mod SessionLemmas
 pub mod InputLemmas
 pub mod ServingLemmas
 pub mod HeldLemmas
@@ -9,3 +16,4 @@ pub mod NamedLemmas
 pub mod TruthLemmas
 pub mod ExactLemmas
 pub mod ExactLaws
+pub mod RoomLemmas

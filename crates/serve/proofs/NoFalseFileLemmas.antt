@@ -7,12 +7,12 @@ use Rattle.indexed_file.specs.Moments.{JoinsStretches, EndsNow}
 use Rattle.indexed_file.specs.Shown.{Shown}
 use Rattle.verbs.specs.declared.answer.Answer.{Answer}
 use Rattle.verbs.specs.Held.{silent}
-use Rattle.request_frames.specs.Answer.{Told, Refuses, Does, Tells}
-use Rattle.request_frames.specs.Request.{Described, Performed, Asked, Describing, Performing, Releasing}
-use Rattle.request_frames.specs.Reading.{request_in}
-use Rattle.file_session.specs.Files.{NumberedFile, FileTable, Files, file_of_number, files_at_start}
-use Rattle.file_session.specs.Steps.{PerformsRequest, Releases, LibraryStays, close_request}
-use Rattle.file_session.proofs.FilesLemmas.{none_some}
+use Rattle.serve.specs.Answer.{Told, Refuses, Does, Tells}
+use Rattle.serve.specs.Request.{Described, Performed, Asked, Describing, Performing, Releasing}
+use Rattle.serve.specs.Reading.{request_in}
+use Rattle.serve.specs.Files.{NumberedFile, FileTable, Files, file_of_number, files_at_start}
+use Rattle.serve.specs.Steps.{PerformsRequest, Releases, LibraryStays, close_request}
+use Rattle.serve.proofs.FilesLemmas.{none_some}
 use Rattle.serve.specs.Answers.{AnswersRequest}
 use Rattle.serve.specs.Ledgers.{JudgedFiles, none_judged}
 use Rattle.serve.specs.NoFalseFile.{LedgersGo, LedgersStay, LedgersGoOn, ServesSafely, ClosesSafely, NoFalseFileInSession, NoFalseFileInCloses, NoFalseFileAfter, NoFalseFileInRequests}

@@ -5,9 +5,9 @@ use Rattle.std.proofs.lemmas.List.Elements.{All-nil, All-cons, All-append}
 use Rattle.std.specs.Io.KnownBytes.{Appends}
 use Rattle.std.proofs.KnownBytes.{Appends-nil, Appends-trans}
 use Rattle.indexed_file.specs.Shown.{Shown}
-use Rattle.request_frames.specs.Answer.{framed}
-use Rattle.file_session.specs.Files.{Files}
-use Rattle.standard_input.specs.Source.{Source, GivesBytes}
+use Rattle.serve.specs.Answer.{framed}
+use Rattle.serve.specs.Files.{Files}
+use Rattle.streams.specs.Source.{Source, GivesBytes}
 use Rattle.serve.specs.Answers.{answer_frame}
 use Rattle.serve.specs.Reads.{AsksOnlyToRead}
 use Rattle.serve.specs.HeldAnswers.{HandsAllOver, MakesWayForInput}

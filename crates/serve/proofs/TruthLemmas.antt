@@ -3,11 +3,11 @@ use Rattle.std.proofs.Common.{◌≡◌, ◌⊎◌, ℕ, Bool, List, [], ◌∷�
 use Rattle.io_state.specs.declared.status.Status.{Status}
 use Rattle.indexed_file.specs.Calls.{Keeps}
 use Rattle.indexed_file.specs.Shown.{Shown}
-use Rattle.request_frames.specs.Answer.{Told, Refuses, Does, Tells}
-use Rattle.request_frames.specs.Reading.{request_in}
-use Rattle.request_frames.specs.Request.{Asked, Describing, Performing, Releasing}
-use Rattle.file_session.specs.Files.{Files}
-use Rattle.file_session.specs.Steps.{AddsLast}
+use Rattle.serve.specs.Answer.{Told, Refuses, Does, Tells}
+use Rattle.serve.specs.Reading.{request_in}
+use Rattle.serve.specs.Request.{Asked, Describing, Performing, Releasing}
+use Rattle.serve.specs.Files.{Files}
+use Rattle.serve.specs.Steps.{AddsLast}
 use Rattle.serve.specs.Answers.{AnswersRequest}
 use Rattle.serve.specs.Serving.{Exchange, Serving, ClosesAllFiles}
 

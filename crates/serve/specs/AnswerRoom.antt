@@ -1,9 +1,9 @@
 -- The answer to a request, in the room that a caller has for it. All of this is ours.
 use Rattle.std.specs.Prelude.{◌≡◌, Bool, ℕ, List, [], ◌∷◌, ◌++◌, drop, length}
 use Rattle.indexed_file.specs.Shown.{Shown}
-use Rattle.request_frames.specs.Answer.{Told}
-use Rattle.request_frames.specs.Reading.{request_in}
-use Rattle.file_session.specs.Files.{Files}
+use Rattle.serve.specs.Answer.{Told}
+use Rattle.serve.specs.Reading.{request_in}
+use Rattle.serve.specs.Files.{Files}
 use Rattle.serve.specs.Answers.{AnswersRequest, answer_frame}
 use Rattle.serve.specs.ExactSession.{ExactAfter}
 use Rattle.serve.specs.NoFalseFile.{NoFalseFileAfter}

@@ -2,13 +2,13 @@
 use Rattle.std.specs.Prelude.{◌≡◌, Bool, ◌⊎◌, ℕ, List, ◌++◌, Option, Result, Ok, Err, OnOk, OnErr}
 use Rattle.std.specs.Io.KnownBytes.{Appends}
 use Rattle.indexed_file.specs.Shown.{Shown}
-use Rattle.request_frames.specs.Answer.{Told}
-use Rattle.request_frames.specs.Reading.{request_in}
-use Rattle.file_session.specs.Files.{Files}
+use Rattle.serve.specs.Answer.{Told}
+use Rattle.serve.specs.Reading.{request_in}
+use Rattle.serve.specs.Files.{Files}
 use Rattle.serve.specs.Answers.{AnswersRequest, answer_frame}
 use Rattle.serve.specs.Reads.{AsksOnlyToRead}
-use Rattle.held_text.specs.Output.{AddsText}
-use Rattle.held_text.specs.declared.output.Refused.{Refused}
+use Rattle.streams.specs.Output.{AddsText}
+use Rattle.streams.specs.declared.output.Refused.{Refused}
 use Rattle.serve.specs.HeldAnswers.{HandsAllOver, RefusesHeld, RefusesNext}
 use Rattle.serve.specs.Serving.{too_long}
 use Rattle.serve.specs.declared.fault.ServeFault.{ServeFault}

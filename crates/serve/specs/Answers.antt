@@ -2,16 +2,16 @@
 use Rattle.std.specs.Prelude.{◌≡◌, ℕ, Bool, List, Option, Some, None}
 use Rattle.indexed_file.specs.Shown.{Shown}
 use Rattle.verbs.specs.declared.answer.Answer.{Answer}
-use Rattle.request_frames.specs.Answer.{Told, Refuses, Does, Tells, answer_body, framed}
-use Rattle.request_frames.specs.Reading.{request_in}
-use Rattle.request_frames.specs.Request.{Described, Performed, Asked, Describing, Performing, Releasing}
-use Rattle.request_frames.specs.Request.{described_of}
-use Rattle.request_frames.specs.declared.description.Description.{Description}
-use Rattle.request_frames.specs.declared.refusal.Refusal.TheVariants as refusal
-use Rattle.file_session.specs.Files.{Files, file_of_number}
-use Rattle.file_session.specs.Steps.{Describes, RefusesDescription, StaysRefused, PerformsRequest}
-use Rattle.file_session.specs.Steps.{refusal_of_verb, record_by}
-use Rattle.file_session.specs.Steps.{Releases, refusal_of_release}
+use Rattle.serve.specs.Answer.{Told, Refuses, Does, Tells, answer_body, framed}
+use Rattle.serve.specs.Reading.{request_in}
+use Rattle.serve.specs.Request.{Described, Performed, Asked, Describing, Performing, Releasing}
+use Rattle.serve.specs.Request.{described_of}
+use Rattle.serve.specs.declared.description.Description.{Description}
+use Rattle.serve.specs.declared.refusal.Refusal.TheVariants as refusal
+use Rattle.serve.specs.Files.{Files, file_of_number}
+use Rattle.serve.specs.Steps.{Describes, RefusesDescription, StaysRefused, PerformsRequest}
+use Rattle.serve.specs.Steps.{refusal_of_verb, record_by}
+use Rattle.serve.specs.Steps.{Releases, refusal_of_release}
 
 -- a file is described, as a unit of the library; or that is refused, and nothing is changed
 abbrev pub AnswersDescription : {S : Type 0} → Shown S → (keeps_open : S → ℕ → Bool) → Described → Files S → Told

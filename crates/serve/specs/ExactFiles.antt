@@ -5,15 +5,15 @@ use Rattle.std.specs.Prelude.{eqb, bytes_eq, nat_lt, Option, Some, None, is_some
 use Rattle.std.specs.Prelude.{if◌then◌else◌}
 use Rattle.io_state.specs.declared.status.Status.{Status}
 use Rattle.indexed_file.specs.World.{Named}
-use Rattle.request_frames.specs.Answer.{Told, Refuses, Does, Tells}
-use Rattle.request_frames.specs.Reading.{request_in}
-use Rattle.request_frames.specs.Request.{Described, Performed, Asked, Describing, Performing, Releasing}
-use Rattle.request_frames.specs.declared.refusal.Refusal.{Refusal}
-use Rattle.request_frames.specs.declared.refusal.Refusal.TheVariants as refusal
+use Rattle.serve.specs.Answer.{Told, Refuses, Does, Tells}
+use Rattle.serve.specs.Reading.{request_in}
+use Rattle.serve.specs.Request.{Described, Performed, Asked, Describing, Performing, Releasing}
+use Rattle.serve.specs.declared.refusal.Refusal.{Refusal}
+use Rattle.serve.specs.declared.refusal.Refusal.TheVariants as refusal
 use Rattle.verbs.specs.Connector.{FileState, Outcome, closed_connector}
 use Rattle.verbs.specs.Verbs.{perform}
-use Rattle.file_session.specs.Files.{number_limit, order_after}
-use Rattle.file_session.specs.Steps.{CanBeFile, schema_described, is_of_keys, close_request}
+use Rattle.serve.specs.Files.{number_limit, order_after}
+use Rattle.serve.specs.Steps.{CanBeFile, schema_described, is_of_keys, close_request}
 use Rattle.serve.specs.Serving.{Exchange}
 
 -- a described file: its name, and its state

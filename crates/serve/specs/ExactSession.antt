@@ -5,14 +5,14 @@ use Rattle.std.specs.Prelude.{IsTrue}
 use Rattle.io_state.specs.declared.status.Status.{Status}
 use Rattle.indexed_file.specs.Shown.{Shown}
 use Rattle.indexed_file.specs.World.{World, named_in}
-use Rattle.request_frames.specs.Answer.{Told, Refuses, Tells}
-use Rattle.request_frames.specs.Reading.{request_in}
-use Rattle.request_frames.specs.Request.{Asked, Describing, Performing, Releasing}
-use Rattle.request_frames.specs.declared.refusal.Refusal.TheVariants as refusal
+use Rattle.serve.specs.Answer.{Told, Refuses, Tells}
+use Rattle.serve.specs.Reading.{request_in}
+use Rattle.serve.specs.Request.{Asked, Describing, Performing, Releasing}
+use Rattle.serve.specs.declared.refusal.Refusal.TheVariants as refusal
 use Rattle.verbs.specs.Faults.{is_unclean}
 use Rattle.verbs.specs.Held.{state_of}
-use Rattle.file_session.specs.Files.{NumberedFile, Files, file_of_number, files_at_start}
-use Rattle.file_session.specs.Steps.{close_request}
+use Rattle.serve.specs.Files.{NumberedFile, Files, file_of_number, files_at_start}
+use Rattle.serve.specs.Steps.{close_request}
 use Rattle.serve.specs.Answers.{AnswersRequest}
 use Rattle.serve.specs.ExactFiles.{ExactFile, ExactFiles, exact_at_start, ServesExactly, ClosesExactly}
 use Rattle.serve.specs.ExactFiles.{EndsExactly}

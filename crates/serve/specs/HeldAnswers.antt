@@ -1,7 +1,7 @@
 -- Answers that are held back, and then handed to the writer. All of this is ours.
 use Rattle.std.specs.Prelude.{◌≡◌, ◌<◌, ◌⊎◌, ℕ, List, [], ◌++◌, length, Option, Result, OnOk, OnErr}
 use Rattle.std.specs.Io.KnownBytes.{Appends}
-use Rattle.held_text.specs.declared.output.Refused.{Refused}
+use Rattle.streams.specs.declared.output.Refused.{Refused}
 use Rattle.serve.specs.Input.{BeginsWithFrame}
 
 -- the writer took all that was held

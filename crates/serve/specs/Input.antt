@@ -2,8 +2,8 @@
 use Rattle.std.specs.Prelude.{◌≡◌, ℕ, ◌<◌, ◌≤◌, Bool, true, false, List, [], ◌++◌, length, take, Result, Ok}
 use Rattle.std.specs.Prelude.{Err, IfOk, OnErr}
 use Rattle.byteorder.specs.Endian.{big_bytes}
-use Rattle.request_frames.specs.Answer.{framed}
-use Rattle.standard_input.specs.Source.{Source, GivesBytes, HasEnded, HasFailed}
+use Rattle.serve.specs.Answer.{framed}
+use Rattle.streams.specs.Source.{Source, GivesBytes, HasEnded, HasFailed}
 use Rattle.serve.specs.declared.input.Next.{Next}
 use Rattle.serve.specs.declared.input.Next.TheVariants.{Frame, TooLong, End}
 use Rattle.serve.specs.declared.input.InputFailed.{InputFailed}

@@ -3,7 +3,7 @@ use Rattle.std.specs.Prelude.{ℕ, List, [], bytes_eq, IsTrue}
 use Rattle.std.specs.List.{list_any}
 use Rattle.indexed_file.specs.Shown.{Shown}
 use Rattle.deck_runner.specs.NoFalseFile.{Ledger, first_ledger, StandsBy}
-use Rattle.file_session.specs.Files.{Files, files_at_start}
+use Rattle.serve.specs.Files.{Files, files_at_start}
 
 -- a point between two requests: the files there, the names that were described so far, and what the
 -- images of each name may be, as it is of the run of a deck

@@ -1,3 +1,10 @@
+pub mod Request
+pub mod Reading
+pub mod Writing
+pub mod Answer
+pub mod Files
+pub mod Fields
+pub mod Steps
 pub mod Input
 pub mod Output
 pub mod Answers

@@ -12,11 +12,11 @@ use Rattle.indexed_file.specs.Images.{Trace, untouched}
 use Rattle.verbs.specs.Performed.{state_in}
 use Rattle.verbs.specs.Traces.{trace_of}
 use Rattle.deck_runner.specs.NoFalseFile.{Ledger, during, behind}
-use Rattle.request_frames.specs.Answer.{Told, Refuses, Does, Tells}
-use Rattle.request_frames.specs.Request.{Described, Performed, Asked, Describing, Performing, Releasing}
-use Rattle.request_frames.specs.Reading.{request_in}
-use Rattle.file_session.specs.Files.{NumberedFile, Files, file_of_number, files_at_start, memory_of}
-use Rattle.file_session.specs.Steps.{with_bytes, ClosesFirst, close_request}
+use Rattle.serve.specs.Answer.{Told, Refuses, Does, Tells}
+use Rattle.serve.specs.Request.{Described, Performed, Asked, Describing, Performing, Releasing}
+use Rattle.serve.specs.Reading.{request_in}
+use Rattle.serve.specs.Files.{NumberedFile, Files, file_of_number, files_at_start, memory_of}
+use Rattle.serve.specs.Steps.{with_bytes, ClosesFirst, close_request}
 use Rattle.serve.specs.Answers.{AnswersRequest}
 use Rattle.serve.specs.Ledgers.{JudgedFiles, none_judged, AllStand, StandsNow}
 use Rattle.serve.specs.Serving.{Exchange, Streams, ClosesAllFiles, Served}

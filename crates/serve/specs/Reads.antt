@@ -3,8 +3,8 @@ use Rattle.std.specs.Prelude.{Bool, true, false, List, ℕ, Option, Some, None, 
 use Rattle.io_state.specs.declared.statement.FileStatement.{FileStatement}
 use Rattle.io_state.specs.declared.statement.FileStatement.TheVariants.{Open, Close, ReadNext, Read, Start}
 use Rattle.io_state.specs.declared.statement.FileStatement.TheVariants.{Write, Rewrite, Delete}
-use Rattle.request_frames.specs.Request.{Asked, Describing, Performing, Releasing}
-use Rattle.request_frames.specs.Reading.{request_in}
+use Rattle.serve.specs.Request.{Asked, Describing, Performing, Releasing}
+use Rattle.serve.specs.Reading.{request_in}
 
 -- READ, READ NEXT and START
 abbrev pub is_reading : FileStatement → Bool

@@ -6,13 +6,13 @@ use Rattle.byteorder.specs.Endian.{big_bytes}
 use Rattle.io_state.specs.declared.status.Status.{Status}
 use Rattle.io_state.specs.declared.status.Status.TheVariants.{Successful}
 use Rattle.indexed_file.specs.Shown.{Shown}
-use Rattle.request_frames.specs.Answer.{Told, Refuses, framed}
-use Rattle.request_frames.specs.Reading.{request_in}
-use Rattle.request_frames.specs.declared.refusal.Refusal.TheVariants as refusal
-use Rattle.file_session.specs.Files.{Files, files_at_start}
-use Rattle.file_session.specs.Steps.{ClosesFirst}
-use Rattle.standard_input.specs.Source.{Source, source_of, GivesBytes, HasEnded, HasFailed}
-use Rattle.standard_input.specs.declared.standard_input.StandardInput.{StandardInput}
+use Rattle.serve.specs.Answer.{Told, Refuses, framed}
+use Rattle.serve.specs.Reading.{request_in}
+use Rattle.serve.specs.declared.refusal.Refusal.TheVariants as refusal
+use Rattle.serve.specs.Files.{Files, files_at_start}
+use Rattle.serve.specs.Steps.{ClosesFirst}
+use Rattle.streams.specs.Source.{Source, source_of, GivesBytes, HasEnded, HasFailed}
+use Rattle.streams.specs.declared.standard_input.StandardInput.{StandardInput}
 use Rattle.serve.specs.Input.{IsCutFrame}
 use Rattle.serve.specs.Answers.{AnswersRequest, answer_frame}
 use Rattle.serve.specs.Reads.{AsksOnlyToRead}

@@ -4,8 +4,8 @@ ghost use Rattle.serve.specs.HeldAnswers.{RefusesHeld, SendsHeld, MakesWayForInp
 
 use crate::frame::has_frame;
 use crate::output::hand_on;
-use held_text::{HeldText, Refused};
 use std::io::Write;
+use streams::{HeldText, Refused};
 
 /// Hands all answers that are held to the writer, if there are any, and has it hand them on.
 pub fn send_held<W: Write>(held: &mut HeldText, out: &mut W) -> Result<(), Refused>

@@ -1,13 +1,12 @@
 //! The next frame of the input.
 ghost use Rattle.std.specs.Prelude.{◌≡◌, ◌⊎◌, ◌<◌, true, false, []};
-ghost use Rattle.standard_input.specs.Source.{source_of};
+ghost use Rattle.streams.specs.Source.{source_of};
 ghost use Rattle.serve.specs.Input.{ReadsSome, ReadsWhole, Came, BeginsWithFrame};
 
 use crate::frame::length_of;
-use held_text::HeldText;
-use request_frames::LENGTH_LIMIT;
-use standard_input::{ReadsAhead, StandardInput};
+use crate::request::LENGTH_LIMIT;
 use std::io::{ErrorKind, Read};
+use streams::{HeldText, ReadsAhead, StandardInput};
 
 /// So many interrupted reads in a row are a fault of the input.
 const MOST_INTERRUPTED: u32 = 1000;

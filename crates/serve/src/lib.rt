@@ -1,36 +1,59 @@
 //! Requests for verbs, read from an input and answered on an output.
 //!
+//! A frame is two bytes of length and a body. `read_request` gives the one meaning of a body, or
+//! none; `put_answer` makes the frame of an answer. All numbers are big-endian.
+//!
 //! A request is answered when its verb was performed. The answers to READ and START are held while
 //! the next request has come already; all others are written before the next one is read. At the
-//! end of the input the files that are still open are closed, in the order of opening. What is
-//! written is the frames of the answers, each what the definitions say of its request.
+//! end of the input the files that are still open are closed, in the order of opening.
 //!
-//! One library has all files of a session, through descriptions and releases. At each moment a crash
-//! leaves no false file, as in the run of a deck. Without a fault it is exact, as such a run is.
+//! A session has one library, and up to 64 described files, by number. A request that is refused
+//! changes nothing. At each moment a crash leaves no false file, as in the run of a deck. Without a
+//! fault a session is exact, as such a run is.
 //!
-//! Read `specs/Answers.antt`, `specs/Serving.antt`, then `held_answers`, and then `serving`;
-//! `specs/Ledgers.antt` and `specs/NoFalseFile.antt` for what a crash may leave, `specs/ExactFiles.antt`
-//! and `specs/ExactSession.antt` for what is exact.
+//! Read `specs/Request.antt`, `specs/Reading.antt` and `specs/Answer.antt` for the frames;
+//! `specs/Files.antt` and `session`; `specs/Serving.antt`, then `held_answers` and `serving`;
+//! `specs/NoFalseFile.antt` and `specs/ExactSession.antt` for what a crash may leave and what is exact.
 #![tactic(auto)]
 
+mod answer;
 mod answer_room;
 mod answering;
+mod closing;
+mod described_file;
+mod describing;
+mod description;
 mod end;
 mod fault;
 mod frame;
 mod held_answers;
 mod input;
+mod laws;
+mod opening_order;
 mod output;
+mod performing;
+mod place;
 mod reads;
+mod refusal;
+mod request;
 mod serving;
+mod session;
+mod statement;
 mod whole_session;
 
+pub use answer::{ANSWER_LIMIT, Answer, put_answer};
 pub use answer_room::answer_into;
 pub use answering::answer_request;
+pub use description::{Description, read_description};
 pub use end::SessionEnd;
 pub use fault::ServeFault;
 pub use input::{InputFailed, Next, read_frame};
+pub use laws::what_is_written_is_read;
+pub use refusal::Refusal;
+pub use request::{LENGTH_LIMIT, Request, read_request};
 pub use serving::{close_all, serve};
+pub use session::{FreePlaces, Session};
+pub use statement::{Performance, read_performance};
 pub use whole_session::{
     exact_in_requests, exact_session, no_false_file, no_false_file_in_requests,
 };

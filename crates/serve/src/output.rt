@@ -2,8 +2,8 @@
 ghost use Rattle.std.specs.Io.KnownBytes.{Keeps};
 ghost use Rattle.serve.specs.Output.{Sends};
 
-use held_text::{Refused, write_text};
 use std::io::Write;
+use streams::{Refused, write_text};
 
 /// Has the writer hand on what it took.
 pub fn hand_on<W: Write>(out: &mut W) -> Result<(), Refused>

@@ -1,10 +1,10 @@
 //! Requests that only read.
 ghost use Rattle.std.specs.Prelude.{◌≡◌};
-ghost use Rattle.request_frames.specs.Reading.{request_in};
+ghost use Rattle.serve.specs.Reading.{request_in};
 ghost use Rattle.serve.specs.Reads.{is_reading, asks_to_read};
 
+use crate::request::{Request, read_request};
 use io_state::FileStatement;
-use request_frames::{Request, read_request};
 
 /// READ, READ NEXT and START.
 fn is_reading(statement: &FileStatement) -> bool

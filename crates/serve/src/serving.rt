@@ -4,6 +4,7 @@ ghost use Rattle.serve.specs.Serving.{ServesInput, ClosesAndCounts, ServesAll, f
 ghost use Rattle.serve.specs.Answering.{outgoing, AnswersRead, AnswersOther, AnswersOne, Finishes};
 ghost use Rattle.serve.specs.Answering.{RefusesLength};
 
+use crate::answer::{ANSWER_LIMIT, Answer, put_answer};
 use crate::answering::answer_request;
 use crate::end::SessionEnd;
 use crate::fault::ServeFault;
@@ -11,14 +12,14 @@ use crate::held_answers::{make_way, send_held};
 use crate::input::{Next, read_frame};
 use crate::output::send_frames;
 use crate::reads::only_reads;
-use file_session::{FreePlaces, Session};
-use growing_library::GrowingLibrary;
-use held_text::{HeldText, Refused};
+use crate::refusal::Refusal;
+use crate::request::LENGTH_LIMIT;
+use crate::session::{FreePlaces, Session};
+use indexed_file::GrowingLibrary;
 use io_state::Status;
-use request_frames::{Answer, AnswerFrame, LENGTH_LIMIT, Refusal, put_answer};
-use standard_input::{ReadsAhead, StandardInput};
 use std::alloc::Global;
 use std::io::{Read, Write};
+use streams::{HeldText, ReadsAhead, Refused, StandardInput};
 
 /// Answers a request that only reads. The answer is held.
 fn answer_read<L: GrowingLibrary + Drop, W: Write>(
@@ -30,9 +31,9 @@ fn answer_read<L: GrowingLibrary + Drop, W: Write>(
     ensures { AnswersRead L.shown L.keeps_open W.contents body.now
         session.old session.new held.old held.new out.old out.new result }
 {
-    let mut answer = AnswerFrame::new();
-    answer_request(session, body, &mut answer);
-    held.add(answer.as_slice(), out)
+    let mut room = [0; ANSWER_LIMIT];
+    let size = answer_request(session, body, &mut room);
+    held.add(&room[..size], out)
 }
 
 /// Answers another request. All that is held is handed to the writer before it is performed, and
@@ -47,9 +48,9 @@ fn answer_other<L: GrowingLibrary + Drop, W: Write>(
         session.old session.new held.old held.new out.old out.new result }
 {
     send_held(held, out)?;
-    let mut frame = AnswerFrame::new();
-    answer_request(session, body, &mut frame);
-    send_frames(out, frame.as_slice())
+    let mut room = [0; ANSWER_LIMIT];
+    let size = answer_request(session, body, &mut room);
+    send_frames(out, &room[..size])
 }
 
 /// Answers a request.
@@ -76,9 +77,9 @@ fn refuse_length<W: Write>(held: &mut HeldText, out: &mut W) -> Result<(), Serve
     let Ok(()) = send_held(held, out) else {
         return Err(ServeFault::Output);
     };
-    let mut refusal = AnswerFrame::new();
-    put_answer(&mut refusal, &Answer::Refused(Refusal::TooLong));
-    match send_frames(out, refusal.as_slice()) {
+    let mut room = [0; ANSWER_LIMIT];
+    let size = put_answer(&mut room, &Answer::Refused(Refusal::TooLong));
+    match send_frames(out, &room[..size]) {
         Ok(()) => Ok(()),
         Err(_) => Err(ServeFault::Output),
     }

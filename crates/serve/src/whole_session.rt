@@ -2,7 +2,7 @@
 ghost use Rattle.serve.specs.ExactSession.{ExactInRequests, ExactSession};
 ghost use Rattle.serve.specs.NoFalseFile.{NoFalseFileInSession, NoFalseFileInRequests};
 
-use growing_library::GrowingLibrary;
+use indexed_file::GrowingLibrary;
 
 /// In every session, however it ended: from its first request to the end, each image that a crash
 /// may leave of a name at any moment is one that the ledger of the name has. So it is in the run of

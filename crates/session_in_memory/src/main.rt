@@ -14,10 +14,10 @@
 use memory_shelf::MemShelf;
 use serve::serve;
 use shelf_library::ShelfLibrary;
-use standard_input::StandardInput;
 use std::io::{BufReader, Stdin, Stdout};
 use std::num::NonZeroUsize;
 use std::process::ExitCode;
+use streams::StandardInput;
 
 /// The most pages that a file has.
 const PAGE_LIMIT: u32 = 1024;

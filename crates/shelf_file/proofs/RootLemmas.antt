@@ -4,7 +4,7 @@ use Rattle.std.specs.Prelude.{slice_index_or}
 use Rattle.std.specs.List.{IsDistinct, AllByRecursion}
 use Rattle.std.proofs.lemmas.Map.Steps.{length-le_from_distinct_below}
 use Rattle.std.proofs.lemmas.Bool.{cases_Bool, or_parts, eqb-true}
-use Rattle.page_bytes.specs.Each.{Each}
+use Rattle.pages.specs.Each.{Each}
 use Rattle.pages.specs.PageMap.{PageMap}
 use Rattle.pages.specs.Owners.{IsOutside}
 use Rattle.bplus_tree.specs.declared.tree.Tree.{Tree}
@@ -19,7 +19,7 @@ use Rattle.key_index.proofs.LawLemmas.{prime_live, alt_live}
 use Rattle.record_heap.specs.declared.heap.Heap.{Heap}
 use Rattle.record_heap.specs.Chain.{Slots}
 use Rattle.open_file.specs.Parts.{Parts, prime_pages, alternate_pages}
-use Rattle.page_marks.specs.Parted.{own_at}
+use Rattle.pages.specs.Parted.{own_at}
 use Rattle.open_file.proofs.PartsLemmas.{found_at}
 use Rattle.page_alloc.specs.Chain.{is_among}
 

@@ -9,8 +9,8 @@ ghost use Rattle.shelf_file.specs.Opening.{LooksAtUnit};
 
 use file_header::Header;
 use io_state::Fault;
-use page_bytes::PAGE_SIZE;
 use page_store::{PAGE, Shelf};
+use pages::PAGE_SIZE;
 
 /// What a look at a file finds: no file; one whose first page is refused, or that is shorter than
 /// it counts; or one that can be opened.

@@ -3,8 +3,8 @@ use Rattle.std.proofs.Common.{◌≡◌, ℕ, zero, suc, ◌<◌, ◌+◌, true,
 use Rattle.std.specs.List.{list_any}
 use Rattle.std.proofs.lemmas.Cmp.{nat_list_eq_equiv}
 use Rattle.std.proofs.lemmas.Map.Keys.{IsDistinct-push}
-use Rattle.growing_shelf.specs.AddedUnit.{with_added}
-use Rattle.growing_library.specs.Growing.{IsNewName, AddsUnit, LetsFileGo, with_added_unit}
+use Rattle.page_store.specs.AddedUnit.{with_added}
+use Rattle.indexed_file.specs.Growing.{IsNewName, AddsUnit, LetsFileGo, with_added_unit}
 use Rattle.indexed_file.specs.Others.{SameUnit}
 use Rattle.indexed_file.specs.World.{named_in}
 use Rattle.shelf_library.specs.Adding.{AddsName}

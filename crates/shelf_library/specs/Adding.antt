@@ -1,7 +1,7 @@
 -- What adding a unit leaves of a library.
 use Rattle.std.specs.Prelude.{◌≡◌, ℕ, List, [], ◌∷◌, ◌++◌}
-use Rattle.growing_shelf.specs.AddedUnit.{with_added}
-use Rattle.growing_library.specs.Growing.{IsNewName}
+use Rattle.page_store.specs.AddedUnit.{with_added}
+use Rattle.indexed_file.specs.Growing.{IsNewName}
 use Rattle.shelf_library.specs.State.{LibraryState}
 use Rattle.shelf_library.specs.OneUnit.{AreUnits}
 use Rattle.shelf_library.specs.Units.{world_of}

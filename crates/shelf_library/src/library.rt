@@ -14,12 +14,10 @@ ghost use Rattle.shelf_library.specs.Units.{room_of_held};
 ghost use Rattle.shelf_library.specs.Told.{held_after, seen_after, held_open, answer_open};
 
 use crate::held::Held;
-use growing_library::GrowingLibrary;
-use growing_shelf::GrowingShelf;
-use indexed_file::{Added, Found, Library, Replaced, Seen};
+use indexed_file::{Added, Found, GrowingLibrary, Library, Replaced, Seen};
 use io_state::{Fault, FileName, Key, Position, Relation};
 use open_file::OpenFile;
-use page_store::Shelf;
+use page_store::{GrowingShelf, Shelf};
 use record_layout::Schema;
 use shelf_file::{Look, ShelfFile, look_at};
 use std::alloc::Global;

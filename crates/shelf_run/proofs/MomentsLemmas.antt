@@ -1,6 +1,6 @@
 -- What a crash may leave of the deck's files at each moment of a run.
 use Rattle.std.proofs.Common.{ℕ, List, [], ◌∷◌, inl, inr, sym, subst}
-use Rattle.procedure_division.specs.declared.statement.Statement.{Statement}
+use Rattle.deck_reader.specs.declared.statement.Statement.{Statement}
 use Rattle.deck_runner.specs.Line.{Line}
 use Rattle.deck_runner.specs.NoFalseFile.{Judged, IsSafeStretch, IsSafeRun, IsSafeBrokenOff}
 use Rattle.deck_runner.specs.Steps.{AreStepsOf, until_stop, closes_from, AreStepsInPart}

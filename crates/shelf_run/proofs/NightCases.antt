@@ -10,7 +10,7 @@ use Rattle.record_layout.specs.declared.schema.KeyKind.TheVariants.{Prime}
 use Rattle.record_layout.specs.Layout.{Placed}
 use Rattle.record_layout.specs.declared.area.Source.TheVariants.{Text, Digits}
 use Rattle.file_control.specs.Description.{FileDesc}
-use Rattle.procedure_division.specs.declared.statement.Statement.{Statement}
+use Rattle.deck_reader.specs.declared.statement.Statement.{Statement}
 use Rattle.verbs.specs.Connector.{Session}
 use Rattle.deck_reader.specs.declared.deck.Deck.{Deck}
 use Rattle.deck_runner.proofs.Customers.{cust_id, cust_name}

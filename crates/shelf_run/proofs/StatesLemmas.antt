@@ -4,8 +4,8 @@ use Rattle.indexed_file.specs.Images.{Trace, Stays, LibraryMayLeave, LeavesOnly,
 use Rattle.indexed_file.specs.Calls.{Keeps}
 use Rattle.indexed_file.specs.World.{Named}
 use Rattle.io_state.specs.declared.statement.FileStatement.{FileStatement}
-use Rattle.procedure_division.specs.declared.statement.Statement.{Statement}
-use Rattle.procedure_division.specs.declared.statement.Statement.TheVariants.{Perform, Move, MoveLength, StopRun}
+use Rattle.deck_reader.specs.declared.statement.Statement.{Statement}
+use Rattle.deck_reader.specs.declared.statement.Statement.TheVariants.{Perform, Move, MoveLength, StopRun}
 use Rattle.deck_reader.specs.declared.deck.Deck.{Deck}
 use Rattle.deck_runner.specs.ExactRun.{run_before}
 use Rattle.deck_runner.specs.Line.{Line}

@@ -2,12 +2,12 @@
 use Rattle.std.proofs.Common.{◌≡◌, ℕ, List, [], ◌∷◌, Option, Some, None, bytes_eq, sym, ap, ◌∙◌, if◌then◌else◌}
 use Rattle.io_state.specs.declared.status.Status.{Status}
 use Rattle.indexed_file.specs.World.{Named}
-use Rattle.request_frames.specs.Answer.{Told, Refuses, Does, Tells}
-use Rattle.request_frames.specs.Reading.{request_in}
-use Rattle.request_frames.specs.Request.{Described, Performed, Asked, Describing, Performing, Releasing}
-use Rattle.request_frames.specs.declared.refusal.Refusal.{Refusal}
-use Rattle.request_frames.specs.declared.refusal.Refusal.TheVariants as refusal
-use Rattle.file_session.specs.Steps.{close_request}
+use Rattle.serve.specs.Answer.{Told, Refuses, Does, Tells}
+use Rattle.serve.specs.Reading.{request_in}
+use Rattle.serve.specs.Request.{Described, Performed, Asked, Describing, Performing, Releasing}
+use Rattle.serve.specs.declared.refusal.Refusal.{Refusal}
+use Rattle.serve.specs.declared.refusal.Refusal.TheVariants as refusal
+use Rattle.serve.specs.Steps.{close_request}
 use Rattle.serve.specs.ExactFiles.{ExactFile, ExactFiles, with_exact, IsFree, HasNamed, exact_described, DescribesExactly, RefusesExactly, exact_outcome, PerformsExactly, AnswersExactly, ServesExactly, ClosesExactly}
 use Rattle.serve.specs.ExactSession.{IsSoOfDescribed, IsSoOfAllDescribed}
 use Rattle.serve.specs.Serving.{Exchange}

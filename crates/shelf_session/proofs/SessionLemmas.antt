@@ -13,7 +13,7 @@ use Rattle.shelf_library.specs.WorldLaws.{named_anywhere}
 use Rattle.shelf_library.specs.declared.held.Held.{Held}
 use Rattle.shelf_run.specs.Files.{reads_of, Represents}
 use Rattle.shelf_run.proofs.FilesLemmas.{named_is, sound_of, sound_if_closed, shown_truly, represents_sound}
-use Rattle.file_session.specs.Files.{Files, files_at_start}
+use Rattle.serve.specs.Files.{Files, files_at_start}
 use Rattle.serve.specs.ExactFiles.{exact_at_start}
 use Rattle.serve.specs.ExactSession.{files_in_session, IsSoOfAllDescribed, ExactAfter, ExactSession}
 use Rattle.serve.specs.Serving.{Exchange, ClosesAllFiles}

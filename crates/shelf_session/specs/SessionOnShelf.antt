@@ -6,7 +6,7 @@ use Rattle.indexed_file.specs.Shown.{Shown}
 use Rattle.indexed_file.specs.World.{Named}
 use Rattle.page_store.specs.ShelfState.{ShelfState}
 use Rattle.shelf_run.specs.Files.{FileReads, reads_of, Represents}
-use Rattle.file_session.specs.Files.{Files}
+use Rattle.serve.specs.Files.{Files}
 use Rattle.serve.specs.ExactFiles.{ExactFiles, exact_at_start, ServesExactly, EndsExactly}
 use Rattle.serve.specs.ExactSession.{IsSoOfAllDescribed, AreCleanAnswers, AreCleanCloses, ExactAfter}
 use Rattle.serve.specs.Serving.{Exchange, ClosesAllFiles, Streams, Served}

@@ -1,9 +1,8 @@
 //! Sessions over a library over a shelf.
 ghost use Rattle.shelf_session.specs.SessionOnShelf.{ExactOnShelf};
 
-use growing_library::GrowingLibrary;
-use growing_shelf::GrowingShelf;
-use indexed_file::Library;
+use indexed_file::{GrowingLibrary, Library};
+use page_store::GrowingShelf;
 use serve::exact_session;
 use shelf_library::ShelfLibrary;
 

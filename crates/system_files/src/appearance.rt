@@ -2,7 +2,7 @@
 
 use crate::calls::{again, read};
 use crate::cause::Cause;
-use page_bytes::PAGE_SIZE;
+use pages::PAGE_SIZE;
 use std::fs::{Metadata, OpenFile};
 use std::os::unix::fs::{FileExt, MetadataExt};
 

@@ -5,7 +5,7 @@ use crate::checks::{assert_equal, assert_equal_for, assert_that};
 use crate::slow::Slow;
 use crate::written::{one_record, put, put_all, three_keys, varying};
 use file_checker::{CheckFault, Finding, Reason, Verdict, check_file, examine_file};
-use page_marks::FaultPlace;
+use pages::FaultPlace;
 use std::alloc::Global;
 use std::fmt::Debug;
 use std::process::Abort;

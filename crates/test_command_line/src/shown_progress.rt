@@ -2,13 +2,13 @@
 
 use crate::checks::assert_equal_for;
 use crate::writers::{DECK, RUN, TRANSCRIPT, run_with};
-use progress::Progress;
 use std::fs;
 use std::os::fd::AsRawFd;
 use std::os::unix::fs::FileExt;
 use std::process::Abort;
 use std::rt::{Clock, Files};
 use std::test::Fail;
+use streams::Progress;
 use system_files::LockFile;
 
 /// How far a command was at last, of how much, and how often it was told to wipe that and to be silent.
@@ -108,6 +108,8 @@ fn long_commands_tell_how_far_they_are(rt: HostRuntime) -> Result<(), Fail> {
     tells(&rt, &LOAD, "loaded 2\n", done(14, 0))?;
     let length = fs::metadata(&rt, "told/cust.dat")?.len();
     tells(&rt, &["check", "told/cust.dat"], CHECKED, done(length, 0))?;
+    // Where nothing is checked first, its lines show how far a list is.
+    tells(&rt, &["list", "told/cust.dat"], LINES, NOTHING)?;
     let list = ["list", "--checked", "told/cust.dat"];
     tells(&rt, &list, LINES, done(length, 0))
 }

@@ -1,13 +1,10 @@
 //! The program, run over writers that refuse a byte.
 
 use crate::checks::{assert_equal, assert_equal_for, assert_that};
-use command_line::program;
+use command_line::{RejectedLines, program};
 use command_outcomes::Fault;
 use folder_shelf::EmptyDisk;
-use progress::{Progress, Silent};
 use recorded_system::{CallRecord, RecordedSystem};
-use standard_input::StandardInput;
-use standard_output::StandardOutput;
 use std::fs;
 use std::io::{self, BufReader, Empty, ErrorKind, Write};
 use std::os::fd::AsRawFd;
@@ -15,6 +12,7 @@ use std::os::unix::fs::FileExt;
 use std::process::Abort;
 use std::rt::{Clock, Files};
 use std::test::Fail;
+use streams::{Progress, Silent, StandardInput, StandardOutput};
 use system_files::LockFile;
 
 pub const DECK: &str = "ENVIRONMENT DIVISION.
@@ -121,15 +119,17 @@ where
         at_once: usize::MAX,
         room: err,
     };
+    let mut rejects = RejectedLines::new(io::sink());
     let nothing = BufReader::new(alloc, io::empty())?;
     let system = RecordedSystem::new(rt, alloc);
     let mut aside = CallRecord::unasked(rt);
-    let (status, _system) = program::<_, EmptyDisk, BufReader<Empty>, P, Narrow, Narrow>(
+    let (status, _system) = program::<_, EmptyDisk, BufReader<Empty>, _, P, Narrow, Narrow>(
         system,
         &mut aside,
         alloc,
         given.as_slice(),
         &mut StandardInput::new(nothing),
+        &mut rejects,
         progress,
         &mut out,
         &mut err,

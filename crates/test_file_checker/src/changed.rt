@@ -4,7 +4,7 @@ use crate::checks::{assert_equal, assert_equal_for, assert_that};
 use crate::files::made;
 use crate::readers::records_of;
 use arrayvec::ArrayVec;
-use page_bytes::PAGE_SIZE;
+use pages::PAGE_SIZE;
 use std::alloc::Global;
 use std::process::Abort;
 

@@ -3,7 +3,7 @@
 use crate::checks::assert_equal_for;
 use crate::files::made;
 use file_checker::{Finding, check_bytes, examine_bytes, examine_file};
-use page_bytes::PAGE_SIZE;
+use pages::PAGE_SIZE;
 use std::alloc::Global;
 use std::process::Abort;
 

@@ -4,8 +4,7 @@ use crate::checks::{assert_equal, assert_equal_for};
 use crate::files::made;
 use byteorder::{BigEndian, ByteOrder};
 use file_checker::{CheckFault, Finding, Reason, Verdict, check_file, examine_file};
-use page_bytes::PAGE_SIZE;
-use page_marks::FaultPlace;
+use pages::{FaultPlace, PAGE_SIZE};
 use std::alloc::Global;
 use std::process::Abort;
 

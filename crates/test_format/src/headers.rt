@@ -2,7 +2,7 @@
 
 use crate::checks::{assert_equal, assert_equal_for};
 use file_header::{Header, TreeNumbers};
-use page_bytes::PAGE_SIZE;
+use pages::PAGE_SIZE;
 use record_layout::{KeyKind, KeyPart, Schema};
 use std::process::Abort;
 

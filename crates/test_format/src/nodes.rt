@@ -1,7 +1,7 @@
 //! The numbers and bytes of a node that a person reads off the format.
 
 use crate::checks::{assert_equal, assert_equal_for, assert_that};
-use page_bytes::PAGE_SIZE;
+use pages::PAGE_SIZE;
 use std::process::Abort;
 use tree_node::{InnerView, LeafView, Shape, is_inner, is_leaf, is_node};
 

@@ -3,7 +3,6 @@
 use crate::checks::{assert_equal, assert_that};
 use crate::loading::loads_with;
 use memory_shelf::MemShelf;
-use progress::{Progress, ProgressReader, Silent, TerminalLine};
 use record_loading::Load;
 use std::alloc::Global;
 use std::cell::Cell;
@@ -11,6 +10,7 @@ use std::io::{self, Read};
 use std::process::Abort;
 use std::rt::Clock;
 use std::time::Duration;
+use streams::{Progress, ProgressReader, Silent, TerminalLine};
 
 /// What is told of progress.
 #[derive(Clone, Copy, PartialEq)]

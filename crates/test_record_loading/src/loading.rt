@@ -1,19 +1,22 @@
 //! Texts that are loaded into a file on a shelf, and its records listed.
+ghost use Rattle.std.specs.Prelude.{⊤};
 
 use crate::checks::assert_that;
 use io_state::{FileName, Key};
 use memory_shelf::MemShelf;
 use page_store::Shelf;
-use progress::{Progress, Silent};
 use record_forms::Form;
 use record_layout::{KeyKind, KeyPart, Schema};
 use record_listing::{Asked, ListEnd, list_records};
-use record_loading::Load;
+use record_loading::{
+    Load, LoadOptions, RejectLog, RejectedLine, ShelfEnd, add_answer, add_rejected_line,
+    load_lines_on_shelf,
+};
 use shelf_library::ShelfLibrary;
-use shelf_loading::{ShelfEnd, add_answer, load_on_shelf};
 use std::alloc::Global;
 use std::num::NonZeroUsize;
 use std::process::Abort;
+use streams::{Progress, Silent};
 use unit_calls::{schema, two_names};
 
 /// The name of the file.
@@ -52,6 +55,26 @@ fn reported(rt: &impl Abort, alloc: Global, end: ShelfEnd) -> String {
     }
 }
 
+/// The lines that tell of rejected ones, as far as there is memory for them.
+#[derive(Drop)]
+struct RejectedLines {
+    lines: Vec<u8>,
+}
+
+impl RejectLog for RejectedLines {
+    ghost tells = { λ _ _ _. ⊤ };
+
+    fn tell(&mut self, rejected: RejectedLine) {
+        let _told = add_rejected_line(&mut self.lines, rejected);
+    }
+}
+
+/// A load that skips no line, and ends at the first that it cannot take.
+pub const USUAL: LoadOptions = LoadOptions {
+    skip: 0,
+    keep_going: false,
+};
+
 /// What is told of a load over a shelf, whose units are forgotten.
 pub fn loads(
     rt: &impl Abort,
@@ -63,6 +86,18 @@ pub fn loads(
     loads_with(rt, alloc, shelf, load, text, &mut Silent)
 }
 
+/// The same of a load with these options: the lines of what it rejects come first.
+pub fn loads_by(
+    rt: &impl Abort,
+    alloc: Global,
+    shelf: MemShelf,
+    load: Load,
+    options: LoadOptions,
+    text: &str,
+) -> (MemShelf, String) {
+    loads_so(rt, alloc, shelf, load, options, text, &mut Silent)
+}
+
 /// The same, and how far the load is, is told.
 pub fn loads_with<P: Progress>(
     rt: &impl Abort,
@@ -72,22 +107,42 @@ pub fn loads_with<P: Progress>(
     text: &str,
     progress: &mut P,
 ) -> (MemShelf, String) {
+    loads_so(rt, alloc, shelf, load, USUAL, text, progress)
+}
+
+/// The same of a load with these options.
+fn loads_so<P: Progress>(
+    rt: &impl Abort,
+    alloc: Global,
+    shelf: MemShelf,
+    load: Load,
+    options: LoadOptions,
+    text: &str,
+    progress: &mut P,
+) -> (MemShelf, String) {
+    let mut rejects = RejectedLines {
+        lines: Vec::with_capacity(alloc, 1000).expect(rt, "memory"),
+    };
     let mut shelf = shelf;
     shelf.attach(&[]).expect(rt, "memory");
     let schema = codes(rt);
-    let (shelf, end) = load_on_shelf(
+    let (shelf, end) = load_lines_on_shelf(
         alloc,
         shelf,
         name(),
         &schema,
         load,
         &Form::Text,
+        options,
         text.as_bytes(),
         100,
         NonZeroUsize::MIN,
+        &mut rejects,
         progress,
     );
-    let told = reported(rt, alloc, end.expect(rt, "memory"));
+    let mut told = String::from_utf8(rejects.lines).expect(rt, "a text");
+    let end = reported(rt, alloc, end.expect(rt, "memory"));
+    told.push_str(&end).expect(rt, "memory");
     (shelf, told)
 }
 

@@ -1,9 +1,9 @@
 //! Loads, and what they leave.
 
 use crate::checks::{assert_equal, assert_equal_for};
-use crate::loading::{lists, loads};
+use crate::loading::{USUAL, lists, loads, loads_by};
 use memory_shelf::MemShelf;
-use record_loading::Load;
+use record_loading::{Load, LoadOptions};
 use std::alloc::Global;
 use std::process::Abort;
 use unit_calls::{bytes_of, puts};
@@ -128,4 +128,70 @@ fn lines_are_loaded_into_a_file(rt: HostRuntime) {
     is_listed(&rt, alloc, shelf, "[0001AA]\n[0002BB]\n[0003CC]\n");
     let shelf = shelf_of(&rt, alloc, b"no book");
     answers(&rt, alloc, shelf, Load::Into, TWO, "open: status 91\n");
+}
+
+/// A text that is loaded into a new file with these options is answered so, and the file is listed so.
+fn gives_by(
+    rt: &impl Abort,
+    alloc: Global,
+    options: LoadOptions,
+    text: &str,
+    answer: &str,
+    list: &str,
+) {
+    let (shelf, told) = loads_by(rt, alloc, MemShelf::new(alloc), Load::New, options, text);
+    assert_equal_for(rt, text, told.as_str(), answer);
+    is_listed(rt, alloc, shelf, list);
+}
+
+const KEEP_GOING: LoadOptions = LoadOptions {
+    skip: 0,
+    keep_going: true,
+};
+
+// Lines 2 and 5 have a key of a record before them, and lines 3 and 7 are no records.
+const MIXED: &str = "[0002BB]\n[0003BB]\n0004DD\n[0001AA]\n[0002CC]\n[0005EE]\n[0006F";
+
+#[test]
+fn a_load_goes_on_behind_lines_that_are_rejected(rt: HostRuntime) {
+    let answer = "line 2: status 22\nline 3: no record of this file\nline 5: status 22\n\
+line 7: no record of this file\nloaded 3, rejected 4\n";
+    let list = "[0001AA]\n[0002BB]\n[0005EE]\n";
+    gives_by(&rt, rt.alloc(), KEEP_GOING, MIXED, answer, list);
+    gives_by(&rt, rt.alloc(), KEEP_GOING, TWO, "loaded 2\n", TWO_IN_ORDER);
+    gives_by(
+        &rt,
+        rt.alloc(),
+        KEEP_GOING,
+        "\n\n",
+        "line 1: no record of this file\n\
+line 2: no record of this file\nloaded 0, rejected 2\n",
+        "",
+    );
+}
+
+#[test]
+fn lines_are_skipped_unread(rt: HostRuntime) {
+    let alloc = rt.alloc();
+    let text = "no line\n[0003]\n[0002BB]\n[0001AA]\n[0002CC]\n";
+    let options = LoadOptions { skip: 2, ..USUAL };
+    gives_by(
+        &rt,
+        alloc,
+        options,
+        text,
+        "line 5: status 22\n",
+        BEFORE_IN_ORDER,
+    );
+    let options = LoadOptions {
+        skip: 2,
+        ..KEEP_GOING
+    };
+    let answer = "line 5: status 22\nloaded 2, rejected 1\n";
+    gives_by(&rt, alloc, options, text, answer, BEFORE_IN_ORDER);
+    let options = LoadOptions {
+        skip: u64::MAX,
+        ..USUAL
+    };
+    gives_by(&rt, alloc, options, text, "loaded 0\n", "");
 }

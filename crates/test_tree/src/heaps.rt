@@ -4,7 +4,7 @@
 use crate::checks::{assert_equal, assert_equal_for};
 use crate::memory_pages::{MemoryPages, new_pages, page_of, put_byte};
 use io_state::Fault;
-use page_marks::{FaultPlace, PageFault, WalkFault};
+use pages::{FaultPlace, PageFault, WalkFault};
 use record_heap::{Heap, Place, Shape, heap_laws, walk_heap};
 use std::alloc::Global;
 use std::process::Abort;

@@ -8,6 +8,10 @@
 #![tactic(auto)]
 
 #[cfg(test)]
+mod built_heaps;
+#[cfg(test)]
+mod built_indexes;
+#[cfg(test)]
 mod built_trees;
 #[cfg(test)]
 mod checks;

@@ -1,7 +1,7 @@
 //! What no clause says: which faults are told, and that each call can succeed.
 
 use crate::checks::{assert_equal, assert_equal_for, assert_that};
-use page_marks::{FaultPlace, PageFault, WalkFault, all_marked, mark, marks_part_the_pages};
+use pages::{FaultPlace, PageFault, WalkFault, all_marked, mark, marks_part_the_pages};
 
 #[test]
 fn a_page_has_one_mark(rt: HostRuntime) {

@@ -4,8 +4,8 @@
 use crate::checks::{assert_equal, assert_equal_for, assert_that};
 use crate::memory_pages::{new_pages, put_byte};
 use bplus_tree::Tree;
-use page_marks::{FaultPlace, PageFault, WalkFault, all_marked, mark};
 use page_walks::{Leaf, Spot, trees_stay, walk_free, walk_tree, walks_part_the_file};
+use pages::{FaultPlace, PageFault, WalkFault, all_marked, mark};
 use std::alloc::Global;
 use std::process::Abort;
 use tree_node::Shape;

@@ -5,9 +5,9 @@ use Rattle.std.proofs.lemmas.List.{map-append, length-append}
 use Rattle.tree_node.specs.declared.shape.Shape.{Shape}
 use Rattle.tree_node.specs.Leaf.{IsLeaf, leaf_entries, leaf_room}
 use Rattle.tree_node.proofs.OrderLemmas.{Each-weaker}
-use Rattle.node_balance.specs.declared.separator.Separator.{Separator}
-use Rattle.node_balance.specs.Fill.{least_entries}
-use Rattle.page_bytes.specs.Each.{Each}
+use Rattle.tree_node.specs.declared.separator.Separator.{Separator}
+use Rattle.tree_node.specs.Fill.{least_entries}
+use Rattle.pages.specs.Each.{Each}
 use Rattle.pages.specs.PageMap.{PageMap, Takes}
 use Rattle.pages.specs.Owners.{AreApart, ChangesPages}
 use Rattle.tree_search.specs.Tree.{TreeOf, page_of, entries_of, pages_of}
@@ -15,7 +15,6 @@ use Rattle.tree_search.specs.Stored.{Holds}
 use Rattle.tree_search.specs.Calls.{IsWhole}
 use Rattle.tree_node.specs.Order.{Ascends}
 use Rattle.bplus_tree.specs.declared.tree.Tree.{Tree}
-use Rattle.bplus_tree.specs.Standing.{TreeStands, Changed}
 use Rattle.bplus_tree.proofs.RemoveLemmas.{changes_trans}
 use Rattle.tree_building.specs.declared.rising.Base.{Base}
 use Rattle.tree_building.specs.Rising.{HasRootOver}
@@ -30,14 +29,17 @@ use Rattle.tree_building.specs.declared.builder.TreeBuilder.{TreeBuilder}
 use Rattle.tree_building.specs.Level.{lead_of, IsBelow}
 use Rattle.tree_building.specs.Leaves.{HasNextLeaf}
 use Rattle.tree_building.specs.Pending.{TakesEntryBehind}
-use Rattle.tree_building.specs.Building.{AreInLeaves, HasWritten, IsBuilding, BuildsOn, WritesMore, StandsOver, FinishesTree}
+use Rattle.tree_building.specs.Building.{AreInLeaves, AreInFullLeaves, HasWritten, IsBuilding, BuildsOn, WritesMore, StandsOver, StandsFilled, HasBuilt, FinishesTree}
+use Rattle.tree_building.specs.Filled.{AllBut, AreFilled, entry_counts}
 use Rattle.tree_building.proofs.PageLemmas.{taken_keeps, changes_more, changes_same, keeps_on}
-use Rattle.tree_building.proofs.RisingLemmas.{append_none, kids_live}
+use Rattle.tree_building.proofs.CountLemmas.{append_none}
+use Rattle.tree_building.proofs.RisingLemmas.{kids_live, leaf_pages, level_length}
 
 -- one leaf more is written
 pub written_more : (shape : Shape) (before after : PageMap) (nodes now : List Separator) (entries : List (List ℕ)) (own leaf : List ℕ)
-    → AreInLeaves shape before nodes entries own → IsLeaf shape leaf → least_entries shape 0 ≤ length (leaf_entries shape leaf)
-    → HasNextLeaf shape leaf before after nodes now → HasWritten shape before after now (entries ++ leaf_entries shape leaf) own
+    → (w : AreInLeaves shape before nodes entries own) → IsLeaf shape leaf → least_entries shape 0 ≤ length (leaf_entries shape leaf)
+    → HasNextLeaf shape leaf before after nodes now
+    → HasWritten shape before after now (entries ++ leaf_entries shape leaf) own (entry_counts w.leaves ++ length (leaf_entries shape leaf) ∷ [])
 written_more shape before after nodes now entries own leaf w is large added =
     let t : TreeOf 0 = (added.page, leaf_entries shape leaf) in
     let kept = taken_keeps added.takes in
@@ -63,37 +65,58 @@ written_more shape before after nodes now entries own leaf w is large added =
         apart = changes.apart;
         has = flat_map-append (entries_of 0) w.leaves (t ∷ []) ∙ ap (λ l. l ++ (leaf_entries shape leaf ++ [])) w.has ∙ ap (λ l. entries ++ l) (append_none (leaf_entries shape leaf));
       };
+      counts_are = map-append (λ (s : TreeOf 0). length s.1) w.leaves (t ∷ []);
       changes = changes;
     }
 
+-- each leaf has its page
+pub leaves_many : (shape : Shape) (pages : PageMap) (nodes : List Separator) (entries : List (List ℕ)) (own : List ℕ) → AreInLeaves shape pages nodes entries own → length own ≡ length nodes
+leaves_many shape pages nodes entries own w = sym (ap length w.own_are) ∙ leaf_pages w.leaves ∙ level_length shape pages 0 nodes w.leaves w.level
+
+-- a full leaf more is written
+full_more : (shape : Shape) (before after : PageMap) (nodes now : List Separator) (entries : List (List ℕ)) (own leaf : List ℕ) → (f : AreInFullLeaves shape before nodes entries own)
+    → IsLeaf shape leaf → leaf_room shape ≡ length (leaf_entries shape leaf) → HasNextLeaf shape leaf before after nodes now
+    → (own_now : List ℕ) × AreInFullLeaves shape after now (entries ++ leaf_entries shape leaf) own_now × ChangesPages before after own own_now
+full_more shape before after nodes now entries own leaf f is full added =
+    let w = written_more shape before after nodes now entries own leaf f.in_leaves is (omega arith) added in (
+      w.own_now,
+      record {
+        in_leaves = w.written;
+        full = subst (Each (λ n. n ≡ leaf_room shape)) (sym w.counts_are)
+            (Each-append (λ n. n ≡ leaf_room shape) (entry_counts f.in_leaves.leaves) (length (leaf_entries shape leaf) ∷ []) f.full (sym full, tt));
+        many = leaves_many shape after now (entries ++ leaf_entries shape leaf) w.own_now w.written;
+      },
+      w.changes,
+    )
+
 -- the first of two full leaves is written
 pub room_made : (before after : PageMap) (old new : TreeBuilder) (now : List Separator) (entries : List (List ℕ)) (own : List ℕ) → IsBuilding old before entries own
-    → HasNextLeaf old.shape old.lower before after old.leaves.items now → IsLeaf old.shape old.lower → leaf_room old.shape ≤ length (leaf_entries old.shape old.lower)
+    → HasNextLeaf old.shape old.lower before after old.leaves.items now → IsLeaf old.shape old.lower → leaf_room old.shape ≡ length (leaf_entries old.shape old.lower)
     → new.shape ≡ old.shape → new.leaves.items ≡ now → new.lower ≡ old.upper → leaf_entries old.shape new.upper ≡ [] → new.count ≡ old.count
     → BuildsOn before after new own entries
 room_made before after old new now entries own b added is full shape_is leaves_are lower_is none count_is =
     let shape = old.shape in
     let lower = leaf_entries shape old.lower in
     let upper = leaf_entries shape old.upper in
-    let w = written_more shape before after old.leaves.items now b.front own old.lower b.written is (omega arith) added in
+    let w = full_more shape before after old.leaves.items now b.front own old.lower b.written is full added in
     let first : leaf_entries new.shape new.lower ≡ upper = ap (λ (s : Shape). leaf_entries s new.lower) shape_is ∙ ap (leaf_entries shape) lower_is in
     let second : leaf_entries new.shape new.upper ≡ [] = ap (λ (s : Shape). leaf_entries s new.upper) shape_is ∙ none in
     record {
-      own_now = w.own_now;
+      own_now = w.0;
       building = record {
         front = b.front ++ lower;
-        written = subst (λ (s : Shape). AreInLeaves s after new.leaves.items (b.front ++ lower) w.own_now) (sym shape_is)
-            (subst (λ (l : List Separator). AreInLeaves shape after l (b.front ++ lower) w.own_now) (sym leaves_are) w.written);
+        written = subst (λ (s : Shape). AreInFullLeaves s after new.leaves.items (b.front ++ lower) w.0) (sym shape_is)
+            (subst (λ (l : List Separator). AreInFullLeaves shape after l (b.front ++ lower) w.0) (sym leaves_are) w.1);
         has = ap (λ l. (b.front ++ lower) ++ (l ++ leaf_entries new.shape new.upper)) first ∙ ap (λ l. (b.front ++ lower) ++ (upper ++ l)) second
             ∙ ap (λ l. (b.front ++ lower) ++ l) (append_none upper) ∙ append_assoc b.front lower upper ∙ b.has;
         count = count_is ∙ b.count;
       };
-      changes = w.changes;
+      changes = w.2;
     }
 
 -- nothing is written
 pub room_kept : (pages : PageMap) (builder : TreeBuilder) (entries : List (List ℕ)) (own : List ℕ) → IsBuilding builder pages entries own → BuildsOn pages pages builder own entries
-room_kept pages builder entries own b = record { own_now = own; building = b; changes = changes_same pages own b.written.apart }
+room_kept pages builder entries own b = record { own_now = own; building = b; changes = changes_same pages own b.written.in_leaves.apart }
 
 -- one entry more stands in the leaves that are not written
 pub entry_pushed : (before after : PageMap) (mid new : TreeBuilder) (entry own : List ℕ) (entries : List (List ℕ)) → BuildsOn before after mid own entries
@@ -108,8 +131,8 @@ entry_pushed before after mid new entry own entries goes takes shape_is leaves_a
       own_now = goes.own_now;
       building = record {
         front = b.front;
-        written = subst (λ (s : Shape). AreInLeaves s after new.leaves.items b.front goes.own_now) (sym shape_is)
-            (subst (λ (l : List Separator). AreInLeaves mid.shape after l b.front goes.own_now) (sym leaves_are) b.written);
+        written = subst (λ (s : Shape). AreInFullLeaves s after new.leaves.items b.front goes.own_now) (sym shape_is)
+            (subst (λ (l : List Separator). AreInFullLeaves mid.shape after l b.front goes.own_now) (sym leaves_are) b.written);
         has = ap (λ l. b.front ++ l) (ap (λ (s : Shape). leaf_entries s new.lower ++ leaf_entries s new.upper) shape_is ∙ takes.has ∙ sym (append_assoc lower upper (entry ∷ [])))
             ∙ sym (append_assoc b.front (lower ++ upper) (entry ∷ [])) ∙ ap (λ l. l ++ entry ∷ []) b.has;
         count = omega (arith, length-append entries (entry ∷ []));
@@ -117,44 +140,59 @@ entry_pushed before after mid new entry own entries goes takes shape_is leaves_a
       changes = goes.changes;
     }
 
-pub none_written : (shape : Shape) (pages : PageMap) → AreInLeaves shape pages [] [] []
-none_written shape pages = record { leaves = []; level = record { holds = tt; below = tt; keys = refl; leads = refl }; own_are = refl; apart = tt; has = refl }
+pub none_written : (shape : Shape) (pages : PageMap) → AreInFullLeaves shape pages [] [] []
+none_written shape pages = record {
+  in_leaves = record { leaves = []; level = record { holds = tt; below = tt; keys = refl; leads = refl }; own_are = refl; apart = tt; has = refl };
+  full = tt;
+  many = refl;
+}
 
 -- two leaves are written, one behind the other
-pub two_written : (shape : Shape) (before mid after : PageMap) (first second : List Separator) (entries lower upper all : List (List ℕ)) (own : List ℕ)
-    → (one : HasWritten shape before mid first (entries ++ lower) own) → HasWritten shape mid after second ((entries ++ lower) ++ upper) one.own_now → lower ++ upper ≡ all
-    → HasWritten shape before after second (entries ++ all) own
-two_written shape before mid after first second entries lower upper all own one two same = record {
-  own_now = two.own_now;
-  written = subst (λ (l : List (List ℕ)). AreInLeaves shape after second l two.own_now) (append_assoc entries lower upper ∙ ap (λ l. entries ++ l) same) two.written;
-  changes = changes_trans before mid after own one.own_now two.own_now one.changes two.changes;
-}
+pub two_written : (shape : Shape) (before mid after : PageMap) (first second : List Separator) (entries lower upper all : List (List ℕ)) (own had : List ℕ) (m n : ℕ)
+    → (one : HasWritten shape before mid first (entries ++ lower) own (had ++ m ∷ []))
+    → HasWritten shape mid after second ((entries ++ lower) ++ upper) one.own_now (entry_counts one.written.leaves ++ n ∷ []) → lower ++ upper ≡ all
+    → HasWritten shape before after second (entries ++ all) own (had ++ m ∷ n ∷ [])
+two_written shape before mid after first second entries lower upper all own had m n one two same =
+    let counts : entry_counts two.written.leaves ≡ had ++ m ∷ n ∷ [] = two.counts_are ∙ ap (λ (l : List ℕ). l ++ n ∷ []) one.counts_are ∙ append_assoc had (m ∷ []) (n ∷ []) in
+    subst (λ (l : List (List ℕ)). HasWritten shape before after second l own (had ++ m ∷ n ∷ [])) (append_assoc entries lower upper ∙ ap (λ l. entries ++ l) same) (record {
+      own_now = two.own_now;
+      written = two.written;
+      counts_are = counts;
+      changes = changes_trans before mid after own one.own_now two.own_now one.changes two.changes;
+    })
 
 -- ---- the whole tree
 
 stands_of : (tree : Tree) (pages : PageMap) (entries : List (List ℕ)) (own : List ℕ) (shape : Shape) (root levels : ℕ) → tree.shape ≡ shape → tree.root ≡ root → tree.levels ≡ levels
     → tree.count ≡ length entries → (value : TreeOf levels) → IsWhole shape pages levels root None None value → entries_of levels value ≡ entries → pages_of levels value ≡ own
-    → TreeStands tree pages entries own
-stands_of tree pages entries own shape root levels shape_is root_is levels_are count value whole has own_are =
-    subst (λ (l : ℕ). (v : TreeOf l) → IsWhole shape pages l root None None v → entries_of l v ≡ entries → pages_of l v ≡ own → TreeStands tree pages entries own) levels_are
-    (λ v whole has own_are. record {
-      value = v;
-      whole = subst (λ (s : Shape). IsWhole s pages tree.levels tree.root None None v) (sym shape_is)
-          (subst (λ (r : ℕ). IsWhole shape pages tree.levels r None None v) (sym root_is) whole);
-      has = has;
-      pages_are = own_are;
-      count = count;
-    }) value whole has own_are
+    → AreFilled shape levels (value ∷ []) → StandsFilled tree pages entries own
+stands_of tree pages entries own shape root levels shape_is root_is levels_are count value whole has own_are filled =
+    subst (λ (l : ℕ). (v : TreeOf l) → IsWhole shape pages l root None None v → entries_of l v ≡ entries → pages_of l v ≡ own → AreFilled shape l (v ∷ []) → StandsFilled tree pages entries own)
+    levels_are
+    (λ v whole has own_are filled. record {
+      stands = record {
+        value = v;
+        whole = subst (λ (s : Shape). IsWhole s pages tree.levels tree.root None None v) (sym shape_is)
+            (subst (λ (r : ℕ). IsWhole shape pages tree.levels r None None v) (sym root_is) whole);
+        has = has;
+        pages_are = own_are;
+        count = count;
+      };
+      filled = subst (λ (s : Shape). AreFilled s tree.levels (v ∷ [])) (sym shape_is) filled;
+    }) value whole has own_are filled
 
 pub stands_over : (shape : Shape) (before after : PageMap) (nodes : List Separator) (entries : List (List ℕ)) (own : List ℕ) (base : Base) (tree : Tree) (count : ℕ)
-    → (w : AreInLeaves shape before nodes entries own) → HasRootOver shape before after 0 w.leaves base → Ascends shape.width (entries ++ []) → count ≡ length (entries ++ [])
-    → tree.shape ≡ shape → tree.root ≡ base.root → tree.levels ≡ base.levels → tree.count ≡ count → Changed before after tree own (entries ++ [])
-stands_over shape before after nodes entries own base tree count w root rises counted shape_is root_is levels_are count_is =
+    → (left left_now : ℕ) → (w : AreInLeaves shape before nodes entries own) → HasRootOver shape left left_now before after 0 w.leaves base → Ascends shape.width (entries ++ [])
+    → count ≡ length (entries ++ []) → AllBut 2 (leaf_room shape) (entry_counts w.leaves ++ [])
+    → tree.shape ≡ shape → tree.root ≡ base.root → tree.levels ≡ base.levels → tree.count ≡ count → HasBuilt left left_now before after tree own (entries ++ [])
+stands_over shape before after nodes entries own base tree count left left_now w root rises counted full shape_is root_is levels_are count_is =
     let all : flat_map (entries_of 0) w.leaves ≡ entries ++ [] = w.has ∙ sym (append_none entries) in
     record {
       own_now = pages_of base.levels root.tree;
-      stands = stands_of tree after (entries ++ []) (pages_of base.levels root.tree) shape base.root base.levels shape_is root_is levels_are (count_is ∙ counted) root.tree
-          (root.whole (subst (Ascends shape.width) (sym all) rises)) (root.has ∙ all) refl;
+      standing = stands_of tree after (entries ++ []) (pages_of base.levels root.tree) shape base.root base.levels shape_is root_is levels_are (count_is ∙ counted) root.tree
+          (root.whole (subst (Ascends shape.width) (sym all) rises)) (root.has ∙ all) refl
+          (root.filled (subst (AllBut 2 (leaf_room shape)) (append_none (entry_counts w.leaves)) full));
+      taken = let took = root.taken in let same = ap length w.own_are in omega arith;
       changes = subst (λ (l : List ℕ). ChangesPages before after l (pages_of base.levels root.tree)) w.own_are root.changes;
     }
 
@@ -164,8 +202,9 @@ no_leaves (t ∷ ts) e = cc e
 
 pub stands_alone : (shape : Shape) (before after : PageMap) (entries : List (List ℕ)) (own leaf : List ℕ) (root count : ℕ) (tree : Tree) → AreInLeaves shape before [] entries own
     → Takes before after root leaf → IsLeaf shape leaf → Ascends shape.width (entries ++ leaf_entries shape leaf) → count ≡ length (entries ++ leaf_entries shape leaf)
-    → tree.shape ≡ shape → tree.root ≡ root → tree.levels ≡ 0 → tree.count ≡ count → Changed before after tree own (entries ++ leaf_entries shape leaf)
-stands_alone shape before after entries own leaf root count tree w takes is rises counted shape_is root_is levels_are count_is =
+    → tree.shape ≡ shape → tree.root ≡ root → tree.levels ≡ 0 → tree.count ≡ count → (left left_now : ℕ) → left_now + 1 ≡ left
+    → HasBuilt left left_now before after tree own (entries ++ leaf_entries shape leaf)
+stands_alone shape before after entries own leaf root count tree w takes is rises counted shape_is root_is levels_are count_is left left_now one =
     let none = no_leaves w.leaves w.level.leads in
     let no_entries : entries ≡ [] = sym w.has ∙ ap (flat_map (entries_of 0)) none in
     let no_pages : own ≡ [] = sym w.own_are ∙ ap (flat_map (pages_of 0)) none in
@@ -174,7 +213,8 @@ stands_alone shape before after entries own leaf root count tree w takes is rise
     let changes : ChangesPages before after [] (root ∷ []) = changes_more before before after [] [] [] root leaf (changes_same before [] tt) takes tt tt tt in
     record {
       own_now = root ∷ [];
-      stands = stands_of tree after (entries ++ leaf_entries shape leaf) (root ∷ []) shape root 0 shape_is root_is levels_are (count_is ∙ counted) value
+      taken = let none_had = ap length no_pages in omega arith;
+      standing = stands_of tree after (entries ++ leaf_entries shape leaf) (root ∷ []) shape root 0 shape_is root_is levels_are (count_is ∙ counted) value
           (record {
             stands = record {
               holds = record { bytes = leaf; there = takes.page; leaf = is; holds = refl };
@@ -184,36 +224,45 @@ stands_alone shape before after entries own leaf root count tree w takes is rise
             apart = changes.apart;
             filled = tt;
             rooted = tt;
-          }) all refl;
+          }) all refl (record { front = []; last = length (leaf_entries shape leaf) ∷ []; are = refl; few = omega arith; full = tt });
       changes = subst (λ (l : List ℕ). ChangesPages before after l (root ∷ [])) (sym no_pages) changes;
     }
 
 -- what stands over more leaves stands over those before, with the entries of the others
-pub more_stands : (shape : Shape) (before mid after : PageMap) (old new : List Separator) (more : List (List ℕ)) (count : ℕ) (result : Result Tree Fault) {still is_sound : Type 0}
-    → WritesMore shape old new more (Ok tt) before mid still → StandsOver shape new [] count result mid after is_sound → StandsOver shape old more count result before after is_sound
-more_stands shape before mid after old new more count result writes over = record {
-  stands = λ entries own w rises counted.
+pub more_stands : (shape : Shape) (before mid after : PageMap) (old new : List Separator) (more : List (List ℕ)) (counts : List ℕ) (count : ℕ) (result : Result Tree Fault)
+    (left left_mid left_now : ℕ) {still is_sound : Type 0} → left_mid + length counts ≡ left → length new ≡ length old + length counts
+    → WritesMore shape old new more counts (Ok tt) before mid still → StandsOver shape new [] [] count result left_mid left_now mid after is_sound
+    → StandsOver shape old more counts count result left left_now before after is_sound
+more_stands shape before mid after old new more counts count result left left_mid left_now took longer writes over = record {
+  stands = λ entries own w rises counted full.
       let all = append_none (entries ++ more) in
       let had = (writes.writes entries own w).answer in
-      answer_map (over.stands (entries ++ more) had.own_now had.written (subst (Ascends shape.width) (sym all) rises) (counted ∙ sym (ap length all)))
+      let many = leaves_many shape before old entries own w in
+      let many_now = leaves_many shape mid new (entries ++ more) had.own_now had.written in
+      let full_now : AllBut 2 (leaf_room shape) (entry_counts had.written.leaves ++ []) =
+      subst (AllBut 2 (leaf_room shape)) (sym (append_none (entry_counts had.written.leaves) ∙ had.counts_are)) full in
+      answer_map (over.stands (entries ++ more) had.own_now had.written (subst (Ascends shape.width) (sym all) rises) (counted ∙ sym (ap length all)) full_now)
       (λ tree now. record {
         own_now = now.own_now;
-        stands = subst (λ (l : List (List ℕ)). TreeStands tree after l now.own_now) all now.stands;
+        standing = subst (λ (l : List (List ℕ)). StandsFilled tree after l now.own_now) all now.standing;
         changes = changes_trans before mid after own had.own_now now.own_now had.changes now.changes;
+        taken = let more_taken = now.taken in omega arith;
       });
   kept = keeps_on writes.kept over.kept;
   sound = over.sound;
 }
 
 -- what stands over the leaves of a builder, with the entries of those that were not written
-pub finishes : (old : TreeBuilder) (before after : PageMap) (more : List (List ℕ)) (result : Result Tree Fault) {is_sound : Type 0}
+pub finishes : (old : TreeBuilder) (before after : PageMap) (more : List (List ℕ)) (counts : List ℕ) (result : Result Tree Fault) (left left_now : ℕ) {is_sound : Type 0} → length counts ≤ 2
     → leaf_entries old.shape old.lower ++ leaf_entries old.shape old.upper ≡ more
-    → StandsOver old.shape old.leaves.items more old.count result before after is_sound → FinishesTree old result before after is_sound
-finishes old before after more result same over = record {
+    → StandsOver old.shape old.leaves.items more counts old.count result left left_now before after is_sound → FinishesTree old result left left_now before after is_sound
+finishes old before after more counts result left left_now few same over = record {
   finished = λ entries own b rises.
       let all : b.front ++ more ≡ entries = ap (λ l. b.front ++ l) (sym same) ∙ b.has in
-      subst (λ (l : List (List ℕ)). IsAnswer result (λ tree. Changed before after tree own l)) all
-      (over.stands b.front own b.written (subst (Ascends old.shape.width) (sym all) rises) (b.count ∙ sym (ap length all)));
+      let leaves = b.written.in_leaves in
+      subst (λ (l : List (List ℕ)). IsAnswer result (λ tree. HasBuilt left left_now before after tree own l)) all
+      (over.stands b.front own leaves (subst (Ascends old.shape.width) (sym all) rises) (b.count ∙ sym (ap length all))
+      (record { front = entry_counts leaves.leaves; last = counts; are = refl; few = few; full = b.written.full }));
   kept = over.kept;
   sound = over.sound;
 }

@@ -4,8 +4,8 @@ use Rattle.std.proofs.lemmas.List.{length-append}
 use Rattle.tree_node.specs.declared.shape.Shape.{Shape}
 use Rattle.tree_node.specs.Order.{less, Ascends}
 use Rattle.tree_node.proofs.OrderLemmas.{less_itself, less-trans, not_less, compared, Each-weaker, Each-get_or}
-use Rattle.node_balance.specs.Fill.{least_entries}
-use Rattle.page_bytes.specs.Each.{Each}
+use Rattle.tree_node.specs.Fill.{least_entries}
+use Rattle.pages.specs.Each.{Each}
 use Rattle.tree_search.specs.Tree.{TreeOf, entries_of, Bound, NotBelow, Above, IsRow, IsOrdered}
 use Rattle.tree_search.specs.Calls.{size_of, IsHalfFull, IsRooted}
 use Rattle.tree_search.proofs.RowLemmas.{each_left, each_right, Inside}

@@ -2,10 +2,10 @@
 use Rattle.std.proofs.Common.{◌≡◌, ◌<◌, ℕ, suc, List, [], ◌∷◌, ◌++◌, length, get_or, sym, subst, arith, Result, Ok, Err}
 use Rattle.std.specs.Prelude.{OnOk}
 use Rattle.io_state.specs.declared.fault.Fault.{Fault}
-use Rattle.page_bytes.specs.Each.{Each}
+use Rattle.pages.specs.Each.{Each}
 use Rattle.tree_node.specs.declared.shape.Shape.{Shape}
 use Rattle.tree_search.proofs.RowLemmas.{Each-append}
-use Rattle.node_balance.specs.declared.separator.Separator.{Separator}
+use Rattle.tree_node.specs.declared.separator.Separator.{Separator}
 use Rattle.tree_building.specs.Level.{keys_of, HaveWidth, AreWide}
 use Rattle.tree_node.proofs.OrderLemmas.{Each-get_or}
 

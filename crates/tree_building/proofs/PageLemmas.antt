@@ -1,6 +1,6 @@
 -- Pages that are taken one by one, and the pages of the trees below them.
-use Rattle.std.proofs.Common.{◌≡◌, ◌≢◌, ℕ, List, ◌∷◌, ◌++◌, None, IsSome, refl, ap, sym, subst, ◌∙◌}
-use Rattle.page_bytes.specs.Each.{Each}
+use Rattle.std.proofs.Common.{◌≡◌, ◌≢◌, ◌<◌, ◌≤◌, ℕ, arith, List, ◌∷◌, ◌++◌, None, IsSome, refl, ap, sym, subst, ◌∙◌}
+use Rattle.pages.specs.Each.{Each}
 use Rattle.pages.specs.PageMap.{PageMap, Takes}
 use Rattle.pages.specs.Owners.{IsOutside, AreApart, ChangesPages}
 use Rattle.tree_node.proofs.OrderLemmas.{Each-weaker}
@@ -8,6 +8,7 @@ use Rattle.tree_search.proofs.RowLemmas.{Each-append, each_left, each_right}
 use Rattle.bplus_tree.proofs.PageLemmas.{each_both, outside_symm, apart_right, apart_across, apart_join}
 use Rattle.std.specs.Prelude.{Result, Ok, Err, IfErr}
 use Rattle.io_state.specs.declared.fault.Fault.{Fault}
+use Rattle.io_state.specs.declared.fault.Fault.TheVariants.{Memory}
 use Rattle.tree_building.specs.Fresh.{KeepsInUse, IsBuildCause}
 
 pub keeps_on : {a b c : PageMap} → KeepsInUse a b → KeepsInUse b c → KeepsInUse a c
@@ -54,3 +55,8 @@ changes_more before mid after done rest new n bytes changes takes apart live the
 pub build_caused : {X : Type 0} (r : Result X Fault) (failed since lacks : Type 0) → (failed → since) → IfErr r (IsBuildCause failed lacks) → IfErr r (IsBuildCause since lacks)
 build_caused (Ok x) failed since lacks f is = tt
 build_caused (Err fault) failed since lacks f is = record { device = λ e. f (is.device e); full = is.full; not_broken = is.not_broken }
+
+-- where memory lacked after a page was taken since then, one was taken since before
+pub late_memory : {X : Type 0} (r : Result X Fault) (left mid now : ℕ) → mid ≤ left → IfErr r (λ fault. fault ≡ Memory → now < mid) → IfErr r (λ fault. fault ≡ Memory → now < left)
+late_memory (Ok x) left mid now few is = tt
+late_memory (Err fault) left mid now few is = λ e. let less = is e in omega arith

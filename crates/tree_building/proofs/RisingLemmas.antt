@@ -1,15 +1,15 @@
 -- A level that rises node by node over the trees of the level below.
-use Rattle.std.proofs.Common.{◌≡◌, ℕ, suc, ◌+◌, ◌-◌, ◌/◌, ◌≤◌, List, [], ◌∷◌, ◌++◌, length, take, drop, get_or, map, IsSome, refl, ap, sym, subst, ◌∙◌, arith, flat_map}
+use Rattle.std.proofs.Common.{◌≡◌, ℕ, suc, ◌+◌, ◌-◌, ◌/◌, ◌<◌, ◌≤◌, List, [], ◌∷◌, ◌++◌, length, take, drop, get_or, map, IsSome, refl, ap, sym, subst, ◌∙◌, arith, flat_map}
 use Rattle.std.specs.List.{slice_range}
 use Rattle.std.proofs.Math.Seq.{take-add}
 use Rattle.std.proofs.lemmas.Grind.{flat_map-append}
-use Rattle.std.proofs.lemmas.List.{map-append, length-map, length-drop, take-map, drop-map, length-take-le, take-append-drop}
+use Rattle.std.proofs.lemmas.List.{map-append, length-append, length-map, length-drop, take-map, drop-map, length-take-le, take-append-drop}
 use Rattle.tree_node.specs.declared.shape.Shape.{Shape}
 use Rattle.tree_node.specs.Inner.{inner_room}
 use Rattle.tree_node.proofs.OrderLemmas.{Each-weaker}
-use Rattle.node_balance.specs.declared.separator.Separator.{Separator}
-use Rattle.node_balance.specs.Fill.{least_entries}
-use Rattle.page_bytes.specs.Each.{Each}
+use Rattle.tree_node.specs.declared.separator.Separator.{Separator}
+use Rattle.tree_node.specs.Fill.{least_entries}
+use Rattle.pages.specs.Each.{Each}
 use Rattle.pages.specs.PageMap.{PageMap}
 use Rattle.pages.specs.Owners.{IsOutside, AreApart, ChangesPages}
 use Rattle.tree_search.specs.Tree.{TreeOf, page_of, entries_of, pages_of}
@@ -21,6 +21,9 @@ use Rattle.bplus_tree.proofs.PageLemmas.{each_both, each_pages, pages_live, rows
 use Rattle.tree_building.specs.Level.{keys_of, lead_of, IsLed, IsBelow, IsLevel}
 use Rattle.tree_building.specs.Nodes.{HasAdded}
 use Rattle.tree_building.specs.Rising.{HasNextLevel}
+use Rattle.tree_building.specs.Filled.{child_counts}
+use Rattle.tree_building.specs.Share.{IsShare}
+use Rattle.tree_building.proofs.CountLemmas.{append_none, but_none, AreFull, none_full, one_full}
 use Rattle.tree_building.proofs.LedLemmas.{some_entries}
 use Rattle.tree_building.proofs.PageLemmas.{taken_keeps, changes_more, changes_same}
 
@@ -45,10 +48,6 @@ map_slice f g xs ys a n same =
 flat_flat : {X Y Z : Type 0} (f : Y → List Z) (g : X → List Y) (xs : List X) → flat_map f (flat_map g xs) ≡ flat_map (λ x. flat_map f (g x)) xs
 flat_flat f g [] = refl
 flat_flat f g (x ∷ xs) = flat_map-append f (g x) (flat_map g xs) ∙ ap (λ l. flat_map f (g x) ++ l) (flat_flat f g xs)
-
-pub append_none : {X : Type 0} (xs : List X) → xs ++ [] ≡ xs
-append_none [] = refl
-append_none (x ∷ xs) = ap (λ l. x ∷ l) (append_none xs)
 
 -- ---- parts of a level
 
@@ -106,15 +105,32 @@ pub kids_led : (shape : Shape) (pages : PageMap) (h : ℕ) (group : List Separat
 kids_led shape pages h group kids level =
     (ap (drop 1) level.keys ∙ drop-map (lead_of shape.width h) 1 kids, Each-weaker (IsBelow shape h) (IsLed shape.width h) (λ c b. b.led) kids level.below)
 
-pub none_risen : (shape : Shape) (before : PageMap) (h : ℕ) → HasNextLevel shape before before h [] []
-none_risen shape before h =
-    record { trees = []; level = record { holds = tt; below = tt; keys = refl; leads = refl }; over = refl; changes = changes_same before [] tt }
+-- the nodes over the first `at` of `total` nodes
+pub record RisesSoFar (shape : Shape) (before after : PageMap) (h total at : ℕ) (below : List (TreeOf h)) (above : List Separator) : Type 0 where
+  pub risen : HasNextLevel shape before after h below above
+  pub full : AreFull total (inner_room shape + 1) at (child_counts h risen.trees)
 
-pub risen_more : (shape : Shape) (before mid after : PageMap) (h : ℕ) (done kids : List (TreeOf h)) (group old now : List Separator)
-    → HasNextLevel shape before mid h done old → IsLevel shape before h group kids → inner_room shape / 2 + 1 ≤ length group
+pub none_risen : (shape : Shape) (before : PageMap) (h total : ℕ) (below : List (TreeOf h)) (above : List Separator) → below ≡ [] → above ≡ [] → RisesSoFar shape before before h total 0 below above
+none_risen shape before h total below above none none' =
+    subst (λ (l : List (TreeOf h)). RisesSoFar shape before before h total 0 l above) (sym none)
+    (subst (λ (l : List Separator). RisesSoFar shape before before h total 0 [] l) (sym none') (record {
+      risen = record {
+        trees = [];
+        level = record { holds = tt; below = tt; keys = refl; leads = refl };
+        over = refl;
+        filled = but_none (inner_room shape + 1) [] 2 tt;
+        changes = changes_same before [] tt;
+      };
+      full = none_full total (inner_room shape + 1);
+    }))
+
+pub risen_more : (shape : Shape) (before mid after : PageMap) (h total at n : ℕ) (done kids : List (TreeOf h)) (group old now : List Separator)
+    → RisesSoFar shape before mid h total at done old → IsLevel shape before h group kids → inner_room shape / 2 + 1 ≤ length group → length group ≡ n
+    → at < total → 16 ≤ inner_room shape + 1 → IsShare (inner_room shape + 1) (total - at) n
     → AreApart (flat_map (pages_of h) (done ++ kids)) → HasAdded shape group mid after old now
-    → HasNextLevel shape before after h (done ++ kids) now
-risen_more shape before mid after h done kids group old now risen level large apart added =
+    → RisesSoFar shape before after h total (at + n) (done ++ kids) now
+risen_more shape before mid after h total at n done kids group old now had level large many more some share apart added =
+    let risen = had.risen in
     let own = flat_map (pages_of h) kids in
     let first = flat_map (pages_of h) done in
     let parts : flat_map (pages_of h) (done ++ kids) ≡ first ++ own = flat_map-append (pages_of h) done kids in
@@ -126,7 +142,11 @@ risen_more shape before mid after h done kids group old now risen level large ap
     let dropped = length-drop 1 (keys_of group) in
     let here : Holds shape after (suc h) t = node_holds shape before mid after h kids first (flat_map (pages_of (suc h)) risen.trees) group old now level risen.changes both added in
     let below : IsBelow shape (suc h) t = record { large = omega arith; filled = kids_filled shape h kids level.below; led = kids_led shape before h group kids level } in
-    record {
+    let counts : child_counts h (risen.trees ++ t ∷ []) ≡ child_counts h risen.trees ++ n ∷ [] =
+    map-append (λ (s : TreeOf (suc h)). length s.2) risen.trees (t ∷ []) ∙ ap (λ (m : ℕ). child_counts h risen.trees ++ m ∷ []) (long ∙ many) in
+    let full : AreFull total (inner_room shape + 1) (at + n) (child_counts h (risen.trees ++ t ∷ [])) =
+    subst (AreFull total (inner_room shape + 1) (at + n)) (sym counts) (one_full total (inner_room shape + 1) at n (child_counts h risen.trees) some more share had.full) in
+    let next : HasNextLevel shape before after h (done ++ kids) now = record {
       trees = risen.trees ++ t ∷ [];
       level = record {
         holds = Each-append (Holds shape after (suc h)) risen.trees (t ∷ [])
@@ -138,17 +158,35 @@ risen_more shape before mid after h done kids group old now risen level large ap
         leads = added.leads ∙ ap (λ l. l ++ added.page ∷ []) risen.level.leads ∙ sym (map-append (page_of (suc h)) risen.trees (t ∷ []));
       };
       over = flat_map-append (λ (s : TreeOf (suc h)). s.2) risen.trees (t ∷ []) ∙ ap (λ l. l ++ (kids ++ [])) risen.over ∙ ap (λ l. done ++ l) (append_none kids);
+      filled = full.two;
       changes = subst (λ l. ChangesPages before after l (flat_map (pages_of (suc h)) (risen.trees ++ t ∷ []))) (sym parts)
           (subst (ChangesPages before after (first ++ own))
           (sym (flat_map-append (pages_of (suc h)) risen.trees (t ∷ []) ∙ ap (λ l. flat_map (pages_of (suc h)) risen.trees ++ l) (append_none (pages_of (suc h) t))))
           (changes_more before mid after first own (flat_map (pages_of (suc h)) risen.trees) added.page added.bytes risen.changes added.takes both (kids_live shape before h kids level.holds) held));
-    }
+    } in
+    record { risen = next; full = full }
 
 -- the entries of a level are those of the level below
 pub entries_over : (shape : Shape) (before after : PageMap) (h : ℕ) (below : List (TreeOf h)) (above : List Separator) → (risen : HasNextLevel shape before after h below above)
     → flat_map (entries_of (suc h)) risen.trees ≡ flat_map (entries_of h) below
 entries_over shape before after h below above risen =
     sym (flat_flat (entries_of h) (λ (t : TreeOf (suc h)). t.2) risen.trees) ∙ ap (flat_map (entries_of h)) risen.over
+
+-- a level has one page for each node, and those below
+pub level_pages : (h : ℕ) (trees : List (TreeOf (suc h)))
+    → length (flat_map (pages_of (suc h)) trees) ≡ length trees + length (flat_map (pages_of h) (flat_map (λ (t : TreeOf (suc h)). t.2) trees))
+level_pages h [] = refl
+level_pages h (t ∷ ts) =
+    let rest = level_pages h ts in
+    let kids = flat_map (λ (s : TreeOf (suc h)). s.2) ts in
+    let here = length-append (flat_map (pages_of h) t.2) (flat_map (pages_of (suc h)) ts) in
+    let there = ap length (flat_map-append (pages_of h) t.2 kids) in
+    let parts = length-append (flat_map (pages_of h) t.2) (flat_map (pages_of h) kids) in
+    omega arith
+
+pub leaf_pages : (leaves : List (TreeOf 0)) → length (flat_map (pages_of 0) leaves) ≡ length leaves
+leaf_pages [] = refl
+leaf_pages (t ∷ ts) = let rest = leaf_pages ts in omega arith
 
 pub apart_front : (h : ℕ) (trees : List (TreeOf h)) (i : ℕ) → AreApart (flat_map (pages_of h) trees) → AreApart (flat_map (pages_of h) (take i trees))
 apart_front h trees i apart =
@@ -158,12 +196,14 @@ apart_front h trees i apart =
 -- the next node of a level
 pub level_more : (shape : Shape) (before mid after : PageMap) (h : ℕ) (trees : List (TreeOf h)) (nodes old now : List Separator) (at n : ℕ)
     → IsLevel shape before h nodes trees → AreApart (flat_map (pages_of h) trees) → at + n ≤ length nodes → inner_room shape / 2 + 1 ≤ n
-    → HasNextLevel shape before mid h (take at trees) old → HasAdded shape (slice_range nodes at (at + n)) mid after old now
-    → HasNextLevel shape before after h (take (at + n) trees) now
-level_more shape before mid after h trees nodes old now at n level apart within large risen added =
+    → at < length nodes → 16 ≤ inner_room shape + 1 → IsShare (inner_room shape + 1) (length nodes - at) n
+    → RisesSoFar shape before mid h (length nodes) at (take at trees) old → HasAdded shape (slice_range nodes at (at + n)) mid after old now
+    → RisesSoFar shape before after h (length nodes) (at + n) (take (at + n) trees) now
+level_more shape before mid after h trees nodes old now at n level apart within large more some share risen added =
     let parts = slice_more trees at (at + n) n refl in
     let long = length_slice nodes at (at + n) (omega arith) within in
-    subst (λ (l : List (TreeOf h)). HasNextLevel shape before after h l now) (sym parts)
-    (risen_more shape before mid after h (take at trees) (slice_range trees at (at + n)) (slice_range nodes at (at + n)) old now risen
-    (level_slice shape before h nodes trees at (at + n) level) (omega arith)
+    let here : length (slice_range nodes at (at + n)) ≡ n = omega arith in
+    subst (λ (l : List (TreeOf h)). RisesSoFar shape before after h (length nodes) (at + n) l now) (sym parts)
+    (risen_more shape before mid after h (length nodes) at n (take at trees) (slice_range trees at (at + n)) (slice_range nodes at (at + n)) old now risen
+    (level_slice shape before h nodes trees at (at + n) level) (omega arith) here more some share
     (subst (λ (l : List (TreeOf h)). AreApart (flat_map (pages_of h) l)) parts (apart_front h trees (at + n) apart)) added)

@@ -1,9 +1,9 @@
 -- The nodes of one level of a tree, and the trees that they head.
 use Rattle.std.specs.Prelude.{◌≡◌, ◌≤◌, ◌<◌, ℕ, zero, suc, List, [], map, drop, take, length, slice_index_or, ⊤}
 use Rattle.tree_node.specs.declared.shape.Shape.{Shape}
-use Rattle.node_balance.specs.declared.separator.Separator.{Separator}
-use Rattle.node_balance.specs.Fill.{least_entries}
-use Rattle.page_bytes.specs.Each.{Each}
+use Rattle.tree_node.specs.declared.separator.Separator.{Separator}
+use Rattle.tree_node.specs.Fill.{least_entries}
+use Rattle.pages.specs.Each.{Each}
 use Rattle.pages.specs.PageMap.{PageMap}
 use Rattle.tree_search.specs.Tree.{TreeOf, page_of, entries_of}
 use Rattle.tree_search.specs.Stored.{Holds}

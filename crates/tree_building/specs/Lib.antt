@@ -1,4 +1,5 @@
 pub mod Fresh
+pub mod Filled
 pub mod Level
 pub mod Share
 pub mod Nodes

@@ -1,12 +1,12 @@
 //! A tree that is built from entries whose keys rise.
 
-ghost use Rattle.std.specs.Prelude.{◌≡◌, ◌≤◌, ◌<◌, [], IfOk, OnOk, length};
+ghost use Rattle.std.specs.Prelude.{◌≡◌, ◌≤◌, ◌<◌, ◌+◌, [], IfOk, OnOk, length};
 ghost use Rattle.tree_node.specs.Leaf.{leaf_entries, leaf_room};
 ghost use Rattle.pages.specs.PageMap.{PageMap};
 ghost use Rattle.bplus_tree.specs.Changes.{CanWrite, CanInsert, WhereSound};
 ghost use Rattle.bplus_tree.specs.Fields.{tree_shape};
 ghost use Rattle.tree_building.specs.Level.{AreWide};
-ghost use Rattle.tree_building.specs.Fresh.{TakesNewPages};
+ghost use Rattle.tree_building.specs.Fresh.{TakesNewPages, TakesForEntry, WhereCounted};
 ghost use Rattle.tree_building.specs.Pending.{ArePending};
 
 use crate::ending::{end_with_one, end_with_two, stand_alone};
@@ -14,11 +14,9 @@ use crate::leaves::add_leaf;
 use crate::pending::push_pending;
 use bplus_tree::Tree;
 use io_state::Fault;
-use node_balance::Separator;
-use page_bytes::PAGE_SIZE;
-use pages::Pages;
+use pages::{PAGE_SIZE, Pages};
 use std::alloc::Global;
-use tree_node::{LeafView, Shape, write_leaf};
+use tree_node::{LeafView, Separator, Shape, write_leaf};
 
 /// A tree that is being built: its leaves so far, by their first keys and their pages, but for the
 /// last two, which are not written yet.
@@ -35,7 +33,8 @@ pub struct TreeBuilder {
 }
 
 impl TreeBuilder {
-    ghost use Rattle.tree_building.specs.Building.{IsBuilding, MakesLeafRoom, Pushes, FinishesTree, builder_shape};
+    ghost use Rattle.tree_building.specs.Building.{IsBuilding, MakesLeafRoom, Pushes, FinishesTree};
+    ghost use Rattle.tree_building.specs.Building.{builder_shape, entry_count, leaves_written};
 
     /// A tree without entries, of which no page is taken yet.
     pub fn new(alloc: Global, shape: Shape) -> TreeBuilder
@@ -60,7 +59,9 @@ impl TreeBuilder {
         requires { CanInsert P.shown (builder_shape self.old) entry.now pages.old }
         ensures pushes { WhereSound P.shown pages.old pages.new (Pushes self.old self.new entry.now result) }
         ensures shape { builder_shape self.new ≡ builder_shape self.old }
-        ensures takes { TakesNewPages P.shown pages.old pages.new result }
+        ensures takes { TakesForEntry P.shown (entry_count self.old) pages.old pages.new result }
+        ensures taken { OnOk result (leaves_written self.new + (P.shown.state pages.new).available
+            ≡ leaves_written self.old + (P.shown.state pages.old).available) }
     {
         let Some(count) = self.count.checked_add(1) else {
             return Err(Fault::Memory);
@@ -76,7 +77,7 @@ impl TreeBuilder {
     /// Full where no page is available, and Memory.
     pub fn finish<P: Pages>(self, alloc: Global, pages: &mut P) -> Result<Tree, Fault>
         requires { CanWrite P.shown pages.old }
-        ensures finishes { WhereSound P.shown pages.old pages.new (FinishesTree self result) }
+        ensures finishes { WhereCounted P.shown pages.old pages.new (FinishesTree self result) }
         ensures shape { IfOk result (λ tree. tree_shape tree ≡ builder_shape self) }
         ensures takes { TakesNewPages P.shown pages.old pages.new result }
     {
@@ -118,6 +119,8 @@ impl TreeBuilder {
             < leaf_room self.new.shape) }
         ensures same { (self.new.shape ≡ self.old.shape) × (self.new.count ≡ self.old.count) }
         ensures takes { TakesNewPages P.shown pages.old pages.new result }
+        ensures taken { OnOk result (leaves_written self.new + (P.shown.state pages.new).available
+            ≡ leaves_written self.old + (P.shown.state pages.old).available) }
     {
         let upper = LeafView {
             page: &self.upper,
@@ -138,6 +141,8 @@ impl TreeBuilder {
             < leaf_room self.new.shape) }
         ensures same { (self.new.shape ≡ self.old.shape) × (self.new.count ≡ self.old.count) }
         ensures takes { TakesNewPages P.shown pages.old pages.new result }
+        ensures taken { OnOk result (leaves_written self.new + (P.shown.state pages.new).available
+            ≡ leaves_written self.old + (P.shown.state pages.old).available) }
     {
         add_leaf(pages, self.shape, &self.lower, &mut self.leaves)?;
         self.lower = self.upper;

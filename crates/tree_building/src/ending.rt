@@ -1,11 +1,11 @@
 //! The end of a tree that is being built: its last leaves, and the levels above.
 
-ghost use Rattle.std.specs.Prelude.{◌≡◌, ◌≤◌, ◌+◌, ◌++◌, [], IfOk, OnOk, length};
+ghost use Rattle.std.specs.Prelude.{◌≡◌, ◌≤◌, ◌+◌, ◌++◌, [], ◌∷◌, IfOk, OnOk, length};
 ghost use Rattle.tree_node.specs.Leaf.{leaf_entries, IsLeaf};
 ghost use Rattle.bplus_tree.specs.Changes.{CanWrite, WhereSound};
 ghost use Rattle.bplus_tree.specs.Fields.{tree_shape};
 ghost use Rattle.tree_building.specs.Level.{HaveWidth};
-ghost use Rattle.tree_building.specs.Fresh.{TakesNewPages};
+ghost use Rattle.tree_building.specs.Fresh.{TakesExactly, TakesNewPages, WhereCounted};
 ghost use Rattle.tree_building.specs.Pending.{AreUneven};
 ghost use Rattle.tree_building.specs.Building.{WritesMore, StandsOver, IsLargeLeaf};
 
@@ -15,11 +15,9 @@ use crate::pending::even_out;
 use crate::rising::add_root;
 use bplus_tree::Tree;
 use io_state::Fault;
-use node_balance::Separator;
-use page_bytes::PAGE_SIZE;
-use pages::Pages;
+use pages::{PAGE_SIZE, Pages};
 use std::alloc::Global;
-use tree_node::Shape;
+use tree_node::{Separator, Shape};
 
 /// Writes a leaf behind those before.
 pub fn write_one<P: Pages>(
@@ -31,10 +29,12 @@ pub fn write_one<P: Pages>(
     requires pages { CanWrite P.shown pages.old }
     requires leaf { IsLargeLeaf shape leaf.now }
     ensures writes { WhereSound P.shown pages.old pages.new (WritesMore shape leaves.old.items
-        leaves.new.items (leaf_entries shape leaf.now) result) }
+        leaves.new.items (leaf_entries shape leaf.now) (length (leaf_entries shape leaf.now) ∷ [])
+        result) }
     ensures one { OnOk result (length leaves.new.items ≡ length leaves.old.items + 1) }
     ensures width { OnOk result (HaveWidth shape leaves.old.items → HaveWidth shape leaves.new.items) }
     ensures takes { TakesNewPages P.shown pages.old pages.new result }
+    ensures taken { TakesExactly P.shown 1 pages.old pages.new result }
 {
     add_leaf(pages, shape, leaf, leaves)
 }
@@ -50,10 +50,13 @@ pub fn write_two<P: Pages>(
     requires pages { CanWrite P.shown pages.old }
     requires leaves { AreUneven shape lower.old upper.old }
     ensures writes { WhereSound P.shown pages.old pages.new (WritesMore shape leaves.old.items
-        leaves.new.items (leaf_entries shape lower.old ++ leaf_entries shape upper.old) result) }
+        leaves.new.items (leaf_entries shape lower.old ++ leaf_entries shape upper.old)
+        (length (leaf_entries shape lower.new) ∷ length (leaf_entries shape upper.new) ∷ [])
+        result) }
     ensures two { OnOk result (length leaves.new.items ≡ length leaves.old.items + 2) }
     ensures width { OnOk result (HaveWidth shape leaves.old.items → HaveWidth shape leaves.new.items) }
     ensures takes { TakesNewPages P.shown pages.old pages.new result }
+    ensures taken { TakesExactly P.shown 2 pages.old pages.new result }
 {
     even_out(lower, upper, shape);
     write_one(pages, shape, leaves, lower)?;
@@ -71,7 +74,8 @@ pub fn stand_over<P: Pages>(
     requires pages { CanWrite P.shown pages.old }
     requires several { 2 ≤ length leaves.now }
     requires width { HaveWidth shape leaves.now }
-    ensures stands { WhereSound P.shown pages.old pages.new (StandsOver shape leaves.now [] count result) }
+    ensures stands { WhereCounted P.shown pages.old pages.new (StandsOver shape leaves.now [] []
+        count result) }
     ensures shape { IfOk result (λ tree. tree_shape tree ≡ shape) }
     ensures takes { TakesNewPages P.shown pages.old pages.new result }
 {
@@ -88,8 +92,8 @@ pub fn stand_alone<P: Pages>(
 ) -> Result<Tree, Fault>
     requires pages { CanWrite P.shown pages.old }
     requires leaf { IsLeaf shape leaf.now }
-    ensures stands { WhereSound P.shown pages.old pages.new (StandsOver shape []
-        (leaf_entries shape leaf.now) count result) }
+    ensures stands { WhereCounted P.shown pages.old pages.new (StandsOver shape []
+        (leaf_entries shape leaf.now) (length (leaf_entries shape leaf.now) ∷ []) count result) }
     ensures shape { IfOk result (λ tree. tree_shape tree ≡ shape) }
     ensures takes { TakesNewPages P.shown pages.old pages.new result }
 {
@@ -110,8 +114,10 @@ pub fn end_with_two<P: Pages>(
     requires pages { CanWrite P.shown pages.old }
     requires leaves { AreUneven shape lower.old upper.old }
     requires width { HaveWidth shape leaves.old.items }
-    ensures stands { WhereSound P.shown pages.old pages.new (StandsOver shape leaves.old.items
-        (leaf_entries shape lower.old ++ leaf_entries shape upper.old) count result) }
+    ensures stands { WhereCounted P.shown pages.old pages.new (StandsOver shape leaves.old.items
+        (leaf_entries shape lower.old ++ leaf_entries shape upper.old)
+        (length (leaf_entries shape lower.new) ∷ length (leaf_entries shape upper.new) ∷ [])
+        count result) }
     ensures shape { IfOk result (λ tree. tree_shape tree ≡ shape) }
     ensures takes { TakesNewPages P.shown pages.old pages.new result }
 {
@@ -133,8 +139,8 @@ pub fn end_with_one<P: Pages>(
     requires leaf { IsLargeLeaf shape leaf.now }
     requires several { 1 ≤ length leaves.old.items }
     requires width { HaveWidth shape leaves.old.items }
-    ensures stands { WhereSound P.shown pages.old pages.new (StandsOver shape leaves.old.items
-        (leaf_entries shape leaf.now) count result) }
+    ensures stands { WhereCounted P.shown pages.old pages.new (StandsOver shape leaves.old.items
+        (leaf_entries shape leaf.now) (length (leaf_entries shape leaf.now) ∷ []) count result) }
     ensures shape { IfOk result (λ tree. tree_shape tree ≡ shape) }
     ensures takes { TakesNewPages P.shown pages.old pages.new result }
 {

@@ -4,16 +4,14 @@ ghost use Rattle.std.specs.Prelude.{◌≡◌, ◌+◌, ◌++◌, ◌∷◌, [],
 ghost use Rattle.tree_node.specs.Leaf.{leaf_entries, LeafHas, HasEntryAt};
 ghost use Rattle.bplus_tree.specs.Changes.{CanWrite, WhereSound};
 ghost use Rattle.tree_building.specs.Level.{HaveWidth};
-ghost use Rattle.tree_building.specs.Fresh.{TakesNewPages};
+ghost use Rattle.tree_building.specs.Fresh.{TakesExactly, TakesNewPages};
 ghost use Rattle.tree_building.specs.Leaves.{CanTakeEntry, AddsBuiltLeaf};
 
 use crate::fresh_page::put_page;
 use crate::nodes::push_node;
 use io_state::Fault;
-use node_balance::Separator;
-use page_bytes::PAGE_SIZE;
-use pages::Pages;
-use tree_node::{LeafView, LeafViewMut, Shape};
+use pages::{PAGE_SIZE, Pages};
+use tree_node::{LeafView, LeafViewMut, Separator, Shape};
 
 /// Puts an entry behind those of a leaf.
 pub fn push_entry(page: &mut [u8; PAGE_SIZE], shape: Shape, entry: &[u8])
@@ -41,6 +39,7 @@ pub fn add_leaf<P: Pages>(
     ensures width { OnOk result (HaveWidth shape before.old.items → HaveWidth shape before.new.items) }
     ensures err { OnErr result (before.new.items ≡ before.old.items) }
     ensures takes { TakesNewPages P.shown pages.old pages.new result }
+    ensures taken { TakesExactly P.shown 1 pages.old pages.new result }
 {
     let child = put_page(pages, leaf)?;
     let leaf = LeafView { page: leaf, shape };

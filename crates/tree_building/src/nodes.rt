@@ -4,15 +4,13 @@ ghost use Rattle.std.specs.Prelude.{◌≡◌, ◌≤◌, ◌+◌, ◌++◌, ◌
 ghost use Rattle.tree_node.specs.Inner.{separators, children, InnerHas};
 ghost use Rattle.bplus_tree.specs.Changes.{CanWrite, WhereSound};
 ghost use Rattle.tree_building.specs.Level.{keys_of, leads_to, HaveWidth};
-ghost use Rattle.tree_building.specs.Fresh.{TakesNewPages};
+ghost use Rattle.tree_building.specs.Fresh.{TakesExactly, TakesNewPages};
 ghost use Rattle.tree_building.specs.Nodes.{CanStandBelow, IsNodeOver, AddsNode, CanStandBehind, CanStandInOne};
 
 use crate::fresh_page::put_page;
 use io_state::Fault;
-use node_balance::Separator;
-use page_bytes::PAGE_SIZE;
-use pages::Pages;
-use tree_node::{InnerView, InnerViewMut, Shape, TreeKey, write_inner};
+use pages::{PAGE_SIZE, Pages};
+use tree_node::{InnerView, InnerViewMut, Separator, Shape, TreeKey, write_inner};
 
 /// Puts a separator behind those of an inner node, and the child to its right.
 fn push_child(page: &mut [u8; PAGE_SIZE], shape: Shape, node: &Separator)
@@ -76,6 +74,7 @@ pub fn add_node<P: Pages>(
     ensures one { OnOk result (length beside.new.items ≡ length beside.old.items + 1) }
     ensures width { OnOk result (HaveWidth shape beside.old.items → HaveWidth shape beside.new.items) }
     ensures takes { TakesNewPages P.shown pages.old pages.new result }
+    ensures taken { TakesExactly P.shown 1 pages.old pages.new result }
 {
     let mut bytes = [0; PAGE_SIZE];
     write_over(&mut bytes, shape, group[0].child, &group[1..]);

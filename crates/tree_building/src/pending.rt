@@ -2,11 +2,11 @@
 
 ghost use Rattle.std.specs.Prelude.{◌≡◌, ◌≤◌, ◌<◌, ◌++◌, ◌∷◌, [], length};
 ghost use Rattle.tree_node.specs.Leaf.{leaf_entries, leaf_room};
-ghost use Rattle.node_balance.specs.Balance.{CanTake, FillsRightLeaf};
+ghost use Rattle.tree_node.specs.Balance.{CanTake, FillsRightLeaf};
 ghost use Rattle.tree_building.specs.Pending.{ArePending, TakesEntryBehind, AreUneven, AreEven};
 
 use crate::leaves::push_entry;
-use page_bytes::PAGE_SIZE;
+use pages::PAGE_SIZE;
 use tree_node::{LeafView, LeafViewMut, Shape};
 
 /// Puts an entry behind those of two leaves, the second of which has room for it.

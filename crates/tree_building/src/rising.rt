@@ -4,16 +4,15 @@ ghost use Rattle.std.specs.Prelude.{◌≡◌, ◌≤◌, ◌<◌, ◌+◌, ◌*
 ghost use Rattle.tree_node.specs.Inner.{inner_room};
 ghost use Rattle.bplus_tree.specs.Changes.{CanWrite, WhereSound};
 ghost use Rattle.tree_building.specs.Level.{HaveWidth};
-ghost use Rattle.tree_building.specs.Fresh.{TakesNewPages};
+ghost use Rattle.tree_building.specs.Fresh.{TakesNewPages, WhereCounted};
 ghost use Rattle.tree_building.specs.Rising.{Rises, Roots, AreFewAt};
 
 use crate::nodes::add_node;
 use crate::sharing::share;
 use io_state::Fault;
-use node_balance::Separator;
 use pages::Pages;
 use std::alloc::Global;
-use tree_node::Shape;
+use tree_node::{Separator, Shape};
 
 /// The root of a tree, and how many levels are above its leaves.
 #[derive(Clone, Copy)]
@@ -37,6 +36,8 @@ fn add_level<P: Pages>(
     ensures several { IfOk result (λ above. 2 ≤ length above.items) }
     ensures fewer { IfOk result (λ above. 16 * length above.items ≤ length nodes.now + 16) }
     ensures takes { TakesNewPages P.shown pages.old pages.new result }
+    ensures taken { IfOk result (λ above. (P.shown.state pages.new).available + length above.items
+        ≡ (P.shown.state pages.old).available) }
 {
     let room = shape.inner_room() + 1;
     let mut above = Vec::new(alloc);
@@ -62,7 +63,7 @@ pub fn add_root<P: Pages>(
     requires low { levels ≤ 16 }
     requires few { AreFewAt levels nodes.now }
     requires width { HaveWidth shape nodes.now }
-    ensures roots { WhereSound P.shown pages.old pages.new (Roots shape nodes.now levels result) }
+    ensures roots { WhereCounted P.shown pages.old pages.new (Roots shape nodes.now levels result) }
     ensures low { IfOk result (λ base. base.levels < 20) }
     ensures takes { TakesNewPages P.shown pages.old pages.new result }
 {

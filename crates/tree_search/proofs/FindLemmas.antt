@@ -7,7 +7,7 @@ use Rattle.std.proofs.Math.Seq.{drop-cons}
 use Rattle.std.proofs.lemmas.List.{take-append-drop, drop_all}
 use Rattle.std.proofs.lemmas.List.Folds.{find-append}
 use Rattle.std.proofs.lemmas.Slice.Eq.{bytes_eq-Decides}
-use Rattle.page_bytes.specs.Each.{Each}
+use Rattle.pages.specs.Each.{Each}
 use Rattle.tree_node.specs.Order.{less, Ascends, IsRank, AreBelow}
 use Rattle.tree_node.proofs.OrderLemmas.{less_itself, either, Each-weaker}
 use Rattle.tree_search.specs.Calls.{entry_of}

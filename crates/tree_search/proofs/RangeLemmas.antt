@@ -6,7 +6,7 @@ use Rattle.std.proofs.Math.Seq.{drop-cons}
 use Rattle.std.proofs.lemmas.List.{take-append-drop, drop_all}
 use Rattle.std.proofs.lemmas.List.Elements.{filter-append}
 use Rattle.arrayvec.specs.ArrayVec.{ArrayVec}
-use Rattle.page_bytes.specs.Each.{Each}
+use Rattle.pages.specs.Each.{Each}
 use Rattle.tree_node.specs.Order.{less, Ascends, IsRank}
 use Rattle.tree_node.proofs.OrderLemmas.{less_itself, less-trans, not_less, between_less, either, Each-weaker}
 use Rattle.tree_search.specs.declared.range.First.{First}

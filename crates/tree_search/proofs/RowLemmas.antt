@@ -1,6 +1,6 @@
 -- The member of a row below which a key belongs.
 use Rattle.std.proofs.Common.{◌≡◌, ℕ, zero, suc, ◌+◌, ◌<◌, ◌≤◌, true, false, List, [], ◌∷◌, ◌++◌, length, take, drop, get_or, Some, None, refl, ap, arith, flat_map}
-use Rattle.page_bytes.specs.Each.{Each}
+use Rattle.pages.specs.Each.{Each}
 use Rattle.tree_node.specs.Order.{less, Ascends}
 use Rattle.tree_node.proofs.OrderLemmas.{less_itself, less-trans, not_less, not_less_through, either, between_less, Each-weaker}
 use Rattle.tree_search.specs.Tree.{Bound, NotBelow, Above, Below, IsRow}

@@ -9,14 +9,14 @@ use Rattle.std.proofs.lemmas.Grind.{flat_map-append}
 use Rattle.arrayvec.specs.ArrayVec.{ArrayVec}
 use Rattle.io_state.specs.declared.fault.Fault.{Fault}
 use Rattle.tree_node.specs.declared.shape.Shape.{Shape}
-use Rattle.page_bytes.specs.Each.{Each}
+use Rattle.pages.specs.Each.{Each}
 use Rattle.tree_node.specs.Order.{less, IsRank, IsRankAfter}
 use Rattle.tree_node.proofs.OrderLemmas.{less_itself, not_less, Each-weaker}
 use Rattle.tree_node.proofs.LeafLemmas.{leaf_room_some}
 use Rattle.tree_node.proofs.InnerLemmas.{inner_room_some}
 use Rattle.pages.specs.PageMap.{PageMap}
 use Rattle.tree_search.specs.declared.descent.StepDown.{StepDown}
-use Rattle.node_balance.specs.Fill.{least_entries}
+use Rattle.tree_node.specs.Fill.{least_entries}
 use Rattle.tree_search.specs.Tree.{TreeOf, page_of, entries_of, Bound, IsRow, IsOrdered}
 use Rattle.tree_search.specs.Calls.{size_of, IsHalfFull, entry_of, first_from, first_after, last_of, IsTree}
 use Rattle.tree_search.specs.Stored.{Holds, IsLeafAt, IsInnerAt}

@@ -7,8 +7,8 @@ use Rattle.pages.specs.PageMap.{PageMap}
 use Rattle.tree_search.specs.Tree.{TreeOf, page_of, pages_of, Bound, IsOrdered}
 use Rattle.tree_search.specs.Stored.{Holds}
 use Rattle.pages.specs.Owners.{AreApart}
-use Rattle.page_bytes.specs.Each.{Each}
-use Rattle.node_balance.specs.Fill.{least_entries}
+use Rattle.pages.specs.Each.{Each}
+use Rattle.tree_node.specs.Fill.{least_entries}
 
 -- how many entries the root has, or separators
 abbrev pub size_of : (h : ℕ) → TreeOf h → ℕ

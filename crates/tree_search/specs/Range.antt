@@ -7,11 +7,11 @@ use Rattle.arrayvec.specs.ArrayVec.{ArrayVec}
 use Rattle.io_state.specs.declared.fault.Fault.{Fault}
 use Rattle.tree_node.specs.declared.shape.Shape.{Shape}
 use Rattle.tree_node.specs.Order.{less, Ascends, IsRank}
-use Rattle.page_bytes.specs.Each.{Each}
+use Rattle.pages.specs.Each.{Each}
 use Rattle.pages.specs.PageMap.{PageMap}
 use Rattle.pages.specs.ShownPages.{ShownPages}
 use Rattle.pages.specs.Answer.{IsAnswer}
-use Rattle.node_balance.specs.Fill.{least_entries}
+use Rattle.tree_node.specs.Fill.{least_entries}
 use Rattle.tree_search.specs.declared.range.First.{First}
 use Rattle.tree_search.specs.declared.range.Sight.{Sight}
 use Rattle.tree_search.specs.declared.range.Sight.TheVariants.{Answered, Unended}

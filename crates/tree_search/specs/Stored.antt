@@ -1,7 +1,7 @@
 -- A tree in pages.
 use Rattle.std.specs.Prelude.{◌≡◌, ℕ, zero, suc, List, map, Some}
 use Rattle.tree_node.specs.declared.shape.Shape.{Shape}
-use Rattle.page_bytes.specs.Each.{Each}
+use Rattle.pages.specs.Each.{Each}
 use Rattle.tree_node.specs.Leaf.{IsLeaf, leaf_entries}
 use Rattle.tree_node.specs.Inner.{IsInner, separators, children}
 use Rattle.tree_node.specs.Order.{Ascends}

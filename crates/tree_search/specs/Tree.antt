@@ -2,7 +2,7 @@
 -- between children.
 use Rattle.std.specs.Prelude.{◌≡◌, ℕ, zero, suc, List, [], ◌∷◌, take, flat_map, Option, Some, None, true}
 use Rattle.std.specs.Prelude.{false, ⊤}
-use Rattle.page_bytes.specs.Each.{Each}
+use Rattle.pages.specs.Each.{Each}
 use Rattle.tree_node.specs.Order.{less, Ascends}
 
 -- A tree with `h` levels above its leaves: its page, and in a leaf the entries, else the separators

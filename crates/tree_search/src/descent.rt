@@ -9,8 +9,7 @@ ghost use Rattle.tree_search.specs.Stored.{WhereRising};
 
 use crate::spot::entry_with;
 use io_state::Fault;
-use page_bytes::PAGE_SIZE;
-use pages::Pages;
+use pages::{PAGE_SIZE, Pages};
 use tree_node::{Entry, InnerView, LeafView, Shape, is_inner, is_leaf};
 
 /// The child of an inner node below which a key belongs: its place, its page, the page of the next

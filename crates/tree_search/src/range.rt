@@ -14,8 +14,7 @@ use crate::descent::{StepDown, step_in};
 use crate::search::first_child;
 use crate::spot::fill;
 use io_state::Fault;
-use page_bytes::PAGE_SIZE;
-use pages::Pages;
+use pages::{PAGE_SIZE, Pages};
 use tree_node::{Entry, InnerView, LeafView, Shape, is_inner, is_leaf};
 
 /// The first entry of a range, and whether the next entry of the tree is one of the range too.

@@ -15,8 +15,7 @@ ghost use Rattle.tree_search.specs.Search.{LeadsToLeaf, FillsKey, FillsFromBytes
 use crate::descent::{descend, has_key};
 use crate::spot::{Spot, entry_at, entry_in_leaf, entry_with, fill};
 use io_state::Fault;
-use page_bytes::PAGE_SIZE;
-use pages::Pages;
+use pages::{PAGE_SIZE, Pages};
 use tree_node::{Entry, InnerView, LeafView, Shape, is_inner, is_leaf};
 
 /// The entry of a key in a tree with `levels` levels above its leaves.

@@ -5,8 +5,7 @@ ghost use Rattle.tree_node.specs.Leaf.{IsLeaf, leaf_entries};
 ghost use Rattle.tree_search.specs.LookUps.{LooksUp};
 
 use io_state::Fault;
-use page_bytes::PAGE_SIZE;
-use pages::Pages;
+use pages::{PAGE_SIZE, Pages};
 use tree_node::{Entry, LeafView, Shape, is_leaf};
 
 /// The leaf of an entry, its place there, and how many entries the leaf has. Nowhere, where it has none.

@@ -11,8 +11,7 @@ ghost use Rattle.tree_search.specs.Tail.{TellsTailOfBytes, CanFillTail, CanFillF
 use crate::descent::has_key;
 use crate::search::leaf_below;
 use io_state::Fault;
-use page_bytes::PAGE_SIZE;
-use pages::Pages;
+use pages::{PAGE_SIZE, Pages};
 use tree_node::{LeafView, Shape, is_leaf};
 
 /// The bytes behind the key of an entry go to `tail`, in a tree with `levels` levels above its

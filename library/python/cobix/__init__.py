@@ -108,6 +108,11 @@ def _error(status, what):
     return (Misuse if status < 0 else _KINDS.get(status, NotPermitted))(status, what)
 
 
+def _are_below(limit, numbers):
+    """Whether C is told these numbers as they are: ctypes cuts a number to the bits that there are."""
+    return all(0 <= number < limit for number in numbers)
+
+
 class Field(namedtuple("Field", "name length kind")):
     """A field of a record: `str` is text with spaces behind it, `int` digits with zeros before them, `bytes` as it is."""
 
@@ -180,10 +185,12 @@ class Session:
     """The files of a folder, each with at most `pages` pages, of which `frames` are held in memory."""
 
     def __init__(self, folder, pages=0, frames=0):
-        self._at = c_void_p()
-        answer = _library.cobix_open(os.fsencode(folder), byref(_Limits(pages, frames)), byref(self._at))
+        self._at, path, what = c_void_p(), os.fsencode(folder), f"session over {os.fspath(folder)!r}"
+        if b"\0" in path or not _are_below(1 << 32, (pages, frames)):
+            raise _error(-3 if b"\0" in path else -1, what)
+        answer = _library.cobix_open(path, byref(_Limits(pages, frames)), byref(self._at))
         if answer < 0:
-            raise _error(answer, f"session over {os.fspath(folder)}")
+            raise _error(answer, what)
 
     def file(self, name, keys, fields=None, least=None, greatest=None, access="dynamic", optional=False):
         """Describes a file. The first key is the prime one. Nothing is read or written yet."""
@@ -224,13 +231,16 @@ class File:
         keys[1:] = sorted(keys[1:], key=lambda key: key.offset)
         self.keys = {key.name: number for number, key in enumerate(keys)}
         self._keys = keys
-        described = _Description(name.encode(), _ACCESSES[access], optional, length if least is None else least,
-                                 length if greatest is None else greatest, len(keys),
+        least, greatest = length if least is None else least, length if greatest is None else greatest
+        numbers = [least, greatest, *(number for key in keys for number in (key.offset, key.length))]
+        if "\0" in name or not _are_below(1 << 16, numbers):
+            raise _error(-7, f"description of {name!r}")
+        described = _Description(name.encode(), _ACCESSES[access], optional, least, greatest, len(keys),
                                  (_Key * len(keys))(*((key.offset, key.length, key.duplicates) for key in keys)))
         self._at = c_void_p()
         answer = _library.cobix_describe(session._at, byref(described), byref(self._at))
         if answer < 0:
-            raise _error(answer, f"description of {name}")
+            raise _error(answer, f"description of {name!r}")
 
     def _placed(self, key):
         offset = 0
@@ -243,8 +253,8 @@ class File:
         return key
 
     def _verb(self, verb, call, *operands):
-        if not self._session._at:
-            raise Misuse(-1, f"{verb} {self.name}, in a session that was closed")
+        if not self._session._at or not self._at:
+            raise Misuse(-1, f"{verb} {self.name}, {'which was released' if self._session._at else 'in a session that was closed'}")
         answer = getattr(_library, "cobix_" + call)(self._at, *operands)
         if answer >= 0:
             self.status = answer
@@ -292,8 +302,9 @@ class File:
         self._verb("CLOSE", "close_file", lock)
 
     def release(self):
-        """Gives up the description, and with it the lock of the system."""
+        """Gives up the description, and with it the lock of the system. The session may give its place to the next file."""
         self._verb("release of", "release")
+        self._at = c_void_p()
 
     def read_next(self):
         return self._reads("READ NEXT", "read_next")

@@ -4,7 +4,7 @@ ghost use Rattle.std.specs.Prelude.{◌≡◌};
 ghost use Rattle.tree_node.specs.Leaf.{IsLeaf};
 
 use super::leaf::Leaf;
-use page_bytes::PAGE_SIZE;
+use pages::PAGE_SIZE;
 use std::alloc::AllocError;
 use tree_node::{LeafView, LeafViewMut, Shape, write_leaf};
 

@@ -1,6 +1,6 @@
 use Rattle.std.proofs.Common.{◌≡◌, ◌≤◌, ◌+◌, List, ℕ, Some, length, sym, ap, ◌∙◌, arith, rules}
 use Rattle.std.proofs.lemmas.List.Edits.{length-remove}
-use Rattle.node_balance.specs.Fill.{least_entries}
+use Rattle.tree_node.specs.Fill.{least_entries}
 use Rattle.tree_node.specs.Leaf.{leaf_entries}
 use Rattle.bplus_tree.proofs.remove.take_spare.Goals as goal
 

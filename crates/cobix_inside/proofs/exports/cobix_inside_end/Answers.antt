@@ -1,6 +1,6 @@
 use Rattle.std.proofs.Common.{rules, ◌≡◌, ℕ, Option, Some, subst}
 use Rattle.indexed_file.specs.Shown.{Shown}
-use Rattle.file_session.specs.Files.{Files}
+use Rattle.serve.specs.Files.{Files}
 use Rattle.serve.specs.Serving.{ClosesAndCounts}
 use Rattle.cobix_inside.specs.Sessions.{ClosesAll}
 use Rattle.cobix_inside.proofs.exports.cobix_inside_end.Goals as goal

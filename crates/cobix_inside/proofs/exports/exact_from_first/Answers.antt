@@ -1,7 +1,7 @@
 use Rattle.std.proofs.Common.{◌≡◌, ℕ, Bool, [], sym, ap, subst}
 use Rattle.page_store.specs.ShelfState.{ShelfState}
 use Rattle.indexed_file.specs.Shown.{Shown}
-use Rattle.file_session.specs.Files.{Files}
+use Rattle.serve.specs.Files.{Files}
 use Rattle.serve.specs.ExactSession.{ExactAfter, ExactInRequests}
 use Rattle.shelf_library.specs.State.{LibraryState}
 use Rattle.shelf_library.specs.Units.{world_of}

@@ -3,8 +3,8 @@ use Rattle.std.specs.NonZero.{non_zero_usize_get}
 use Rattle.page_store.specs.DeviceFile.{absent}
 use Rattle.folder_shelf.specs.Replay.{Unseen}
 use Rattle.std.specs.Option.{IfSome}
-use Rattle.file_session.specs.Files.{Files, files_at_start}
-use Rattle.inside_session.specs.NewLibrary.{IsNewInside}
+use Rattle.serve.specs.Files.{Files, files_at_start}
+use Rattle.cobix_inside.specs.NewLibrary.{IsNewInside}
 use Rattle.cobix_inside.specs.Sessions.{IsNewSession}
 use Rattle.cobix_inside.proofs.exports.session.Goals as goal
 

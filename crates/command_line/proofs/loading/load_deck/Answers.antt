@@ -1,18 +1,17 @@
 use Rattle.std.proofs.Common.{◌≡◌, ℕ, List, [], find, Some, Ok, Err, string_bytes, refl, sym, ap, ◌∙◌, inr, subst}
 use Rattle.std.proofs.Common.{Result}
 use Rattle.std.proofs.lemmas.Result.{IfErr-at_err}
-use Rattle.shelf_loading.specs.declared.end.ShelfEnd.{ShelfEnd}
+use Rattle.record_loading.specs.declared.shelf_end.ShelfEnd.{ShelfEnd}
 use Rattle.command_outcomes.specs.declared.fault.Fault.{Fault}
 use Rattle.file_control.specs.Description.{FileDesc}
 use Rattle.record_layout.specs.Schema.{Schema}
-use Rattle.record_loading.specs.Loading.{listing}
 use Rattle.recorded_system.specs.SystemState.{file_path}
 use Rattle.record_loading.specs.declared.end.Load.{Load}
 use Rattle.file_commands.specs.DeckFile.{is_named_in_deck, IsFileOf}
 use Rattle.command_line.specs.LoadForm.{form_word}
 use Rattle.command_line.proofs.LoadFormLemmas.{laid_in, form_is_whole}
 use Rattle.command_line.proofs.LoadingLemmas.{told_fault, deck_fault, untouched_unless}
-use Rattle.command_line.specs.Loaded.{LoadsFolder, TellsLoad, IsShelfFault, load_of}
+use Rattle.command_line.specs.Loaded.{LoadsFolder, TellsLoad, IsShelfFault, load_of, load_source}
 use Rattle.command_line.proofs.loading.load_deck.Goals as goal
 
 pub load_over_folder-system-requires-clause-unasked : goal.load_over_folder-system-requires-clause-unasked
@@ -38,9 +37,9 @@ returns-in-Ok-end g c =
     let reads = c.in-Ok-read_text.ensures in
     let named : IsFileOf c.in-Ok.deck.files c.args.asked.file.now file =
     sym (subst (λ (files : List FileDesc). Some file ≡ find (is_named_in_deck c.args.asked.file.now) files) c.as_slice.ensures c.in-Some.ensures) in
-    let loads_as : Load → List ℕ → Type 0 = λ load text. LoadsFolder g.D.Disk.unseen (string_bytes c.args.folder) file.file file.schema load (listing c.in-Ok-form_of.form text) system (Ok end) in
+    let loads_as : Load → List ℕ → Type 0 = λ load text. LoadsFolder g.D.Disk.unseen (string_bytes c.args.folder) file.file file.schema load (load_source c.in-Ok-form_of.form text c.args.asked.lines) system (Ok end) in
     let loads : loads_as (load_of c.args.asked.into) c.in-Ok-read_text.text.items =
-    subst (loads_as (load_of c.args.asked.into)) c.as_slice-2.ensures.value (subst (λ (load : Load). loads_as load c.as_slice-2.result.now) c.load_of.ensures (subst (λ (r : Result ShelfEnd Fault). LoadsFolder g.D.Disk.unseen (string_bytes c.args.folder) file.file file.schema c.load_of.result (listing c.in-Ok-form_of.form c.as_slice-2.result.now) system r) c.in-Ok-end.is c.load_over_folder-system.ensures.loads)) in
+    subst (loads_as (load_of c.args.asked.into)) c.as_slice-2.ensures.value (subst (λ (load : Load). loads_as load c.as_slice-2.result.now) c.load_of.ensures (subst (λ (r : Result ShelfEnd Fault). LoadsFolder g.D.Disk.unseen (string_bytes c.args.folder) file.file file.schema c.load_of.result (load_source c.in-Ok-form_of.form c.as_slice-2.result.now c.args.asked.lines) system r) c.in-Ok-end.is c.load_over_folder-system.ensures.loads)) in
     let path = file_path (string_bytes c.args.folder) file.file in
     let calls = c.tell_end-told.ensures.calls in
     let told_at : List ℕ → Schema → Type 0 = λ at schema. TellsLoad at schema (Ok end) calls before behind outcome in
@@ -81,9 +80,9 @@ returns g c =
     let reads = c.in-Ok-read_text.ensures in
     let named : IsFileOf c.in-Ok.deck.files c.args.asked.file.now file =
     sym (subst (λ (files : List FileDesc). Some file ≡ find (is_named_in_deck c.args.asked.file.now) files) c.as_slice.ensures c.in-Some.ensures) in
-    let loads_as : Load → List ℕ → Type 0 = λ load text. LoadsFolder g.D.Disk.unseen (string_bytes c.args.folder) file.file file.schema load (listing c.in-Ok-form_of.form text) system (Err fault) in
+    let loads_as : Load → List ℕ → Type 0 = λ load text. LoadsFolder g.D.Disk.unseen (string_bytes c.args.folder) file.file file.schema load (load_source c.in-Ok-form_of.form text c.args.asked.lines) system (Err fault) in
     let loads : loads_as (load_of c.args.asked.into) c.in-Ok-read_text.text.items =
-    subst (loads_as (load_of c.args.asked.into)) c.as_slice-2.ensures.value (subst (λ (load : Load). loads_as load c.as_slice-2.result.now) c.load_of.ensures (subst (λ (r : Result ShelfEnd Fault). LoadsFolder g.D.Disk.unseen (string_bytes c.args.folder) file.file file.schema c.load_of.result (listing c.in-Ok-form_of.form c.as_slice-2.result.now) system r) c.in-Err-end.is c.load_over_folder-system.ensures.loads)) in
+    subst (loads_as (load_of c.args.asked.into)) c.as_slice-2.ensures.value (subst (λ (load : Load). loads_as load c.as_slice-2.result.now) c.load_of.ensures (subst (λ (r : Result ShelfEnd Fault). LoadsFolder g.D.Disk.unseen (string_bytes c.args.folder) file.file file.schema c.load_of.result (load_source c.in-Ok-form_of.form c.as_slice-2.result.now c.args.asked.lines) system r) c.in-Err-end.is c.load_over_folder-system.ensures.loads)) in
     let path = file_path (string_bytes c.args.folder) file.file in
     let told : TellsLoad path file.schema (Err fault) [] before before (Err fault) = (refl, IfErr-at_err IsShelfFault c.in-Err-end.is c.load_over_folder-system.ensures.fault, refl, refl) in
     let failed = told_fault path file.schema (Err fault) [] before before (Err fault) told in record {

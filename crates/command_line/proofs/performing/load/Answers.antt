@@ -16,9 +16,9 @@ returns g c =
     let before = g.W.Write.contents c.args.out.now in
     let behind = g.W.Write.contents c.load_deck.new.out in
     let between = g.S.System.state c.inputs_of.new.system in
-    let comes : List ℕ → List ℕ → List ℕ → Type 0 = λ bytes folder word. ComesOfLoad (BeginsLoad between.calls left bytes folder c.args.asked.file.now c.args.asked.text.now word c.args.asked.into
+    let comes : List ℕ → List ℕ → List ℕ → Type 0 = λ bytes folder word. ComesOfLoad (BeginsLoad between.calls left bytes folder c.args.asked.file.now c.args.asked.text.now word c.args.asked.into c.args.asked.lines
     g.D.Disk.unseen made before behind c.load_deck.result.1) IsDeckFault between made c.args.out.now c.load_deck.new.out c.load_deck.result.1 in
-    load_of_deck (g.S.System.state c.args.system) between made at_first left c.args.deck.now c.args.folder.now c.args.asked.file.now c.args.asked.text.now c.args.asked.form.now c.args.asked.into
+    load_of_deck (g.S.System.state c.args.system) between made at_first left c.args.deck.now c.args.folder.now c.args.asked.file.now c.args.asked.text.now c.args.asked.form.now c.args.asked.into c.args.asked.lines
     g.D.Disk.unseen before behind c.args.out.now c.load_deck.new.out c.load_deck.result.1 inputs.0.items given.1 given.2 given.3 c.inputs_of.ensures.reads.reads
     (λ other. ap (λ input. g.I.Read.remaining input.reader) (c.inputs_of.ensures.unread other)) (c.are_both_input.ensures.other c.if-are_both_input.false)
     (subst (λ (word : List ℕ). comes inputs.0.items c.args.folder.now word) (sym c.in-Some.ensures.kind)

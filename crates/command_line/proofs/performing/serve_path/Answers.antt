@@ -1,6 +1,6 @@
 use Rattle.std.proofs.Common.{◌≡◌, ◌∷◌, Some, true, refl, ap, ◌∙◌, sym, inl, inr}
 use Rattle.recorded_system.specs.Calls.{asked_of_folder}
-use Rattle.standard_input.specs.Source.{source_of}
+use Rattle.streams.specs.Source.{source_of}
 use Rattle.command_line.specs.Session.{streams_of}
 use Rattle.command_line.proofs.AskedSessionLemmas.{session_ends}
 use Rattle.command_line.proofs.performing.serve_path.Goals as goal

@@ -1,13 +1,23 @@
 use Rattle.std.proofs.Common.{◌∙◌, sym}
-use Rattle.deck_parser.proofs.RepeatLemmas.{next_turn, turn_takes_a_word}
-use Rattle.deck_entries.specs.FileDescription.{with_clause, description_clause}
-use Rattle.deck_entries.proofs.DescriptionLemmas.{lawful_description_clause, clauses_are_fit}
+use Rattle.std.proofs.lemmas.Result.{err_from_is_err_and}
+use Rattle.deck_parser.proofs.TurnLemmas.{further, not_further, finished, turn_takes_some}
+use Rattle.deck_entries.specs.FileDescription.{description_clause}
+use Rattle.deck_entries.proofs.DescriptionLemmas.{alike_clauses}
 use Rattle.deck_entries.proofs.clauses.read_clauses.Goals as goal
+
+pub returns-in_err-clauses : goal.returns-in_err-clauses
+returns-in_err-clauses c =
+    let p = err_from_is_err_and c.from_residual.result c.from_residual.ensures.1 in
+    rw (p.1, p.2) (not_further description_clause _ _ alike_clauses _ _ c.more.clauses c.more.parser c.in_err-clauses.field-0.0 c.more.invariant (sym (c.sees_clause.ensures c.more.clauses) ∙ c.more-test.true) c.in_err-clauses.ensures)
 
 pub more-smaller : goal.more-smaller
 more-smaller c =
-    turn_takes_a_word with_clause description_clause lawful_description_clause clauses_are_fit c.more.clauses c.in_ok-clauses.clauses c.more.parser c.clause.new.parser c.in_ok-clauses.ensures
+    turn_takes_some description_clause _ _ alike_clauses c.more.clauses c.in_ok-clauses.clauses c.more.parser c.clause.new.parser c.in_ok-clauses.ensures.0
 
 pub more-preserved : goal.more-preserved
 more-preserved c =
-    c.more.invariant ∙ next_turn with_clause description_clause lawful_description_clause clauses_are_fit c.more.clauses c.more.parser c.clause.new.parser c.in_ok-clauses.clauses (sym c.sees_clause.ensures ∙ c.more-test.true) c.in_ok-clauses.ensures
+    further description_clause _ _ alike_clauses _ _ c.more.clauses c.in_ok-clauses.clauses c.more.parser c.clause.new.parser c.more.invariant (sym (c.sees_clause.ensures c.more.clauses) ∙ c.more-test.true) c.in_ok-clauses.ensures.0
+
+pub returns : goal.returns
+returns c =
+    (finished description_clause _ _ alike_clauses _ _ c.more.clauses c.more.parser c.more.invariant (sym (c.sees_clause.ensures c.more.clauses) ∙ c.more-test.false), tt)

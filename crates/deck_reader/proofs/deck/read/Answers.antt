@@ -1,4 +1,4 @@
-use Rattle.std.proofs.Common.{inl, inr}
+use Rattle.std.proofs.Common.{inl, inr, sym}
 use Rattle.std.proofs.lemmas.Result.{err_from_is_err_and}
 use Rattle.deck_reader.proofs.DeckLemmas.{no_deck}
 use Rattle.deck_reader.proofs.deck.read.Goals as goal
@@ -19,7 +19,7 @@ returns-in_err-placed-clause-deck c =
     rw (p.1, p.2) (record {
       given = tt;
       none = λ other. no_deck c.one_description.ensures c.args.words.now c.in_ok-description.description c.in_ok-description.ensures.description.given
-          (λ statements s. c.in_err-placed.ensures.none other statements (rw (c.as_slice.ensures, c.as_slice-2.ensures, c.skip-rest.ensures) s));
+          (λ statements s. c.in_err-placed.ensures.statements.none other statements (rw (c.as_slice.ensures, c.as_slice-2.ensures, c.skip-rest.ensures) s));
     })
 
 pub returns-in_err-placed-clause-fault : goal.returns-in_err-placed-clause-fault
@@ -28,5 +28,5 @@ returns-in_err-placed-clause-fault c =
     rw (p.1, p.2) (λ other. inr (
       c.in_ok-description.description,
       c.in_ok-description.ensures.description.given,
-      λ statements s. c.in_err-placed.ensures.none other statements (rw (c.as_slice.ensures, c.as_slice-2.ensures, c.skip-rest.ensures) s),
+      rw (sym c.as_slice.ensures, sym c.as_slice-2.ensures, sym c.skip-rest.ensures) (c.in_err-placed.ensures.fault other),
     ))

@@ -1,6 +1,6 @@
 use Rattle.std.proofs.Common.{◌≡◌, List, ℕ, Option, Some, inl, refl, subst}
 use Rattle.std.specs.Io.KnownBytes.{Consumes}
-use Rattle.page_marks.specs.declared.fault_place.FaultPlace.TheVariants.{File as TheFile}
+use Rattle.pages.specs.declared.fault_place.FaultPlace.TheVariants.{File as TheFile}
 use Rattle.file_checker.specs.Sound.{IsReadFor, IsShort, IsUnsoundAt}
 use Rattle.file_checker.specs.Bytes.{HasLess}
 use Rattle.file_checker.specs.declared.verdict.Reason.TheVariants.{Short}

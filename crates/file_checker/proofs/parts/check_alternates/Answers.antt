@@ -1,18 +1,18 @@
 use Rattle.std.proofs.Common.{◌≡◌, List, [], ◌<◌, ◌∙◌, length, slice_index_or, inl, refl, ap, sym, subst, arith}
 use Rattle.tree_node.specs.Order.{Ascends}
-use Rattle.page_marks.specs.Marks.{marked_in}
-use Rattle.page_marks.specs.PageList.{pages_in}
-use Rattle.page_marks.proofs.MarksLemmas.{marks_none}
+use Rattle.pages.specs.Marks.{marked_in}
+use Rattle.pages.specs.PageList.{pages_in}
+use Rattle.pages.proofs.MarksLemmas.{marks_none}
 use Rattle.page_walks.specs.declared.leaf.Leaf.{Leaf}
 use Rattle.page_walks.specs.Spots.{entries_at, spots_in}
 use Rattle.key_index.specs.declared.alt_index.AltIndex.{AltIndex}
-use Rattle.row_checks.specs.Ahead.{AlternateAhead}
-use Rattle.row_checks.specs.Alternate.{AlternateStands}
+use Rattle.file_checker.specs.RowsAhead.{AlternateAhead}
+use Rattle.file_checker.specs.Alternate.{AlternateStands}
 use Rattle.bplus_tree.specs.Fields.{tree_shape}
 use Rattle.file_checker.proofs.AlternateLemmas.{entries_rise, alternates_more}
 use Rattle.file_checker.proofs.AlternatesAheadLemmas.{alternate_ahead, alternates_next, stopped_by_rows, stopped_by_walk, tree_ahead}
-use Rattle.row_checks.specs.Ahead.{PrimesLead}
-use Rattle.row_checks.specs.Faults.{IsAlternateFault, TellsOfRows}
+use Rattle.file_checker.specs.RowsAhead.{PrimesLead}
+use Rattle.file_checker.specs.RowFaults.{IsAlternateFault, TellsOfRows}
 use Rattle.file_checker.proofs.FaultLemmas.{reached_next, told_of_entries, told_of_tree}
 use Rattle.file_checker.proofs.parts.check_alternates.Goals as goal
 use Rattle.open_file.specs.Fields.{alternates_of}

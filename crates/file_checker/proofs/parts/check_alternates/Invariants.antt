@@ -1,5 +1,5 @@
 use Rattle.std.proofs.Common.{◌≡◌, ℕ, true, length}
-use Rattle.page_marks.specs.Marks.{marked_in}
+use Rattle.pages.specs.Marks.{marked_in}
 use Rattle.file_checker.specs.Later.{IsMarkedBefore}
 use Rattle.page_walks.specs.Spots.{spots_in}
 use Rattle.file_checker.specs.Ahead.{AlternatesAhead}

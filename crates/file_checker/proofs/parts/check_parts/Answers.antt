@@ -1,26 +1,26 @@
 use Rattle.std.proofs.Common.{◌≡◌, ℕ, ◌<◌, true, List, length, inl, inr, refl, sym, ap, subst, ◌∙◌, arith}
-use Rattle.page_bytes.specs.Each.{Each}
-use Rattle.page_marks.specs.declared.fault_place.FaultPlace.TheVariants.{Page}
-use Rattle.page_marks.specs.Marks.{IsUnmarked}
-use Rattle.page_marks.proofs.ToldLemmas.{never_free}
+use Rattle.pages.specs.Each.{Each}
+use Rattle.pages.specs.declared.fault_place.FaultPlace.TheVariants.{Page}
+use Rattle.pages.specs.Marks.{IsUnmarked}
+use Rattle.pages.proofs.ToldLemmas.{never_free}
 use Rattle.page_walks.specs.FreeWalk.{IsFreeFault}
 use Rattle.page_walks.specs.TreeFaults.{IsTreeFault}
 use Rattle.page_walks.specs.TreeWalk.{TreeWalked}
 use Rattle.record_heap.specs.Faults.{IsHeapFault}
 use Rattle.record_heap.specs.Standing.{HeapStands}
-use Rattle.row_checks.specs.Ahead.{PrimesLead}
-use Rattle.row_checks.specs.Faults.{IsRowFault, TellsOfRows}
-use Rattle.row_checks.specs.Search.{IsPrimeLeaf}
+use Rattle.file_checker.specs.RowsAhead.{PrimesLead}
+use Rattle.file_checker.specs.RowFaults.{IsRowFault, TellsOfRows}
+use Rattle.file_checker.specs.Search.{IsPrimeLeaf}
 use Rattle.file_checker.specs.Later.{TellsOfIndexes}
 use Rattle.file_checker.proofs.FaultLemmas.{all_are_marked, before_alternates, before_free, before_heap, before_prime, is_unmarked, tells_indexes, tells_rows, tells_walk}
-use Rattle.page_marks.specs.Marks.{marked_in}
-use Rattle.page_marks.specs.PageList.{pages_in}
+use Rattle.pages.specs.Marks.{marked_in}
+use Rattle.pages.specs.PageList.{pages_in}
 use Rattle.page_walks.specs.declared.leaf.Leaf.{Leaf}
 use Rattle.page_walks.specs.Spots.{spots_in}
-use Rattle.row_checks.proofs.LawLemmas.{make_a_file}
-use Rattle.row_checks.specs.Ahead.{RowsAhead}
-use Rattle.row_checks.specs.Rows.{EntriesRise, RowsStand}
-use Rattle.row_checks.proofs.AheadLemmas.{primes_lead}
+use Rattle.file_checker.proofs.LawLemmas.{make_a_file}
+use Rattle.file_checker.specs.RowsAhead.{RowsAhead}
+use Rattle.file_checker.specs.Rows.{EntriesRise, RowsStand}
+use Rattle.file_checker.proofs.PrimeAheadLemmas.{primes_lead}
 use Rattle.record_heap.specs.Standing.{slot_shape}
 use Rattle.record_heap.specs.Walk.{slots_of}
 use Rattle.file_checker.specs.Ahead.{AlternatesAhead}

@@ -22,5 +22,5 @@ returns-in-Ok g c =
     let same = subst (λ (is : Bool). TellsOther schema c.as_slice.result.now g.W.Write.contents c.args.out.now c.is_other.new.out is) is_false c.in-Ok-false.ensures in (
       subst (λ all. AgreesWith schema all) c.as_slice.ensures.value same.0,
       subst (λ all. EndsWith schema all before behind c.in-Ok.end) closed
-          (subst (λ out. EndsWith schema (with_gate_closed bytes) (g.W.Write.contents out) behind c.in-Ok.end) same.1 c.in-Ok.ensures),
+          (subst (λ out. EndsWith schema (with_gate_closed bytes) (g.W.Write.contents out) behind c.in-Ok.end) same.1 c.in-Ok.ensures.ends),
     )

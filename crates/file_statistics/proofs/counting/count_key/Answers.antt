@@ -1,5 +1,5 @@
 use Rattle.std.proofs.Common.{ap, ◌∙◌, refl}
-use Rattle.page_counts.specs.Levels.{all_pages}
+use Rattle.page_walks.specs.Levels.{all_pages}
 use Rattle.file_statistics.proofs.CountLemmas.{tree_in, key_counts, few_pages, leaves_are, few_entries, values_together}
 use Rattle.file_statistics.proofs.counting.count_key.Goals as goal
 

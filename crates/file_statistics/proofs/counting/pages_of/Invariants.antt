@@ -1,5 +1,5 @@
 use Rattle.std.proofs.Common.{◌≡◌, ◌+◌, drop}
-use Rattle.page_counts.specs.Levels.{all_pages}
+use Rattle.page_walks.specs.Levels.{all_pages}
 use Rattle.file_statistics.proofs.counting.pages_of.Given as goal
 
 abbrev pub invariant-loop-level : goal.invariant-loop-level

@@ -1,12 +1,12 @@
 use Rattle.std.proofs.Common.{◌≡◌, ◌-◌, ◌+◌, ◌<◌, ℕ, add-one, arith, refl, subst, ◌∙◌}
 use Rattle.page_walks.specs.FreeWalk.{FreeAhead, FreeFront, IsFreePage}
-use Rattle.page_marks.specs.Marks.{IsUnmarked, marked_in}
-use Rattle.page_marks.proofs.RefusedLemmas.{handed_on, refused}
+use Rattle.pages.specs.Marks.{IsUnmarked, marked_in}
+use Rattle.pages.proofs.RefusedLemmas.{handed_on, refused}
 use Rattle.page_walks.proofs.FreeLemmas.{free_none, free_more, free_walked}
 use Rattle.page_walks.proofs.FreeAheadLemmas.{ahead_free, ahead_unmarked, ahead_next, ahead_ends}
 use Rattle.page_walks.specs.FreeWalk.{IsFreeFault}
 use Rattle.page_walks.proofs.FreeFaultLemmas.{tells_more_pages, tells_next, tells_shared}
-use Rattle.page_marks.proofs.ToldLemmas.{handed_told, never_free}
+use Rattle.pages.proofs.ToldLemmas.{handed_told, never_free}
 use Rattle.page_walks.proofs.free_walk.walk_free.Goals as goal
 
 pub loop-init : goal.loop-init

@@ -1,5 +1,5 @@
 use Rattle.std.proofs.Common.{◌≡◌, ◌-◌, length}
-use Rattle.page_marks.specs.Marks.{marked_in}
+use Rattle.pages.specs.Marks.{marked_in}
 use Rattle.page_walks.specs.FreeWalk.{FreeAhead, FreeFront}
 use Rattle.page_walks.proofs.free_walk.walk_free.Given as goal
 

@@ -2,21 +2,21 @@ use Rattle.std.proofs.Common.{◌≡◌, IfErr, ◌-◌, ◌+◌, suc, ◌<◌, 
 use Rattle.std.specs.Option.{option_copied}
 use Rattle.tree_node.specs.Inner.{separators, children}
 use Rattle.tree_node.proofs.InnerLemmas.{length_children, length_separators}
-use Rattle.node_balance.specs.Fill.{least_entries}
-use Rattle.page_marks.specs.PageList.{pages_in}
+use Rattle.tree_node.specs.Fill.{least_entries}
+use Rattle.pages.specs.PageList.{pages_in}
 use Rattle.page_walks.specs.Spots.{spots_in}
 use Rattle.page_walks.specs.TreeWalk.{bound_at, reach_of, IsInnerWithin, IsLeafWithin}
 use Rattle.page_walks.proofs.WalkLemmas.{on_ok, bound_next, walked_as, leaf_walked, front_none, front_next, node_walked}
 use Rattle.page_walks.specs.TreeAhead.{RowAhead, TreeAhead}
-use Rattle.page_marks.specs.Marks.{IsUnmarked}
-use Rattle.page_marks.proofs.RefusedLemmas.{err_refuses_more, handed_on, refused}
+use Rattle.pages.specs.Marks.{IsUnmarked}
+use Rattle.pages.proofs.RefusedLemmas.{err_refuses_more, handed_on, refused}
 use Rattle.page_walks.proofs.TreeAheadLemmas.{ahead_as, ahead_children, ahead_inner, ahead_leaf, ahead_there, ahead_unmarked, only_memory, row_end, row_first, row_rest, row_split}
 use Rattle.tree_search.specs.Tree.{Bound}
-use Rattle.page_marks.specs.declared.fault_place.FaultPlace.TheVariants.{Page}
-use Rattle.page_marks.specs.declared.page_fault.PageFault.TheVariants.{Node, Shared}
-use Rattle.page_marks.specs.Told.{TellsOfFault}
+use Rattle.pages.specs.declared.fault_place.FaultPlace.TheVariants.{Page}
+use Rattle.pages.specs.declared.page_fault.PageFault.TheVariants.{Node, Shared}
+use Rattle.pages.specs.Told.{TellsOfFault}
 use Rattle.page_walks.specs.TreeFaults.{IsNodeFault, IsSomewhereBelow, MarksBelow, NodePlace, child_place, node_place}
-use Rattle.page_marks.proofs.ToldLemmas.{err_tells_more, handed_told, never_free, only_memory_told, tells_on, told}
+use Rattle.pages.proofs.ToldLemmas.{err_tells_more, handed_told, never_free, only_memory_told, tells_on, told}
 use Rattle.page_walks.proofs.TreeFaultLemmas.{behind_inside, behind_last, below_child, beyond_the_list, child_is, inner_there, leaf_there, marks_done, marks_first, marks_next, marks_page, reached_before, wrong_there}
 use Rattle.page_walks.proofs.tree_walk.+walk_below.Goals as goal
 

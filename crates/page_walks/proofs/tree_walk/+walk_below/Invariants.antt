@@ -1,8 +1,8 @@
 use Rattle.std.proofs.Common.{◌≡◌, ◌≤◌, ◌-◌, drop}
 use Rattle.std.specs.Option.{option_copied}
 use Rattle.tree_node.specs.Inner.{separators, children}
-use Rattle.page_marks.specs.PageList.{pages_in}
-use Rattle.page_bytes.specs.Each.{Each}
+use Rattle.pages.specs.PageList.{pages_in}
+use Rattle.pages.specs.Each.{Each}
 use Rattle.page_walks.specs.Spots.{IsLeafThere, spots_in}
 use Rattle.page_walks.specs.TreeAhead.{RowAhead, TreeAhead}
 use Rattle.page_walks.specs.TreeWalk.{WalkedFront, bound_at, reach_of}

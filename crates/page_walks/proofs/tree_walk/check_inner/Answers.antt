@@ -1,9 +1,9 @@
 use Rattle.std.proofs.Common.{◌≡◌, ◌≤◌, length, refl, arith}
-use Rattle.page_marks.specs.declared.fault_place.FaultPlace.TheVariants.{Entry}
-use Rattle.page_marks.specs.declared.page_fault.PageFault.TheVariants.{Order}
+use Rattle.pages.specs.declared.fault_place.FaultPlace.TheVariants.{Entry}
+use Rattle.pages.specs.declared.page_fault.PageFault.TheVariants.{Order}
 use Rattle.tree_node.specs.Inner.{separators}
 use Rattle.page_walks.specs.TreeFaults.{IsNodeFault, node_place}
-use Rattle.page_marks.proofs.ToldLemmas.{told}
+use Rattle.pages.proofs.ToldLemmas.{told}
 use Rattle.page_walks.proofs.tree_walk.check_inner.Goals as goal
 
 pub returns-in-Err-clause-told : goal.returns-in-Err-clause-told

@@ -4,15 +4,15 @@ use Rattle.page_walks.specs.declared.leaf.Leaf.{Leaf}
 use Rattle.page_walks.specs.Spots.{spots_in}
 use Rattle.page_walks.proofs.WalkLemmas.{whole_tree}
 use Rattle.std.proofs.lemmas.Bool.{false≢true}
-use Rattle.page_marks.specs.PageList.{pages_in}
-use Rattle.page_marks.proofs.RefusedLemmas.{handed_on, refused}
+use Rattle.pages.specs.PageList.{pages_in}
+use Rattle.pages.proofs.RefusedLemmas.{handed_on, refused}
 use Rattle.page_walks.specs.TreeAhead.{TreeAhead, TreeUnmarked}
 use Rattle.page_walks.specs.TreeWalk.{reach_of}
 use Rattle.page_walks.proofs.TreeAheadLemmas.{whole_ahead, whole_count}
-use Rattle.page_marks.specs.declared.fault_place.FaultPlace.TheVariants.{Page}
-use Rattle.page_marks.specs.declared.page_fault.PageFault.TheVariants.{Count}
+use Rattle.pages.specs.declared.fault_place.FaultPlace.TheVariants.{Page}
+use Rattle.pages.specs.declared.page_fault.PageFault.TheVariants.{Count}
 use Rattle.page_walks.specs.TreeFaults.{IsSomewhereBelow, IsTreeFault, root_place}
-use Rattle.page_marks.proofs.ToldLemmas.{tells_on, told}
+use Rattle.pages.proofs.ToldLemmas.{tells_on, told}
 use Rattle.page_walks.proofs.TreeFaultLemmas.{in_tree, other_count}
 use Rattle.page_walks.proofs.tree_walk.walk_tree.Goals as goal
 

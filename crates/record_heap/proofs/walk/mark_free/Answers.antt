@@ -1,11 +1,11 @@
 use Rattle.std.proofs.Common.{◌≡◌, ◌<◌, ℕ, ◌+◌, suc, take, get_or, List, [], ◌++◌, ◌∷◌, sym, subst, arith, length}
 use Rattle.std.proofs.Math.Seq.{take-suc}
-use Rattle.page_marks.specs.PageList.{pages_in}
-use Rattle.page_marks.proofs.RefusedLemmas.{handed_on, refused}
+use Rattle.pages.specs.PageList.{pages_in}
+use Rattle.pages.proofs.RefusedLemmas.{handed_on, refused}
 use Rattle.record_heap.specs.Chain.{IsOneOf}
 use Rattle.record_heap.specs.Slot.{room}
 use Rattle.record_heap.specs.declared.shape.Place.{Place}
-use Rattle.page_marks.specs.declared.walk_fault.WalkFault.{WalkFault}
+use Rattle.pages.specs.declared.walk_fault.WalkFault.{WalkFault}
 use Rattle.record_heap.specs.SlotMarks.{HasMark}
 use Rattle.record_heap.specs.Walk.{AreMarked, IsFreeOrUsed, OwnAhead, SlotsAhead}
 use Rattle.record_heap.specs.Faults.{AreOwnPages, IsWrongSlot, TellsOfChain}

@@ -1,5 +1,5 @@
 use Rattle.std.proofs.Common.{take}
-use Rattle.page_marks.specs.PageList.{pages_in}
+use Rattle.pages.specs.PageList.{pages_in}
 use Rattle.record_heap.specs.SlotMarks.{SameSlots}
 use Rattle.record_heap.specs.Walk.{AreMarked}
 use Rattle.record_heap.proofs.walk.mark_free.Given as goal

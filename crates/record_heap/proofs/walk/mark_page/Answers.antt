@@ -1,9 +1,9 @@
 use Rattle.std.proofs.Common.{◌<◌, ℕ, List, refl, sym, subst}
 use Rattle.record_heap.specs.declared.shape.Place.{Place}
 use Rattle.record_heap.specs.Slot.{room}
-use Rattle.page_marks.proofs.RefusedLemmas.{handed_on}
+use Rattle.pages.proofs.RefusedLemmas.{handed_on}
 use Rattle.record_heap.specs.SlotMarks.{HasMark}
-use Rattle.page_marks.specs.Refused.{RefusesRightly}
+use Rattle.pages.specs.Refused.{RefusesRightly}
 use Rattle.record_heap.specs.Walk.{IsFreeOrUsed, SlotMarked, SlotsAhead}
 use Rattle.record_heap.specs.Faults.{IsWrongOfPage, TellsOfChain}
 use Rattle.record_heap.proofs.FaultLemmas.{fault_on, wrong_of_page}

@@ -1,11 +1,11 @@
 use Rattle.std.proofs.Common.{List, ℕ, subst, sym}
-use Rattle.page_marks.specs.PageList.{pages_in}
-use Rattle.page_marks.specs.Refused.{RefusesRightly}
-use Rattle.page_marks.proofs.RefusedLemmas.{handed_on}
+use Rattle.pages.specs.PageList.{pages_in}
+use Rattle.pages.specs.Refused.{RefusesRightly}
+use Rattle.pages.proofs.RefusedLemmas.{handed_on}
 use Rattle.record_heap.specs.Walk.{ChainAhead, HeapAhead, OwnStands, SlotsKept}
 use Rattle.record_heap.proofs.HeapAheadLemmas.{own_is}
 use Rattle.record_heap.proofs.WalkLemmas.{path_ends}
-use Rattle.page_marks.proofs.ToldLemmas.{handed_told, tells_on}
+use Rattle.pages.proofs.ToldLemmas.{handed_told, tells_on}
 use Rattle.record_heap.specs.Faults.{AreOwnPages, IsChainFault, IsHeapFault, IsSlotFault, TellsOfChain}
 use Rattle.record_heap.proofs.FaultLemmas.{in_chain, in_heap, own_pages}
 use Rattle.record_heap.proofs.walk.walk_heap.Goals as goal

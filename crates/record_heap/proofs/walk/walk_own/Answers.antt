@@ -1,12 +1,12 @@
 use Rattle.std.proofs.Common.{◌≡◌, ◌*◌, ℕ, length, ap, refl, sym, subst, ◌∙◌, arith}
-use Rattle.page_marks.specs.PageList.{pages_in}
-use Rattle.page_marks.proofs.RefusedLemmas.{for_memory, handed_on}
+use Rattle.pages.specs.PageList.{pages_in}
+use Rattle.pages.proofs.RefusedLemmas.{for_memory, handed_on}
 use Rattle.record_heap.specs.Slot.{room}
 use Rattle.record_heap.specs.Walk.{FreeSlotsAhead, OwnAhead, OwnStands}
 use Rattle.record_heap.proofs.HeapAheadLemmas.{free_ahead, never_left, own_ahead}
 use Rattle.record_heap.proofs.MarkAheadLemmas.{marked_one, still_has}
 use Rattle.record_heap.proofs.SlotWalkLemmas.{slots_kept}
-use Rattle.page_marks.specs.declared.walk_fault.WalkFault.{WalkFault}
+use Rattle.pages.specs.declared.walk_fault.WalkFault.{WalkFault}
 use Rattle.record_heap.specs.Faults.{AreOwnPages, IsSlotFault, TellsOfChain}
 use Rattle.record_heap.proofs.FaultLemmas.{breaks_chain, fault_on, in_slots, left_out}
 use Rattle.record_heap.proofs.walk.walk_own.Goals as goal

@@ -1,10 +1,10 @@
 use Rattle.std.proofs.Common.{◌≡◌, ℕ, List, [], ◌∷◌, ◌++◌, length, ap, refl, ◌∙◌, arith}
 use Rattle.std.proofs.lemmas.List.{length-append}
-use Rattle.page_marks.specs.PageList.{pages_in}
-use Rattle.page_marks.specs.Marks.{IsUnmarked, marked_in}
-use Rattle.page_marks.proofs.MarksLemmas.{marks_none}
-use Rattle.page_marks.proofs.RefusedLemmas.{handed_on, refused}
-use Rattle.page_marks.proofs.ToldLemmas.{handed_told, never_free}
+use Rattle.pages.specs.PageList.{pages_in}
+use Rattle.pages.specs.Marks.{IsUnmarked, marked_in}
+use Rattle.pages.proofs.MarksLemmas.{marks_none}
+use Rattle.pages.proofs.RefusedLemmas.{handed_on, refused}
+use Rattle.pages.proofs.ToldLemmas.{handed_told, never_free}
 use Rattle.record_heap.specs.Walk.{ChainAhead, IsHeapPageAt}
 use Rattle.record_heap.specs.Faults.{IsChainFault, last_heap_page}
 use Rattle.record_heap.proofs.FaultLemmas.{last_page_more, tells_page, tells_too_many, tells_twice}

@@ -1,6 +1,6 @@
 use Rattle.std.proofs.Common.{◌≡◌, ◌<◌, ◌^◌, length}
-use Rattle.page_marks.specs.PageList.{pages_in}
-use Rattle.page_marks.specs.Marks.{marked_in}
+use Rattle.pages.specs.PageList.{pages_in}
+use Rattle.pages.specs.Marks.{marked_in}
 use Rattle.record_heap.specs.Walk.{ChainAhead, PagesWalked}
 use Rattle.record_heap.specs.Faults.{last_heap_page}
 use Rattle.record_heap.proofs.walk.walk_pages.Given as goal

@@ -1,7 +1,7 @@
 use Rattle.std.proofs.Common.{◌≡◌, ◌-◌, ◌+◌, ◌<◌, ℕ, ◌++◌, ◌∷◌, [], inl, refl, sym, ◌∙◌, arith, subst}
 use Rattle.std.proofs.lemmas.List.{length-append}
-use Rattle.page_marks.specs.PageList.{pages_in}
-use Rattle.page_marks.proofs.RefusedLemmas.{handed_on}
+use Rattle.pages.specs.PageList.{pages_in}
+use Rattle.pages.proofs.RefusedLemmas.{handed_on}
 use Rattle.record_heap.specs.Walk.{FreeSlotsAhead, IsMarkedFree}
 use Rattle.record_heap.proofs.SlotWalkLemmas.{slots_more}
 use Rattle.record_heap.proofs.MarkAheadLemmas.{same_itself, same_on}

@@ -1,6 +1,6 @@
 use Rattle.std.proofs.Common.{◌≡◌, ◌-◌, List, length}
 use Rattle.record_heap.specs.declared.shape.Place.{Place}
-use Rattle.page_marks.specs.PageList.{pages_in}
+use Rattle.pages.specs.PageList.{pages_in}
 use Rattle.record_heap.specs.SlotMarks.{SameSlots}
 use Rattle.record_heap.specs.Walk.{FreeSlotsAhead, SlotsWalked}
 use Rattle.record_heap.specs.Faults.{last_slot_place}

@@ -1,5 +1,5 @@
-use Rattle.std.proofs.Common.{rules, [], sym, ap, ◌∙◌}
-use Rattle.record_loading.specs.Loading.{listing}
+use Rattle.std.proofs.Common.{rules, [], refl, sym, ap, ◌∙◌}
+use Rattle.record_loading.specs.Loading.{listing_by}
 use Rattle.record_loading.proofs.LoadLemmas.{opens_at_start, not_opened, goes_all, loaded}
 use Rattle.record_loading.proofs.loading.load_attached.Goals as goal
 
@@ -8,7 +8,7 @@ returns-then-not-is_success-clause-loads g c =
     let shown = g.L.Library.shown in
     let schema = c.args.schema.now in
     let opens = opens_at_start shown schema c.copy.result c.args.mode c.args.lib.now c.open-opened.new.lib c.new-connector.result c.open-opened.new.self c.open-opened.result c.copy.ensures c.new-connector.ensures c.open-opened.ensures in
-    not_opened shown schema c.args.mode (listing c.args.form.now c.args.text.now) c.args.area.now c.args.lib.now c.open-opened.new.lib c.open-opened.new.self c.open-opened.result opens (sym c.is_success.ensures ∙ c.if-not-is_success.true)
+    ([], refl, not_opened shown schema c.args.mode (listing_by c.args.form.now c.args.text.now c.args.options []) c.args.area.now c.args.lib.now c.open-opened.new.lib c.open-opened.new.self c.open-opened.result opens (sym c.is_success.ensures ∙ c.if-not-is_success.true) refl)
 
 pub returns-then-not-is_success-clause-only : goal.returns-then-not-is_success-clause-only
 returns-then-not-is_success-clause-only g c = (c.open-opened.ensures 0 []).only
@@ -30,25 +30,28 @@ pub returns-clause-loads : goal.returns-clause-loads
 returns-clause-loads g c =
     let shown = g.L.Library.shown in
     let schema = c.args.schema.now in
-    let opens = opens_at_start shown schema c.copy.result c.args.mode c.args.lib.now c.open-opened.new.lib c.new-connector.result c.open-opened.new.self c.open-opened.result c.copy.ensures c.new-connector.ensures c.open-opened.ensures in
-    loaded shown schema c.args.mode (listing c.args.form.now c.args.text.now) c.args.area.now c.args.lib.now c.open-opened.new.lib c.open-opened.new.self c.open-opened.result opens
-    g.met.L.Library.joins g.met.L.Library.ends c.requires.unit.attached (sym c.is_success.ensures ∙ c.if-not-is_success.false) c.write_listing-lines.new.lib c.close-closed.new.lib c.write_listing-lines.new.connector c.close-closed.new.self c.write_listing-lines.result c.close-closed.result
-    c.write_listing-lines.ensures.goes c.write_listing-lines.ensures.lines c.close-closed.ensures.performed
+    let opens = opens_at_start shown schema c.copy.result c.args.mode c.args.lib.now c.open-opened.new.lib c.new-connector.result c.open-opened.new.self c.open-opened.result c.copy.ensures c.new-connector.ensures c.open-opened.ensures in (
+      c.write_listing-lines.ensures.0,
+      c.write_listing-lines.ensures.1,
+      loaded shown schema c.args.mode (listing_by c.args.form.now c.args.text.now c.args.options c.write_listing-lines.ensures.0) c.args.area.now c.args.lib.now c.open-opened.new.lib c.open-opened.new.self c.open-opened.result opens
+          g.met.L.Library.joins g.met.L.Library.ends c.requires.unit.attached (sym c.is_success.ensures ∙ c.if-not-is_success.false) c.write_listing-lines.new.lib c.close-closed.new.lib c.write_listing-lines.new.connector c.close-closed.new.self c.write_listing-lines.result c.close-closed.result
+          c.write_listing-lines.ensures.2.goes c.write_listing-lines.ensures.2.lines c.close-closed.ensures.performed,
+    )
 
 pub returns-clause-only : goal.returns-clause-only
 returns-clause-only g c =
     let shown = g.L.Library.shown in
     let schema = c.args.schema.now in
     let opens = opens_at_start shown schema c.copy.result c.args.mode c.args.lib.now c.open-opened.new.lib c.new-connector.result c.open-opened.new.self c.open-opened.result c.copy.ensures c.new-connector.ensures c.open-opened.ensures in
-    (goes_all shown schema c.args.mode (listing c.args.form.now c.args.text.now) c.args.area.now c.args.lib.now c.open-opened.new.lib c.open-opened.new.self c.open-opened.result opens
+    (goes_all shown schema c.args.mode (listing_by c.args.form.now c.args.text.now c.args.options c.write_listing-lines.ensures.0) c.args.area.now c.args.lib.now c.open-opened.new.lib c.open-opened.new.self c.open-opened.result opens
     g.met.L.Library.joins g.met.L.Library.ends c.requires.unit.attached (sym c.is_success.ensures ∙ c.if-not-is_success.false) c.write_listing-lines.new.lib c.close-closed.new.lib c.write_listing-lines.new.connector c.close-closed.new.self c.write_listing-lines.result c.close-closed.result
-    c.write_listing-lines.ensures.goes c.write_listing-lines.ensures.lines c.close-closed.ensures.performed).only
+    c.write_listing-lines.ensures.2.goes c.write_listing-lines.ensures.2.lines c.close-closed.ensures.performed).only
 
 pub returns-clause-keeps : goal.returns-clause-keeps
 returns-clause-keeps g c =
     let shown = g.L.Library.shown in
     let schema = c.args.schema.now in
     let opens = opens_at_start shown schema c.copy.result c.args.mode c.args.lib.now c.open-opened.new.lib c.new-connector.result c.open-opened.new.self c.open-opened.result c.copy.ensures c.new-connector.ensures c.open-opened.ensures in
-    (goes_all shown schema c.args.mode (listing c.args.form.now c.args.text.now) c.args.area.now c.args.lib.now c.open-opened.new.lib c.open-opened.new.self c.open-opened.result opens
+    (goes_all shown schema c.args.mode (listing_by c.args.form.now c.args.text.now c.args.options c.write_listing-lines.ensures.0) c.args.area.now c.args.lib.now c.open-opened.new.lib c.open-opened.new.self c.open-opened.result opens
     g.met.L.Library.joins g.met.L.Library.ends c.requires.unit.attached (sym c.is_success.ensures ∙ c.if-not-is_success.false) c.write_listing-lines.new.lib c.close-closed.new.lib c.write_listing-lines.new.connector c.close-closed.new.self c.write_listing-lines.result c.close-closed.result
-    c.write_listing-lines.ensures.goes c.write_listing-lines.ensures.lines c.close-closed.ensures.performed).keeps
+    c.write_listing-lines.ensures.2.goes c.write_listing-lines.ensures.2.lines c.close-closed.ensures.performed).keeps

@@ -20,7 +20,7 @@ returns-in-Ok-attach-clause-real g c honest truly =
     let shows = c.attach.ensures.keeps.truth before c.args.name.bytes truly in
     let named = name_attached (shown.world begun) (shown.world first) c.args.name.bytes c.in-Ok-attach.ensures.attached in
     real_both shown g.met.L.Library.joins g.met.L.Library.ends first begun c.load_attached.new.lib (real_all_stay shown first begun (c.attach.ensures.images before))
-    (c.load_attached.ensures.loads honest (subst (λ (name : List ℕ). shown.IsShownTruly begun name) (sym named) shows)).real
+    (c.load_attached.ensures.loads.2 honest (subst (λ (name : List ℕ). shown.IsShownTruly begun name) (sym named) shows)).real
 
 pub returns-clause-real : goal.returns-clause-real
 returns-clause-real g c honest truly = real_all_stay g.L.Library.shown c.args.lib.now c.attach.new.self (c.attach.ensures.images honest)

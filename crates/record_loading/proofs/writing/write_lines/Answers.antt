@@ -1,61 +1,48 @@
-use Rattle.std.proofs.Common.{ℕ, ◌+◌, [], arith, ap, sym, ◌∙◌, subst, refl}
-use Rattle.io_state.specs.declared.statement.FileStatement.TheVariants.{Write}
-use Rattle.verbs.specs.Held.{silent}
+use Rattle.std.proofs.Common.{rules, ◌<◌, ◌+◌, ℕ, List, [], length, Bor, ap, sym, subst}
 use Rattle.verbs.specs.Performed.{in_memory}
-use Rattle.record_reading.specs.ReadLine.{ReadsRecord}
-use Rattle.record_reading.specs.Whole.{IsWholeForm}
-use Rattle.record_loading.specs.Loading.{listing}
-use Rattle.record_loading.proofs.HeaderLemmas.{shorter, lines_before}
-use Rattle.record_loading.proofs.GoingLemmas.{goes_self, goes_both, goes_performed, written, refused}
+use Rattle.record_loading.specs.declared.end.LinesEnd.{LinesEnd}
+use Rattle.record_loading.specs.Told.{TellsRejected}
+use Rattle.record_loading.specs.Passing.{LoadSource}
+use Rattle.record_loading.specs.Loading.{listing_by}
+use Rattle.record_loading.specs.Going.{WritesListing}
+use Rattle.record_loading.proofs.PlaceLemmas.{begins, left_so, more_written, more_rejected, stops}
+use Rattle.record_loading.proofs.writing.write_lines.Goals.{in-Written, in-Rejected}
 use Rattle.record_loading.proofs.writing.write_lines.Goals as goal
 
 pub more-init : goal.more-init
 more-init g c =
-    record {
-      goes = goes_self g.L.Library.shown c.args.connector.now c.args.lib.now c.requires.takes.fits;
-      few = (let long = lines_before c.args.form.now c.args.text.now c.args.lines.now c.requires.lines in let header = c.header_lines-before.ensures in omega (arith, long, header));
-      so_far = λ honest truly standing. record { records = []; text_is = c.requires.lines; count_is = refl; written = refl };
-    }
+    begins g.L.Library.shown g.R.RejectLog.tells (record { form = c.args.form.now; text = c.args.text.now; options = c.args.options }) (in_memory c.args.connector.now c.args.lib.now c.args.area.now) c.args.rejects.now
+    c.args.lines.now c.behind_lines-rest.result.now c.requires.lines c.behind_lines-rest.ensures c.requires.takes.fits
 
-pub read_record-requires : goal.read_record-requires
-read_record-requires g c = record { whole = subst (λ (n : ℕ). IsWholeForm c.args.form.now n) (sym c.more.auto.area) c.requires.takes.room.whole }
-
-pub returns-then-not-is_success : goal.returns-then-not-is_success
-returns-then-not-is_success g c =
-    let shown = g.L.Library.shown in
-    let rest = c.more.rest.now in
-    let line = c.in-Some.line in
-    let area = c.read_record.new.area in
-    let reads = subst (λ (least : ℕ). ReadsRecord c.args.form.now rest least c.more.area area line.length line.behind.now) c.requires.takes.least c.in-Some.ensures.read in
-    record {
-      goes = goes_both shown (in_memory c.args.connector.now c.args.lib.now []) (in_memory c.more.connector c.more.lib []) (in_memory c.write-status.new.self c.write-status.new.lib []) c.requires.takes.fits.attached
-          c.more.invariant.goes g.met.L.Library.joins g.met.L.Library.ends
-          (goes_performed shown Write line.length (in_memory c.more.connector c.more.lib area) (silent c.write-status.result) (in_memory c.write-status.new.self c.write-status.new.lib area) c.write-status.ensures);
-      lines = λ honest truly standing. (
-        area,
-        (
-          c.more.records,
-          ap (λ (n : ℕ). c.more.records + 1 + n) c.header_lines-before.ensures,
-          refused shown (in_memory c.args.connector.now c.args.lib.now c.args.area.now) c.more.connector c.write-status.new.self c.more.lib c.write-status.new.lib c.more.area area line.length c.write-status.result
-              (listing c.args.form.now c.args.text.now) rest line.behind.now c.more.records c.requires.takes.fits.attached c.more.invariant.goes c.write-status.ensures c.more.invariant.so_far reads
-              (c.more.auto.area ∙ c.requires.takes.room.length_is) c.read_record.auto.area (sym c.is_success.ensures ∙ c.if-not-is_success.true) honest truly standing,
-        ),
-      );
-    }
+pub returns-in-Stopped : goal.returns-in-Stopped
+returns-in-Stopped g c =
+    let source : LoadSource = record { form = c.args.form.now; text = c.args.text.now; options = c.args.options } in
+    let begun = in_memory c.args.connector.now c.args.lib.now c.args.area.now in
+    let number = c.header_lines-before.result + c.args.options.skip + c.more.records + c.more.rejected + 1 in
+    subst (λ (end : LinesEnd). TellsRejected g.R.RejectLog.tells c.args.rejects.now c.more.rejects (λ told. WritesListing g.L.Library.shown (listing_by c.args.form.now c.args.text.now c.args.options told) begun (in_memory c.pass_line.new.connector c.pass_line.new.lib []) end)) (sym c.stopped_at.ensures)
+    (stops g.L.Library.shown g.R.RejectLog.tells source begun c.args.rejects.now (in_memory c.more.connector c.more.lib c.more.area) c.more.rejects c.more.records c.more.rejected c.more.rest.now c.more.invariant
+    g.met.L.Library.joins g.met.L.Library.ends c.requires.takes.fits (in_memory c.pass_line.new.connector c.pass_line.new.lib c.pass_line.new.area)
+    c.in-Stopped.reason number (ap (λ (n : ℕ). n + c.args.options.skip + c.more.records + c.more.rejected + 1) c.header_lines-before.ensures) c.in-Stopped.ensures)
 
 pub more-preserved : goal.more-preserved
 more-preserved g c =
     let shown = g.L.Library.shown in
-    let rest = c.more.rest.now in
-    let line = c.in-Some.line in
-    let area = c.read_record.new.area in
-    let reads = subst (λ (least : ℕ). ReadsRecord c.args.form.now rest least c.more.area area line.length line.behind.now) c.requires.takes.least c.in-Some.ensures.read in
-    let fewer = shorter c.args.form.now rest c.more.area area line.length line.behind.now reads.line in
-    record {
-      goes = goes_both shown (in_memory c.args.connector.now c.args.lib.now []) (in_memory c.more.connector c.more.lib []) (in_memory c.write-status.new.self c.write-status.new.lib []) c.requires.takes.fits.attached c.more.invariant.goes g.met.L.Library.joins g.met.L.Library.ends
-          (goes_performed shown Write line.length (in_memory c.more.connector c.more.lib area) (silent c.write-status.result) (in_memory c.write-status.new.self c.write-status.new.lib area) c.write-status.ensures);
-      few = (let before = c.more.invariant.few in omega (arith, fewer, before));
-      so_far = written shown (in_memory c.args.connector.now c.args.lib.now c.args.area.now) c.more.connector c.write-status.new.self c.more.lib c.write-status.new.lib c.more.area area line.length c.write-status.result
-          (listing c.args.form.now c.args.text.now) rest line.behind.now c.more.records c.requires.takes.fits.attached c.more.invariant.goes c.write-status.ensures c.more.invariant.so_far reads
-          (c.more.auto.area ∙ c.requires.takes.room.length_is) c.read_record.auto.area (sym c.is_success.ensures ∙ c.if-not-is_success.false);
-    }
+    let source : LoadSource = record { form = c.args.form.now; text = c.args.text.now; options = c.args.options } in
+    let begun = in_memory c.args.connector.now c.args.lib.now c.args.area.now in
+    let now = in_memory c.more.connector c.more.lib c.more.area in
+    let after = in_memory c.pass_line.new.connector c.pass_line.new.lib c.pass_line.new.area in
+    let number = c.header_lines-before.result + c.args.options.skip + c.more.records + c.more.rejected + 1 in
+    let some : 0 < length c.more.rest.now = search rules in
+    elim c.match-pass_line.branch [
+      | in-Written w ↦
+          left_so shown g.R.RejectLog.tells source begun c.args.rejects.now after c.more.rejects c.match-pass_line.rejects (c.more.records + 1) c.match-pass_line.records c.more.rejected c.match-pass_line.rejected
+          w.in-Written.behind.now c.match-pass_line.rest.now w.rejects-is w.records-is w.rejected-is (ap (λ (l : Bor (List ℕ)). l.now) w.rest-is)
+          (more_written shown g.R.RejectLog.tells source begun c.args.rejects.now now c.more.rejects c.more.records c.more.rejected c.more.rest.now c.more.invariant
+          g.met.L.Library.joins g.met.L.Library.ends c.requires.takes.fits after w.in-Written.behind some w.in-Written.ensures)
+      | in-Rejected w ↦
+          left_so shown g.R.RejectLog.tells source begun c.args.rejects.now after w.tell.new.self c.match-pass_line.rejects c.more.records c.match-pass_line.records (c.more.rejected + 1) c.match-pass_line.rejected
+          w.in-Rejected.behind.now c.match-pass_line.rest.now w.rejects-is w.records-is w.rejected-is (ap (λ (l : Bor (List ℕ)). l.now) w.rest-is)
+          (more_rejected shown g.R.RejectLog.tells source begun c.args.rejects.now now c.more.rejects c.more.records c.more.rejected c.more.rest.now c.more.invariant
+          g.met.L.Library.joins g.met.L.Library.ends c.requires.takes.fits after w.in-Rejected.reason w.in-Rejected.behind w.tell.new.self number
+          (ap (λ (n : ℕ). n + c.args.options.skip + c.more.records + c.more.rejected + 1) c.header_lines-before.ensures) w.tell.ensures some w.in-Rejected.ensures)
+    ]

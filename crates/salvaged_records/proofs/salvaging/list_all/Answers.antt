@@ -1,7 +1,7 @@
 use Rattle.salvaged_records.proofs.SalvageLemmas.{all_listed}
 use Rattle.salvaged_records.proofs.salvaging.list_all.Goals as goal
 
-pub returns-in-Ok : goal.returns-in-Ok
-returns-in-Ok g c =
+pub returns-in-Ok-clause-ends : goal.returns-in-Ok-clause-ends
+returns-in-Ok-clause-ends g c =
     all_listed c.args.deck.now c.args.bytes.items c.all_records.result (g.W.Write.contents c.args.out.now) (g.W.Write.contents c.list_sound.new.out) c.args.records c.requires.sound.0 c.requires.sound.1
     c.all_records.ensures c.in-Ok.field-0 c.in-Ok.ensures.ends

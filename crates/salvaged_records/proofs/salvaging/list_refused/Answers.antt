@@ -4,5 +4,5 @@ use Rattle.salvaged_records.proofs.salvaging.list_refused.Goals as goal
 pub list_slots-requires-in-Some-deck-clause-schema : goal.list_slots-requires-in-Some-deck-clause-schema
 list_slots-requires-in-Some-deck-clause-schema g c = inr (c.in-None.ensures.none refl c.args.bytes.now c.pages_in-pages.ensures, c.in-Some-deck.is)
 
-pub returns-in-None-deck : goal.returns-in-None-deck
-returns-in-None-deck g c = (c.requires.refused, c.in-None.ensures.none refl c.args.bytes.now c.pages_in-pages.ensures, c.in-None-deck.is, refl)
+pub returns-in-None-deck-clause-ends : goal.returns-in-None-deck-clause-ends
+returns-in-None-deck-clause-ends g c = (c.requires.refused, c.in-None.ensures.none refl c.args.bytes.now c.pages_in-pages.ensures, c.in-None-deck.is, refl)

@@ -1,7 +1,7 @@
 use Rattle.salvaged_records.proofs.salvaging.list_slots.Goals as goal
 
-pub returns-in-Ok : goal.returns-in-Ok
-returns-in-Ok g c = (
+pub returns-in-Ok-clause-ends : goal.returns-in-Ok-clause-ends
+returns-in-Ok-clause-ends g c = (
   c.requires.refused.1,
   (
     c.args.schema.now,
@@ -11,7 +11,7 @@ returns-in-Ok g c = (
       shape_is = c.shape_of.ensures;
       pages = c.args.pages.now;
       all_pages = c.requires.pages;
-      records = c.in-Ok.ensures;
+      records = c.in-Ok.ensures.written;
     },
   ),
 )

@@ -1,7 +1,7 @@
 use Rattle.std.proofs.Common.{ℕ, List, sym, subst, ◌∙◌}
 use Rattle.file_checker.specs.Sound.{IsRight}
 use Rattle.file_checker.specs.declared.verdict.Verdict.TheVariants.{Unsound}
-use Rattle.file_listing.proofs.ListingLemmas.{refused}
+use Rattle.record_listing.proofs.FileListLemmas.{refused}
 use Rattle.salvaged_records.proofs.salvaging.salvage_records.Goals as goal
 
 pub list_refused-requires : goal.list_refused-requires

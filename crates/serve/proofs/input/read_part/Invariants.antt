@@ -1,5 +1,5 @@
 use Rattle.std.proofs.Common.{◌≡◌, ◌<◌, [], length}
-use Rattle.standard_input.specs.Source.{source_of, GivesBytes, HasFailed}
+use Rattle.streams.specs.Source.{source_of, GivesBytes, HasFailed}
 use Rattle.serve.proofs.input.read_part.Given as goal
 
 -- no byte came so far, and the last read failed

@@ -1,4 +1,4 @@
-use Rattle.standard_input.specs.Source.{source_of, GivesBytes}
+use Rattle.streams.specs.Source.{source_of, GivesBytes}
 use Rattle.std.proofs.Common.{◌≡◌, ◌≤◌, ◌-◌, length, take}
 use Rattle.serve.proofs.input.read_whole.Given as goal
 

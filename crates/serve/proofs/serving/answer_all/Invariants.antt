@@ -1,4 +1,4 @@
-use Rattle.standard_input.specs.Source.{source_of}
+use Rattle.streams.specs.Source.{source_of}
 use Rattle.serve.specs.Serving.{streams}
 use Rattle.serve.proofs.ServingLemmas.{HasServed}
 use Rattle.serve.proofs.serving.answer_all.Given as goal

@@ -1,6 +1,6 @@
 use Rattle.std.proofs.Common.{subst}
-use Rattle.standard_input.specs.Source.{source_of}
-use Rattle.file_session.specs.Files.{Files}
+use Rattle.streams.specs.Source.{source_of}
+use Rattle.serve.specs.Files.{Files}
 use Rattle.serve.specs.Serving.{Serves, streams}
 use Rattle.serve.proofs.serving.serve.Goals as goal
 

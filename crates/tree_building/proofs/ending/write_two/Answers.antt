@@ -1,7 +1,8 @@
-use Rattle.std.proofs.Common.{◌≡◌, ◌++◌, arith}
+use Rattle.tree_building.specs.Filled.{entry_counts}
+use Rattle.std.proofs.Common.{length, ◌≡◌, ◌++◌, arith}
 use Rattle.tree_node.specs.Leaf.{leaf_entries}
 use Rattle.tree_search.proofs.AnswerLemmas.{fails}
-use Rattle.tree_building.proofs.PageLemmas.{keeps_on, build_caused}
+use Rattle.tree_building.proofs.PageLemmas.{keeps_on, build_caused, late_memory}
 use Rattle.tree_building.proofs.RootLemmas.{answer_map}
 use Rattle.tree_building.proofs.BuildLemmas.{two_written}
 use Rattle.tree_building.proofs.ending.write_two.Goals as goal
@@ -33,7 +34,8 @@ returns-clause-writes g c honest sound =
           let first = (one.writes entries own w).answer in
           answer_map (two.writes (entries ++ leaf_entries shape c.even_out.new.lower) first.own_now first.written) (λ done second.
           two_written shape (g.P.Pages.shown.state start).live (g.P.Pages.shown.state mid).live (g.P.Pages.shown.state later).live c.write_one.new.leaves.items c.write_one-2.new.leaves.items entries
-          (leaf_entries shape c.even_out.new.lower) (leaf_entries shape c.even_out.new.upper) (leaf_entries shape c.args.lower.now ++ leaf_entries shape c.args.upper.now) own first second
+          (leaf_entries shape c.even_out.new.lower) (leaf_entries shape c.even_out.new.upper) (leaf_entries shape c.args.lower.now ++ leaf_entries shape c.args.upper.now) own (entry_counts w.leaves)
+          (length (leaf_entries shape c.even_out.new.lower)) (length (leaf_entries shape c.even_out.new.upper)) first second
           c.even_out.ensures.in_order.has);
       kept = keeps_on one.kept two.kept;
       sound = two.sound;
@@ -50,5 +52,6 @@ returns-clause-takes g c =
       few = omega (arith, one.few, two.few);
       cause = build_caused c.write_one-2.result (g.P.Pages.shown.HasFailed mid later) (g.P.Pages.shown.HasFailed start later) ((g.P.Pages.shown.state later).available ≡ 0)
           (g.met.P.Pages.failed_after start mid later one.step) two.cause;
+      memory = late_memory c.write_one-2.result (g.P.Pages.shown.state start).available (g.P.Pages.shown.state mid).available (g.P.Pages.shown.state later).available one.few two.memory;
       step = g.met.P.Pages.writes_on start mid later one.step two.step;
     }

@@ -1,5 +1,5 @@
 use Rattle.std.proofs.Common.{◌≡◌, length, ap, ◌∙◌}
-use Rattle.node_balance.specs.declared.separator.Separator.{Separator}
+use Rattle.tree_node.specs.declared.separator.Separator.{Separator}
 use Rattle.tree_node.proofs.OrderLemmas.{Each-get_or}
 use Rattle.tree_building.proofs.NodeLemmas.{on_ok, wide_still}
 use Rattle.tree_building.proofs.nodes.add_node.Goals as goal

@@ -1,7 +1,7 @@
 use Rattle.std.proofs.Common.{arith}
 use Rattle.tree_node.specs.Leaf.{leaf_entries}
 use Rattle.tree_node.proofs.LeafLemmas.{leaf_room_some}
-use Rattle.node_balance.proofs.BalanceLemmas.{lengths}
+use Rattle.tree_node.proofs.BalanceLemmas.{lengths}
 use Rattle.tree_building.proofs.pending.even_out.Goals as goal
 
 pub returns : goal.returns

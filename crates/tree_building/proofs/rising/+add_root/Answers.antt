@@ -1,5 +1,5 @@
 use Rattle.std.proofs.Common.{◌+◌, ◌*◌, ◌<◌, ◌≤◌, List, length, subst, sym, rules, arith}
-use Rattle.node_balance.specs.declared.separator.Separator.{Separator}
+use Rattle.tree_node.specs.declared.separator.Separator.{Separator}
 use Rattle.std.specs.Prelude.{IsTrue}
 use Rattle.tree_building.specs.Level.{HaveWidth}
 use Rattle.tree_building.specs.Rising.{Roots}
@@ -27,7 +27,8 @@ returns-then-nodes-inner_room-clause-roots g t c honest sound =
     let before = g.met.P.Pages.writes_honestly mid later c.add_root.ensures.takes.step honest in
     let rises = c.in_ok-above.ensures.rises before sound in
     roots_on c.args.shape (g.P.Pages.shown.state start).live (g.P.Pages.shown.state mid).live (g.P.Pages.shown.state later).live c.args.nodes.now c.args.levels c.in_ok-above.above
-    c.add_root.result rises (subst (λ (l : List Separator). Roots c.args.shape l (c.args.levels + 1) c.add_root.result (g.P.Pages.shown.state mid).live (g.P.Pages.shown.state later).live
+    c.add_root.result (g.P.Pages.shown.state start).available (g.P.Pages.shown.state mid).available (g.P.Pages.shown.state later).available c.in_ok-above.ensures.taken
+    rises (subst (λ (l : List Separator). Roots c.args.shape l (c.args.levels + 1) c.add_root.result (g.P.Pages.shown.state mid).available (g.P.Pages.shown.state later).available (g.P.Pages.shown.state mid).live (g.P.Pages.shown.state later).live
     (IsTrue (g.P.Pages.shown.state later).is_sound)) c.deref.ensures.value (c.add_root.ensures.roots honest rises.sound))
 
 pub returns-clause-roots : goal.returns-clause-roots
@@ -36,4 +37,5 @@ returns-clause-roots g t c honest sound =
     let later = c.add_node.new.pages in
     let adds = c.in_ok-add_node.ensures.adds honest sound in
     root_is_over c.args.shape (g.P.Pages.shown.state start).live (g.P.Pages.shown.state later).live (IsTrue (g.P.Pages.shown.state later).is_sound) c.args.nodes.now c.new-top.result.items
-    c.add_node.new.beside.items c.args.levels c.index.result.now c.requires.several c.new-top.ensures.items c.index.ensures adds
+    c.add_node.new.beside.items c.args.levels c.index.result.now c.requires.several c.new-top.ensures.items c.index.ensures
+    (g.P.Pages.shown.state start).available (g.P.Pages.shown.state later).available c.in_ok-add_node.ensures.taken adds

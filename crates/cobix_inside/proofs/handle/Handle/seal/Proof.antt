@@ -19,7 +19,7 @@ use denote.Triple.Walked.{Stays, stay_dropped, walk_of, Goes-dropped}
 use Rattle.std.specs.Prelude.{Some}
 use Rattle.std.specs.contracts.impls.GlobalAllocator.TheImpl.{ghosts}
 use Rattle.std.proofs.raw_atomic.Walks.{proved_at, leaves}
-use Rattle.raw_box.proofs.Values.{both, RawBox, raw_good, raw_out}
+use Rattle.cobix_inside.proofs.Values.{both, RawBox, raw_good, raw_out}
 use Rattle.cobix_inside.proofs.Steps.{S, Z, LZ, handle_in}
 use Rattle.cobix_inside.specs.contracts.handle.Handle.seal as f
 use Rattle.cobix_inside.proofs.handle.Handle.seal.Statement.{statement}

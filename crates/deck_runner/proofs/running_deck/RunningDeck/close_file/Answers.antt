@@ -2,7 +2,7 @@ use Rattle.std.proofs.Common.{false, [], ◌∷◌, length, refl, sym}
 use Rattle.std.proofs.lemmas.Option.{slice_get_read}
 use Rattle.std.proofs.lemmas.Result.{IfOk-weaker, on_err_weaker}
 use Rattle.io_state.specs.declared.statement.FileStatement.TheVariants.{Close}
-use Rattle.procedure_division.specs.declared.statement.Statement.TheVariants.{Perform}
+use Rattle.deck_reader.specs.declared.statement.Statement.TheVariants.{Perform}
 use Rattle.deck_runner.specs.Stretches.{IsStretch, AreStretchesInPart, ClosesAt, ClosesAtInPart}
 use Rattle.deck_runner.specs.Running.{run_file}
 use Rattle.deck_runner.specs.State.{state, point_in}

@@ -4,7 +4,7 @@ use Rattle.record_layout.specs.Area.{sent, moved}
 use Rattle.deck_runner.proofs.FrameLemmas.{shows_run}
 use Rattle.deck_runner.proofs.VerbLemmas.{file_at}
 use Rattle.deck_runner.proofs.MoveLemmas.{goes_by_move, goes_on_alike, move_step, length_step, still}
-use Rattle.procedure_division.specs.declared.statement.Statement.TheVariants.{Move, MoveLength, StopRun}
+use Rattle.deck_reader.specs.declared.statement.Statement.TheVariants.{Move, MoveLength, StopRun}
 use Rattle.deck_runner.specs.Parts.{OneStatement}
 use Rattle.deck_runner.proofs.StateLemmas.{no_line}
 use Rattle.deck_runner.proofs.running_deck.RunningDeck.run_statement.Goals as goal

@@ -1,6 +1,6 @@
 use Rattle.std.proofs.Common.{[], ◌∷◌, ◌∙◌, refl, arith, rules}
 use Rattle.std.proofs.lemmas.List.Elements.{All-nil}
-use Rattle.procedure_division.specs.declared.statement.Statement.TheVariants.{Perform}
+use Rattle.deck_reader.specs.declared.statement.Statement.TheVariants.{Perform}
 use Rattle.deck_runner.specs.Stretches.{IsStretch, AreStretchesInPart}
 use Rattle.deck_runner.specs.State.{state, point_in, IsLineOf, Leads}
 use Rattle.deck_runner.specs.Parts.{VerbOn}

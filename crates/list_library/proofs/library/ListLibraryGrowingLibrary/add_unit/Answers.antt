@@ -3,7 +3,7 @@ use Rattle.std.specs.List.{list_all}
 use Rattle.std.specs.Vec.{with_items}
 use Rattle.std.proofs.lemmas.Grind.{common_steps}
 use Rattle.std.proofs.lemmas.List.{with_items_is}
-use Rattle.growing_library.specs.Growing.{with_added_unit}
+use Rattle.indexed_file.specs.Growing.{with_added_unit}
 use Rattle.indexed_file.specs.World.{FileUnit, name_in}
 use Rattle.indexed_file.specs.SoundWorld.{is_sound_unit}
 use Rattle.list_library.specs.Units.{named_among, TakesPlace}

@@ -1,5 +1,6 @@
 use Rattle.std.proofs.Common.{length, refl, ap, arith}
 use Rattle.tree_node.proofs.LeafLemmas.{leaf_room_some}
+use Rattle.tree_node.proofs.TableLemmas.{length_table}
 use Rattle.tree_building.proofs.NodeLemmas.{all_wide, each_wide}
 use Rattle.tree_building.proofs.BuildLemmas.{room_made}
 use Rattle.tree_building.proofs.builder.TreeBuilder.write_lower.Goals as goal
@@ -28,10 +29,13 @@ returns-clause-makes g c honest sound =
     let room = leaf_room_some self.shape in
     let full = c.requires.full in
     let adds = c.in_ok-add_leaf.ensures.adds honest sound in
+    let enough = self.pending.order (omega arith) in
+    let few = self.pending.first.few in
+    let many = length_table 16 self.shape.entry self.lower in
     record {
       made = λ entries own b. record {
         answer = room_made (g.P.Pages.shown.state c.args.pages.now).live (g.P.Pages.shown.state c.add_leaf.new.pages).live self _ c.add_leaf.new.before.items entries own b adds.added.answer
-            self.pending.first (self.pending.order (omega arith)) refl refl refl c.write_leaf.ensures.has refl;
+            self.pending.first (omega arith) refl refl refl c.write_leaf.ensures.has refl;
         no_damage = tt;
       };
       kept = adds.kept;

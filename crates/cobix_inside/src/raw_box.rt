@@ -1,0 +1,43 @@
+//! A box as its raw pointer.
+//!
+//! A box hides its pointer. Here pointer and allocator are in sight, so that code above may pass
+//! them on and take them back. The value that the pointer owns stays known to contracts.
+
+ghost use Rattle.std.specs.Prelude.{◌≡◌};
+ghost use Rattle.std_alloc.specs.Box.Ownership.{box_owns};
+
+use std::alloc::Allocator;
+use std::marker::Model;
+
+/// The pointer of a box, with its allocator. It owns what the box owned, and whoever lets it go
+/// without `into_box` leaves the block taken.
+pub struct RawBox<T, A: Allocator> {
+    pub at: *mut T,
+    pub alloc: A,
+    pub ghost value: { T },
+}
+
+impl<T, A: Allocator> Model for RawBox<T, A> {
+    ghost also_owns = { λ raw. box_owns (A.dealloc_token raw.alloc) T.row raw.at raw.value };
+}
+
+impl<T: Drop, A: Allocator> RawBox<T, A> {
+    /// Takes a box apart.
+    pub fn of(value: Box<T, A>) -> RawBox<T, A>
+        ensures { result.value ≡ value.value }
+    {
+        let (at, alloc) = Box::into_raw_with_allocator(value);
+        RawBox { at, alloc }
+    }
+
+    /// The box again.
+    pub fn into_box(self) -> Box<T, A>
+        ensures { result.value ≡ self.value }
+    {
+        let RawBox { at, alloc } = self;
+        unsafe { Box::from_raw(alloc, at) }
+    }
+}
+
+// It may go to another thread if its value and its allocator may.
+unsafe impl<T: Send, A: Allocator + Send> Send for RawBox<T, A> {}

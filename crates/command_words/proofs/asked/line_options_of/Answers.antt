@@ -1,0 +1,32 @@
+use Rattle.std.proofs.Common.{ℕ, List, Result}
+use Rattle.std.specs.Prelude.{codes}
+use Rattle.std.specs.Str.Parse.{ParsesUnsigned, ExplainsUnsignedError, HasUnsignedDigitsIfOk}
+use Rattle.std.specs.declared.num.ParseIntError.{ParseIntError}
+use Rattle.clap.specs.Words.{found_of}
+use Rattle.command_words.proofs.FlagLemmas.{flag_read, no_flag}
+use Rattle.command_words.proofs.MetLemmas.{some_not_none}
+use Rattle.command_words.proofs.NumberLemmas.{is_read, none_read}
+use Rattle.command_words.proofs.asked.line_options_of.Goals as goal
+
+-- what a number is read of a text as
+abbrev Gives : List ℕ → Result ℕ ParseIntError → Type 0
+Gives text read = ParsesUnsigned 64 10 text read × ExplainsUnsignedError 10 text read × HasUnsignedDigitsIfOk text read
+
+pub returns-in_err-skip-clause-none : goal.returns-in_err-skip-clause-none
+returns-in_err-skip-clause-none c =
+    λ none lines given.
+    none_read (found_of c.args.load.now) (codes "skip") 64 Gives (λ t x g. g.0) c.get_one.result c.get_one.ensures.value c.in_err-skip.was lines.skip
+    (given.skip_text, given.skip_given, given.skip_is)
+
+pub returns-in_err-keep_going-clause-none : goal.returns-in_err-keep_going-clause-none
+returns-in_err-keep_going-clause-none c =
+    λ none lines given.
+    no_flag (found_of c.args.load.now) (codes "keep-going") c.get_one-2.result c.get_one-2.ensures.value c.in_err-keep_going.was lines.keep_going
+    (given.keep_text, given.keep_given, given.keep_is)
+
+pub returns-clause-some : goal.returns-clause-some
+returns-clause-some c =
+    let f = found_of c.args.load.now in
+    let skip = is_read f (codes "skip") 64 Gives (λ t x g. g.0) c.get_one.result c.get_one.ensures.none c.get_one.ensures.value c.in_ok-skip.skip c.in_ok-skip.was in
+    let keep = flag_read f (codes "keep-going") c.get_one-2.result c.get_one-2.ensures.none c.get_one-2.ensures.value c.in_ok-keep_going.keep_going c.in_ok-keep_going.was in
+    record { skip_text = skip.0; skip_given = skip.1; skip_is = skip.2; keep_text = keep.0; keep_given = keep.1; keep_is = keep.2 }

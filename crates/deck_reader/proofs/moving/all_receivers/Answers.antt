@@ -1,0 +1,28 @@
+use Rattle.std.proofs.Common.{◌∙◌, sym}
+use Rattle.std.proofs.lemmas.Result.{err_from_is_err_and}
+use Rattle.record_layout.specs.Area.{sent}
+use Rattle.deck_reader.specs.StatementRules.{receiver}
+use Rattle.deck_reader.proofs.JoinLemmas.{begun, further, shorter, not_further, finished}
+use Rattle.deck_reader.proofs.ProcedureLemmas.{lawful_receiver, receivers_are_fit, receiver_starts}
+use Rattle.deck_reader.proofs.moving.all_receivers.Goals as goal
+
+pub more-init : goal.more-init
+more-init c =
+    begun (receiver c.args.names.now c.args.places.line (sent c.args.source.now)) (lawful_receiver _ _ _) (receivers_are_fit _ _ _) c.args.statements c.in_ok-statements.statements c.args.parser.now c.receiver.new.parser c.in_ok-statements.ensures.0
+
+pub returns-in_err-statements-2 : goal.returns-in_err-statements-2
+returns-in_err-statements-2 c =
+    let p = err_from_is_err_and c.from_residual-in_err-statements-2.result c.from_residual-in_err-statements-2.ensures.1 in
+    rw (p.1, p.2) (not_further (receiver c.args.names.now c.args.places.line (sent c.args.source.now)) (lawful_receiver _ _ _) (receivers_are_fit _ _ _) _ _ c.more.statements c.more.parser c.in_err-statements-2.field-0.0 c.more.invariant (receiver_starts _ _ _ _ ∙ sym c.sees_name.ensures ∙ c.more-test.true) c.in_err-statements-2.ensures)
+
+pub more-smaller : goal.more-smaller
+more-smaller c =
+    shorter (receiver c.args.names.now c.args.places.line (sent c.args.source.now)) (lawful_receiver _ _ _) (receivers_are_fit _ _ _) c.more.statements c.in_ok-statements-2.statements c.more.parser c.receiver-in-more.new.parser c.in_ok-statements-2.ensures.0
+
+pub more-preserved : goal.more-preserved
+more-preserved c =
+    further (receiver c.args.names.now c.args.places.line (sent c.args.source.now)) (lawful_receiver _ _ _) (receivers_are_fit _ _ _) _ _ c.more.statements c.in_ok-statements-2.statements c.more.parser c.receiver-in-more.new.parser c.more.invariant (receiver_starts _ _ _ _ ∙ sym c.sees_name.ensures ∙ c.more-test.true) c.in_ok-statements-2.ensures.0
+
+pub returns : goal.returns
+returns c =
+    (finished (receiver c.args.names.now c.args.places.line (sent c.args.source.now)) (lawful_receiver _ _ _) (receivers_are_fit _ _ _) _ _ c.more.statements c.more.parser c.more.invariant (receiver_starts _ _ _ _ ∙ sym c.sees_name.ensures ∙ c.more-test.false), tt)

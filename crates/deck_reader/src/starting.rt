@@ -1,0 +1,166 @@
+//! The START statement.
+ghost use Rattle.std.specs.Prelude.{◌≡◌, Some, None, is_some, codes, if◌then◌else◌};
+ghost use Rattle.io_state.specs.Permission.{is_random};
+ghost use Rattle.io_state.specs.declared.modes.Relation.TheVariants.{Greater, NotLess};
+ghost use Rattle.deck_parser.specs.Notation.{the, may, ◌▸◌, ◌◂◌, ◌⊗◌, ◌∣◌};
+ghost use Rattle.deck_parser.specs.Operand.{sign};
+ghost use Rattle.deck_parser.specs.Reading.{ReadsRule};
+ghost use Rattle.deck_parser.specs.Rule.{optional, where_it_gives};
+ghost use Rattle.deck_reader.specs.Names.{access_at};
+ghost use Rattle.deck_reader.specs.StatementRules.{file};
+ghost use Rattle.deck_reader.specs.StatementRules.{relation, led_key, start_by};
+ghost use Rattle.deck_reader.specs.StatementRules.{start_statement};
+ghost use Rattle.deck_reader.specs.declared.statement.Statement.TheVariants.{Perform};
+
+use crate::file_name::file;
+use crate::names::Names;
+use crate::statement::Statement;
+use deck_parser::Parser;
+use deck_words::{Cause, NameOf, NotAllowed, Refusal, Unknown};
+use io_state::{Access, FileStatement, Relation};
+
+/// The name of a file that START is for: its access is not random.
+fn file_to_start(parser: &mut Parser<'_>, names: &Names<'_>) -> Result<usize, Refusal>
+    ensures { ReadsRule (where_it_gives (λ u. if is_random (access_at names.now u) then None else Some u) (file
+        names.now)) parser.old result parser.new }
+{
+    let place = parser.place();
+    let file = file(parser, names)?;
+    if names.access(file) == Access::Random {
+        return Err(place.fault(Cause::NotAllowed(NotAllowed::Start(file))));
+    }
+    Ok(file)
+}
+
+/// The name of an item of the file that is a key or the leading part of one: the key, and the item's length.
+#[tactic(auto, unfolding(crate::specs::StatementRules::led_key))]
+fn led_key(parser: &mut Parser<'_>, names: &Names<'_>, file: usize) -> Result<(u8, u16), Refusal>
+    ensures { ReadsRule (led_key names.now file) parser.old result parser.new }
+{
+    let place = parser.place();
+    let name = parser.name(NameOf::Item)?;
+    let Some(field) = names.item_in(file, &name) else {
+        return Err(place.fault(Cause::Unknown(Unknown::KeyItem(file))));
+    };
+    match names.led_key(file, field) {
+        Some(led) => Ok(led),
+        None => Err(place.fault(Cause::NotAllowed(NotAllowed::NoLeadingKey(file)))),
+    }
+}
+
+/// GREATER, or GREATER OR EQUAL.
+#[tactic(auto, unfolding(deck_parser::specs::Notation::the))]
+fn greater(parser: &mut Parser<'_>) -> Result<Relation, Refusal>
+    ensures { ReadsRule (where_it_gives (λ or_equal. Some (if is_some or_equal then NotLess else Greater))
+        (the (codes "GREATER") ▸ may (codes "THAN") ▸ optional (the (codes "OR") ▸ the (codes "EQUAL")
+        ▸ may (codes "TO")))) parser.old result parser.new }
+{
+    parser.expect(b"GREATER")?;
+    parser.eat(b"THAN");
+    if !parser.sees(b"OR") {
+        return Ok(Relation::Greater);
+    }
+    parser.expect(b"OR")?;
+    parser.expect(b"EQUAL")?;
+    parser.eat(b"TO");
+    Ok(Relation::NotLess)
+}
+
+/// NOT LESS.
+#[tactic(auto, unfolding(deck_parser::specs::Notation::the))]
+fn not_less(parser: &mut Parser<'_>) -> Result<(), Refusal>
+    ensures { ReadsRule (the (codes "NOT") ▸ ((the (codes "LESS") ◂ may (codes "THAN")) ∣ sign (codes
+        "<"))) parser.old result parser.new }
+{
+    parser.expect(b"NOT")?;
+    if parser.eat(b"LESS") {
+        parser.eat(b"THAN");
+        return Ok(());
+    }
+    parser.expect_sign(b"<")
+}
+
+#[tactic(auto, unfolding(crate::specs::StatementRules::relation, deck_parser::specs::Notation::the, deck_parser::specs::Operand::sign))]
+fn relation(parser: &mut Parser<'_>) -> Result<Relation, Refusal>
+    ensures { ReadsRule relation parser.old result parser.new }
+{
+    if parser.eat(b"EQUAL") {
+        parser.eat(b"TO");
+        return Ok(Relation::Equal);
+    }
+    if parser.eat_sign(b"=") {
+        return Ok(Relation::Equal);
+    }
+    if parser.sees(b"GREATER") {
+        return greater(parser);
+    }
+    if parser.eat_sign(b">") {
+        return Ok(Relation::Greater);
+    }
+    if parser.sees(b"NOT") {
+        not_less(parser)?;
+        return Ok(Relation::NotLess);
+    }
+    parser.expect_sign(b">=")?;
+    Ok(Relation::NotLess)
+}
+
+/// What KEY says: a relation, a key, and how much of it.
+#[tactic(auto, unfolding(deck_parser::specs::Notation::the))]
+fn start_phrase(
+    parser: &mut Parser<'_>,
+    names: &Names<'_>,
+    file: usize,
+) -> Result<Option<(Relation, (u8, u16))>, Refusal>
+    ensures { ReadsRule (optional (the (codes "KEY") ▸ may (codes "IS") ▸ relation ⊗ led_key names.now
+        file)) parser.old result parser.new }
+{
+    if !parser.eat(b"KEY") {
+        return Ok(None);
+    }
+    parser.eat(b"IS");
+    let relation = relation(parser)?;
+    let led = led_key(parser, names, file)?;
+    Ok(Some((relation, led)))
+}
+
+fn start_by(names: &Names<'_>, file: usize, operand: Option<(Relation, (u8, u16))>) -> FileStatement
+    ensures { result ≡ start_by names.now file operand }
+{
+    match operand {
+        Some((relation, (key, length))) => FileStatement::Start {
+            key,
+            length,
+            relation,
+        },
+        None => FileStatement::Start {
+            key: 0,
+            length: names.prime_length(file),
+            relation: Relation::Equal,
+        },
+    }
+}
+
+/// The phrase behind the file's name.
+fn start_operand(
+    parser: &mut Parser<'_>,
+    names: &Names<'_>,
+    file: usize,
+) -> Result<Statement, Refusal>
+    ensures { ReadsRule (where_it_gives (λ operand. Some (Perform file (start_by names.now file operand)))
+        (optional (the (codes "KEY") ▸ may (codes "IS") ▸ relation ⊗ led_key names.now file)))
+        parser.old result parser.new }
+{
+    let operand = start_phrase(parser, names, file)?;
+    let statement = start_by(names, file, operand);
+    Ok(Statement::Perform { file, statement })
+}
+
+#[tactic(auto, unfolding(crate::specs::StatementRules::start_statement))]
+pub fn start_statement(parser: &mut Parser<'_>, names: &Names<'_>) -> Result<Statement, Refusal>
+    ensures { ReadsRule (start_statement names.now) parser.old result parser.new }
+{
+    parser.expect(b"START")?;
+    let file = file_to_start(parser, names)?;
+    start_operand(parser, names, file)
+}

@@ -1,0 +1,47 @@
+//! The WRITE, REWRITE and DELETE statements.
+ghost use Rattle.std.specs.Prelude.{Some, codes};
+ghost use Rattle.io_state.specs.declared.statement.FileStatement.TheVariants.{Write, Rewrite, Delete};
+ghost use Rattle.deck_parser.specs.Notation.{the, may, ◌▸◌, ◌◂◌};
+ghost use Rattle.deck_parser.specs.Rule.{where_it_gives};
+ghost use Rattle.deck_parser.specs.Reading.{ReadsRule};
+ghost use Rattle.deck_reader.specs.StatementRules.{file};
+ghost use Rattle.deck_reader.specs.declared.statement.Statement.TheVariants.{Perform};
+ghost use Rattle.deck_reader.specs.Parts.{record_named};
+
+use crate::file_name::{file, record_name};
+use crate::names::Names;
+use crate::statement::Statement;
+use deck_parser::Parser;
+use deck_words::Refusal;
+use io_state::FileStatement;
+
+pub fn write_statement(parser: &mut Parser<'_>, names: &Names<'_>) -> Result<Statement, Refusal>
+    ensures { ReadsRule (where_it_gives (λ u. Some (Perform u Write)) (the (codes "WRITE")
+        ▸ record_named names.now)) parser.old result parser.new }
+{
+    parser.expect(b"WRITE")?;
+    let file = record_name(parser, names)?;
+    let statement = FileStatement::Write;
+    Ok(Statement::Perform { file, statement })
+}
+
+pub fn rewrite_statement(parser: &mut Parser<'_>, names: &Names<'_>) -> Result<Statement, Refusal>
+    ensures { ReadsRule (where_it_gives (λ u. Some (Perform u Rewrite)) (the (codes "REWRITE")
+        ▸ record_named names.now)) parser.old result parser.new }
+{
+    parser.expect(b"REWRITE")?;
+    let file = record_name(parser, names)?;
+    let statement = FileStatement::Rewrite;
+    Ok(Statement::Perform { file, statement })
+}
+
+pub fn delete_statement(parser: &mut Parser<'_>, names: &Names<'_>) -> Result<Statement, Refusal>
+    ensures { ReadsRule (where_it_gives (λ u. Some (Perform u Delete)) (the (codes "DELETE") ▸ file
+        names.now ◂ may (codes "RECORD"))) parser.old result parser.new }
+{
+    parser.expect(b"DELETE")?;
+    let file = file(parser, names)?;
+    parser.eat(b"RECORD");
+    let statement = FileStatement::Delete;
+    Ok(Statement::Perform { file, statement })
+}

@@ -1,0 +1,10 @@
+pub mod WalkLemmas
+pub mod PartLemmas
+pub mod StepLemmas
+pub mod RowLemmas
+pub mod BuilderLemmas
+pub mod CopiedLemmas
+pub mod EntryLemmas
+pub mod AlternateLemmas
+pub mod OpeningLemmas
+pub mod FaultLemmas

@@ -1,0 +1,11 @@
+use Rattle.std.proofs.Common.{ℕ, ◌<◌, slice_index_or}
+use Rattle.pages.specs.Each.{Each}
+use Rattle.page_walks.specs.declared.leaf.Leaf.{Leaf}
+use Rattle.page_walks.specs.Spots.{spots_below, spots_in}
+use Rattle.file_checker.specs.Leading.{HasRow}
+use Rattle.file_checker.proofs.alternate.check_leaves.Given as goal
+
+-- the leaves so far were found
+abbrev pub invariant-loop-leaf : goal.invariant-loop-leaf
+invariant-loop-leaf l =
+    (k : ℕ) (d : Leaf) → k < l.leaf-index → Each (HasRow l.file l.pages (spots_in l.primes) l.index) (spots_below (slice_index_or l.leaves k d).page (slice_index_or l.leaves k d).count)

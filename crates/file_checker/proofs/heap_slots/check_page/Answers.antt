@@ -1,0 +1,33 @@
+use Rattle.std.proofs.Common.{refl, ap, ◌∙◌, arith}
+use Rattle.record_heap.specs.Slot.{room}
+use Rattle.page_walks.specs.Spots.{spots_in}
+use Rattle.record_heap.specs.Standing.{slot_shape}
+use Rattle.file_checker.specs.Leading.{HasEntry}
+use Rattle.file_checker.proofs.PrimeAheadLemmas.{never}
+use Rattle.file_checker.proofs.RowFaultLemmas.{slot_told}
+use Rattle.file_checker.proofs.SlotLemmas.{slots_more}
+use Rattle.file_checker.proofs.heap_slots.check_page.Goals as goal
+use Rattle.open_file.specs.Fields.{heap_of}
+
+pub loop-i-init : goal.loop-i-init
+loop-i-init c = λ p is below. absurd (omega (arith, below))
+
+pub loop-i-preserved : goal.loop-i-preserved
+loop-i-preserved c =
+    slots_more (slot_shape (heap_of c.args.file.now)) (HasEntry c.args.file.now c.args.pages.now (spots_in c.args.primes.now)) c.args.n c.loop-i.i c.loop-i.invariant (c.if-not-has_entry.ensures.entry refl)
+
+pub returns-then-not-has_entry-clause-refused : goal.returns-then-not-has_entry-clause-refused
+returns-then-not-has_entry-clause-refused c = λ lead all.
+    let many = c.room-i-end.ensures.value ∙ ap room (c.shape.ensures ∙ ap slot_shape c.heap.ensures) in
+    let within = c.loop-i-test.true in
+    never (c.if-not-has_entry.ensures.refused lead (all (record { page = c.args.n; slot = c.loop-i.i }) refl (omega (arith, many, within))))
+
+pub returns-clause-entries : goal.returns-clause-entries
+returns-clause-entries c = λ p is within. c.loop-i.invariant p is (let end = c.loop-i-test.false in let many = c.room-i-end.ensures.value ∙ ap room (c.shape.ensures ∙ ap slot_shape c.heap.ensures) in omega (arith, end, many, within))
+
+pub returns-then-not-has_entry-clause-told : goal.returns-then-not-has_entry-clause-told
+returns-then-not-has_entry-clause-told c = λ lead.
+    let many = c.room-i-end.ensures.value ∙ ap room (c.shape.ensures ∙ ap slot_shape c.heap.ensures) in
+    let within = c.loop-i-test.true in
+    slot_told c.args.file.now c.args.pages.now (spots_in c.args.primes.now) (record { page = c.args.n; slot = c.loop-i.i }) _ c.of_slot.ensures (omega (arith, many, within))
+    (λ has. never (c.if-not-has_entry.ensures.refused lead has))

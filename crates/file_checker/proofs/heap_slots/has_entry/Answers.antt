@@ -1,0 +1,30 @@
+use Rattle.std.proofs.Common.{◌≡◌, ap, sym, ◌∙◌, Some, None, List, ℕ, Option, Bor}
+use Rattle.std.specs.Option.{option_copied}
+use Rattle.page_walks.specs.Spots.{spots_in}
+use Rattle.pages.specs.PageList.{pages_in}
+use Rattle.record_heap.specs.Standing.{slot_off}
+use Rattle.open_file.specs.Fields.{heap_of}
+use Rattle.file_checker.specs.Rows.{place_at}
+use Rattle.file_checker.proofs.PrimeAheadLemmas.{slot_found, slot_is}
+use Rattle.file_checker.proofs.SlotLemmas.{found_one}
+use Rattle.file_checker.proofs.heap_slots.has_entry.Goals as goal
+
+pub returns-in-Some-entry_near-clause-entry : goal.returns-in-Some-entry_near-clause-entry
+returns-in-Some-entry_near-clause-entry c = λ yes used.
+    found_one (place_at c.args.file.now c.args.pages.now) (spots_in c.args.primes.now) c.in-Some-entry_near.spot c.args.place c.in-Some-entry_near.ensures.one (c.leads_to.ensures.leads yes)
+
+pub returns-in-Some-entry_near-clause-refused : goal.returns-in-Some-entry_near-clause-refused
+returns-in-Some-entry_near-clause-refused c = λ lead has.
+    let used : slot_off (heap_of c.args.file.now) (pages_in c.args.pages.now) c.args.place ≡ Some c.in-Some.stored.now =
+    sym c.stored_at.ensures.value ∙ ap (λ (o : Option (Bor (List ℕ))). option_copied o) c.in-Some.is in
+    let found = slot_found c.args.file.now c.args.pages.now c.args.primes.now c.args.place c.in-Some.stored.now c.value.result.now c.entry_near.result used c.value.ensures c.entry_near.ensures.found lead has in
+    let at = slot_is c.args.file.now c.args.pages.now c.entry_near.result c.args.place c.in-Some-entry_near.spot c.in-Some-entry_near.is found in
+    c.leads_to.ensures.refused at.0 at.1
+
+pub returns-in-None-clause-refused : goal.returns-in-None-clause-refused
+returns-in-None-clause-refused c = λ lead has.
+    let used : slot_off (heap_of c.args.file.now) (pages_in c.args.pages.now) c.args.place ≡ Some c.in-Some.stored.now =
+    sym c.stored_at.ensures.value ∙ ap (λ (o : Option (Bor (List ℕ))). option_copied o) c.in-Some.is in
+    let found = slot_found c.args.file.now c.args.pages.now c.args.primes.now c.args.place c.in-Some.stored.now c.value.result.now c.entry_near.result used c.value.ensures c.entry_near.ensures.found lead has in
+    let bad : None ≡ Some found.0 = sym c.in-None.is ∙ found.1 in
+    absurd (cc)

@@ -1,0 +1,23 @@
+use Rattle.std.proofs.Common.{refl}
+use Rattle.file_checker.specs.RowsAhead.{LeadsAhead}
+use Rattle.file_checker.specs.Leading.{LeadsToRow}
+use Rattle.file_checker.proofs.PrimeAheadLemmas.{never}
+use Rattle.file_checker.proofs.SearchLemmas.{each_place}
+use Rattle.page_walks.specs.Spots.{spots_below}
+use Rattle.file_checker.proofs.RowFaultLemmas.{entry_told}
+use Rattle.file_checker.proofs.SpotLemmas.{each_below, one_below}
+use Rattle.file_checker.proofs.prime_rows.check_leaf.Goals as goal
+
+pub loop-place-preserved : goal.loop-place-preserved
+loop-place-preserved c =
+    each_below (LeadsToRow c.args.file.now c.args.pages.now c.args.marks.now) c.args.leaf.page c.loop-place.place c.loop-place.invariant (c.if-not-leads_to_row.ensures.leads refl)
+
+pub returns-then-not-leads_to_row-clause-refused : goal.returns-then-not-leads_to_row-clause-refused
+returns-then-not-leads_to_row-clause-refused c = λ all.
+    never (c.if-not-leads_to_row.ensures.refused
+    (each_place (LeadsAhead c.args.file.now c.args.pages.now c.args.marks.now) c.args.leaf.page c.args.leaf.count c.loop-place.place c.loop-place-test.true all))
+
+pub returns-then-not-leads_to_row-clause-told : goal.returns-then-not-leads_to_row-clause-told
+returns-then-not-leads_to_row-clause-told c =
+    entry_told (spots_below c.args.leaf.page c.args.leaf.count) (LeadsAhead c.args.file.now c.args.pages.now c.args.marks.now) (record { page = c.args.leaf.page; place = c.loop-place.place }) _ c.of_entry.ensures
+    (one_below c.args.leaf.page c.args.leaf.count c.loop-place.place c.loop-place-test.true) (λ ahead. never (c.if-not-leads_to_row.ensures.refused ahead))

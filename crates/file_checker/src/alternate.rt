@@ -1,0 +1,148 @@
+//! The entries of an alternate key, and the rows.
+
+ghost use Rattle.std.specs.Prelude.{◌≡◌, OnOk, OnErr, IfErr, IsTrue, All, length};
+ghost use Rattle.pages.specs.Each.{Each};
+ghost use Rattle.page_walks.specs.Spots.{spots_below, spots_in};
+ghost use Rattle.file_checker.specs.Alternate.{IsIndexFor, IsEntryFor, EntriesAscend, AlternateStands};
+ghost use Rattle.file_checker.specs.Leading.{HasRow, IsEntryOf, OfEachEntry};
+ghost use Rattle.file_checker.specs.RowsAhead.{AlternateAhead, HasItsRow, HasRowAhead, PrimesLead};
+ghost use Rattle.file_checker.specs.RowsAhead.{RefusesRows};
+ghost use Rattle.file_checker.specs.RowFaults.{IsAlternateFault, IsEntryFault, TellsOfRows};
+
+use crate::entry::{entry, entry_near, place_in};
+use crate::record::stored_at;
+use crate::row::{stamp, value};
+use crate::row_fault::RowFault;
+use byteorder::{BigEndian, ByteOrder};
+use key_index::AltIndex;
+use open_file::OpenFile;
+use page_walks::{Leaf, Spot};
+use pages::PAGE_SIZE;
+
+/// The bytes of a stamp.
+const STAMP: usize = 8;
+
+/// The entry is what the index has of the row that an entry of the prime index leads to.
+fn is_of_row(
+    pages: &[[u8; PAGE_SIZE]],
+    file: &OpenFile,
+    index: AltIndex,
+    entry_bytes: &[u8],
+    leader: Spot,
+) -> bool
+    requires { IsEntryFor file.now index entry_bytes.now }
+    ensures entry { IsTrue result → IsEntryOf file.now pages.now index entry_bytes.now leader }
+    ensures refused { HasItsRow file.now pages.now leader
+        → IsEntryOf file.now pages.now index entry_bytes.now leader → IsTrue result }
+{
+    let Some(prime) = entry(pages, file.prime().tree.shape(), leader) else {
+        return false;
+    };
+    let Some(stored) = stored_at(pages, file, place_in(prime, file.prime().width as usize)) else {
+        return false;
+    };
+    let width = index.width as usize;
+    let k = index.tree.shape().key;
+    &entry_bytes[..width] == value(file, stored, k)
+        && BigEndian::read_u64(&entry_bytes[width..]) == stamp(file, stored, k)
+        && &entry_bytes[width + STAMP..] == value(file, stored, 0)
+}
+
+/// The entry is what the index has of a row that the prime index leads to.
+fn has_row(
+    pages: &[[u8; PAGE_SIZE]],
+    file: &OpenFile,
+    primes: &[Leaf],
+    index: AltIndex,
+    spot: Spot,
+) -> bool
+    requires { IsIndexFor file.now index }
+    ensures row { IsTrue result → HasRow file.now pages.now (spots_in primes.now) index spot }
+    ensures refused { PrimesLead file.now pages.now primes.now
+        → HasRowAhead file.now pages.now (spots_in primes.now) index spot → IsTrue result }
+{
+    let Some(entry) = entry(pages, index.tree.shape(), spot) else {
+        return false;
+    };
+    match entry_near(pages, file, primes, &entry[index.width as usize + STAMP..]) {
+        Some(leader) => is_of_row(pages, file, index, entry, leader),
+        None => false,
+    }
+}
+
+/// Each entry of the leaf is what the index has of a row that the prime index leads to.
+fn check_leaf(
+    pages: &[[u8; PAGE_SIZE]],
+    file: &OpenFile,
+    primes: &[Leaf],
+    index: AltIndex,
+    leaf: Leaf,
+) -> Result<(), RowFault>
+    requires { IsIndexFor file.now index }
+    ensures rows { OnOk result
+        (OfEachEntry (HasRow file.now pages.now (spots_in primes.now) index) leaf) }
+    ensures refused { OnErr result (PrimesLead file.now pages.now primes.now
+        → OfEachEntry (HasRowAhead file.now pages.now (spots_in primes.now) index) leaf → ⊥) }
+    ensures told { IfErr result (λ fault. PrimesLead file.now pages.now primes.now
+        → TellsOfRows (IsEntryFault (spots_below leaf.page leaf.count)
+        (HasRowAhead file.now pages.now (spots_in primes.now) index)) fault) }
+{
+    for place in 0..leaf.count {
+        let spot = Spot {
+            page: leaf.page,
+            place,
+        };
+        if !has_row(pages, file, primes, index, spot) {
+            return Err(RowFault::of_entry(spot));
+        }
+    }
+    Ok(())
+}
+
+/// Each entry of these leaves is what the index has of a row that the prime index leads to.
+fn check_leaves(
+    pages: &[[u8; PAGE_SIZE]],
+    file: &OpenFile,
+    primes: &[Leaf],
+    index: AltIndex,
+    leaves: &[Leaf],
+) -> Result<(), RowFault>
+    requires { IsIndexFor file.now index }
+    ensures rows { OnOk result
+        (All (OfEachEntry (HasRow file.now pages.now (spots_in primes.now) index)) leaves.now) }
+    ensures refused { OnErr result (PrimesLead file.now pages.now primes.now
+        → Each (HasRowAhead file.now pages.now (spots_in primes.now) index) (spots_in leaves.now) → ⊥) }
+    ensures told { IfErr result (λ fault. PrimesLead file.now pages.now primes.now
+        → TellsOfRows (IsAlternateFault file.now pages.now primes.now index leaves.now) fault) }
+{
+    for &leaf in leaves {
+        check_leaf(pages, file, primes, index, leaf)?;
+    }
+    Ok(())
+}
+
+/// Compares the index of an alternate key with the rows of a file. `primes` and `leaves` are the
+/// leaves of the prime index and of this one, each in their order, in the pages of the file as they
+/// were read.
+///
+/// Index, where they do not agree, at an entry that is that of no row.
+pub fn check_alternate(
+    pages: &[[u8; PAGE_SIZE]],
+    file: &OpenFile,
+    primes: &[Leaf],
+    index: AltIndex,
+    leaves: &[Leaf],
+) -> Result<(), RowFault>
+    requires index { IsIndexFor file.now index }
+    requires many { length (spots_in leaves.now) ≡ length (spots_in primes.now) }
+    requires rises { EntriesAscend index pages.now (spots_in leaves.now) }
+    ensures stands { OnOk result (AlternateStands file.now pages.now (spots_in primes.now) index
+        (spots_in leaves.now)) }
+    ensures refused { IfErr result
+        (RefusesRows (AlternateAhead file.now pages.now primes.now index leaves.now)) }
+    ensures told { IfErr result (λ fault. PrimesLead file.now pages.now primes.now
+        → TellsOfRows (IsAlternateFault file.now pages.now primes.now index leaves.now) fault) }
+{
+    check_leaves(pages, file, primes, index, leaves)?;
+    Ok(())
+}

@@ -1,0 +1,174 @@
+//! The rows that the prime index leads to.
+
+ghost use Rattle.std.specs.Prelude.{◌≡◌, ◌≢◌, ◌<◌, ◌↔◌, ℕ, true, false, All, IfOk, IfErr, OnOk};
+ghost use Rattle.std.specs.Prelude.{OnErr, IsTrue, length};
+ghost use Rattle.pages.specs.Each.{Each};
+ghost use Rattle.pages.specs.Marks.{marked_in};
+ghost use Rattle.page_walks.specs.Spots.{spots_below, spots_in};
+ghost use Rattle.record_heap.specs.Walk.{is_in_list};
+ghost use Rattle.open_file.specs.Stands.{IsShaped};
+ghost use Rattle.file_checker.specs.Rows.{EntriesRise, MayCompareRows, RowsStand};
+ghost use Rattle.file_checker.specs.Leading.{LeadsToRow, OfEachEntry};
+ghost use Rattle.file_checker.specs.RowsAhead.{LeadsAhead, RefusesRows, RowsAhead};
+ghost use Rattle.file_checker.specs.RowFaults.{IsEntryFault, IsRowFault, TellsOfRows};
+ghost use Rattle.file_checker.specs.Search.{IsPrimeLeaf};
+
+use crate::entry::{entry, place_in};
+use crate::heap_slots::check_slots;
+use crate::record::stored_at;
+use crate::row::{is_row, value};
+use crate::row_fault::RowFault;
+use open_file::OpenFile;
+use page_walks::{Leaf, Spot};
+use pages::PAGE_SIZE;
+use std::alloc::Global;
+
+/// No marks, for so many pages.
+fn no_marks(alloc: Global, count: usize) -> Result<Vec<bool>, RowFault>
+    ensures none { IfOk result (λ marks. (n : ℕ) → marked_in marks.items n ≡ false) }
+    ensures many { IfOk result (λ marks. length marks.items ≡ count) }
+    ensures memory { IfErr result (λ fault. fault ≡ RowFault.Memory) }
+{
+    vec![in alloc; false; count].map_err(|_| RowFault::Memory)
+}
+
+/// Marks a page, if it is one of the pages.
+fn mark_one(marks: &mut [bool], n: u32)
+    ensures one { n < length marks.old → marked_in marks.new n ≡ true }
+    ensures others { (m : ℕ) → m ≢ n → marked_in marks.new m ≡ marked_in marks.old m }
+    ensures long { length marks.new ≡ length marks.old }
+{
+    let i = n as usize;
+    if i < marks.len() {
+        marks[i] = true;
+    }
+}
+
+/// Marks these pages.
+fn mark_all(marks: &mut [bool], own: &[u32])
+    requires { (n : ℕ) → marked_in marks.old n ≡ false }
+    ensures only { (n : ℕ) → marked_in marks.new n ≡ true → is_in_list own.now n ≡ true }
+    ensures all { (n : ℕ) → n < length marks.old → is_in_list own.now n ≡ true → marked_in marks.new n ≡ true }
+{
+    for &n in own {
+        mark_one(marks, n);
+    }
+}
+
+/// The page is marked.
+fn is_marked(marks: &[bool], n: u32) -> bool
+    ensures { IsTrue result ↔ marked_in marks.now n ≡ true }
+{
+    let i = n as usize;
+    i < marks.len() && marks[i]
+}
+
+/// The entry of the prime index leads to a row that has its value, in one of the marked pages.
+fn leads_to_row(pages: &[[u8; PAGE_SIZE]], file: &OpenFile, marks: &[bool], spot: Spot) -> bool
+    requires { IsShaped file.now }
+    ensures leads { IsTrue result → LeadsToRow file.now pages.now marks.now spot }
+    ensures refused { LeadsAhead file.now pages.now marks.now spot → IsTrue result }
+{
+    let width = file.prime().width as usize;
+    let Some(entry) = entry(pages, file.prime().tree.shape(), spot) else {
+        return false;
+    };
+    let place = place_in(entry, width);
+    let Some(stored) = stored_at(pages, file, place) else {
+        return false;
+    };
+    is_marked(marks, place.page)
+        && is_row(file, stored)
+        && &entry[..width] == value(file, stored, 0)
+}
+
+/// Each entry of the leaf of the prime index leads to a row that has its value, in one of the marked pages.
+fn check_leaf(
+    pages: &[[u8; PAGE_SIZE]],
+    file: &OpenFile,
+    marks: &[bool],
+    leaf: Leaf,
+) -> Result<(), RowFault>
+    requires { IsShaped file.now }
+    ensures lead { OnOk result (OfEachEntry (LeadsToRow file.now pages.now marks.now) leaf) }
+    ensures refused { OnErr result (OfEachEntry (LeadsAhead file.now pages.now marks.now) leaf → ⊥) }
+    ensures told { IfErr result (TellsOfRows (IsEntryFault (spots_below leaf.page leaf.count)
+        (LeadsAhead file.now pages.now marks.now))) }
+{
+    for place in 0..leaf.count {
+        let spot = Spot {
+            page: leaf.page,
+            place,
+        };
+        if !leads_to_row(pages, file, marks, spot) {
+            return Err(RowFault::of_entry(spot));
+        }
+    }
+    Ok(())
+}
+
+/// Each entry of these leaves of the prime index leads to a row that has its value, in one of the
+/// marked pages.
+fn check_leaves(
+    pages: &[[u8; PAGE_SIZE]],
+    file: &OpenFile,
+    marks: &[bool],
+    primes: &[Leaf],
+) -> Result<(), RowFault>
+    requires { IsShaped file.now }
+    ensures lead { OnOk result
+        (All (OfEachEntry (LeadsToRow file.now pages.now marks.now)) primes.now) }
+    ensures refused { OnErr result
+        (Each (LeadsAhead file.now pages.now marks.now) (spots_in primes.now) → ⊥) }
+    ensures told { IfErr result (TellsOfRows (IsEntryFault (spots_in primes.now)
+        (LeadsAhead file.now pages.now marks.now))) }
+{
+    for &leaf in primes {
+        check_leaf(pages, file, marks, leaf)?;
+    }
+    Ok(())
+}
+
+/// Compares the prime index with the records, by marks on the heap's own pages.
+fn compare(
+    pages: &[[u8; PAGE_SIZE]],
+    file: &OpenFile,
+    own: &[u32],
+    primes: &[Leaf],
+    marks: &mut [bool],
+) -> Result<(), RowFault>
+    requires { MayCompareRows file.now pages.now (spots_in primes.now) marks.old }
+    ensures stand { OnOk result (RowsStand file.now pages.now own.now (spots_in primes.now)) }
+    ensures refused { OnErr result (RowsAhead file.now pages.now own.now primes.now → ⊥) }
+    ensures told { IfErr result (λ fault. Each (IsPrimeLeaf file.now pages.now) primes.now
+        → TellsOfRows (IsRowFault file.now pages.now own.now primes.now) fault) }
+{
+    mark_all(marks, own);
+    check_leaves(pages, file, marks, primes)?;
+    check_slots(pages, file, primes, own)?;
+    Ok(())
+}
+
+/// Compares the prime index of a file with its records. `own` are the heap's own pages, and
+/// `primes` the leaves of the index, in their order, in the pages of the file as they were read.
+///
+/// Memory; Index, where they do not agree, at an entry that does not lead to a row that has its
+/// value, or at a slot in use that has no entry.
+pub fn check_rows(
+    alloc: Global,
+    pages: &[[u8; PAGE_SIZE]],
+    file: &OpenFile,
+    own: &[u32],
+    primes: &[Leaf],
+) -> Result<(), RowFault>
+    requires shaped { IsShaped file.now }
+    requires rises { EntriesRise file.now pages.now (spots_in primes.now) }
+    ensures stand { OnOk result (RowsStand file.now pages.now own.now (spots_in primes.now)) }
+    ensures refused { IfErr result
+        (RefusesRows (RowsAhead file.now pages.now own.now primes.now)) }
+    ensures told { IfErr result (λ fault. Each (IsPrimeLeaf file.now pages.now) primes.now
+        → TellsOfRows (IsRowFault file.now pages.now own.now primes.now) fault) }
+{
+    let mut marks = no_marks(alloc, pages.len())?;
+    compare(pages, file, own, primes, &mut marks)
+}

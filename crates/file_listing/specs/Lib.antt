@@ -1,3 +1,0 @@
-pub mod Shelf
-pub mod Listing
-pub mod ShelfLaws

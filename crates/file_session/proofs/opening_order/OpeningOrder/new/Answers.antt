@@ -1,7 +1,0 @@
-use Rattle.std.proofs.Common.{sym, subst}
-use Rattle.file_session.specs.Files.{IsOrder}
-use Rattle.file_session.proofs.OrderLemmas.{empty_order}
-use Rattle.file_session.proofs.opening_order.OpeningOrder.new.Goals as goal
-
-pub invariant_of-result : goal.invariant_of-result
-invariant_of-result c = subst IsOrder (sym c.new.ensures) empty_order

@@ -1,0 +1,3 @@
+pub mod PushLemmas
+pub mod LawLemmas
+pub mod RisingLemmas

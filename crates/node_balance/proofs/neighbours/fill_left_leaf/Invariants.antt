@@ -1,8 +1,0 @@
-use Rattle.std.proofs.Common.{◌≡◌, ◌+◌, length}
-use Rattle.tree_node.specs.Leaf.{leaf_entries, LeavesInOrder}
-use Rattle.node_balance.proofs.neighbours.fill_left_leaf.Given as goal
-
--- so many entries went over
-abbrev pub invariant-loop : goal.invariant-loop
-invariant-loop l = LeavesInOrder l.fn.shape l.fn.left l.fn.right l.left l.right
-    × (length (leaf_entries l.fn.shape l.left) ≡ length (leaf_entries l.fn.shape l.fn.left) + l.counter)

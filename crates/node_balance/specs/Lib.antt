@@ -1,3 +1,0 @@
-pub mod Balance
-pub mod Fill
-pub mod Put

@@ -1,2 +1,0 @@
-pub mod ChunkLemmas
-pub mod RoomLemmas

@@ -1,7 +1,0 @@
-use Rattle.page_bytes.proofs.ChunkLemmas.{remove_is}
-use Rattle.page_bytes.proofs.chunks.remove.Goals as goal
-
-pub returns : goal.returns
-returns c =
-    rw c.copy_within.ensures.after
-    (remove_is c.args.bytes.now c.args.size c.args.count c.args.i c.requires.place c.requires.room)

@@ -1,4 +1,0 @@
-pub mod RowLemmas
-pub mod TreeLemmas
-pub mod RunLemmas
-pub mod TogetherLemmas

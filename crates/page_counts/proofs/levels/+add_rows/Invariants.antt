@@ -1,4 +1,0 @@
-use Rattle.page_counts.proofs.levels.+add_rows.Given as goal
-
-abbrev pub decreases-add_rows : goal.decreases-add_rows
-decreases-add_rows l = l.height

@@ -1,4 +1,0 @@
-pub mod Rows
-pub mod Levels
-pub mod Fill
-pub mod Runs

@@ -1,6 +1,0 @@
-pub mod Marks
-pub mod Refused
-pub mod Told
-pub mod PageList
-pub mod Parted
-pub mod PartLaw

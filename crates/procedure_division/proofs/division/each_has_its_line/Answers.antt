@@ -1,6 +1,0 @@
-use Rattle.std.proofs.Common.{[]}
-use Rattle.procedure_division.proofs.LineLemmas.{lines_of_procedure}
-use Rattle.procedure_division.proofs.division.each_has_its_line.Goals as goal
-
-pub returns : goal.returns
-returns c = λ names placed words s. lines_of_procedure names placed words [] s

@@ -1,9 +1,0 @@
-use Rattle.std.proofs.Common.{◌∙◌, ap}
-use Rattle.std.specs.Prelude.{bytes_eq, position}
-use Rattle.procedure_division.specs.Names.{Names}
-use Rattle.procedure_division.proofs.names.Names.length_item.Goals as goal
-
-pub returns : goal.returns
-returns c =
-    c.copied.ensures ∙ c.get.ensures.value ∙ c.self.invariant c.args.name.now
-    ∙ ap (λ (names : Names). position (λ item. bytes_eq item.name c.args.name.now) names.items) c.self.view_is

@@ -1,6 +1,0 @@
-use Rattle.std.proofs.Common.{◌∙◌}
-use Rattle.procedure_division.proofs.ProcedureLemmas.{statements_start}
-use Rattle.procedure_division.proofs.sentence.sees_statement.Goals as goal
-
-pub returns : goal.returns
-returns c = λ known. c.sees_one_of.ensures ∙ statements_start known c.args.parser.now

@@ -1,0 +1,183 @@
+-- What comes of the lines of a text, one after another. All of this is ours.
+use Rattle.std.specs.Prelude.{◌≡◌, ◌⊎◌, ◌<◌, ℕ, zero, suc, ◌+◌, ◌==◌, Bool, true, false, not, ◌&&◌, List, [], ◌∷◌, ◌++◌}
+use Rattle.std.specs.Prelude.{length, drop, IsTrue, if◌then◌else◌}
+use Rattle.io_state.specs.Status.{is_successful}
+use Rattle.io_state.specs.declared.status.Status.{Status}
+use Rattle.io_state.specs.declared.status.Status.TheVariants.{DuplicateKey}
+use Rattle.io_state.specs.declared.statement.FileStatement.TheVariants.{Write}
+use Rattle.record_layout.specs.Schema.{Schema}
+use Rattle.verbs.specs.Connector.{FileState, Outcome, answers}
+use Rattle.verbs.specs.Fits.{IsRecordOf}
+use Rattle.verbs.specs.Marred.{Step}
+use Rattle.verbs.specs.Verbs.{perform}
+use Rattle.record_forms.specs.declared.form.Form.{Form}
+use Rattle.record_forms.specs.Lines.{line_in}
+use Rattle.record_reading.specs.ReadLine.{AreBytes, BeginsWithNoRecord}
+use Rattle.record_reading.specs.Header.{header_lines}
+use Rattle.record_loading.specs.declared.end.LinesEnd.{LinesEnd}
+use Rattle.record_loading.specs.declared.end.LinesEnd.TheVariants as ends
+use Rattle.record_loading.specs.declared.options.LoadOptions.{LoadOptions}
+use Rattle.record_loading.specs.declared.rejected.RejectReason.{RejectReason}
+use Rattle.record_loading.specs.declared.rejected.RejectReason.TheVariants.{Refused, NoRecord}
+use Rattle.record_loading.specs.declared.rejected.RejectedLine.{RejectedLine}
+
+-- ---- lines that are passed over
+
+-- what is behind the first line of a text: behind its LF, or nothing
+abbrev pub behind_line : List ℕ → List ℕ
+behind_line [] = []
+behind_line (char ∷ text) = if char == 10 then text else behind_line text
+
+-- what is behind so many lines
+abbrev pub behind_lines : ℕ → List ℕ → List ℕ
+behind_lines zero text = text
+behind_lines (suc count) text = behind_lines count (behind_line text)
+
+-- ---- one line
+
+-- a record that a file of this schema can have
+pub record CanBeRecord (schema : Schema) (bytes : List ℕ) : Type 0 where
+  pub are_bytes : AreBytes bytes
+  pub length_is : IsRecordOf schema bytes
+
+-- the record is put into the beginning of the record area
+abbrev pub with_record : List ℕ → FileState → FileState
+with_record bytes s = record s { area = bytes ++ drop (length bytes) s.area }
+
+-- what the WRITE of a record should answer and leave
+abbrev pub write_of : List ℕ → FileState → Outcome
+write_of bytes s = perform Write (length bytes) (with_record bytes s)
+
+-- 22: a WRITE that was refused for the keys of its record, so that the file can take other records
+abbrev pub is_refused_for_keys : Status → Bool
+is_refused_for_keys DuplicateKey = true
+is_refused_for_keys status = false
+
+-- a WRITE that was answered so, and is no success, ends the lines
+abbrev pub ends_lines : (keep_going : Bool) → Status → Bool
+ends_lines keep_going status = not (keep_going && is_refused_for_keys status)
+
+-- a line of a text, and what is left of the file by it
+pub record Passing : Type 0 where
+  pub text : List ℕ
+  pub behind : List ℕ
+  pub before : FileState
+  pub after : FileState
+
+-- the line is that of a record: WRITE should be a success, and it was
+pub record IsRecordWritten (schema : Schema) (form : Form) (line : Passing) : Type 0 where
+  pub bytes : List ℕ
+  pub text_is : line.text ≡ line_in form bytes ++ line.behind
+  pub can_be : CanBeRecord schema bytes
+  pub success : IsTrue (is_successful (write_of bytes line.before).status)
+  pub file : line.after ≡ (write_of bytes line.before).next
+
+-- the line is that of a record: WRITE should be refused so for its keys, and it was; the file and what its
+-- name stands for are as they were
+pub record IsRefusedForKeys (schema : Schema) (form : Form) (status : Status) (line : Passing) : Type 0 where
+  pub bytes : List ℕ
+  pub text_is : line.text ≡ line_in form bytes ++ line.behind
+  pub can_be : CanBeRecord schema bytes
+  pub status_is : status ≡ (write_of bytes line.before).status
+  pub of_keys : IsTrue (is_refused_for_keys status)
+  pub file : line.after ≡ (write_of bytes line.before).next
+  pub same_file : line.after.file ≡ line.before.file
+  pub same_name : line.after.named ≡ line.before.named
+
+-- the line is that of no record that the file can have: it is passed over up to its LF, and the file is as
+-- it was; in the record area other bytes may be
+pub record IsOfNoRecord (schema : Schema) (form : Form) (line : Passing) : Type 0 where
+  pub some : 0 < length line.text
+  pub none : BeginsWithNoRecord form line.text schema.least schema.greatest
+  pub behind : line.behind ≡ behind_line line.text
+  pub area : List ℕ
+  pub area_length : length area ≡ length line.before.area
+  pub file : line.after ≡ record line.before { area = area }
+
+-- the line was rejected for this reason
+abbrev pub IsRejected : Schema → Form → RejectReason → Passing → Type 0
+IsRejected schema form (Refused status) line = IsRefusedForKeys schema form status line
+IsRejected schema form NoRecord line = IsOfNoRecord schema form line
+
+-- the line is that of a record whose WRITE was answered so, which is no success, and it ends the lines
+pub record IsRefusal (schema : Schema) (form : Form) (keep_going : Bool) (status : Status) (line : Passing)
+    : Type 0 where
+  pub bytes : List ℕ
+  pub text_is : line.text ≡ line_in form bytes ++ line.behind
+  pub can_be : CanBeRecord schema bytes
+  pub step : Step Write (length bytes) (with_record bytes line.before) (answers status line.after)
+  pub no_success : is_successful status ≡ false
+  pub ends : IsTrue (ends_lines keep_going status)
+
+-- the line is that of no record that the file can have, and it ends the lines
+pub record IsNoRecordEnd (schema : Schema) (form : Form) (keep_going : Bool) (line : Passing) : Type 0 where
+  pub some : 0 < length line.text
+  pub none : BeginsWithNoRecord form line.text schema.least schema.greatest
+  pub ends : keep_going ≡ false
+  pub file : line.after ≡ line.before
+
+-- the line ended the lines, for this reason
+abbrev pub IsEnd : Schema → Form → (keep_going : Bool) → RejectReason → Passing → Type 0
+IsEnd schema form keep_going (Refused status) line = IsRefusal schema form keep_going status line
+IsEnd schema form keep_going NoRecord line = IsNoRecordEnd schema form keep_going line
+
+-- ---- lines
+
+-- a text that is to be loaded: what stands before the first line in its form, and then a line for each
+-- record; and which lines are asked for
+pub record LoadSource : Type 0 where
+  pub form : Form
+  pub text : List ℕ
+  pub options : LoadOptions
+
+-- where a load stands between two lines: the text that is left, how many records were written, which lines
+-- were told as rejected, and the file
+pub record Place : Type 0 where
+  pub rest : List ℕ
+  pub records : ℕ
+  pub told : List RejectedLine
+  pub file : FileState
+
+-- from one place to another one
+abbrev pub from_to : (before after : Place) → Passing
+from_to before after =
+    record { text = before.rest; behind = after.rest; before = before.file; after = after.file }
+
+-- the number of the line behind a place: line 1 is the first of the text, which in CSV is that of the names
+abbrev pub number_of_line : LoadSource → Place → ℕ
+number_of_line source place =
+    header_lines source.form + source.options.skip + place.records + length place.told + 1
+
+-- a line of this number, rejected for this reason
+abbrev pub rejected_line : ℕ → RejectReason → RejectedLine
+rejected_line line reason = record { line = line; reason = reason }
+
+-- the record of the next line was written, and nothing was told
+pub record WritesRecordOfLine (schema : Schema) (source : LoadSource) (before after : Place) : Type 0 where
+  pub line : IsRecordWritten schema source.form (from_to before after)
+  pub records : after.records ≡ before.records + 1
+  pub told : after.told ≡ before.told
+
+-- the next line was rejected and passed over, as is asked for, which was told with its number, once
+pub record RejectsLine (schema : Schema) (source : LoadSource) (before after : Place) : Type 0 where
+  pub reason : RejectReason
+  pub asked : IsTrue source.options.keep_going
+  pub line : IsRejected schema source.form reason (from_to before after)
+  pub records : after.records ≡ before.records
+  pub told : after.told ≡ before.told ++ (rejected_line (number_of_line source before) reason ∷ [])
+
+-- the next line was passed
+abbrev pub PassesLine : Schema → LoadSource → (before after : Place) → Type 0
+PassesLine schema source before after =
+    WritesRecordOfLine schema source before after ⊎ RejectsLine schema source before after
+
+-- so many lines were passed, one after another
+abbrev pub PassesLines : Schema → LoadSource → ℕ → (before after : Place) → Type 0
+PassesLines schema source zero before after = after ≡ before
+PassesLines schema source (suc count) before after =
+    (between : Place) × PassesLines schema source count before between × PassesLine schema source between after
+
+-- how lines end at a line of this number
+abbrev pub lines_end : ℕ → RejectReason → LinesEnd
+lines_end line (Refused status) = ends.Refused line status
+lines_end line NoRecord = ends.NoRecord line

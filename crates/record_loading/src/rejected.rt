@@ -1,0 +1,40 @@
+//! Lines that are rejected.
+ghost use Rattle.std.specs.Prelude.{◌≡◌};
+ghost use Rattle.record_loading.specs.Passing.{is_refused_for_keys};
+
+use io_state::Status;
+
+/// Why a line is rejected.
+#[derive(Clone, Copy, Debug, PartialEq, Eq)]
+pub enum RejectReason {
+    /// The WRITE of its record was answered so.
+    Refused(Status),
+    /// It is the line of no record that the file can have.
+    NoRecord,
+}
+
+/// A line that a load rejected and passed over; the first line of the text is line 1.
+#[derive(Clone, Copy, Debug, PartialEq, Eq)]
+pub struct RejectedLine {
+    pub line: u64,
+    pub reason: RejectReason,
+}
+
+/// What is told of the lines that a load rejects and passes over.
+pub trait RejectLog {
+    ghost use Rattle.record_loading.specs.declared.rejected.RejectedLine.{RejectedLine};
+
+    /// How one follows another once it is told of a line.
+    ghost tells: { Self → Self → RejectedLine → Type 0 };
+
+    /// Tells of a line.
+    fn tell(&mut self, rejected: RejectedLine)
+        ensures { tells self.old self.new rejected };
+}
+
+/// Whether a WRITE was refused for the keys of its record, so that the file can take other records.
+pub fn is_refused_for_keys(status: Status) -> bool
+    ensures { result ≡ is_refused_for_keys status }
+{
+    matches!(status, Status::DuplicateKey)
+}

@@ -1,0 +1,223 @@
+//! The loading.
+ghost use Rattle.std.specs.Prelude.{◌≡◌, ◌≤◌, [], IsTrue, IfOk, OnOk, OnErr, ⊤};
+ghost use Rattle.record_reading.specs.Whole.{IsWholeForm};
+ghost use Rattle.record_loading.specs.Loading.{listing, listing_by};
+ghost use Rattle.record_loading.specs.Loaded.{TellsLoadEnd};
+ghost use Rattle.record_loading.specs.Loaded.{EndsLoad, EndsAnyhow, LoadsInto, TellsIfThere};
+
+use crate::end::Load;
+use crate::loading::load_records;
+use crate::options::LoadOptions;
+use crate::rejected::{RejectLog, RejectedLine};
+use crate::shelf_end::{ShelfEnd, ShelfFault, end_of, fault_by};
+use io_state::{Fault, FileName};
+use page_store::Shelf;
+use record_forms::Form;
+use record_layout::Schema;
+use shelf_library::ShelfLibrary;
+use std::alloc::Global;
+use std::num::NonZeroUsize;
+use streams::Progress;
+
+/// Whether a name has a file. No name is attached afterwards.
+fn is_there<S: Shelf>(shelf: &mut S, name: FileName) -> Result<bool, Fault>
+    ensures answer { IfOk result (TellsIfThere (S.state shelf.old) (S.state shelf.new) name.bytes) }
+    ensures names { OnOk result ((S.state shelf.new).names ≡ []) }
+    ensures file { (S.state shelf.new).file ≡ (S.state shelf.old).file }
+    ensures honest { IsTrue (S.state shelf.new).is_honest → IsTrue (S.state shelf.old).is_honest }
+{
+    shelf.attach(&[name])?;
+    let there = shelf.exists(0)?;
+    shelf.attach(&[])?;
+    Ok(there)
+}
+
+/// Loads records over a shelf to which no name is attached, whether or not the name has a file.
+fn load_over<S: Shelf, P: Progress, R: RejectLog>(
+    alloc: Global,
+    shelf: S,
+    name: FileName,
+    schema: &Schema,
+    load: Load,
+    form: &Form,
+    options: LoadOptions,
+    text: &[u8],
+    limit: u32,
+    frames: NonZeroUsize,
+    rejects: &mut R,
+    progress: &mut P,
+) -> (S, Result<ShelfEnd, ShelfFault>)
+    requires names { (S.state shelf).names ≡ [] }
+    requires limit { 16 ≤ limit }
+    requires whole { IsWholeForm form.now schema.now.greatest }
+    ensures untold { OnErr result.1 (rejects.new ≡ rejects.old) }
+    ensures loads { LoadsInto name.bytes (TellsLoadEnd R.tells rejects.old rejects.new (λ told.
+        EndsAnyhow name.bytes schema.now load (listing_by form.now text.now options told)))
+        (S.state shelf) (S.state result.0) result.1 }
+{
+    let mut library = ShelfLibrary::new(alloc, shelf, limit, frames);
+    let end = load_records(
+        alloc,
+        &mut library,
+        name,
+        schema,
+        load,
+        form,
+        options,
+        text,
+        rejects,
+        progress,
+    );
+    (library.into_shelf(), end_of(end))
+}
+
+/// Loads records into a new file, where the name has none.
+fn load_new<S: Shelf, P: Progress, R: RejectLog>(
+    alloc: Global,
+    shelf: S,
+    name: FileName,
+    schema: &Schema,
+    form: &Form,
+    options: LoadOptions,
+    text: &[u8],
+    limit: u32,
+    frames: NonZeroUsize,
+    rejects: &mut R,
+    progress: &mut P,
+) -> (S, Result<ShelfEnd, ShelfFault>)
+    requires limit { 16 ≤ limit }
+    requires whole { IsWholeForm form.now schema.now.greatest }
+    ensures untold { OnErr result.1 (rejects.new ≡ rejects.old) }
+    ensures loads { LoadsInto name.bytes (TellsLoadEnd R.tells rejects.old rejects.new (λ told.
+        EndsLoad name.bytes schema.now Load.New (listing_by form.now text.now options told)))
+        (S.state shelf) (S.state result.0) result.1 }
+{
+    let mut shelf = shelf;
+    match is_there(&mut shelf, name) {
+        Ok(true) => (shelf, Ok(ShelfEnd::IsThere)),
+        Ok(false) => load_over(
+            alloc,
+            shelf,
+            name,
+            schema,
+            Load::New,
+            form,
+            options,
+            text,
+            limit,
+            frames,
+            rejects,
+            progress,
+        ),
+        Err(fault) => (shelf, Err(fault_by(fault))),
+    }
+}
+
+/// Loads the record of each line of a text in a form into the file of a name on a shelf to which no
+/// name is attached, and gives the shelf back. A file has at most `limit` pages of 4,096 bytes, of
+/// which at most `frames` are held in memory while it is open.
+///
+/// A new file is made only where the name has none: otherwise that is told, and each file is as it
+/// was. Where the shelf is honest, the file represents what OPEN, the WRITEs and CLOSE leave of
+/// what it represented. The first lines behind the header are skipped, so many as `options` says. The
+/// first line that is the line of no record of the file, or whose WRITE is no success, ends a load, and
+/// what was written before stays. Where `options` says that it is to keep going, a line that is no
+/// record's, or whose WRITE is refused for its keys, with 22, is told and passed over. No crash leaves a
+/// false file, where none could be left before. After each line it is told how many bytes of the text
+/// are done.
+///
+/// `Input`: the device failed when it was asked for the file. `Memory`. Nothing was changed then.
+pub fn load_lines_on_shelf<S: Shelf, P: Progress, R: RejectLog>(
+    alloc: Global,
+    shelf: S,
+    name: FileName,
+    schema: &Schema,
+    load: Load,
+    form: &Form,
+    options: LoadOptions,
+    text: &[u8],
+    limit: u32,
+    frames: NonZeroUsize,
+    rejects: &mut R,
+    progress: &mut P,
+) -> (S, Result<ShelfEnd, ShelfFault>)
+    requires names { (S.state shelf).names ≡ [] }
+    requires limit { 16 ≤ limit }
+    requires whole { IsWholeForm form.now schema.now.greatest }
+    ensures untold { OnErr result.1 (rejects.new ≡ rejects.old) }
+    ensures loads { LoadsInto name.bytes (TellsLoadEnd R.tells rejects.old rejects.new (λ told.
+        EndsLoad name.bytes schema.now load (listing_by form.now text.now options told)))
+        (S.state shelf) (S.state result.0) result.1 }
+{
+    match load {
+        Load::New => load_new(
+            alloc, shelf, name, schema, form, options, text, limit, frames, rejects, progress,
+        ),
+        Load::Into => load_over(
+            alloc,
+            shelf,
+            name,
+            schema,
+            Load::Into,
+            form,
+            options,
+            text,
+            limit,
+            frames,
+            rejects,
+            progress,
+        ),
+    }
+}
+
+/// A log that shows nothing.
+#[derive(Drop)]
+struct Unheard;
+
+impl RejectLog for Unheard {
+    ghost tells = { λ _ _ _. ⊤ };
+
+    fn tell(&mut self, _rejected: RejectedLine) {}
+}
+
+/// The same, where no line is skipped, and the first that is the line of no record of the file, or whose
+/// WRITE is no success, ends the load.
+///
+/// `Input`: the device failed when it was asked for the file. `Memory`. Nothing was changed then.
+pub fn load_on_shelf<S: Shelf, P: Progress>(
+    alloc: Global,
+    shelf: S,
+    name: FileName,
+    schema: &Schema,
+    load: Load,
+    form: &Form,
+    text: &[u8],
+    limit: u32,
+    frames: NonZeroUsize,
+    progress: &mut P,
+) -> (S, Result<ShelfEnd, ShelfFault>)
+    requires names { (S.state shelf).names ≡ [] }
+    requires limit { 16 ≤ limit }
+    requires whole { IsWholeForm form.now schema.now.greatest }
+    ensures { LoadsInto name.bytes (EndsLoad name.bytes schema.now load (listing form.now text.now))
+        (S.state shelf) (S.state result.0) result.1 }
+{
+    let usual = LoadOptions {
+        skip: 0,
+        keep_going: false,
+    };
+    load_lines_on_shelf(
+        alloc,
+        shelf,
+        name,
+        schema,
+        load,
+        form,
+        usual,
+        text,
+        limit,
+        frames,
+        &mut Unheard,
+        progress,
+    )
+}

@@ -1,5 +1,0 @@
-use Rattle.request_frames.proofs.WritingLemmas.{written_is_read}
-use Rattle.request_frames.proofs.laws.what_is_written_is_read.Goals as goal
-
-pub returns : goal.returns
-returns c = written_is_read

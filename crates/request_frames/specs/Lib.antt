@@ -1,4 +1,0 @@
-pub mod Request
-pub mod Reading
-pub mod Writing
-pub mod Answer

@@ -1,0 +1,72 @@
+//! The answer to a request.
+//!
+//! | Bytes | Content |
+//! |---|---|
+//! | 0 to 1 | length of the rest |
+//! | 2 | 0 refused, 1 described or released, 2 performed |
+//! | 3 | refused: why |
+//! | 3 to 4 | performed: the status |
+//! | 5 to the end | performed: the record that was delivered, if one was |
+ghost use Rattle.std.specs.Prelude.{◌≡◌, ◌+◌, ◌≤◌, ◌++◌, take, drop, length};
+ghost use Rattle.byteorder.specs.Endian.{big_bytes};
+ghost use Rattle.serve.specs.Answer.{told_of, answer_body, framed, record_told};
+ghost use Rattle.serve.specs.Answer.{KeepsBehind};
+
+use crate::refusal::Refusal;
+use byteorder::{BigEndian, ByteOrder};
+use io_state::Status;
+
+/// The most bytes of an answer's frame: five, and the longest record.
+pub const ANSWER_LIMIT: usize = 4005;
+
+/// What a request is answered by.
+#[derive(Clone, Copy, Debug)]
+pub enum Answer<'a> {
+    Refused(Refusal),
+    /// The file is described, or released.
+    Done,
+    /// The verb was performed. There are no bytes of a record where none was delivered.
+    Performed { status: Status, bytes: &'a [u8] },
+}
+
+/// Puts bytes into the room, from this place on. Where they end.
+fn put(room: &mut [u8], at: usize, bytes: &[u8]) -> usize
+    requires room { at + length bytes.now ≤ length room.old }
+    ensures put { room.new ≡ take at room.old ++ bytes.now ++ drop result room.old }
+    ensures end { result ≡ at + length bytes.now }
+{
+    let end = at + bytes.len();
+    room[at..end].copy_from_slice(bytes);
+    end
+}
+
+/// Begins a frame: the length of its body, and the first bytes of that. Where they end.
+fn begin(room: &mut [u8], size: u16, first: &[u8]) -> usize
+    requires room { 2 + length first.now ≤ length room.old }
+    ensures put { room.new ≡ (big_bytes 2 size ++ first.now) ++ drop result room.old }
+    ensures end { result ≡ 2 + length first.now }
+{
+    let mut head = [0; 2];
+    BigEndian::write_u16(&mut head, size);
+    let at = put(room, 0, &head);
+    put(room, at, first)
+}
+
+/// Puts the frame of an answer into the beginning of the room, which is long enough for any. How
+/// many bytes the frame has.
+pub fn put_answer(room: &mut [u8], answer: &Answer<'_>) -> usize
+    requires room { 4005 ≤ length room.old }
+    requires record { length (record_told answer.now) ≤ 4000 }
+    ensures frame { take result room.new ≡ framed (answer_body (told_of answer.now)) }
+    ensures rest { KeepsBehind result room.old room.new }
+{
+    match *answer {
+        Answer::Refused(refusal) => begin(room, 2, &[0, refusal.code()]),
+        Answer::Done => begin(room, 1, &[1]),
+        Answer::Performed { status, bytes } => {
+            let digits = status.digits();
+            let at = begin(room, 3 + bytes.len() as u16, &[2, digits[0], digits[1]]);
+            put(room, at, bytes)
+        }
+    }
+}

@@ -1,0 +1,33 @@
+//! A request: which one a frame is.
+ghost use Rattle.std.specs.Prelude.{◌≡◌, option_map};
+ghost use Rattle.serve.specs.Request.{asked_of};
+ghost use Rattle.serve.specs.Reading.{request_in};
+
+use crate::description::{Description, read_description};
+use crate::statement::{Performance, read_performance};
+
+/// The most bytes of a request's body.
+pub const LENGTH_LIMIT: usize = 8192;
+
+/// What is asked for.
+#[derive(Drop)]
+pub enum Request<'a> {
+    /// A number for a file.
+    Describe(Description<'a>),
+    /// A verb.
+    Perform(Performance<'a>),
+    /// The file of a number is given up.
+    Release(u8),
+}
+
+/// What a frame without the two bytes of its length asks for. None where it is the frame of no request.
+pub fn read_request(body: &[u8]) -> Option<Request<'_>>
+    ensures { option_map asked_of result ≡ request_in body.now }
+{
+    match body {
+        [1, ..] => Some(Request::Describe(read_description(body)?)),
+        [2, ..] => Some(Request::Perform(read_performance(body)?)),
+        [3, file] => Some(Request::Release(*file)),
+        _ => None,
+    }
+}

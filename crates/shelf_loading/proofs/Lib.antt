@@ -1,3 +1,0 @@
-pub mod LoadedLemmas
-pub mod SameLemmas
-pub mod OfSchemaLemmas

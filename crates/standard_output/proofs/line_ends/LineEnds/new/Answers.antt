@@ -1,5 +1,0 @@
-use Rattle.std.proofs.Common.{refl}
-use Rattle.standard_output.proofs.line_ends.LineEnds.new.Goals as goal
-
-pub returns : goal.returns
-returns c = record { window = refl; failed = refl }

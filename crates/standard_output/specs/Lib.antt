@@ -1,3 +1,0 @@
-pub mod Writes
-pub mod LineEnds
-pub mod FaultLines

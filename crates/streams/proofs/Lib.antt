@@ -1,0 +1,3 @@
+pub mod OutputLemmas
+pub mod EndLemmas
+pub mod FaultLemmas
