@@ -1,14 +1,14 @@
 -- What was asked before a folder is entered, and where none is.
-use Rattle.std.proofs.Common.{◌≡◌, ◌≢◌, ℕ, true, false, List, [], ◌∷◌, ◌++◌, Option, Some, Result, Ok, Err, IfOk, IfErr, refl, sym, ap, ◌∙◌, subst, inl, inr, append-nil}
+use Rattle.std.proofs.Common.{◌≡◌, ℕ, true, false, List, [], ◌∷◌, ◌++◌, Option, Result, Err, IfOk, refl, sym, ap, ◌∙◌, subst, inl, inr, append-nil}
 use Rattle.std.specs.Prelude.{⊤}
 use Rattle.clap.specs.Words.{Text}
 use Rattle.recorded_system.specs.Calls.{Call, streams_held}
-use Rattle.recorded_system.specs.Reading.{AreReading, ByReads, with_calls}
+use Rattle.recorded_system.specs.Reading.{ByReads, with_calls}
 use Rattle.recorded_system.specs.SystemState.{SystemState, with_call}
 use Rattle.recorded_system.proofs.ReadingLemmas.{by_same, by_none}
 use Rattle.folder_shelf.specs.Replay.{Unseen}
 use Rattle.record_listing.specs.ByPath.{ByReadsAside}
-use Rattle.command_line.specs.CallsMade.{CallsMade, calls_made, all_calls, BeginsNothing, BeginsWithStreams, streams_first}
+use Rattle.command_line.specs.CallsMade.{calls_made, BeginsNothing, streams_first}
 use Rattle.command_line.specs.Loaded.{ComesOfLoad}
 use Rattle.command_line.specs.Right.{AskToRead, IsRightOf, ReadsAlone}
 use Rattle.command_outcomes.specs.declared.fault.Fault.{Fault}

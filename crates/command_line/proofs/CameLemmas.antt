@@ -1,5 +1,5 @@
 -- What the program came to, by what came of a run, a session or a load.
-use Rattle.std.proofs.Common.{◌≡◌, ℕ, Bool, List, Option, Some, None, Result, Ok, Err, IfOk, IfErr, inl, inr, refl, sym, subst}
+use Rattle.std.proofs.Common.{◌≡◌, ℕ, Bool, List, Option, Some, None, Result, Err, IfOk, IfErr, inl, inr, refl, sym, subst}
 use Rattle.clap.specs.Words.{Text}
 use Rattle.page_store.specs.declared.shelf.Shelf.{Ghosts}
 use Rattle.recorded_system.specs.Calls.{Call}
@@ -14,7 +14,7 @@ use Rattle.command_line.specs.CallsMade.{CallsMade, calls_made, streams_first}
 use Rattle.command_line.specs.LoadForm.{IsLoadFault}
 use Rattle.command_line.specs.Loaded.{BeginsLoadOfDeck, ComesOfLoad, options_of}
 use Rattle.record_loading.specs.declared.options.LoadOptions.{LoadOptions}
-use Rattle.command_line.specs.Performed.{AskForLoad, AskForRun, BeginsRun, ComesOfRun, Did, wrote}
+use Rattle.command_line.specs.Performed.{AskForLoad, BeginsRun, ComesOfRun, Did, wrote}
 use Rattle.command_line.specs.Session.{streams_of}
 use Rattle.command_line.specs.declared.done.Done.{Done}
 use Rattle.command_line.specs.declared.done.Ran.{Ran}

@@ -1,5 +1,5 @@
 -- What was done for words that ask for a list, a schema, a load or a run.
-use Rattle.std.proofs.Common.{◌≡◌, ◌⊎◌, ℕ, Bool, true, false, List, [], ◌∷◌, Option, Some, None, Result, Ok, Err, IfOk, IfErr, option_map, Bor, inl, inr, refl, sym, ap, subst}
+use Rattle.std.proofs.Common.{◌≡◌, ◌⊎◌, ℕ, Bool, true, false, List, [], ◌∷◌, Option, None, Result, Ok, Err, IfOk, IfErr, option_map, Bor, inl, inr, refl, sym, ap, subst}
 use Rattle.std.proofs.lemmas.Result.{IfErr-weaker}
 use Rattle.clap.specs.Words.{Text}
 use Rattle.folder_shelf.specs.Replay.{Unseen}
@@ -16,7 +16,8 @@ use Rattle.file_commands.specs.Forms.{IsFormRefused, IsListRefused}
 use Rattle.file_commands.specs.Listed.{IsListFault}
 use Rattle.file_commands.specs.ByIndex.{DoesByIndex}
 use Rattle.file_commands.specs.Records.{ListsAsked}
-use Rattle.file_commands.specs.Salvaged.{SalvagesFileAt}
+use Rattle.salvaged_records.specs.Salvaged.{Outputs}
+use Rattle.file_commands.specs.Salvaged.{IsSalvageRefused, SalvagesFileAt}
 use Rattle.file_commands.specs.Schema.{IsSchemaDone, IsSchemaFault}
 use Rattle.file_commands.specs.declared.listing.Bounds.{Bounds}
 use Rattle.file_commands.specs.DeckFile.{IsDeckFault}
@@ -31,7 +32,7 @@ use Rattle.command_outcomes.specs.Status.{status_of}
 use Rattle.command_outcomes.specs.declared.fault.Fault.{Fault}
 use Rattle.command_outcomes.specs.declared.fault.Fault.TheVariants.{Deck, NoSuchFile, NotListed, Form as NoForm, Unexplained, Input, Output, Memory}
 use Rattle.command_outcomes.specs.declared.outcome.Outcome.{Outcome}
-use Rattle.command_outcomes.specs.declared.outcome.Outcome.TheVariants.{Helped, Checked, CheckedAll, Counted, Explained, Ended, Served, SchemaTold, SchemaCompared, SchemaRefused, Records, OtherSchema, Loaded, Salvaged}
+use Rattle.command_outcomes.specs.declared.outcome.Outcome.TheVariants.{Helped, CheckedAll, Counted, Explained, Ended, Served, SchemaTold, SchemaCompared, SchemaRefused, Records, OtherSchema, Loaded, Salvaged}
 use Rattle.command_outcomes.specs.declared.outcome.WorstCheck.{WorstCheck}
 use Rattle.command_outcomes.specs.Told.{words_told_as}
 
@@ -40,9 +41,8 @@ abbrev pub for_schema : (words : List Text) (file : Bor Text) (deck name : Optio
 for_schema words file deck name asked =
     record { file = file.now; deck = option_map (λ text. text.now) deck; name = option_map (λ text. text.now) name; asked = asked }
 
-abbrev pub for_salvage : (words : List Text) (file : Bor Text) (deck name : Option (Bor Text)) → Ask words (Salvage file deck name) → AskForSalvage words
-for_salvage words file deck name asked =
-    record { file = file.now; deck = option_map (λ text. text.now) deck; name = option_map (λ text. text.now) name; asked = asked }
+abbrev pub for_salvage : (words : List Text) (file : Bor Text) (form : FormWords) (places : Bool) → Ask words (Salvage file form places) → AskForSalvage words
+for_salvage words file form places asked = record { file = file.now; form = form_text form; places = places; asked = asked }
 
 abbrev pub for_records : (words : List Text) (file : Bor Text) (key : ℕ) (from to : Option (Bor Text)) (first : ℕ) (form : FormWords) (checked quiet : Bool) (wait : ℕ)
     → Ask words (ListRecords file key from to first form checked quiet wait) → AskForRecords words
@@ -129,18 +129,25 @@ module _ (words : List Text) (schema : AskForSchema words) where
 
 -- the words ask for a salvage
 module _ (words : List Text) (salvage : AskForSalvage words) where
-  pub did_salvage : (input : Option (List ℕ)) (before behind : Option (List ℕ)) (calls : List Call) (result : Result Outcome Fault)
-      → IfOk result (SalvagesFileAt input salvage.file salvage.deck salvage.name before behind calls) → IfErr result (IsSchemaFault salvage.deck salvage.name) → Did words result
-  did_salvage input before behind calls (Ok (Salvaged end)) done fault = salvage
-  did_salvage input before behind calls (Ok OtherSchema) done fault = inr salvage
-  did_salvage input before behind calls (Ok outcome) (schema, first, asked, (bytes, are, so)) fault = absurd so
-  did_salvage input before behind calls (Err (Deck fault)) done h = inl (inr (inr (inr (salvage, h))))
-  did_salvage input before behind calls (Err NoSuchFile) done h = inr (inr (inr (salvage, h)))
-  did_salvage input before behind calls (Err (NoForm fault)) done h = inr (inr (inl (salvage, h.0, h.1)))
-  did_salvage input before behind calls (Err Input) done h = tt
-  did_salvage input before behind calls (Err Output) done h = tt
-  did_salvage input before behind calls (Err Memory) done h = tt
-  did_salvage input before behind calls (Err fault) done h = absurd h
+  did_salvage_refused : (fault : Fault) → IsSalvageRefused salvage.form fault → Did words (Err fault)
+  did_salvage_refused (Deck fault) (inl (is, h)) = inl (inr (inr (inr (salvage, h))))
+  did_salvage_refused (Deck fault) (inr (is, h)) = inl (inr (inr (inr (salvage, h))))
+  did_salvage_refused NoSuchFile (inl (is, h)) = inr (inr (inr (salvage, h)))
+  did_salvage_refused NoSuchFile (inr (is, h)) = inr (inr (inr (salvage, h)))
+  did_salvage_refused (NoForm fault) (inl (is, h)) = inr (inr (inl (salvage, inl (is, h.0, h.1))))
+  did_salvage_refused (NoForm fault) (inr (is, h)) = inr (inr (inl (salvage, inr (is, h))))
+  did_salvage_refused Input h = tt
+  did_salvage_refused Output h = tt
+  did_salvage_refused Memory h = tt
+  did_salvage_refused fault (inl (is, h)) = absurd h
+  did_salvage_refused fault (inr (is, h)) = absurd h
+
+  pub did_salvage : (input : Option (List ℕ)) (o : Outputs) (calls : List Call) (result : Result Outcome Fault)
+      → IfOk result (SalvagesFileAt input salvage.file salvage.form salvage.places o calls) → IfErr result (IsSalvageRefused salvage.form) → Did words result
+  did_salvage input o calls (Ok (Salvaged end)) done fault = salvage
+  did_salvage input o calls (Ok OtherSchema) done fault = inr salvage
+  did_salvage input o calls (Ok outcome) (told, first, asked, (bytes, are, so)) fault = absurd so
+  did_salvage input o calls (Err fault) done h = did_salvage_refused fault h
 
 -- the words ask for a load
 module _ (words : List Text) (load : AskForLoad words) where

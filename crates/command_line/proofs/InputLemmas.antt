@@ -1,13 +1,12 @@
 -- The deck and the folder of a run or a load, by what was asked for them.
-use Rattle.std.proofs.Common.{◌≡◌, ℕ, Bool, true, List, [], ◌∷◌, ◌++◌, Option, Some, Result, Ok, Err, ap, ◌∙◌, codes, string_bytes, String, refl}
+use Rattle.std.proofs.Common.{◌≡◌, ℕ, Bool, true, List, ◌∷◌, Option, Some, Ok, Err, ap, ◌∙◌, string_bytes, String}
 use Rattle.std.specs.Global.{Global, Vec}
 use Rattle.std.specs.Prelude.{⊤}
-use Rattle.recorded_system.specs.Calls.{Call, asked_of_folder}
-use Rattle.recorded_system.specs.Reading.{ByReads, with_calls}
+use Rattle.recorded_system.specs.Calls.{asked_of_folder}
+use Rattle.recorded_system.specs.Reading.{ByReads}
 use Rattle.recorded_system.specs.SystemState.{SystemState, with_call}
 use Rattle.recorded_system.proofs.ReadingLemmas.{by_both, by_one}
 use Rattle.file_commands.specs.Front.{ReadsDeckNamed}
-use Rattle.command_line.specs.CallsMade.{folder_behind}
 use Rattle.command_line.specs.Performed.{ReadsFolder, ReadsInputs}
 use Rattle.command_line.proofs.CallsMadeLemmas.{only_reads}
 use Rattle.command_outcomes.specs.Status.{status_of}

@@ -23,7 +23,7 @@ use Rattle.file_commands.specs.DeckFile.{IsDeckFault}
 use Rattle.file_commands.specs.Front.{IsDeckNamed, IsTextNamed, longest_line}
 use Rattle.file_commands.proofs.DeckLemmas.{not_there}
 use Rattle.command_line.specs.LoadForm.{IsLoadFault}
-use Rattle.command_line.specs.Loaded.{EndsLoadOf, LoadsFolder, LoadsDeck, TellsLoad, IsShelfFault, ComesOfLoad, BeginsLoad, BeginsLoadOfDeck}
+use Rattle.command_line.specs.Loaded.{EndsLoadOf, LoadsFolder, LoadsDeck, TellsLoad, ComesOfLoad, BeginsLoad, BeginsLoadOfDeck}
 use Rattle.command_line.proofs.FolderLemmas.{untouched}
 use Rattle.command_outcomes.specs.Status.{status_of}
 use Rattle.command_outcomes.specs.declared.fault.Fault.{Fault}

@@ -1,10 +1,9 @@
 -- What an outcome is right of, by what is known of the command that gave it.
-use Rattle.std.proofs.Common.{◌≡◌, ℕ, Bool, true, false, List, [], ◌∷◌, Option, Some, None, Result, Ok, Err, Bor, map, inl, inr, sym, subst, refl}
+use Rattle.std.proofs.Common.{◌≡◌, ℕ, Bool, true, false, List, [], ◌∷◌, Option, Result, Ok, Err, Bor, inl, inr, sym, subst}
 use Rattle.std.specs.Prelude.{IfOk}
 use Rattle.clap.specs.Words.{Text}
 use Rattle.folder_shelf.specs.Replay.{Unseen}
 use Rattle.recorded_system.specs.Calls.{Call}
-use Rattle.schema_listing.specs.declared.comparing.Comparison.{Comparison}
 use Rattle.command_words.specs.Asks.{Ask, AskCheck, AskCobol, AskDeck, AskExplain, AskStat, form_text}
 use Rattle.command_words.specs.declared.form_words.FormWords.{FormWords}
 use Rattle.command_words.specs.declared.request.Request.TheVariants.{List as ListRecords}
@@ -14,12 +13,11 @@ use Rattle.file_commands.specs.Front.{DoesBy, IsDeckNamed}
 use Rattle.file_commands.specs.Listed.{TellsDeck, WritesList, WritesCobol}
 use Rattle.file_commands.specs.ByIndex.{DoesByIndex}
 use Rattle.file_commands.specs.Records.{ListsAsked}
+use Rattle.salvaged_records.specs.Salvaged.{outputs}
 use Rattle.file_commands.specs.Salvaged.{SalvagesFileAt}
 use Rattle.file_commands.specs.Schema.{TellsAsked, ComparesAsked, IsOfSchema, IsSchemaDone}
 use Rattle.file_commands.specs.Verdicts.{ChecksFile, WritesVerdicts}
 use Rattle.file_commands.specs.declared.listing.Bounds.{Bounds}
-use Rattle.file_checker.specs.declared.verdict.Verdict.{Verdict}
-use Rattle.file_statistics.specs.declared.listing.FileStatisticsEnd.{FileStatisticsEnd}
 use Rattle.command_line.specs.Explained.{WritesExplanation}
 use Rattle.command_line.specs.Performed.{AskForSalvage, AskForSchema}
 use Rattle.command_line.specs.Lists.{ListsEitherWay}
@@ -27,7 +25,7 @@ use Rattle.command_line.specs.Right.{IsRightOf}
 use Rattle.command_line.proofs.DidLemmas.{for_records}
 use Rattle.command_outcomes.specs.declared.fault.Fault.{Fault}
 use Rattle.command_outcomes.specs.declared.outcome.Outcome.{Outcome}
-use Rattle.command_outcomes.specs.declared.outcome.Outcome.TheVariants.{Helped, Checked, CheckedAll, SchemaTold, SchemaCompared, SchemaRefused, Explained, Listed, Records, OtherSchema, InCobol, Counted, Salvaged}
+use Rattle.command_outcomes.specs.declared.outcome.Outcome.TheVariants.{Helped, CheckedAll, SchemaTold, SchemaCompared, SchemaRefused, Explained, Listed, Records, OtherSchema, InCobol, Salvaged}
 use Rattle.command_outcomes.specs.declared.outcome.WorstCheck.{WorstCheck}
 
 module _ {W : Type 0} (disk : Unseen) (words : List Text) (calls : List Call) (input : Option (List ℕ)) (contents : W → Option (List ℕ)) (old new : W) where
@@ -64,12 +62,12 @@ module _ {W : Type 0} (disk : Unseen) (words : List Text) (calls : List Call) (i
   right_count path asked (Err fault) does = tt
 
   -- the records of a file were salvaged
-  pub right_salvage : (salvage : AskForSalvage words) (result : Result Outcome Fault)
-      → IfOk result (SalvagesFileAt input salvage.file salvage.deck salvage.name (contents old) (contents new) calls) → IfOk result IsRight
-  right_salvage salvage (Ok (Salvaged end)) is = (salvage, is)
-  right_salvage salvage (Ok OtherSchema) is = inr (salvage, is)
-  right_salvage salvage (Ok outcome) (schema, first, asked, (bytes, are, so)) = absurd so
-  right_salvage salvage (Err fault) is = tt
+  pub right_salvage : (salvage : AskForSalvage words) (told told_behind : Option (List ℕ)) (result : Result Outcome Fault)
+      → IfOk result (SalvagesFileAt input salvage.file salvage.form salvage.places (outputs (contents old) (contents new) told told_behind) calls) → IfOk result IsRight
+  right_salvage salvage told told_behind (Ok (Salvaged end)) is = (salvage, (told, told_behind, is))
+  right_salvage salvage told told_behind (Ok OtherSchema) is = inr (salvage, (told, told_behind, is))
+  right_salvage salvage told told_behind (Ok outcome) (form, first, asked, (bytes, are, so)) = absurd so
+  right_salvage salvage told told_behind (Err fault) is = tt
 
   -- a deck was listed, or written in COBOL
   pub right_listed : (deck : Text) → AskDeck words deck → (result : Result Outcome Fault)

@@ -51,7 +51,7 @@ low_count (counts.Unsound reason place) = omega arith
 
 low_salvage : (end : Salvage) → status_of_salvage end ≤ 1
 low_salvage (salvages.All records) = omega arith
-low_salvage (salvages.Slots records) = omega arith
+low_salvage (salvages.Slots records told) = omega arith
 low_salvage (salvages.Unsound reason) = omega arith
 
 -- and so has an outcome, but that of several files of which one cannot be read

@@ -1,6 +1,6 @@
 -- What the program did for the words of its command line. All of this is ours.
 use Rattle.std.specs.Prelude.{◌≡◌, ◌≢◌, ◌⊎◌, ℕ, Bool, true, List, [], ◌∷◌, Option, Some, None}
-use Rattle.std.specs.Prelude.{Result, Ok, Err, IfOk, IfErr, ⊤, String, string_bytes}
+use Rattle.std.specs.Prelude.{Result, Ok, Err, IfOk, IfErr, ⊤, String, string_bytes, codes}
 use Rattle.std.specs.Global.{Global, Vec}
 use Rattle.recorded_system.specs.Calls.{Call, asked_of_folder}
 use Rattle.recorded_system.specs.Reading.{ByReads}
@@ -201,9 +201,16 @@ pub record AskForSchema (words : List Text) : Type 0 where
 -- the words ask for what is left in a file
 pub record AskForSalvage (words : List Text) : Type 0 where
   pub file : Text
-  pub deck : Option Text
-  pub name : Option Text
-  pub asked : AskSalvage words file deck name
+  pub form : FormText
+  pub places : Bool
+  pub asked : AskSalvage words file form places
+
+-- the words of a salvage have this fault of its form: as text half of a file of a deck is given; or the
+-- fault is one of a list
+abbrev pub HasSalvageFault : FormText → FormFault → Type 0
+HasSalvageFault form fault =
+    ((form.kind ≡ codes "text") × IsHalf form.deck form.name × (fault ≡ HalfDeck))
+    ⊎ ((form.kind ≢ codes "text") × HasFormFault form fault)
 
 -- the words ask for a file of a deck: to load a text into it, to have the columns of its record, to
 -- hold its schema against that of a file, or to salvage a file by it
@@ -211,16 +218,15 @@ abbrev pub AskOfFile : List Text → Type 0
 AskOfFile words =
     AskForLoad words ⊎ ((list : AskForRecords words) × IsDeckAsked list.form.deck list.form.name)
     ⊎ ((schema : AskForSchema words) × IsDeckAsked schema.deck schema.name)
-    ⊎ ((salvage : AskForSalvage words) × IsDeckAsked salvage.deck salvage.name)
+    ⊎ ((salvage : AskForSalvage words) × IsDeckAsked salvage.form.deck salvage.form.name)
 
 -- the words ask for a list in a form that has this fault, for a schema beside half of what is to be
--- held against it, for a salvage beside half of a file of a deck, or for a load by a word that asks for
--- no form
+-- held against it, for a salvage in a form that has it, or for a load by a word that asks for no form
 abbrev pub AskForNoForm : List Text → FormFault → Type 0
 AskForNoForm words fault =
     ((list : AskForRecords words) × HasFormFault list.form fault)
     ⊎ ((schema : AskForSchema words) × IsHalf schema.deck schema.name × (fault ≡ HalfDeck))
-    ⊎ ((salvage : AskForSalvage words) × IsHalf salvage.deck salvage.name × (fault ≡ HalfDeck))
+    ⊎ ((salvage : AskForSalvage words) × HasSalvageFault salvage.form fault)
     ⊎ ((load : AskForLoad words) × (fault ≡ Kind) × IsNoFormWord load.form)
 
 -- what was done for the words: help was written for those that ask for it, files checked for those

@@ -14,6 +14,7 @@ use Rattle.file_commands.specs.ByIndex.{ListsRecordsByIndex, FindsOther}
 use Rattle.record_listing.specs.declared.file_list.FileList.{FileList}
 use Rattle.folder_shelf.specs.Replay.{Unseen}
 use Rattle.file_commands.specs.Records.{OfFormAndFile, ListsRecords, AgreesWith, WritesOther}
+use Rattle.salvaged_records.specs.Salvaged.{outputs}
 use Rattle.file_commands.specs.Salvaged.{SalvagesFileAt}
 use Rattle.file_commands.specs.Schema.{TellsAsked, ComparesAsked}
 use Rattle.file_commands.specs.Verdicts.{ChecksFile, WritesVerdicts}
@@ -49,11 +50,13 @@ DiffersAsAsked false input asked calls before behind =
     FindsOther input asked.file asked.form before behind calls
 
 -- the records that are left in a file were salvaged as words ask for it, or its differences from a deck were
--- written
+-- written; and what was told, a writer took
 abbrev pub SalvagesAsAsked : {words : List Text} → (input : Option (List ℕ)) → AskForSalvage words → List Call
     → (before behind : Option (List ℕ)) → Outcome → Type 0
-SalvagesAsAsked input asked calls before behind outcome =
-    SalvagesFileAt input asked.file asked.deck asked.name before behind calls outcome
+SalvagesAsAsked input asked calls before behind outcome = (told : Option (List ℕ))
+    × (told_behind : Option (List ℕ))
+    × SalvagesFileAt input asked.file asked.form asked.places (outputs before behind told told_behind)
+    calls outcome
 
 -- words that are answered by these calls, on a disk with these files at first, with what the input had left at
 -- first, by what a writer has before and after

@@ -84,7 +84,7 @@ status_of_count (NotCounted reason place) = 1
 -- the exit status that tells whether all records of a file were salvaged
 abbrev pub status_of_salvage : Salvage → ℕ
 status_of_salvage (AllSalvaged records) = 0
-status_of_salvage (Slots records) = 1
+status_of_salvage (Slots records told) = 1
 status_of_salvage (NotSalvaged reason) = 1
 
 -- the exit status that tells what was done: that a run or a session ended, whatever its verbs

@@ -111,7 +111,7 @@ pub fn status_by_salvage(end: Salvage) -> u8
 {
     match end {
         Salvage::All(_) => 0,
-        Salvage::Slots(_) | Salvage::Unsound(_) => 1,
+        Salvage::Slots(..) | Salvage::Unsound(_) => 1,
     }
 }
 
@@ -167,7 +167,10 @@ pub fn status_by_verdict(verdict: Verdict) -> u8
 fn tell_salvage<E: Write>(end: Salvage, err: &mut E) -> io::Result<()> {
     match end {
         Salvage::All(records) => writeln!(err, "salvaged {records} records, all of them"),
-        Salvage::Slots(records) => writeln!(err, "salvaged {records} records, in doubt"),
+        Salvage::Slots(records, 0) => writeln!(err, "salvaged {records} records, in doubt"),
+        Salvage::Slots(records, told) => {
+            writeln!(err, "salvaged {records} records, {told} in doubt")
+        }
         Salvage::Unsound(reason) => tell_reason(reason, FaultPlace::File, err),
     }
 }

@@ -35,7 +35,7 @@ asked words (ListRecords file key from to first form checked quiet wait) faultle
 asked words (Cobol deck fixed) faultless h = (faultless, h)
 asked words (Load deck folder file text form into limits lines quiet) faultless h = (faultless, h)
 asked words (Stat file) faultless h = (faultless, h)
-asked words (Salvage file deck name) faultless h = (faultless, h)
+asked words (Salvage file form places) faultless h = (faultless, h)
 asked words (Help text) faultless h = absurd h
 
 pub met_asked : (words : List Text) (met : Option (Text × List Row)) (result : Result Request WordsFault) → AreFaultless words

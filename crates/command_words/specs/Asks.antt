@@ -1,6 +1,6 @@
 -- What the words of a command line ask for. All of this is ours; which words give an argument which
 -- values, and which are a fault, is a definition of `clap`.
-use Rattle.std.specs.Prelude.{◌≡◌, ◌≢◌, ◌⊎◌, ◌≤◌, ◌<◌, ◌^◌, ℕ, Bool, true, false, List, [], map, Option, Some}
+use Rattle.std.specs.Prelude.{◌≡◌, ◌≢◌, ◌⊎◌, ◌≤◌, ◌<◌, ◌^◌, ℕ, Bool, true, false, List, [], map, Option, Some, None}
 use Rattle.std.specs.Prelude.{option_map, codes}
 use Rattle.std.specs.Str.Parse.{IsNumeral, digits_value, without_leading_plus}
 use Rattle.clap.specs.Words.{IsAmong, Row, Text, all_of, first_of, one_of, fault_of, kind_of, subcommand_of}
@@ -206,15 +206,24 @@ pub record IsStat (met : Option (Text × List Row)) (file : Text) : Type 0 where
   pub is : met ≡ Some (codes "stat", rows)
   pub file_given : first_of (codes "file") rows ≡ Some file
 
--- the subcommand that was met is to salvage the records of this file, by itself or beside a file of
--- a deck
-pub record IsSalvageRequest (met : Option (Text × List Row)) (file : Text) (deck name : Option Text) : Type
-    0 where
+-- the values ask for a salvage in this form, which cuts no columns
+pub record IsSalvageForm (rows : List Row) (form : FormText) : Type 0 where
+  pub kind_given : first_of (codes "as") rows ≡ Some form.kind
+  pub cut_is : form.cut ≡ None
+  pub deck_is : first_of (codes "deck") rows ≡ form.deck
+  pub name_is : first_of (codes "name") rows ≡ form.name
+
+-- the subcommand that was met is to salvage the records of this file in a form, by itself or beside a
+-- file of a deck, with their places or without
+pub record IsSalvageRequest (met : Option (Text × List Row)) (file : Text) (form : FormText)
+    (places : Bool) : Type 0 where
   pub rows : List Row
   pub is : met ≡ Some (codes "salvage", rows)
   pub file_given : first_of (codes "file") rows ≡ Some file
-  pub deck_is : first_of (codes "deck") rows ≡ deck
-  pub name_is : first_of (codes "name") rows ≡ name
+  pub form_is : IsSalvageForm rows form
+  pub places_text : Text
+  pub places_given : one_of (codes "places") rows ≡ Some places_text
+  pub places_is : IsFlag places_text places
 
 -- the subcommand that was met, with its values, is what is asked for
 abbrev pub IsRequestMet : Option (Text × List Row) → Request → Type 0
@@ -236,8 +245,7 @@ IsRequestMet met (Load deck folder file text form into limits lines quiet) =
     IsLoad met deck.now folder.now file.now text.now form.now into limits.pages limits.frames.value
     lines quiet
 IsRequestMet met (Stat file) = IsStat met file.now
-IsRequestMet met (Salvage file deck name) = IsSalvageRequest met file.now
-    (option_map (λ text. text.now) deck) (option_map (λ text. text.now) name)
+IsRequestMet met (Salvage file form places) = IsSalvageRequest met file.now (form_text form) places
 IsRequestMet met (Help text) = ⊥
 
 -- the subcommand that was met is no run, or its values are none that a run can have; and so of each
@@ -276,7 +284,8 @@ abbrev pub IsNoStat : Option (Text × List Row) → Type 0
 IsNoStat met = (file : Text) → ¬ (IsStat met file)
 
 abbrev pub IsNoSalvage : Option (Text × List Row) → Type 0
-IsNoSalvage met = (file : Text) (deck name : Option Text) → ¬ (IsSalvageRequest met file deck name)
+IsNoSalvage met = (file : Text) (form : FormText) (places : Bool)
+    → ¬ (IsSalvageRequest met file form places)
 
 -- it is no run, session, schema, explanation or list of a deck
 pub record IsNoRunOrList (met : Option (Text × List Row)) : Type 0 where
@@ -369,10 +378,11 @@ AskLoad words deck folder file text form into pages frames lines quiet =
 abbrev pub AskStat : List Text → (file : Text) → Type 0
 AskStat words file = AreFaultless words × IsStat (subcommand_of program_app words) file
 
--- to salvage the records of this file, by itself or beside a file of a deck
-abbrev pub AskSalvage : List Text → (file : Text) (deck name : Option Text) → Type 0
-AskSalvage words file deck name = AreFaultless words
-    × IsSalvageRequest (subcommand_of program_app words) file deck name
+-- to salvage the records of this file in a form, by itself or beside a file of a deck, with their
+-- places or without
+abbrev pub AskSalvage : List Text → (file : Text) (form : FormText) (places : Bool) → Type 0
+AskSalvage words file form places = AreFaultless words
+    × IsSalvageRequest (subcommand_of program_app words) file form places
 
 -- to wait so many seconds for a lock that another run has
 abbrev pub AskWait : List Text → (seconds : ℕ) → Type 0
@@ -402,8 +412,7 @@ Ask words (Load deck folder file text form into limits lines quiet) =
     AskLoad words deck.now folder.now file.now text.now form.now into limits.pages limits.frames.value
     lines quiet
 Ask words (Stat file) = AskStat words file.now
-Ask words (Salvage file deck name) = AskSalvage words file.now (option_map (λ text. text.now) deck)
-    (option_map (λ text. text.now) name)
+Ask words (Salvage file form places) = AskSalvage words file.now (form_text form) places
 Ask words (Help text) = AskHelp words text
 
 -- for nothing, and the text tells why

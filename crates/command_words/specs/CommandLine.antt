@@ -142,11 +142,11 @@ load_shape = record (new_shape (codes "load")) {
 abbrev pub stat_shape : Shape
 stat_shape = record (new_shape (codes "stat")) { rules = word_rule (codes "file") ∷ [] }
 
--- `salvage FILE [--deck DECK --file NAME]`
+-- `salvage FILE [--as FORM] [--places] [--deck DECK --file NAME]`
 abbrev pub salvage_shape : Shape
 salvage_shape = record (new_shape (codes "salvage")) {
-  rules = word_rule (codes "file") ∷ text_rule
-      (codes "deck") ∷ name_rule ∷ [];
+  rules = word_rule (codes "file") ∷ usual_rule (codes "as") (codes "text") ∷ flag_rule (codes "places")
+      ∷ text_rule (codes "deck") ∷ name_rule ∷ [];
 }
 
 -- the program with its version, and before its subcommands

@@ -73,3 +73,8 @@ with_text app = with_rule (with_rule (with_file_words app) (usual_rule (codes "a
 -- with the options by which it skips lines, and keeps going
 abbrev pub with_line_options : App → App
 with_line_options app = with_rule (with_rule app skip_rule) (flag_rule (codes "keep-going"))
+
+-- with the form of a salvage
+abbrev pub with_salvage_form : App → App
+with_salvage_form app = with_rule (with_rule app (usual_rule (codes "as") (codes "text")))
+    (flag_rule (codes "places"))

@@ -6,7 +6,7 @@ ghost use Rattle.command_words.specs.Asks.{AreLimits, AreLineOptions, IsCheckedR
 ghost use Rattle.command_words.specs.Asks.{IsRequestMet, IsNoRun};
 ghost use Rattle.command_words.specs.Asks.{IsNoCheck, IsNoServe, IsNoSchema, IsNoExplain, IsNoDeckList};
 ghost use Rattle.command_words.specs.Asks.{IsNoList, IsNoCobol, IsNoLoad, IsNoStat, IsNoRunOrList};
-ghost use Rattle.command_words.specs.Asks.{IsNoSalvage, IsNoRecords, IsNone};
+ghost use Rattle.command_words.specs.Asks.{IsNoSalvage, IsNoRecords, IsNone, IsSalvageForm};
 
 use crate::form_words::FormWords;
 use crate::limits::Limits;
@@ -259,6 +259,21 @@ fn stat_of<'a>(matches: &ArgMatches<'a>) -> Option<Request<'a>>
     Some(Request::Stat { file })
 }
 
+/// The words that ask for the form of a salvage, which cuts no columns.
+fn salvage_form_of<'a>(salvage: &ArgMatches<'a>) -> Option<FormWords<'a>>
+    ensures some { IfSome result (λ form. IsSalvageForm (rows_of (found_of salvage.now)) (form_text form)) }
+    ensures none { result ≡ None → (form : FormText)
+        → IsSalvageForm (rows_of (found_of salvage.now)) form → ⊥ }
+{
+    let written = salvage.get_str("as")?;
+    Some(FormWords {
+        kind: written,
+        cut: None,
+        deck: salvage.get_str("deck"),
+        name: salvage.get_str("name"),
+    })
+}
+
 /// The salvage that the matches ask for, if they ask for one.
 fn salvage_of<'a>(matches: &ArgMatches<'a>) -> Option<Request<'a>>
     ensures some { IfSome result (IsRequestMet (subcommand_rows_of matches.now)) }
@@ -266,11 +281,9 @@ fn salvage_of<'a>(matches: &ArgMatches<'a>) -> Option<Request<'a>>
 {
     let salvage = met(matches, "salvage")?;
     let file = salvage.get_str("file")?;
-    Some(Request::Salvage {
-        file,
-        deck: salvage.get_str("deck"),
-        name: salvage.get_str("name"),
-    })
+    let form = salvage_form_of(salvage)?;
+    let places = salvage.get_one("places")?;
+    Some(Request::Salvage { file, form, places })
 }
 
 /// A run, a session, a schema, an explanation or the list of a deck that the matches ask for, if

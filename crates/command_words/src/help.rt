@@ -177,17 +177,32 @@ new file.
 A file that is being made has no first page until it is closed. With '--deck' and '--file', which go together, \
 the lengths and the keys are those of that file of the deck, where the first page is lost. Where it is there \
 and has others, no record is salvaged, and the differences are written.
+Where several slots have one value of the prime key, all of them are told on standard error, as 'page P slot S: \
+[record]', and the one to which the entry of the prime key leads is listed, if there is one.
+With '--places' the page and the slot of each record stand before its line, with a space behind each, or a \
+comma in csv; 'cut -f3- -d \" \"' takes them away. The lines are then page by page, also of a file that is sound.
+
+Forms:
+  text  a record in brackets
+  csv   the names of the columns, and then the columns of each record: in quotes, with commas between, and \
+CRLF at the end
+  json  an object on a line for each record, with a string for each column
+The columns are the elementary items of the record of NAME, by their names; without a deck there is one, \
+'record'.
 
 Exit status:
   0   'salvaged R records, all of them' on standard error: with its gate closed the file is sound, and these \
 are exactly its records, in the order of the prime key
-  1   'salvaged R records, in doubt': the records in all slots that are in use, page by page. Nothing more is \
-known of them, and a prime value may come twice
+  1   'salvaged R records, in doubt': the records in all slots that are in use, page by page. Each has a prime \
+value of its own, and nothing more is known of them
+      'salvaged R records, N in doubt': so, but for N slots that share their prime value with others and were \
+told before
       'unsound N', as of 'cobix check': the first page is not that of a file, and no deck is given; no line was \
 written
       'cobix: the file is of another schema than the deck': a line for each difference, as of 'cobix schema'
   2   the deck is refused: 'cobix: line L: fault C'
-  3   the command line is not understood, '--deck' or '--file' is alone, or the deck has no file NAME
+  3   the command line is not understood, there is no such form, '--deck' or '--file' is alone, or the deck has \
+no file NAME
   4   the file or the deck could not be read ('cobix: input'), the lines could not be written ('cobix: output'), \
 or memory ran out ('cobix: memory')";
 

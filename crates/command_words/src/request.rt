@@ -93,12 +93,13 @@ pub enum Request<'a> {
     Stat {
         file: &'a str,
     },
-    /// The records that are left in the file of this path, whether or not its gate is closed; by the
-    /// lengths of the file of this name in that deck, where its first page is lost.
+    /// The records that are left in the file of this path, whether or not its gate is closed, in this
+    /// form, with their places or without; by the lengths of the file of the deck of the form, where its
+    /// first page is lost.
     Salvage {
         file: &'a str,
-        deck: Option<&'a str>,
-        name: Option<&'a str>,
+        form: FormWords<'a>,
+        places: bool,
     },
     /// This text: help, or the version.
     Help(Error),

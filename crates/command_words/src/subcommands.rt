@@ -6,7 +6,7 @@ ghost use Rattle.command_words.specs.Commands.{HasRule, IsApp, HasShape};
 ghost use Rattle.command_words.specs.Commands.{with_files, with_limits, with_checked, with_quiet, with_wait};
 ghost use Rattle.command_words.specs.Commands.{with_deck, with_values, with_bounds, with_form};
 ghost use Rattle.command_words.specs.Commands.{with_file_words};
-ghost use Rattle.command_words.specs.Commands.{with_text, with_line_options};
+ghost use Rattle.command_words.specs.Commands.{with_text, with_line_options, with_salvage_form};
 ghost use Rattle.command_words.specs.CommandLine.{run_shape, check_shape, serve_shape, schema_shape};
 ghost use Rattle.command_words.specs.CommandLine.{explain_shape, deck_shape, list_shape, cobol_shape};
 ghost use Rattle.command_words.specs.CommandLine.{load_shape, stat_shape, salvage_shape};
@@ -435,6 +435,29 @@ fn stat_command<'a>(alloc: Global) -> Result<Command<'a>, AllocError>
     stat.arg(file)
 }
 
+/// The form of a salvage, with places or without.
+fn with_salvage_form<'a>(
+    alloc: Global,
+    salvage: Result<Command<'a>, AllocError>,
+) -> Result<Command<'a>, AllocError>
+    ensures { (app : App) → IfOk salvage.entry (IsApp app) → IfOk result (IsApp (with_salvage_form app)) }
+{
+    let form = usual(
+        alloc,
+        "as",
+        "FORM",
+        "text",
+        "How they are written: 'text', 'csv' or 'json'",
+    );
+    let places = flag(
+        alloc,
+        "places",
+        "Writes the page and the slot of each record before its line",
+    );
+    let formed = with_argument(salvage, form);
+    with_argument(formed, places)
+}
+
 /// `salvage`.
 fn salvage_command<'a>(alloc: Global) -> Result<Command<'a>, AllocError>
     ensures { IfOk result (HasShape salvage_shape) }
@@ -453,9 +476,9 @@ fn salvage_command<'a>(alloc: Global) -> Result<Command<'a>, AllocError>
     );
     with_deck(
         alloc,
-        salvage.arg(file),
-        "Takes the lengths and the keys of a file of the deck in this file, or '-' for standard input, where \
-         the first page of FILE is lost",
+        with_salvage_form(alloc, salvage.arg(file)),
+        "Takes the columns of a file of the deck in this file, or '-' for standard input, and, where the first \
+         page of FILE is lost, the lengths and the keys",
     )
 }
 

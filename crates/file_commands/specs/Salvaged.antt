@@ -1,10 +1,16 @@
 -- What is salvaged of a file. All of this is ours.
-use Rattle.std.specs.Prelude.{◌≡◌, ◌≢◌, List, [], ◌∷◌, ℕ, Option, Some, None, Result, IfOk, IfErr}
+use Rattle.std.specs.Prelude.{◌≡◌, ◌≢◌, ◌⊎◌, List, [], ◌∷◌, ℕ, Bool, Option, Some, None, Result, IfOk}
+use Rattle.std.specs.Prelude.{IfErr, codes}
 use denote.Ref.{Bor}
-use Rattle.clap.specs.Words.{Text}
+use Rattle.clap.specs.Words.{Text as Word}
 use Rattle.record_layout.specs.Schema.{Schema}
 use Rattle.file_control.specs.Description.{FileDesc}
-use Rattle.salvaged_records.specs.Salvaged.{EndsWith, with_gate_closed}
+use Rattle.record_forms.specs.declared.form.Form.{Form}
+use Rattle.record_forms.specs.declared.form.Form.TheVariants.{Text}
+use Rattle.salvaged_records.specs.Salvaged.{EndsWith, Outputs, outputs, with_gate_closed}
+use Rattle.command_words.specs.Asks.{FormText}
+use Rattle.file_commands.specs.Forms.{IsFormBy, IsFormRefused}
+use Rattle.file_commands.specs.declared.forms.ListForm.{ListForm}
 use Rattle.recorded_system.specs.Calls.{Call, taken_shared}
 use Rattle.file_commands.specs.DeckFile.{IsOfDeck}
 use Rattle.file_commands.specs.Front.{IsDeckNamed, word_in}
@@ -16,12 +22,12 @@ use Rattle.command_outcomes.specs.declared.outcome.Outcome.{Outcome}
 use Rattle.command_outcomes.specs.declared.outcome.Outcome.TheVariants.{OtherSchema, Salvaged}
 
 -- the schema is that of the file of a name in the deck of a path, or of the input where the path is a hyphen
-abbrev pub IsSchemaIn : List Call → (input : Option (List ℕ)) → (deck name : Text) → Schema → Type 0
+abbrev pub IsSchemaIn : List Call → (input : Option (List ℕ)) → (deck name : Word) → Schema → Type 0
 IsSchemaIn calls input deck name schema =
     (described : FileDesc) × IsOfDeck (IsDeckNamed calls input deck) name described × (schema ≡ described.schema)
 
 -- so where a deck and a name are given; without them there is no schema, and no call was made
-abbrev pub IsSchemaAsked : List Call → (input : Option (List ℕ)) → (deck name : Option Text) → Option Schema
+abbrev pub IsSchemaAsked : List Call → (input : Option (List ℕ)) → (deck name : Option Word) → Option Schema
     → Type 0
 IsSchemaAsked calls input None None None = calls ≡ []
 IsSchemaAsked calls input (Some deck) (Some name) (Some schema) = IsSchemaIn calls input deck name schema
@@ -33,34 +39,55 @@ pub record GivesSchemaAsked (input : Option (List ℕ)) (deck name : Option (Bor
   pub schema : IfOk result (IsSchemaAsked calls input (word_in deck) (word_in name))
   pub fault : IfErr result (IsSchemaFault (word_in deck) (word_in name))
 
+-- the form is the one that is asked for: as text, beside the schema of the file of a deck, if one is
+-- given; otherwise with its columns, as of a list
+abbrev pub IsSalvageFormBy : List Call → (input : Option (List ℕ)) → FormText → Form → Option Schema → Type 0
+IsSalvageFormBy calls input asked form schema =
+    ((asked.kind ≡ codes "text") × (form ≡ Text) × IsSchemaAsked calls input asked.deck asked.name schema)
+    ⊎ ((asked.kind ≢ codes "text") × IsFormBy calls input asked form schema)
+
+-- why there is none: as text half of a deck is given, or nothing came of it; or as of a list
+abbrev pub IsSalvageRefused : FormText → Fault → Type 0
+IsSalvageRefused asked fault = ((asked.kind ≡ codes "text") × IsSchemaFault asked.deck asked.name fault)
+    ⊎ ((asked.kind ≢ codes "text") × IsFormRefused asked fault)
+
+-- it was given; or there is none
+pub record GivesSalvageForm (input : Option (List ℕ)) (asked : FormText) (result : Result ListForm Fault)
+    (calls : List Call) : Type 0 where
+  pub form : IfOk result (λ told. IsSalvageFormBy calls input asked told.form told.schema)
+  pub fault : IfErr result (IsSalvageRefused asked)
+
 -- behind the calls by which a deck was read, if one is given, one was made, which gave the bytes of the
 -- file of a path, as many as a file can have, and this is so of them
 abbrev pub OfWholeFile : (path : List ℕ) → (before calls : List Call) → (IsSo : List ℕ → Type 0) → Type 0
 OfWholeFile path before calls IsSo = (bytes : List ℕ)
     × (calls ≡ taken_shared path 17592186044416 (Some bytes) ∷ before) × IsSo bytes
 
--- the records that are left in the bytes of a file, whose gate is closed, were written, and this is how
--- that ended; or the file is of another schema than a deck, and the differences were
-abbrev pub SalvagesBytes : Option Schema → List ℕ → (before behind : Option (List ℕ)) → Outcome → Type 0
-SalvagesBytes schema bytes before behind (Salvaged end) =
-    AgreesWith schema bytes × EndsWith schema bytes before behind end
-SalvagesBytes schema bytes before behind OtherSchema = WritesOther schema bytes before behind
-SalvagesBytes schema bytes before behind outcome = ⊥
+-- the records that are left in the bytes of a file, whose gate is closed, were written in a form, with
+-- their places or without, and this is how that ended; or the file is of another schema than a deck, and
+-- the differences were
+abbrev pub SalvagesBytes : ListForm → (places : Bool) → List ℕ → Outputs → Outcome → Type 0
+SalvagesBytes asked places bytes o (Salvaged end) =
+    AgreesWith asked.schema bytes × EndsWith asked.schema bytes asked.form places o end
+SalvagesBytes asked places bytes o OtherSchema =
+    WritesOther asked.schema bytes o.before o.behind × (o.told_behind ≡ o.told_before)
+SalvagesBytes asked places bytes o outcome = ⊥
 
--- so of the file of a path, beside the file of a name in a deck, if they are given
-abbrev pub SalvagesFileAt : (input : Option (List ℕ)) → (path : List ℕ) → (deck name : Option Text)
-    → (before behind : Option (List ℕ)) → List Call → Outcome → Type 0
-SalvagesFileAt input path deck name before behind calls outcome = (schema : Option Schema)
-    × (first : List Call) × IsSchemaAsked first input deck name schema
-    × OfWholeFile path first calls (λ bytes. SalvagesBytes schema (with_gate_closed bytes) before behind outcome)
+-- so of the file of a path, in the form that is asked for
+abbrev pub SalvagesFileAt : (input : Option (List ℕ)) → (path : List ℕ) → FormText → (places : Bool)
+    → Outputs → List Call → Outcome → Type 0
+SalvagesFileAt input path asked places o calls outcome = (told : ListForm) × (first : List Call)
+    × IsSalvageFormBy first input asked told.form told.schema
+    × OfWholeFile path first calls (λ bytes. SalvagesBytes told places (with_gate_closed bytes) o outcome)
 
--- so it was done; or half of the words is given, nothing came of the deck, or the input, the output or
--- memory failed. Unless one of these three failed, nothing is written then
+-- so it was done; or there is no such form, nothing came of its deck, or the input, an output or memory
+-- failed. Unless one of these three failed, nothing is written then
 pub record SalvagesFile
-    {W : Type 0} (input : Option (List ℕ)) (path : List ℕ) (deck name : Option (Bor (List ℕ)))
-    (contents : W → Option (List ℕ)) (old new : W) (result : Result Outcome Fault) (calls : List Call)
+    {E W : Type 0} (input : Option (List ℕ)) (path : List ℕ) (asked : FormText) (places : Bool)
+    (contents_told : E → Option (List ℕ)) (told told_after : E) (contents : W → Option (List ℕ))
+    (old new : W) (result : Result Outcome Fault) (calls : List Call)
     : Type 0 where
-  pub records : IfOk result
-      (SalvagesFileAt input path (word_in deck) (word_in name) (contents old) (contents new) calls)
+  pub records : IfOk result (SalvagesFileAt input path asked places
+      (outputs (contents old) (contents new) (contents_told told) (contents_told told_after)) calls)
   pub untouched : IfErr result (λ fault. status_of fault ≢ 4 → new ≡ old)
-  pub fault : IfErr result (IsSchemaFault (word_in deck) (word_in name))
+  pub fault : IfErr result (IsSalvageRefused asked)

@@ -1,20 +1,25 @@
 //! The records that are left in the file of a path.
 ghost use Rattle.std.specs.Prelude.{◌≡◌};
 ghost use Rattle.recorded_system.specs.Reading.{ByReads};
-ghost use Rattle.salvaged_records.specs.Salvaged.{with_gate_closed};
+ghost use Rattle.salvaged_records.specs.Salvaged.{outputs, with_gate_closed};
+ghost use Rattle.command_words.specs.Asks.{form_text};
 ghost use Rattle.file_commands.specs.DeckFile.{ComesOfDeck};
 ghost use Rattle.file_commands.specs.Front.{GivesSuch};
-ghost use Rattle.file_commands.specs.Salvaged.{IsSchemaIn, GivesSchemaAsked, SalvagesBytes, SalvagesFile};
+ghost use Rattle.file_commands.specs.Salvaged.{IsSchemaIn, GivesSchemaAsked, GivesSalvageForm};
+ghost use Rattle.file_commands.specs.Salvaged.{SalvagesBytes, SalvagesFile};
 ghost use Rattle.command_outcomes.specs.Status.{status_of};
 
 use crate::deck::{deck_at, file_in};
 use crate::file_bytes::fault_of as not_read;
+use crate::forms::{ListForm, form_of};
 use crate::listing::is_other;
 use command_outcomes::{Fault, FormFault, Outcome};
+use command_words::FormWords;
+use record_forms::Form;
 use record_layout::Schema;
 use record_listing::ListFault;
 use recorded_system::System;
-use salvaged_records::{close_gate, salvage_records};
+use salvaged_records::{SalvageForm, close_gate, salvage_records};
 use std::alloc::Global;
 use std::io::{Read, Write};
 use streams::Silent;
@@ -75,6 +80,29 @@ fn schema_asked<S: System, I: Read>(
     }
 }
 
+/// The form of a salvage that words ask for, and the schema of the file of a deck, if one is given. As
+/// text the deck tells the lengths alone.
+fn salvage_form<S: System, I: Read>(
+    system: &mut S,
+    alloc: Global,
+    asked: FormWords<'_>,
+    input: &mut I,
+) -> Result<ListForm, Fault>
+    ensures { ByReads (GivesSalvageForm (I.remaining input.old) (form_text asked.entry) result)
+        (S.state system.old) (S.state system.new) }
+{
+    if asked.kind != "text" {
+        return form_of(system, alloc, asked, input);
+    }
+    match schema_asked(system, alloc, asked.deck, asked.name, input) {
+        Ok(schema) => Ok(ListForm {
+            form: Form::Text,
+            schema,
+        }),
+        Err(fault) => Err(fault),
+    }
+}
+
 /// The bytes of a file, with its gate closed.
 fn closed(bytes: Vec<u8>) -> Vec<u8>
     ensures { result.items ≡ with_gate_closed bytes.items }
@@ -87,18 +115,25 @@ fn closed(bytes: Vec<u8>) -> Vec<u8>
 /// Writes the records that are left in the bytes of a file whose gate is closed. Where a deck has a
 /// schema, and the first page is that of a file of another one, a line of each difference is written in
 /// place of the records.
-fn salvage_bytes<W: Write>(
+fn salvage_bytes<W: Write, E: Write>(
     alloc: Global,
     bytes: Vec<u8>,
-    schema: &Option<Schema>,
+    asked: &ListForm,
+    places: bool,
+    told: &mut E,
     out: &mut W,
 ) -> Result<Outcome, Fault>
     ensures { with_gate_closed bytes.items ≡ bytes.items
-        → GivesSuch (SalvagesBytes schema.now bytes.items (W.contents out.old) (W.contents out.new)) result }
+        → GivesSuch (SalvagesBytes asked.now places bytes.items
+        (outputs (W.contents out.old) (W.contents out.new) (E.contents told.old) (E.contents told.new))) result }
 {
-    match is_other(alloc, bytes.as_slice(), schema, out) {
+    let form = SalvageForm {
+        form: &asked.form,
+        places,
+    };
+    match is_other(alloc, bytes.as_slice(), &asked.schema, out) {
         Ok(true) => Ok(Outcome::OtherSchema),
-        Ok(false) => match salvage_records(alloc, bytes, schema, out) {
+        Ok(false) => match salvage_records(alloc, bytes, &asked.schema, &form, told, out) {
             Ok(end) => Ok(Outcome::Salvaged(end)),
             Err(fault) => Err(fault_of(fault)),
         },
@@ -106,28 +141,31 @@ fn salvage_bytes<W: Write>(
     }
 }
 
-/// Writes the records that are left in the file of a path, all bytes of which are read: by the lengths
-/// and keys of the file of a name in a deck, where both are given and the first page is lost. `Form`:
-/// one of them alone is given. `Deck`, `NoSuchFile`: the deck is refused, or does not have the file.
-/// The file was not read then, and nothing was written.
-pub fn salvage_path<S: System, I: Read, W: Write>(
+/// Writes the records that are left in the file of a path, all bytes of which are read, in a form, with
+/// their places or without: by the lengths and keys of the file of a name in a deck, where both are given
+/// and the first page is lost. Slots whose prime value others have are told. `Form`: there is no such
+/// form, or half of the deck is given. `Deck`, `NoSuchFile`: the deck is refused, or does not have the
+/// file. The file was not read then, and nothing was written.
+pub fn salvage_path<S: System, I: Read, W: Write, E: Write>(
     system: &mut S,
     alloc: Global,
     path: &str,
-    deck: Option<&str>,
-    name: Option<&str>,
+    form: FormWords<'_>,
+    places: bool,
     input: &mut I,
+    told: &mut E,
     out: &mut W,
 ) -> Result<Outcome, Fault>
-    ensures { ByReads (SalvagesFile (I.remaining input.old) path.now deck.entry name.entry
-        W.contents out.old out.new result) (S.state system.old) (S.state system.new) }
+    ensures { ByReads (SalvagesFile (I.remaining input.old) path.now (form_text form.entry) places
+        E.contents told.old told.new W.contents out.old out.new result)
+        (S.state system.old) (S.state system.new) }
 {
-    let schema = match schema_asked(system, alloc, deck, name, input) {
-        Ok(schema) => schema,
+    let asked = match salvage_form(system, alloc, form, input) {
+        Ok(asked) => asked,
         Err(fault) => return Err(fault),
     };
     match system.take_shared(path, MOST_BYTES, &mut Silent) {
-        Ok(bytes) => salvage_bytes(alloc, closed(bytes), &schema, out),
+        Ok(bytes) => salvage_bytes(alloc, closed(bytes), &asked, places, told, out),
         Err(fault) => Err(not_read(fault)),
     }
 }

@@ -1,97 +1,32 @@
--- Lines on their way to the writer, and more of them.
-use Rattle.std.proofs.Common.{◌≡◌, ◌<◌, ℕ, suc, ◌+◌, ◌-◌, ◌^◌, List, [], ◌∷◌, ◌++◌, length, take, get_or, Option, Some, None, refl, sym, ap, subst, ◌∙◌, append_assoc, append-nil, arith}
-use Rattle.std.specs.Prelude.{flat_map, min, ◌≤◌, Vec, vec_capacity, Result, Ok, Err}
-use Rattle.record_forms.specs.Room.{AddsInRoom, Grows, IsLineRoom}
-use Rattle.record_forms.specs.declared.form.Form.{Form}
+-- Lines of slots on their way to the writer, and more of them.
+use Rattle.std.proofs.Common.{◌≡◌, ◌<◌, ℕ, ◌+◌, List, [], ◌∷◌, ◌++◌, length, map, take, get_or, Option, sym, ap, subst, ◌∙◌, append_assoc, append-nil, arith}
+use Rattle.std.specs.Prelude.{◌≤◌, Vec, vec_capacity, Result, Ok, Err, OnOk}
 use Rattle.std.specs.Io.KnownBytes.{Appends}
 use Rattle.std.proofs.KnownBytes.{Appends-nil, Appends-trans}
-use Rattle.std.proofs.Math.Seq.{take-suc}
+use Rattle.std.proofs.lemmas.List.{map_push, take_more}
 use Rattle.std.proofs.lemmas.Grind.{flat_map-append}
+use Rattle.record_forms.specs.Room.{AddsInRoom, Grows}
+use Rattle.record_forms.specs.declared.form.Form.{Form}
 use Rattle.streams.specs.Output.{HoldsText}
-use Rattle.record_heap.specs.declared.shape.Shape.{Shape}
-use Rattle.record_listing.specs.Lines.{record_text_line}
-use Rattle.salvaged_records.specs.Lines.{AreOnTheirWay, GoOn, WritesRecords, lines_counted}
-use Rattle.salvaged_records.specs.Slots.{record_at, records_to, records_of_page, records_of_pages, with_slot}
+use Rattle.used_slots.specs.declared.used_slot.UsedSlot.{UsedSlot}
+use Rattle.used_slots.specs.Slots.{found_slot}
+use Rattle.salvaged_records.specs.declared.lead.Lead.{Lead}
+use Rattle.salvaged_records.specs.Lines.{salvaged_line, salvaged_lines}
 
--- the lines of one record more
-one_line : (records : List (List ℕ)) (bytes : List ℕ) → flat_map record_text_line (records ++ bytes ∷ []) ≡ flat_map record_text_line records ++ record_text_line bytes
-one_line records bytes = flat_map-append record_text_line records (bytes ∷ []) ∙ ap (λ (l : List ℕ). flat_map record_text_line records ++ l) (append-nil (record_text_line bytes))
+-- nothing more is held
+pub none_held : (a : Option (List ℕ)) (held : List ℕ) → HoldsText a a held held []
+none_held a held = record { taken = []; text_is = append-nil held; appends = Appends-nil a }
 
-one_longer : (records : List (List ℕ)) (bytes : List ℕ) → length (records ++ bytes ∷ []) ≡ length records + 1
-one_longer [] bytes = refl
-one_longer (record_bytes ∷ records) bytes = let rest = one_longer records bytes in omega (arith, rest)
-
-one_counted : (records : List (List ℕ)) (bytes : List ℕ) → min (min (length records) (2 ^ 64 - 1) + 1) (2 ^ 64 - 1) ≡ lines_counted (records ++ bytes ∷ [])
-one_counted records bytes = let longer = one_longer records bytes in omega (arith, longer)
-
--- no line more
-pub none_more : (a : Option (List ℕ)) (held : List ℕ) (count : ℕ) → GoOn [] a a held held count count
-none_more a held count = record { on = λ records before way. subst (λ (r : List (List ℕ)). AreOnTheirWay r before a held count) (sym (append-nil records)) way }
-
--- some, and then some more
-pub both_more : (first second : List (List ℕ)) (a b c : Option (List ℕ)) (held then now : List ℕ) (count middle last : ℕ)
-    → GoOn first a b held then count middle → GoOn second b c then now middle last → GoOn (first ++ second) a c held now count last
-both_more first second a b c held then now count middle last one other = record {
-  on = λ records before way.
-      subst (λ (r : List (List ℕ)). AreOnTheirWay r before c now last) (append_assoc records first second)
-      (other.on (records ++ first) before (one.on records before way));
+-- two texts are held one after the other
+pub both_held : (a b c : Option (List ℕ)) (held then now first second : List ℕ) → HoldsText a b held then first → HoldsText b c then now second → HoldsText a c held now (first ++ second)
+both_held a b c held then now first second one other = record {
+  taken = one.taken ++ other.taken;
+  text_is = sym (append_assoc held first second) ∙ ap (λ (l : List ℕ). l ++ second) one.text_is ∙ append_assoc one.taken then second
+      ∙ ap (λ (l : List ℕ). one.taken ++ l) other.text_is ∙ sym (append_assoc one.taken other.taken now);
+  appends = Appends-trans a b c one.taken other.taken one.appends other.appends;
 }
 
--- one more line is held, and counted
-pub one_more : (bytes line : List ℕ) (a b : Option (List ℕ)) (held now : List ℕ) (count last : ℕ) → line ≡ record_text_line bytes
-    → HoldsText a b held now line → last ≡ min (count + 1) (2 ^ 64 - 1) → GoOn (bytes ∷ []) a b held now count last
-one_more bytes line a b held now count last is holds counted = record {
-  on = λ records before way. record {
-    taken = way.taken ++ holds.taken;
-    text = one_line records bytes ∙ ap (λ (l : List ℕ). l ++ record_text_line bytes) way.text ∙ append_assoc way.taken held (record_text_line bytes)
-        ∙ ap (λ (l : List ℕ). way.taken ++ (held ++ l)) (sym is) ∙ ap (λ (l : List ℕ). way.taken ++ l) holds.text_is ∙ sym (append_assoc way.taken holds.taken now);
-    appends = Appends-trans before a b way.taken holds.taken way.appends holds.appends;
-    counted = counted ∙ ap (λ (n : ℕ). min (n + 1) (2 ^ 64 - 1)) way.counted ∙ one_counted records bytes;
-  };
-}
-
--- the record of one slot more
-with_one : (records : List (List ℕ)) (found : Option (List ℕ)) → with_slot records found ≡ records ++ with_slot [] found
-with_one records None = sym (append-nil records)
-with_one records (Some bytes) = refl
-
-pub slot_more : (shape : Shape) (page : List ℕ) (i : ℕ) (a b c : Option (List ℕ)) (held then now : List ℕ) (count middle last : ℕ)
-    → GoOn (records_to shape page i) a b held then count middle → GoOn (with_slot [] (record_at shape page i)) b c then now middle last
-    → GoOn (records_to shape page (i + 1)) a c held now count last
-slot_more shape page i a b c held then now count middle last one other =
-    let up : i + 1 ≡ suc i = omega arith in
-    subst (λ (n : ℕ). GoOn (records_to shape page n) a c held now count last) (sym up)
-    (subst (λ (r : List (List ℕ)). GoOn r a c held now count last) (sym (with_one (records_to shape page i) (record_at shape page i)))
-    (both_more (records_to shape page i) (with_slot [] (record_at shape page i)) a b c held then now count middle last one other))
-
--- those of one page more
-pages_on : (shape : Shape) (pages : List (List ℕ)) (k : ℕ) (d : List ℕ) → k < length pages
-    → records_of_pages shape (take (k + 1) pages) ≡ records_of_pages shape (take k pages) ++ records_of_page shape (get_or pages k d)
-pages_on shape pages k d within =
-    let up : k + 1 ≡ suc k = omega arith in
-    ap (λ (n : ℕ). records_of_pages shape (take n pages)) up ∙ ap (records_of_pages shape) (take-suc pages k d within)
-    ∙ flat_map-append (λ (page : List ℕ). records_of_page shape page) (take k pages) (get_or pages k d ∷ [])
-    ∙ ap (λ (l : List (List ℕ)). records_of_pages shape (take k pages) ++ l) (append-nil (records_of_page shape (get_or pages k d)))
-
-pub page_more : (shape : Shape) (pages : List (List ℕ)) (k : ℕ) (d : List ℕ) → k < length pages → (a b c : Option (List ℕ)) (held then now : List ℕ) (count middle last : ℕ)
-    → GoOn (records_of_pages shape (take k pages)) a b held then count middle → GoOn (records_of_page shape (get_or pages k d)) b c then now middle last
-    → GoOn (records_of_pages shape (take (k + 1) pages)) a c held now count last
-page_more shape pages k d within a b c held then now count middle last one other =
-    subst (λ (r : List (List ℕ)). GoOn r a c held now count last) (sym (pages_on shape pages k d within))
-    (both_more (records_of_pages shape (take k pages)) (records_of_page shape (get_or pages k d)) a b c held then now count middle last one other)
-
--- all lines were written, once those that are held are
-pub all_written : (records : List (List ℕ)) (a b c : Option (List ℕ)) (held now : List ℕ) (count : ℕ) → held ≡ [] → GoOn records a b held now 0 count → Appends b c now
-    → WritesRecords records a c count
-all_written records a b c held now count none goes written =
-    let start : AreOnTheirWay [] a a held 0 = record { taken = []; text = sym none; appends = Appends-nil a; counted = refl } in
-    let way = goes.on [] a start in
-    record {
-      written = subst (Appends a c) (sym way.text) (Appends-trans a b c way.taken now way.appends written);
-      counted = way.counted;
-    }
-
--- where an empty text has room for the line of a record, the line was added
+-- a line that was put together in a room that has it
 pub line_added : {Z E : Type 0} (line : List ℕ) (old new : Vec ℕ Z) (result : Result Unit E) → AddsInRoom old new line result → old.items ≡ [] → length line ≤ vec_capacity old → Grows old new line
 line_added line old new (Ok done) adds none fits = adds
 line_added line old new (Err fault) adds none fits =
@@ -99,6 +34,41 @@ line_added line old new (Err fault) adds none fits =
     let long = old.ok.0 in
     absurd (omega (arith, adds, fits, empty, long))
 
--- what is room for each line stays so where there is more
-pub still_room : (form : Form) (most room more : ℕ) → IsLineRoom form most room → room ≤ more → IsLineRoom form most more
-still_room form most room more is wider bytes few = let fits = is bytes few in omega (arith, fits, wider)
+-- the lines of one slot more
+lines_on : (lead : Lead) (form : Form) (slots : List UsedSlot) (i : ℕ) (slot : UsedSlot) → i < length slots → slot ≡ get_or slots i slot
+    → salvaged_lines lead form (map found_slot (take (i + 1) slots)) ≡ salvaged_lines lead form (map found_slot (take i slots)) ++ salvaged_line lead form (found_slot slot)
+lines_on lead form slots i slot within is =
+    let more : take (i + 1) slots ≡ take i slots ++ slot ∷ [] = take_more slots i slot within ∙ ap (λ (s : UsedSlot). take i slots ++ s ∷ []) (sym is) in
+    ap (λ (s : List UsedSlot). salvaged_lines lead form (map found_slot s)) more
+    ∙ ap (salvaged_lines lead form) (map_push found_slot (take i slots) slot)
+    ∙ flat_map-append (salvaged_line lead form) (map found_slot (take i slots)) (found_slot slot ∷ [])
+    ∙ ap (λ (l : List ℕ). salvaged_lines lead form (map found_slot (take i slots)) ++ l) (append-nil (salvaged_line lead form (found_slot slot)))
+
+pub slot_more : (lead : Lead) (form : Form) (slots : List UsedSlot) (i : ℕ) (slot : UsedSlot) → i < length slots → slot ≡ get_or slots i slot → (a b c : Option (List ℕ)) (held then now : List ℕ)
+    → HoldsText a b held then (salvaged_lines lead form (map found_slot (take i slots))) → HoldsText b c then now (salvaged_line lead form (found_slot slot))
+    → HoldsText a c held now (salvaged_lines lead form (map found_slot (take (i + 1) slots)))
+slot_more lead form slots i slot within is a b c held then now one other =
+    subst (HoldsText a c held now) (sym (lines_on lead form slots i slot within is))
+    (both_held a b c held then now (salvaged_lines lead form (map found_slot (take i slots))) (salvaged_line lead form (found_slot slot)) one other)
+
+-- what is held is handed over
+pub handed : (a b c : Option (List ℕ)) (held now text : List ℕ) → HoldsText a b held now text → Appends b c now → Appends a c (held ++ text)
+handed a b c held now text one over = subst (Appends a c) (sym one.text_is) (Appends-trans a b c one.taken now one.appends over)
+
+-- a text is held first, and then what is held is written with more
+pub all_handed : (a b c : Option (List ℕ)) (held now first more : List ℕ) → held ≡ [] → HoldsText a b held now first → Appends b c (now ++ more) → Appends a c (first ++ more)
+all_handed a b c held now first more none one over =
+    let text : first ≡ one.taken ++ now = ap (λ (l : List ℕ). l ++ first) (sym none) ∙ one.text_is in
+    subst (Appends a c) (sym (ap (λ (l : List ℕ). l ++ more) text ∙ append_assoc one.taken now more)) (Appends-trans a b c one.taken (now ++ more) one.appends over)
+
+-- what stands before a line is held, and then the line
+pub second_held : {E : Type 0} (result : Result Unit E) (a b c : Option (List ℕ)) (held then now first second lead line : List ℕ) → first ≡ lead → second ≡ line → HoldsText a b held then first
+    → OnOk result (HoldsText b c then now second) → OnOk result (HoldsText a c held now (lead ++ line))
+second_held (Ok done) a b c held then now first second lead line lead_is line_is one other =
+    both_held a b c held then now lead line (subst (HoldsText a b held then) lead_is one) (subst (HoldsText b c then now) line_is other)
+second_held (Err fault) a b c held then now first second lead line lead_is line_is one other = tt
+
+-- what is held is handed over, unless the writer refuses it
+pub handed_if : {E : Type 0} (result : Result Unit E) (a b c : Option (List ℕ)) (held now text : List ℕ) → HoldsText a b held now text → OnOk result (Appends b c now) → OnOk result (Appends a c (held ++ text))
+handed_if (Ok done) a b c held now text one over = handed a b c held now text one over
+handed_if (Err fault) a b c held now text one over = tt

@@ -1,3 +1,4 @@
-pub mod Slots
+pub mod Shapes
+pub mod Leads
 pub mod Lines
 pub mod Salvaged

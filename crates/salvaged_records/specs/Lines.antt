@@ -1,28 +1,18 @@
--- The lines of records, on their way to a writer. All of this is ours.
-use Rattle.std.specs.Prelude.{◌≡◌, ℕ, ◌-◌, ◌^◌, min, List, ◌++◌, flat_map, length, Option}
-use Rattle.std.specs.Io.KnownBytes.{Appends}
-use Rattle.record_listing.specs.Lines.{record_text_line}
+-- The lines of the records in slots. All of this is ours.
+use Rattle.std.specs.Prelude.{ℕ, List, ◌++◌, flat_map}
+use Rattle.record_forms.specs.declared.form.Form.{Form}
+use Rattle.record_forms.specs.Lines.{line_in, form_header}
+use Rattle.used_slots.specs.Slots.{FoundSlot}
+use Rattle.salvaged_records.specs.declared.lead.Lead.{Lead}
+use Rattle.salvaged_records.specs.Leads.{lead_header, lead_text_of}
 
--- how many they are, the greatest number at most
-abbrev pub lines_counted : List (List ℕ) → ℕ
-lines_counted records = min (length records) (2 ^ 64 - 1)
+-- the line of the record in a slot
+abbrev pub salvaged_line : Lead → Form → FoundSlot → List ℕ
+salvaged_line lead form slot = lead_text_of lead form slot ++ line_in form slot.bytes
 
--- of the lines of these records the writer took some bytes, and the others are held
-pub record AreOnTheirWay (records : List (List ℕ)) (before now : Option (List ℕ)) (held : List ℕ)
-    (count : ℕ) : Type 0 where
-  pub taken : List ℕ
-  pub text : flat_map record_text_line records ≡ taken ++ held
-  pub appends : Appends before now taken
-  pub counted : count ≡ lines_counted records
+abbrev pub salvaged_lines : Lead → Form → List FoundSlot → List ℕ
+salvaged_lines lead form slots = flat_map (salvaged_line lead form) slots
 
--- the lines of more records are on their way, behind those that were
-pub record GoOn (more : List (List ℕ)) (old new : Option (List ℕ)) (held held_after : List ℕ)
-    (count count_after : ℕ) : Type 0 where
-  pub on : (records : List (List ℕ)) (before : Option (List ℕ)) → AreOnTheirWay records before old held count
-      → AreOnTheirWay (records ++ more) before new held_after count_after
-
--- the lines of these records were written, and this is how many they are
-pub record WritesRecords (records : List (List ℕ)) (before behind : Option (List ℕ)) (count : ℕ)
-    : Type 0 where
-  pub written : Appends before behind (flat_map record_text_line records)
-  pub counted : count ≡ lines_counted records
+-- the whole list
+abbrev pub salvaged_list : Lead → Form → List FoundSlot → List ℕ
+salvaged_list lead form slots = lead_header lead form ++ form_header form ++ salvaged_lines lead form slots

@@ -2,15 +2,17 @@
 //!
 //! `salvage_records` closes the gate in bytes that are held, and checks them. Where they stand for
 //! a file then, exactly its records are listed. Otherwise the records of all slots in use are, page
-//! by page, and nothing more is promised of them. The file itself is never written.
+//! by page, each prime value once. Where several slots have one value, all of them are told; the one
+//! to which the entry of the prime key leads is listed, if there is one. The file itself is never
+//! written.
 //!
-//! Read `specs/Salvaged.antt` for what is promised, `specs/Slots.antt` for the slots, and then
-//! `salvaging`.
+//! Read `specs/Salvaged.antt` for what is promised, `specs/Lines.antt` for the lines, and then
+//! `salvaging`. The slots are those of `used_slots`.
 #![tactic(auto)]
 
-mod heap_pages;
+mod lead;
 mod salvaging;
 mod shape;
-mod slots;
+mod slot_lines;
 
-pub use salvaging::{Salvage, close_gate, salvage_records};
+pub use salvaging::{Salvage, SalvageForm, close_gate, salvage_records};

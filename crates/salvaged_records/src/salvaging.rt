@@ -1,14 +1,16 @@
 //! The salvage of the records of a file.
-ghost use Rattle.std.specs.Prelude.{◌≡◌, ℕ, List, IfOk, IfSome, IsNone};
+ghost use Rattle.std.specs.Prelude.{◌≡◌, ℕ, List, true, false, IfOk, IfSome, IsNone, OnOk};
 ghost use Rattle.file_checker.specs.Bytes.{AreAllPages};
 ghost use Rattle.file_checker.specs.Sound.{IsRight, IsSound};
 ghost use Rattle.file_header.specs.FirstPage.{IsFirstPage};
 ghost use Rattle.page_store.specs.DeviceFile.{page_of_bytes};
 ghost use Rattle.salvaged_records.specs.Salvaged.{with_gate_closed, AreAllAsked, EndsWith, Ends};
-ghost use Rattle.salvaged_records.specs.Salvaged.{HasNoHeader, IsSchemaFor};
+ghost use Rattle.salvaged_records.specs.Salvaged.{HasNoHeader, IsSchemaFor, lead_by, outputs, WritesSlots};
+ghost use Rattle.salvaged_records.specs.Salvaged.{IsSalvageOf, WritesSorted};
 
-use crate::heap_pages::write_pages;
+use crate::lead::Lead;
 use crate::shape::shape_of;
+use crate::slot_lines::write_slots;
 use file_checker::{Reason, Verdict, check_bytes};
 use file_header::Header;
 use io_state::Key;
@@ -18,17 +20,26 @@ use record_layout::Schema;
 use record_listing::{Asked, ListFault, list_sound};
 use std::alloc::Global;
 use std::io::Write;
+use used_slots::{SortedOut, sort_out};
 
 /// The first byte of a file whose gate is closed.
 const CLOSED: u8 = b'C';
+
+/// How the lines of records are written: in a form, and with the page and the slot of each or without.
+#[derive(Clone, Copy)]
+pub struct SalvageForm<'a> {
+    pub form: &'a Form,
+    pub places: bool,
+}
 
 /// What was salvaged.
 #[derive(Clone, Copy, Debug, PartialEq, Eq)]
 pub enum Salvage {
     /// The bytes stand for a file where its gate is closed: so many records, all of them.
     All(u64),
-    /// They do not: so many records, those in slots that are in use.
-    Slots(u64),
+    /// They do not, or so many slots were not found: so many records, one of each prime value that is
+    /// not in doubt; and so many slots whose prime value others have.
+    Slots(u64, u64),
     /// The first page is none of a file, for this reason, and no deck has a schema. Nothing was
     /// written.
     Unsound(Reason),
@@ -56,42 +67,86 @@ fn all_records() -> Asked
 }
 
 /// Lists the records of the file that these bytes stand for.
-fn list_all<W: Write>(
+fn list_all<W: Write, E: Write>(
     alloc: Global,
     bytes: Vec<u8>,
     deck: &Option<Schema>,
     records: u64,
+    form: &Form,
+    told: &mut E,
     out: &mut W,
 ) -> Result<Salvage, ListFault>
     requires sound { (pages : ℕ) × IsSound bytes.items records pages }
-    ensures ends { IfOk result (EndsWith deck.now bytes.items (W.contents out.old) (W.contents out.new)) }
+    ensures ends { IfOk result (EndsWith deck.now bytes.items form.now false
+        (outputs (W.contents out.old) (W.contents out.new) (E.contents told.old) (E.contents told.new))) }
     ensures memory { result ≡ Err ListFault.Memory → W.contents out.new ≡ W.contents out.old }
 {
-    match list_sound(alloc, bytes, all_records(), &Form::Text, out) {
+    match list_sound(alloc, bytes, all_records(), form, out) {
         // A file that is sound has a prime key, so it was listed.
         Ok(_) => Ok(Salvage::All(records)),
         Err(fault) => Err(fault),
     }
 }
 
-/// Lists the records in the slots of a file of this schema, whose whole pages these are.
-fn list_slots<W: Write>(
+/// What stands before each line.
+fn lead_by(places: bool) -> Lead
+    ensures { result ≡ lead_by places }
+{
+    if places { Lead::Place } else { Lead::Bare }
+}
+
+/// Tells the slots that are told, and then lists those that are kept.
+fn write_sorted<W: Write, E: Write>(
+    alloc: Global,
+    sorted: &SortedOut<'_>,
+    asked: &SalvageForm<'_>,
+    told: &mut E,
+    out: &mut W,
+) -> Result<(), ListFault>
+    ensures written { OnOk result (WritesSorted sorted.now asked.now.form.now asked.now.places
+        (outputs (W.contents out.old) (W.contents out.new) (E.contents told.old) (E.contents told.new))) }
+    ensures memory { result ≡ Err ListFault.Memory → W.contents out.new ≡ W.contents out.old }
+{
+    match write_slots(
+        alloc,
+        sorted.told.as_slice(),
+        &Form::Text,
+        Lead::Doubt,
+        told,
+    ) {
+        Ok(()) => write_slots(
+            alloc,
+            sorted.kept.as_slice(),
+            asked.form,
+            lead_by(asked.places),
+            out,
+        ),
+        Err(fault) => Err(fault),
+    }
+}
+
+/// Lists the records in the slots of a file of this schema, whose whole pages these are, and answers
+/// how many were listed, and how many slots were told.
+fn list_slots<W: Write, E: Write>(
     alloc: Global,
     bytes: &[u8],
     pages: &[[u8; PAGE_SIZE]],
     schema: &Schema,
-    deck: &Option<Schema>,
-    reason: Reason,
+    asked: &SalvageForm<'_>,
+    told: &mut E,
     out: &mut W,
-) -> Result<Salvage, ListFault>
-    requires refused { IsRight bytes.now (Verdict.Unsound reason) }
+) -> Result<(u64, u64), ListFault>
     requires pages { AreAllPages bytes.now pages.now }
-    requires schema { IsSchemaFor deck.now bytes.now schema.now }
-    ensures ends { IfOk result (EndsWith deck.now bytes.now (W.contents out.old) (W.contents out.new)) }
+    ensures slots { IfOk result (λ counts. WritesSlots schema.now bytes.now asked.now.form.now asked.now.places
+        (outputs (W.contents out.old) (W.contents out.new) (E.contents told.old) (E.contents told.new))
+        counts.0 counts.1) }
     ensures memory { result ≡ Err ListFault.Memory → W.contents out.new ≡ W.contents out.old }
 {
-    match write_pages(alloc, pages, shape_of(schema), out) {
-        Ok(count) => Ok(Salvage::Slots(count)),
+    let Ok(sorted) = sort_out(alloc, pages, schema, shape_of(schema)) else {
+        return Err(ListFault::Memory);
+    };
+    match write_sorted(alloc, &sorted, asked, told, out) {
+        Ok(()) => Ok((sorted.kept.len() as u64, sorted.told.len() as u64)),
         Err(fault) => Err(fault),
     }
 }
@@ -116,51 +171,164 @@ fn first_header(pages: &[[u8; PAGE_SIZE]]) -> Option<Header>
     }
 }
 
+/// Lists the records in the slots of a file of this schema, which is refused.
+fn list_refused_by<W: Write, E: Write>(
+    alloc: Global,
+    bytes: &[u8],
+    pages: &[[u8; PAGE_SIZE]],
+    schema: &Schema,
+    deck: &Option<Schema>,
+    reason: Reason,
+    asked: &SalvageForm<'_>,
+    told: &mut E,
+    out: &mut W,
+) -> Result<Salvage, ListFault>
+    requires refused { IsRight bytes.now (Verdict.Unsound reason) }
+    requires pages { AreAllPages bytes.now pages.now }
+    requires schema { IsSchemaFor deck.now bytes.now schema.now }
+    ensures ends { IfOk result (EndsWith deck.now bytes.now asked.now.form.now asked.now.places
+        (outputs (W.contents out.old) (W.contents out.new) (E.contents told.old) (E.contents told.new))) }
+    ensures memory { result ≡ Err ListFault.Memory → W.contents out.new ≡ W.contents out.old }
+{
+    match list_slots(alloc, bytes, pages, schema, asked, told, out) {
+        Ok((listed, doubted)) => Ok(Salvage::Slots(listed, doubted)),
+        Err(fault) => Err(fault),
+    }
+}
+
 /// Lists the records in the slots of a file that is refused for this reason: by the schema of its
 /// first page, or by that of a deck where it has none.
-fn list_refused<W: Write>(
+fn list_refused<W: Write, E: Write>(
     alloc: Global,
     bytes: &[u8],
     deck: &Option<Schema>,
     reason: Reason,
+    asked: &SalvageForm<'_>,
+    told: &mut E,
     out: &mut W,
 ) -> Result<Salvage, ListFault>
     requires refused { IsRight bytes.now (Verdict.Unsound reason) }
-    ensures ends { IfOk result (EndsWith deck.now bytes.now (W.contents out.old) (W.contents out.new)) }
+    ensures ends { IfOk result (EndsWith deck.now bytes.now asked.now.form.now asked.now.places
+        (outputs (W.contents out.old) (W.contents out.new) (E.contents told.old) (E.contents told.new))) }
     ensures memory { result ≡ Err ListFault.Memory → W.contents out.new ≡ W.contents out.old }
 {
     let pages = pages_in(bytes);
     match first_header(pages) {
-        Some(header) => list_slots(alloc, bytes, pages, &header.schema, deck, reason, out),
+        Some(header) => list_refused_by(
+            alloc,
+            bytes,
+            pages,
+            &header.schema,
+            deck,
+            reason,
+            asked,
+            told,
+            out,
+        ),
         None => match deck {
-            Some(schema) => list_slots(alloc, bytes, pages, schema, deck, reason, out),
+            Some(schema) => {
+                list_refused_by(alloc, bytes, pages, schema, deck, reason, asked, told, out)
+            }
             None => Ok(Salvage::Unsound(reason)),
         },
     }
 }
 
-/// Writes the lines of the records that are left in the bytes of a file, whether or not its gate is
-/// closed: exactly its records, in the order of the prime key, where the bytes stand for a file once
-/// the gate is closed; otherwise those of all slots in use, page by page. How its slots are is told by
-/// the first page, or by the schema of a deck where that is lost: a file that was being made has
-/// none until it is closed. The file is not touched: the gate is closed in these bytes alone.
-///
-/// `Output`: the writer refused a line; a front of the lines may have been written. `Memory`: nothing
-/// was written. `Input` never comes: the bytes are there.
-pub fn salvage_records<W: Write>(
+/// What it is that so many slots of a file were listed, and so many told, which has so many records.
+fn salvage_of(listed: u64, doubted: u64, records: u64) -> Salvage
+    ensures { IsSalvageOf listed doubted records result }
+{
+    if listed == records && doubted == 0 {
+        Salvage::All(records)
+    } else {
+        Salvage::Slots(listed, doubted)
+    }
+}
+
+/// Lists the records in the slots of the file that these bytes stand for, each with its place.
+fn list_placed<W: Write, E: Write>(
+    alloc: Global,
+    bytes: &[u8],
+    deck: &Option<Schema>,
+    records: u64,
+    asked: &SalvageForm<'_>,
+    told: &mut E,
+    out: &mut W,
+) -> Result<Salvage, ListFault>
+    requires sound { (pages : ℕ) × IsSound bytes.now records pages }
+    requires places { asked.now.places ≡ true }
+    ensures ends { IfOk result (EndsWith deck.now bytes.now asked.now.form.now asked.now.places
+        (outputs (W.contents out.old) (W.contents out.new) (E.contents told.old) (E.contents told.new))) }
+    ensures memory { result ≡ Err ListFault.Memory → W.contents out.new ≡ W.contents out.old }
+{
+    let pages = pages_in(bytes);
+    let Some(header) = first_header(pages) else {
+        // A file that is sound has a first page.
+        unreachable!()
+    };
+    match list_slots(alloc, bytes, pages, &header.schema, asked, told, out) {
+        Ok((listed, doubted)) => Ok(salvage_of(listed, doubted, records)),
+        Err(fault) => Err(fault),
+    }
+}
+
+/// Lists the records of the file that these bytes stand for: with their places, or in the order of the
+/// prime key.
+fn list_whole<W: Write, E: Write>(
     alloc: Global,
     bytes: Vec<u8>,
     deck: &Option<Schema>,
+    records: u64,
+    asked: &SalvageForm<'_>,
+    told: &mut E,
     out: &mut W,
 ) -> Result<Salvage, ListFault>
-    ensures ends { Ends deck.now bytes.items (W.contents out.old) (W.contents out.new) result }
+    requires sound { (pages : ℕ) × IsSound bytes.items records pages }
+    ensures ends { IfOk result (EndsWith deck.now bytes.items asked.now.form.now asked.now.places
+        (outputs (W.contents out.old) (W.contents out.new) (E.contents told.old) (E.contents told.new))) }
+    ensures memory { result ≡ Err ListFault.Memory → W.contents out.new ≡ W.contents out.old }
+{
+    if asked.places {
+        list_placed(alloc, bytes.as_slice(), deck, records, asked, told, out)
+    } else {
+        list_all(alloc, bytes, deck, records, asked.form, told, out)
+    }
+}
+
+/// Writes the lines of the records that are left in the bytes of a file, whether or not its gate is
+/// closed, in a form. Where the bytes stand for a file once the gate is closed they are exactly its
+/// records, in the order of the prime key. Otherwise they are those of all slots in use, page by page,
+/// but for the slots that have one prime value: each of these is told, with its place, and the one to
+/// which the entry of the prime key leads is listed, if there is one. How slots are is told by the first
+/// page, or by the schema of a deck where that is lost: a file that was being made has none until it is
+/// closed. With places the page and the slot of each record stand before its line, and the records of a
+/// sound file are listed page by page too. The file is not touched: the gate is closed in these bytes
+/// alone.
+///
+/// `Output`: a writer refused a line; a front of what is told or listed may have been written. `Memory`:
+/// nothing was listed. `Input` never comes: the bytes are there.
+pub fn salvage_records<W: Write, E: Write>(
+    alloc: Global,
+    bytes: Vec<u8>,
+    deck: &Option<Schema>,
+    asked: &SalvageForm<'_>,
+    told: &mut E,
+    out: &mut W,
+) -> Result<Salvage, ListFault>
+    ensures ends { Ends deck.now bytes.items asked.now.form.now asked.now.places
+        (outputs (W.contents out.old) (W.contents out.new) (E.contents told.old) (E.contents told.new))
+        result }
     ensures memory { result ≡ Err ListFault.Memory → W.contents out.new ≡ W.contents out.old }
 {
     let mut bytes = bytes;
     close_gate(bytes.as_mut_slice());
     match check_bytes(alloc, bytes.as_slice()) {
-        Ok(Verdict::Sound { records, .. }) => list_all(alloc, bytes, deck, records, out),
-        Ok(Verdict::Unsound(reason)) => list_refused(alloc, bytes.as_slice(), deck, reason, out),
+        Ok(Verdict::Sound { records, .. }) => {
+            list_whole(alloc, bytes, deck, records, asked, told, out)
+        }
+        Ok(Verdict::Unsound(reason)) => {
+            list_refused(alloc, bytes.as_slice(), deck, reason, asked, told, out)
+        }
         Err(_) => Err(ListFault::Memory),
     }
 }

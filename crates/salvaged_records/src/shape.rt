@@ -1,5 +1,5 @@
 //! What the slots of a file have in common.
-ghost use Rattle.salvaged_records.specs.Slots.{IsShapeOf};
+ghost use Rattle.salvaged_records.specs.Shapes.{IsShapeOf};
 
 use record_heap::Shape;
 use record_layout::Schema;

@@ -1,15 +1,16 @@
-use Rattle.std.proofs.Common.{◌≡◌, List, [], ◌∷◌, Bor, refl, subst, sym, rules, inl, inr}
+use Rattle.std.proofs.Common.{List, Bor, refl, subst, sym, inl, inr}
 use Rattle.clap.specs.Words.{Text}
 use Rattle.command_words.specs.Asks.{Ask, AskCheck}
 use Rattle.recorded_system.proofs.ReadingLemmas.{by_none}
 use Rattle.file_commands.specs.Verdicts.{paths_of}
 use Rattle.command_line.proofs.CallsMadeLemmas.{reads_alone, reads_aside}
-use Rattle.command_line.proofs.DidLemmas.{for_schema, for_salvage, for_records, for_load, did_list, did_schema, did_help, did_explain, did_check, did_checks, did_count, did_salvage, did_deck, served_did}
-use Rattle.command_line.proofs.RightLemmas.{right_help, right_explained, right_check, right_checks, right_count, right_salvage, right_listed, right_cobol, right_schema, right_list}
+use Rattle.command_line.proofs.DidLemmas.{for_schema, for_salvage, for_records, for_load, did_list, did_schema, did_help, did_explain, did_check, did_count, did_salvage, did_deck, served_did}
+use Rattle.command_line.proofs.RightLemmas.{right_help, right_explained, right_check, right_count, right_salvage, right_listed, right_cobol, right_schema, right_list}
 use Rattle.command_line.proofs.CameLemmas.{run_did, run_came, serve_came, load_did, load_came}
 use Rattle.command_outcomes.specs.declared.outcome.Outcome.TheVariants.{Listed, InCobol}
 use Rattle.std.specs.Prelude.{⊤}
 use Rattle.command_line.specs.CallsMade.{calls_made}
+use Rattle.salvaged_records.specs.Salvaged.{outputs}
 use Rattle.command_line.proofs.performing.answer_request.Goals as goal
 
 pub returns-in-Help-clause-did : goal.returns-in-Help-clause-did
@@ -120,8 +121,8 @@ returns-in-Stat-clause-came g c words is =
 pub returns-in-Salvage-clause-did : goal.returns-in-Salvage-clause-did
 returns-in-Salvage-clause-did g c words is =
     let asked = subst (Ask words) c.in-Salvage.is is in
-    rw c.without_run-in-Salvage.ensures (did_salvage words (for_salvage words c.in-Salvage.file c.in-Salvage.deck c.in-Salvage.name asked) (g.I.Read.remaining c.args.input.now.reader)
-    (g.W.Write.contents c.args.out.now) (g.W.Write.contents c.salvage_path-salvaged.new.out) c.salvage_path-salvaged.ensures.calls c.salvage_path-salvaged.result
+    rw c.without_run-in-Salvage.ensures (did_salvage words (for_salvage words c.in-Salvage.file c.in-Salvage.form c.in-Salvage.places asked) (g.I.Read.remaining c.args.input.now.reader)
+    (outputs (g.W.Write.contents c.args.out.now) (g.W.Write.contents c.salvage_path-salvaged.new.out) (g.E.Write.contents c.args.doubts.now) (g.E.Write.contents c.salvage_path-salvaged.new.told)) c.salvage_path-salvaged.ensures.calls c.salvage_path-salvaged.result
     c.salvage_path-salvaged.ensures.so.records c.salvage_path-salvaged.ensures.so.fault)
 
 pub returns-in-Salvage-clause-came : goal.returns-in-Salvage-clause-came
@@ -131,7 +132,8 @@ returns-in-Salvage-clause-came g c words is =
     let held = g.S.System.state c.args.system in
     rw c.without_run-in-Salvage.ensures (inl (reads_alone g.D.Disk.unseen words input g.W.Write.contents c.args.out.now c.salvage_path-salvaged.new.out c.args.aside.now.calls c.requires.none_aside held (g.S.System.state c.salvage_path-salvaged.new.system) c.requires.held
     c.salvage_path-salvaged.result c.salvage_path-salvaged.ensures (c.args.request, rw c.in-Salvage.is tt, is)
-    (λ calls so. right_salvage g.D.Disk.unseen words calls input g.W.Write.contents c.args.out.now c.salvage_path-salvaged.new.out (for_salvage words c.in-Salvage.file c.in-Salvage.deck c.in-Salvage.name asked) c.salvage_path-salvaged.result so.records)))
+    (λ calls so. right_salvage g.D.Disk.unseen words calls input g.W.Write.contents c.args.out.now c.salvage_path-salvaged.new.out (for_salvage words c.in-Salvage.file c.in-Salvage.form c.in-Salvage.places asked)
+    (g.E.Write.contents c.args.doubts.now) (g.E.Write.contents c.salvage_path-salvaged.new.told) c.salvage_path-salvaged.result so.records)))
 
 pub returns-in-Cobol-clause-did : goal.returns-in-Cobol-clause-did
 returns-in-Cobol-clause-did g c words is =

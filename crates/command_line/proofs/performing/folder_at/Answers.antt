@@ -1,4 +1,4 @@
-use Rattle.std.proofs.Common.{◌≡◌, Bool, true, Some, string_bytes, refl, rules, subst}
+use Rattle.std.proofs.Common.{◌≡◌, Bool, Some, string_bytes, refl, rules, subst}
 use Rattle.recorded_system.specs.Calls.{asked_of_folder}
 use Rattle.recorded_system.specs.SystemState.{with_call, if_told}
 use Rattle.command_line.proofs.InputLemmas.{folder_given, folder_refused}

@@ -1,4 +1,4 @@
-use Rattle.std.proofs.Common.{◌≡◌, ◌≢◌, ℕ, List, Ok, Err, refl, ap, string_bytes, inl, inr, sym, subst}
+use Rattle.std.proofs.Common.{ℕ, List, ap, string_bytes, sym, subst}
 use Rattle.command_line.specs.CallsMade.{calls_made}
 use Rattle.command_line.specs.LoadForm.{form_word}
 use Rattle.command_line.specs.Loaded.{ComesOfLoad, BeginsLoad}

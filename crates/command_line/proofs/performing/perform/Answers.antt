@@ -1,4 +1,4 @@
-use Rattle.std.proofs.Common.{◌≡◌, map, string_bytes, refl, ap, ◌∙◌, inl, sym}
+use Rattle.std.proofs.Common.{map, string_bytes, refl, ap, ◌∙◌, inl}
 use Rattle.command_line.proofs.CallsMadeLemmas.{streams_alone, asks_nothing, holds_none}
 use Rattle.command_line.proofs.DidLemmas.{did_fail, did_refuse}
 use Rattle.command_line.proofs.performing.perform.Goals as goal

@@ -1,4 +1,4 @@
-use Rattle.std.proofs.Common.{◌≡◌, ◌∷◌, Some, true, refl, ap, ◌∙◌, sym, inl, inr}
+use Rattle.std.proofs.Common.{◌∷◌, Some, true, refl, ap, ◌∙◌, sym, inl, inr}
 use Rattle.recorded_system.specs.Calls.{asked_of_folder}
 use Rattle.streams.specs.Source.{source_of}
 use Rattle.command_line.specs.Session.{streams_of}

@@ -1,0 +1,16 @@
+//! What tells slots apart.
+ghost use Rattle.std.specs.Prelude.{◌≤◌};
+
+use crate::values::ValuesInOrder;
+use record_layout::KeyPart;
+
+/// What tells slots apart: the part of a record that is the prime key, the values that several slots
+/// have, the entries of the prime key, and the values of which entries lead to several slots.
+#[derive(Drop)]
+pub struct Doubts<'a> {
+    pub prime: KeyPart,
+    pub doubled: ValuesInOrder<'a>,
+    pub entries: ValuesInOrder<'a>,
+    pub led_twice: ValuesInOrder<'a>,
+    ghost short: { prime.length ≤ 250 },
+}
