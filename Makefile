@@ -10,7 +10,7 @@
 # `make dist` and `make deb` pack what `make test` has passed: an archive, and a package for Debian (see CONTRIBUTING.md);
 # `make install` puts the program that `make run` or `make test` built into PREFIX/bin, its manual page,
 # its completion for bash and its line for file(1) into PREFIX/share.
-.PHONY: try quick run test install library gnucobol bench dist deb
+.PHONY: try quick run test tried-program tried-library install library gnucobol bench dist deb
 
 SHELL = /bin/bash -o pipefail
 DECK = examples/payroll.deck
@@ -44,16 +44,22 @@ test:
 	docs/believed
 	share/write --check
 	RT_JOBS=$(LANES) rt ci | tee out/rt-ci
+	$(MAKE) --no-print-directory --output-sync=target -j2 tried-program tried-library
+	package/gate out/rt-ci $(PROGRAM) $(PROVED) > out/gate.new
+	package/test $(PROGRAM) $(PROVED) out/gate.new
+	mv out/gate.new out/gate
+
+# What the gate tries of what `rt ci` has built, and, side by side, the library over its proved part.
+tried-program:
 	cases/run $(PROGRAM)
 	cases/run-out-of-memory $(PROGRAM) $(LISTS)
+	docs/check $(PROGRAM)
+
+tried-library:
 	library/build-proved cobix_inside
 	library/test $(PROGRAM)
 	make -s -C library
 	gnucobol/test $(PROGRAM) 20
-	docs/check $(PROGRAM)
-	package/gate out/rt-ci $(PROGRAM) $(PROVED) > out/gate.new
-	package/test $(PROGRAM) $(PROVED) out/gate.new
-	mv out/gate.new out/gate
 
 # The proved part is a static library, which the gate proves and does not build.
 library:
