@@ -44,14 +44,14 @@ test:
 	docs/believed
 	share/write --check
 	RT_JOBS=$(LANES) rt ci | tee out/rt-ci
+	cases/run $(PROGRAM)
 	$(MAKE) --no-print-directory --output-sync=target -j2 tried-program tried-library
 	package/gate out/rt-ci $(PROGRAM) $(PROVED) > out/gate.new
 	package/test $(PROGRAM) $(PROVED) out/gate.new
 	mv out/gate.new out/gate
 
-# What the gate tries of what `rt ci` has built, and, side by side, the library over its proved part.
+# What the gate tries side by side: the rest of the program, and the library over its proved part.
 tried-program:
-	cases/run $(PROGRAM)
 	cases/run-out-of-memory $(PROGRAM) $(LISTS)
 	docs/check $(PROGRAM)
 

@@ -84,8 +84,11 @@ class Command:
         place = self.room.place / name
         shutil.copytree(self.first, place)
         words = [place if it is self.room.files else it for it in self.words]
-        given = {"input": self.stdin, "stdin": None} if self.stdin else {}
-        ended, made, failed = calls.made(words, place.with_suffix(".count"), **given)
+        # A file, and no pipe, from which a read takes what has come by then: so each run makes the same calls.
+        given = place.with_suffix(".input")
+        given.write_bytes(self.stdin)
+        with given.open("rb") as stdin:
+            ended, made, failed = calls.made(words, place.with_suffix(".count"), stdin=stdin)
         return ended, made, failed, place
 
     def fails(self, calls, name):
