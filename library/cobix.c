@@ -18,6 +18,7 @@ struct cobix_file {
     cobix *session; /* NULL where the number is free */
     uint16_t greatest;
     uint8_t number, key_count;
+    bool is_sequential;
     cobix_key keys[KEYS];
 };
 
@@ -282,6 +283,7 @@ int cobix_describe(cobix *session, const cobix_description *description, cobix_f
     if (why)
         return leave(session, why);
     made->session = session, made->greatest = description->greatest, made->key_count = (uint8_t)description->key_count;
+    made->is_sequential = description->access == COBIX_SEQUENTIAL;
     memcpy(made->keys, description->keys, description->key_count * sizeof *description->keys);
     *file = made;
     return leave(session, 0);
@@ -358,9 +360,10 @@ int cobix_write(cobix_file *file, const void *record, size_t length) { return st
 
 int cobix_rewrite(cobix_file *file, const void *record, size_t length) { return store(file, REWRITE, record, length); }
 
+/* Without a key the request would name the record whose bytes the record area has. In sequential access it names none. */
 int cobix_delete(cobix_file *file, const void *prime)
 {
-    int why = enter_file(file, true);
+    int why = enter_file(file, file && (prime || file->is_sequential));
     if (why)
         return why;
     uint8_t *at = put_verb(file, DELETE, 0, 0, 0, 0);

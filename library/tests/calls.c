@@ -6,11 +6,13 @@
 #include <dirent.h>
 #include <errno.h>
 #include <fcntl.h>
+#include <limits.h>
 #include <pthread.h>
 #include <signal.h>
 #include <stdlib.h>
 #include <string.h>
 #include <sys/file.h>
+#include <sys/resource.h>
 #include <sys/stat.h>
 #include <sys/wait.h>
 #include <unistd.h>
@@ -105,6 +107,7 @@ static void verbs(void)
     CHECK("release", cobix_release(file), 0);
     CHECK("release again", cobix_release(file), COBIX_MISUSE);
     CHECK("describe after release", cobix_describe(session, &d, &file), 0);
+    CHECK("no longer locked", cobix_open_file(file, COBIX_INPUT), 0);
     CHECK("close session", cobix_close(session), 0);
 }
 
@@ -134,6 +137,189 @@ static void sequential(void)
     CHECK("close session", cobix_close(session), 0);
 }
 
+/* What each access asks for of a WRITE, REWRITE and DELETE; and that each of them reads. */
+static void accesses(void)
+{
+    static const char *const names[] = {"BY-SEQUENCE", "AT-RANDOM", "DYNAMICALLY"};
+    for (unsigned access = COBIX_SEQUENTIAL; access <= COBIX_DYNAMIC; access++) {
+        cobix_file *file;
+        cobix *session = session_of(names[access], access, &file);
+        bool in_sequence = access == COBIX_SEQUENTIAL;
+        CHECK("output", cobix_open_file(file, COBIX_OUTPUT), 0);
+        CHECK("write", cobix_write(file, "00002AAA", 8), 0);
+        CHECK("a lower key", cobix_write(file, "00001BBB", 8), in_sequence ? COBIX_SEQUENCE : 0);
+        CHECK("a higher key", cobix_write(file, "00003CCC", 8), 0);
+        CHECK("close", cobix_close_file(file, false), 0);
+        CHECK("extend", cobix_open_file(file, COBIX_EXTEND), 0);
+        CHECK("write", cobix_write(file, "00004DDD", 8), in_sequence ? 0 : COBIX_NOT_FOR_WRITING);
+        CHECK("read", cobix_read_next(file, &record, &length), COBIX_NOT_FOR_READING);
+        CHECK("close", cobix_close_file(file, false), 0);
+        CHECK("i-o", cobix_open_file(file, COBIX_IO), 0);
+        CHECK("write", cobix_write(file, "00005EEE", 8), in_sequence ? COBIX_NOT_FOR_WRITING : 0);
+        CHECK("rewrite", cobix_rewrite(file, "00002ZZZ", 8), in_sequence ? COBIX_NOT_READ : 0);
+        CHECK("read by a key", cobix_read(file, 0, "00003", &record, &length), 0);
+        CHECK("another prime key", cobix_rewrite(file, "00009CCC", 8), in_sequence ? COBIX_SEQUENCE : COBIX_NOT_FOUND);
+        CHECK("start", cobix_start(file, 1, COBIX_NOT_LESS, "B", 1), 0);
+        CHECK("next", cobix_read_next(file, &record, &length), 0);
+        CHECK("its record", delivered(in_sequence ? "00003CCC" : "00001BBB"), true);
+        CHECK("delete", cobix_delete(file, "00003"), 0);
+        CHECK("it is gone", cobix_read(file, 0, "00003", &record, &length), COBIX_NOT_FOUND);
+        CHECK("close session", cobix_close(session), 0);
+    }
+}
+
+/* A DELETE by no key is of the record that was read, in sequential access alone. */
+static void delete_by_no_key(void)
+{
+    static const char *const names[] = {[COBIX_RANDOM] = "AT-RANDOM", [COBIX_DYNAMIC] = "DYNAMICALLY"};
+    for (unsigned access = COBIX_RANDOM; access <= COBIX_DYNAMIC; access++) {
+        cobix_file *file;
+        cobix *session = session_of(names[access], access, &file);
+        CHECK("i-o", cobix_open_file(file, COBIX_IO), 0);
+        CHECK("read", cobix_read(file, 0, "00001", &record, &length), 0);
+        CHECK("delete", cobix_delete(file, NULL), COBIX_MISUSE);
+        CHECK("it is there", cobix_read(file, 0, "00001", &record, &length), 0);
+        CHECK("close session", cobix_close(session), 0);
+    }
+}
+
+/* A file that may be absent. */
+static void optional(void)
+{
+    static const struct {
+        const char *name;
+        cobix_mode mode;
+        int opened, next;
+    } ways[] = {
+        {"OPTIONAL-INPUT", COBIX_INPUT, COBIX_NEW_OPTIONAL, COBIX_NO_FILE},
+        {"OPTIONAL-IO", COBIX_IO, COBIX_NEW_OPTIONAL, 0},
+        {"OPTIONAL-EXTEND", COBIX_EXTEND, COBIX_NEW_OPTIONAL, 0},
+        {"OPTIONAL-OUTPUT", COBIX_OUTPUT, 0, 0}};
+    for (unsigned i = 0; i < sizeof ways / sizeof *ways; i++) {
+        cobix *session;
+        cobix_file *file;
+        cobix_description d = described(ways[i].name, COBIX_DYNAMIC);
+        d.optional = true;
+        CHECK("a session", cobix_open(folder, NULL, &session), 0);
+        CHECK("a file", cobix_describe(session, &d, &file), 0);
+        CHECK(ways[i].name, cobix_open_file(file, ways[i].mode), ways[i].opened);
+        if (ways[i].mode == COBIX_INPUT) {
+            CHECK("no record", cobix_read(file, 0, "00001", &record, &length), COBIX_NOT_FOUND);
+            CHECK("no first one", cobix_read_next(file, &record, &length), COBIX_NO_POSITION);
+        }
+        CHECK("close session", cobix_close(session), 0);
+        session = session_of(ways[i].name, COBIX_DYNAMIC, &file);
+        CHECK("is it there", cobix_open_file(file, COBIX_INPUT), ways[i].next);
+        CHECK("close session", cobix_close(session), 0);
+    }
+}
+
+/* Descriptions with other lengths and keys than the file has. */
+static void other_attributes(void)
+{
+    static const cobix_key other[] = {{0, 5, false}, {5, 2, true}}, unique[] = {{0, 5, false}, {5, 3, false}};
+    cobix_file *file;
+    cobix *session = session_of("ATTRIBUTES", COBIX_DYNAMIC, &file);
+    cobix_description d = described("ATTRIBUTES", COBIX_DYNAMIC), all[5] = {d, d, d, d, d};
+    CHECK("output", cobix_open_file(file, COBIX_OUTPUT), 0);
+    CHECK("close session", cobix_close(session), 0);
+    all[0].least = 9, all[1].greatest = 21, all[2].key_count = 1, all[3].keys = other, all[4].keys = unique;
+    for (unsigned i = 0; i < sizeof all / sizeof *all; i++) {
+        CHECK("a session", cobix_open(folder, NULL, &session), 0);
+        CHECK("a file", cobix_describe(session, &all[i], &file), 0);
+        CHECK("other attributes", cobix_open_file(file, COBIX_INPUT), COBIX_OTHER_ATTRIBUTES);
+        CHECK("close session", cobix_close(session), 0);
+    }
+}
+
+/* The longest name, records and keys, and the most keys; the fewest pages, and the most frames. Writes until no page is left. */
+static void at_the_limits(void)
+{
+    const char *name = "a-NAME_of.sixty-four-characters-0123456789-0123456789-0123456789";
+    cobix *session;
+    cobix_file *file;
+    cobix_key most[9];
+    static char bytes[4000];
+    int status = 0, written = -1, left = 0;
+    for (uint16_t i = 0; i < 9; i++)
+        most[i] = (cobix_key){.offset = (uint16_t)(250 * i), .length = 250, .duplicates = i > 0};
+    cobix_description d = {.name = name, .access = COBIX_DYNAMIC, .least = 2250, .greatest = sizeof bytes, .key_count = 9, .keys = most};
+    CHECK("as long as a name may be", strlen(name), 64);
+    CHECK("a session", cobix_open(folder, &(cobix_limits){.pages = 16, .frames = 4096}, &session), 0);
+    CHECK("a file", cobix_describe(session, &d, &file), 0);
+    CHECK("output", cobix_open_file(file, COBIX_OUTPUT), 0);
+    for (; cobix_succeeded(status) && written < 99; written++) {
+        memset(bytes, '0' + written % 10, sizeof bytes), memcpy(bytes, &(char[]){(char)('A' + written / 10)}, 1);
+        status = cobix_write(file, bytes, sizeof bytes);
+    }
+    CHECK("no page is left", status, COBIX_FULL);
+    CHECK("close", cobix_close_file(file, false), 0);
+    CHECK("input", cobix_open_file(file, COBIX_INPUT), 0);
+    while (cobix_succeeded(cobix_read_next(file, &record, &length)))
+        left += length == sizeof bytes;
+    CHECK("what was written is there", left, written);
+    CHECK("close session", cobix_close(session), 0);
+}
+
+/* What a call is given is the caller's afterwards. What a read delivers stays, whatever another session does. */
+static void given_and_delivered(void)
+{
+    cobix *session, *other;
+    cobix_file *file, *in_other;
+    const void *first;
+    size_t first_length;
+    char path[4096], name[] = "GIVEN", bytes[] = "00001AAAfirst";
+    cobix_key own[2] = {keys[0], keys[1]};
+    cobix_limits limits = {.frames = 2};
+    cobix_description d = {.name = name, .access = COBIX_DYNAMIC, .least = 8, .greatest = 20, .key_count = 2, .keys = own};
+    snprintf(path, sizeof path, "%s", folder);
+    CHECK("a session", cobix_open(path, &limits, &session), 0);
+    memset(path, 'x', sizeof path - 1), limits.frames = 9999;
+    CHECK("a file", cobix_describe(session, &d, &file), 0);
+    memset(name, 'x', sizeof name - 1), memset(own, 0, sizeof own), memset(&d, 0, sizeof d);
+    CHECK("output", cobix_open_file(file, COBIX_OUTPUT), 0);
+    CHECK("write", cobix_write(file, bytes, 13), 0);
+    memset(bytes, 'x', sizeof bytes - 1);
+    CHECK("close", cobix_close_file(file, false), 0);
+    CHECK("input", cobix_open_file(file, COBIX_INPUT), 0);
+    CHECK("read by the alternate", cobix_read(file, 1, "AAA", &first, &first_length), 0);
+    other = session_of("STAFF", COBIX_DYNAMIC, &in_other);
+    CHECK("input in another session", cobix_open_file(in_other, COBIX_INPUT), 0);
+    CHECK("read there", cobix_read_next(in_other, &record, &length), 0);
+    CHECK("another record", delivered("00001CCCagain"), true);
+    CHECK("close the other session", cobix_close(other), 0);
+    record = first, length = first_length;
+    CHECK("what was delivered is there", delivered("00001AAAfirst"), true);
+    CHECK("close session", cobix_close(session), 0);
+}
+
+/* The lock of a session, as another run sees it by `flock`: none, shared, exclusive. */
+static int lock_of(const char *name)
+{
+    char path[4096];
+    snprintf(path, sizeof path, "%s/%s", folder, name);
+    int end = open(path, O_RDONLY), shared = flock(end, LOCK_SH | LOCK_NB), exclusive = flock(end, LOCK_EX | LOCK_NB);
+    close(end);
+    return shared ? LOCK_EX : exclusive ? LOCK_SH : LOCK_UN;
+}
+
+static void lock(void)
+{
+    cobix_file *file;
+    cobix *session = session_of("STAFF", COBIX_DYNAMIC, &file);
+    CHECK("described", lock_of("STAFF"), LOCK_UN);
+    CHECK("i-o", cobix_open_file(file, COBIX_IO), 0);
+    CHECK("read", cobix_read_next(file, &record, &length), 0);
+    CHECK("looked at", lock_of("STAFF"), LOCK_SH);
+    CHECK("write", cobix_write(file, "00007AAA", 8), 0);
+    CHECK("changed", lock_of("STAFF"), LOCK_EX);
+    CHECK("close", cobix_close_file(file, false), 0);
+    CHECK("closed", lock_of("STAFF"), LOCK_EX);
+    CHECK("release", cobix_release(file), 0);
+    CHECK("released", lock_of("STAFF"), LOCK_UN);
+    CHECK("close session", cobix_close(session), 0);
+}
+
 /* Descriptions that no file can have, wrong numbers, NULL. */
 static void wrong_descriptions(cobix *session)
 {
@@ -149,12 +335,36 @@ static void wrong_descriptions(cobix *session)
     CHECK("wrong lengths", cobix_describe(session, &wrong, &file), COBIX_DESCRIPTION);
     wrong = d, wrong.least = 7;
     CHECK("a key past the least", cobix_describe(session, &wrong, &file), COBIX_DESCRIPTION);
+    wrong = d, wrong.greatest = 4001;
+    CHECK("long records", cobix_describe(session, &wrong, &file), COBIX_DESCRIPTION);
+    wrong = d, wrong.name = ".hidden";
+    CHECK("a point first", cobix_describe(session, &wrong, &file), COBIX_DESCRIPTION);
+    wrong = d, wrong.name = "-option";
+    CHECK("a hyphen first", cobix_describe(session, &wrong, &file), COBIX_DESCRIPTION);
+    wrong = d, wrong.name = "no name";
+    CHECK("a space", cobix_describe(session, &wrong, &file), COBIX_DESCRIPTION);
     wrong = d, wrong.key_count = 10;
     CHECK("many keys", cobix_describe(session, &wrong, &file), COBIX_MISUSE);
+    wrong = d, wrong.key_count = 0;
+    CHECK("no keys", cobix_describe(session, &wrong, &file), COBIX_MISUSE);
     wrong = d, wrong.access = 7;
     CHECK("no access", cobix_describe(session, &wrong, &file), COBIX_MISUSE);
     CHECK("NULL", cobix_describe(session, NULL, &file), COBIX_MISUSE);
     CHECK("which gives none", file == NULL, true);
+}
+
+/* Keys that are too long, are none, begin at one place, or do not rise. */
+static void wrong_keys(cobix *session)
+{
+    static const cobix_key wrong[][3] = {
+        {{0, 251, false}}, {{0, 5, false}, {5, 0, true}}, {{0, 5, false}, {8, 2, true}, {8, 3, true}}, {{0, 5, false}, {8, 2, true}, {6, 2, true}},
+        {{8, 5, false}, {8, 2, true}}, {{0, 5, true}}};
+    static const unsigned counts[] = {1, 2, 3, 3, 2, 1};
+    cobix_file *file;
+    for (unsigned i = 0; i < sizeof counts / sizeof *counts; i++) {
+        cobix_description d = {.name = "WRONG", .access = COBIX_DYNAMIC, .least = 251, .greatest = 251, .key_count = counts[i], .keys = wrong[i]};
+        CHECK("wrong keys", cobix_describe(session, &d, &file), COBIX_DESCRIPTION);
+    }
 }
 
 static void misuse(void)
@@ -173,9 +383,9 @@ static void misuse(void)
     CHECK("NULL to close", cobix_close(NULL), 0);
     CHECK("describe in none", cobix_describe(NULL, &d, &file), COBIX_MISUSE);
     CHECK("open no file", cobix_open_file(NULL, COBIX_IO), COBIX_MISUSE);
-    CHECK("words", strcmp(cobix_message(30), cobix_message(35)) != 0, true);
     CHECK("a session", cobix_open(folder, NULL, &session), 0);
     wrong_descriptions(session);
+    wrong_keys(session);
     CHECK("describe", cobix_describe(session, &d, &file), 0);
     CHECK("no mode", cobix_open_file(file, 4), COBIX_MISUSE);
     CHECK("no record", cobix_write(file, NULL, 8), COBIX_MISUSE);
@@ -218,16 +428,34 @@ static void texts(void)
         CHECK("why not", i < GOOD ? 0 : errno, i < GOOD ? 0 : EILSEQ);
         CHECK("close", cobix_close(session), 0);
     }
-    CHECK("words for a number that is none", strlen(cobix_message(1000)) > 0, true);
+}
+
+/* Each answer has words, and what is none has others. */
+static void messages(void)
+{
+    static const int answers[] = {0,  2,  5,  10, 21, 22, 23, 24, 30, 35, 38, 39, 41, 42, 43, 44,
+                                  46, 47, 48, 49, 90, 91, 92, -1, -2, -3, -4, -5, -6, -7, -8, -9, -10};
+    const char *none = cobix_message(1000);
+    CHECK("words for a number that is none", strlen(none) > 0, true);
+    for (unsigned i = 0; i < sizeof answers / sizeof *answers; i++) {
+        CHECK("words of its own", strcmp(cobix_message(answers[i]), none) != 0, true);
+        for (unsigned j = 0; j < i; j++)
+            if (answers[i] != COBIX_NO_MEMORY)
+                CHECK("other words", strcmp(cobix_message(answers[i]), cobix_message(answers[j])) != 0, true);
+    }
 }
 
 /* The folder is that of cobix_open, wherever the process goes. A link or a folder is no file. */
 static void names(void)
 {
+    cobix *session;
     cobix_file *file;
-    cobix *session = session_of("LINKED", COBIX_DYNAMIC, &file);
+    cobix_description d = described("LINKED", COBIX_DYNAMIC);
     int here = open(".", O_RDONLY | O_DIRECTORY), there = open(folder, O_RDONLY | O_DIRECTORY);
+    CHECK("there", fchdir(there), 0);
+    CHECK("a session", cobix_open(".", NULL, &session), 0);
     CHECK("elsewhere", chdir("/"), 0);
+    CHECK("a file", cobix_describe(session, &d, &file), 0);
     CHECK("a link", symlinkat("STAFF", there, "LINKED"), 0);
     CHECK("is no file", cobix_open_file(file, COBIX_INPUT), COBIX_FAULT);
     CHECK("nor to be made", cobix_open_file(file, COBIX_OUTPUT), COBIX_FAULT);
@@ -309,18 +537,44 @@ static int ends_of(pid_t child)
     return status;
 }
 
-/* What a child of fork() sees: each call refused, and sessions of its own. */
+/* How many descriptors are open of files whose whole path begins so. */
+static int descriptors(const char *beginning)
+{
+    int count = 0;
+    DIR *all = opendir("/proc/self/fd");
+    for (const struct dirent *one = readdir(all); one; one = readdir(all)) {
+        char path[4096];
+        ssize_t size = readlinkat(dirfd(all), one->d_name, path, sizeof path - 1);
+        path[size < 0 ? 0 : size] = 0;
+        count += strncmp(path, beginning, strlen(beginning)) == 0;
+    }
+    closedir(all);
+    return count;
+}
+
+/* What a child of fork() sees: its parent's files closed, each call refused, and sessions of its own. */
 static int in_child(cobix *session, cobix_file *file)
 {
     cobix *own;
     cobix_file *in_own;
     cobix_description d = described("FORK", COBIX_DYNAMIC);
-    int wrong = cobix_write(file, "00001AAA", 8) != COBIX_FORKED;
-    wrong |= (cobix_close_file(file, false) != COBIX_FORKED) << 1;
-    wrong |= (cobix_open(folder, NULL, &own) != 0 || cobix_describe(own, &d, &in_own) != 0) << 2;
-    wrong |= (cobix_open_file(in_own, COBIX_INPUT) != COBIX_FAULT) << 3; /* the lock is the parent's */
-    wrong |= (cobix_close(session) != 0) << 4;
-    return wrong;
+    CHECK("descriptors of files", descriptors(folder), 0);
+    CHECK("describe", cobix_describe(session, &d, &in_own), COBIX_FORKED);
+    CHECK("open", cobix_open_file(file, COBIX_INPUT), COBIX_FORKED);
+    CHECK("read next", cobix_read_next(file, &record, &length), COBIX_FORKED);
+    CHECK("read", cobix_read(file, 0, "00001", &record, &length), COBIX_FORKED);
+    CHECK("start", cobix_start(file, 0, COBIX_EQUAL, "00001", 5), COBIX_FORKED);
+    CHECK("write", cobix_write(file, "00001AAA", 8), COBIX_FORKED);
+    CHECK("rewrite", cobix_rewrite(file, "00001AAA", 8), COBIX_FORKED);
+    CHECK("delete", cobix_delete(file, "00001"), COBIX_FORKED);
+    CHECK("close", cobix_close_file(file, false), COBIX_FORKED);
+    CHECK("release", cobix_release(file), COBIX_FORKED);
+    CHECK("a session of its own", cobix_open(folder, NULL, &own), 0);
+    CHECK("a file", cobix_describe(own, &d, &in_own), 0);
+    CHECK("the lock is the parent's", cobix_open_file(in_own, COBIX_INPUT), COBIX_FAULT);
+    CHECK("close the parent's", cobix_close(session), 0);
+    fflush(stdout);
+    return failed != 0; /* and exit closes its own session */
 }
 
 static void forked(void)
@@ -328,10 +582,11 @@ static void forked(void)
     cobix_file *file;
     cobix *session = session_of("FORK", COBIX_DYNAMIC, &file);
     CHECK("output", cobix_open_file(file, COBIX_OUTPUT), 0);
+    CHECK("descriptors of files", descriptors(folder) > 0, true);
     fflush(stdout);
     pid_t child = fork();
     if (child == 0)
-        exit(in_child(session, file)); /* closes its own session */
+        exit(in_child(session, file));
     CHECK("the child", ends_of(child), 0);
     CHECK("the parent", cobix_write(file, "00001AAA", 8), 0);
     CHECK("close", cobix_close_file(file, false), 0);
@@ -364,13 +619,17 @@ static void forked_and_left(void)
     CHECK("the child", ends_of(child), 0);
 }
 
-/* How a process ends while a file is open: by exit, by a signal between two verbs, and by _exit. */
+/* How a process ends while a file is open: by exit, by a signal between two verbs, by abort, and by _exit. */
 static void ends(void)
 {
     static const struct {
         const char *name;
         int signal, open;
-    } ways[] = {{"EXITED", 0, 0}, {"KILLED", SIGKILL, COBIX_UNSOUND}, {"ENDED", SIGTERM, COBIX_UNSOUND}, {"LEFT-OFF", -1, COBIX_UNSOUND}};
+    } ways[] = {{"EXITED", 0, 0},
+                {"KILLED", SIGKILL, COBIX_UNSOUND},
+                {"ENDED", SIGTERM, COBIX_UNSOUND},
+                {"ABORTED", SIGABRT, COBIX_UNSOUND},
+                {"LEFT-OFF", -1, COBIX_UNSOUND}};
     for (unsigned i = 0; i < sizeof ways / sizeof *ways; i++) {
         cobix_file *file;
         fflush(stdout);
@@ -378,6 +637,9 @@ static void ends(void)
         if (child == 0) {
             cobix *session = session_of(ways[i].name, COBIX_DYNAMIC, &file);
             int bad = cobix_open_file(file, COBIX_OUTPUT) || cobix_write(file, "00001AAA", 8) || !session;
+            setrlimit(RLIMIT_CORE, &(struct rlimit){0, 0});
+            if (ways[i].signal == SIGABRT)
+                abort();
             if (ways[i].signal > 0)
                 raise(ways[i].signal);
             if (ways[i].signal < 0)
@@ -391,6 +653,26 @@ static void ends(void)
         CHECK("made anew", cobix_open_file(file, COBIX_OUTPUT), ways[i].open ? 0 : COBIX_OPEN_ALREADY);
         CHECK("close session", cobix_close(session), 0);
     }
+}
+
+/* A file that was opened I-O, and read, and not changed, is as it was, though the process was killed. */
+static void killed_unchanged(void)
+{
+    cobix_file *file;
+    fflush(stdout);
+    pid_t child = fork();
+    if (child == 0) {
+        session_of("STAFF", COBIX_DYNAMIC, &file);
+        if (cobix_open_file(file, COBIX_IO) || cobix_read_next(file, &record, &length))
+            exit(1);
+        raise(SIGKILL);
+    }
+    CHECK("killed", ends_of(child), SIGKILL);
+    cobix *session = session_of("STAFF", COBIX_DYNAMIC, &file);
+    CHECK("as it was", cobix_open_file(file, COBIX_INPUT), 0);
+    CHECK("read", cobix_read_next(file, &record, &length), 0);
+    CHECK("its record", delivered("00001CCCagain"), true);
+    CHECK("close session", cobix_close(session), 0);
 }
 
 static cobix_file *kept;
@@ -411,28 +693,39 @@ static void at_the_end(void)
     CHECK("a call after the end", ends_of(child), 0);
 }
 
-static int descriptors(void)
+/* No other process, and no thread of the library's own. */
+static void alone(void)
 {
-    int count = 0;
-    DIR *all = opendir("/proc/self/fd");
+    int threads = 0;
+    DIR *all = opendir("/proc/self/task");
     while (readdir(all))
-        count++;
+        threads++;
     closedir(all);
-    return count;
+    CHECK("threads", threads - 2, 1);
+    CHECK("processes", waitpid(-1, NULL, WNOHANG), -1);
+    CHECK("there is none", errno, ECHILD);
 }
 
 int main(int count, char **words)
 {
-    if (count != 2)
+    static char whole[PATH_MAX];
+    if (count != 2 || !(folder = realpath(words[1], whole)))
         return 2;
-    folder = words[1];
     at_the_end(); /* first: its handler has to be registered before the library's */
-    int before = descriptors();
+    int before = descriptors("");
     verbs();
     sequential();
+    accesses();
+    delete_by_no_key();
+    optional();
+    other_attributes();
+    at_the_limits();
+    given_and_delivered();
+    lock();
     misuse();
     many_files();
     texts();
+    messages();
     names();
     two_sessions();
     changed_between();
@@ -440,6 +733,8 @@ int main(int count, char **words)
     forked();
     forked_and_left();
     ends();
-    CHECK("descriptors", descriptors(), before);
+    killed_unchanged();
+    alone();
+    CHECK("descriptors", descriptors(""), before);
     return told("calls");
 }

@@ -56,6 +56,7 @@ with cobix.Session(folder, frames=2) as session:
         raises(ValueError, None, file.write, record(123456))
         file.delete(5)
         raises(cobix.NotFound, 23, file.delete, 5)
+        raises(cobix.Misuse, -1, file.delete)
         file.rewrite(record(6, "CCC"))
         check("rewritten", file.read("CCC", key="group") == record(6, "CCC"))
     raises(cobix.Misuse, -8, make, session)
