@@ -1,10 +1,13 @@
 /* Threads: sessions side by side, one session passed from thread to thread, and calls that overlap in one session; and the locks of fork()
    and of the end of a process, of which ThreadSanitizer tells where they are taken in two orders.
+   The linker puts a function below in the place of fsync (--wrap), which holds a call in its midst.
    The last line is "threads: N passed, M failed".    usage: threads FOLDER, which is empty */
 #define _GNU_SOURCE
 #include "check.h"
 #include "cobix.h"
 #include <pthread.h>
+#include <semaphore.h>
+#include <stdatomic.h>
 #include <stdio.h>
 #include <stdlib.h>
 #include <string.h>
@@ -125,6 +128,69 @@ static void overlapping(void)
     CHECK("close session", cobix_close(session), 0);
 }
 
+static atomic_bool holds; /* the next fsync */
+static sem_t is_held, may_go_on;
+
+int __real_fsync(int end);
+int __wrap_fsync(int end);
+int __wrap_fsync(int end)
+{
+    if (atomic_exchange(&holds, false))
+        sem_post(&is_held), sem_wait(&may_go_on);
+    return __real_fsync(end);
+}
+
+static void *closes(void *file) { return (void *)(long)cobix_close_file(file, false); }
+
+/* Each call in the midst of another one in its session is refused. */
+static void refused(cobix *session)
+{
+    cobix_file *file;
+    const cobix_description d = {.name = "MORE", .access = COBIX_DYNAMIC, .least = 8, .greatest = 20, .key_count = 2, .keys = keys};
+    const void *record;
+    size_t length;
+    CHECK("describe", cobix_describe(session, &d, &file), COBIX_MISUSE);
+    CHECK("open", cobix_open_file(shared, COBIX_INPUT), COBIX_MISUSE);
+    CHECK("read next", cobix_read_next(shared, &record, &length), COBIX_MISUSE);
+    CHECK("read", cobix_read(shared, 0, "00001", &record, &length), COBIX_MISUSE);
+    CHECK("start", cobix_start(shared, 0, COBIX_EQUAL, "00001", 5), COBIX_MISUSE);
+    CHECK("write", cobix_write(shared, "00002AAA", 8), COBIX_MISUSE);
+    CHECK("rewrite", cobix_rewrite(shared, "00001BBB", 8), COBIX_MISUSE);
+    CHECK("delete", cobix_delete(shared, "00001"), COBIX_MISUSE);
+    CHECK("close", cobix_close_file(shared, true), COBIX_MISUSE);
+    CHECK("release", cobix_release(shared), COBIX_MISUSE);
+    CHECK("close session", cobix_close(session), COBIX_MISUSE);
+}
+
+/* A CLOSE is held in its midst. Its session refuses each call, and has done nothing of them; another session goes on. */
+static void in_the_midst(void)
+{
+    cobix_file *in_other;
+    cobix *session = session_of("MIDST", &shared), *other = session_of("MIDST-2", &in_other);
+    pthread_t thread;
+    void *closed;
+    const void *record;
+    size_t length;
+    sem_init(&is_held, 0, 0), sem_init(&may_go_on, 0, 0);
+    CHECK("output", cobix_open_file(shared, COBIX_OUTPUT), 0);
+    CHECK("write", cobix_write(shared, "00001AAA", 8), 0);
+    atomic_store(&holds, true);
+    CHECK("a thread begins", pthread_create(&thread, NULL, closes, shared), 0);
+    sem_wait(&is_held);
+    refused(session);
+    CHECK("output in another session", cobix_open_file(in_other, COBIX_OUTPUT), 0);
+    CHECK("write there", cobix_write(in_other, "00001AAA", 8), 0);
+    CHECK("close it", cobix_close(other), 0);
+    sem_post(&may_go_on);
+    pthread_join(thread, &closed);
+    CHECK("the close", (long)closed, 0);
+    CHECK("input", cobix_open_file(shared, COBIX_INPUT), 0);
+    CHECK("read", cobix_read_next(shared, &record, &length), 0);
+    CHECK("its record", length == 8 && memcmp(record, "00001AAA", 8) == 0, 1);
+    CHECK("the only one", cobix_read_next(shared, &record, &length), COBIX_END);
+    CHECK("close session", cobix_close(session), 0);
+}
+
 static int end_of(pid_t child)
 {
     int status = -1;
@@ -159,6 +225,7 @@ int main(int count, char **words)
     side_by_side();
     passed_on();
     overlapping();
+    in_the_midst();
     forking();
     return told("threads");
 }
