@@ -2,8 +2,9 @@
    writes less than was asked for; once, or each call from then on. Or the process is killed in its midst, a write half done.
    Then the file is looked at by a new session, as it is, and as each image that a crash of the machine may have left of it (disk.h):
    where the last CLOSE was answered 00 it has exactly the records that the statuses tell; else it is that, or what an earlier or a
-   later CLOSE was to leave, or it is refused.
-   The last line is "faults: N passed, M failed".    usage: faults FOLDER [COBIX], the program for `cobix check` */
+   later CLOSE was to leave, or it is refused. The same is tried of processes that are killed at so many moments, wherever they are.
+   The last line is "faults: N passed, M failed".    usage: faults FOLDER EVERY KILLS [COBIX]: every so many calls, at so many moments, and the
+   program for `cobix check` */
 #define _GNU_SOURCE
 #include "check.h"
 #include "cobix.h"
@@ -11,6 +12,7 @@
 #include <errno.h>
 #include <fcntl.h>
 #include <signal.h>
+#include <stdatomic.h>
 #include <stdbool.h>
 #include <stdlib.h>
 #include <string.h>
@@ -18,6 +20,7 @@
 #include <sys/mman.h>
 #include <sys/stat.h>
 #include <sys/wait.h>
+#include <time.h>
 #include <unistd.h>
 
 /* ---- faults */
@@ -28,13 +31,12 @@ static const char *const kinds[KINDS] = {"fails", "is interrupted", "is short", 
 static struct {
     enum kind kind;
     long at;    /* the call that is marred, from 1 */
-    long last;  /* the same, of the last session */
     bool stays; /* and each later one */
     long count; /* calls so far */
-    bool met;
     long tried; /* how often a file was found sound; every eighth is given to the program too */
 } fault;
 
+static bool *is_met;      /* whether a call was marred; shared with the child that performs the session, which may be killed */
 static struct disk *disk; /* NULL where calls are not traced */
 
 /* Whether this call is to be marred. */
@@ -42,7 +44,8 @@ static bool is_marred(void)
 {
     fault.count++;
     bool marred = fault.at && (fault.stays ? fault.count >= fault.at : fault.count == fault.at);
-    fault.met |= marred;
+    if (marred)
+        *is_met = true;
     return marred;
 }
 
@@ -114,12 +117,13 @@ struct rows {
     char record[KEYS][LENGTH + 1];
 };
 
-/* Shared with the child that performs the session, which may be killed. */
+/* Shared with that child, too. */
 static struct told {
     struct rows now, closed, closing; /* by the statuses; at the last CLOSE that answered 00; at the last CLOSE that began */
     bool was_closed, is_closing;      /* at least once; such a CLOSE is the last verb */
     bool is_exact;                    /* the last CLOSE was answered 00, and nothing was changed since */
     int bad, faults;                  /* answers that no status may give; answers 30, 90, 91 and 92 */
+    bool is_met;
 } *told_of;
 
 static const cobix_key keys[] = {{0, 5, false}, {5, 3, true}};
@@ -183,12 +187,23 @@ static void read_some(cobix_file *file, int key)
 }
 
 /* A CLOSE begins: that of the file, or of the session which has it open. */
-static void begin_close(void) { told_of->closing = told_of->now, told_of->is_closing = true; }
+static void begin_close(void)
+{
+    told_of->closing = told_of->now;
+    atomic_signal_fence(memory_order_seq_cst);
+    told_of->is_closing = true;
+}
 
+/* The records are noted before it is said of them that they are the file's: the process may be killed between. */
 static void end_close(int status)
 {
-    if (is_as(status, 0))
-        told_of->closed = told_of->now, told_of->was_closed = told_of->is_exact = true, told_of->is_closing = false;
+    if (!is_as(status, 0))
+        return;
+    told_of->closed = told_of->now;
+    atomic_signal_fence(memory_order_seq_cst);
+    told_of->was_closed = told_of->is_exact = true;
+    atomic_signal_fence(memory_order_seq_cst);
+    told_of->is_closing = false;
 }
 
 static void close_file(cobix_file *file)
@@ -346,48 +361,86 @@ static bool is_allowed(void)
     return is_closed || (told_of->is_closing && opened == 0 && are_same(&had, &told_of->closing));
 }
 
-/* Whether the file is as it may be, as it is and as each image of it. */
-static bool are_allowed(const char *kind, bool stays)
+/* Whether the file is as it may be: as it is, and as each image of it where calls are traced. */
+static bool are_allowed(const char *what)
 {
     static const char *const images[IMAGES] = {"", ", as synced", ", with zeros", ", with Cs", ", half as synced"};
-    disk_end(disk);
-    for (enum image image = 0; image < IMAGES; image++) {
+    if (disk)
+        disk_end(disk);
+    for (enum image image = 0; image < (disk ? IMAGES : AS_READ + 1); image++) {
         if (image != AS_READ)
             disk_leave(disk, image);
         if (told_of->bad || !is_allowed()) {
             failed++;
-            printf("FAILED: call %ld %s%s%s: %d bad answers, exact %d\n", fault.last, kind, stays ? ", and all later" : "", images[image],
-                   told_of->bad, told_of->is_exact);
+            printf("FAILED: %s%s: %d bad answers, exact %d\n", what, images[image], told_of->bad, told_of->is_exact);
             return false;
         }
     }
     return true;
 }
 
-/* Performs the session in a child with this fault. Whether the fault was met. */
-static bool run(enum kind kind, long at, bool stays)
+/* A child that performs the session with this fault. */
+static pid_t begin(enum kind kind, long at, bool stays)
 {
     char path[4096];
     snprintf(path, sizeof path, "%s/F", folder);
     unlink(path);
-    disk_begin(disk, path);
+    if (disk)
+        disk_begin(disk, path);
     memset(told_of, 0, sizeof *told_of);
-    fault.kind = kind, fault.at = at, fault.stays = stays, fault.count = 0, fault.met = false;
+    fault.kind = kind, fault.at = at, fault.stays = stays, fault.count = 0;
     fflush(stdout);
     pid_t child = fork();
     if (child == 0) {
         perform();
-        _exit(fault.met);
+        exit(0); /* where a sanitizer looks for memory that was not given back */
     }
-    int status = 0;
+    fault.at = 0;
+    return child;
+}
+
+/* Waits for its end, which is good, or a kill where that may be. Whether it was killed. */
+static bool is_killed(pid_t child, bool may_be)
+{
+    int status = -1;
     waitpid(child, &status, 0);
-    bool killed = WIFSIGNALED(status) && WTERMSIG(status) == SIGKILL && kind == IS_KILLED;
-    if (!killed && !WIFEXITED(status))
-        told_of->bad++;
-    bool met = killed || (WIFEXITED(status) && WEXITSTATUS(status) == 1);
-    fault.at = 0, fault.last = at;
-    passed += are_allowed(kinds[kind], stays) && met;
+    bool killed = WIFSIGNALED(status) && WTERMSIG(status) == SIGKILL;
+    told_of->bad += status != 0 && !(killed && may_be);
+    return killed;
+}
+
+/* Whether the fault was met. */
+static bool run(enum kind kind, long at, bool stays)
+{
+    char what[80];
+    bool killed = is_killed(begin(kind, at, stays), kind == IS_KILLED), met = told_of->is_met;
+    told_of->bad += kind == IS_KILLED && met != killed;
+    snprintf(what, sizeof what, "call %ld %s%s", at, kinds[kind], stays ? ", and all later" : "");
+    passed += are_allowed(what) && met;
     return met;
+}
+
+/* Kills processes at so many moments of the session. */
+static void kill_at_moments(long kills)
+{
+    struct timespec first, last;
+    long met = 0;
+    clock_gettime(CLOCK_MONOTONIC, &first);
+    CHECK("not killed", is_killed(begin(FAILS, 0, false), false), false);
+    clock_gettime(CLOCK_MONOTONIC, &last);
+    long whole = (last.tv_sec - first.tv_sec) * 1000000000 + last.tv_nsec - first.tv_nsec;
+    for (long i = 0; i < kills; i++) {
+        char what[80];
+        long after = whole / kills * i;
+        pid_t child = begin(FAILS, 0, false);
+        nanosleep(&(struct timespec){.tv_sec = after / 1000000000, .tv_nsec = after % 1000000000}, NULL);
+        kill(child, SIGKILL);
+        met += is_killed(child, true);
+        snprintf(what, sizeof what, "killed after %ld microseconds", after / 1000);
+        passed += are_allowed(what);
+    }
+    printf("    %ld of %ld processes were killed before their end\n", met, kills);
+    CHECK("some were killed", met > 0, kills > 0);
 }
 
 /* ---- pages that are held */
@@ -413,9 +466,10 @@ static void held_pages(void)
         cobix *session;
         cobix_file *file;
         char bytes[2 * LENGTH];
-        long well = 0;
+        long well = 0, before = fault.count;
         CHECK("a session", cobix_open(folder, usual ? NULL : &few, &session), 0);
         CHECK("described", cobix_describe(session, &described, &file), 0);
+        CHECK("nothing is asked of the system yet", fault.count, before);
         CHECK("output", cobix_open_file(file, COBIX_OUTPUT), 0);
         for (int i = 0; i < 10000; i++) {
             snprintf(bytes, sizeof bytes, "%05d%03d%12s", i * 7919 % 10000, i % 500, "");
@@ -432,21 +486,25 @@ static void held_pages(void)
 
 int main(int count, char **words)
 {
-    if (count < 2)
+    const long every = count > 3 ? atol(words[2]) : 0;
+    if (every < 1)
         return 2;
-    folder = words[1], program = count > 2 ? words[2] : NULL;
+    folder = words[1], program = count > 4 ? words[4] : NULL;
     told_of = mmap(NULL, sizeof *told_of, PROT_READ | PROT_WRITE, MAP_SHARED | MAP_ANONYMOUS, -1, 0);
-    held_pages();
+    is_met = &told_of->is_met;
+    if (every == 1)
+        held_pages();
+    kill_at_moments(atol(words[3]));
     disk = disk_new();
     CHECK("without a fault it is not met", run(FAILS, 0, false), false);
     CHECK("without a fault the file is exact", told_of->is_exact, true);
     CHECK("without a fault there is none", told_of->faults, 0);
     for (enum kind kind = 0; kind < KINDS; kind++)
         for (int stays = 0; stays < (kind == IS_KILLED ? 1 : 2); stays++) {
-            long n = 1;
-            while (run(kind, n, stays))
-                n++;
-            printf("    each of %ld calls %s%s\n", n - 1, kinds[kind], stays ? ", and all later" : "");
+            long n = 1 + (2 * (long)kind + stays) % every, met = 0;
+            for (; run(kind, n, stays); n += every)
+                met++;
+            printf("    %ld calls, each %s%s\n", met, kinds[kind], stays ? ", and all later" : "");
             CHECK("many calls", n > 100, 1);
         }
     return told("faults");
