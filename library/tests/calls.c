@@ -162,6 +162,12 @@ static void accesses(void)
         CHECK("start", cobix_start(file, 1, COBIX_NOT_LESS, "B", 1), 0);
         CHECK("next", cobix_read_next(file, &record, &length), 0);
         CHECK("its record", delivered(in_sequence ? "00003CCC" : "00001BBB"), true);
+        CHECK("start past all that begin so", cobix_start(file, 1, COBIX_GREATER, "B", 1), 0);
+        CHECK("next", cobix_read_next(file, &record, &length), 0);
+        CHECK("its record", delivered("00003CCC"), true);
+        CHECK("start at none that begins so", cobix_start(file, 1, COBIX_EQUAL, "X", 1), COBIX_NOT_FOUND);
+        CHECK("no position", cobix_read_next(file, &record, &length), COBIX_NO_POSITION);
+        CHECK("read by a key", cobix_read(file, 0, "00003", &record, &length), 0);
         CHECK("delete", cobix_delete(file, "00003"), 0);
         CHECK("it is gone", cobix_read(file, 0, "00003", &record, &length), COBIX_NOT_FOUND);
         CHECK("close session", cobix_close(session), 0);
@@ -675,10 +681,21 @@ static void killed_unchanged(void)
     CHECK("close session", cobix_close(session), 0);
 }
 
-static cobix_file *kept;
+static cobix *kept;
+static cobix_file *kept_file;
 
 /* Runs behind the library's own work at the end of the process. */
-static void after_the_end(void) { _exit(cobix_write(kept, "00002AAA", 8) != COBIX_ENDED); }
+static void after_the_end(void)
+{
+    cobix_file *file;
+    cobix_description d = described("MORE", COBIX_DYNAMIC);
+    CHECK("write", cobix_write(kept_file, "00002AAA", 8), COBIX_ENDED);
+    CHECK("close", cobix_close_file(kept_file, false), COBIX_ENDED);
+    CHECK("describe", cobix_describe(kept, &d, &file), COBIX_ENDED);
+    CHECK("close session", cobix_close(kept), 0);
+    fflush(stdout);
+    _exit(failed);
+}
 
 static void at_the_end(void)
 {
@@ -686,8 +703,8 @@ static void at_the_end(void)
     pid_t child = fork();
     if (child == 0) {
         atexit(after_the_end);
-        session_of("AT-END", COBIX_DYNAMIC, &kept);
-        cobix_open_file(kept, COBIX_OUTPUT);
+        kept = session_of("AT-END", COBIX_DYNAMIC, &kept_file);
+        cobix_open_file(kept_file, COBIX_OUTPUT);
         exit(2);
     }
     CHECK("a call after the end", ends_of(child), 0);
