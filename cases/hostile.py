@@ -515,19 +515,23 @@ def two_that_make(room):
 
 
 OPTIONAL = ("SELECT CUST", "SELECT OPTIONAL CUST")
+DONE = (GOOD, ["05", "00", "00"])
 
 
 def two_that_begin(room):
-    """Two runs open an optional file that is absent, and add a record each: each answered record is there, or its run was answered 30."""
+    """Two runs open an optional file that is absent, and add a record each: each answered record is there, or its run was answered 30.
+
+    A run that reads the file after the other made it and before that locked it is answered 91. The other is done, or it is answered 30 and leaves an empty file."""
     chosen = random.Random(3)
     kept = 0
     for round in range(ROUNDS):
         room.cust.unlink(missing_ok=True)
         texts = [deck("OPEN I-O CUST", *added(n), "CLOSE CUST").decode().replace(*OPTIONAL).encode() for n in (1, 2)]
         statuses = raced(room, texts, chosen)
-        done = [n for n, it in zip((1, 2), statuses) if it in (GOOD, ["05", "00", "00"])]
-        for it in statuses:
-            wants(it[-1] == "00" and it in (GOOD, ["05", "00", "00"]) or "30" in it, True, f"round {round}: whether a run that is not done was answered 30: {it}")
+        done = [n for n, it in zip((1, 2), statuses) if it in DONE]
+        for it, other in zip(statuses, reversed(statuses)):
+            met_unlocked = it[0] == "91" and (other in DONE or "30" in other and room.cust.stat().st_size == 0)
+            wants(it in DONE or "30" in it or met_unlocked, True, f"round {round}: whether a run that is not done was answered 30: {statuses}")
         if done:
             wants(records_of(room, room.cust), listed([record(n) for n in done]), f"round {round}: the records of the runs that are done, {statuses}")
         kept += len(done)
