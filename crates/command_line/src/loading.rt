@@ -176,7 +176,7 @@ pub fn load_deck<S: System + Drop, D: Disk, I: Read, R: RejectLog, P: Progress, 
                 path.as_str(),
                 &file.schema,
                 room,
-                end,
+                &end,
                 out,
             );
             (system, told)

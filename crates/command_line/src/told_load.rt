@@ -21,16 +21,16 @@ const MOST_BYTES: usize = 64;
 /// output.
 fn write_answer<W: Write>(
     room: Vec<u8>,
-    end: ShelfEnd,
+    end: &ShelfEnd,
     differences: &[u8],
     out: &mut W,
 ) -> Result<Outcome, Fault>
     requires { room.items ≡ [] }
-    ensures { WritesEnd end differences.now (W.contents out.old) (W.contents out.new) result }
+    ensures { WritesEnd end.now differences.now (W.contents out.old) (W.contents out.new) result }
 {
     let mut answer = room;
     if let ShelfEnd::Loaded(loaded) = end {
-        if add_answer(&mut answer, loaded).is_err() {
+        if add_answer(&mut answer, *loaded).is_err() {
             return Err(Fault::Output);
         }
         if out.write_all(&answer).is_err() {
@@ -40,7 +40,7 @@ fn write_answer<W: Write>(
     if out.write_all(differences).is_err() {
         return Err(Fault::Output);
     }
-    Ok(Outcome::Loaded(end))
+    Ok(Outcome::Loaded(*end))
 }
 
 /// Tells how a load ended into the file of a path. Where OPEN found the file to be of another schema,
@@ -52,14 +52,14 @@ pub fn tell_end<S: System, W: Write>(
     path: &str,
     schema: &Schema,
     room: Vec<u8>,
-    end: ShelfEnd,
+    end: &ShelfEnd,
     out: &mut W,
 ) -> Result<Outcome, Fault>
     requires { room.items ≡ [] }
-    ensures { ByReads (λ calls. TellsLoad path.now schema.now (Ok end) calls
+    ensures { ByReads (λ calls. TellsLoad path.now schema.now (Ok end.now) calls
         (W.contents out.old) (W.contents out.new) result) (S.state system.old) (S.state system.new) }
 {
-    if !is_compared(end) {
+    if !is_compared(*end) {
         return write_answer(room, end, &[], out);
     }
     match differences_at(system, alloc, path, schema) {

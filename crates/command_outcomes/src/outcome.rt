@@ -11,7 +11,7 @@ use file_checker::{Reason, Verdict};
 use file_statistics::FileStatisticsEnd;
 use pages::FaultPlace;
 use record_listing::FileList;
-use record_loading::{ShelfEnd, is_loaded};
+use record_loading::{ShelfEnd, is_loaded, write_end_mistake};
 use salvaged_records::Salvage;
 use schema_listing::{Comparison, Refusal};
 use std::io::{self, Write};
@@ -175,6 +175,23 @@ fn tell_salvage<E: Write>(end: Salvage, err: &mut E) -> io::Result<()> {
     }
 }
 
+/// Tells that a file was not made, or what is wrong with the line that ended a load, if it is no
+/// record's.
+fn tell_load<E: Write>(end: &ShelfEnd, err: &mut E) -> io::Result<()> {
+    match end {
+        ShelfEnd::IsThere => writeln!(err, "cobix: the file is there already"),
+        ShelfEnd::Loaded(end) => write_end_mistake(err, *end),
+    }
+}
+
+/// Tells that, and answers the exit status that tells what became of a load.
+fn report_load<E: Write>(end: &ShelfEnd, err: &mut E) -> u8
+    ensures { result ≡ status_of_load end.now }
+{
+    let _ = tell_load(end, err);
+    status_by_load(*end)
+}
+
 impl Outcome {
     /// Tells what was salvaged of a file, or why a file has no schema or no list, is of another schema
     /// than a deck, was not made, or was not read, on standard error, as far as that takes it, and
@@ -200,10 +217,10 @@ impl Outcome {
         if let Outcome::CheckedAll(WorstCheck::Unread) = self {
             let _ = writeln!(err, "{}", Fault::Input);
         }
-        if let Outcome::Loaded(ShelfEnd::IsThere) = self {
-            let _ = writeln!(err, "cobix: the file is there already");
+        match self {
+            Outcome::Loaded(end) => report_load(&end, err),
+            other => other.status(),
         }
-        self.status()
     }
 
     fn status(self) -> u8

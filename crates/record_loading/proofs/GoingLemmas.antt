@@ -17,6 +17,8 @@ use Rattle.verbs.proofs.WorldLemmas.{only_twice}
 use Rattle.record_forms.specs.declared.form.Form.{Form}
 use Rattle.record_listing.proofs.WorldLemmas.{keeps_self, keeps_both, still_true}
 use Rattle.record_reading.specs.ReadLine.{ReadsRecord, BeginsWithNoRecord}
+use Rattle.record_reading.specs.Mistake.{IsLineMistake}
+use Rattle.record_reading.specs.declared.mistake.LineMistake.{LineMistake}
 use Rattle.record_loading.specs.declared.options.LoadOptions.{LoadOptions}
 use Rattle.record_loading.specs.declared.rejected.RejectReason.TheVariants.{Refused, NoRecord}
 use Rattle.record_loading.specs.declared.writing.PassedLine.TheVariants.{Written, Rejected, Stopped}
@@ -91,22 +93,26 @@ module _ {S : Type 0} (shown : Shown S) (options : LoadOptions) (form : Form) (t
 
   -- no record was read, and nothing was done
   module _ (same : length area_now ≡ length area) (fits : Fits held (shown.world library) 0) (none : BeginsWithNoRecord form text held.connector.schema.least (length area))
+      (mistake : LineMistake) (is_wrong : IsLineMistake form text held.connector.schema.least (length area) mistake)
       (whole : length area ≡ held.connector.schema.greatest) (some : 0 < length text) where
     none_of : BeginsWithNoRecord form text held.connector.schema.least held.connector.schema.greatest
     none_of = subst (λ (greatest : ℕ). BeginsWithNoRecord form text held.connector.schema.least greatest) whole none
 
-    pub nothing_passed : (behind : Bor (List ℕ)) → behind.now ≡ behind_line text → options.keep_going ≡ true → PassesLineOf shown options form text now (in_memory held library area_now) (Rejected NoRecord behind)
+    wrong_of : IsLineMistake form text held.connector.schema.least held.connector.schema.greatest mistake
+    wrong_of = subst (λ (greatest : ℕ). IsLineMistake form text held.connector.schema.least greatest mistake) whole is_wrong
+
+    pub nothing_passed : (behind : Bor (List ℕ)) → behind.now ≡ behind_line text → options.keep_going ≡ true → PassesLineOf shown options form text now (in_memory held library area_now) (Rejected (NoRecord mistake) behind)
     nothing_passed behind is going = record {
       goes = goes_self shown held library fits;
       shorter = subst (λ (l : List ℕ). length l < length text) (sym is) (behind_shorter text some);
-      line = λ honest truly standing. (going, record { some = some; none = none_of; behind = is; area = area_now; area_length = same; file = refl });
+      line = λ honest truly standing. (going, record { some = some; none = none_of; wrong = wrong_of; behind = is; area = area_now; area_length = same; file = refl });
     }
 
-    pub nothing_ends : options.keep_going ≡ false → PassesLineOf shown options form text now (in_memory held library area_now) (Stopped NoRecord)
+    pub nothing_ends : options.keep_going ≡ false → PassesLineOf shown options form text now (in_memory held library area_now) (Stopped (NoRecord mistake))
     nothing_ends stays = record {
       goes = goes_self shown held library fits;
       shorter = tt;
-      line = λ honest truly standing. (area, [], record { some = some; none = none_of; ends = stays; file = refl });
+      line = λ honest truly standing. (area, [], record { some = some; none = none_of; wrong = wrong_of; ends = stays; file = refl });
     }
 
   -- a record was read, and WRITE was answered so

@@ -10,3 +10,4 @@ mod PassingLemmas
 mod PassedLemmas
 mod PlaceLemmas
 mod UsualLemmas
+mod MistakeLemmas

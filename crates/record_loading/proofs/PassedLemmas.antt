@@ -37,4 +37,4 @@ pub ended_at : (schema : Schema) (list : Listing) (start : FileState) (place : P
     → IsEnd schema list.source.form list.source.options.keep_going reason (record { text = place.rest; behind = behind; before = place.file; after = after })
     → LinesLeave schema list start (lines_end (number_of_line list.source place) reason) after
 ended_at schema list start place behind after (Refused status) so_far told end = record { place = place; passed = so_far; told = told; line_is = refl; behind = behind; end = end }
-ended_at schema list start place behind after NoRecord so_far told end = inr (record { place = place; passed = so_far; told = told; line_is = refl; behind = behind; end = end })
+ended_at schema list start place behind after (NoRecord mistake) so_far told end = inr (record { place = place; passed = so_far; told = told; line_is = refl; behind = behind; end = end })

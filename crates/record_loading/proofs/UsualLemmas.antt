@@ -31,8 +31,8 @@ module _ (schema : Schema) (mode : OpenMode) (form : Form) (text : List ℕ) (to
   lines_untold : (before : FileState) (lines : LinesEnd) (after : FileState) → LinesLeave schema list before lines after → told ≡ []
   lines_untold before (Loaded records rejected) after is = none_told schema list.source refl is.passed.count _ _ is.passed.passed
   lines_untold before (Refused line status) after is = sym is.told ∙ none_told schema list.source refl is.passed.count _ _ is.passed.passed
-  lines_untold before (NoRecord line) after (inl is) = is.told
-  lines_untold before (NoRecord line) after (inr is) = sym is.told ∙ none_told schema list.source refl is.passed.count _ _ is.passed.passed
+  lines_untold before (NoRecord line mistake) after (inl is) = is.told
+  lines_untold before (NoRecord line mistake) after (inr is) = sym is.told ∙ none_told schema list.source refl is.passed.count _ _ is.passed.passed
 
   untold : (before : FileState) (end : LoadEnd) (after : FileState) → Loads schema mode list before end after → told ≡ []
   untold before (NotOpened status) after is = is.1

@@ -29,7 +29,7 @@ line_start line = codes "line " ++ (decimal line ++ codes ": ")
 -- why the record of a line was not written, to the end of its line
 abbrev pub reason_text : RejectReason → List ℕ
 reason_text (Refuses status) = status_text status
-reason_text IsNoRecordEnd = codes "no record of this file\n"
+reason_text (IsNoRecordEnd mistake) = codes "no record of this file\n"
 
 -- what is told of a line whose record was not written
 abbrev pub told_line_text : ℕ → RejectReason → List ℕ
@@ -41,7 +41,7 @@ abbrev pub told_lines : LinesEnd → Status → List ℕ
 told_lines (Loaded records rejected) closed =
     if is_successful closed then loaded_text records rejected else []
 told_lines (Refused line status) closed = told_line_text line (Refuses status)
-told_lines (NoRecord line) closed = told_line_text line IsNoRecordEnd
+told_lines (NoRecord line mistake) closed = told_line_text line (IsNoRecordEnd mistake)
 
 -- what CLOSE answered, where it was no success
 abbrev pub told_close : Status → List ℕ
@@ -57,4 +57,4 @@ abbrev pub is_loaded : LoadEnd → Bool
 is_loaded (NotOpened status) = false
 is_loaded (Opened (Loaded records rejected) closed) = rejected == 0 && is_successful closed
 is_loaded (Opened (Refused line status) closed) = false
-is_loaded (Opened (NoRecord line) closed) = false
+is_loaded (Opened (NoRecord line mistake) closed) = false

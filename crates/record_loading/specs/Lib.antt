@@ -5,3 +5,4 @@ pub mod Answer
 pub mod Loaded
 pub mod Passing
 pub mod Told
+pub mod MistakeLine

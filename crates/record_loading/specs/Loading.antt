@@ -17,6 +17,8 @@ use Rattle.verbs.specs.Verbs.{perform}
 use Rattle.record_forms.specs.declared.form.Form.{Form}
 use Rattle.record_forms.specs.Lines.{form_header}
 use Rattle.record_reading.specs.Header.{LacksHeader}
+use Rattle.record_reading.specs.declared.mistake.LineMistake.{LineMistake}
+use Rattle.record_reading.specs.declared.mistake.LineMistake.TheVariants.{Names}
 use Rattle.record_loading.specs.declared.end.Load.{Load}
 use Rattle.record_loading.specs.declared.end.Load.TheVariants.{New, Into}
 use Rattle.record_loading.specs.declared.end.LinesEnd.{LinesEnd}
@@ -85,9 +87,10 @@ pub record IsEndedAt (schema : Schema) (list : Listing) (before : FileState) (li
       (record { text = place.rest; behind = behind; before = place.file; after = after })
 
 -- the text does not begin with what stands before its first line (for text that is nothing, and
--- each text begins with that), and nothing was written and told
-pub record IsHeadless (list : Listing) (line : ℕ) (before after : FileState) : Type 0 where
+-- each text begins with that), which is its mistake, and nothing was written and told
+pub record IsHeadless (list : Listing) (line : ℕ) (mistake : LineMistake) (before after : FileState) : Type 0 where
   pub line_is : line ≡ 1
+  pub mistake_is : mistake ≡ Names
   pub lacks : LacksHeader list.source.form list.source.text
   pub told : list.told ≡ []
   pub file : after ≡ before
@@ -99,8 +102,8 @@ LinesLeave schema list before (Loaded records rejected) after =
     ArePassed schema list before records rejected after
 LinesLeave schema list before (Refused line status) after =
     IsEndedAt schema list before line (Refuses status) after
-LinesLeave schema list before (NoRecord line) after =
-    IsHeadless list line before after ⊎ IsEndedAt schema list before line IsNoRecord after
+LinesLeave schema list before (NoRecord line mistake) after =
+    IsHeadless list line mistake before after ⊎ IsEndedAt schema list before line (IsNoRecord mistake) after
 
 -- OPEN should be a success, and it was; then came the lines, and CLOSE was answered so
 pub record IsLoaded (schema : Schema) (mode : OpenMode) (list : Listing) (before : FileState)

@@ -14,6 +14,8 @@ use Rattle.record_forms.specs.declared.form.Form.{Form}
 use Rattle.record_forms.specs.Lines.{line_in}
 use Rattle.record_reading.specs.ReadLine.{AreBytes, BeginsWithNoRecord}
 use Rattle.record_reading.specs.Header.{header_lines}
+use Rattle.record_reading.specs.Mistake.{IsLineMistake}
+use Rattle.record_reading.specs.declared.mistake.LineMistake.{LineMistake}
 use Rattle.record_loading.specs.declared.end.LinesEnd.{LinesEnd}
 use Rattle.record_loading.specs.declared.end.LinesEnd.TheVariants as ends
 use Rattle.record_loading.specs.declared.options.LoadOptions.{LoadOptions}
@@ -84,11 +86,12 @@ pub record IsRefusedForKeys (schema : Schema) (form : Form) (status : Status) (l
   pub same_file : line.after.file ≡ line.before.file
   pub same_name : line.after.named ≡ line.before.named
 
--- the line is that of no record that the file can have: it is passed over up to its LF, and the file is as
--- it was; in the record area other bytes may be
-pub record IsOfNoRecord (schema : Schema) (form : Form) (line : Passing) : Type 0 where
+-- the line is that of no record that the file can have, and has this mistake: it is passed over up to its
+-- LF, and the file is as it was; in the record area other bytes may be
+pub record IsOfNoRecord (schema : Schema) (form : Form) (mistake : LineMistake) (line : Passing) : Type 0 where
   pub some : 0 < length line.text
   pub none : BeginsWithNoRecord form line.text schema.least schema.greatest
+  pub wrong : IsLineMistake form line.text schema.least schema.greatest mistake
   pub behind : line.behind ≡ behind_line line.text
   pub area : List ℕ
   pub area_length : length area ≡ length line.before.area
@@ -97,7 +100,7 @@ pub record IsOfNoRecord (schema : Schema) (form : Form) (line : Passing) : Type 
 -- the line was rejected for this reason
 abbrev pub IsRejected : Schema → Form → RejectReason → Passing → Type 0
 IsRejected schema form (Refused status) line = IsRefusedForKeys schema form status line
-IsRejected schema form NoRecord line = IsOfNoRecord schema form line
+IsRejected schema form (NoRecord mistake) line = IsOfNoRecord schema form mistake line
 
 -- the line is that of a record whose WRITE was answered so, which is no success, and it ends the lines
 pub record IsRefusal (schema : Schema) (form : Form) (keep_going : Bool) (status : Status) (line : Passing)
@@ -109,17 +112,19 @@ pub record IsRefusal (schema : Schema) (form : Form) (keep_going : Bool) (status
   pub no_success : is_successful status ≡ false
   pub ends : IsTrue (ends_lines keep_going status)
 
--- the line is that of no record that the file can have, and it ends the lines
-pub record IsNoRecordEnd (schema : Schema) (form : Form) (keep_going : Bool) (line : Passing) : Type 0 where
+-- the line is that of no record that the file can have, and has this mistake; and it ends the lines
+pub record IsNoRecordEnd (schema : Schema) (form : Form) (keep_going : Bool) (mistake : LineMistake) (line : Passing)
+    : Type 0 where
   pub some : 0 < length line.text
   pub none : BeginsWithNoRecord form line.text schema.least schema.greatest
+  pub wrong : IsLineMistake form line.text schema.least schema.greatest mistake
   pub ends : keep_going ≡ false
   pub file : line.after ≡ line.before
 
 -- the line ended the lines, for this reason
 abbrev pub IsEnd : Schema → Form → (keep_going : Bool) → RejectReason → Passing → Type 0
 IsEnd schema form keep_going (Refused status) line = IsRefusal schema form keep_going status line
-IsEnd schema form keep_going NoRecord line = IsNoRecordEnd schema form keep_going line
+IsEnd schema form keep_going (NoRecord mistake) line = IsNoRecordEnd schema form keep_going mistake line
 
 -- ---- lines
 
@@ -180,4 +185,4 @@ PassesLines schema source (suc count) before after =
 -- how lines end at a line of this number
 abbrev pub lines_end : ℕ → RejectReason → LinesEnd
 lines_end line (Refused status) = ends.Refused line status
-lines_end line NoRecord = ends.NoRecord line
+lines_end line (NoRecord mistake) = ends.NoRecord line mistake

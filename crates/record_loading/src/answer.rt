@@ -83,7 +83,7 @@ fn add_reason(answer: &mut Vec<u8>, reason: RejectReason) -> Result<(), AllocErr
 {
     match reason {
         RejectReason::Refused(status) => add_status(answer, status),
-        RejectReason::NoRecord => add(answer, b"no record of this file\n"),
+        RejectReason::NoRecord(_) => add(answer, b"no record of this file\n"),
     }
 }
 
@@ -109,7 +109,9 @@ fn add_lines(answer: &mut Vec<u8>, lines: LinesEnd, closed: Status) -> Result<()
         LinesEnd::Refused { line, status } => {
             add_line(answer, line, RejectReason::Refused(status))
         }
-        LinesEnd::NoRecord { line } => add_line(answer, line, RejectReason::NoRecord),
+        LinesEnd::NoRecord { line, mistake } => {
+            add_line(answer, line, RejectReason::NoRecord(mistake))
+        }
     }
 }
 

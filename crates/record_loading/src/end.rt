@@ -3,6 +3,7 @@ ghost use Rattle.std.specs.Prelude.{◌≡◌};
 ghost use Rattle.record_loading.specs.Loading.{mode_of};
 
 use io_state::{OpenMode, Status};
+use record_reading::LineMistake;
 use thiserror::Error;
 
 /// Into what records are loaded.
@@ -22,9 +23,9 @@ pub enum LinesEnd {
     /// The WRITE of the record of this line was no success. Those of the lines before it were written,
     /// but for lines that were skipped or rejected.
     Refused { line: u64, status: Status },
-    /// This line is the line of no record that the file can have. The records of the lines before
-    /// it were written, but for lines that were skipped.
-    NoRecord { line: u64 },
+    /// This line is the line of no record that the file can have, and has this mistake. The records of
+    /// the lines before it were written, but for lines that were skipped or rejected.
+    NoRecord { line: u64, mistake: LineMistake },
 }
 
 /// What became of a load.

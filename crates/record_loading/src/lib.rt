@@ -11,7 +11,8 @@
 //! line is skipped, and the first that is rejected ends the load. A new file is made only where its name
 //! has none: a load never replaces a file. What is promised is said of the files of the shelf alone:
 //! what a read gives of them before the load and after it, and what a crash may leave of them in
-//! between. `add_answer` makes the lines that tell of a load.
+//! between. `add_answer` makes the lines that tell of a load, and `write_mistake` the line that tells
+//! what is wrong with a line that is no record's.
 //!
 //! Read `record_reading` for a line, `specs/Passing.antt` for what comes of a line, `specs/Loading.antt`
 //! for what is promised, and then `loading`;
@@ -21,6 +22,7 @@
 mod answer;
 mod end;
 mod loading;
+mod mistake_line;
 mod options;
 mod passing;
 mod rejected;
@@ -31,6 +33,7 @@ mod writing;
 pub use answer::{add_answer, add_rejected_line, is_loaded};
 pub use end::{LinesEnd, Load, LoadEnd, LoadFault};
 pub use loading::load_records;
+pub use mistake_line::{write_end_mistake, write_mistake};
 pub use options::LoadOptions;
 pub use rejected::{RejectLog, RejectReason, RejectedLine};
 pub use shelf_end::{ShelfEnd, ShelfFault, is_compared};

@@ -3,14 +3,15 @@ ghost use Rattle.std.specs.Prelude.{◌≡◌};
 ghost use Rattle.record_loading.specs.Passing.{is_refused_for_keys};
 
 use io_state::Status;
+use record_reading::LineMistake;
 
 /// Why a line is rejected.
 #[derive(Clone, Copy, Debug, PartialEq, Eq)]
 pub enum RejectReason {
     /// The WRITE of its record was answered so.
     Refused(Status),
-    /// It is the line of no record that the file can have.
-    NoRecord,
+    /// It is the line of no record that the file can have, and has this mistake.
+    NoRecord(LineMistake),
 }
 
 /// A line that a load rejected and passed over; the first line of the text is line 1.

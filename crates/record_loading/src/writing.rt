@@ -14,7 +14,7 @@ use crate::rejected::{RejectLog, RejectReason, RejectedLine, is_refused_for_keys
 use indexed_file::Library;
 use io_state::Status;
 use record_forms::Form;
-use record_reading::{behind_header, header_lines, read_record};
+use record_reading::{LineMistake, behind_header, header_lines, record_or_mistake};
 use streams::Progress;
 use verbs::Connector;
 
@@ -41,7 +41,7 @@ fn stopped_at(line: u64, reason: RejectReason) -> LinesEnd
 {
     match reason {
         RejectReason::Refused(status) => LinesEnd::Refused { line, status },
-        RejectReason::NoRecord => LinesEnd::NoRecord { line },
+        RejectReason::NoRecord(mistake) => LinesEnd::NoRecord { line, mistake },
     }
 }
 
@@ -67,11 +67,14 @@ fn pass_line<'a, L: Library>(
     ensures { PassesLineOf L.shown options form.now text.now (in_memory connector.old lib.old area.old)
         (in_memory connector.new lib.new area.new) result }
 {
-    let Some(line) = read_record(form, text, least, area) else {
-        if options.keep_going {
-            return PassedLine::Rejected(RejectReason::NoRecord, behind_line(text));
+    let line = match record_or_mistake(form, text, least, area) {
+        Ok(line) => line,
+        Err(mistake) => {
+            if options.keep_going {
+                return PassedLine::Rejected(RejectReason::NoRecord(mistake), behind_line(text));
+            }
+            return PassedLine::Stopped(RejectReason::NoRecord(mistake));
         }
-        return PassedLine::Stopped(RejectReason::NoRecord);
     };
     let status = connector.write(lib, 0, area, line.length as u16);
     if status.is_success() {
@@ -157,7 +160,10 @@ pub fn write_listing<L: Library, P: Progress, R: RejectLog>(
         result) }
 {
     let Some(lines) = behind_header(text, header) else {
-        return LinesEnd::NoRecord { line: 1 };
+        return LinesEnd::NoRecord {
+            line: 1,
+            mistake: LineMistake::Names,
+        };
     };
     write_lines(
         connector, lib, least, area, form, options, text, lines, rejects, progress,

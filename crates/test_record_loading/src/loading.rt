@@ -10,7 +10,7 @@ use record_layout::{KeyKind, KeyPart, Schema};
 use record_listing::{Asked, ListEnd, list_records};
 use record_loading::{
     Load, LoadOptions, RejectLog, RejectedLine, ShelfEnd, add_answer, add_rejected_line,
-    load_lines_on_shelf,
+    load_lines_on_shelf, write_end_mistake, write_mistake,
 };
 use shelf_library::ShelfLibrary;
 use std::alloc::Global;
@@ -43,19 +43,21 @@ fn codes(rt: &impl Abort) -> Schema {
     schema(6, 8, &PARTS).expect(rt, "a schema")
 }
 
-/// The lines that are told of the end of a load, or that the name has a file.
+/// The lines that are told of the end of a load, with the mistake of its last line, or that the name has
+/// a file.
 fn reported(rt: &impl Abort, alloc: Global, end: ShelfEnd) -> String {
-    match end {
+    match &end {
         ShelfEnd::IsThere => "is there".to_string(alloc).expect(rt, "memory"),
         ShelfEnd::Loaded(end) => {
             let mut answer = Vec::new(alloc);
-            add_answer(&mut answer, end).expect(rt, "memory");
+            add_answer(&mut answer, *end).expect(rt, "memory");
+            write_end_mistake(&mut answer, *end).expect(rt, "memory");
             String::from_utf8(answer).expect(rt, "a text")
         }
     }
 }
 
-/// The lines that tell of rejected ones, as far as there is memory for them.
+/// The lines that tell of rejected ones and of their mistakes, as far as there is memory for them.
 #[derive(Drop)]
 struct RejectedLines {
     lines: Vec<u8>,
@@ -65,7 +67,9 @@ impl RejectLog for RejectedLines {
     ghost tells = { λ _ _ _. ⊤ };
 
     fn tell(&mut self, rejected: RejectedLine) {
-        let _told = add_rejected_line(&mut self.lines, rejected);
+        let line = &rejected;
+        let _told = add_rejected_line(&mut self.lines, *line);
+        let _mistake = write_mistake(&mut self.lines, line.line, line.reason);
     }
 }
 

@@ -66,28 +66,45 @@ fn a_line_whose_record_is_refused_ends_a_load(rt: HostRuntime) {
     }
 }
 
-// Lines that are those of no record.
-const NO_RECORDS: [&str; 13] = [
-    "[0002B]\n",
-    "[0002BBXXX]\n",
-    "0002BB\n",
-    "[0002BB\n",
-    "[0002BB]",
-    "[0002BB]\r\n",
-    "[0002BB] \n",
-    "[0002B\\42]\n",
-    "[0002B\\0A]\n",
-    "[0002B\\]\n",
-    "[0002B\t]\n",
-    "\n",
-    "[]\n",
+// Lines that are those of no record, each with its mistake.
+const NO_RECORDS: [[&str; 2]; 13] = [
+    ["[0002B]\n", "5 characters, 6 to 8 wanted\n"],
+    ["[0002BBXXX]\n", "9 characters, 6 to 8 wanted\n"],
+    ["0002BB\n", "no [ at its beginning\n"],
+    ["[0002BB\n", "6 characters, then no ] and LF\n"],
+    ["[0002BB]", "7 characters, then no ] and LF\n"],
+    [
+        "[0002BB]\r\n",
+        "7 characters, then byte 0d, which no list writes\n",
+    ],
+    ["[0002BB] \n", "8 characters, then no ] and LF\n"],
+    [
+        "[0002B\\42]\n",
+        "5 characters, then an escape that no list writes\n",
+    ],
+    [
+        "[0002B\\0A]\n",
+        "5 characters, then an escape that no list writes\n",
+    ],
+    [
+        "[0002B\\]\n",
+        "5 characters, then an escape that no list writes\n",
+    ],
+    [
+        "[0002B\t]\n",
+        "5 characters, then byte 09, which no list writes\n",
+    ],
+    ["\n", "no [ at its beginning\n"],
+    ["[]\n", "0 characters, 6 to 8 wanted\n"],
 ];
 
 #[test]
 fn a_line_of_no_record_ends_a_load(rt: HostRuntime) {
-    let (first, answer) = ("[0001AA]\n", "line 2: no record of this file\n");
-    for &second in &NO_RECORDS {
-        gives_of(&rt, rt.alloc(), [first, second], answer, first);
+    let (alloc, first) = (rt.alloc(), "[0001AA]\n");
+    let told = "line 2: no record of this file\nline 2: ";
+    for &[second, mistake] in &NO_RECORDS {
+        let answer = [told, mistake].concat(alloc).expect(&rt, "memory");
+        gives_of(&rt, alloc, [first, second], &answer, first);
     }
 }
 
@@ -154,8 +171,10 @@ const MIXED: &str = "[0002BB]\n[0003BB]\n0004DD\n[0001AA]\n[0002CC]\n[0005EE]\n[
 
 #[test]
 fn a_load_goes_on_behind_lines_that_are_rejected(rt: HostRuntime) {
-    let answer = "line 2: status 22\nline 3: no record of this file\nline 5: status 22\n\
-line 7: no record of this file\nloaded 3, rejected 4\n";
+    let answer =
+        "line 2: status 22\nline 3: no record of this file\nline 3: no [ at its beginning\n\
+line 5: status 22\nline 7: no record of this file\nline 7: 5 characters, then no ] and LF\n\
+loaded 3, rejected 4\n";
     let list = "[0001AA]\n[0002BB]\n[0005EE]\n";
     gives_by(&rt, rt.alloc(), KEEP_GOING, MIXED, answer, list);
     gives_by(&rt, rt.alloc(), KEEP_GOING, TWO, "loaded 2\n", TWO_IN_ORDER);
@@ -164,8 +183,8 @@ line 7: no record of this file\nloaded 3, rejected 4\n";
         rt.alloc(),
         KEEP_GOING,
         "\n\n",
-        "line 1: no record of this file\n\
-line 2: no record of this file\nloaded 0, rejected 2\n",
+        "line 1: no record of this file\nline 1: no [ at its beginning\n\
+line 2: no record of this file\nline 2: no [ at its beginning\nloaded 0, rejected 2\n",
         "",
     );
 }

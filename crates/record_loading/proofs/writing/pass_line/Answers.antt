@@ -1,42 +1,45 @@
-use Rattle.std.proofs.Common.{ℕ, length, refl, sym, ◌∙◌, subst}
+use Rattle.std.proofs.Common.{ℕ, length, sym, ◌∙◌, subst}
 use Rattle.record_reading.specs.ReadLine.{ReadsRecord, BeginsWithNoRecord}
+use Rattle.record_reading.specs.Mistake.{IsLineMistake}
 use Rattle.record_loading.proofs.GoingLemmas.{nothing_passed, nothing_ends, line_written, line_rejected, line_ends}
 use Rattle.record_loading.proofs.writing.pass_line.Goals as goal
 
 -- no record was read
 pub returns-then-options : goal.returns-then-options
 returns-then-options g c =
-    let none = subst (λ (least : ℕ). BeginsWithNoRecord c.args.form.now c.args.text.now least (length c.args.area.now)) c.requires.takes.least (c.in_default.ensures.none refl) in
-    nothing_passed g.L.Library.shown c.args.options c.args.form.now c.args.text.now c.args.connector.now c.args.lib.now c.args.area.now c.read_record.new.area c.read_record.auto.area c.requires.takes.fits none
-    c.requires.takes.room.length_is c.requires.some c.behind_line.result c.behind_line.ensures c.if-options.true
+    let none = subst (λ (least : ℕ). BeginsWithNoRecord c.args.form.now c.args.text.now least (length c.args.area.now)) c.requires.takes.least c.in-Err.ensures.none in
+    let wrong = subst (λ (least : ℕ). IsLineMistake c.args.form.now c.args.text.now least (length c.args.area.now) c.in-Err.mistake) c.requires.takes.least c.in-Err.ensures.mistake in
+    nothing_passed g.L.Library.shown c.args.options c.args.form.now c.args.text.now c.args.connector.now c.args.lib.now c.args.area.now c.record_or_mistake.new.area c.record_or_mistake.auto.area c.requires.takes.fits none
+    c.in-Err.mistake wrong c.requires.takes.room.length_is c.requires.some c.behind_line.result c.behind_line.ensures c.if-options.true
 
-pub returns-in_default : goal.returns-in_default
-returns-in_default g c =
-    let none = subst (λ (least : ℕ). BeginsWithNoRecord c.args.form.now c.args.text.now least (length c.args.area.now)) c.requires.takes.least (c.in_default.ensures.none refl) in
-    nothing_ends g.L.Library.shown c.args.options c.args.form.now c.args.text.now c.args.connector.now c.args.lib.now c.args.area.now c.read_record.new.area c.read_record.auto.area c.requires.takes.fits none
-    c.requires.takes.room.length_is c.requires.some c.if-options.false
+pub returns-in-Err : goal.returns-in-Err
+returns-in-Err g c =
+    let none = subst (λ (least : ℕ). BeginsWithNoRecord c.args.form.now c.args.text.now least (length c.args.area.now)) c.requires.takes.least c.in-Err.ensures.none in
+    let wrong = subst (λ (least : ℕ). IsLineMistake c.args.form.now c.args.text.now least (length c.args.area.now) c.in-Err.mistake) c.requires.takes.least c.in-Err.ensures.mistake in
+    nothing_ends g.L.Library.shown c.args.options c.args.form.now c.args.text.now c.args.connector.now c.args.lib.now c.args.area.now c.record_or_mistake.new.area c.record_or_mistake.auto.area c.requires.takes.fits none
+    c.in-Err.mistake wrong c.requires.takes.room.length_is c.requires.some c.if-options.false
 
 -- one was read, and its WRITE was answered
 pub returns-then-is_success : goal.returns-then-is_success
 returns-then-is_success g c =
-    let line = c.in-Some.line in
-    let area = c.read_record.new.area in
-    let reads = subst (λ (least : ℕ). ReadsRecord c.args.form.now c.args.text.now least c.args.area.now area line.length line.behind.now) c.requires.takes.least c.in-Some.ensures.read in
+    let line = c.in-Ok.line in
+    let area = c.record_or_mistake.new.area in
+    let reads = subst (λ (least : ℕ). ReadsRecord c.args.form.now c.args.text.now least c.args.area.now area line.length line.behind.now) c.requires.takes.least c.in-Ok.ensures.read in
     line_written g.L.Library.shown c.args.options c.args.form.now c.args.text.now c.args.connector.now c.args.lib.now c.args.area.now area c.write-status.new.self c.write-status.new.lib line.length c.write-status.result
-    line.behind c.write-status.ensures reads c.requires.takes.room.length_is c.read_record.auto.area (sym c.is_success.ensures ∙ c.if-is_success.true)
+    line.behind c.write-status.ensures reads c.requires.takes.room.length_is c.record_or_mistake.auto.area (sym c.is_success.ensures ∙ c.if-is_success.true)
 
 pub returns-then-ends_lines : goal.returns-then-ends_lines
 returns-then-ends_lines g c =
-    let line = c.in-Some.line in
-    let area = c.read_record.new.area in
-    let reads = subst (λ (least : ℕ). ReadsRecord c.args.form.now c.args.text.now least c.args.area.now area line.length line.behind.now) c.requires.takes.least c.in-Some.ensures.read in
+    let line = c.in-Ok.line in
+    let area = c.record_or_mistake.new.area in
+    let reads = subst (λ (least : ℕ). ReadsRecord c.args.form.now c.args.text.now least c.args.area.now area line.length line.behind.now) c.requires.takes.least c.in-Ok.ensures.read in
     line_ends g.L.Library.shown c.args.options c.args.form.now c.args.text.now c.args.connector.now c.args.lib.now c.args.area.now area c.write-status.new.self c.write-status.new.lib line.length c.write-status.result
-    line.behind c.write-status.ensures reads c.requires.takes.room.length_is c.read_record.auto.area (sym c.is_success.ensures ∙ c.if-is_success.false) (sym c.ends_lines.ensures ∙ c.if-ends_lines.true)
+    line.behind c.write-status.ensures reads c.requires.takes.room.length_is c.record_or_mistake.auto.area (sym c.is_success.ensures ∙ c.if-is_success.false) (sym c.ends_lines.ensures ∙ c.if-ends_lines.true)
 
 pub returns : goal.returns
 returns g c =
-    let line = c.in-Some.line in
-    let area = c.read_record.new.area in
-    let reads = subst (λ (least : ℕ). ReadsRecord c.args.form.now c.args.text.now least c.args.area.now area line.length line.behind.now) c.requires.takes.least c.in-Some.ensures.read in
+    let line = c.in-Ok.line in
+    let area = c.record_or_mistake.new.area in
+    let reads = subst (λ (least : ℕ). ReadsRecord c.args.form.now c.args.text.now least c.args.area.now area line.length line.behind.now) c.requires.takes.least c.in-Ok.ensures.read in
     line_rejected g.L.Library.shown c.args.options c.args.form.now c.args.text.now c.args.connector.now c.args.lib.now c.args.area.now area c.write-status.new.self c.write-status.new.lib line.length c.write-status.result
-    line.behind c.write-status.ensures reads c.requires.takes.room.length_is c.read_record.auto.area (sym c.ends_lines.ensures ∙ c.if-ends_lines.false)
+    line.behind c.write-status.ensures reads c.requires.takes.room.length_is c.record_or_mistake.auto.area (sym c.ends_lines.ensures ∙ c.if-ends_lines.false)

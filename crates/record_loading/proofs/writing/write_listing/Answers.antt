@@ -10,7 +10,7 @@ returns-in_default g c = (
     goes = goes_self g.L.Library.shown c.args.connector.now c.args.lib.now c.requires.takes.fits;
     lines = λ honest truly standing. (
       c.args.area.now,
-      inl (record { line_is = refl; lacks = λ rest is. c.in_default.ensures rest (is ∙ ap (λ (l : List ℕ). l ++ rest) (sym c.requires.header)); told = refl; file = refl }),
+      inl (record { line_is = refl; mistake_is = refl; lacks = λ rest is. c.in_default.ensures rest (is ∙ ap (λ (l : List ℕ). l ++ rest) (sym c.requires.header)); told = refl; file = refl }),
     );
   },
 )
