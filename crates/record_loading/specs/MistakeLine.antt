@@ -37,8 +37,8 @@ stray_text ending Backslash = codes ", then an escape that no list writes"
 stray_text ending (Char char) = stray_byte_text char
 
 -- which lengths are wanted
-abbrev pub lengths_text : (least most : ℕ) → List ℕ
-lengths_text least most =
+abbrev pub wanted_lengths_text : (least most : ℕ) → List ℕ
+wanted_lengths_text least most =
     codes ", " ++ ((if least == most then [] else decimal least ++ codes " to ") ++ (decimal most ++ codes " wanted"))
 
 -- what is wrong with a value, of which so many bytes are wanted
@@ -47,8 +47,8 @@ value_mistake_text wanted of_value.Comma = codes "no comma before it"
 value_mistake_text wanted of_value.Name = codes "not its name before it"
 value_mistake_text wanted of_value.Quote = codes "no quote before its value"
 value_mistake_text wanted (of_value.Byte bytes stray) = characters_text bytes ++ stray_text (codes "quote") stray
-value_mistake_text wanted (of_value.Long bytes) = characters_text bytes ++ lengths_text wanted wanted
-value_mistake_text wanted (of_value.Short bytes) = characters_text bytes ++ lengths_text wanted wanted
+value_mistake_text wanted (of_value.Long bytes) = characters_text bytes ++ wanted_lengths_text wanted wanted
+value_mistake_text wanted (of_value.Short bytes) = characters_text bytes ++ wanted_lengths_text wanted wanted
 
 -- which column has a mistake, and which one
 abbrev pub column_mistake_text : ColumnMistake → List ℕ
@@ -68,7 +68,7 @@ line_mistake_text of_line.Names = codes ": not the names of the columns"
 line_mistake_text (of_line.Opening char) = lacking_text char (codes " at its beginning")
 line_mistake_text (of_line.Byte bytes stray) = codes ": " ++ (characters_text bytes ++ stray_text (codes "] and LF") stray)
 line_mistake_text (of_line.Length bytes least most) =
-    codes ": " ++ (characters_text bytes ++ lengths_text least most)
+    codes ": " ++ (characters_text bytes ++ wanted_lengths_text least most)
 line_mistake_text (of_line.Column told) = column_mistake_text told
 line_mistake_text (of_line.Ending char) = ending_text char
 

@@ -3,7 +3,7 @@ ghost use Rattle.std.specs.Prelude.{◌≡◌, ◌≤◌, [], ◌∷◌, decimal
 ghost use Rattle.std.specs.Io.KnownBytes.{Appends};
 ghost use Rattle.deck_runner.specs.Line.{hex_digit};
 ghost use Rattle.record_loading.specs.MistakeLine.{characters_text, hex_text, stray_byte_text, lacking_text};
-ghost use Rattle.record_loading.specs.MistakeLine.{stray_text, lengths_text};
+ghost use Rattle.record_loading.specs.MistakeLine.{stray_text, wanted_lengths_text};
 ghost use Rattle.record_loading.specs.MistakeLine.{value_mistake_text, column_mistake_text, ending_text};
 ghost use Rattle.record_loading.specs.MistakeLine.{line_mistake_text, mistake_line, told_mistake, end_mistake};
 
@@ -91,7 +91,7 @@ fn write_stray<W: Write>(out: &mut W, ending: &[u8], stray: Stray) -> io::Result
 
 /// Writes which lengths are wanted.
 fn write_lengths<W: Write>(out: &mut W, least: usize, most: usize) -> io::Result<()>
-    ensures { OnOk result (Appends (W.contents out.old) (W.contents out.new) (lengths_text least most)) }
+    ensures { OnOk result (Appends (W.contents out.old) (W.contents out.new) (wanted_lengths_text least most)) }
 {
     out.write_all(b", ")?;
     if least != most {
