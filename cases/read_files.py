@@ -161,14 +161,14 @@ def line_without_end(room):
     text = copied(room, "goods.txt").read_bytes()
     words = ["load", deck, "--folder", room.files, "--file", "GOODS", "-"]
     with open("/dev/zero", "rb") as zeros:
-        wants(ends(room, *words, stdin=zeros, preexec_fn=limited), (1, b"line 1: no record of this file\n", b"line 1: no [ at its beginning\n"), "cobix load of zeros")
+        wants(ends(room, *words, stdin=zeros, preexec_fn=limited), (1, b"line 1: no record of this file\n", b"line 1: no [ at its beginning"), "cobix load of zeros")
     (room.files / "goods.dat").unlink()
     path = room.files / "long.txt"
     path.write_bytes(text)
     lengthened(path)
     words[-1] = path
     line = text.count(b"\n") + 1
-    wants(ends(room, *words, preexec_fn=limited), (1, f"line {line}: no record of this file\n".encode(), f"line {line}: no [ at its beginning\n".encode()), "cobix load of lines and zeros")
+    wants(ends(room, *words, preexec_fn=limited), (1, f"line {line}: no record of this file\n".encode(), f"line {line}: no [ at its beginning".encode()), "cobix load of lines and zeros")
     wants(ends(room, "list", room.files / "goods.dat")[1], text, "the list of what was loaded")
 
 
