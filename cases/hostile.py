@@ -2,6 +2,7 @@
 
 `trials(program)` gives each by its name, as those of edges.py. Calls are failed by a library in front of the C library, fail-calls.c, which needs a C compiler.
 What must hold: the program ends by itself, with 0, 1 or 4. Where CLOSE answered 00, the file is sound and has each record whose WRITE answered 00.
+A run is halted at a lock by another such library, halt-locks.c.
 """
 import errno
 import fcntl
@@ -18,7 +19,7 @@ import time
 from concurrent.futures import ThreadPoolExecutor
 from pathlib import Path
 
-from edges import NEW, PIPE, SECONDS, Lacking, Wrong, added, deck, record, streams_closed, wants
+from edges import LOOK, LOOKED, NEW, PIPE, SECONDS, Lacking, Wrong, added, deck, record, streams_closed, wants
 from sessions import CLOSE, DELETE, I_O, INPUT, OPEN, OUTPUT, READ, READ_NEXT, REWRITE, START, describes, performs, releases, writes
 
 HERE = Path(__file__).resolve().parent
@@ -34,15 +35,19 @@ STORM = 3000  # interrupted calls in a row after which a device has failed
 
 
 @functools.cache
-def failing_calls():
-    """The library that fails calls, and the place where it stays."""
+def preloaded(name):
+    """The library that a source is made, and the place where it stays."""
     place = tempfile.TemporaryDirectory()
-    made = Path(place.name) / "fail-calls.so"
+    made = Path(place.name) / f"{name}.so"
     for compiler in filter(shutil.which, ["cc", "gcc", "clang"]):
-        words = [compiler, "-O1", "-shared", "-fPIC", "-o", made, HERE / "fail-calls.c", "-ldl"]
+        words = [compiler, "-O1", "-shared", "-fPIC", "-o", made, HERE / f"{name}.c", "-ldl"]
         if subprocess.run(words, capture_output=True).returncode == 0:
             return place, made
-    raise Lacking("a C compiler that makes fail-calls.c a library")
+    raise Lacking(f"a C compiler that makes {name}.c a library")
+
+
+def failing_calls():
+    return preloaded("fail-calls")
 
 
 class Calls:
@@ -515,27 +520,24 @@ def two_that_make(room):
 
 
 OPTIONAL = ("SELECT CUST", "SELECT OPTIONAL CUST")
-DONE = (GOOD, ["05", "00", "00"])
+BEGUN = ["05", "00", "00"]
+
+
+def begins(number):
+    """A deck that adds a record to an optional file, and begins the file where it is absent."""
+    return deck("OPEN I-O CUST", *added(number), "CLOSE CUST").decode().replace(*OPTIONAL).encode()
 
 
 def two_that_begin(room):
-    """Two runs open an optional file that is absent, and add a record each: each answered record is there, or its run was answered 30.
-
-    A run that reads the file after the other made it and before that locked it is answered 91. The other is done, or it is answered 30 and leaves an empty file."""
+    """Two runs open an optional file that is absent, and add a record each: one of them is done, or both are. Who is not done was answered 30."""
     chosen = random.Random(3)
-    kept = 0
     for round in range(ROUNDS):
         room.cust.unlink(missing_ok=True)
-        texts = [deck("OPEN I-O CUST", *added(n), "CLOSE CUST").decode().replace(*OPTIONAL).encode() for n in (1, 2)]
-        statuses = raced(room, texts, chosen)
-        done = [n for n, it in zip((1, 2), statuses) if it in DONE]
-        for it, other in zip(statuses, reversed(statuses)):
-            met_unlocked = it[0] == "91" and (other in DONE or "30" in other and room.cust.stat().st_size == 0)
-            wants(it in DONE or "30" in it or met_unlocked, True, f"round {round}: whether a run that is not done was answered 30: {statuses}")
-        if done:
-            wants(records_of(room, room.cust), listed([record(n) for n in done]), f"round {round}: the records of the runs that are done, {statuses}")
-        kept += len(done)
-    wants(kept > ROUNDS // 2, True, f"whether records were kept: {kept}")
+        statuses = raced(room, [begins(n) for n in (1, 2)], chosen)
+        done = [n for n, it in zip((1, 2), statuses) if it in (GOOD, BEGUN)]
+        for it in statuses:
+            wants(it in (GOOD, BEGUN) or it[0] == "30" or it[1] == "30", True, f"round {round}: whether a run that is not done was answered 30: {statuses}")
+        wants((len(done) > 0, records_of(room, room.cust)), (True, listed([record(n) for n in done])), f"round {round}: whether a run is done, and the records, {statuses}")
 
 
 def load_beside_a_run(room):
@@ -559,6 +561,165 @@ def load_beside_a_run(room):
         wants(records_of(room, room.cust), wanted, f"round {round}: the records, load {out!r}, run {lines}")
         loaded, added_too = loaded + is_loaded, added_too + is_added
     wants((loaded > 0, added_too > 0), (True, True), f"whether some loads and some runs were done: {loaded}, {added_too}")
+
+
+# ---- a file that is made, and has no lock yet
+
+
+class Halted:
+    """A command that is halted at the first lock of this kind, or has ended without one."""
+
+    def __init__(self, room, words, at):
+        self.place = Path(tempfile.mkdtemp(dir=room.place))
+        surroundings = {**os.environ, "LD_PRELOAD": str(preloaded("halt-locks")[1]), "HALT_AT": at, "HALTED": str(self.place / "halted"), "GO": str(self.place / "go")}
+        self.process = subprocess.Popen(words, stdin=subprocess.DEVNULL, stdout=subprocess.PIPE, stderr=subprocess.PIPE, env=surroundings)
+        until = time.monotonic() + SECONDS
+        while not self.is_halted() and self.process.poll() is None and time.monotonic() < until:
+            time.sleep(0.002)
+
+    def is_halted(self):
+        return (self.place / "halted").exists()
+
+    def go(self):
+        (self.place / "go").touch()
+
+    def told(self):
+        """Lets it go, and answers its standard output and standard error."""
+        self.go()
+        out, err = self.process.communicate(timeout=SECONDS)
+        return out.decode(), err.decode()
+
+    def statuses(self):
+        return re.findall(r" (?:CUST|TWIN) (\d\d)", self.told()[0])
+
+    def kill(self):
+        self.process.kill()
+        self.process.communicate(timeout=SECONDS)
+
+
+BEFORE_ITS_LOCK = "before exclusive file"
+IN_USE = "another run has it"
+
+
+def maker_at_its_lock(room):
+    """A run that has begun the file, and has no lock on it yet."""
+    maker = Halted(room, room.words(begins(1)), BEFORE_ITS_LOCK)
+    wants((maker.is_halted(), room.cust.stat().st_size), (True, 0), "whether the run is halted at its lock, and the bytes of the file")
+    return maker
+
+
+def wants_begun(room, maker, *records):
+    wants((maker.statuses(), records_of(room, room.cust)), (BEGUN, listed([record(n) for n in records])), "what the run that began the file is answered, and the records")
+
+
+def file_in_the_making(room):
+    """Whoever opens it is told that another run has it. The run that makes it has it then."""
+    maker = maker_at_its_lock(room)
+    for text in (begins(2), LOOK, NEW):
+        wants(room.run(text)[0].split()[-1], "30", "a run beside it")
+        wants(IN_USE in room.told, True, f"whether that is the cause: {room.told!r}")
+    for words in ("check", "list"):
+        ended = room.call([room.program, words, room.cust])
+        wants((ended.returncode, IN_USE in ended.stderr.decode()), (4, True), f"{words} beside it: {ended.stderr!r}")
+    requests = describes(0, "cust.dat", 1000, 1000, [(0, 6, False)]) + performs(0, OPEN, I_O)
+    session = room.call([room.program, "serve", "--folder", room.files], input=requests, stdin=None)
+    wants(session.stdout[-2:], b"30", f"the OPEN of a session beside it: {session.stdout!r}")
+    wants_begun(room, maker, 1)
+
+
+def file_in_the_making_is_waited_for(room):
+    maker = maker_at_its_lock(room)
+    wait = ["--wait", str(SECONDS // 2)]
+    others = [subprocess.Popen(it, stdin=subprocess.DEVNULL, stdout=subprocess.PIPE) for it in (room.words(begins(2), wait), [room.program, "check", room.cust, *wait])]
+    time.sleep(1)
+    wants([it.poll() for it in others], [None, None], "whether the run and the check wait")
+    wants(maker.statuses(), BEGUN, "the run that began the file")
+    run, check = (it.communicate(timeout=SECONDS)[0].decode() for it in others)
+    wants(re.findall(r" CUST (\d\d)", run), GOOD, "the run that waited")
+    wants(check.startswith("sound records"), True, f"the check that waited: {check!r}")
+    wants(records_of(room, room.cust), listed([record(1), record(2)]), "the records")
+
+
+def reader_that_is_slow(room):
+    """A run that would keep the lock of the empty file has none of it."""
+    maker = maker_at_its_lock(room)
+    reader = Halted(room, room.words(begins(2)), "after shared file")
+    wants_begun(room, maker, 1)
+    wants((reader.is_halted(), reader.statuses()[0]), (False, "30"), "whether the other run had its lock, and what its OPEN is answered")
+
+
+def reader_that_has_opened_it(room):
+    """A run that has opened the empty file, and takes no lock before it is made, opens it anew."""
+    maker = maker_at_its_lock(room)
+    reader = Halted(room, room.words(begins(2)), "before shared folder")
+    wants(reader.is_halted(), True, "whether the other run is about to lock the folder")
+    wants_begun(room, maker, 1)
+    wants((reader.statuses(), records_of(room, room.cust)), (GOOD, listed([record(1), record(2)])), "the other run, and the records")
+
+
+def reader_by_a_link(room):
+    """It locks the folder of its link alone. The run that makes the file waits until its look is over."""
+    link = room.place / "link"
+    link.symlink_to(room.cust)
+    maker = maker_at_its_lock(room)
+    reader = Halted(room, [room.program, "check", link], "after shared file")
+    wants(reader.is_halted(), True, "whether the check has the lock")
+    maker.go()
+    time.sleep(0.2)
+    wants(reader.told()[0], "unsound 1\n", "the check")
+    wants_begun(room, maker, 1)
+
+
+def maker_that_is_killed(room):
+    """It leaves an empty file, which OPEN refuses and OPEN OUTPUT makes anew."""
+    maker_at_its_lock(room).kill()
+    wants(room.cust.stat().st_size, 0, "the bytes of the file")
+    wants((room.run(begins(2))[0], room.check().stdout), ("OPEN I-O CUST 91", b"unsound 1\n"), "the next run, and the check")
+    room.made()
+    room.wants_sound(5)
+
+
+def folder_that_is_locked_for_long(room):
+    """A file is made though another program keeps a lock of the folder, after two seconds. A file with bytes is opened at once. Of an empty one it cannot be known whether a run is about to lock it."""
+    empty = room.files / "twin.dat"
+    for lock in (fcntl.LOCK_EX, fcntl.LOCK_SH):
+        room.cust.unlink(missing_ok=True)
+        empty.write_bytes(b"")
+        end = os.open(room.files, os.O_RDONLY)
+        fcntl.flock(end, lock)
+        began = time.monotonic()
+        room.made()
+        wants(time.monotonic() - began >= 2, True, "whether the lock was waited for")
+        wants(room.run(LOOK), LOOKED, "a run that reads the file")
+        wants(room.run(deck("OPEN I-O TWIN"))[0].split()[-1], "30" if lock == fcntl.LOCK_EX else "91", "the OPEN of an empty file")
+        os.close(end)
+        wants(room.run(deck("OPEN I-O TWIN")), ["OPEN I-O TWIN 91"], "the OPEN of an empty file in a folder without a lock")
+
+
+def makers_and_readers_of_one_folder(room):
+    """Who opens an empty file has the shared lock of the folder. Who makes another file there waits until that is over."""
+    (room.files / "twin.dat").write_bytes(b"")
+    reader = Halted(room, room.words(deck("OPEN I-O TWIN")), "after shared folder")
+    wants(reader.is_halted(), True, "whether the run that opens the empty file has the folder's lock")
+    maker = Halted(room, room.words(begins(1)), BEFORE_ITS_LOCK)
+    wants((maker.is_halted(), reader.process.poll()), (True, None), "whether the file is made all the same, after two seconds")
+    maker.kill()
+    room.cust.unlink()
+    maker = Halted(room, room.words(begins(1)), "before exclusive folder")
+    maker.go()
+    time.sleep(0.5)
+    wants((room.cust.exists(), reader.statuses()), (False, ["91"]), "whether the file is made before, and the OPEN of the empty file")
+    wants_begun(room, maker, 1)
+
+
+IN_THE_MAKING = {
+    "is opened": file_in_the_making,
+    "is waited for": file_in_the_making_is_waited_for,
+    "meets a slow reader": reader_that_is_slow,
+    "was opened before": reader_that_has_opened_it,
+    "is read by a link": reader_by_a_link,
+    "is left by a run that is killed": maker_that_is_killed,
+}
 
 
 # ---- a client that does not read
@@ -628,6 +789,10 @@ def trials():
         yield f"load, list and serve with streams closed: {numbers}", lambda room, numbers=numbers: closed_streams(room, numbers)
     yield f"{ROUNDS} rounds of two runs that make one file", two_that_make
     yield f"{ROUNDS} rounds of two runs that begin an optional file", two_that_begin
+    for name, perform in IN_THE_MAKING.items():
+        yield f"a file in the making {name}", perform
+    yield "a folder that is locked for long", folder_that_is_locked_for_long
+    yield "makers and readers of one folder", makers_and_readers_of_one_folder
     yield f"{ROUNDS} rounds of a load beside a run", load_beside_a_run
     yield "a client that never reads its answers", client_that_never_reads
     for command in ("run", "serve"):

@@ -235,8 +235,10 @@ static uint8_t *put_verb(const cobix_file *file, int verb, int operand, unsigned
 /* Puts the first bytes of a key where it stands in a record. */
 static uint8_t *put_key(const cobix_file *file, uint8_t *at, unsigned key, const void *value, size_t length)
 {
-    memset(at, 0, file->keys[key].offset);
-    return (uint8_t *)mempcpy(at + file->keys[key].offset, value, length);
+    size_t offset = file->keys[key].offset;
+    if (offset > 0)
+        memset(at, 0, offset);
+    return (uint8_t *)mempcpy(at + offset, value, length);
 }
 
 /* ---- files */

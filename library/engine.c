@@ -10,7 +10,8 @@ struct handle {
     void *at;
 };
 
-/* The functions of the proved library. */
+/* The functions of the proved library. The room of an answer is long enough for any: five bytes, and the longest record. */
+_Static_assert(ENGINE_ANSWER >= 5 + 4000, "the room that cobix_inside_answer requires");
 bool cobix_inside_begin(const uint8_t *folder, size_t length, uint32_t pages, size_t frames, struct handle *made);
 size_t cobix_inside_answer(struct handle held, const uint8_t *body, size_t length, uint8_t *room, size_t size, struct handle *left);
 size_t cobix_inside_end(struct handle held);

@@ -16,7 +16,7 @@ GATE = TOP / "out" / "gate"
 PROGRAM = TOP / "crates" / "cobix" / "out" / "cobix"
 PROVED = TOP / "crates" / "cobix_inside" / "out" / "libcobix_inside.a"
 # No symbols for debugging, in which the path of this checkout would stand.
-CFLAGS = "-O2 -std=c11 -fPIC -Wall -Wextra"
+CFLAGS = "-O3 -std=c11 -fPIC -Wall -Wextra"
 
 
 @dataclass

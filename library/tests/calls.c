@@ -238,31 +238,44 @@ static void other_attributes(void)
     }
 }
 
-/* The longest name, records and keys, and the most keys; the fewest pages, and the most frames. Writes until no page is left. */
-static void at_the_limits(void)
+enum { LONGEST = 4000 };
+
+/* A record of the greatest length, by its number, from -1 on: all bytes but the first are alike, and not those of the record before. */
+static void make_longest(char *bytes, int number)
+{
+    memset(bytes, '0' + number % 10, LONGEST);
+    bytes[0] = (char)('A' + number / 10);
+}
+
+/* The longest name, records and keys, and the most keys; so many pages, and the most frames. Writes until no page is left. The fewest
+   pages have room for no such record. */
+static void at_the_limits(uint32_t pages, bool fits)
 {
     const char *name = "a-NAME_of.sixty-four-characters-0123456789-0123456789-0123456789";
     cobix *session;
     cobix_file *file;
     cobix_key most[9];
-    static char bytes[4000];
+    static char bytes[LONGEST];
     int status = 0, written = -1, left = 0;
     for (uint16_t i = 0; i < 9; i++)
         most[i] = (cobix_key){.offset = (uint16_t)(250 * i), .length = 250, .duplicates = i > 0};
     cobix_description d = {.name = name, .access = COBIX_DYNAMIC, .least = 2250, .greatest = sizeof bytes, .key_count = 9, .keys = most};
     CHECK("as long as a name may be", strlen(name), 64);
-    CHECK("a session", cobix_open(folder, &(cobix_limits){.pages = 16, .frames = 4096}, &session), 0);
+    CHECK("a session", cobix_open(folder, &(cobix_limits){.pages = pages, .frames = 4096}, &session), 0);
     CHECK("a file", cobix_describe(session, &d, &file), 0);
     CHECK("output", cobix_open_file(file, COBIX_OUTPUT), 0);
     for (; cobix_succeeded(status) && written < 99; written++) {
-        memset(bytes, '0' + written % 10, sizeof bytes), memcpy(bytes, &(char[]){(char)('A' + written / 10)}, 1);
+        make_longest(bytes, written);
         status = cobix_write(file, bytes, sizeof bytes);
     }
     CHECK("no page is left", status, COBIX_FULL);
+    CHECK("some are written", written > 0, fits);
     CHECK("close", cobix_close_file(file, false), 0);
     CHECK("input", cobix_open_file(file, COBIX_INPUT), 0);
-    while (cobix_succeeded(cobix_read_next(file, &record, &length)))
-        left += length == sizeof bytes;
+    while (cobix_succeeded(cobix_read_next(file, &record, &length))) {
+        make_longest(bytes, left - 1);
+        left += length == sizeof bytes && memcmp(record, bytes, sizeof bytes) == 0;
+    }
     CHECK("what was written is there", left, written);
     CHECK("close session", cobix_close(session), 0);
 }
@@ -736,7 +749,8 @@ int main(int count, char **words)
     delete_by_no_key();
     optional();
     other_attributes();
-    at_the_limits();
+    at_the_limits(16, false);
+    at_the_limits(64, true);
     given_and_delivered();
     lock();
     misuse();

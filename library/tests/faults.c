@@ -123,6 +123,7 @@ static struct told {
     bool was_closed, is_closing;      /* at least once; such a CLOSE is the last verb */
     bool is_exact;                    /* the last CLOSE was answered 00, and nothing was changed since */
     int bad, faults;                  /* answers that no status may give; answers 30, 90, 91 and 92 */
+    int changes, shared;              /* verbs that changed the file; those of them after which another may have its lock */
     bool is_met;
 } *told_of;
 
@@ -143,6 +144,17 @@ static bool is_as(int status, int want)
     return status == want || (status == COBIX_DUPLICATE && want == 0);
 }
 
+/* Notes that a verb has changed the file: then nobody else may have its lock. */
+static void changed(void)
+{
+    char path[4096];
+    snprintf(path, sizeof path, "%s/F", folder);
+    int end = open(path, O_RDONLY);
+    told_of->changes++;
+    told_of->shared += end < 0 || flock(end, LOCK_SH | LOCK_NB) == 0;
+    close(end);
+}
+
 static void write_one(cobix_file *file, int key, int turn)
 {
     struct rows *rows = &told_of->now;
@@ -150,15 +162,16 @@ static void write_one(cobix_file *file, int key, int turn)
     snprintf(bytes, sizeof bytes, "%05d%03d%12d", key, turn % 7, turn);
     int status = rows->there[key] ? cobix_rewrite(file, bytes, LENGTH) : cobix_write(file, bytes, LENGTH);
     if (is_as(status, 0))
-        rows->there[key] = true, memcpy(rows->record[key], bytes, LENGTH);
+        rows->there[key] = true, memcpy(rows->record[key], bytes, LENGTH), changed();
 }
 
 static void delete_one(cobix_file *file, int key)
 {
     char bytes[6];
     snprintf(bytes, sizeof bytes, "%05d", key);
-    if (is_as(cobix_delete(file, bytes), told_of->now.there[key] ? 0 : COBIX_NOT_FOUND))
-        told_of->now.there[key] = false;
+    bool was_there = told_of->now.there[key];
+    if (is_as(cobix_delete(file, bytes), was_there ? 0 : COBIX_NOT_FOUND) && was_there)
+        told_of->now.there[key] = false, changed();
 }
 
 /* The key of a record that was delivered, which is to be that of the rows; -1 where it is not. */
@@ -261,7 +274,7 @@ static void walk(cobix_file *file)
     for (int turn = 0; cobix_succeeded(status = cobix_read_next(file, &record, &length)); turn++) {
         int key = is_right(record, length);
         if (key >= 0 && turn % 3 == 0 && is_as(cobix_delete(file, NULL), 0))
-            told_of->now.there[key] = false;
+            told_of->now.there[key] = false, changed();
         if (key >= 0 && turn % 3 == 1)
             write_one(file, key, turn);
     }
@@ -365,6 +378,8 @@ static bool is_allowed(void)
 static bool are_allowed(const char *what)
 {
     static const char *const images[IMAGES] = {"", ", as synced", ", with zeros", ", with Cs", ", half as synced"};
+    /* A call to lock that fails means that the system has no locks. */
+    told_of->bad += told_of->shared && !(fault.kind == FAILS && told_of->is_met);
     if (disk)
         disk_end(disk);
     for (enum image image = 0; image < (disk ? IMAGES : AS_READ + 1); image++) {
@@ -499,6 +514,8 @@ int main(int count, char **words)
     CHECK("without a fault it is not met", run(FAILS, 0, false), false);
     CHECK("without a fault the file is exact", told_of->is_exact, true);
     CHECK("without a fault there is none", told_of->faults, 0);
+    CHECK("the file is changed", told_of->changes > 0, true);
+    CHECK("nobody else may have its lock then", told_of->shared, 0);
     for (enum kind kind = 0; kind < KINDS; kind++)
         for (int stays = 0; stays < (kind == IS_KILLED ? 1 : 2); stays++) {
             long n = 1 + (2 * (long)kind + stays) % every, met = 0;

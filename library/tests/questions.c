@@ -122,7 +122,31 @@ static void locks(void)
     a = ask_path(OPEN, 0, MADE_NEW, "new");
     CHECK("made, and changed", ask(WRITE, a, 0, 1, "x"), 1);
     CHECK("claimed without having been shared", ask(CLAIM, a, 0, 0, NULL), 0);
+    int copy = dup(asked.files[a].end), other = open("new", O_RDONLY);
+    CHECK("the lock is there", flock(other, LOCK_SH | LOCK_NB), -1);
     CHECK("close", ask(CLOSE, a, 0, 0, NULL), 0);
+    CHECK("the lock is gone, though a child may have the descriptor too", flock(other, LOCK_SH | LOCK_NB), 0);
+    close(copy), close(other);
+}
+
+/* The locks of a folder, in which files come and go meanwhile. */
+static void folder_locks(void)
+{
+    long a = ask_path(OPEN, 0, TO_READ, "folder"), b = ask_path(OPEN, 0, TO_READ, "folder");
+    CHECK("claimed", ask(CLAIM, a, 0, 0, NULL), 0);
+    CHECK("not claimed", ask(CLAIM, b, 0, 0, NULL), -EWOULDBLOCK);
+    CHECK("not shared", ask(SHARE, b, 0, 0, NULL), -EWOULDBLOCK);
+    long file = ask_path(OPEN, 0, MADE_NEW, "folder/made");
+    CHECK("the file in it is claimed", ask(CLAIM, file, 0, 0, NULL), 0);
+    CHECK("let go", ask(RELEASE, a, 0, 0, NULL), 0);
+    CHECK("claimed again, though a file came", ask(CLAIM, a, 0, 0, NULL), 0);
+    CHECK("let go", ask(RELEASE, a, 0, 0, NULL), 0);
+    CHECK("shared", ask(SHARE, b, 0, 0, NULL), 0);
+    CHECK("not claimed", ask(CLAIM, a, 0, 0, NULL), -EWOULDBLOCK);
+    CHECK("close", ask(CLOSE, b, 0, 0, NULL), 0);
+    CHECK("claimed then", ask(CLAIM, a, 0, 0, NULL), 0);
+    CHECK("close", ask(CLOSE, a, 0, 0, NULL), 0);
+    CHECK("close", ask(CLOSE, file, 0, 0, NULL), 0);
 }
 
 static void names(void)
@@ -181,6 +205,7 @@ int main(int count, char **words)
     paths();
     bytes();
     locks();
+    folder_locks();
     names();
     wrong_questions();
     disowned();

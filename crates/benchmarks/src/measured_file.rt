@@ -3,11 +3,10 @@
 ghost use Rattle.std.specs.Prelude.{◌≡◌, true, IfOk};
 ghost use Rattle.page_alloc.specs.PagedFile.{IsOpenOver, is_begun};
 
-use folder_shelf::{EmptyDisk, FolderShelf};
+use folder_shelf::{EmptyDisk, FolderShelf, RecordedSystem};
 use io_state::{Fault, FileName};
 use page_alloc::PagedFile;
 use page_store::Shelf;
-use recorded_system::RecordedSystem;
 use std::num::NonZeroUsize;
 
 /// Its name.

@@ -5,9 +5,8 @@ ghost use Rattle.cobix_inside.specs.NewLibrary.{IsNewInside, shown_inside};
 
 use crate::limits::Limits;
 use asked_system::AskedSystem;
-use folder_shelf::{Disk, EmptyDisk, FolderShelf};
+use folder_shelf::{Disk, EmptyDisk, FolderShelf, RecordedSystem};
 use page_store::Shelf;
-use recorded_system::RecordedSystem;
 use shelf_library::ShelfLibrary;
 use std::alloc::Global;
 

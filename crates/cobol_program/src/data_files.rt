@@ -4,47 +4,27 @@ use crate::lines::Lines;
 use crate::records::add_key_record;
 use file_control::FileDesc;
 
-fn add_fixed_length(lines: &mut Lines, length: u16) {
-    lines.word("RECORD CONTAINS");
-    lines.number(length);
-    lines.word("CHARACTERS");
-}
-
-fn add_varying_length(lines: &mut Lines, least: u16, greatest: u16, item: usize) {
-    lines.word("RECORD IS VARYING IN SIZE FROM");
-    lines.number(least);
-    if least < greatest {
-        lines.word("TO");
-        lines.number(greatest);
-    }
-    lines.word("CHARACTERS DEPENDING ON");
-    lines.name("ITEM", item);
-}
-
 /// Adds the clause of the lengths of records.
 fn add_lengths(lines: &mut Lines, file: &FileDesc) {
-    match file.depends_on {
-        Some(item) => add_varying_length(lines, file.schema.least(), file.schema.greatest(), item),
-        None => add_fixed_length(lines, file.schema.greatest()),
+    let least = usize::from(file.schema.least());
+    let greatest = usize::from(file.schema.greatest());
+    let Some(item) = file.depends_on else {
+        return lines.go_on("RECORD~CONTAINS % CHARACTERS.", "", &[greatest]);
+    };
+    lines.go_on("RECORD~IS~VARYING~IN~SIZE~FROM %", "", &[least]);
+    if least < greatest {
+        lines.go_on("TO %", "", &[greatest]);
     }
+    lines.go_on("CHARACTERS~DEPENDING~ON ITEM-#.", "", &[item]);
 }
 
-/// Adds the record that WRITE and REWRITE name.
-fn add_record(lines: &mut Lines, u: usize, greatest: u16) {
-    lines.area_a("01");
-    lines.name("RECORD", u);
-    lines.picture('X', usize::from(greatest));
-    lines.period();
-}
-
-/// Adds the description of a file, with a record for each key: keys may overlap.
+/// Adds the description of a file, with the record that WRITE and REWRITE name, and a record for
+/// each key: keys may overlap.
 fn add_file(lines: &mut Lines, u: usize, file: &FileDesc) {
-    lines.area_a("FD");
-    lines.name("FILE", u);
+    lines.add("FD FILE-#", &[u]);
     add_lengths(lines, file);
-    lines.period();
     let greatest = file.schema.greatest();
-    add_record(lines, u, greatest);
+    lines.add("01 RECORD-# PIC~X(%).", &[u, usize::from(greatest)]);
     for (k, key) in file.schema.keys().iter().enumerate() {
         add_key_record(lines, u, k, file.layout.items(), key, greatest);
     }
@@ -52,8 +32,7 @@ fn add_file(lines: &mut Lines, u: usize, file: &FileDesc) {
 
 /// Adds the descriptions of all files.
 pub fn add_files(lines: &mut Lines, files: &[FileDesc]) {
-    lines.heading("DATA DIVISION");
-    lines.heading("FILE SECTION");
+    lines.add_all(&["DATA DIVISION.", "FILE SECTION."], &[]);
     for (u, file) in files.iter().enumerate() {
         add_file(lines, u, file);
     }

@@ -18,7 +18,62 @@ type Begun = ArrayString<ROOM>;
 /// The most bytes of a line before its period.
 const ROOM: usize = 64;
 
-/// Lines, the last one of which may go on.
+/// What stands in the gaps of a pattern: a word, and numbers.
+#[derive(Drop)]
+struct Gaps<'a> {
+    word: &'a str,
+    numbers: &'a [usize],
+}
+
+impl<'a> Gaps<'a> {
+    /// The next number; the last one again where none is left.
+    fn number(&mut self) -> usize {
+        match self.numbers {
+            [] => 0,
+            [last] => *last,
+            [first, rest @ ..] => {
+                self.numbers = rest;
+                *first
+            }
+        }
+    }
+
+    /// Adds a byte of a pattern to a word, or what stands there for it.
+    fn add_byte(&mut self, word: &mut Word, byte: u8) {
+        match byte {
+            b'#' => {
+                let n = self.number().saturating_add(1);
+                let _ = write!(word, "{n}");
+            }
+            b'%' => {
+                let n = self.number();
+                let _ = write!(word, "{n}");
+            }
+            b'@' => {
+                let _ = word.try_push_str(self.word);
+            }
+            b'~' => {
+                let _ = word.try_push(' ');
+            }
+            _ => {
+                let _ = word.try_push(char::from(byte));
+            }
+        }
+    }
+
+    /// A word of a pattern with its gaps filled.
+    fn filled(&mut self, pattern: &str) -> Word {
+        let mut word = Word::new();
+        for byte in pattern.as_bytes() {
+            self.add_byte(&mut word, *byte);
+        }
+        word
+    }
+}
+
+/// Lines, the last one of which may go on. They are added by patterns: words with a space before each,
+/// and a period behind the last one of a sentence. In a word `~` is a space, `@` the word that is
+/// given, `#` the next number of a place, which counts from 1, and `%` the next number as it is.
 #[derive(Drop)]
 pub struct Lines {
     ended: Vec<Line>,
@@ -72,8 +127,8 @@ impl Lines {
         laid_out(alloc, form, self.ended.as_slice())
     }
 
-    /// Adds a line, or keeps in mind that it is lacking.
-    fn add(&mut self, line: Line)
+    /// Adds a line that is ended, or keeps in mind that it is lacking.
+    fn keep(&mut self, line: Line)
         ensures { self.new.lacks_memory ≡ false → (self.old.lacks_memory ≡ false)
             × (self.new.ended.items ≡ self.old.ended.items ++ line ∷ []) }
     {
@@ -90,7 +145,7 @@ impl Lines {
         let mut line = Line::new();
         line.push_str(self.last.as_str());
         line.push_str(end);
-        self.add(line);
+        self.keep(line);
         self.last.clear();
     }
 
@@ -103,130 +158,76 @@ impl Lines {
         }
     }
 
-    /// Begins a line.
-    fn begin(&mut self, indent: &str, word: &str)
-        requires indent { length indent.now ≤ 8 }
-        requires word { length word.now ≤ 56 }
+    /// Begins a line with a word that may be long.
+    fn begin(&mut self, word: &str)
+        requires { length word.now ≤ 56 }
     {
         self.end_line();
-        self.last.push_str(indent);
+        self.last.push_str("        ");
         self.last.push_str(word);
     }
 
-    /// Begins a line in area A.
-    pub fn area_a(&mut self, word: &str)
-        requires { length word.now ≤ 56 }
+    /// What stands before a further word.
+    fn space(&self) -> &'static str
+        ensures { length result.now ≤ 1 }
     {
-        self.begin("", word);
-    }
-
-    /// Begins a line in area B.
-    pub fn area_b(&mut self, word: &str)
-        requires { length word.now ≤ 56 }
-    {
-        self.begin("    ", word);
+        if self.last.is_empty() || self.last.as_str().ends_with(' ') {
+            ""
+        } else {
+            " "
+        }
     }
 
     /// Adds a word behind a space, or in a line of its own where it does not fit.
-    pub fn word(&mut self, word: &str)
+    fn word(&mut self, word: &str)
         requires { length word.now ≤ 56 }
     {
         if self.last.len() + 1 + word.len() > ROOM {
-            return self.begin("        ", word);
+            return self.begin(word);
         }
-        self.last.push_str(" ");
+        let space = self.space();
+        self.last.push_str(space);
         self.last.push_str(word);
     }
 
-    /// Ends a sentence and its line.
-    pub fn period(&mut self) {
-        self.end_with(".");
-    }
-
-    /// Adds a sentence in area B.
-    pub fn sentence(&mut self, text: &str)
-        requires { length text.now ≤ 56 }
-    {
-        self.area_b(text);
-        self.period();
-    }
-
-    /// Adds a heading in area A.
-    pub fn heading(&mut self, text: &str)
-        requires { length text.now ≤ 56 }
-    {
-        self.area_a(text);
-        self.period();
-    }
-
-    /// Adds a name of the program with the number of a place, which counts from 1: FILE-1 for place 0.
-    pub fn name(&mut self, name: &str, place: usize) {
-        let n = place.saturating_add(1);
-        let mut word = Word::new();
-        let _ = write!(word, "{name}-{n}");
-        self.word(word.as_str());
-    }
-
-    /// Adds a name with the number of a key, too: KEY-1-0 for the prime key.
-    pub fn key_name(&mut self, name: &str, place: usize, k: usize) {
-        let n = place.saturating_add(1);
-        let mut word = Word::new();
-        let _ = write!(word, "{name}-{n}-{k}");
-        self.word(word.as_str());
-    }
-
-    /// Adds the name of the first bytes of a key, so many of them: PART-1-0-4.
-    pub fn part_name(&mut self, place: usize, k: usize, length: u16) {
-        let n = place.saturating_add(1);
-        let mut word = Word::new();
-        let _ = write!(word, "PART-{n}-{k}-{length}");
-        self.word(word.as_str());
-    }
-
-    /// Adds a picture of so many characters, as PIC X(20).
-    pub fn picture(&mut self, symbol: char, count: usize) {
-        let mut word = Word::new();
-        let _ = write!(word, "PIC {symbol}({count})");
-        self.word(word.as_str());
-    }
-
-    /// Adds the first 18 of these digits, as a number.
-    pub fn digits(&mut self, digits: &[u8]) {
-        let mut word = Word::new();
-        for digit in digits {
-            let _ = word.try_push(char::from(*digit));
+    /// Adds a word of a pattern; a period behind it ends the line.
+    fn add_word(&mut self, pattern: &str, gaps: &mut Gaps<'_>) {
+        match pattern.strip_suffix('.') {
+            Some(front) => {
+                self.word(gaps.filled(front).as_str());
+                self.end_with(".");
+            }
+            None => self.word(gaps.filled(pattern).as_str()),
         }
-        self.word(word.as_str());
     }
 
-    pub fn number(&mut self, n: u16) {
-        let mut word = Word::new();
-        let _ = write!(word, "{n}");
-        self.word(word.as_str());
+    /// Goes on in the last line with a pattern.
+    pub fn go_on(&mut self, pattern: &str, word: &str, numbers: &[usize]) {
+        let mut gaps = Gaps { word, numbers };
+        for own in pattern.split(' ') {
+            self.add_word(own, &mut gaps);
+        }
     }
 
-    /// Adds so many bytes of the area of a file, from this place on: AREA-1(5:10) for place 4.
-    pub fn bytes_of_area(&mut self, file: usize, place: usize, length: usize) {
-        let n = file.saturating_add(1);
-        let first = place.saturating_add(1);
-        let mut word = Word::new();
-        let _ = write!(word, "AREA-{n}({first}:{length})");
-        self.word(word.as_str());
+    /// Begins a line with a pattern, behind as many spaces as that has.
+    pub fn add_with(&mut self, pattern: &str, word: &str, numbers: &[usize]) {
+        self.end_line();
+        let words = pattern.trim_start();
+        for _ in words.len()..pattern.len() {
+            let _ = self.last.try_push(' ');
+        }
+        self.go_on(words, word, numbers);
     }
 
-    /// Begins a paragraph with the number of a place, which counts from 1.
-    pub fn paragraph(&mut self, name: &str, place: usize) {
-        let n = place.saturating_add(1);
-        let mut word = Word::new();
-        let _ = write!(word, "{name}-{n}");
-        self.heading(word.as_str());
+    /// The same, where no word is given.
+    pub fn add(&mut self, pattern: &str, numbers: &[usize]) {
+        self.add_with(pattern, "", numbers);
     }
 
-    /// Begins a section with the number of a place, which counts from 1.
-    pub fn section(&mut self, name: &str, place: usize) {
-        let n = place.saturating_add(1);
-        let mut word = Word::new();
-        let _ = write!(word, "{name}-{n} SECTION");
-        self.heading(word.as_str());
+    /// Begins a line with each of these patterns; to each the same numbers are given.
+    pub fn add_all(&mut self, patterns: &[&str], numbers: &[usize]) {
+        for pattern in patterns {
+            self.add(pattern, numbers);
+        }
     }
 }

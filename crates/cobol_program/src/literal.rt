@@ -49,6 +49,15 @@ pub fn literal(bytes: &[u8]) -> Word {
     }
 }
 
+/// Digits as a number.
+pub fn digits_word(digits: &[u8]) -> Word {
+    let mut word = Word::new();
+    for digit in digits {
+        let _ = word.try_push(char::from(*digit));
+    }
+    word
+}
+
 /// A literal of a text with a space behind it.
 pub fn spaced(first: &str, second: &str) -> Word {
     let mut word = Word::new();

@@ -2,34 +2,26 @@
 ghost use Rattle.std.specs.Prelude.{◌≤◌, ◌+◌, ◌^◌, length};
 
 use crate::lines::Lines;
-use crate::literal::{LITERAL_LIMIT, literal};
+use crate::literal::{LITERAL_LIMIT, digits_word, literal};
 use record_layout::{Bytes, Field, Figure, Source};
 
-fn figure_word(figure: Figure) -> &'static str
-    ensures { length result.now ≤ 56 }
-{
+fn figure_word(figure: Figure) -> &'static str {
     match figure {
-        Figure::Space => "MOVE SPACES TO",
-        Figure::Zero => "MOVE ZEROS TO",
-        Figure::Low => "MOVE LOW-VALUES TO",
-        Figure::High => "MOVE HIGH-VALUES TO",
+        Figure::Space => "SPACES",
+        Figure::Zero => "ZEROS",
+        Figure::Low => "LOW-VALUES",
+        Figure::High => "HIGH-VALUES",
     }
+}
+
+/// Moves a literal or a figurative constant to so many bytes of the area of a file.
+fn add_piece(lines: &mut Lines, file: usize, place: usize, length: usize, source: &str) {
+    lines.add_with("    MOVE @ TO AREA-#(#:%).", source, &[file, place, length]);
 }
 
 /// Fills so many bytes of the area of a file with a figurative constant.
 pub fn add_fill(lines: &mut Lines, file: usize, place: usize, length: usize, figure: Figure) {
-    lines.area_b(figure_word(figure));
-    lines.bytes_of_area(file, place, length);
-    lines.period();
-}
-
-/// Moves a literal to so many bytes of the area of a file.
-fn add_piece(lines: &mut Lines, file: usize, place: usize, length: usize, piece: &[u8]) {
-    lines.area_b("MOVE");
-    lines.word(literal(piece).as_str());
-    lines.word("TO");
-    lines.bytes_of_area(file, place, length);
-    lines.period();
+    add_piece(lines, file, place, length, figure_word(figure));
 }
 
 /// Moves bytes to so many bytes of the area of a file or more, which spaces fill: a literal for
@@ -43,12 +35,12 @@ fn add_bytes(lines: &mut Lines, file: usize, place: usize, room: usize, bytes: &
     let mut rest = bytes;
     'more: while rest.len() > LITERAL_LIMIT {
         let (piece, more) = rest.split_at(LITERAL_LIMIT);
-        add_piece(lines, file, place, LITERAL_LIMIT, piece);
+        add_piece(lines, file, place, LITERAL_LIMIT, literal(piece).as_str());
         place += LITERAL_LIMIT;
         left -= LITERAL_LIMIT;
         rest = more;
     }
-    add_piece(lines, file, place, left, rest);
+    add_piece(lines, file, place, left, literal(rest).as_str());
 }
 
 /// Moves a text to an item, whose excess is cut on the right.
@@ -89,21 +81,15 @@ pub fn add_move(lines: &mut Lines, file: usize, field: Field, source: &Source<By
     }
 }
 
-/// Moves digits to a 77-level item.
-fn add_number(lines: &mut Lines, item: usize, digits: &[u8]) {
-    lines.area_b("MOVE");
-    lines.digits(digits);
-    lines.word("TO");
-    lines.name("ITEM", item);
-    lines.period();
-}
-
 /// Adds a MOVE to a 77-level item of so many digits.
 pub fn add_move_to_item(lines: &mut Lines, item: usize, count: usize, source: &Source<Bytes>) {
-    match source.as_ref() {
-        Source::Digits(digits) | Source::Text(digits) => {
-            add_number(lines, item, last_digits(digits, count))
-        }
-        Source::Fill(_) => add_number(lines, item, b"0"),
-    }
+    let digits = match source.as_ref() {
+        Source::Digits(digits) | Source::Text(digits) => last_digits(digits, count),
+        Source::Fill(_) => b"0".as_slice(),
+    };
+    lines.add_with(
+        "    MOVE @ TO ITEM-#.",
+        digits_word(digits).as_str(),
+        &[item],
+    );
 }

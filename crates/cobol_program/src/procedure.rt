@@ -2,74 +2,46 @@
 
 use crate::lines::Lines;
 use crate::moves::{add_fill, add_move, add_move_to_item};
-use crate::verbs::{add_on, add_sentence_on, add_verb};
+use crate::verbs::add_verb;
 use deck_reader::Statement;
 use file_control::{FileDesc, LengthItem};
-use io_state::FileStatement;
 use record_layout::{Figure, Placed};
 
-/// Adds the procedure of a status that is no success: the program goes on.
-fn add_error(lines: &mut Lines, file: usize) {
-    lines.section("ERROR", file);
-    lines.area_b("USE AFTER STANDARD ERROR PROCEDURE ON");
-    lines.name("FILE", file);
-    lines.period();
-    lines.paragraph("GO-ON", file);
-    lines.sentence("EXIT");
-}
-
-/// Adds the declaratives: after a status that is no success the program goes on.
-fn add_declaratives(lines: &mut Lines, files: &[FileDesc]) {
-    lines.heading("PROCEDURE DIVISION");
-    lines.heading("DECLARATIVES");
-    for (file, _) in files.iter().enumerate() {
-        add_error(lines, file);
-    }
-    lines.heading("END DECLARATIVES");
-}
-
-/// Fills the record area of a file as it is at the beginning.
-fn add_blank(lines: &mut Lines, file: usize, desc: &FileDesc) {
-    add_on(lines, "MOVE SPACES TO", "AREA", file);
-    lines.period();
-    for item in desc.layout.items() {
-        add_zeros(lines, file, item);
-    }
-}
+/// The procedure of a status of a file that is no success: the program goes on.
+const ERROR: [&str; 4] = [
+    "ERROR-#~SECTION.",
+    "    USE AFTER STANDARD ERROR PROCEDURE ON FILE-#.",
+    "GO-ON-#.",
+    "    EXIT.",
+];
 
 /// Fills an item with zeros, if it is numeric.
 fn add_zeros(lines: &mut Lines, file: usize, item: &Placed) {
-    if !item.field.numeric {
-        return;
+    if item.field.numeric {
+        let place = usize::from(item.field.offset);
+        let length = usize::from(item.field.length);
+        add_fill(lines, file, place, length, Figure::Zero);
     }
-    let place = usize::from(item.field.offset);
-    let length = usize::from(item.field.length);
-    add_fill(lines, file, place, length, Figure::Zero);
 }
 
+/// Adds what stands before the first statement: the declaratives, and each record area filled as it
+/// is at the beginning.
 fn add_beginning(lines: &mut Lines, files: &[FileDesc]) {
-    lines.heading("MAIN SECTION");
-    lines.heading("BEGIN-DECK");
+    lines.add_all(&["PROCEDURE DIVISION.", "DECLARATIVES."], &[]);
+    for (file, _) in files.iter().enumerate() {
+        lines.add_all(&ERROR, &[file]);
+    }
+    lines.add_all(&["END DECLARATIVES.", "MAIN SECTION.", "BEGIN-DECK."], &[]);
     for (file, desc) in files.iter().enumerate() {
-        add_blank(lines, file, desc);
+        lines.add("    MOVE SPACES TO AREA-#.", &[file]);
+        for item in desc.layout.items() {
+            add_zeros(lines, file, item);
+        }
     }
 }
 
-/// Adds a verb in a paragraph of its own, with its number in the transcript, which counts from 0 here.
-fn add_numbered_verb(
-    lines: &mut Lines,
-    number: usize,
-    files: &[FileDesc],
-    file: usize,
-    statement: &FileStatement,
-) {
-    let Some(desc) = files.get(file) else {
-        return;
-    };
-    lines.paragraph("VERB", number);
-    add_verb(lines, file, desc.name.as_str(), statement);
-}
-
+/// Adds a statement; a verb in a paragraph of its own, with its number in the transcript, which
+/// counts from 0 here.
 fn add_statement(
     lines: &mut Lines,
     number: usize,
@@ -79,7 +51,10 @@ fn add_statement(
 ) {
     match statement {
         Statement::Perform { file, statement } => {
-            add_numbered_verb(lines, number, files, *file, statement)
+            if let Some(desc) = files.get(*file) {
+                lines.add("VERB-#.", &[number]);
+                add_verb(lines, *file, desc.name.as_str(), statement);
+            }
         }
         Statement::Move {
             file,
@@ -89,7 +64,7 @@ fn add_statement(
         Statement::MoveLength { item, source } => {
             add_move_to_item(lines, *item, digits_of(items, *item), source)
         }
-        Statement::StopRun => lines.sentence("GO TO END-DECK"),
+        Statement::StopRun => lines.add("    GO TO END-DECK.", &[]),
     }
 }
 
@@ -122,16 +97,6 @@ fn add_statements(
     }
 }
 
-fn add_end(lines: &mut Lines, files: &[FileDesc]) {
-    lines.heading("END-DECK");
-    for (file, _) in files.iter().enumerate() {
-        add_on(lines, "IF", "OPEN", file);
-        lines.word("= \"Y\"");
-        add_sentence_on(lines, "    PERFORM", "SHUT", file);
-    }
-    lines.sentence("STOP RUN");
-}
-
 /// Adds the division up to its end, but for the paragraphs that the verbs perform.
 pub fn add_procedure(
     lines: &mut Lines,
@@ -139,8 +104,14 @@ pub fn add_procedure(
     items: &[LengthItem],
     statements: &[Statement],
 ) {
-    add_declaratives(lines, files);
     add_beginning(lines, files);
     add_statements(lines, files, items, statements);
-    add_end(lines, files);
+    lines.add("END-DECK.", &[]);
+    for (file, _) in files.iter().enumerate() {
+        lines.add_all(
+            &["    IF OPEN-# = \"Y\"", "        PERFORM SHUT-#."],
+            &[file],
+        );
+    }
+    lines.add("    STOP RUN.", &[]);
 }

@@ -5,27 +5,14 @@ use record_layout::{KeyPart, Placed};
 
 /// Adds so many bytes without a name.
 fn add_filler(lines: &mut Lines, length: u16) {
-    if length == 0 {
-        return;
+    if length > 0 {
+        lines.add("    02~FILLER PIC~X(%).", &[usize::from(length)]);
     }
-    lines.area_b("02 FILLER");
-    lines.picture('X', usize::from(length));
-    lines.period();
 }
 
 /// Whether an item is the leading part of a key.
 fn leads(item: &Placed, key: &KeyPart) -> bool {
     item.field.offset == key.offset && item.field.length < key.length
-}
-
-/// Adds the leading part of a key that has so many bytes.
-fn add_part(lines: &mut Lines, u: usize, k: usize, length: u16, whole: u16) {
-    lines.area_b("    03");
-    lines.part_name(u, k, length);
-    lines.word("REDEFINES");
-    lines.part_name(u, k, whole);
-    lines.picture('X', usize::from(length));
-    lines.period();
 }
 
 /// Whether one of the items has these very bytes.
@@ -37,21 +24,16 @@ fn is_among(items: &[Placed], item: &Placed) -> bool {
 
 /// Adds the leading parts of a key, one for each length that an item has.
 fn add_parts(lines: &mut Lines, u: usize, k: usize, items: &[Placed], key: &KeyPart) {
+    let whole = usize::from(key.length);
     for (i, item) in items.iter().enumerate() {
         if leads(item, key) && !is_among(&items[..i], item) {
-            add_part(lines, u, k, item.field.length, key.length);
+            let length = usize::from(item.field.length);
+            lines.add(
+                "        03 PART-#-%-% REDEFINES PART-#-%-% PIC~X(%).",
+                &[u, k, length, u, k, whole, length],
+            );
         }
     }
-}
-
-fn add_key(lines: &mut Lines, u: usize, k: usize, length: u16) {
-    lines.area_b("02");
-    lines.key_name("KEY", u, k);
-    lines.period();
-    lines.area_b("    03");
-    lines.part_name(u, k, length);
-    lines.picture('X', usize::from(length));
-    lines.period();
 }
 
 /// Adds the record of so many bytes that a key is an item of, with each leading part of the key
@@ -64,16 +46,13 @@ pub fn add_key_record(
     key: &KeyPart,
     greatest: u16,
 ) {
-    lines.area_a("01");
-    lines.key_name("PLACE", u, k);
-    lines.period();
+    lines.add("01 PLACE-#-%.", &[u, k]);
     add_filler(lines, key.offset);
-    add_key(lines, u, k, key.length);
+    let parts = ["    02 KEY-#-%.", "        03 PART-#-%-% PIC~X(%)."];
+    lines.add_all(&parts, &[u, k, usize::from(key.length)]);
     add_parts(lines, u, k, items, key);
-    add_filler(
-        lines,
-        greatest
-            .saturating_sub(key.offset)
-            .saturating_sub(key.length),
-    )
+    let behind = greatest
+        .saturating_sub(key.offset)
+        .saturating_sub(key.length);
+    add_filler(lines, behind)
 }

@@ -1,46 +1,23 @@
 //! The verbs.
-ghost use Rattle.std.specs.Prelude.{◌≤◌, length};
 
 use crate::lines::Lines;
 use crate::literal::spaced;
 use io_state::{FileStatement, OpenMode, Relation};
 
-/// Adds a verb of one name.
-pub fn add_on(lines: &mut Lines, does: &str, name: &str, file: usize)
-    requires { length does.now ≤ 56 }
-{
-    lines.area_b(does);
-    lines.name(name, file);
-}
-
-/// Adds a sentence of a verb of one name.
-pub fn add_sentence_on(lines: &mut Lines, does: &str, name: &str, file: usize)
-    requires { length does.now ≤ 56 }
-{
-    add_on(lines, does, name, file);
-    lines.period();
-}
-
 /// Displays the line of a verb that delivers no record.
 pub fn add_line(lines: &mut Lines, does: &str, file: usize, name: &str) {
-    lines.area_b("DISPLAY");
-    lines.word(spaced(does, name).as_str());
-    lines.name("STATUS", file);
-    lines.period();
+    let text = spaced(does, name);
+    lines.add_with("    DISPLAY @ STATUS-#.", text.as_str(), &[file]);
 }
 
 /// Takes what a READ delivered, and displays its line.
 fn add_line_of_read(lines: &mut Lines, does: &str, file: usize, name: &str) {
-    add_sentence_on(lines, "PERFORM", "TAKE", file);
-    lines.area_b("DISPLAY");
-    lines.word(spaced(does, name).as_str());
-    lines.word("SHOWN(1:SHOWN-LENGTH)");
-    lines.period();
+    lines.add("    PERFORM TAKE-#.", &[file]);
+    let text = spaced(does, name);
+    lines.add_with("    DISPLAY @ SHOWN(1:SHOWN-LENGTH).", text.as_str(), &[]);
 }
 
-fn mode_word(mode: OpenMode) -> &'static str
-    ensures { length result.now ≤ 56 }
-{
+fn mode_word(mode: OpenMode) -> &'static str {
     match mode {
         OpenMode::Input => "OPEN INPUT",
         OpenMode::Output => "OPEN OUTPUT",
@@ -50,40 +27,37 @@ fn mode_word(mode: OpenMode) -> &'static str
 }
 
 fn add_open(lines: &mut Lines, file: usize, name: &str, mode: OpenMode) {
-    add_sentence_on(lines, mode_word(mode), "FILE", file);
-    add_sentence_on(lines, "PERFORM", "OPENED", file);
-    add_line(lines, mode_word(mode), file, name);
+    let does = mode_word(mode);
+    lines.add_with("    @ FILE-#.", does, &[file]);
+    lines.add("    PERFORM OPENED-#.", &[file]);
+    add_line(lines, does, file, name);
 }
 
 fn add_close(lines: &mut Lines, file: usize, name: &str, lock: bool) {
-    add_on(lines, "CLOSE", "FILE", file);
-    if lock {
-        lines.word("WITH LOCK");
-    }
-    lines.period();
-    add_sentence_on(lines, "PERFORM", "CLOSED", file);
+    let does = if lock {
+        "    CLOSE FILE-# WITH LOCK."
+    } else {
+        "    CLOSE FILE-#."
+    };
+    lines.add_all(&[does, "    PERFORM CLOSED-#."], &[file]);
     add_line(lines, "CLOSE", file, name);
 }
 
 fn add_read_next(lines: &mut Lines, file: usize, name: &str) {
-    add_on(lines, "READ", "FILE", file);
-    lines.word("NEXT RECORD");
-    lines.period();
+    lines.add("    READ FILE-# NEXT RECORD.", &[file]);
     add_line_of_read(lines, "READ NEXT", file, name);
 }
 
 fn add_read(lines: &mut Lines, file: usize, name: &str, key: u8) {
-    add_sentence_on(lines, "PERFORM", "GIVE", file);
-    add_on(lines, "READ", "FILE", file);
-    lines.word("RECORD KEY IS");
-    lines.key_name("KEY", file, usize::from(key));
-    lines.period();
+    let read = [
+        "    PERFORM GIVE-#.",
+        "    READ FILE-# RECORD KEY IS KEY-#-%.",
+    ];
+    lines.add_all(&read, &[file, file, usize::from(key)]);
     add_line_of_read(lines, "READ", file, name);
 }
 
-fn relation_word(relation: Relation) -> &'static str
-    ensures { length result.now ≤ 56 }
-{
+fn relation_word(relation: Relation) -> &'static str {
     match relation {
         Relation::Equal => "KEY IS EQUAL TO",
         Relation::Greater => "KEY IS GREATER THAN",
@@ -93,21 +67,19 @@ fn relation_word(relation: Relation) -> &'static str
 
 /// Adds START by the first bytes of a key, so many of them.
 fn add_start(lines: &mut Lines, file: usize, name: &str, key: (u8, u16), relation: Relation) {
-    add_sentence_on(lines, "PERFORM", "GIVE", file);
-    add_on(lines, "START", "FILE", file);
-    lines.word(relation_word(relation));
-    let (k, length) = key;
-    lines.part_name(file, usize::from(k), length);
-    lines.period();
+    lines.add("    PERFORM GIVE-#.", &[file]);
+    let part = [file, file, usize::from(key.0), usize::from(key.1)];
+    lines.add_with(
+        "    START FILE-# @ PART-#-%-%.",
+        relation_word(relation),
+        &part,
+    );
     add_line(lines, "START", file, name);
 }
 
 /// Adds a verb that stores or removes a record.
-fn add_change(lines: &mut Lines, does: &str, operand: &str, file: usize, name: &str)
-    requires { length does.now ≤ 56 }
-{
-    add_sentence_on(lines, "PERFORM", "GIVE", file);
-    add_sentence_on(lines, does, operand, file);
+fn add_change(lines: &mut Lines, does: &str, sentence: &str, file: usize, name: &str) {
+    lines.add_all(&["    PERFORM GIVE-#.", sentence], &[file]);
     add_line(lines, does, file, name);
 }
 
@@ -123,8 +95,10 @@ pub fn add_verb(lines: &mut Lines, file: usize, name: &str, statement: &FileStat
             length,
             relation,
         } => add_start(lines, file, name, (*key, *length), *relation),
-        FileStatement::Write => add_change(lines, "WRITE", "RECORD", file, name),
-        FileStatement::Rewrite => add_change(lines, "REWRITE", "RECORD", file, name),
-        FileStatement::Delete => add_change(lines, "DELETE", "FILE", file, name),
+        FileStatement::Write => add_change(lines, "WRITE", "    WRITE RECORD-#.", file, name),
+        FileStatement::Rewrite => {
+            add_change(lines, "REWRITE", "    REWRITE RECORD-#.", file, name)
+        }
+        FileStatement::Delete => add_change(lines, "DELETE", "    DELETE FILE-#.", file, name),
     }
 }

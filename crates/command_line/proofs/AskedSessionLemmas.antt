@@ -1,8 +1,8 @@
 -- What became of words that ask for a session.
 use Rattle.std.proofs.Common.{◌≡◌, ◌≢◌, ◌⊎◌, inl, inr, ℕ, Bool, List, [], ◌∷◌, Result, Ok, Err, refl}
 use Rattle.page_store.specs.declared.shelf.Shelf.{Ghosts}
-use Rattle.recorded_system.specs.Calls.{entered}
-use Rattle.recorded_system.specs.SystemState.{SystemState}
+use Rattle.folder_shelf.specs.Calls.{entered}
+use Rattle.folder_shelf.specs.SystemState.{SystemState}
 use Rattle.folder_shelf.specs.Replay.{Unseen}
 use Rattle.serve.specs.Serving.{Streams}
 use Rattle.command_line.specs.AskedSession.{EndsUnread, EndsRequests}

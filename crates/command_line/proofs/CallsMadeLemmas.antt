@@ -2,10 +2,10 @@
 use Rattle.std.proofs.Common.{◌≡◌, ℕ, true, false, List, [], ◌∷◌, ◌++◌, Option, Result, Err, IfOk, refl, sym, ap, ◌∙◌, subst, inl, inr, append-nil}
 use Rattle.std.specs.Prelude.{⊤}
 use Rattle.clap.specs.Words.{Text}
-use Rattle.recorded_system.specs.Calls.{Call, streams_held}
-use Rattle.recorded_system.specs.Reading.{ByReads, with_calls}
-use Rattle.recorded_system.specs.SystemState.{SystemState, with_call}
-use Rattle.recorded_system.proofs.ReadingLemmas.{by_same, by_none}
+use Rattle.folder_shelf.specs.Calls.{Call, streams_held}
+use Rattle.folder_shelf.specs.Reading.{ByReads, with_calls}
+use Rattle.folder_shelf.specs.SystemState.{SystemState, with_call}
+use Rattle.folder_shelf.proofs.ReadingLemmas.{by_same, by_none}
 use Rattle.folder_shelf.specs.Replay.{Unseen}
 use Rattle.record_listing.specs.ByPath.{ByReadsAside}
 use Rattle.command_line.specs.CallsMade.{calls_made, BeginsNothing, streams_first}

@@ -2,8 +2,8 @@
 use Rattle.std.proofs.Common.{◌≡◌, ℕ, Bool, List, Option, Some, None, Result, Err, IfOk, IfErr, inl, inr, refl, sym, subst}
 use Rattle.clap.specs.Words.{Text}
 use Rattle.page_store.specs.declared.shelf.Shelf.{Ghosts}
-use Rattle.recorded_system.specs.Calls.{Call}
-use Rattle.recorded_system.specs.SystemState.{SystemState}
+use Rattle.folder_shelf.specs.Calls.{Call}
+use Rattle.folder_shelf.specs.SystemState.{SystemState}
 use Rattle.folder_shelf.specs.Replay.{Unseen}
 use Rattle.command_words.specs.Asks.{AskRun, AskServe}
 use Rattle.command_words.specs.declared.limits.Limits.{Limits}

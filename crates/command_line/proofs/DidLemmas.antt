@@ -3,7 +3,7 @@ use Rattle.std.proofs.Common.{◌≡◌, ◌⊎◌, ℕ, Bool, true, false, List
 use Rattle.std.proofs.lemmas.Result.{IfErr-weaker}
 use Rattle.clap.specs.Words.{Text}
 use Rattle.folder_shelf.specs.Replay.{Unseen}
-use Rattle.recorded_system.specs.Calls.{Call}
+use Rattle.folder_shelf.specs.Calls.{Call}
 use Rattle.clap.specs.declared.error.Error.{Error}
 use Rattle.command_words.specs.declared.line_options.LineOptions.{LineOptions}
 use Rattle.command_words.specs.Asks.{Ask, AskCheck, AskExplain, AskHelp, AskNothing, AskSchema, AskServe, AskStat, FormText, IfUsage, form_text}

@@ -2,7 +2,7 @@
 use Rattle.std.proofs.Common.{ℕ, Bool, List, sym, ap, ◌∙◌, subst}
 use Rattle.page_store.specs.ShelfState.{ShelfState}
 use Rattle.page_store.specs.declared.shelf.Shelf.{Ghosts}
-use Rattle.recorded_system.specs.SystemState.{SystemState}
+use Rattle.folder_shelf.specs.SystemState.{SystemState}
 use Rattle.folder_shelf.specs.Replay.{Unseen, folder_state}
 use Rattle.shelf_library.specs.State.{LibraryState}
 use Rattle.shelf_library.specs.Units.{world_of}

@@ -1,8 +1,8 @@
 -- A folder before the first call on it.
 use Rattle.std.proofs.Common.{◌≡◌, ℕ, List, [], ◌∷◌, refl, subst}
 use Rattle.page_store.specs.ShelfState.{ShelfState}
-use Rattle.recorded_system.specs.Calls.{Call, entered}
-use Rattle.recorded_system.specs.SystemState.{SystemState}
+use Rattle.folder_shelf.specs.Calls.{Call, entered}
+use Rattle.folder_shelf.specs.SystemState.{SystemState}
 use Rattle.folder_shelf.specs.Replay.{Unseen, folder_state}
 use Rattle.shelf_run.specs.ShelfRun.{LeavesFiles, StaysSound}
 use Rattle.command_line.specs.Folder.{folder_at_first}

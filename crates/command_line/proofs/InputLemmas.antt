@@ -2,10 +2,10 @@
 use Rattle.std.proofs.Common.{◌≡◌, ℕ, Bool, true, List, ◌∷◌, Option, Some, Ok, Err, ap, ◌∙◌, string_bytes, String}
 use Rattle.std.specs.Global.{Global, Vec}
 use Rattle.std.specs.Prelude.{⊤}
-use Rattle.recorded_system.specs.Calls.{asked_of_folder}
-use Rattle.recorded_system.specs.Reading.{ByReads}
-use Rattle.recorded_system.specs.SystemState.{SystemState, with_call}
-use Rattle.recorded_system.proofs.ReadingLemmas.{by_both, by_one}
+use Rattle.folder_shelf.specs.Calls.{asked_of_folder}
+use Rattle.folder_shelf.specs.Reading.{ByReads}
+use Rattle.folder_shelf.specs.SystemState.{SystemState, with_call}
+use Rattle.folder_shelf.proofs.ReadingLemmas.{by_both, by_one}
 use Rattle.file_commands.specs.Front.{ReadsDeckNamed}
 use Rattle.command_line.specs.Performed.{ReadsFolder, ReadsInputs}
 use Rattle.command_line.proofs.CallsMadeLemmas.{only_reads}

@@ -2,10 +2,10 @@
 use Rattle.std.proofs.Common.{◌≡◌, ◌≢◌, ◌⊎◌, ℕ, Bool, List, [], ◌∷◌, ◌++◌, Option, Result, Ok, Err, IfOk, IfErr, codes, inl, inr, refl, sym, ap, ◌∙◌, subst}
 use Rattle.std.proofs.lemmas.Result.{IfErr-weaker}
 use Rattle.std.specs.Prelude.{⊤}
-use Rattle.recorded_system.specs.Calls.{Call, entered}
-use Rattle.recorded_system.specs.Reading.{ByReads}
-use Rattle.recorded_system.specs.SystemState.{SystemState}
-use Rattle.recorded_system.proofs.ReadingLemmas.{by_both}
+use Rattle.folder_shelf.specs.Calls.{Call, entered}
+use Rattle.folder_shelf.specs.Reading.{ByReads}
+use Rattle.folder_shelf.specs.SystemState.{SystemState}
+use Rattle.folder_shelf.proofs.ReadingLemmas.{by_both}
 use Rattle.folder_shelf.specs.Replay.{Unseen, folder_state}
 use Rattle.folder_shelf.specs.Within.{StaysWithin}
 use Rattle.page_store.specs.ShelfState.{ShelfState}

@@ -1,6 +1,6 @@
 -- What a run of a deck came to, by what is told of it.
 use Rattle.std.proofs.Common.{◌≡◌, ◌≢◌, ℕ, true, List, Option, Result, Ok, Err, IfOk, IfErr, sym, ap, subst}
-use Rattle.recorded_system.specs.SystemState.{SystemState}
+use Rattle.folder_shelf.specs.SystemState.{SystemState}
 use Rattle.folder_shelf.specs.FailedCalls.{failed_calls}
 use Rattle.folder_shelf.specs.Replay.{Unseen}
 use Rattle.deck_words.specs.declared.fault.DeckFault.{DeckFault}

@@ -1,8 +1,8 @@
 -- What the system was asked for the words of a command line. All of this is ours.
 use Rattle.std.specs.Prelude.{◌≡◌, ◌⊎◌, ℕ, true, false, List, [], ◌∷◌, ◌++◌, Some, Result, Err, ⊤}
-use Rattle.recorded_system.specs.Calls.{Call, asked_of_folder, streams_held}
-use Rattle.recorded_system.specs.Reading.{ByReads}
-use Rattle.recorded_system.specs.SystemState.{SystemState}
+use Rattle.folder_shelf.specs.Calls.{Call, asked_of_folder, streams_held}
+use Rattle.folder_shelf.specs.Reading.{ByReads}
+use Rattle.folder_shelf.specs.SystemState.{SystemState}
 use Rattle.command_outcomes.specs.declared.fault.Fault.{Fault}
 use Rattle.command_outcomes.specs.declared.outcome.Outcome.{Outcome}
 

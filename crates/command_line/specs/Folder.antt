@@ -1,7 +1,7 @@
 -- The folder of a run. All of this is ours.
 use Rattle.std.specs.Prelude.{List, ℕ, []}
 use Rattle.page_store.specs.ShelfState.{ShelfState}
-use Rattle.recorded_system.specs.SystemState.{SystemState}
+use Rattle.folder_shelf.specs.SystemState.{SystemState}
 use Rattle.folder_shelf.specs.Replay.{Unseen, folder_after, folder_state}
 
 -- what the folder of this path held before the first call

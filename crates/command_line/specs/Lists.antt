@@ -1,7 +1,7 @@
 -- What is listed of the records of a file, for words that ask for it. All of this is ours.
 use Rattle.std.specs.Prelude.{ℕ, Bool, true, false, List, Option, Result}
 use Rattle.folder_shelf.specs.Replay.{Unseen}
-use Rattle.recorded_system.specs.Calls.{Call}
+use Rattle.folder_shelf.specs.Calls.{Call}
 use Rattle.command_words.specs.declared.form_words.FormWords.{FormWords}
 use Rattle.file_commands.specs.ByIndex.{ListsByIndex}
 use Rattle.file_commands.specs.Records.{ListsFile}

@@ -4,9 +4,9 @@ use Rattle.std.specs.Prelude.{Result, Ok, Err, IfOk, IfErr, OnErr}
 use Rattle.std.specs.Prelude.{String, string_bytes}
 use Rattle.std.specs.Global.{Global}
 use Rattle.std.specs.Io.KnownBytes.{Appends}
-use Rattle.recorded_system.specs.Calls.{Call}
-use Rattle.recorded_system.specs.Reading.{with_calls}
-use Rattle.recorded_system.specs.SystemState.{SystemState, file_path}
+use Rattle.folder_shelf.specs.Calls.{Call}
+use Rattle.folder_shelf.specs.Reading.{with_calls}
+use Rattle.folder_shelf.specs.SystemState.{SystemState, file_path}
 use Rattle.folder_shelf.specs.Replay.{Unseen}
 use Rattle.folder_shelf.specs.Within.{StaysWithin}
 use Rattle.record_layout.specs.Schema.{Schema}
@@ -48,7 +48,7 @@ load_of false = New
 
 -- which lines the words ask for
 abbrev pub options_of : LineOptions → LoadOptions
-options_of lines = record { skip = lines.skip; keep_going = lines.keep_going }
+options_of lines = record { skip = lines.skip; keep_going = lines.keep_going; replace = lines.replace }
 
 -- a text in a form, of which these lines are to be loaded
 abbrev pub load_source : Form → (text : List ℕ) → LoadOptions → LoadSource

@@ -2,11 +2,11 @@
 use Rattle.std.specs.Prelude.{◌≡◌, ◌≢◌, ◌⊎◌, ℕ, Bool, true, List, [], ◌∷◌, Option, Some, None}
 use Rattle.std.specs.Prelude.{Result, Ok, Err, IfOk, IfErr, ⊤, String, string_bytes, codes}
 use Rattle.std.specs.Global.{Global, Vec}
-use Rattle.recorded_system.specs.Calls.{Call, asked_of_folder}
-use Rattle.recorded_system.specs.Reading.{ByReads}
+use Rattle.folder_shelf.specs.Calls.{Call, asked_of_folder}
+use Rattle.folder_shelf.specs.Reading.{ByReads}
 use Rattle.clap.specs.Words.{Text}
 use Rattle.clap.specs.declared.error.Error.{Error}
-use Rattle.recorded_system.specs.SystemState.{SystemState, with_call}
+use Rattle.folder_shelf.specs.SystemState.{SystemState, with_call}
 use Rattle.folder_shelf.specs.FailedCalls.{failed_calls}
 use Rattle.folder_shelf.specs.Replay.{Unseen}
 use Rattle.folder_shelf.specs.Within.{StaysWithin}

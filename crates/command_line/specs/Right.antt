@@ -2,8 +2,8 @@
 -- what was written. All of this is ours.
 use Rattle.std.specs.Prelude.{◌≡◌, ◌⊎◌, ℕ, Bool, true, false, List, [], ◌∷◌, Option, Result, IfOk, ⊤}
 use Rattle.clap.specs.Words.{Text}
-use Rattle.recorded_system.specs.Calls.{Call}
-use Rattle.recorded_system.specs.Reading.{AreReading}
+use Rattle.folder_shelf.specs.Calls.{Call}
+use Rattle.folder_shelf.specs.Reading.{AreReading}
 use Rattle.command_words.specs.Asks.{Ask, AskCheck, AskCobol, AskDeck, AskExplain, AskStat}
 use Rattle.command_words.specs.declared.request.Request.{Request}
 use Rattle.command_words.specs.declared.request.Request.TheVariants.{Run, Serve, Load}

@@ -1,6 +1,6 @@
 -- What a run of a deck over a folder writes and leaves, by what the folder was asked and answered.
 use Rattle.std.specs.Prelude.{◌≡◌, ◌≢◌, ℕ, List, Option, ⊤}
-use Rattle.recorded_system.specs.SystemState.{SystemState}
+use Rattle.folder_shelf.specs.SystemState.{SystemState}
 use Rattle.std.specs.NonZero.{non_zero_usize_get}
 use Rattle.folder_shelf.specs.FailedCalls.{failed_calls}
 use Rattle.folder_shelf.specs.Replay.{Unseen}

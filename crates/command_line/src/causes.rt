@@ -4,7 +4,7 @@ use crate::done::Ran;
 use crate::missed::write_path;
 use file_commands::deck_of;
 use file_control::FileDesc;
-use recorded_system::System;
+use folder_shelf::System;
 use std::alloc::Global;
 use std::io::{self, Write};
 use streams::StandardOutput;

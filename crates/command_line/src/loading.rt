@@ -10,11 +10,10 @@ use command_outcomes::{Fault, Outcome};
 use command_words::{Limits, LineOptions};
 use file_commands::{deck_of, file_named, read_text};
 use file_control::FileDesc;
-use folder_shelf::{Disk, FolderShelf};
+use folder_shelf::{CallRecord, Disk, FolderShelf, System};
 use record_forms::Form;
 use record_loading::{Load, LoadOptions, RejectLog, ShelfEnd, ShelfFault, load_lines_on_shelf};
 use record_reading::items_are_whole;
-use recorded_system::{CallRecord, System};
 use std::alloc::Global;
 use std::io::{Read, Write};
 use streams::{Progress, StandardInput};
@@ -53,6 +52,7 @@ pub fn options_of(lines: LineOptions) -> LoadOptions
     LoadOptions {
         skip: lines.skip,
         keep_going: lines.keep_going,
+        replace: lines.replace,
     }
 }
 

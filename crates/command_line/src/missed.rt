@@ -1,7 +1,7 @@
 //! What could not be read or written, and why: the second line of `cobix: input` and `cobix: output`.
 
 use command_outcomes::{Fault, Outcome};
-use recorded_system::{System, Unread};
+use folder_shelf::{System, Unread};
 use std::io::{self, ErrorKind, Write};
 use streams::StandardOutput;
 use system_files::Cause;

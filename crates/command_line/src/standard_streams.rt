@@ -1,11 +1,11 @@
 //! The standard streams of the process.
 ghost use Rattle.std.specs.Prelude.{◌≡◌, IfErr};
-ghost use Rattle.recorded_system.specs.Calls.{streams_held};
-ghost use Rattle.recorded_system.specs.SystemState.{with_call, is_done};
+ghost use Rattle.folder_shelf.specs.Calls.{streams_held};
+ghost use Rattle.folder_shelf.specs.SystemState.{with_call, is_done};
 ghost use Rattle.command_outcomes.specs.Status.{status_of};
 
 use command_outcomes::Fault;
-use recorded_system::{HoldsStreams, StreamFault};
+use folder_shelf::{HoldsStreams, StreamFault};
 
 /// Why the numbers of closed streams were not taken, as the program tells it.
 fn told_fault(fault: StreamFault) -> Fault

@@ -1,20 +1,21 @@
 //! What is told of a load.
 ghost use Rattle.std.specs.Prelude.{◌≡◌, [], string_bytes, Ok, IfOk, IfErr};
-ghost use Rattle.recorded_system.specs.Reading.{ByReads};
-ghost use Rattle.recorded_system.specs.SystemState.{file_path};
+ghost use Rattle.folder_shelf.specs.Reading.{ByReads};
+ghost use Rattle.folder_shelf.specs.SystemState.{file_path};
 ghost use Rattle.command_line.specs.Loaded.{TellsLoad, WritesEnd};
 
 use command_outcomes::{Fault, Outcome};
 use file_commands::{differences_at, path_in};
 use file_control::FileDesc;
+use folder_shelf::System;
 use record_layout::Schema;
 use record_loading::{ShelfEnd, add_answer, is_compared};
-use recorded_system::System;
 use std::alloc::Global;
 use std::io::Write;
 
-/// The most bytes of the lines that tell of a load: two lines, with a number and two statuses.
-const MOST_BYTES: usize = 64;
+/// The most bytes of the lines that tell of a load: a line with three numbers, or two lines with a number
+/// and two statuses.
+const MOST_BYTES: usize = 96;
 
 /// Writes the lines that tell of a load, for which there is room, if any do, and those of the
 /// differences of the file. The load is over by then, so that no other fault is told than that of the

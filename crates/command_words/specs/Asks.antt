@@ -180,6 +180,9 @@ pub record AreLineOptions (rows : List Row) (lines : LineOptions) : Type 0 where
   pub keep_text : Text
   pub keep_given : one_of (codes "keep-going") rows ≡ Some keep_text
   pub keep_is : IsFlag keep_text lines.keep_going
+  pub replace_text : Text
+  pub replace_given : one_of (codes "replace") rows ≡ Some replace_text
+  pub replace_is : IsFlag replace_text lines.replace
 
 -- the subcommand that was met is to load the lines of this text, in a form, into a file of this
 -- deck over this folder, into the one that is there or not, with these limits, these of the lines,

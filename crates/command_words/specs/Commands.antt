@@ -70,9 +70,10 @@ abbrev pub with_text : App → App
 with_text app = with_rule (with_rule (with_file_words app) (usual_rule (codes "as") (codes "text")))
     (flag_rule (codes "into"))
 
--- with the options by which it skips lines, and keeps going
+-- with the options by which it skips lines, keeps going, and replaces records
 abbrev pub with_line_options : App → App
-with_line_options app = with_rule (with_rule app skip_rule) (flag_rule (codes "keep-going"))
+with_line_options app =
+    with_rule (with_rule (with_rule app skip_rule) (flag_rule (codes "keep-going"))) (flag_rule (codes "replace"))
 
 -- with the form of a salvage
 abbrev pub with_salvage_form : App → App

@@ -218,7 +218,12 @@ fn line_options_of(load: &ArgMatches<'_>) -> Option<LineOptions>
 {
     let skip = load.get_one("skip")?;
     let keep_going = load.get_one("keep-going")?;
-    Some(LineOptions { skip, keep_going })
+    let replace = load.get_one("replace")?;
+    Some(LineOptions {
+        skip,
+        keep_going,
+        replace,
+    })
 }
 
 /// The load that the matches ask for, if they ask for one.

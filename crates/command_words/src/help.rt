@@ -211,7 +211,10 @@ pub const LOADED: &str =
     "TEXT is what 'cobix list' writes in the same form. The lines are read first, and then written one after \
 another, up to the first that is refused.
 With '--keep-going' a line that is no record of this file, or whose WRITE answers 22, is told on standard \
-error, as 'cobix: line L: status 22' or 'cobix: line L: no record of this file', and passed over.
+error, as 'cobix: line L: status 22' or 'cobix: line L: no record of this file', and passed over. What is wrong \
+with a line that is no record's is told behind that: 'line L, column 3 CUST-CITY: 9 characters, 6 wanted'.
+With '--replace' a record whose WRITE answers 22 is put by REWRITE in the place of the one that has its prime \
+value. Where REWRITE answers 22 or 23, or 49 in a new file, which OPEN OUTPUT made, the line is refused with 22.
 Without '--into' a file that is there is left as it is, whatever it is.
 
 Forms:
@@ -224,9 +227,11 @@ is padded, cut or converted.
 
 Exit status:
   0   'loaded N': the records of all N lines were written, but for those that '--skip' passes over
-  1   'loaded N, rejected M': N records were written, and M lines told and passed over ('--keep-going')
-      'line L: status S': the WRITE of line L answered S; or 'line L: no record of this file'. The lines \
-before it were loaded
+      'loaded N, replaced M': M lines more replaced a record of the file ('--replace')
+  1   'loaded N, rejected M': N records were written, and M lines told and passed over ('--keep-going'); \
+or 'loaded N, replaced K, rejected M'
+      'line L: status S': the WRITE of line L, or a REWRITE behind it, answered S; or 'line L: no record of \
+this file', and what is wrong with it on standard error. The lines before it were loaded
       'open: status S' or 'close: status S': OPEN or CLOSE answered S
       'cobix: the file is there already': nothing was done
   2   the deck is refused: 'cobix: line L: fault C'

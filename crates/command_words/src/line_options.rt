@@ -1,10 +1,13 @@
 //! Which lines of a text a load takes.
 
-/// Which lines of a text are loaded, and whether a line that is rejected ends that.
+/// Which lines of a text are loaded, whether a line that is rejected ends that, and whether the record
+/// of a line may replace one of the file.
 #[derive(Clone, Copy, Debug, PartialEq, Eq)]
 pub struct LineOptions {
     /// How many lines behind the header are passed over, unread.
     pub skip: u64,
     /// Whether the load goes on behind a line that is rejected.
     pub keep_going: bool,
+    /// Whether the record of a line replaces the one that has its prime value already.
+    pub replace: bool,
 }

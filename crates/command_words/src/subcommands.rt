@@ -385,7 +385,7 @@ fn with_text<'a>(
     with_argument(formed, into)
 }
 
-/// A load with the options by which it skips lines, and keeps going.
+/// A load with the options by which it skips lines, keeps going, and replaces records.
 fn with_line_options<'a>(
     alloc: Global,
     load: Result<Command<'a>, AllocError>,
@@ -397,8 +397,14 @@ fn with_line_options<'a>(
         "keep-going",
         "Tells of a line that is rejected, and goes on behind it",
     );
+    let replace = flag(
+        alloc,
+        "replace",
+        "With '--into': where a record has the prime value of a line already, that line replaces it",
+    );
     let skipping = with_argument(load, skip(alloc));
-    with_argument(skipping, keep_going)
+    let going = with_argument(skipping, keep_going);
+    with_argument(going, replace)
 }
 
 /// `load`.

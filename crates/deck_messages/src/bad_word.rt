@@ -13,21 +13,13 @@ fn is_word_byte(byte: u8) -> bool {
     byte.is_ascii_alphanumeric() || matches!(byte, b'-' | b'(' | b')')
 }
 
-fn has(text: &[u8], byte: u8) -> bool {
-    text.contains(&byte)
-}
-
 /// Whether each byte of a text is one of these.
-fn has_none_but(text: &[u8], bytes: &[u8]) -> bool {
+pub fn has_none_but(text: &[u8], bytes: &[u8]) -> bool {
     text.iter().all(|byte| bytes.contains(byte))
 }
 
-fn has_word_bytes(text: &[u8]) -> bool {
-    text.iter().all(|byte| is_word_byte(*byte))
-}
-
-fn has_control(text: &[u8]) -> bool {
-    text.iter().any(|byte| byte.is_ascii_control())
+fn has_one_of(text: &[u8], bytes: &[u8]) -> bool {
+    text.iter().any(|byte| bytes.contains(byte))
 }
 
 /// How far a literal goes.
@@ -78,73 +70,52 @@ fn literal_reason(extent: &Extent) -> &'static str {
     "a space, a period or a comma has to come behind this literal"
 }
 
-/// Why a run is no word, where a point or a comma is in it.
-fn pointed_reason(text: &[u8]) -> &'static str {
-    if has_none_but(text, b"0123456789.,+-") {
-        return "there are no decimal points; a number is digits alone";
-    }
-    "a space has to come behind a period, a comma or a semicolon"
-}
-
 /// Why a run is no word, for the sake of one of its bytes.
 fn byte_reason(text: &[u8]) -> Option<&'static str> {
-    if has(text, b'*') {
-        return Some("comments are not read, neither * in column 7 nor *>; leave the line out");
-    }
-    if has(text, b'_') {
-        return Some("an underscore is in no word; write a hyphen");
-    }
-    if !text.is_ascii() {
-        return Some("a letter with an accent, or another byte that is not ASCII, is in no word");
-    }
-    if has_control(text) {
-        return Some("a character that cannot be printed is in no word");
-    }
-    if text.starts_with(b"/") {
-        return Some("comments are not read, nor / in column 7; leave the line out");
-    }
-    None
-}
-
-/// Why a run is no word, for the sake of a relation in it.
-fn relation_reason(text: &[u8]) -> Option<&'static str> {
-    if has_none_but(text, b"<>=") {
-        return Some("no relation; there are =, >, >=, NOT <, and those that are written out");
-    }
-    if has(text, b'=') || has(text, b'>') || has(text, b'<') {
-        return Some("a space has to come before and behind a relation");
-    }
-    None
+    Some(if text.starts_with(&ORDER_MARK) {
+        "a byte order mark stands before this word; save the deck without it"
+    } else if text.ends_with(b".") {
+        "a period too many"
+    } else if text.contains(&b'*') {
+        "comments are not read, neither * in column 7 nor *>; leave the line out"
+    } else if text.contains(&b'_') {
+        "an underscore is in no word; write a hyphen"
+    } else if !text.is_ascii() {
+        "a letter with an accent, or another byte that is not ASCII, is in no word"
+    } else if text.iter().any(|byte| byte.is_ascii_control()) {
+        "a character that cannot be printed is in no word"
+    } else if text.starts_with(b"/") {
+        "comments are not read, nor / in column 7; leave the line out"
+    } else {
+        return None;
+    })
 }
 
 /// Why a run is no word.
 fn run_reason(text: &[u8]) -> &'static str {
-    if text.starts_with(&ORDER_MARK) {
-        return "a byte order mark stands before this word; save the deck without it";
-    }
-    if text.ends_with(b".") {
-        return "a period too many";
-    }
     if let Some(reason) = byte_reason(text) {
-        return reason;
-    }
-    if let Some(reason) = relation_reason(text) {
-        return reason;
-    }
-    if has(text, b'.') || has(text, b',') || has(text, b';') {
-        return pointed_reason(text);
-    }
-    spelling_reason(text)
-}
-
-/// Why a run is no word, by its length or by the other bytes in it.
-fn spelling_reason(text: &[u8]) -> &'static str {
-    if !has_word_bytes(text) {
+        reason
+    } else if has_none_but(text, b"<>=") {
+        "no relation; there are =, >, >=, NOT <, and those that are written out"
+    } else if has_one_of(text, b"<>=") {
+        "a space has to come before and behind a relation"
+    } else if has_one_of(text, b".,;") {
+        pointed_reason(text)
+    } else if !text.iter().all(|byte| is_word_byte(*byte)) {
         "a word has letters, digits, hyphens and parentheses alone"
     } else if text.len() > WORD_LIMIT {
         "a word of more than 30 characters"
     } else {
         "a space has to come before a literal"
+    }
+}
+
+/// Why a run is no word, where a point or a comma is in it.
+fn pointed_reason(text: &[u8]) -> &'static str {
+    if has_none_but(text, b"0123456789.,+-") {
+        "there are no decimal points; a number is digits alone"
+    } else {
+        "a space has to come behind a period, a comma or a semicolon"
     }
 }
 
@@ -167,15 +138,6 @@ fn body_of(run: &[u8]) -> &[u8] {
     }
 }
 
-/// Why a run is no word, which ends before a mark or not.
-fn reason_of_run(run: &[u8], is_before_mark: bool) -> &'static str {
-    if is_before_mark && run.eq_ignore_ascii_case(b"X") {
-        "hexadecimal literals are not read; LOW-VALUES is bytes 0, HIGH-VALUES bytes 255"
-    } else {
-        run_reason(run)
-    }
-}
-
 /// How many bytes are no word, of those that begin where none is, and why.
 pub fn no_word(text: &[u8]) -> (usize, &'static str) {
     match text.first() {
@@ -192,10 +154,15 @@ fn no_run(text: &[u8]) -> (usize, &'static str) {
     let length = run_length(text);
     let (run, behind) = text.split_at(length.min(text.len()));
     match behind.first() {
-        Some(mark) if is_mark(*mark) => (length, reason_of_run(run, true)),
+        Some(mark) if is_mark(*mark) && run.eq_ignore_ascii_case(b"X") => {
+            let why =
+                "hexadecimal literals are not read; LOW-VALUES is bytes 0, HIGH-VALUES bytes 255";
+            (length, why)
+        }
+        Some(mark) if is_mark(*mark) => (length, run_reason(run)),
         _ => {
             let body = body_of(run);
-            (body.len(), reason_of_run(body, false))
+            (body.len(), run_reason(body))
         }
     }
 }

@@ -9,8 +9,10 @@
 #![tactic(auto)]
 
 mod bad_word;
+mod items;
+mod keys;
 mod lacking;
-mod limit;
+mod layout;
 mod not_allowed;
 mod texts;
 mod told;
@@ -20,4 +22,5 @@ mod unknown;
 mod wanted;
 
 pub use lacking::without;
+pub use layout::file_of;
 pub use told::message_of;

@@ -2,7 +2,7 @@
 
 use deck_words::{NotAllowed, WordPlace};
 use io_state::Access;
-use refused_deck::{Among, Message, Reading, Told, capitals};
+use refused_deck::{Among, Reading, Told, capitals};
 
 /// The most characters of the name of a file.
 const NAME_LIMIT: usize = 64;
@@ -47,56 +47,48 @@ fn of_access(deck: &Reading<'_>, place: WordPlace, file: usize, what: &str, want
         Some(selected) => access_word(selected.entry.access),
         None => "",
     };
-    let why = format!(in deck.alloc; "{what} wants ACCESS {wants}; {name} has {access}")?;
-    Ok(Message::new(deck.alloc, place, why))
+    let why = format!(in deck.alloc; "{what} wants ACCESS {wants}; {name} has {access}");
+    deck.tell(place, why)
 }
 
-fn no_key_of(deck: &Reading<'_>, place: WordPlace, file: usize) -> Told {
-    let file = deck.known.file_name(file);
-    let why = format!(in deck.alloc; "no key of {file}")?;
-    Message::new(deck.alloc, place, why).with_hint(deck.listed("its keys: ", &Among::KeysOf(file))?)
-}
-
-fn no_leading_key_of(deck: &Reading<'_>, place: WordPlace, file: usize) -> Told {
-    let file = deck.known.file_name(file);
-    let why = format!(in deck.alloc;
-        "neither a key of {file} nor an item at the beginning of one"
-    )?;
-    Message::new(deck.alloc, place, why).with_hint(deck.listed("its keys: ", &Among::KeysOf(file))?)
+/// What is told of an item that is no key of a file, nor begins one where that would do.
+fn no_key_of(deck: &Reading<'_>, place: WordPlace, file: usize, may_begin: bool) -> Told {
+    let name = deck.known.file_name(file);
+    let why = if may_begin {
+        format!(in deck.alloc; "neither a key of {name} nor an item at the beginning of one")
+    } else {
+        format!(in deck.alloc; "no key of {name}")
+    };
+    deck.tell(place, why)?
+        .with_hint(deck.listed("its keys: ", &Among::KeysOf(name))?)
 }
 
 /// What is told of an item of digits that does not take the source of a MOVE.
 fn not_taken(deck: &Reading<'_>, place: WordPlace, source: WordPlace) -> Told {
     let name = capitals(deck.text(place));
     let picture = deck.known.picture(name.as_str()).unwrap_or("9(n)");
-    let why = format!(in deck.alloc; "PIC {picture}, which takes digits alone")?;
+    let why = format!(in deck.alloc; "PIC {picture}, which takes digits alone");
     let source = deck.shown(source);
     let hint = format!(in deck.alloc;
         "it takes a number, a literal of digits, or ZEROS, and not {source}"
-    )?;
-    Message::new(deck.alloc, place, why).with_hint(hint)
+    );
+    deck.tell(place, why)?.with_hint(hint?)
 }
 
 /// What is told of something that is not allowed where it stands.
 pub fn not_allowed(deck: &Reading<'_>, place: WordPlace, what: NotAllowed) -> Told {
-    match what {
+    let (file, does, wants) = match what {
         NotAllowed::FileName => {
-            let why = file_name_reason(inner(deck.text(place)));
-            Message::saying(deck.alloc, place, why)
+            return deck.tell_text(place, file_name_reason(inner(deck.text(place))));
         }
-        NotAllowed::Open(file, _) => of_access(deck, place, file, "OPEN EXTEND", "SEQUENTIAL"),
-        NotAllowed::Start(file) => {
-            of_access(deck, place, file, "START", "SEQUENTIAL or DYNAMIC")
-        }
-        NotAllowed::Next(file) => {
-            of_access(deck, place, file, "READ NEXT", "SEQUENTIAL or DYNAMIC")
-        }
-        NotAllowed::Key(file) => {
-            of_access(deck, place, file, "READ with KEY", "RANDOM or DYNAMIC")
-        }
-        NotAllowed::KeyWithNext => Message::saying(deck.alloc, place, ""),
-        NotAllowed::NoKey(file) => no_key_of(deck, place, file),
-        NotAllowed::NoLeadingKey(file) => no_leading_key_of(deck, place, file),
-        NotAllowed::Source(source, _) => not_taken(deck, place, source),
-    }
+        NotAllowed::KeyWithNext => return deck.tell_text(place, ""),
+        NotAllowed::NoKey(file) => return no_key_of(deck, place, file, false),
+        NotAllowed::NoLeadingKey(file) => return no_key_of(deck, place, file, true),
+        NotAllowed::Source(source, _) => return not_taken(deck, place, source),
+        NotAllowed::Open(file, _) => (file, "OPEN EXTEND", "SEQUENTIAL"),
+        NotAllowed::Start(file) => (file, "START", "SEQUENTIAL or DYNAMIC"),
+        NotAllowed::Next(file) => (file, "READ NEXT", "SEQUENTIAL or DYNAMIC"),
+        NotAllowed::Key(file) => (file, "READ with KEY", "RANDOM or DYNAMIC"),
+    };
+    of_access(deck, place, file, does, wants)
 }

@@ -3,7 +3,7 @@ ghost use Rattle.std.specs.Prelude.{IfOk, string_bytes};
 ghost use Rattle.deck_messages.specs.Texts.{SaysCause, SaysWhy};
 
 use crate::bad_word::no_word;
-use crate::limit::too_many_digits;
+use crate::layout::bad_layout;
 use crate::not_allowed::not_allowed;
 use crate::texts::text_of_cause;
 use crate::twice::twice;
@@ -12,7 +12,7 @@ use crate::unknown::unknown;
 use crate::wanted::WantedWords;
 use deck_reader::DeckRefusal;
 use deck_words::{Cause, Refusal, WordPlace};
-use refused_deck::{Message, Reading, Told, bad_layout};
+use refused_deck::{Message, Reading, Told};
 use std::alloc::{AllocError, Global};
 
 /// What is told of bytes that are no word.
@@ -21,7 +21,14 @@ fn bad_word(deck: &Reading<'_>, place: WordPlace) -> Told {
     let (_, text) = deck.bytes.split_at(start.min(deck.bytes.len()));
     let (length, why) = no_word(text);
     let end = u32::try_from(start.saturating_add(length)).unwrap_or(place.end);
-    Message::saying(deck.alloc, WordPlace { end, ..place }, why)
+    deck.tell_text(WordPlace { end, ..place }, why)
+}
+
+/// What is told of a number with too many digits.
+fn too_many_digits(deck: &Reading<'_>, place: WordPlace) -> Told {
+    let digits = deck.text(place).len();
+    let why = format!(in deck.alloc; "a number of {digits} digits; a number has at most 18");
+    deck.tell(place, why)
 }
 
 /// What is told of a fault whose text is that of its deck.

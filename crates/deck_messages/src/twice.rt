@@ -1,27 +1,19 @@
 //! What stands a second time.
 
 use deck_words::{Twice, WordPlace};
-use refused_deck::{Among, Message, Reading, Told, item_word};
+use refused_deck::{Among, Reading, Told};
 
 fn already(deck: &Reading<'_>, place: WordPlace, what: &str, line: u64) -> Told {
-    let why = format!(in deck.alloc; "{what} already, in line {line}")?;
-    Ok(Message::new(deck.alloc, place, why))
+    deck.tell(
+        place,
+        format!(in deck.alloc; "{what} already, in line {line}"),
+    )
 }
 
-/// What is told of an item of an FD whose name an item of an earlier file has.
-fn of_item(deck: &Reading<'_>, place: WordPlace, name: &str, file: usize) -> Told {
-    for earlier in 0..file {
-        if let Some((fd, at)) = deck.known.item_of(earlier, name) {
-            let line = item_word(deck, fd, at).line;
-            let file = deck.known.file_name(earlier);
-            let why = format!(in deck.alloc; "{file} has an item of this name, in line {line}")?;
-            return Message::new(deck.alloc, place, why).with_text(
-                deck.alloc,
-                "data names are unique in a deck: name one of the two items otherwise",
-            );
-        }
-    }
-    already(deck, place, "this name is there", place.line)
+/// The word of the item of a file that has this name.
+fn item_of(deck: &Reading<'_>, file: usize, name: &str) -> Option<WordPlace> {
+    let (fd, at) = deck.known.item_of(file, name)?;
+    Some(deck.item_word(fd, at))
 }
 
 /// What is told of an FD with an item whose name an item of an earlier file has.
@@ -29,10 +21,17 @@ fn item_twice(deck: &Reading<'_>, fd: WordPlace, file: usize) -> Told {
     let own = deck.known.file_name(file);
     let names = deck.known.names(deck.alloc, &Among::ItemsOf(own))?;
     for name in &names {
-        let name = *name;
-        let is_earlier = (0..file).any(|earlier| deck.known.item_of(earlier, name).is_some());
-        if let (true, Some((_, at))) = (is_earlier, deck.known.item_of(file, name)) {
-            return of_item(deck, item_word(deck, fd, at), name, file);
+        for earlier in 0..file {
+            if let Some(first) = item_of(deck, earlier, name) {
+                let line = first.line;
+                let place = item_of(deck, file, name).unwrap_or(fd);
+                let file = deck.known.file_name(earlier);
+                let why = format!(in deck.alloc; "{file} has an item of this name, in line {line}");
+                return deck.tell(place, why)?.with_text(
+                    deck.alloc,
+                    "data names are unique in a deck: name one of the two items otherwise",
+                );
+            }
         }
     }
     already(deck, fd, "a name of an item is there", fd.line)
@@ -40,12 +39,10 @@ fn item_twice(deck: &Reading<'_>, fd: WordPlace, file: usize) -> Told {
 
 /// The line of the first 77 item, or item of a file, that has this name.
 fn first_line_of(deck: &Reading<'_>, name: &str) -> u64 {
-    if let Some((fd, at)) = deck.known.item(name) {
-        return item_word(deck, fd, at).line;
-    }
-    match deck.known.storage_place(name) {
-        Some(place) => place.line,
-        None => 1,
+    match (deck.known.item(name), deck.known.storage_place(name)) {
+        (Some((described, at)), _) => deck.item_word(described.place, at).line,
+        (None, Some(place)) => place.line,
+        (None, None) => 1,
     }
 }
 

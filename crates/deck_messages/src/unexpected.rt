@@ -76,39 +76,16 @@ fn of_columns(deck: &Reading<'_>, place: WordPlace) -> Option<&'static str> {
     None
 }
 
-/// What is told of the level of an entry of level 88, where this word stands in it.
-fn of_condition(deck: &Reading<'_>, place: WordPlace) -> Result<Option<Message>, AllocError> {
+/// The level of the entry in which this word stands, where it is the VALUE of a condition name.
+fn level_of_condition(deck: &Reading<'_>, place: WordPlace) -> Option<WordPlace> {
     if !says_one_of(deck.text(place), &["VALUE", "VALUES"]) {
-        return Ok(None);
+        return None;
     }
-    let Some(level) = deck.entry_before(place) else {
-        return Ok(None);
-    };
-    if deck.text(level) != b"88".as_slice() {
-        return Ok(None);
-    }
-    let why = "there are no condition names, of level 88; leave the entry out";
-    Ok(Some(Message::saying(deck.alloc, level, why)?))
-}
-
-/// What is told of a word that is not read, there or anywhere.
-fn of_lacking(
-    deck: &Reading<'_>,
-    place: WordPlace,
-    wanted: &WantedWords<'_>,
-) -> Result<Option<Message>, AllocError> {
-    let alloc = deck.alloc;
-    let word = deck.text(place);
-    if let Some(reason) = of_columns(deck, place) {
-        return Ok(Some(Message::saying(alloc, place, reason)?));
-    }
-    if let Some(text) = without_here(wanted, word) {
-        let message = Message::saying(alloc, place, "not read here")?;
-        return Ok(Some(message.with_text(alloc, text)?));
-    }
-    match without(word) {
-        Some(text) => Ok(Some(Message::not_read(alloc, place, text)?)),
-        None => Ok(None),
+    let level = deck.entry_before(place)?;
+    if says(deck.text(level), "88") {
+        Some(level)
+    } else {
+        None
     }
 }
 
@@ -139,24 +116,32 @@ fn why_not_here(
 
 /// What is told where the deck ends too early.
 fn of_end(deck: &Reading<'_>, wanted: &WantedWords<'_>) -> Told {
-    let alloc = deck.alloc;
     let message = match deck.words.last() {
-        Some(last) => Message::saying(alloc, *last, "the deck ends behind this word, too early")?,
-        None => Message::saying(alloc, START, "the deck has no word")?,
+        Some(last) => deck.tell_text(*last, "the deck ends behind this word, too early")?,
+        None => deck.tell_text(START, "the deck has no word")?,
     };
-    message.with_hint(wanted.expected(alloc)?)
+    message.with_hint(wanted.expected(deck.alloc)?)
 }
 
 /// What is told of a word that does not fit.
 fn of_word(deck: &Reading<'_>, place: WordPlace, wanted: &WantedWords<'_>) -> Told {
-    if let Some(message) = of_condition(deck, place)? {
-        return Ok(message);
+    if let Some(level) = level_of_condition(deck, place) {
+        let why = "there are no condition names, of level 88; leave the entry out";
+        return deck.tell_text(level, why);
     }
-    if let Some(message) = of_lacking(deck, place, wanted)? {
-        return Ok(message);
+    if let Some(reason) = of_columns(deck, place) {
+        return deck.tell_text(place, reason);
     }
-    let why = why_not_here(deck, place, wanted)?;
-    Message::new(deck.alloc, place, why).with_hint(wanted.expected(deck.alloc)?)
+    if let Some(text) = without_here(wanted, deck.text(place)) {
+        return deck
+            .tell_text(place, "not read here")?
+            .with_text(deck.alloc, text);
+    }
+    if let Some(text) = without(deck.text(place)) {
+        return Message::not_read(deck.alloc, place, text);
+    }
+    deck.tell(place, why_not_here(deck, place, wanted))?
+        .with_hint(wanted.expected(deck.alloc)?)
 }
 
 /// What is told of a word that is no verb, and was taken for the name of a paragraph.
@@ -166,17 +151,16 @@ fn of_no_verb(
     name: WordPlace,
     wanted: &WantedWords<'_>,
 ) -> Told {
-    let alloc = deck.alloc;
-    if let Some(verb) = wanted.misspelt(deck.text(name)) {
+    let message = if let Some(verb) = wanted.misspelt(deck.text(name)) {
         let verb = Shown(verb);
-        let why = format!(in alloc; "perhaps {verb}, misspelt")?;
-        return Message::new(alloc, name, why).with_hint(wanted.expected(alloc)?);
-    }
-    if lacks_period(deck, place)? {
-        return Message::saying(alloc, place, "a period is missing before this word");
-    }
-    let why = "no verb, and no name of a paragraph, which has a period behind it";
-    Message::saying(alloc, name, why)?.with_hint(wanted.expected(alloc)?)
+        deck.tell(name, format!(in deck.alloc; "perhaps {verb}, misspelt"))?
+    } else if lacks_period(deck, place)? {
+        return deck.tell_text(place, "a period is missing before this word");
+    } else {
+        let why = "no verb, and no name of a paragraph, which has a period behind it";
+        deck.tell_text(name, why)?
+    };
+    message.with_hint(wanted.expected(deck.alloc)?)
 }
 
 /// What is told where no period stands behind a word that was taken for the name of a paragraph.
@@ -186,21 +170,21 @@ fn of_paragraph(
     name: WordPlace,
     wanted: &WantedWords<'_>,
 ) -> Told {
-    let alloc = deck.alloc;
     if deck.text(place).is_empty() {
         let why = "the deck ends behind this word, too early";
-        return Message::saying(alloc, name, why)?.with_text(alloc, "expected: a period");
+        return deck
+            .tell_text(name, why)?
+            .with_text(deck.alloc, "expected: a period");
     }
     if says(deck.text(place), "SECTION") {
-        let why = "the procedure has paragraphs, and no sections";
-        return Message::saying(alloc, place, why);
+        return deck.tell_text(place, "the procedure has paragraphs, and no sections");
     }
     if says(deck.text(name), "END") {
         let why = "END PROGRAM is not read; a deck ends with its last sentence";
-        return Message::saying(alloc, name, why);
+        return deck.tell_text(name, why);
     }
     match without(deck.text(name)) {
-        Some(text) => Message::not_read(alloc, name, text),
+        Some(text) => Message::not_read(deck.alloc, name, text),
         None => of_no_verb(deck, place, name, wanted),
     }
 }

@@ -5,31 +5,42 @@ use deck_words::{Unknown, WordPlace};
 use refused_deck::{Among, Message, Named, Reading, Told, capitals};
 use std::alloc::AllocError;
 
-/// What a name is where something else is wanted, or that nothing has it.
+/// What a name is, where something else is wanted, or that nothing has it.
 fn of_name(deck: &Reading<'_>, place: WordPlace, wants: &str, nothing: &str) -> Told {
     let alloc = deck.alloc;
     let why = match deck.known.named(capitals(deck.text(place)).as_str()) {
-        Some(Named::File) => format!(in alloc; "a file; {wants}")?,
-        Some(Named::RecordOf(file)) => format!(in alloc; "a record of {file}; {wants}")?,
-        Some(Named::ItemOf(file)) => format!(in alloc; "an item of {file}; {wants}")?,
-        Some(Named::StorageItem) => format!(in alloc; "a 77 item; {wants}")?,
-        None => String::from_str(alloc, nothing)?,
+        Some(Named::File) => format!(in alloc; "a file; {wants}"),
+        Some(Named::RecordOf(file)) => format!(in alloc; "a record of {file}; {wants}"),
+        Some(Named::ItemOf(file)) => format!(in alloc; "an item of {file}; {wants}"),
+        Some(Named::StorageItem) => format!(in alloc; "a 77 item; {wants}"),
+        None => String::from_str(alloc, nothing),
     };
-    Ok(Message::new(alloc, place, why))
+    deck.tell(place, why)
+}
+
+/// The same, with a line of what may be meant, and a line of the names of a kind.
+fn of_name_among(
+    deck: &Reading<'_>,
+    place: WordPlace,
+    told: (&str, &str),
+    meant: String,
+    names: (&str, Among<'_>),
+) -> Told {
+    of_name(deck, place, told.0, told.1)?
+        .with_hint(meant)?
+        .with_hint(deck.listed(names.0, &names.1)?)
 }
 
 fn no_select(deck: &Reading<'_>, place: WordPlace) -> Told {
-    let why = "no SELECT entry selects a file of this name";
-    Message::saying(deck.alloc, place, why)?
+    deck.tell_text(place, "no SELECT entry selects a file of this name")?
         .with_hint(deck.perhaps(&Among::Files, deck.text(place))?)?
         .with_hint(deck.listed("files: ", &Among::Files)?)
 }
 
 fn no_description(deck: &Reading<'_>, select: WordPlace) -> Told {
     let place = deck.subject(select);
-    Message::saying(deck.alloc, place, "this file has a SELECT entry and no FD")?.with_hint(
-        deck.perhaps(&Among::Descriptions, deck.text(place))?,
-    )
+    deck.tell_text(place, "this file has a SELECT entry and no FD")?
+        .with_hint(deck.perhaps(&Among::Descriptions, deck.text(place))?)
 }
 
 /// The first key of a SELECT entry that is no item of the record.
@@ -50,8 +61,8 @@ fn no_key(deck: &Reading<'_>, select: WordPlace, file: usize) -> Told {
     let place = unknown_key(deck, select, file)?;
     let why = format!(in deck.alloc;
         "a key has to be an item of the record of {file}, and none has this name"
-    )?;
-    Message::new(deck.alloc, place, why)
+    );
+    deck.tell(place, why)?
         .with_hint(deck.perhaps(&Among::ItemsOf(file), deck.text(place))?)?
         .with_hint(deck.listed("its items: ", &Among::ItemsOf(file))?)
 }
@@ -60,9 +71,9 @@ fn no_length_item(deck: &Reading<'_>, fd: WordPlace, file: usize) -> Told {
     let name = deck.known.length_item(deck.known.file_name(file));
     let place = deck.named_in(fd, name);
     let nothing = "no 77 item of WORKING-STORAGE has this name";
-    of_name(deck, place, "DEPENDING ON wants a 77 item", nothing)?
-        .with_hint(deck.perhaps(&Among::Storage, deck.text(place))?)?
-        .with_hint(deck.listed("77 items: ", &Among::Storage)?)
+    let meant = deck.perhaps(&Among::Storage, deck.text(place))?;
+    let told = ("DEPENDING ON wants a 77 item", nothing);
+    of_name_among(deck, place, told, meant, ("77 items: ", Among::Storage))
 }
 
 /// A line with the file to which a name belongs, or one that is spelled nearly so.
@@ -78,10 +89,17 @@ fn file_meant(deck: &Reading<'_>, place: WordPlace) -> Result<String, AllocError
 fn no_file(deck: &Reading<'_>, place: WordPlace) -> Told {
     let verb = deck.verb(place);
     let wants = format!(in deck.alloc; "{verb} wants a file")?;
-    let nothing = "no SELECT entry selects a file of this name";
-    of_name(deck, place, wants.as_str(), nothing)?
-        .with_hint(file_meant(deck, place)?)?
-        .with_hint(deck.listed("files: ", &Among::Files)?)
+    let told = (
+        wants.as_str(),
+        "no SELECT entry selects a file of this name",
+    );
+    of_name_among(
+        deck,
+        place,
+        told,
+        file_meant(deck, place)?,
+        ("files: ", Among::Files),
+    )
 }
 
 /// A line with the record of a file.
@@ -104,36 +122,25 @@ fn record_meant(deck: &Reading<'_>, place: WordPlace, verb: &str) -> Result<Stri
 fn no_record(deck: &Reading<'_>, place: WordPlace) -> Told {
     let verb = deck.verb(place);
     let wants = format!(in deck.alloc; "{verb} wants a record")?;
-    of_name(
-        deck,
-        place,
-        wants.as_str(),
-        "no file has a record of this name",
-    )?
-    .with_hint(record_meant(deck, place, verb)?)?
-    .with_hint(deck.listed("records: ", &Among::Records)?)
+    let told = (wants.as_str(), "no file has a record of this name");
+    let meant = record_meant(deck, place, verb)?;
+    of_name_among(deck, place, told, meant, ("records: ", Among::Records))
 }
 
 fn no_key_item(deck: &Reading<'_>, place: WordPlace, file: usize) -> Told {
     let file = deck.known.file_name(file);
     let wants = format!(in deck.alloc; "KEY IS wants an item of {file}")?;
-    of_name(deck, place, wants.as_str(), "no item has this name")?.with_hint(deck.listed(
-        "its keys: ",
-        &Among::KeysOf(file),
-    )?)
+    let none = String::new(deck.alloc);
+    let told = (wants.as_str(), "no item has this name");
+    of_name_among(deck, place, told, none, ("its keys: ", Among::KeysOf(file)))
 }
 
 fn no_receiver(deck: &Reading<'_>, place: WordPlace) -> Told {
     let name = capitals(deck.text(place));
+    let told = ("MOVE wants an item or a record", "no item has this name");
+    let meant = deck.perhaps(&Among::Targets, deck.text(place))?;
     let record = Among::RecordOf(name.as_str());
-    of_name(
-        deck,
-        place,
-        "MOVE wants an item or a record",
-        "no item has this name",
-    )?
-    .with_hint(deck.perhaps(&Among::Targets, deck.text(place))?)?
-    .with_hint(deck.listed("its record: ", &record)?)
+    of_name_among(deck, place, told, meant, ("its record: ", record))
 }
 
 fn no_operand(deck: &Reading<'_>, place: WordPlace, unknown: Unknown) -> Told {

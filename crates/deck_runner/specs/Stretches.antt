@@ -60,7 +60,8 @@ trace_by StopRun run lines = untouched
 -- why the line of a statement of unit u's file, with records of n bytes, has its status. 30: the
 -- count of the device's faults rose in this statement, or it is CLOSE of a connector that has
 -- failed. 92: the connector has failed. 24: the statement should succeed, and the file has no room
--- for it; and where that is so, the status is 24, 30 or 90. 91: it is an OPEN
+-- for it; and where that is so, the status is 24, 30 or 90. 91: it is an OPEN. 90 of an OPEN OUTPUT:
+-- the count of the device's faults stayed in this statement
 pub record LineIsCaused {S : Type 0} (library : Shown S) (u : ℕ) (statement : FileStatement) (n : ℕ)
     (file : FileState) (before after : S) (status : Status) : Type 0 where
   pub cause : StatusHasCause statement file.connector.session status

@@ -18,9 +18,9 @@ use Rattle.record_heap.proofs.StandLemmas.{heap_kept, chain_live}
 use Rattle.key_index.specs.declared.entry.PrimeEntry.{PrimeEntry}
 use Rattle.key_index.specs.declared.prime_index.PrimeIndex.{PrimeIndex}
 use Rattle.key_index.specs.Stored.{entry_at}
-use Rattle.index_building.specs.declared.prime_builder.PrimeBuilder.{PrimeBuilder}
-use Rattle.index_building.specs.Building.{IsBuildingPrime, PrimeBuildsOn, HasBuiltPrime, PrimeEntriesRise}
-use Rattle.index_building.proofs.LawLemmas.{prime_live, prime_aside, heap_apart, heap_aside}
+use Rattle.tree_building.specs.declared.prime_builder.PrimeBuilder.{PrimeBuilder}
+use Rattle.tree_building.specs.IndexBuilding.{IsBuildingPrime, PrimeBuildsOn, HasBuiltPrime, PrimeEntriesRise}
+use Rattle.tree_building.proofs.LawLemmas.{prime_live, prime_aside, heap_apart, heap_aside}
 use Rattle.open_file.specs.InOrder.{prime_entries, alt_entries}
 use Rattle.open_file.specs.Stored.{stored}
 use Rattle.open_file.specs.Stands.{IsPlaced}

@@ -9,8 +9,8 @@ use Rattle.key_index.specs.declared.alt_index.AltIndex.{AltIndex}
 use Rattle.key_index.specs.Stored.{alt_bytes, alt_entry_in, IsAltEntry}
 use Rattle.key_index.specs.Standing.{AltStands, AltChanged}
 use Rattle.byteorder.specs.Numbers.{length-bytes_high_first}
-use Rattle.index_building.specs.declared.alt_builder.AltBuilder.{AltBuilder}
-use Rattle.index_building.specs.Building.{IsBuildingAlt, AltBuildsOn, HasBuiltAlt}
+use Rattle.tree_building.specs.declared.alt_builder.AltBuilder.{AltBuilder}
+use Rattle.tree_building.specs.IndexBuilding.{IsBuildingAlt, AltBuildsOn, HasBuiltAlt}
 use Rattle.file_building.specs.declared.walk.TreeWalk.{TreeWalk}
 use Rattle.file_building.specs.Walk.{HasWalked, BeginsWalk}
 use Rattle.file_building.specs.CopiedEntries.{HasCopiedEntries}

@@ -12,8 +12,8 @@ use Rattle.key_index.specs.declared.alt_index.AltIndex.{AltIndex}
 use Rattle.key_index.specs.declared.prime_index.PrimeIndex.{PrimeIndex}
 use Rattle.key_index.specs.Stored.{alt_bytes, IsAltEntry}
 use Rattle.key_index.specs.Standing.{AltStands, AltChanged, alt_key}
-use Rattle.index_building.specs.declared.alt_builder.AltBuilder.{AltBuilder}
-use Rattle.index_building.specs.Building.{AltBuildsOn, AltEntriesRise, IsAltBuilderOf, IsBuiltFrom}
+use Rattle.tree_building.specs.declared.alt_builder.AltBuilder.{AltBuilder}
+use Rattle.tree_building.specs.IndexBuilding.{AltBuildsOn, AltEntriesRise, IsAltBuilderOf, IsBuiltFrom}
 use Rattle.open_file.specs.Stands.{Stands}
 use Rattle.open_file.specs.Fields.{file_schema, alternates_of}
 use Rattle.open_file.specs.Lent.{LendsToChange}

@@ -17,7 +17,7 @@ use Rattle.record_heap.specs.Filling.{IsFilling, built_shape}
 use Rattle.record_heap.specs.Standing.{slot_shape}
 use Rattle.key_index.specs.declared.prime_index.PrimeIndex.{PrimeIndex}
 use Rattle.key_index.specs.declared.alt_index.AltIndex.{AltIndex}
-use Rattle.index_building.specs.Building.{IsBuildingPrime}
+use Rattle.tree_building.specs.IndexBuilding.{IsBuildingPrime}
 use Rattle.open_file.specs.InOrder.{prime_entries, alt_entries}
 use Rattle.open_file.specs.Stored.{stored}
 use Rattle.open_file.specs.Stands.{IsPlaced}

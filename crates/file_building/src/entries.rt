@@ -8,10 +8,10 @@ ghost use Rattle.file_building.specs.CopiedEntries.{CanPushBytes, PutsEntry, End
 
 use crate::fault::CopyFault;
 use crate::walk::TreeWalk;
-use index_building::AltBuilder;
 use key_index::{AltEntry, AltIndex};
 use pages::Pages;
 use std::alloc::Global;
+use tree_building::AltBuilder;
 use tree_node::Entry;
 
 /// An index with the entries of this one, so many.

@@ -7,12 +7,12 @@ ghost use Rattle.file_building.specs.Fault.{KeepsBuilding};
 ghost use Rattle.file_building.specs.Rows.{IsRowsBuilderOf, CanPushRow, PushesRow, FinishesRows};
 ghost use Rattle.file_building.specs.Rows.{builder_width};
 
-use index_building::PrimeBuilder;
 use io_state::Fault;
 use key_index::PrimeIndex;
 use pages::Pages;
 use record_heap::{Heap, HeapBuilder, Shape};
 use std::alloc::Global;
+use tree_building::PrimeBuilder;
 
 /// The heap and the prime index of a file that is being built, side by side.
 #[derive(Drop)]

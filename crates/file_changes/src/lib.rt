@@ -5,8 +5,8 @@
 //! broken, but for Full, which leaves it as it was. What reads a file, makes one or writes its
 //! header is not here.
 //!
-//! Read `specs/FileChange.antt` for the three changes of a list of rows, `specs/Changes.antt` for
-//! what is promised of each, and then `adding`.
+//! Read `specs/Changes.antt` for what a change answers and leaves, `specs/Contents.antt` for the
+//! parts of a file that it steps through, and then `adding`.
 #![tactic(auto)]
 
 mod adding;

@@ -9,10 +9,10 @@ use Rattle.record_listing.specs.declared.file_list.FileList.{FileList}
 use Rattle.record_listing.specs.declared.file_list.FileList.TheVariants.{Listed, NoKey, Unsound}
 use Rattle.folder_shelf.specs.Replay.{Unseen}
 use Rattle.record_listing.specs.ByPath.{ByReadsAside, ListsAtPath}
-use Rattle.recorded_system.specs.Calls.{Call}
-use Rattle.recorded_system.specs.SystemState.{SystemState}
-use Rattle.recorded_system.specs.Reading.{ByReads}
-use Rattle.recorded_system.proofs.ReadingLemmas.{both_reading}
+use Rattle.folder_shelf.specs.Calls.{Call}
+use Rattle.folder_shelf.specs.SystemState.{SystemState}
+use Rattle.folder_shelf.specs.Reading.{ByReads}
+use Rattle.folder_shelf.proofs.ReadingLemmas.{both_reading}
 use Rattle.command_words.specs.Asks.{form_text}
 use Rattle.command_words.specs.declared.form_words.FormWords.{FormWords}
 use Rattle.command_outcomes.specs.Status.{status_of}

@@ -3,7 +3,7 @@ use Rattle.std.proofs.Common.{◌≡◌, ℕ, List, [], ◌∷◌, Some, Result,
 use Rattle.std.specs.Global.{Vec}
 use Rattle.record_layout.specs.Schema.{Schema}
 use Rattle.schema_listing.specs.Listing.{read_of_file}
-use Rattle.recorded_system.specs.Calls.{taken_shared}
+use Rattle.folder_shelf.specs.Calls.{taken_shared}
 use Rattle.file_commands.specs.Differing.{differences_of_page, GivesDifferences}
 use Rattle.command_outcomes.specs.declared.fault.Fault.{Fault}
 use Rattle.command_outcomes.specs.declared.fault.Fault.TheVariants.{Memory}

@@ -4,7 +4,7 @@ use Rattle.clap.specs.Words.{Text}
 use Rattle.record_forms.specs.Parts.{do_rise}
 use Rattle.command_words.specs.Asks.{FormText, form_text}
 use Rattle.command_words.specs.declared.form_words.FormWords.{FormWords}
-use Rattle.recorded_system.specs.Calls.{Call}
+use Rattle.folder_shelf.specs.Calls.{Call}
 use Rattle.file_commands.specs.Cuts.{AreCuts}
 use Rattle.file_commands.specs.DeckFile.{IsDeckAsked, IsDeckFault, ComesOfDeck}
 use Rattle.file_commands.specs.Front.{IsDeckNamed, IsDeckReadBy}

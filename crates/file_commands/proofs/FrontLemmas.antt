@@ -8,7 +8,7 @@ use Rattle.page_store.specs.DeviceFile.{page_of_bytes}
 use Rattle.file_header.specs.Reading.{number_in}
 use Rattle.file_checker.specs.Sound.{asked_in}
 use Rattle.system_files.specs.Front.{IsFrontRead, IsTextRead}
-use Rattle.recorded_system.specs.Calls.{Call, taken, taken_shared}
+use Rattle.folder_shelf.specs.Calls.{Call, taken, taken_shared}
 use Rattle.file_commands.specs.Front.{IsTextTaken, GivesSuch, ReadsNamed, ReadsTextNamed, ReadsCounted, longest_line, asked_by, counted_calls}
 use Rattle.command_outcomes.specs.Status.{status_of}
 use Rattle.command_outcomes.specs.declared.fault.Fault.{Fault}

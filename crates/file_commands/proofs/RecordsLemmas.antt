@@ -8,7 +8,7 @@ use Rattle.record_listing.specs.FileList.{EndsIn}
 use Rattle.record_listing.specs.declared.file_list.FileList.{FileList}
 use Rattle.command_words.specs.Asks.{form_text}
 use Rattle.command_words.specs.declared.form_words.FormWords.{FormWords}
-use Rattle.recorded_system.specs.Calls.{Call}
+use Rattle.folder_shelf.specs.Calls.{Call}
 use Rattle.file_commands.specs.Front.{counted_calls}
 use Rattle.file_commands.specs.Forms.{IsFormBy, IsFormRefused}
 use Rattle.file_commands.specs.Records.{AgreesWith, WritesOther, IsAskedBy, ListsAsked, ListsFile, ToldOfList}

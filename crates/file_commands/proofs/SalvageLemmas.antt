@@ -9,7 +9,7 @@ use Rattle.command_words.specs.Asks.{FormText, form_text}
 use Rattle.command_words.specs.declared.form_words.FormWords.{FormWords}
 use Rattle.file_commands.specs.Forms.{ComesOfForm, IsFormToldBy}
 use Rattle.file_commands.specs.declared.forms.ListForm.{ListForm}
-use Rattle.recorded_system.specs.Calls.{Call, taken_shared}
+use Rattle.folder_shelf.specs.Calls.{Call, taken_shared}
 use Rattle.file_commands.specs.DeckFile.{IsDeckFault}
 use Rattle.file_commands.specs.Front.{GivesSuch, word_in}
 use Rattle.file_commands.specs.Salvaged.{IsSchemaIn, IsSchemaAsked, GivesSchemaAsked, GivesSalvageForm, IsSalvageFormBy, IsSalvageRefused, SalvagesBytes, SalvagesFile}

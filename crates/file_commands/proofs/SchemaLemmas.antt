@@ -6,7 +6,7 @@ use Rattle.schema_listing.specs.Comparing.{TellsDifferences}
 use Rattle.schema_listing.specs.Listing.{TellsHeader, read_of_file}
 use Rattle.schema_listing.specs.declared.first_page.Refusal.{Refusal}
 use Rattle.file_control.specs.Description.{FileDesc}
-use Rattle.recorded_system.specs.Calls.{Call}
+use Rattle.folder_shelf.specs.Calls.{Call}
 use Rattle.file_commands.specs.DeckFile.{IsDeckFault, IsOfDeck}
 use Rattle.file_commands.specs.Front.{IsDeckNamed, word_in}
 use Rattle.file_commands.specs.Schema.{ComparesFile, TellsFile, ComparesPaths, AnswersSchema, IsSchemaFault, ComesOfFile, IsOfSchema, IsOfComparison}

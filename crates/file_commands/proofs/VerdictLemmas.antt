@@ -5,7 +5,7 @@ use Rattle.clap.specs.Words.{Text}
 use Rattle.file_checker.specs.declared.verdict.Verdict.{Verdict}
 use Rattle.command_outcomes.specs.declared.outcome.WorstCheck.{WorstCheck}
 use Rattle.command_outcomes.specs.declared.outcome.WorstCheck.TheVariants.{AllSound}
-use Rattle.recorded_system.specs.Calls.{Call}
+use Rattle.folder_shelf.specs.Calls.{Call}
 use Rattle.file_checker.specs.Sound.{IsRight}
 use Rattle.command_outcomes.specs.declared.fault.Fault.{Fault}
 use Rattle.file_commands.specs.Front.{GivesSuch, counted_calls}

@@ -17,8 +17,8 @@ use Rattle.record_listing.specs.declared.file_list.FileList.{FileList}
 use Rattle.record_listing.specs.declared.file_list.FileList.TheVariants.{Listed, NoKey, Unsound}
 use Rattle.folder_shelf.specs.Replay.{Unseen}
 use Rattle.record_listing.specs.ByPath.{ListsAtPath}
-use Rattle.path_shelf.specs.Answers.{are_answers_of}
-use Rattle.recorded_system.specs.Calls.{Call, taken_shared}
+use Rattle.folder_shelf.specs.Answers.{are_answers_of}
+use Rattle.folder_shelf.specs.Calls.{Call, taken_shared}
 use Rattle.command_outcomes.specs.Status.{status_of}
 use Rattle.command_outcomes.specs.declared.fault.Fault.{Fault}
 use Rattle.command_outcomes.specs.declared.outcome.Outcome.{Outcome}

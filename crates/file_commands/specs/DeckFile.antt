@@ -8,7 +8,7 @@ use Rattle.deck_reader.specs.declared.deck.Deck.{Deck}
 use Rattle.deck_reader.specs.Deck.{IsDeck}
 use Rattle.deck_runner.specs.DeckRun.{IsNoDeck}
 use Rattle.deck_words.specs.declared.fault.DeckFault.{DeckFault}
-use Rattle.recorded_system.specs.Calls.{Call}
+use Rattle.folder_shelf.specs.Calls.{Call}
 use Rattle.file_commands.specs.Front.{OfNamedDeck}
 use Rattle.command_outcomes.specs.declared.fault.Fault.{Fault}
 use Rattle.command_outcomes.specs.declared.fault.Fault.TheVariants.{Deck as DeckRefused, NoSuchFile, Input}

@@ -6,7 +6,7 @@ use Rattle.file_header.specs.declared.header.Header.{Header}
 use Rattle.schema_listing.specs.declared.first_page.Refusal.{Refusal}
 use Rattle.schema_listing.specs.Differences.{differences}
 use Rattle.schema_listing.specs.Listing.{read_of_file}
-use Rattle.recorded_system.specs.Calls.{Call, taken_shared}
+use Rattle.folder_shelf.specs.Calls.{Call, taken_shared}
 use Rattle.command_outcomes.specs.declared.fault.Fault.{Fault}
 use Rattle.command_outcomes.specs.declared.fault.Fault.TheVariants.{Memory}
 

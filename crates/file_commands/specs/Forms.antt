@@ -13,7 +13,7 @@ use Rattle.command_words.specs.declared.form_words.FormWords.{FormWords}
 use Rattle.file_commands.specs.declared.forms.Columns.{Columns}
 use Rattle.file_commands.specs.declared.forms.ListForm.{ListForm}
 use Rattle.file_commands.specs.Cuts.{AreCuts}
-use Rattle.recorded_system.specs.Calls.{Call}
+use Rattle.folder_shelf.specs.Calls.{Call}
 use Rattle.file_commands.specs.Front.{IsDeckNamed, IsDeckReadBy}
 use Rattle.file_commands.specs.DeckFile.{IsOfDeck, IsHalf, IsDeckAsked}
 use Rattle.command_outcomes.specs.declared.form_fault.FormFault.{FormFault}

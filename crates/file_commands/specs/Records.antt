@@ -17,7 +17,7 @@ use Rattle.command_outcomes.specs.declared.fault.Fault.{Fault}
 use Rattle.command_outcomes.specs.declared.fault.Fault.TheVariants.{LongValue}
 use Rattle.command_words.specs.Asks.{FormText, form_text}
 use Rattle.command_words.specs.declared.form_words.FormWords.{FormWords}
-use Rattle.recorded_system.specs.Calls.{Call}
+use Rattle.folder_shelf.specs.Calls.{Call}
 use Rattle.file_commands.specs.Bound.{unescaped}
 use Rattle.file_commands.specs.Front.{OfCountedFile, word_in}
 use Rattle.file_commands.specs.Forms.{IsFormBy, IsListRefused}

@@ -11,7 +11,7 @@ use Rattle.salvaged_records.specs.Salvaged.{EndsWith, Outputs, outputs, with_gat
 use Rattle.command_words.specs.Asks.{FormText}
 use Rattle.file_commands.specs.Forms.{IsFormBy, IsFormRefused}
 use Rattle.file_commands.specs.declared.forms.ListForm.{ListForm}
-use Rattle.recorded_system.specs.Calls.{Call, taken_shared}
+use Rattle.folder_shelf.specs.Calls.{Call, taken_shared}
 use Rattle.file_commands.specs.DeckFile.{IsOfDeck}
 use Rattle.file_commands.specs.Front.{IsDeckNamed, word_in}
 use Rattle.file_commands.specs.Records.{AgreesWith, WritesOther}

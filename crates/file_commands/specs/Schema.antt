@@ -14,7 +14,7 @@ use Rattle.schema_listing.specs.declared.comparing.Comparison.{Comparison}
 use Rattle.file_control.specs.Description.{FileDesc}
 use Rattle.schema_listing.specs.Comparing.{TellsDifferences}
 use Rattle.file_commands.specs.DeckFile.{IsOfDeck, IsDeckAsked, IsDeckFile, IsHalf, IsDeckFault}
-use Rattle.recorded_system.specs.Calls.{Call}
+use Rattle.folder_shelf.specs.Calls.{Call}
 use Rattle.file_commands.specs.Front.{IsDeckNamed, IsDeckReadBy, OfFirstPage, GivesSuch, word_in}
 use Rattle.command_outcomes.specs.Status.{status_of}
 use Rattle.command_outcomes.specs.declared.form_fault.FormFault.TheVariants.{HalfDeck}

@@ -10,7 +10,7 @@ use Rattle.file_checker.specs.declared.verdict.Verdict.{Verdict}
 use Rattle.file_checker.specs.declared.verdict.Verdict.TheVariants.{Sound, Unsound}
 use Rattle.record_forms.specs.Columns.{text_of}
 use Rattle.system_files.specs.declared.cause.Cause.{Cause}
-use Rattle.recorded_system.specs.Calls.{Call}
+use Rattle.folder_shelf.specs.Calls.{Call}
 use Rattle.file_commands.specs.Front.{OfCountedFile, IsUnreadBy}
 use Rattle.file_commands.specs.declared.verdict.NoVerdict.{NoVerdict}
 use Rattle.file_commands.specs.declared.verdict.NoVerdict.TheVariants.{Unread, Memory}

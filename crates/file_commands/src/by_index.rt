@@ -1,6 +1,7 @@
 //! The list of the records of the file of a path, read page after page.
 ghost use Rattle.std.specs.Prelude.{◌≡◌, []};
-ghost use Rattle.recorded_system.specs.Reading.{ByReads};
+ghost use Rattle.command_outcomes.specs.Status.{status_of};
+ghost use Rattle.folder_shelf.specs.Reading.{ByReads};
 ghost use Rattle.record_listing.specs.ByPath.{ByReadsAside};
 ghost use Rattle.file_commands.specs.ByIndex.{TellsReason, ToldOfPages, ReadsStart, ListsPages, ListsByIndex};
 
@@ -10,13 +11,13 @@ use crate::listing::{Bounds, asked_by, is_other};
 use command_outcomes::{Fault, Outcome};
 use command_words::FormWords;
 use file_checker::{Verdict, check_bytes};
-use folder_shelf::Disk;
+use folder_shelf::{CallRecord, Disk, System};
 use record_forms::Form;
 use record_listing::{Asked, FileList, ListEnd, ListFault, list_at_path};
-use recorded_system::{CallRecord, System};
 use std::alloc::Global;
 use std::io::{Read, Write};
 use streams::Progress;
+use system_files::ReadFault;
 
 /// What is listed of a file, in which form, and the first page of the file.
 #[derive(Drop)]
@@ -47,6 +48,16 @@ fn reason_of<S: System, P: Progress>(
     }
 }
 
+/// Why a file was not read page after page, as the system tells it of the last that it did not read.
+fn not_listed<S: System>(system: &S) -> Fault
+    ensures { status_of result ≡ 4 }
+{
+    match system.unread().last() {
+        Some(unread) => not_read(ReadFault::Device(unread.cause)),
+        None => Fault::Input,
+    }
+}
+
 /// Tells how a list that was read page after page ended. Where a page is not what its place requires,
 /// the whole file is checked, to tell why.
 fn told_pages<S: System, P: Progress>(
@@ -64,7 +75,7 @@ fn told_pages<S: System, P: Progress>(
         Ok(ListEnd::Absent | ListEnd::Unsound | ListEnd::Damaged) => {
             reason_of(system, alloc, path, progress)
         }
-        Err(ListFault::Input) => Err(Fault::Input),
+        Err(ListFault::Input) => Err(not_listed(system)),
         Err(ListFault::Output) => Err(Fault::Output),
         Err(ListFault::Memory) => Err(Fault::Memory),
     }

@@ -1,6 +1,6 @@
 //! The deck in a file as a COBOL program.
 ghost use Rattle.std.specs.Prelude.{◌≡◌};
-ghost use Rattle.recorded_system.specs.Reading.{ByReads};
+ghost use Rattle.folder_shelf.specs.Reading.{ByReads};
 ghost use Rattle.file_commands.specs.Listed.{form_of, IsInCobol, GivesText, WritesCobolAt};
 
 use crate::deck_list::refused;
@@ -8,7 +8,7 @@ use crate::file_bytes::read_deck_bytes;
 use crate::text::write_text;
 use cobol_program::{Form, write_program};
 use command_outcomes::{Fault, Outcome};
-use recorded_system::System;
+use folder_shelf::System;
 use std::alloc::Global;
 use std::io::{Read, Write};
 

@@ -1,7 +1,7 @@
 //! The schema of a file, held against that of a file of a deck.
 ghost use Rattle.std.specs.Prelude.{[]};
 ghost use Rattle.schema_listing.specs.Listing.{read_of_file};
-ghost use Rattle.recorded_system.specs.Reading.{ByReads};
+ghost use Rattle.folder_shelf.specs.Reading.{ByReads};
 ghost use Rattle.file_commands.specs.Schema.{ComparesAs, ComparesFile, IsOfComparison, ComesOfFile};
 ghost use Rattle.file_commands.specs.Schema.{ComparesPaths};
 
@@ -9,8 +9,8 @@ use crate::deck::{deck_at, file_in};
 use crate::file_bytes::read_first_page;
 use crate::first_page::fault_of;
 use command_outcomes::{Fault, Outcome};
+use folder_shelf::System;
 use record_layout::Schema;
-use recorded_system::System;
 use schema_listing::compare_schema;
 use std::alloc::Global;
 use std::io::{Read, Write};

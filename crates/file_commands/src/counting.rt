@@ -1,6 +1,6 @@
 //! The count of what the file of a path has.
 ghost use Rattle.std.specs.Prelude.{◌≡◌};
-ghost use Rattle.recorded_system.specs.Reading.{ByReads};
+ghost use Rattle.folder_shelf.specs.Reading.{ByReads};
 ghost use Rattle.file_commands.specs.Counted.{CountsFileAt};
 ghost use Rattle.file_commands.specs.Front.{DoesBy};
 ghost use Rattle.command_outcomes.specs.Status.{status_of};
@@ -8,7 +8,7 @@ ghost use Rattle.command_outcomes.specs.Status.{status_of};
 use crate::file_bytes::{fault_of as not_read, read_counted};
 use command_outcomes::{Fault, Outcome};
 use file_statistics::{FileStatisticsEnd, StatisticsFault, list_statistics};
-use recorded_system::System;
+use folder_shelf::System;
 use std::alloc::Global;
 use std::io::Write;
 use streams::Silent;

@@ -1,13 +1,13 @@
 //! The deck in a file, and a file of it.
 ghost use Rattle.std.specs.Prelude.{◌≡◌, None, find, option_map, IfOk, IfErr};
-ghost use Rattle.recorded_system.specs.Reading.{ByReads};
+ghost use Rattle.folder_shelf.specs.Reading.{ByReads};
 ghost use Rattle.file_commands.specs.DeckFile.{is_named_in_deck, IsFileOf, IsDeckAt, ComesOfDeck, GivesDeck};
 
 use crate::file_bytes::read_deck_bytes;
 use command_outcomes::Fault;
 use deck_runner::{Deck, RunFault, read_deck};
 use file_control::FileDesc;
-use recorded_system::System;
+use folder_shelf::System;
 use std::alloc::Global;
 use std::io::Read;
 

@@ -3,7 +3,7 @@ ghost use Rattle.std.specs.Prelude.{◌≢◌};
 ghost use Rattle.deck_reader.specs.declared.deck.Deck.{Deck as ToldDeck};
 ghost use Rattle.deck_reader.specs.Deck.{IsDeck};
 ghost use Rattle.deck_listing.specs.Listing.{Lists};
-ghost use Rattle.recorded_system.specs.Reading.{ByReads};
+ghost use Rattle.folder_shelf.specs.Reading.{ByReads};
 ghost use Rattle.file_commands.specs.Listed.{IsRefusalOf, IsListFault, GivesText, ListsDeckAt};
 
 use crate::file_bytes::read_deck_bytes;
@@ -11,7 +11,7 @@ use crate::text::write_text;
 use command_outcomes::{Fault, Outcome, RefusedDeck};
 use deck_listing::{diagnose, list_deck};
 use file_control::DeckFault;
-use recorded_system::System;
+use folder_shelf::System;
 use std::alloc::Global;
 use std::io::{Read, Write};
 

@@ -1,8 +1,8 @@
 //! The bytes of a file: of a deck, of records, or of a text.
 ghost use Rattle.std.specs.Prelude.{◌≡◌, ◌≢◌, [], ◌∷◌, Some, false, take, IsTrue, IfOk, OnErr};
 ghost use Rattle.system_files.specs.Front.{IsFrontRead, IsTextRead};
-ghost use Rattle.recorded_system.specs.Calls.{taken, taken_shared};
-ghost use Rattle.recorded_system.specs.Reading.{ByReads};
+ghost use Rattle.folder_shelf.specs.Calls.{taken, taken_shared};
+ghost use Rattle.folder_shelf.specs.Reading.{ByReads};
 ghost use Rattle.command_outcomes.specs.Status.{status_of};
 ghost use Rattle.file_commands.specs.Front.{asked_by, longest_line, IsTextTaken, GivesSuch};
 ghost use Rattle.file_commands.specs.Front.{ReadsDeckNamed, ReadsTextNamed, ReadsCounted};
@@ -10,8 +10,8 @@ ghost use Rattle.file_commands.specs.Front.{ReadsDeckNamed, ReadsTextNamed, Read
 use byteorder::{BigEndian, ByteOrder};
 use command_outcomes::Fault;
 use file_control::DECK_LIMIT;
+use folder_shelf::System;
 use pages::PAGE_SIZE;
-use recorded_system::System;
 use std::alloc::Global;
 use std::io::{ErrorKind, Read};
 use streams::{Progress, Silent};

@@ -1,7 +1,7 @@
 //! The schema of a file, by its first page, told or held against that of a file of a deck.
 ghost use Rattle.std.specs.Prelude.{◌≡◌, []};
 ghost use Rattle.schema_listing.specs.Listing.{read_of_file};
-ghost use Rattle.recorded_system.specs.Reading.{ByReads};
+ghost use Rattle.folder_shelf.specs.Reading.{ByReads};
 ghost use Rattle.file_commands.specs.Schema.{TellsAs, TellsFile, IsOfSchema, ComesOfFile, AnswersSchema};
 ghost use Rattle.file_commands.specs.Schema.{listing_told_as};
 ghost use Rattle.command_outcomes.specs.Status.{status_of};
@@ -9,7 +9,7 @@ ghost use Rattle.command_outcomes.specs.Status.{status_of};
 use crate::comparing::compare_path;
 use crate::file_bytes::read_first_page;
 use command_outcomes::{Fault, FormFault, Outcome};
-use recorded_system::System;
+use folder_shelf::System;
 use schema_listing::{ListingFault, list_schema};
 use std::alloc::Global;
 use std::io::{Read, Write};
@@ -57,7 +57,7 @@ fn schema_path<S: System, W: Write>(
     write_schema(alloc, bytes.as_slice(), out)
 }
 
-#[tactic(auto, using(recorded_system::proofs::ReadingLemmas::by_none))]
+#[tactic(auto, using(folder_shelf::proofs::ReadingLemmas::by_none))]
 /// Writes the schema of the file of a path, or how it differs from that of a file of a deck.
 pub fn schema<S: System, I: Read, W: Write>(
     system: &mut S,

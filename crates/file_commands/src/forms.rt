@@ -2,7 +2,7 @@
 ghost use Rattle.std.specs.Prelude.{◌≡◌, ℕ, List, [], Option, codes};
 ghost use Rattle.file_commands.specs.Cuts.{AreNoCuts};
 ghost use Rattle.file_commands.specs.DeckFile.{ComesOfDeck};
-ghost use Rattle.recorded_system.specs.Reading.{ByReads};
+ghost use Rattle.folder_shelf.specs.Reading.{ByReads};
 ghost use Rattle.file_commands.specs.Forms.{AreBetweenCuts, IsWholeRecord, AreItemsAt, AreColumnsBy};
 ghost use Rattle.file_commands.specs.Forms.{IsFormToldBy, ComesOfCuts, ComesOfForm, WantsOnlyMemory};
 
@@ -10,9 +10,9 @@ use crate::cuts::read_cuts;
 use crate::deck::{deck_at, file_in};
 use command_outcomes::{Fault, FormFault};
 use command_words::FormWords;
+use folder_shelf::System;
 use record_forms::{Column, CutFault, Form, cut_columns, item_columns, whole_column};
 use record_layout::Schema;
-use recorded_system::System;
 use std::alloc::Global;
 use std::io::Read;
 
@@ -91,7 +91,7 @@ fn whole(alloc: Global) -> Result<Columns, Fault>
     }
 }
 
-#[tactic(auto, using(recorded_system::proofs::ReadingLemmas::by_none))]
+#[tactic(auto, using(folder_shelf::proofs::ReadingLemmas::by_none))]
 /// The columns that words ask for.
 fn columns_of<S: System, I: Read>(
     system: &mut S,
@@ -125,7 +125,7 @@ fn text_form(asked: FormWords<'_>) -> Result<ListForm, Fault>
     }
 }
 
-#[tactic(auto, using(recorded_system::proofs::ReadingLemmas::by_none))]
+#[tactic(auto, using(folder_shelf::proofs::ReadingLemmas::by_none))]
 /// The form that words ask for, with its columns. `Form`: they ask for none. `Deck`, `NoSuchFile`:
 /// the deck is refused, or does not have the file.
 pub fn form_of<S: System, I: Read>(

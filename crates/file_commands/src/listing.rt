@@ -1,6 +1,6 @@
 //! The list of the records of the file of a path.
 ghost use Rattle.std.specs.Prelude.{◌≡◌, option_map};
-ghost use Rattle.recorded_system.specs.Reading.{ByReads};
+ghost use Rattle.folder_shelf.specs.Reading.{ByReads};
 ghost use Rattle.file_commands.specs.Front.{word_in, GivesSuch};
 ghost use Rattle.file_commands.specs.Records.{IsAskedBy, FitsValue, ToldOfList, ListsFile, TellsOther};
 
@@ -10,9 +10,9 @@ use crate::first_page::fault_of;
 use crate::forms::form_of;
 use command_outcomes::{Fault, Outcome};
 use command_words::FormWords;
+use folder_shelf::System;
 use record_layout::Schema;
 use record_listing::{Asked, FileList, ListFault, list_file_as};
-use recorded_system::System;
 use schema_listing::{Comparison, compare_schema};
 use std::alloc::Global;
 use std::io::{Read, Write};

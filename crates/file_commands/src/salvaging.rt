@@ -1,6 +1,6 @@
 //! The records that are left in the file of a path.
 ghost use Rattle.std.specs.Prelude.{◌≡◌};
-ghost use Rattle.recorded_system.specs.Reading.{ByReads};
+ghost use Rattle.folder_shelf.specs.Reading.{ByReads};
 ghost use Rattle.salvaged_records.specs.Salvaged.{outputs, with_gate_closed};
 ghost use Rattle.command_words.specs.Asks.{form_text};
 ghost use Rattle.file_commands.specs.DeckFile.{ComesOfDeck};
@@ -15,10 +15,10 @@ use crate::forms::{ListForm, form_of};
 use crate::listing::is_other;
 use command_outcomes::{Fault, FormFault, Outcome};
 use command_words::FormWords;
+use folder_shelf::System;
 use record_forms::Form;
 use record_layout::Schema;
 use record_listing::ListFault;
-use recorded_system::System;
 use salvaged_records::{SalvageForm, close_gate, salvage_records};
 use std::alloc::Global;
 use std::io::{Read, Write};

@@ -8,8 +8,8 @@ use Rattle.page_store.specs.DeviceFile.{DeviceFile, IsWithin, IsThere, overlay, 
 use Rattle.page_store.specs.Calls.{ReadsBytes, Created, CreateFails, WrittenAt, WriteFails, Synced}
 use Rattle.page_store.specs.ShelfState.{ShelfState, unit_file, ChangesOnly}
 use Rattle.page_store.proofs.TornLemmas.{part_torn}
-use Rattle.recorded_system.specs.Calls.{Call, made, read, held, written, flushed}
-use Rattle.recorded_system.specs.SystemState.{SystemState, file_path, with_call, noted_of}
+use Rattle.folder_shelf.specs.Calls.{Call, made, read, held, written, flushed}
+use Rattle.folder_shelf.specs.SystemState.{SystemState, file_path, with_call, noted_of}
 use Rattle.folder_shelf.specs.Replay.{Unseen, replay, folder_state}
 use Rattle.folder_shelf.specs.ReplayLaws.{is_long_enough, left_by_write, length_left}
 

@@ -2,7 +2,7 @@
 use Rattle.std.proofs.Common.{◌≡◌, ◌<◌, ℕ, ◌==◌, Bool, true, List, [], ◌∷◌, length, Some, None, refl, ap, sym, ◌∙◌, arith, if◌then◌else◌}
 use Rattle.std.proofs.lemmas.Bool.{ne_eqb}
 use Rattle.std.proofs.lemmas.Grind.{common_steps}
-use Rattle.recorded_system.specs.Calls.{Call, looked, made, measured, read, held, written, flushed, entered, asked_of_folder, taken, taken_shared, streams_held}
+use Rattle.folder_shelf.specs.Calls.{Call, looked, made, measured, read, held, written, flushed, entered, asked_of_folder, taken, taken_shared, streams_held}
 use Rattle.folder_shelf.specs.Replay.{Unseen, DiskFiles, after_system_call, replay}
 use Rattle.folder_shelf.specs.FolderLaws.{disk_so, files_at_first, each_disk_goes_so, each_way_has_its_disk}
 

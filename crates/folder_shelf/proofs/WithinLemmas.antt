@@ -3,8 +3,8 @@ use Rattle.std.proofs.Common.{◌≡◌, ◌<◌, ◌&&◌, [], ◌∷◌, ◌++
 use Rattle.std.proofs.lemmas.List.{get_or-map}
 use Rattle.std.proofs.Math.Seq.{take-append_seam}
 use Rattle.std.proofs.lemmas.Slice.Eq.{bytes_eq-Decides}
-use Rattle.recorded_system.specs.Calls.{Call}
-use Rattle.recorded_system.specs.SystemState.{SystemState, file_path, unit_path, noted_of}
+use Rattle.folder_shelf.specs.Calls.{Call}
+use Rattle.folder_shelf.specs.SystemState.{SystemState, file_path, unit_path, noted_of}
 use Rattle.folder_shelf.specs.Within.{is_below, stay_within}
 
 same : (bytes : List ℕ) → bytes_eq bytes bytes ≡ true

@@ -1,8 +1,8 @@
 -- The calls of a shelf that failed.
 use Rattle.std.specs.Prelude.{ℕ, ◌+◌, ◌-◌, ◌^◌, ◌==◌, min, Bool, false, not, List, [], ◌∷◌, length, is_some}
 use Rattle.std.specs.Prelude.{if◌then◌else◌}
-use Rattle.recorded_system.specs.Calls.{Call, looked, made, measured, read, held, written, flushed, entered}
-use Rattle.recorded_system.specs.Calls.{asked_of_folder, taken, taken_shared, streams_held}
+use Rattle.folder_shelf.specs.Calls.{Call, looked, made, measured, read, held, written, flushed, entered}
+use Rattle.folder_shelf.specs.Calls.{asked_of_folder, taken, taken_shared, streams_held}
 
 -- what was asked of a unit's file was not done, or not told
 abbrev pub is_failed_call : Call → Bool

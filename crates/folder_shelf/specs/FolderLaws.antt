@@ -2,7 +2,7 @@
 -- what no code can read of a disk is any of these ways.
 use Rattle.std.specs.Prelude.{◌≡◌, ℕ, Bool, true, List, [], ◌∷◌}
 use Rattle.page_store.specs.DeviceFile.{DeviceFile}
-use Rattle.recorded_system.specs.Calls.{Call}
+use Rattle.folder_shelf.specs.Calls.{Call}
 use Rattle.folder_shelf.specs.Replay.{Unseen, DiskFiles, after_system_call, replay}
 
 -- a disk on which a file that could not be made is there, or is not, and a write that failed leaves

@@ -1,5 +1,13 @@
+pub mod Calls
+pub mod SystemState
+pub mod Kept
+pub mod Reading
 pub mod FailedCalls
 pub mod Within
 pub mod Replay
 pub mod ReplayLaws
 pub mod FolderLaws
+pub mod Answers
+pub mod Reads
+pub mod Shelf
+pub mod ShelfLaws

@@ -3,9 +3,9 @@ use Rattle.std.specs.Prelude.{ℕ, ◌+◌, ◌==◌, nat_le, Bool, true, false,
 use Rattle.std.specs.Prelude.{[], ◌∷◌, ◌++◌, length, take, drop, bytes_eq, Some, None, is_some}
 use Rattle.page_store.specs.DeviceFile.{DeviceFile, created, wrote, synced, content}
 use Rattle.page_store.specs.ShelfState.{ShelfState}
-use Rattle.recorded_system.specs.Calls.{Call, looked, made, measured, read, held, written, flushed, entered}
-use Rattle.recorded_system.specs.Calls.{asked_of_folder, taken, taken_shared, streams_held}
-use Rattle.recorded_system.specs.SystemState.{SystemState, file_path}
+use Rattle.folder_shelf.specs.Calls.{Call, looked, made, measured, read, held, written, flushed, entered}
+use Rattle.folder_shelf.specs.Calls.{asked_of_folder, taken, taken_shared, streams_held}
+use Rattle.folder_shelf.specs.SystemState.{SystemState, file_path}
 
 -- what no code can read of a disk
 pub record Unseen : Type 0 where

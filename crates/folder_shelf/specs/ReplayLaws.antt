@@ -10,8 +10,8 @@ use Rattle.page_store.proofs.ImageLemmas.{leaves_written, leaves_synced}
 use Rattle.page_store.proofs.TornLemmas.{part_torn}
 use Rattle.page_store.proofs.FileLemmas.{some_bytes}
 use Rattle.page_store.proofs.MadeLemmas.{made_image}
-use Rattle.recorded_system.specs.Calls.{Call, looked, made, measured, read, held, written, flushed, entered}
-use Rattle.recorded_system.specs.Calls.{asked_of_folder, taken, taken_shared, streams_held}
+use Rattle.folder_shelf.specs.Calls.{Call, looked, made, measured, read, held, written, flushed, entered}
+use Rattle.folder_shelf.specs.Calls.{asked_of_folder, taken, taken_shared, streams_held}
 use Rattle.folder_shelf.specs.Replay.{Unseen, DiskFiles, put_file, is_held_before, after_system_call, replay}
 
 -- the file is there and has at least n bytes

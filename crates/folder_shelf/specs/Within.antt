@@ -1,8 +1,8 @@
 -- Calls on the files of one folder, and on nothing else.
 use Rattle.std.specs.Prelude.{◌≡◌, ℕ, Bool, true, false, ◌&&◌, List, [], ◌∷◌, ◌++◌, length, take, bytes_eq, codes}
-use Rattle.recorded_system.specs.Calls.{Call, looked, made, measured, read, held, written, flushed, entered}
-use Rattle.recorded_system.specs.Calls.{asked_of_folder, taken, taken_shared, streams_held}
-use Rattle.recorded_system.specs.SystemState.{SystemState}
+use Rattle.folder_shelf.specs.Calls.{Call, looked, made, measured, read, held, written, flushed, entered}
+use Rattle.folder_shelf.specs.Calls.{asked_of_folder, taken, taken_shared, streams_held}
+use Rattle.folder_shelf.specs.SystemState.{SystemState}
 
 -- the path begins with that of the folder
 abbrev pub is_below : (folder path : List ℕ) → Bool

@@ -3,15 +3,15 @@ ghost use Rattle.std.specs.Prelude.{◌≡◌, ◌+◌, ◌-◌, ◌^◌, min, [
 ghost use Rattle.std.proofs.Props.{props};
 ghost use Rattle.io_state.specs.declared.fault.Fault.TheVariants.{Device};
 ghost use Rattle.page_store.specs.ShelfState.{FaultHasCause};
-ghost use Rattle.recorded_system.specs.SystemState.{entered_at};
+ghost use Rattle.folder_shelf.specs.SystemState.{entered_at};
 ghost use Rattle.folder_shelf.specs.FailedCalls.{failed_calls};
 ghost use Rattle.folder_shelf.specs.Replay.{folder_state};
 ghost use Rattle.folder_shelf.specs.Within.{StaysWithin};
 
 use crate::disk::Disk;
+use crate::system::System;
 use io_state::{Fault, FileName};
 use page_store::{GrowingShelf, Shelf};
-use recorded_system::System;
 use std::marker::PhantomData;
 use system_files::Cause;
 
@@ -59,7 +59,7 @@ impl<S: System + Drop, D: Disk> FolderShelf<S, D> {
 
 impl<S: System + Drop, D: Disk> Shelf for FolderShelf<S, D> {
     ghost use Rattle.folder_shelf.specs.ReplayLaws.{replay_sound};
-    ghost use Rattle.recorded_system.specs.SystemState.{file_path};
+    ghost use Rattle.folder_shelf.specs.SystemState.{file_path};
 
     ghost state = { λ shelf. folder_state D.Disk.unseen (S.state shelf.system) };
 

@@ -39,8 +39,16 @@ pub record RestartsCount {S : Type 0} (shown : Shown S) (u : ℕ) (old new : S) 
   pub frames : shown.frames new ≡ shown.frames old
   pub images : AllStay shown.moments old new
 
+-- a call on unit u lacked memory, and that is all: its name stands for what it stood for, a crash
+-- leaves of every name what it could leave before, and no further fault of the device was counted
+pub record LacksMemoryAlone {S : Type 0} (shown : Shown S) (u : ℕ) (old new : S) : Type 0 where
+  pub named : named_at (shown.world new) u ≡ named_at (shown.world old) u
+  pub images : AllStay shown.moments old new
+  pub count : shown.fault_count new ≡ shown.fault_count old
+
 -- a call that opens unit u, or looks whether it can be opened: a fault leaves it shut. It is no
--- Damage where the library is honest, since a first page that is not right is refused
+-- Damage where the library is honest, since a first page that is not right is refused; and Memory
+-- stands for no other fault
 pub record OpensUnit {S X : Type 0} (shown : Shown S) (u : ℕ) (trace : Trace) (old new : S)
     (result : Result X Fault) : Type 0 where
   pub err : OnErr result (holding_at (shown.world new) u ≡ Shut)
@@ -48,6 +56,7 @@ pub record OpensUnit {S X : Type 0} (shown : Shown S) (u : ℕ) (trace : Trace) 
   pub only : OnlyAt u (shown.world old) (shown.world new)
   pub fault : IfErr result (MayAnswerShut shown u old new)
   pub undamaged : IsTrue (shown.is_honest new) → IfErr result (λ fault. fault ≢ Damage)
+  pub memory : result ≡ Err Memory → LacksMemoryAlone shown u old new
   pub images : CallGoes shown u trace old new
   pub others : LeavesOthers shown u old new
   pub keeps : Keeps shown old new

@@ -1,7 +1,7 @@
 -- Calls of which the earlier ones were set aside.
 use Rattle.std.proofs.Common.{◌≡◌, List, ◌++◌, ap}
-use Rattle.recorded_system.specs.Calls.{Call}
-use Rattle.recorded_system.specs.Reading.{AreReading}
+use Rattle.folder_shelf.specs.Calls.{Call}
+use Rattle.folder_shelf.specs.Reading.{AreReading}
 use Rattle.record_listing.specs.ByPath.{ByReadsAside}
 
 pub set_aside : {IsSo : List Call → Type 0} (old aside new : List Call) → aside ≡ old → AreReading new → IsSo new → ByReadsAside IsSo old aside new

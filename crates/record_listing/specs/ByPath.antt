@@ -6,9 +6,9 @@ use Rattle.record_listing.specs.declared.end.ListEnd.{ListEnd}
 use Rattle.record_listing.specs.declared.end.ListFault.{ListFault}
 use Rattle.record_listing.specs.FileList.{EndsOfFile}
 use Rattle.folder_shelf.specs.Replay.{Unseen}
-use Rattle.path_shelf.specs.Answers.{are_answers_of}
-use Rattle.recorded_system.specs.Calls.{Call}
-use Rattle.recorded_system.specs.Reading.{AreReading}
+use Rattle.folder_shelf.specs.Answers.{are_answers_of}
+use Rattle.folder_shelf.specs.Calls.{Call}
+use Rattle.folder_shelf.specs.Reading.{AreReading}
 
 -- after these earlier calls others were made that only read, and no more; the earlier ones may have been
 -- set aside; and this is so of the others

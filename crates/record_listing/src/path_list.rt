@@ -5,10 +5,8 @@ ghost use Rattle.record_listing.specs.ByPath.{ByReadsAside, ListsAtPath};
 use crate::asked::Asked;
 use crate::end::{ListEnd, ListFault};
 use crate::shelf_list::list_shelf;
-use folder_shelf::Disk;
-use path_shelf::PathShelf;
+use folder_shelf::{CallRecord, Disk, PathShelf, System};
 use record_forms::Form;
-use recorded_system::{CallRecord, System};
 use std::alloc::Global;
 use std::io::Write;
 

@@ -1,15 +1,17 @@
 -- The parts of a load follow one another.
-use Rattle.std.proofs.Common.{◌≡◌, ◌<◌, ℕ, Bool, true, false, not, ◌&&◌, List, [], ◌∷◌, length, slice_set, slice_index_or, refl, sym, subst, ◌∙◌, arith, true≢false}
+use Rattle.std.proofs.Common.{◌≡◌, ◌<◌, ℕ, Bool, true, false, not, ◌&&◌, ◌||◌, inl, inr, List, [], ◌∷◌, length, slice_set, slice_index_or, refl, sym, subst, ◌∙◌, arith, true≢false}
 use denote.Ref.{Bor}
 use Rattle.io_state.specs.declared.status.Status.{Status}
 use Rattle.io_state.specs.declared.statement.FileStatement.{FileStatement}
-use Rattle.io_state.specs.declared.statement.FileStatement.TheVariants.{Write}
+use Rattle.io_state.specs.declared.statement.FileStatement.TheVariants.{Write, Rewrite}
 use Rattle.io_state.specs.Status.{is_successful}
 use Rattle.indexed_file.specs.World.{World, FileUnit, Absent, Shut, OnlyAt}
 use Rattle.indexed_file.specs.Calls.{Keeps}
 use Rattle.indexed_file.specs.Moments.{JoinsStretches, EndsNow}
 use Rattle.indexed_file.specs.Shown.{Shown}
 use Rattle.verbs.specs.declared.answer.Answer.{Answer}
+use Rattle.verbs.specs.Connector.{answers}
+use Rattle.verbs.specs.Marred.{Step}
 use Rattle.verbs.specs.Held.{Held, silent}
 use Rattle.verbs.specs.Fits.{Fits}
 use Rattle.verbs.specs.Performed.{FileInMemory, IsPerformed, Trusted, in_memory, state_in}
@@ -21,13 +23,16 @@ use Rattle.record_reading.specs.Mistake.{IsLineMistake}
 use Rattle.record_reading.specs.declared.mistake.LineMistake.{LineMistake}
 use Rattle.record_loading.specs.declared.options.LoadOptions.{LoadOptions}
 use Rattle.record_loading.specs.declared.rejected.RejectReason.TheVariants.{Refused, NoRecord}
-use Rattle.record_loading.specs.declared.writing.PassedLine.TheVariants.{Written, Rejected, Stopped}
-use Rattle.record_loading.specs.Going.{LoadGoesOn, PassesLineOf}
-use Rattle.record_loading.specs.Passing.{behind_line, is_refused_for_keys, ends_lines}
+use Rattle.record_loading.specs.declared.writing.PassedLine.TheVariants.{Written, Replaced, Rejected, Stopped}
+use Rattle.record_loading.specs.declared.writing.PassedLine.{PassedLine}
+use Rattle.record_loading.specs.Going.{LoadGoesOn, PassesLineOf, passing_in}
+use Rattle.record_loading.specs.declared.rejected.RejectReason.{RejectReason}
+use Rattle.record_loading.specs.Passing.{IsRecordReplaced, IsNotReplaced, IsRefusedLine, IsRejected, IsEnd, behind_line, is_refused_for_keys, replaces_nothing, ends_lines}
+use Rattle.record_loading.specs.Replacing.{IsPassedBy}
 use Rattle.record_loading.proofs.HeaderLemmas.{shorter}
 use Rattle.record_loading.proofs.PassingLemmas.{behind_shorter}
 use Rattle.record_loading.proofs.RealLemmas.{real_goes, real_both}
-use Rattle.record_loading.proofs.WrittenLemmas.{written_here, keys_here, refused_here}
+use Rattle.record_loading.proofs.WrittenLemmas.{written_here, keys_here, refused_here, replaced_here, not_replaced_here, not_replacing_here}
 
 abbrev no_unit : FileUnit
 no_unit = record { name = []; named = Absent; holding = Shut }
@@ -43,6 +48,15 @@ both_true : (first second : Bool) → not (first && second) ≡ false → (first
 both_true true true e = (refl, refl)
 both_true true false e = absurd (true≢false e)
 both_true false second e = absurd (true≢false e)
+
+-- a WRITE that is no success and does not end the lines was refused for its keys
+pub refused_keys : (options : LoadOptions) (status : Status) → ends_lines options status ≡ false → is_refused_for_keys status ≡ true
+refused_keys options status goes_on = (both_true (options.keep_going || options.replace) (is_refused_for_keys status) goes_on).1
+
+-- one of two is true, and it is not the other
+other_true : (first other : Bool) → (first || other) ≡ true → other ≡ false → first ≡ true
+other_true true other e none = refl
+other_true false other e none = absurd (true≢false (sym e ∙ none))
 
 module _ {S : Type 0} (shown : Shown S) where
   pub goes_self : (held : Held) (library : S) → Fits held (shown.world library) 0 → LoadGoesOn shown (in_memory held library []) (in_memory held library [])
@@ -132,23 +146,93 @@ module _ {S : Type 0} (shown : Shown S) (options : LoadOptions) (form : Form) (t
           written_here form held.connector.schema text (state_in shown 0 now) area_now n behind.now same reads (state_in shown 0 (in_memory held_after later area_now)) status whole (does.step honest truly standing) success;
     }
 
-    pub line_rejected : ends_lines options.keep_going status ≡ false → PassesLineOf shown options form text now (in_memory held_after later area_now) (Rejected (Refused status) behind)
-    line_rejected goes_on =
-        let both = both_true options.keep_going (is_refused_for_keys status) goes_on in
+    pub line_rejected : ends_lines options status ≡ false → options.replace ≡ false → PassesLineOf shown options form text now (in_memory held_after later area_now) (Rejected (Refused status) behind)
+    line_rejected goes_on none =
+        let both = both_true (options.keep_going || options.replace) (is_refused_for_keys status) goes_on in
         record {
           goes = goes;
           shorter = fewer;
           line = λ honest truly standing.
-              (both.0, keys_here form held.connector.schema text (state_in shown 0 now) area_now n behind.now same reads (state_in shown 0 (in_memory held_after later area_now)) status whole (does.step honest truly standing) both.1);
+              let refused = keys_here form held.connector.schema text (state_in shown 0 now) area_now n behind.now same reads (state_in shown 0 (in_memory held_after later area_now)) status whole (does.step honest truly standing) both.1 in (
+                other_true options.keep_going options.replace both.0 none,
+                subst (λ (replace : Bool). IsRefusedLine replace held.connector.schema form status (passing_in shown text behind.now now (in_memory held_after later area_now) area_now)) (sym none) refused,
+              );
         }
 
-    pub line_ends : is_successful status ≡ false → ends_lines options.keep_going status ≡ true → PassesLineOf shown options form text now (in_memory held_after later area_now) (Stopped (Refused status))
+    pub line_ends : is_successful status ≡ false → ends_lines options status ≡ true → PassesLineOf shown options form text now (in_memory held_after later area_now) (Stopped (Refused status))
     line_ends failed ends = record {
       goes = goes;
       shorter = tt;
       line = λ honest truly standing. (
         area_now,
         behind.now,
-        refused_here form held.connector.schema text (state_in shown 0 now) area_now n behind.now same reads (state_in shown 0 (in_memory held_after later area_now)) status options.keep_going whole (does.step honest truly standing) failed ends,
+        inl (refused_here form held.connector.schema text (state_in shown 0 now) area_now n behind.now same reads (state_in shown 0 (in_memory held_after later area_now)) status options whole (does.step honest truly standing) failed ends),
       );
     }
+
+    -- behind a WRITE that was refused for its keys REWRITE was answered so
+    module _ (joins : JoinsStretches shown.moments) (ends : EndsNow shown.moments) (some : 0 < length (shown.world library).units) (asked : options.replace ≡ true) (keys : is_refused_for_keys status ≡ true)
+        (held_last : Held) (last : S) (again : Status) (rewrites : IsPerformed shown 0 Rewrite n (in_memory held_after later area_now) (silent again) (in_memory held_last last area_now)) where
+      abbrev final : FileInMemory S
+      final = in_memory held_last last area_now
+
+      goes_rewrite : LoadGoesOn shown (in_memory held_after later []) (in_memory held_last last [])
+      goes_rewrite = goes_performed shown Rewrite n (in_memory held_after later area_now) (silent again) final rewrites
+
+      goes_twice : LoadGoesOn shown (in_memory held library []) (in_memory held_last last [])
+      goes_twice = goes_both shown (in_memory held library []) (in_memory held_after later []) (in_memory held_last last []) some goes joins ends goes_rewrite
+
+      -- what is to be believed of both
+      both_steps : (fact : Type 0)
+          → (Step Write n (state_in shown 0 (in_memory held library area_now)) (answers status (state_in shown 0 (in_memory held_after later area_now))) → Step Rewrite n (state_in shown 0 (in_memory held_after later area_now)) (answers again (state_in shown 0 final)) → fact)
+          → Trusted shown 0 (in_memory held library []) (in_memory held_last last []) fact
+      both_steps fact so honest truly standing =
+          so (does.step (goes_rewrite.keeps.honest honest) truly standing)
+          (trusted shown (in_memory held library []) (in_memory held_after later []) (in_memory held_last last []) some goes _ goes_rewrite.keeps rewrites.step honest truly standing)
+
+      pub line_replaces : (passed : PassedLine) → IsPassedBy options status behind.now again passed → PassesLineOf shown options form text now final passed
+      line_replaces (Written left) is = absurd is
+      line_replaces (Replaced left) is = record {
+        goes = goes_twice;
+        shorter = subst (λ (l : List ℕ). length l < length text) (sym is.0) fewer;
+        line = both_steps _ (λ first second. (
+          asked,
+          subst (λ (l : List ℕ). IsRecordReplaced held.connector.schema form (passing_in shown text l now final area_now)) (sym is.0)
+              (replaced_here form held.connector.schema text (state_in shown 0 now) area_now n behind.now same reads (state_in shown 0 (in_memory held_after later area_now)) status whole first keys (state_in shown 0 final) again second is.1),
+        ));
+      }
+      line_replaces (Rejected reason left) is = record {
+        goes = goes_twice;
+        shorter = subst (λ (l : List ℕ). length l < length text) (sym is.0) fewer;
+        line = both_steps _ (λ first second. (
+          is.3,
+          subst (λ (r : RejectReason). IsRejected held.connector.schema form options.replace r (passing_in shown text left.now now final area_now)) (sym is.1)
+              (subst (λ (replace : Bool). IsRefusedLine replace held.connector.schema form status (passing_in shown text left.now now final area_now)) (sym asked)
+              (subst (λ (l : List ℕ). IsNotReplaced held.connector.schema form status (passing_in shown text l now final area_now)) (sym is.0)
+              (not_replaced_here form held.connector.schema text (state_in shown 0 now) area_now n behind.now same reads (state_in shown 0 (in_memory held_after later area_now)) status whole first keys (state_in shown 0 final) again second is.2))),
+        ));
+      }
+      line_replaces (Stopped reason) (inl is) = record {
+        goes = goes_twice;
+        shorter = tt;
+        line = both_steps _ (λ first second. (
+          area_now,
+          behind.now,
+          subst (λ (r : RejectReason). IsEnd held.connector.schema form options r (passing_in shown text behind.now now final area_now)) (sym is.0)
+              (inr (inl (record {
+                asked = asked;
+                refused = not_replaced_here form held.connector.schema text (state_in shown 0 now) area_now n behind.now same reads (state_in shown 0 (in_memory held_after later area_now)) status whole first keys (state_in shown 0 final) again second is.1;
+                ends = is.2;
+              }))),
+        ));
+      }
+      line_replaces (Stopped reason) (inr is) = record {
+        goes = goes_twice;
+        shorter = tt;
+        line = both_steps _ (λ first second. (
+          area_now,
+          behind.now,
+          subst (λ (r : RejectReason). IsEnd held.connector.schema form options r (passing_in shown text behind.now now final area_now)) (sym is.0)
+              (inr (inr (not_replacing_here form held.connector.schema text (state_in shown 0 now) area_now n behind.now same reads (state_in shown 0 (in_memory held_after later area_now)) status whole first keys (state_in shown 0 final) again second options asked is.1 is.2))),
+        ));
+      }

@@ -22,14 +22,15 @@ use Rattle.record_loading.specs.Loaded.{EndsAnyhow, EndsLoad, LeavesFile, file_a
 none_told : (schema : Schema) (source : LoadSource) → source.options.keep_going ≡ false → (count : ℕ) (before after : Place) → PassesLines schema source count before after → after.told ≡ before.told
 none_told schema source stops zero before after is = ap (λ (place : Place). place.told) is
 none_told schema source stops (suc count) before after (between, first, inl line) = line.told ∙ none_told schema source stops count before between first
-none_told schema source stops (suc count) before after (between, first, inr line) = absurd (true≢false (sym line.asked ∙ stops))
+none_told schema source stops (suc count) before after (between, first, inr (inl line)) = line.told ∙ none_told schema source stops count before between first
+none_told schema source stops (suc count) before after (between, first, inr (inr line)) = absurd (true≢false (sym line.asked ∙ stops))
 
 module _ (schema : Schema) (mode : OpenMode) (form : Form) (text : List ℕ) (told : List RejectedLine) where
   abbrev list : Listing
   list = listing_by form text usual_options told
 
   lines_untold : (before : FileState) (lines : LinesEnd) (after : FileState) → LinesLeave schema list before lines after → told ≡ []
-  lines_untold before (Loaded records rejected) after is = none_told schema list.source refl is.passed.count _ _ is.passed.passed
+  lines_untold before (Loaded records replaced rejected) after is = none_told schema list.source refl is.passed.count _ _ is.passed.passed
   lines_untold before (Refused line status) after is = sym is.told ∙ none_told schema list.source refl is.passed.count _ _ is.passed.passed
   lines_untold before (NoRecord line mistake) after (inl is) = is.told
   lines_untold before (NoRecord line mistake) after (inr is) = sym is.told ∙ none_told schema list.source refl is.passed.count _ _ is.passed.passed

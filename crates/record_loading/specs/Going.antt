@@ -17,8 +17,8 @@ use Rattle.record_loading.specs.declared.end.LinesEnd.{LinesEnd}
 use Rattle.record_loading.specs.declared.end.LoadEnd.{LoadEnd}
 use Rattle.record_loading.specs.declared.options.LoadOptions.{LoadOptions}
 use Rattle.record_loading.specs.declared.writing.PassedLine.{PassedLine}
-use Rattle.record_loading.specs.declared.writing.PassedLine.TheVariants.{Written, Rejected, Stopped}
-use Rattle.record_loading.specs.Passing.{Passing, IsRecordWritten, IsRejected, IsEnd}
+use Rattle.record_loading.specs.declared.writing.PassedLine.TheVariants.{Written, Replaced, Rejected, Stopped}
+use Rattle.record_loading.specs.Passing.{Passing, IsRecordWritten, IsRecordReplaced, IsRejected, IsEnd}
 use Rattle.record_loading.specs.Loading.{Listing, LinesLeave, Loads}
 use Rattle.record_loading.specs.Real.{AllStayReal}
 
@@ -62,17 +62,22 @@ abbrev pub ComesOfLine : {S : Type 0} → Shown S → LoadOptions → Form → (
     → FileInMemory S → PassedLine → Type 0
 ComesOfLine shown options form text before after (Written behind) =
     IsRecordWritten before.held.connector.schema form (passing_in shown text behind.now before after after.area)
+ComesOfLine shown options form text before after (Replaced behind) =
+    IsTrue options.replace
+    × IsRecordReplaced before.held.connector.schema form
+    (passing_in shown text behind.now before after after.area)
 ComesOfLine shown options form text before after (Rejected reason behind) =
     IsTrue options.keep_going
-    × IsRejected before.held.connector.schema form reason
+    × IsRejected before.held.connector.schema form options.replace reason
     (passing_in shown text behind.now before after after.area)
 ComesOfLine shown options form text before after (Stopped reason) = (area : List ℕ) × (behind : List ℕ)
-    × IsEnd before.held.connector.schema form options.keep_going reason
+    × IsEnd before.held.connector.schema form options reason
     (passing_in shown text behind before after area)
 
 -- the text behind a line is shorter
 abbrev pub IsShorter : (text : List ℕ) → PassedLine → Type 0
 IsShorter text (Written behind) = length behind.now < length text
+IsShorter text (Replaced behind) = length behind.now < length text
 IsShorter text (Rejected reason behind) = length behind.now < length text
 IsShorter text (Stopped reason) = ⊤
 

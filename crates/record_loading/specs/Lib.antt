@@ -4,5 +4,6 @@ pub mod Going
 pub mod Answer
 pub mod Loaded
 pub mod Passing
+pub mod Replacing
 pub mod Told
 pub mod MistakeLine

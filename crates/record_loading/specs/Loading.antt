@@ -41,9 +41,9 @@ abbrev pub listing_by : Form → List ℕ → LoadOptions → (told : List Rejec
 listing_by form text options told =
     record { source = record { form = form; text = text; options = options }; told = told }
 
--- no line is skipped, and the first that is rejected ends a load
+-- no line is skipped, the first that is rejected ends a load, and no record is replaced
 abbrev pub usual_options : LoadOptions
-usual_options = record { skip = 0; keep_going = false }
+usual_options = record { skip = 0; keep_going = false; replace = false }
 
 -- so of a text in a form: no line is passed over, and none is told
 abbrev pub listing : Form → List ℕ → Listing
@@ -57,7 +57,7 @@ mode_of Into = InputOutput
 -- the place behind the header and behind the lines that are skipped
 abbrev pub place_at_first : LoadSource → (lines : List ℕ) → FileState → Place
 place_at_first source lines file =
-    record { rest = behind_lines source.options.skip lines; records = 0; told = []; file = file }
+    record { rest = behind_lines source.options.skip lines; records = 0; replaced = 0; told = []; file = file }
 
 -- the first lines of a text, behind what stands before them and behind those that are skipped, were passed
 -- up to this place
@@ -67,12 +67,12 @@ pub record IsPassedUpTo (schema : Schema) (source : LoadSource) (before : FileSt
   pub count : ℕ
   pub passed : PassesLines schema source count (place_at_first source lines before) place
 
--- the lines were all passed: so many records were written, and so many lines rejected, which are those that
--- were told
-pub record ArePassed (schema : Schema) (list : Listing) (before : FileState) (records rejected : ℕ)
+-- the lines were all passed: so many records were written, so many replaced, and so many lines rejected,
+-- which are those that were told
+pub record ArePassed (schema : Schema) (list : Listing) (before : FileState) (records replaced rejected : ℕ)
     (after : FileState) : Type 0 where
   pub passed : IsPassedUpTo schema list.source before
-      (record { rest = []; records = records; told = list.told; file = after })
+      (record { rest = []; records = records; replaced = replaced; told = list.told; file = after })
   pub rejected_is : rejected ≡ length list.told
 
 -- lines were passed, and the line of this number behind them ended that for this reason
@@ -83,7 +83,7 @@ pub record IsEndedAt (schema : Schema) (list : Listing) (before : FileState) (li
   pub told : place.told ≡ list.told
   pub line_is : line ≡ number_of_line list.source place
   pub behind : List ℕ
-  pub end : IsEnd schema list.source.form list.source.options.keep_going reason
+  pub end : IsEnd schema list.source.form list.source.options reason
       (record { text = place.rest; behind = behind; before = place.file; after = after })
 
 -- the text does not begin with what stands before its first line (for text that is nothing, and
@@ -98,8 +98,8 @@ pub record IsHeadless (list : Listing) (line : ℕ) (mistake : LineMistake) (bef
 -- what the lines of a text leave of an open file: line 1 is the first of the text, which in CSV is
 -- that of the names
 abbrev pub LinesLeave : Schema → Listing → FileState → LinesEnd → FileState → Type 0
-LinesLeave schema list before (Loaded records rejected) after =
-    ArePassed schema list before records rejected after
+LinesLeave schema list before (Loaded records replaced rejected) after =
+    ArePassed schema list before records replaced rejected after
 LinesLeave schema list before (Refused line status) after =
     IsEndedAt schema list before line (Refuses status) after
 LinesLeave schema list before (NoRecord line mistake) after =

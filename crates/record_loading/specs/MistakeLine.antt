@@ -84,6 +84,6 @@ told_mistake line (IsNoRecord mistake) = mistake_line line mistake
 -- and of the line that ended a load
 abbrev pub end_mistake : LoadEnd → List ℕ
 end_mistake (NotOpened status) = []
-end_mistake (Opened (Loaded records rejected) closed) = []
+end_mistake (Opened (Loaded records replaced rejected) closed) = []
 end_mistake (Opened (Refused line status) closed) = []
 end_mistake (Opened (NoRecord line mistake) closed) = mistake_line line mistake

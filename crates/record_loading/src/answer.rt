@@ -1,6 +1,6 @@
 //! What is told of a load.
 ghost use Rattle.std.specs.Prelude.{◌≡◌, ◌++◌, codes, decimal, OnOk};
-ghost use Rattle.record_loading.specs.Answer.{status_text, rejected_text, loaded_text, line_start};
+ghost use Rattle.record_loading.specs.Answer.{status_text, replaced_text, rejected_text, loaded_text, line_start};
 ghost use Rattle.record_loading.specs.Answer.{reason_text, told_line_text, told_lines, told_close};
 ghost use Rattle.record_loading.specs.Answer.{answer_of, is_loaded};
 
@@ -10,7 +10,8 @@ use io_state::Status;
 use itoa::Buffer;
 use std::alloc::AllocError;
 
-/// Whether the record of each line that was not skipped was written, and CLOSE was a success.
+/// Whether the record of each line that was not skipped was written, or replaced another one, and CLOSE
+/// was a success.
 pub fn is_loaded(end: LoadEnd) -> bool
     ensures { result ≡ is_loaded end }
 {
@@ -47,6 +48,17 @@ fn add_status(answer: &mut Vec<u8>, status: Status) -> Result<(), AllocError>
     add(answer, b"\n")
 }
 
+/// Adds how many records were replaced, if any were.
+fn add_replaced(answer: &mut Vec<u8>, replaced: u64) -> Result<(), AllocError>
+    ensures { OnOk result (answer.new.items ≡ answer.old.items ++ replaced_text replaced) }
+{
+    if replaced == 0 {
+        return Ok(());
+    }
+    add(answer, b", replaced ")?;
+    add_number(answer, replaced)
+}
+
 /// Adds how many lines were rejected, if any were.
 fn add_rejected(answer: &mut Vec<u8>, rejected: u64) -> Result<(), AllocError>
     ensures { OnOk result (answer.new.items ≡ answer.old.items ++ rejected_text rejected) }
@@ -58,12 +70,18 @@ fn add_rejected(answer: &mut Vec<u8>, rejected: u64) -> Result<(), AllocError>
     add_number(answer, rejected)
 }
 
-/// Adds how many records were loaded, and how many lines were rejected.
-fn add_count(answer: &mut Vec<u8>, records: u64, rejected: u64) -> Result<(), AllocError>
-    ensures { OnOk result (answer.new.items ≡ answer.old.items ++ loaded_text records rejected) }
+/// Adds how many records were loaded, how many replaced, and how many lines were rejected.
+fn add_count(
+    answer: &mut Vec<u8>,
+    records: u64,
+    replaced: u64,
+    rejected: u64,
+) -> Result<(), AllocError>
+    ensures { OnOk result (answer.new.items ≡ answer.old.items ++ loaded_text records replaced rejected) }
 {
     add(answer, b"loaded ")?;
     add_number(answer, records)?;
+    add_replaced(answer, replaced)?;
     add_rejected(answer, rejected)?;
     add(answer, b"\n")
 }
@@ -100,9 +118,13 @@ fn add_lines(answer: &mut Vec<u8>, lines: LinesEnd, closed: Status) -> Result<()
     ensures { OnOk result (answer.new.items ≡ answer.old.items ++ told_lines lines closed) }
 {
     match lines {
-        LinesEnd::Loaded { records, rejected } => {
+        LinesEnd::Loaded {
+            records,
+            replaced,
+            rejected,
+        } => {
             if closed.is_success() {
-                return add_count(answer, records, rejected);
+                return add_count(answer, records, replaced, rejected);
             }
             Ok(())
         }

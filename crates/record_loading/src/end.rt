@@ -18,14 +18,25 @@ pub enum Load {
 /// How the lines of a text ended, the first of which is line 1.
 #[derive(Clone, Copy, Debug, PartialEq, Eq)]
 pub enum LinesEnd {
-    /// So many records were written, and so many lines rejected and passed over.
-    Loaded { records: u64, rejected: u64 },
-    /// The WRITE of the record of this line was no success. Those of the lines before it were written,
-    /// but for lines that were skipped or rejected.
-    Refused { line: u64, status: Status },
+    /// So many records were written, so many replaced others, and so many lines were rejected and passed
+    /// over.
+    Loaded {
+        records: u64,
+        replaced: u64,
+        rejected: u64,
+    },
+    /// The WRITE of the record of this line was no success, or a REWRITE behind it. Those of the lines
+    /// before it were written, but for lines that were skipped or rejected.
+    Refused {
+        line: u64,
+        status: Status,
+    },
     /// This line is the line of no record that the file can have, and has this mistake. The records of
     /// the lines before it were written, but for lines that were skipped or rejected.
-    NoRecord { line: u64, mistake: LineMistake },
+    NoRecord {
+        line: u64,
+        mistake: LineMistake,
+    },
 }
 
 /// What became of a load.

@@ -4,8 +4,9 @@
 //! the file. The text is what `record_listing` writes, in one of its forms. The first line that is
 //! the line of no record of the file, or whose WRITE is refused, ends it: what was written before
 //! stays. By its options a load skips the first lines, and goes on behind such a line: it is told, and
-//! passed over. Where the library is honest and what it shows of the name is true, the file is left as
-//! the definitions of OPEN, WRITE and CLOSE leave it.
+//! passed over. Or a record whose WRITE is refused for its keys takes, by a REWRITE, the place of the one
+//! of its prime value. Where the library is honest and what it shows of the name is true, the file is left
+//! as the definitions of OPEN, WRITE, REWRITE and CLOSE leave it.
 //!
 //! `load_lines_on_shelf` joins this to the library of files in pages, and `load_on_shelf` is the same where no
 //! line is skipped, and the first that is rejected ends the load. A new file is made only where its name

@@ -89,9 +89,11 @@ fn load_attached<L: Library, P: Progress, R: RejectLog>(
 /// are skipped, so many as `options` says. The first line that is the line of no record of the file,
 /// or whose WRITE is no success, ends it, and what was written before stays. Where `options` says that
 /// it is to keep going, a line that is no record's, or whose WRITE is refused for its keys, with 22,
-/// is told and passed over. Line 1 is no record's where the form has a header and the text does not
-/// begin with it, which always ends it. Where a crash could leave no false file before the load, it can
-/// leave none at any moment of it. After each line it is told how many bytes of the text are done.
+/// is told and passed over. Where it says that records are to be replaced, a REWRITE follows such a WRITE
+/// before that: the line is refused with 22 only if that replaces nothing. Line 1 is no record's where
+/// the form has a header and the text does not begin with it, which always ends it. Where a crash could
+/// leave no false file before the load, it can leave none at any moment of it. After each line it is told
+/// how many bytes of the text are done.
 ///
 /// `Memory`: nothing was done.
 pub fn load_records<L: Library, P: Progress, R: RejectLog>(

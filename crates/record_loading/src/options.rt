@@ -1,10 +1,13 @@
 //! Which lines a load takes, and what comes of a line that it cannot take.
 
-/// Which lines of a text are loaded, and whether a line that is rejected ends that.
+/// Which lines of a text are loaded, whether a line that is rejected ends that, and whether a record may
+/// replace another one.
 #[derive(Clone, Copy, Debug, PartialEq, Eq)]
 pub struct LoadOptions {
     /// How many lines behind the header are passed over, unread.
     pub skip: u64,
     /// Whether the load goes on behind a line that is rejected.
     pub keep_going: bool,
+    /// Whether a record whose WRITE is refused for its keys replaces the one of its prime value.
+    pub replace: bool,
 }

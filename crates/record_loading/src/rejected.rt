@@ -1,6 +1,6 @@
 //! Lines that are rejected.
 ghost use Rattle.std.specs.Prelude.{◌≡◌};
-ghost use Rattle.record_loading.specs.Passing.{is_refused_for_keys};
+ghost use Rattle.record_loading.specs.Passing.{is_refused_for_keys, replaces_nothing};
 
 use io_state::Status;
 use record_reading::LineMistake;
@@ -38,4 +38,14 @@ pub fn is_refused_for_keys(status: Status) -> bool
     ensures { result ≡ is_refused_for_keys status }
 {
     matches!(status, Status::DuplicateKey)
+}
+
+/// Whether a REWRITE that was answered so replaced nothing, so that the file can take other records.
+pub fn replaces_nothing(status: Status) -> bool
+    ensures { result ≡ replaces_nothing status }
+{
+    matches!(
+        status,
+        Status::DuplicateKey | Status::RecordNotFound | Status::NotOpenForUpdating
+    )
 }

@@ -122,9 +122,9 @@ fn load_new<S: Shelf, P: Progress, R: RejectLog>(
 /// what it represented. The first lines behind the header are skipped, so many as `options` says. The
 /// first line that is the line of no record of the file, or whose WRITE is no success, ends a load, and
 /// what was written before stays. Where `options` says that it is to keep going, a line that is no
-/// record's, or whose WRITE is refused for its keys, with 22, is told and passed over. No crash leaves a
-/// false file, where none could be left before. After each line it is told how many bytes of the text
-/// are done.
+/// record's, or whose WRITE is refused for its keys, with 22, is told and passed over. Where it says that
+/// records are to be replaced, a REWRITE follows such a WRITE before that. No crash leaves a false file,
+/// where none could be left before. After each line it is told how many bytes of the text are done.
 ///
 /// `Input`: the device failed when it was asked for the file. `Memory`. Nothing was changed then.
 pub fn load_lines_on_shelf<S: Shelf, P: Progress, R: RejectLog>(
@@ -205,6 +205,7 @@ pub fn load_on_shelf<S: Shelf, P: Progress>(
     let usual = LoadOptions {
         skip: 0,
         keep_going: false,
+        replace: false,
     };
     load_lines_on_shelf(
         alloc,

@@ -1,8 +1,11 @@
 //! The records of lines are written into an open file.
 ghost use Rattle.std.specs.Prelude.{◌≡◌, ◌++◌, ◌<◌, length};
 ghost use Rattle.record_forms.specs.Lines.{form_header};
+ghost use Rattle.io_state.specs.declared.statement.FileStatement.TheVariants.{Rewrite};
+ghost use Rattle.verbs.specs.Fits.{MayPerform};
 ghost use Rattle.verbs.specs.Performed.{in_memory};
 ghost use Rattle.record_loading.specs.Passing.{lines_end, ends_lines};
+ghost use Rattle.record_loading.specs.Replacing.{RewritesRecord};
 ghost use Rattle.record_loading.specs.Told.{TellsRejected};
 ghost use Rattle.record_loading.specs.Loading.{listing_by};
 ghost use Rattle.record_loading.specs.Going.{TakesLines, PassesLineOf, WritesLinesOf};
@@ -10,7 +13,9 @@ ghost use Rattle.record_loading.specs.Going.{TakesLines, PassesLineOf, WritesLin
 use crate::end::LinesEnd;
 use crate::options::LoadOptions;
 use crate::passing::{behind_line, behind_lines};
-use crate::rejected::{RejectLog, RejectReason, RejectedLine, is_refused_for_keys};
+use crate::rejected::{
+    RejectLog, RejectReason, RejectedLine, is_refused_for_keys, replaces_nothing,
+};
 use indexed_file::Library;
 use io_state::Status;
 use record_forms::Form;
@@ -23,6 +28,8 @@ use verbs::Connector;
 pub enum PassedLine<'a> {
     /// Its record was written.
     Written(&'a [u8]),
+    /// Its record replaced another one.
+    Replaced(&'a [u8]),
     /// It was rejected, and passed over.
     Rejected(RejectReason, &'a [u8]),
     /// It ends the load.
@@ -46,13 +53,42 @@ fn stopped_at(line: u64, reason: RejectReason) -> LinesEnd
 }
 
 /// Whether a WRITE that was answered so, and is no success, ends a load.
-fn ends_lines(keep_going: bool, status: Status) -> bool
-    ensures { result ≡ ends_lines keep_going status }
+fn ends_lines(options: LoadOptions, status: Status) -> bool
+    ensures { result ≡ ends_lines options status }
 {
-    !(keep_going && is_refused_for_keys(status))
+    !((options.keep_going || options.replace) && is_refused_for_keys(status))
 }
 
-/// Writes the record of the first line of a text into the file of unit 0, or rejects the line.
+/// Puts the record of a line in the place of the one that has its prime value, behind a WRITE that was
+/// refused for its keys with `refused`; or rejects the line.
+fn replace_record<'a, L: Library>(
+    connector: &mut Connector,
+    lib: &mut L,
+    area: &[u8],
+    length: u16,
+    options: LoadOptions,
+    refused: Status,
+    behind: &'a [u8],
+) -> PassedLine<'a>
+    requires { MayPerform Rewrite connector.old (L.shown.world lib.old) 0 area.now }
+    ensures { RewritesRecord L.shown options refused length behind.now
+        (in_memory connector.old lib.old area.now) (in_memory connector.new lib.new area.now) result }
+{
+    let status = connector.rewrite(lib, 0, area, length);
+    if status.is_success() {
+        return PassedLine::Replaced(behind);
+    }
+    if !replaces_nothing(status) {
+        return PassedLine::Stopped(RejectReason::Refused(status));
+    }
+    if options.keep_going {
+        return PassedLine::Rejected(RejectReason::Refused(refused), behind);
+    }
+    PassedLine::Stopped(RejectReason::Refused(refused))
+}
+
+/// Writes the record of the first line of a text into the file of unit 0, or has it replace the one of its
+/// prime value, or rejects the line.
 fn pass_line<'a, L: Library>(
     connector: &mut Connector,
     lib: &mut L,
@@ -76,12 +112,16 @@ fn pass_line<'a, L: Library>(
             return PassedLine::Stopped(RejectReason::NoRecord(mistake));
         }
     };
-    let status = connector.write(lib, 0, area, line.length as u16);
+    let length = line.length as u16;
+    let status = connector.write(lib, 0, area, length);
     if status.is_success() {
         return PassedLine::Written(line.behind);
     }
-    if ends_lines(options.keep_going, status) {
+    if ends_lines(options, status) {
         return PassedLine::Stopped(RejectReason::Refused(status));
+    }
+    if options.replace {
+        return replace_record(connector, lib, area, length, options, status, line.behind);
     }
     PassedLine::Rejected(RejectReason::Refused(status), line.behind)
 }
@@ -111,13 +151,18 @@ fn write_lines<L: Library, P: Progress, R: RejectLog>(
 {
     let mut rest = behind_lines(lines, options.skip);
     let mut records = 0;
+    let mut replaced = 0;
     let mut rejected = 0;
     let before = header_lines(form);
     'more: while !rest.is_empty() {
-        let number = before + options.skip + records + rejected + 1;
+        let number = before + options.skip + records + replaced + rejected + 1;
         match pass_line(connector, lib, least, area, form, options, rest) {
             PassedLine::Written(behind) => {
                 records += 1;
+                rest = behind;
+            }
+            PassedLine::Replaced(behind) => {
+                replaced += 1;
                 rest = behind;
             }
             PassedLine::Rejected(reason, behind) => {
@@ -133,7 +178,11 @@ fn write_lines<L: Library, P: Progress, R: RejectLog>(
         }
         tell_progress(progress, text, rest);
     }
-    LinesEnd::Loaded { records, rejected }
+    LinesEnd::Loaded {
+        records,
+        replaced,
+        rejected,
+    }
 }
 
 /// Writes the records of a text into the file of unit 0, one after another, but for those that are

@@ -1,6 +1,6 @@
 //! The words of an entry, each of which ends with its period.
 
-use crate::reading::{Reading, capitals, says};
+use crate::reading::{Reading, capitals, says, says_one_of};
 use deck_words::WordPlace;
 use io_state::Name;
 
@@ -68,6 +68,23 @@ impl<'a> Reading<'a> {
     /// The same in capitals.
     pub fn subject_name(&self, from: WordPlace) -> Name {
         capitals(self.text(self.subject(from)))
+    }
+
+    /// The last word of an entry before its period: its picture, where it is an item.
+    pub fn last_word(&self, from: WordPlace, entry: usize) -> WordPlace {
+        match self.entry_words(from, entry) {
+            [.., word, _] => *word,
+            _ => from,
+        }
+    }
+
+    /// The word by which an item of an FD is told: its name, or else its level.
+    pub fn item_word(&self, from: WordPlace, at: usize) -> WordPlace {
+        match self.entry_words(from, at.saturating_add(1)) {
+            [_, word, _, ..] if !says_one_of(self.text(*word), &["PIC", "PICTURE"]) => *word,
+            [level, ..] => *level,
+            [] => from,
+        }
     }
 
     /// The place of a name in an entry that begins at a place, behind its first two words.

@@ -6,7 +6,6 @@ use deck_entries::{
 };
 use deck_parser::Parser;
 use deck_words::{WordPlace, words};
-use record_layout::Item;
 use std::alloc::{AllocError, Global};
 
 /// What stands before the procedure of a deck: all of it, where that was read; or the SELECT
@@ -42,35 +41,10 @@ pub enum Among<'a> {
     Targets,
 }
 
-/// The names of items that have one.
-fn add_items<'a>(names: &mut Vec<&'a str>, items: &'a [Item]) -> Result<(), AllocError> {
-    for item in items {
-        if let Some(name) = &item.name {
-            names.push(name.as_str())?;
-        }
-    }
-    Ok(())
-}
-
-/// The name of the record, which is the first item.
-fn record_of(described: &Described) -> Option<&str> {
-    match described.items().first() {
-        Some(
-            Item {
-                level: _,
-                name: Some(name),
-                picture: _,
-            },
-        ) => Some(name.as_str()),
-        _ => None,
-    }
-}
-
-/// Where an FD stands, and which of its items has this name.
-fn item_named(described: &Described, name: &str) -> Option<(WordPlace, usize)> {
+/// Which of the items of an FD has this name.
+fn item_named(described: &Described, name: &str) -> Option<usize> {
     let mut items = described.items().iter();
-    let at = items.position(|item| matches!(&item.name, Some(own) if own.as_str() == name))?;
-    Some((described.place, at))
+    items.position(|item| matches!(&item.name, Some(own) if own.as_str() == name))
 }
 
 impl Known {
@@ -142,31 +116,35 @@ impl Known {
         }
     }
 
-    /// Where the first 77 item of a name stands.
-    pub fn storage_place(&self, name: &str) -> Option<WordPlace> {
-        let item = self
-            .storage()
+    /// The first 77 item of a name.
+    fn storage_item(&self, name: &str) -> Option<&StorageItem> {
+        self.storage()
             .iter()
-            .find(|item| item.name.as_str() == name)?;
-        Some(item.place)
+            .find(|item| item.name.as_str() == name)
+    }
+
+    /// Where it stands.
+    pub fn storage_place(&self, name: &str) -> Option<WordPlace> {
+        Some(self.storage_item(name)?.place)
     }
 
     /// Where the FD of a file stands, and which of its items has this name.
     pub fn item_of(&self, file: usize, name: &str) -> Option<(WordPlace, usize)> {
-        item_named(self.description(self.file_name(file))?, name)
+        let described = self.description(self.file_name(file))?;
+        Some((described.place, item_named(described, name)?))
     }
 
-    /// The same of the first FD that has one.
-    pub fn item(&self, name: &str) -> Option<(WordPlace, usize)> {
+    /// The first FD with an item of this name, and which of its items that is.
+    pub fn item(&self, name: &str) -> Option<(&Described, usize)> {
         for described in self.descriptions() {
-            if let Some(found) = item_named(described, name) {
-                return Some(found);
+            if let Some(at) = item_named(described, name) {
+                return Some((described, at));
             }
         }
         None
     }
 
-    /// What a name is the name of.
+    /// What a name is the name of. The record of an FD is its first item.
     pub fn named(&self, name: &str) -> Option<Named<'_>> {
         if self
             .entries()
@@ -175,36 +153,22 @@ impl Known {
         {
             return Some(Named::File);
         }
-        for described in self.descriptions() {
-            if record_of(described) == Some(name) {
-                return Some(Named::RecordOf(described.name.as_str()));
-            }
-            if item_named(described, name).is_some() {
-                return Some(Named::ItemOf(described.name.as_str()));
-            }
+        match self.item(name) {
+            Some((described, 0)) => Some(Named::RecordOf(described.name.as_str())),
+            Some((described, _)) => Some(Named::ItemOf(described.name.as_str())),
+            None => self.storage_item(name).map(|_| Named::StorageItem),
         }
-        if self.storage().iter().any(|item| item.name.as_str() == name) {
-            return Some(Named::StorageItem);
-        }
-        None
     }
 
     /// The picture of the item of a name.
     pub fn picture(&self, name: &str) -> Option<&str> {
-        for described in self.descriptions() {
-            for item in described.items() {
-                if let (Some(own), Some(picture)) = (&item.name, &item.picture) {
-                    if own.as_str() == name {
-                        return Some(picture.as_str());
-                    }
-                }
-            }
+        let Some((described, at)) = self.item(name) else {
+            return Some(self.storage_item(name)?.picture.as_str());
+        };
+        match &described.items().get(at)?.picture {
+            Some(picture) => Some(picture.as_str()),
+            None => None,
         }
-        let item = self
-            .storage()
-            .iter()
-            .find(|item| item.name.as_str() == name)?;
-        Some(item.picture.as_str())
     }
 
     /// The names of a kind, in the order in which the deck has them.
@@ -252,19 +216,20 @@ fn add_described<'a>(
     among: &Among<'_>,
 ) -> Result<(), AllocError> {
     let own = described.name.as_str();
-    match among {
-        Among::Descriptions => Ok(names.push(own)?),
-        Among::Records => add_record(names, described),
-        Among::RecordOf(file) if own == *file => add_record(names, described),
-        Among::ItemsOf(file) if own == *file => add_items(names, described.items()),
-        Among::Targets => add_items(names, described.items()),
-        _ => Ok(()),
-    }
-}
-
-fn add_record<'a>(names: &mut Vec<&'a str>, described: &'a Described) -> Result<(), AllocError> {
-    if let Some(name) = record_of(described) {
-        names.push(name)?;
+    let items = described.items();
+    let (record, _) = items.split_at(items.len().min(1));
+    let items = match among {
+        Among::Descriptions => return Ok(names.push(own)?),
+        Among::Records => record,
+        Among::RecordOf(file) if own == *file => record,
+        Among::ItemsOf(file) if own == *file => items,
+        Among::Targets => items,
+        _ => &[],
+    };
+    for item in items {
+        if let Some(name) = &item.name {
+            names.push(name.as_str())?;
+        }
     }
     Ok(())
 }

@@ -1,6 +1,7 @@
 //! A deck that is refused, and what was read of it.
 
 use crate::known::{Among, Known};
+use crate::message::{Message, Told};
 use crate::near::is_near;
 use crate::shown::Shown;
 use deck_parser::Parser;
@@ -21,6 +22,14 @@ pub struct Reading<'a> {
     /// Where its words stand; none where they are none.
     pub words: Vec<WordPlace>,
     pub known: Known,
+}
+
+/// The bytes of a deck from one up to another; none where there are none.
+pub fn part_of(bytes: &[u8], start: u32, end: u32) -> &[u8] {
+    match bytes.get(start as usize..end as usize) {
+        Some(part) => part,
+        None => &[],
+    }
 }
 
 /// Whether bytes are this word of the language, in capitals or small letters.
@@ -90,10 +99,7 @@ impl<'a> Reading<'a> {
 
     /// The bytes of a place.
     pub fn text(&self, place: WordPlace) -> &'a [u8] {
-        match self.bytes.get(place.start as usize..place.end as usize) {
-            Some(text) => text,
-            None => &[],
-        }
+        part_of(self.bytes, place.start, place.end)
     }
 
     /// The verb of the statement in which a place is.
@@ -132,6 +138,15 @@ impl<'a> Reading<'a> {
             }
         }
         Ok(String::new(self.alloc))
+    }
+
+    /// What is told of a place.
+    pub fn tell(&self, place: WordPlace, why: Result<String, AllocError>) -> Told {
+        Ok(Message::new(self.alloc, place, why?))
+    }
+
+    pub fn tell_text(&self, place: WordPlace, why: &str) -> Told {
+        Message::saying(self.alloc, place, why)
     }
 
     /// A word as it is shown.

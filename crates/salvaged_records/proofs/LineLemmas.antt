@@ -8,8 +8,8 @@ use Rattle.std.proofs.lemmas.Grind.{flat_map-append}
 use Rattle.record_forms.specs.Room.{AddsInRoom, Grows}
 use Rattle.record_forms.specs.declared.form.Form.{Form}
 use Rattle.streams.specs.Output.{HoldsText}
-use Rattle.used_slots.specs.declared.used_slot.UsedSlot.{UsedSlot}
-use Rattle.used_slots.specs.Slots.{found_slot}
+use Rattle.salvaged_records.specs.declared.used_slot.UsedSlot.{UsedSlot}
+use Rattle.salvaged_records.specs.Slots.{found_slot}
 use Rattle.salvaged_records.specs.declared.lead.Lead.{Lead}
 use Rattle.salvaged_records.specs.Lines.{salvaged_line, salvaged_lines}
 

@@ -3,7 +3,7 @@ use Rattle.std.specs.Prelude.{ℕ, List, [], ◌∷◌, ◌++◌, codes, decimal
 use Rattle.record_forms.specs.declared.form.Form.{Form}
 use Rattle.record_forms.specs.declared.form.Form.TheVariants.{Text, Csv, Json}
 use Rattle.record_forms.specs.Csv.{field}
-use Rattle.used_slots.specs.Slots.{FoundSlot}
+use Rattle.salvaged_records.specs.Slots.{FoundSlot}
 use Rattle.salvaged_records.specs.declared.lead.Lead.{Lead}
 use Rattle.salvaged_records.specs.declared.lead.Lead.TheVariants.{Bare, Place, Doubt}
 

@@ -1,3 +1,8 @@
+pub mod Slots
+pub mod Values
+pub mod Leaves
+pub mod Doubt
+pub mod Telling
 pub mod Shapes
 pub mod Leads
 pub mod Lines

@@ -2,7 +2,7 @@
 use Rattle.std.specs.Prelude.{ℕ, List, ◌++◌, flat_map}
 use Rattle.record_forms.specs.declared.form.Form.{Form}
 use Rattle.record_forms.specs.Lines.{line_in, form_header}
-use Rattle.used_slots.specs.Slots.{FoundSlot}
+use Rattle.salvaged_records.specs.Slots.{FoundSlot}
 use Rattle.salvaged_records.specs.declared.lead.Lead.{Lead}
 use Rattle.salvaged_records.specs.Leads.{lead_header, lead_text_of}
 

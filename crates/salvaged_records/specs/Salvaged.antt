@@ -16,9 +16,9 @@ use Rattle.record_listing.specs.FileList.{EndsWithIn}
 use Rattle.record_listing.specs.declared.file_list.FileList.TheVariants.{Listed}
 use Rattle.record_listing.specs.declared.asked.Asked.{Asked}
 use Rattle.record_listing.specs.declared.end.ListFault.{ListFault}
-use Rattle.used_slots.specs.declared.sorting.SortedOut.{SortedOut}
-use Rattle.used_slots.specs.Doubt.{AreSortedOut}
-use Rattle.used_slots.specs.Slots.{found_slot}
+use Rattle.salvaged_records.specs.declared.sorting.SortedOut.{SortedOut}
+use Rattle.salvaged_records.specs.Doubt.{AreSortedOut}
+use Rattle.salvaged_records.specs.Slots.{found_slot}
 use Rattle.salvaged_records.specs.Lines.{salvaged_list}
 use Rattle.salvaged_records.specs.Shapes.{IsShapeOf}
 use Rattle.salvaged_records.specs.declared.lead.Lead.{Lead}

@@ -1,12 +1,12 @@
 //! What stands before the line of a record.
 ghost use Rattle.std.specs.Prelude.{◌≡◌, ◌≤◌, ◌+◌, ◌++◌, length, decimal};
-ghost use Rattle.used_slots.specs.Slots.{found_slot};
+ghost use Rattle.salvaged_records.specs.Slots.{found_slot};
 ghost use Rattle.salvaged_records.specs.Leads.{lead_header, lead_text_of, place_between};
 
+use crate::used_slot::UsedSlot;
 use arrayvec::ArrayVec;
 use itoa::Buffer;
 use record_forms::Form;
-use used_slots::UsedSlot;
 
 /// What stands before the line of a record.
 #[derive(Clone, Copy, Debug, PartialEq, Eq)]

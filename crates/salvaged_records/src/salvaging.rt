@@ -11,6 +11,7 @@ ghost use Rattle.salvaged_records.specs.Salvaged.{IsSalvageOf, WritesSorted};
 use crate::lead::Lead;
 use crate::shape::shape_of;
 use crate::slot_lines::write_slots;
+use crate::sorting::{SortedOut, sort_out};
 use file_checker::{Reason, Verdict, check_bytes};
 use file_header::Header;
 use io_state::Key;
@@ -20,7 +21,6 @@ use record_layout::Schema;
 use record_listing::{Asked, ListFault, list_sound};
 use std::alloc::Global;
 use std::io::Write;
-use used_slots::{SortedOut, sort_out};
 
 /// The first byte of a file whose gate is closed.
 const CLOSED: u8 = b'C';

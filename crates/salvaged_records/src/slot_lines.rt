@@ -4,17 +4,17 @@ ghost use Rattle.std.specs.Io.KnownBytes.{Appends};
 ghost use Rattle.record_forms.specs.Lines.{form_header};
 ghost use Rattle.record_forms.specs.Room.{IsLineRoom};
 ghost use Rattle.streams.specs.Output.{HoldsText};
-ghost use Rattle.used_slots.specs.Slots.{found_slot};
+ghost use Rattle.salvaged_records.specs.Slots.{found_slot};
 ghost use Rattle.salvaged_records.specs.Leads.{lead_header};
 ghost use Rattle.salvaged_records.specs.Lines.{salvaged_line, salvaged_lines, salvaged_list};
 
 use crate::lead::{Lead, lead_header, lead_text_of};
+use crate::used_slot::UsedSlot;
 use record_forms::{Form, append_header, append_line, line_room};
 use record_listing::ListFault;
 use std::alloc::{AllocError, Global};
 use std::io::Write;
 use streams::{HeldText, Refused};
-use used_slots::UsedSlot;
 
 /// The most bytes of a record in a slot.
 const MOST: u16 = 4077;

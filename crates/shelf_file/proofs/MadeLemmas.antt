@@ -1,16 +1,17 @@
 -- What the making of a file leaves, from what it leaves of its pages and of its parts.
-use Rattle.std.proofs.Common.{zero, suc, ◌≡◌, ℕ, ◌+◌, ◌-◌, ◌≤◌, ◌<◌, false, IsTrue, length, None, Result, Ok, Err, IfErr, OnErr, refl, sym, ap, ◌∙◌, subst, arith}
-use Rattle.std.specs.Prelude.{IsErrAnd}
+use Rattle.std.proofs.Common.{zero, suc, ◌≡◌, ℕ, ◌+◌, ◌-◌, ◌≤◌, ◌<◌, false, IsTrue, length, None, Result, Ok, Err, IfErr, OnErr, ◌≢◌, ◌⊎◌, inl, inr, refl, sym, ap, ◌∙◌, subst, arith}
+use Rattle.std.specs.Prelude.{IsErrAnd, IsOkUnless}
 use Rattle.std.proofs.lemmas.Bool.{le-ltb, lt-ltb}
 use Rattle.record_layout.specs.Schema.{Schema}
 use Rattle.indexed_file.specs.Room.{Pages}
 use Rattle.io_state.specs.declared.fault.Fault.{Fault}
+use Rattle.io_state.specs.declared.fault.Fault.TheVariants.{Device, Memory}
 use Rattle.pages.specs.Cause.{IsCaused}
 use Rattle.page_store.specs.DeviceFile.{DeviceFile}
 use Rattle.page_store.specs.Moments.{Throughout, Quiet}
 use Rattle.page_store.specs.Gate.{AllOpen, AllRefused, WasOrRefused}
 use Rattle.page_store.proofs.OpenLemmas.{open_kept, all_refused}
-use Rattle.page_store.specs.ShelfState.{ShelfState, unit_file}
+use Rattle.page_store.specs.ShelfState.{FaultHasCause, ShelfState, unit_file}
 use Rattle.page_alloc.specs.declared.paged_file.PagedFile.{PagedFile}
 use Rattle.page_alloc.specs.Chain.{is_page}
 use Rattle.page_alloc.specs.Joining.{FaultsRose, available_of, page_limit}
@@ -20,7 +21,7 @@ use Rattle.page_alloc.specs.StepLaws.{failed_after}
 use Rattle.page_alloc.proofs.OpenLemmas.{made_quietly}
 use Rattle.open_file.specs.Creating.{IsNewFile, IsNewOpenFile}
 use Rattle.open_file.specs.declared.open_file.OpenFile.{OpenFile}
-use Rattle.shelf_file.specs.Opening.{MayFailToMake}
+use Rattle.shelf_file.specs.Opening.{MayFailToMake, counted_shelf}
 use Rattle.shelf_file.specs.Shelves.{IsMade}
 use Rattle.shelf_file.specs.Standing.{HasLimits}
 
@@ -81,6 +82,21 @@ module _ (unit limit : ℕ) (a b : PagedFile) (s t : ShelfState) (failed fails :
 pub handed_on : {X : Type 0} (result : Result X Fault) (fault : Fault) (P : Fault → Type 0) → IsErrAnd result (λ e. e ≡ fault) → P fault → IfErr result P
 handed_on (Ok x) fault P was p = tt
 handed_on (Err e) fault P was p = subst P (sym was) p
+
+-- it is no want of memory
+pub never_memory : {X P : Type 0} (result : Result X Fault) (fault : Fault) → IsErrAnd result (λ e. e ≡ fault) → fault ≢ Memory → result ≡ Err Memory → P
+never_memory (Ok x) fault was other is = absurd (cc)
+never_memory (Err e) fault was other is = let same : e ≡ Memory = cc in absurd (other (sym was ∙ same))
+
+-- the pages of a file lacked memory before anything was asked of the shelf
+pub memory_first : {H X Y : Type 0} (state : H → ShelfState) (count : H → ℕ) (before after : H) (pages : Result X Fault) (result : Result Y Fault) (fault : Fault)
+    → pages ≡ Err fault → IsErrAnd result (λ e. e ≡ fault)
+    → FaultHasCause (count before) (count after) pages ⊎ ((pages ≡ Err Memory) × (after ≡ before))
+    → result ≡ Err Memory → counted_shelf (state after) (count after) ≡ counted_shelf (state before) (count before)
+memory_first state count before after pages result fault is was (inr lacked) memory = ap (λ s. counted_shelf (state s) (count s)) lacked.1
+memory_first {H} {X} state count before after pages result fault is was (inl cause) memory =
+    let device : fault ≡ Device = subst (λ (r : Result X Fault). IsOkUnless r Device) is cause.device in
+    never_memory result fault was (λ same. cc) memory
 
 pub at_err : {X : Type 0} (result : Result X Fault) (P : Type 0) → P → OnErr result P
 at_err (Ok x) P p = tt

@@ -49,7 +49,8 @@ pub record MayFailToMake (failed : Type 0) (fault : Fault) : Type 0 where
   pub not_full : fault ≢ Full
   pub not_broken : fault ≢ Broken
 
--- a file was made in the place of whatever the unit's name stood for; a fault leaves that, or a refused file
+-- a file was made in the place of whatever the unit's name stood for; a fault leaves that, or a
+-- refused file; and where memory lacked, nothing was asked of the shelf
 pub record MakesOnShelf (unit limit frames : ℕ) (schema : Schema) (old new : CountedShelf)
     (result : Result ShelfFile Fault) : Type 0 where
   pub made : IfOk result (λ held. IsMade held unit limit schema new.shelf)
@@ -60,6 +61,7 @@ pub record MakesOnShelf (unit limit frames : ℕ) (schema : Schema) (old new : C
   pub others : KeepsOthers unit old.shelf new.shelf
   pub count : old.faults ≤ new.faults
   pub cause : IfErr result (MayFailToMake (FaultsRose old.faults new.faults))
+  pub memory : result ≡ Err Memory → new ≡ old
   pub damage : IsTrue new.shelf.is_honest → IfErr result (λ e. e ≢ Damage)
 
 -- the file of a unit was opened by this header, with nothing read; or memory was lacking

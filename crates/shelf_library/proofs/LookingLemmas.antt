@@ -3,7 +3,7 @@ use Rattle.std.proofs.Common.{◌≡◌, ◌≢◌, inl, inr, ℕ, Bool, true, f
 use Rattle.page_store.specs.ShelfState.{FaultHasCause}
 use Rattle.shelf_file.specs.Shelves.{HasHeader}
 use Rattle.shelf_library.specs.Told.{held_by, seen_by, seen_after}
-use Rattle.shelf_library.proofs.Terms.{Fault, Damage, Device, looked_at, seen_of, MayFail, untouched, OpensUnit, Shut, holding_at}
+use Rattle.shelf_library.proofs.Terms.{Fault, Damage, Device, Memory, looked_at, seen_of, MayFail, untouched, OpensUnit, Shut, holding_at}
 use Rattle.shelf_library.proofs.Terms.{is_broken, named_at, Seen, DeviceFile, ShelfState, unit_file, unit_name, Header, look_of, named_by}
 use Rattle.shelf_library.proofs.Terms.{named_of, Look, Accepted, NoFile, Refused, ShelfFile, shown_by, LooksAt, AreUnits, ChangesAt}
 use Rattle.shelf_library.proofs.Terms.{FitsItsFile, IsTrulyHeld, LibraryState, held_at, held_after, IsTrulyClosed, holding_of, world_of}
@@ -108,6 +108,16 @@ look_spares : (old new : ℕ) (look : Result Look Fault) → FaultHasCause old n
 look_spares old new (Ok found) cause = tt
 look_spares old new (Err fault) cause = λ damage. let same : fault ≡ Device = cause.device in cc
 
+-- it takes no memory
+look_needs_none : (old new : ℕ) (look : Result Look Fault) → FaultHasCause old new look → IfErr (seen_after look) (λ fault. fault ≢ Memory)
+look_needs_none old new (Ok found) cause = tt
+look_needs_none old new (Err fault) cause = λ memory. let same : fault ≡ Device = cause.device in cc
+
+pub look_not_memory : (u : ℕ) (look : Result Look Fault) (old new : LibraryState) → LooksAt u look old new
+    → (told : Result Seen Fault) → told ≡ seen_after look → IfErr told (λ fault. fault ≢ Memory)
+look_not_memory u look old new call told is =
+    subst (λ (r : Result Seen Fault). IfErr r (λ fault. fault ≢ Memory)) (sym is) (look_needs_none old.faults new.faults look call.looks.cause)
+
 -- what a look promises
 pub look_opens : {S : Type 0} (state : S → LibraryState) (u : ℕ) (look : Result Look Fault) (old new : S) → LooksAt u look (state old) (state new)
     → (told : Result Seen Fault) → told ≡ seen_after look → OpensUnit (shown_by state) u untouched old new told
@@ -121,6 +131,7 @@ look_opens {S} state u look old new call told is =
       only = only_here u one (state old).shelf (state new).shelf (state old).held (state new).held call.units changes;
       fault = look_fault (state new).shelf.is_honest _ (state old).faults (state new).faults look call.looks.cause;
       undamaged = λ honest. look_spares (state old).faults (state new).faults look call.looks.cause;
+      memory = λ lacked. absurd (subst (λ (r : Result Seen Fault). IfErr r (λ fault. fault ≢ Memory)) lacked (look_needs_none (state old).faults (state new).faults look call.looks.cause) refl);
       images = λ honest truly.
           images_at state u one old new call.units changes untouched (images_aside state old new name (ap (λ file. file name) call.looks.only.file)) tt;
       others = others_at state u one old new call.units changes;

@@ -1,6 +1,7 @@
 -- A file that was made in the place of what a unit's name stood for.
 use Rattle.std.proofs.Common.{◌≡◌, ◌⊎◌, inl, inr, ℕ, true, false, List, IsTrue, IsFalse, IfOk, OnOk, OnErr, Result, Ok, Err, refl, sym, ap, subst, ◌∙◌}
 use Rattle.indexed_file.specs.UnitCalls.{IsNew}
+use Rattle.shelf_file.specs.Opening.{CountedShelf}
 use Rattle.shelf_file.specs.Shelves.{IsMade}
 use Rattle.shelf_library.proofs.Terms.{Fault, Schema, empty_file, unfinished, OpensUnit, Named, HasOpened, Unsound, holding_at, is_open}
 use Rattle.shelf_library.proofs.Terms.{name_at, named_at, schema_at, refused_open, AllOpen, SameOrRefused, WasOrRefused, Throughout}
@@ -121,6 +122,7 @@ module _ {S : Type 0} (state : S → LibraryState) (u : ℕ) (schema : Schema) (
       (faults_of_making (state new).shelf.is_honest (IsShownTruly (state old).shelf (state old).held (name_at (world_of (state old).shelf (state old).held) u)) (state old).faults (state new).faults r
       call.make.cause call.make.damage)
       call.make.damage
+      (λ lacked. let same = call.make.memory lacked in (ap (λ (s : CountedShelf). s.shelf) same, ap (λ (s : CountedShelf). s.faults) same))
       (λ honest shown. images_at state u (held_open r) old new call.units at unfinished
       (λ real. was_or_refused ((state old).shelf.file (unit_name (state old).shelf u)) ((state new).shelf.file (unit_name (state old).shelf u))
       (passed u schema r (state old) (state new) call honest) real)

@@ -160,6 +160,7 @@ open_opens {S} state u header r old new call answer is =
     (opened_unbroken u (state new).shelf header (has_unit u header r (state old) (state new) call) (accepted_now u header r (state old) (state new) call) r call.by_header.opened)
     (want_of_memory (state new).shelf.is_honest (IsShownTruly (state old).shelf (state old).held (name_at (world_of (state old).shelf (state old).held) u)) (state old).faults (state new).faults r call.by_header.memory)
     (λ honest. memory_alone r call.by_header.memory)
+    (λ lacked. (call.shelf, call.faults))
     (λ honest truly. images_at state u (held_open r) old new call.units at untouched
     (images_aside state old new (unit_name (state old).shelf u) (ap (λ (s : ShelfState). s.file (unit_name (state old).shelf u)) call.shelf)) tt)
     (keeps_at state u (held_open r) old new call.units at call.limit call.frames (omega (arith, same)) (truly_now u header r (state old) (state new) call)))

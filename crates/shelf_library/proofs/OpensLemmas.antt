@@ -2,12 +2,13 @@
 use Rattle.std.proofs.Common.{◌≡◌, ◌≢◌, ℕ, true, false, Bool, IsTrue, IsFalse, IfOk, IfErr, OnOk, OnErr, Result, Ok, Err, refl, sym, ap, subst, ◌∙◌, if◌then◌else◌}
 use Rattle.indexed_file.specs.Images.{CallGoes}
 use Rattle.indexed_file.specs.Calls.{MayAnswerShut}
-use Rattle.shelf_library.proofs.Terms.{Fault, Damage, Schema, Keeps, Trace, OpensUnit, Broken, HasOpened, Shut, World, holding_at, is_broken}
-use Rattle.shelf_library.proofs.Terms.{is_looked, is_open, schema_at, schema_in, ShelfState, Header, file_read_off, is_broken_file}
+use Rattle.indexed_file.specs.UnitCalls.{LacksMemoryAlone}
+use Rattle.shelf_library.proofs.Terms.{Fault, Damage, Memory, Schema, Keeps, Trace, OpensUnit, Broken, HasOpened, Shut, World, holding_at, is_broken}
+use Rattle.shelf_library.proofs.Terms.{is_looked, is_open, schema_at, schema_in, ShelfState, unit_file, named_of, Header, file_read_off, is_broken_file}
 use Rattle.shelf_library.proofs.Terms.{schema_behind, ShelfFile, shown_by, AreUnits, ChangesAt, FitsItsFile, IsReadyAt, LibraryState}
 use Rattle.shelf_library.proofs.Terms.{answer_open, held_open, holding_of, world_of, Held, Looked, Nothing, Opened}
 use Rattle.shelf_library.proofs.WorldLemmas.{same_open}
-use Rattle.shelf_library.proofs.AsideLemmas.{only_here, holding_after}
+use Rattle.shelf_library.proofs.AsideLemmas.{only_here, holding_after, named_after, named_before, images_aside}
 use Rattle.shelf_library.proofs.UnitLemmas.{others_at}
 
 -- ---- what a unit holds
@@ -70,15 +71,34 @@ module _ {S : Type 0} (state : S → LibraryState) (u : ℕ) (old new : S) (r : 
   spared (Ok file) other = tt
   spared (Err fault) other = other
 
+  asked : (x : Result ShelfFile Fault) → answer_open x ≡ Err Memory → x ≡ Err Memory
+  asked (Ok file) is = absurd (cc)
+  asked (Err fault) is = let same : fault ≡ Memory = cc in ap Err same
+
+  -- nothing was asked of the shelf
+  abbrev AsksNothing : Type 0
+  AsksNothing = ((state new).shelf ≡ (state old).shelf) × ((state new).faults ≡ (state old).faults)
+
+  lacks_alone : AsksNothing → LacksMemoryAlone (shown_by state) u old new
+  lacks_alone same = record {
+    named =
+        named_after u (held_open r) (state old).shelf (state new).shelf (state old).held (state new).held are call
+        ∙ ap (λ (s : ShelfState). named_of (unit_file s u).seen) same.0
+        ∙ sym (named_before u (held_open r) (state old).shelf (state new).shelf (state old).held (state new).held are call);
+    images = λ name. images_aside state old new name (ap (λ (s : ShelfState). s.file name) same.0);
+    count = same.1;
+  }
+
   pub opens_unit : (trace : Trace) → IfOk r (λ file. IsFalse (is_broken_file file)) → IfErr r (MayAnswerShut (shown_by state) u old new)
-      → (IsTrue (state new).shelf.is_honest → IfErr r (λ fault. fault ≢ Damage))
+      → (IsTrue (state new).shelf.is_honest → IfErr r (λ fault. fault ≢ Damage)) → (r ≡ Err Memory → AsksNothing)
       → CallGoes (shown_by state) u trace old new → Keeps (shown_by state) old new → OpensUnit (shown_by state) u trace old new (answer_open r)
-  opens_unit trace fine may undamaged images keeps = record {
+  opens_unit trace fine may undamaged memory images keeps = record {
     err = shut r holding_now;
     unbroken = unbroken r refl fine;
     only = only_here u (held_open r) (state old).shelf (state new).shelf (state old).held (state new).held are call;
     fault = faulted r may;
     undamaged = λ honest. spared r (undamaged honest);
+    memory = λ is. lacks_alone (memory (asked r is));
     images = images;
     others = others_at state u (held_open r) old new are call;
     keeps = keeps;

@@ -4,7 +4,7 @@
 //! said of the files of the shelf alone: what a read gives of them before the run and after it, and
 //! what a crash may leave of them in between.
 //!
-//! Read `specs/Files.antt`, `specs/WorldAfter.antt` and `specs/ShelfRun.antt`, and then
+//! Read `specs/Files.antt`, `specs/ExactRun.antt` and `specs/ShelfRun.antt`, and then
 //! `specs/Histories.antt`: runs one after another.
 #![tactic(auto)]
 

@@ -4,8 +4,10 @@ ghost use Rattle.system_files.specs.Held.{IsOpenFolder};
 
 use crate::calls::{again, sync};
 use crate::cause::Cause;
+use crate::folder_lock::claim_folder;
+use crate::locks::{LockFile, release};
 use std::fs::{OpenFile, OpenOptions};
-use std::rt::Files;
+use std::rt::{Clock, Files};
 
 /// The path of a folder, the folder once it was opened, and what is known of its syncs.
 #[derive(Drop)]
@@ -64,8 +66,24 @@ impl<F: OpenFile + Drop> KeptFolder<F> {
     }
 }
 
-// Opens a folder.
-fn opened<R: Files>(rt: &R, path: &str) -> Result<R::File, Cause> {
+impl<F: OpenFile + LockFile + Drop> KeptFolder<F> {
+    /// Has the lock of the folder, if it is open, for whoever makes a file in it.
+    pub(crate) fn claim<C: Clock>(&self, clock: &C) {
+        if let Some(file) = &self.file {
+            claim_folder(clock, file);
+        }
+    }
+
+    /// Lets that lock go.
+    pub(crate) fn release(&self) {
+        if let Some(file) = &self.file {
+            release(file);
+        }
+    }
+}
+
+/// Opens a folder.
+pub(crate) fn opened<R: Files>(rt: &R, path: &str) -> Result<R::File, Cause> {
     match again(|| OpenOptions::new().read(true).open(rt, path)) {
         Ok(folder) => Ok(folder),
         Err(Cause::Permission) => Err(Cause::Folder),

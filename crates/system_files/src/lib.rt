@@ -13,6 +13,7 @@
 mod appearance;
 mod calls;
 mod cause;
+mod folder_lock;
 mod front;
 mod kept_file;
 mod kept_folder;

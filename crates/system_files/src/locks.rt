@@ -66,20 +66,40 @@ pub(crate) fn release<F: LockFile>(file: &F) {
     let _ = again(|| file.unlock());
 }
 
-// Whether a call had its lock. A fault other than that somebody else has it means that there are no locks.
+/// Whether one try has the lock of `share`. An interrupted one has not.
+pub(crate) fn try_share<F: LockFile>(file: &F) -> bool {
+    matches!(tried(file.try_lock_shared()), Some(true))
+}
+
+/// And that of `claim`.
+pub(crate) fn try_claim<F: LockFile>(file: &F) -> bool {
+    matches!(tried(file.try_lock()), Some(true))
+}
+
+// Whether a call had its lock.
 fn was_had<F: Fn() -> Result<(), TryLockError> + Drop>(call: F) -> bool
     requires { F.IsAlwaysCallable call }
 {
     for _ in 0..MOST_INTERRUPTED {
-        match call() {
-            Ok(()) => return true,
-            Err(TryLockError::WouldBlock) => return false,
-            Err(TryLockError::Error(error)) => {
-                if !is_interrupted(&error) {
-                    return true;
-                }
-            }
+        if let Some(had) = tried(call()) {
+            return had;
         }
     }
     false
+}
+
+// Whether a try had its lock, if it was not interrupted. A fault other than that somebody else has it
+// means that there are no locks.
+fn tried(answer: Result<(), TryLockError>) -> Option<bool> {
+    match answer {
+        Ok(()) => Some(true),
+        Err(TryLockError::WouldBlock) => Some(false),
+        Err(TryLockError::Error(error)) => {
+            if is_interrupted(&error) {
+                None
+            } else {
+                Some(true)
+            }
+        }
+    }
 }

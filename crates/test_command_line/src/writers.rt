@@ -3,8 +3,7 @@
 use crate::checks::{assert_equal, assert_equal_for, assert_that};
 use command_line::{RejectedLines, program};
 use command_outcomes::Fault;
-use folder_shelf::EmptyDisk;
-use recorded_system::{CallRecord, RecordedSystem};
+use folder_shelf::{CallRecord, EmptyDisk, RecordedSystem};
 use std::fs;
 use std::io::{self, BufReader, Empty, ErrorKind, Write};
 use std::os::fd::AsRawFd;

@@ -1,4 +1,4 @@
-//! Tests of files that are copied, over shelves in memory.
+//! Tests of a file that is opened by its parts, over a shelf in memory.
 //!
 //! What a clause says is proved and not tested again. Here each call is made once with success.
 #![tactic(auto)]

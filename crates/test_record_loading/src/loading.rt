@@ -77,6 +77,7 @@ impl RejectLog for RejectedLines {
 pub const USUAL: LoadOptions = LoadOptions {
     skip: 0,
     keep_going: false,
+    replace: false,
 };
 
 /// What is told of a load over a shelf, whose units are forgotten.

@@ -162,8 +162,13 @@ fn gives_by(
 }
 
 const KEEP_GOING: LoadOptions = LoadOptions {
-    skip: 0,
     keep_going: true,
+    ..USUAL
+};
+
+const REPLACE: LoadOptions = LoadOptions {
+    replace: true,
+    ..USUAL
 };
 
 // Lines 2 and 5 have a key of a record before them, and lines 3 and 7 are no records.
@@ -213,4 +218,72 @@ fn lines_are_skipped_unread(rt: HostRuntime) {
         ..USUAL
     };
     gives_by(&rt, alloc, options, text, "loaded 0\n", "");
+}
+
+/// A text that is loaded into a file of two records with these options is answered so, and the file is
+/// listed so.
+fn gives_into(
+    rt: &impl Abort,
+    alloc: Global,
+    options: LoadOptions,
+    text: &str,
+    answer: &str,
+    list: &str,
+) {
+    let shelf = answers(
+        rt,
+        alloc,
+        MemShelf::new(alloc),
+        Load::New,
+        BEFORE,
+        "loaded 2\n",
+    );
+    let (shelf, told) = loads_by(rt, alloc, shelf, Load::Into, options, text);
+    assert_equal_for(rt, text, told.as_str(), answer);
+    is_listed(rt, alloc, shelf, list);
+}
+
+// Lines 1 and 5 have the first key of a record of the file, line 3 the second key of another one besides, and
+// line 4 the second key of another one alone.
+const REPLACING: &str = "[0001CC]\n[0003DD]\n[0002CC]\n[0004DD]\n[0002BBXX]\n";
+
+#[test]
+fn a_record_takes_the_place_of_the_one_of_its_first_key(rt: HostRuntime) {
+    let alloc = rt.alloc();
+    let going = LoadOptions {
+        keep_going: true,
+        ..REPLACE
+    };
+    let answer = "line 3: status 22\nline 4: status 22\nloaded 1, replaced 2, rejected 2\n";
+    let list = "[0001CC]\n[0002BBXX]\n[0003DD]\n";
+    gives_into(&rt, alloc, going, REPLACING, answer, list);
+    let list = "[0001CC]\n[0002BB]\n[0003DD]\n";
+    gives_into(&rt, alloc, REPLACE, REPLACING, "line 3: status 22\n", list);
+    let one = "[0002CC]\n";
+    let list = "[0001AA]\n[0002CC]\n";
+    gives_into(&rt, alloc, REPLACE, one, "loaded 0, replaced 1\n", list);
+    gives_into(
+        &rt,
+        alloc,
+        USUAL,
+        one,
+        "line 1: status 22\n",
+        BEFORE_IN_ORDER,
+    );
+    gives_into(
+        &rt,
+        alloc,
+        REPLACE,
+        "[0003CC]\n",
+        "loaded 1\n",
+        "[0001AA]\n[0002BB]\n[0003CC]\n",
+    );
+}
+
+// OPEN OUTPUT makes a new file, in which REWRITE is not allowed.
+#[test]
+fn nothing_is_replaced_in_a_new_file(rt: HostRuntime) {
+    let text = "[0001AA]\n[0001BB]\n[0002CC]\n";
+    let answer = "line 2: status 22\n";
+    gives_by(&rt, rt.alloc(), REPLACE, text, answer, "[0001AA]\n");
 }

@@ -3,11 +3,10 @@
 use crate::checks::{assert_equal, assert_equal_for, assert_that, has_bytes};
 use crate::files::{Found, WAYS, calls_for, fails_at, find, make};
 use crate::shelves::attach;
-use folder_shelf::{EmptyDisk, FolderShelf};
+use folder_shelf::{EmptyDisk, FolderShelf, RecordedSystem};
 use io_state::Fault;
 use memory_shelf::Kind;
 use page_store::{Shelf, Store};
-use recorded_system::RecordedSystem;
 use std::fs;
 use std::os::unix::fs::symlink;
 use std::process::Abort;

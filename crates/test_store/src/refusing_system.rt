@@ -30,7 +30,7 @@ pub struct Refusals {
     pub locks: Cell<bool>,
     /// The next sync of a folder fails, and no later one.
     pub folder_sync: Cell<bool>,
-    /// Before the next exclusive lock.
+    /// Before the next exclusive lock of a file.
     pub change: Cell<Change>,
 }
 
@@ -75,6 +75,9 @@ impl<'a> RefusingFile<'a> {
     }
 
     fn change(&self) -> io::Result<()> {
+        if self.file.metadata()?.is_dir() {
+            return Ok(());
+        }
         match self.refusals.change.replace(Change::Nothing) {
             Change::Nothing => Ok(()),
             Change::Page => {

@@ -3,15 +3,15 @@
 
 use crate::checks::{assert_equal, assert_equal_for};
 use crate::memory_pages::{MemoryPages, new_pages};
-use index_building::{
-    AltBuilder, PrimeBuilder, alt_builder_laws, entry_order_laws, heap_builder_laws,
-    prime_builder_laws,
-};
 use io_state::Fault;
 use key_index::{AltEntry, AltIndex, PrimeIndex};
 use record_heap::Place;
 use std::alloc::Global;
 use std::process::Abort;
+use tree_building::{
+    AltBuilder, PrimeBuilder, alt_builder_laws, entry_order_laws, heap_builder_laws,
+    prime_builder_laws,
+};
 
 // A value of 4 bytes.
 fn value_of(number: u32) -> [u8; 4] {

@@ -5,3 +5,6 @@ pub mod PageLemmas
 pub mod RisingLemmas
 pub mod RootLemmas
 pub mod BuildLemmas
+pub mod PushLemmas
+pub mod LawLemmas
+pub mod RankLemmas

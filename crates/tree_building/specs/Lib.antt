@@ -7,3 +7,5 @@ pub mod Rising
 pub mod Leaves
 pub mod Pending
 pub mod Building
+pub mod IndexBuilding
+pub mod Laws

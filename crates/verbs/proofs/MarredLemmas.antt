@@ -31,7 +31,7 @@ store_marred should s session outcome (inl lacks) = room_marred should s session
 store_marred should s session outcome (inr mars) = change_marred s session outcome mars
 
 pub marred_status : (statement : FileStatement) (should : Outcome) (s : FileState) (outcome : Outcome) → Mars statement should s outcome → IsMarredStatus outcome.status
-marred_status (Open mode) should s outcome mars = inl mars.0
+marred_status (Open mode) should s outcome mars = inl mars.status
 marred_status (Close lock) should s outcome mars = inl mars.0
 marred_status ReadNext should s outcome mars = read_marred s s.connector.session outcome mars
 marred_status (Read key) should s outcome mars = read_marred s s.connector.session outcome mars

@@ -3,7 +3,7 @@ use Rattle.std.specs.Prelude.{◌≡◌, ℕ, ◌+◌, Bool, true, false, List, 
 use Rattle.io_state.specs.declared.fault.Fault.{Fault}
 use Rattle.io_state.specs.declared.modes.OpenMode.{OpenMode}
 use Rattle.io_state.specs.declared.status.Status.{Status}
-use Rattle.io_state.specs.declared.status.Status.TheVariants.{OutOfSequence}
+use Rattle.io_state.specs.declared.status.Status.TheVariants.{OutOfMemory, OutOfSequence}
 use Rattle.io_state.specs.declared.statement.FileStatement.{FileStatement}
 use Rattle.io_state.specs.declared.statement.FileStatement.TheVariants.{Open, Write, Rewrite, Delete}
 use Rattle.record_layout.specs.Schema.{Schema}
@@ -132,7 +132,7 @@ pub record IsChangeMade
 
 -- of the connector and the library before a part, of its status, and of what it leaves of them
 module _ {S : Type 0} (shown : Shown S) (u : ℕ) where
-  -- OPEN goes on by this part, which never answers 24
+  -- OPEN goes on by this part, which never answers 24, and 90 for no fault of the device
   pub record OpensBy (opening : OpenPart) (held : Held) (library : S) (status : Status)
       (now : Held) (after : S) : Type 0 where
     pub part : IsPart shown u (trace_of_open (opening.creates held) status)
@@ -141,6 +141,7 @@ module _ {S : Type 0} (shown : Shown S) (u : ℕ) where
         → ChangesTo shown u (Open opening.mode) opening.should
         (in_memory held library []) status (in_memory now after []))
     pub not_full : is_boundary_violation status ≡ false
+    pub memory : status ≡ OutOfMemory → shown.fault_count after ≡ shown.fault_count library
     pub standing : IsTrue (shown.is_honest after) → opening.IsSo held (shown.world library) u
         → IsStanding now (shown.world after) u
 

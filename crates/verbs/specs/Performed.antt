@@ -3,7 +3,7 @@ use Rattle.std.specs.Prelude.{◌≡◌, ◌⊎◌, ℕ, ◌+◌, Bool, true, fa
 use Rattle.std.specs.Option.{option_flatten}
 use Rattle.io_state.specs.declared.status.Status.{Status}
 use Rattle.io_state.specs.declared.status.Status.TheVariants.{BoundaryViolation, PermanentError}
-use Rattle.io_state.specs.declared.status.Status.TheVariants.{ConnectorFailed, OutOfSequence}
+use Rattle.io_state.specs.declared.status.Status.TheVariants.{ConnectorFailed, OutOfMemory, OutOfSequence}
 use Rattle.io_state.specs.declared.statement.FileStatement.{FileStatement}
 use Rattle.io_state.specs.declared.statement.FileStatement.TheVariants.{Open, Close, ReadNext, Read, Start}
 use Rattle.io_state.specs.declared.statement.FileStatement.TheVariants.{Write, Rewrite, Delete}
@@ -15,7 +15,7 @@ use Rattle.indexed_file.specs.Calls.{Keeps, HasRisen}
 use Rattle.verbs.specs.declared.answer.Answer.{Answer}
 use Rattle.verbs.specs.Connector.{Session, FileState}
 use Rattle.verbs.specs.Faults.{OutOfMemoryIsCaused}
-use Rattle.verbs.specs.Fits.{Fits, IsStanding, asks, closes_failed, has_failed, key_of_session}
+use Rattle.verbs.specs.Fits.{Fits, IsStanding, asks, closes_failed, has_failed, is_output, key_of_session}
 use Rattle.verbs.specs.Full.{TellsRoom, lacks_room}
 use Rattle.verbs.specs.Held.{Held, Performs, Decides, state_of, silent}
 use Rattle.verbs.specs.Pages.{AnswersWithin, most_asked}
@@ -60,14 +60,26 @@ stores Write = true
 stores Rewrite = true
 stores Delete = false
 
+-- OPEN OUTPUT, which asks the library for a new file, and for nothing before it
+abbrev pub opens_output : FileStatement → Bool
+opens_output (Open mode) = is_output mode
+opens_output (Close lock) = false
+opens_output ReadNext = false
+opens_output (Read key) = false
+opens_output (Start key length relation) = false
+opens_output Write = false
+opens_output Rewrite = false
+opens_output Delete = false
+
 -- why a status is answered: 30 only where the count of the device's faults rose, or by CLOSE of a
 -- connector that has failed; 92 only by a connector that has failed; 24 only where a record is to
--- be stored
+-- be stored; 90 by OPEN OUTPUT only where that count stays
 pub record StatusHasCause (statement : FileStatement) (session : Option Session) (status : Status)
     (old new : ℕ) : Type 0 where
   pub device : status ≡ PermanentError → HasRisen old new ⊎ IsTrue (closes_failed statement session)
   pub failed : status ≡ ConnectorFailed → IsTrue (has_failed session)
   pub full : status ≡ BoundaryViolation → IsTrue (stores statement)
+  pub memory : status ≡ OutOfMemory → IsTrue (opens_output statement) → new ≡ old
 
 -- a WRITE of n bytes in sequential access passes its checks, and the connector knows that its prime
 -- value is not above the greatest of the file

@@ -10,12 +10,12 @@ use Rattle.io_state.specs.declared.statement.FileStatement.{FileStatement}
 use Rattle.io_state.specs.declared.statement.FileStatement.TheVariants.{Open, Close, ReadNext, Read, Start}
 use Rattle.io_state.specs.declared.statement.FileStatement.TheVariants.{Write, Rewrite, Delete}
 use Rattle.verbs.specs.Connector.{Session, FileState, file_of}
-use Rattle.verbs.specs.Faults.{is_device_or_memory, is_fault}
+use Rattle.verbs.specs.Faults.{is_permanent_error, is_fault}
 use Rattle.verbs.specs.Marred.{creates}
 
--- OPEN, where it makes a file, with 00, 05, 30 or 90
+-- OPEN, where it makes a file, with 00, 05 or 30
 abbrev pub trace_of_open : Bool → Status → Trace
-trace_of_open creates status = trace_if (creates && (is_successful status || is_device_or_memory status))
+trace_of_open creates status = trace_if (creates && (is_successful status || is_permanent_error status))
 
 -- WRITE, REWRITE and DELETE: accepted, or answered 30, 90 or 91
 abbrev pub trace_of_change_by : Status → Trace

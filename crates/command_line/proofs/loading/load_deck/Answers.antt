@@ -5,7 +5,7 @@ use Rattle.record_loading.specs.declared.shelf_end.ShelfEnd.{ShelfEnd}
 use Rattle.command_outcomes.specs.declared.fault.Fault.{Fault}
 use Rattle.file_control.specs.Description.{FileDesc}
 use Rattle.record_layout.specs.Schema.{Schema}
-use Rattle.recorded_system.specs.SystemState.{file_path}
+use Rattle.folder_shelf.specs.SystemState.{file_path}
 use Rattle.record_loading.specs.declared.end.Load.{Load}
 use Rattle.file_commands.specs.DeckFile.{is_named_in_deck, IsFileOf}
 use Rattle.command_line.specs.LoadForm.{form_word}

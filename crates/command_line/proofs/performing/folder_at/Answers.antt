@@ -1,6 +1,6 @@
 use Rattle.std.proofs.Common.{◌≡◌, Bool, Some, string_bytes, refl, rules, subst}
-use Rattle.recorded_system.specs.Calls.{asked_of_folder}
-use Rattle.recorded_system.specs.SystemState.{with_call, if_told}
+use Rattle.folder_shelf.specs.Calls.{asked_of_folder}
+use Rattle.folder_shelf.specs.SystemState.{with_call, if_told}
 use Rattle.command_line.proofs.InputLemmas.{folder_given, folder_refused}
 use Rattle.command_outcomes.specs.declared.fault.Fault.TheVariants.{Input, Memory}
 use Rattle.command_line.proofs.performing.folder_at.Goals as goal

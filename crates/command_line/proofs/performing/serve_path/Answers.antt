@@ -1,5 +1,5 @@
 use Rattle.std.proofs.Common.{◌∷◌, Some, true, refl, ap, ◌∙◌, sym, inl, inr}
-use Rattle.recorded_system.specs.Calls.{asked_of_folder}
+use Rattle.folder_shelf.specs.Calls.{asked_of_folder}
 use Rattle.streams.specs.Source.{source_of}
 use Rattle.command_line.specs.Session.{streams_of}
 use Rattle.command_line.proofs.AskedSessionLemmas.{session_ends}

@@ -1,5 +1,5 @@
 use Rattle.std.proofs.Common.{◌≡◌, ◌∷◌, Err, refl, ap, ◌∙◌, sym, string_bytes, rules}
-use Rattle.recorded_system.specs.Calls.{entered}
+use Rattle.folder_shelf.specs.Calls.{entered}
 use Rattle.command_line.proofs.AskedSessionLemmas.{no_memory}
 use Rattle.serve.specs.declared.fault.ServeFault.TheVariants.{Memory}
 use Rattle.folder_shelf.specs.Replay.{folder_state}

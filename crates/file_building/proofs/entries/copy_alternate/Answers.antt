@@ -2,8 +2,8 @@ use Rattle.std.proofs.Common.{◌≡◌, ◌+◌, ◌-◌, ℕ, suc, false, refl
 use Rattle.pages.specs.PageMap.{PageMap}
 use Rattle.tree_node.specs.declared.shape.Shape.{Shape}
 use Rattle.file_building.specs.CopiedEntries.{HasCopiedEntries}
-use Rattle.index_building.specs.Building.{AltEntriesRise}
-use Rattle.index_building.proofs.RisingLemmas.{alts_rise}
+use Rattle.tree_building.specs.IndexBuilding.{AltEntriesRise}
+use Rattle.tree_building.proofs.RankLemmas.{alts_rise}
 use Rattle.file_building.proofs.StepLemmas.{StepLaws, copy_handed, copy_fails, copy_no_answer, copy_if_err, copy_if_ok, copy_ok, copy_cause}
 use Rattle.file_building.proofs.EntryLemmas.{entries_begun}
 use Rattle.file_building.proofs.entries.copy_alternate.Goals as goal

@@ -1,6 +1,6 @@
 use Rattle.std.proofs.Common.{List, ◌++◌, ap, inl, inr}
-use Rattle.recorded_system.specs.Calls.{Call}
-use Rattle.recorded_system.proofs.ReadingLemmas.{by_none, by_same, by_both}
+use Rattle.folder_shelf.specs.Calls.{Call}
+use Rattle.folder_shelf.proofs.ReadingLemmas.{by_none, by_same, by_both}
 use Rattle.command_words.specs.Asks.{form_text}
 use Rattle.file_commands.proofs.FormLemmas.{form_not_read}
 use Rattle.file_commands.proofs.by_index.read_start.Goals as goal

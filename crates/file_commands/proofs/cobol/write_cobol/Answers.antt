@@ -2,7 +2,7 @@ use Rattle.std.proofs.Common.{rules, ◌≡◌, ℕ, List, string_bytes, subst}
 use Rattle.std.specs.Io.KnownBytes.{Appends}
 use Rattle.cobol_program.specs.declared.form.Form.{Form}
 use Rattle.file_commands.specs.Listed.{form_of, IsDeckRefused, IsInCobol}
-use Rattle.recorded_system.proofs.ReadingLemmas.{by_same}
+use Rattle.folder_shelf.proofs.ReadingLemmas.{by_same}
 use Rattle.file_commands.proofs.ListLemmas.{if_ok, deck_not_read, deck_refused, deck_told}
 use Rattle.file_commands.proofs.cobol.write_cobol.Goals as goal
 

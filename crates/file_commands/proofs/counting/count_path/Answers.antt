@@ -1,5 +1,5 @@
 use Rattle.std.proofs.Common.{refl, subst}
-use Rattle.recorded_system.proofs.ReadingLemmas.{by_same}
+use Rattle.folder_shelf.proofs.ReadingLemmas.{by_same}
 use Rattle.file_statistics.specs.Listing.{EndsStatisticsWith}
 use Rattle.file_commands.proofs.counting.count_path.Goals as goal
 

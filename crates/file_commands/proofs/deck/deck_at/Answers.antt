@@ -1,6 +1,6 @@
 use Rattle.std.proofs.Common.{ℕ, List, subst}
 use Rattle.std.proofs.lemmas.Result.{IfOk-weaker}
-use Rattle.recorded_system.proofs.ReadingLemmas.{by_same}
+use Rattle.folder_shelf.proofs.ReadingLemmas.{by_same}
 use Rattle.deck_reader.specs.Deck.{IsDeck}
 use Rattle.file_commands.specs.Front.{IsDeckNamed}
 use Rattle.file_commands.proofs.DeckLemmas.{not_there}

@@ -2,7 +2,7 @@ use Rattle.std.proofs.Common.{rules, ◌≡◌, ℕ, List, string_bytes, subst}
 use Rattle.std.specs.Io.KnownBytes.{Appends}
 use Rattle.deck_listing.specs.Listing.{Lists}
 use Rattle.file_commands.specs.Listed.{IsDeckRefused}
-use Rattle.recorded_system.proofs.ReadingLemmas.{by_same}
+use Rattle.folder_shelf.proofs.ReadingLemmas.{by_same}
 use Rattle.file_commands.proofs.ListLemmas.{if_ok, deck_not_read, deck_refused, deck_told}
 use Rattle.file_commands.proofs.deck_list.list_path.Goals as goal
 

@@ -1,6 +1,6 @@
 use Rattle.std.proofs.Common.{◌≡◌, ◌≢◌, ℕ, List, take, Some, None, IfOk, OnErr, inl, refl, ap, subst, ◌∙◌}
-use Rattle.recorded_system.specs.Calls.{taken_shared}
-use Rattle.recorded_system.proofs.ReadingLemmas.{by_one, by_two}
+use Rattle.folder_shelf.specs.Calls.{taken_shared}
+use Rattle.folder_shelf.proofs.ReadingLemmas.{by_one, by_two}
 use Rattle.file_commands.specs.Front.{asked_by}
 use Rattle.file_commands.proofs.FrontLemmas.{counted_or_changed, not_counted}
 use Rattle.file_commands.proofs.file_bytes.read_counted.Goals as goal

@@ -1,5 +1,5 @@
 use Rattle.std.proofs.Common.{rules, ◌≡◌, codes}
-use Rattle.recorded_system.proofs.ReadingLemmas.{by_none, by_same}
+use Rattle.folder_shelf.proofs.ReadingLemmas.{by_none, by_same}
 use Rattle.file_commands.proofs.FrontLemmas.{front_of_input, front_of_file}
 use Rattle.file_commands.proofs.file_bytes.read_deck_bytes.Goals as goal
 

@@ -1,6 +1,6 @@
 use Rattle.std.proofs.Common.{Some, None, refl}
-use Rattle.recorded_system.specs.Calls.{taken_shared}
-use Rattle.recorded_system.proofs.ReadingLemmas.{by_one}
+use Rattle.folder_shelf.specs.Calls.{taken_shared}
+use Rattle.folder_shelf.proofs.ReadingLemmas.{by_one}
 use Rattle.file_commands.proofs.file_bytes.read_first_page.Goals as goal
 
 pub returns-in-Ok : goal.returns-in-Ok

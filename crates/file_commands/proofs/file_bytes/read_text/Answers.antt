@@ -1,5 +1,5 @@
 use Rattle.std.proofs.Common.{rules, ◌≡◌, codes}
-use Rattle.recorded_system.proofs.ReadingLemmas.{by_none, by_same}
+use Rattle.folder_shelf.proofs.ReadingLemmas.{by_none, by_same}
 use Rattle.file_commands.proofs.FrontLemmas.{text_of_input, text_of_file}
 use Rattle.file_commands.proofs.file_bytes.read_text.Goals as goal
 

@@ -1,6 +1,6 @@
 use Rattle.std.proofs.Common.{Some, None, refl}
-use Rattle.recorded_system.specs.Calls.{taken}
-use Rattle.recorded_system.proofs.ReadingLemmas.{by_one}
+use Rattle.folder_shelf.specs.Calls.{taken}
+use Rattle.folder_shelf.proofs.ReadingLemmas.{by_one}
 use Rattle.file_commands.proofs.file_bytes.take_front.Goals as goal
 
 pub returns-in-Ok : goal.returns-in-Ok

@@ -1,6 +1,6 @@
 use Rattle.std.proofs.Common.{Some, None, refl}
-use Rattle.recorded_system.specs.Calls.{taken}
-use Rattle.recorded_system.proofs.ReadingLemmas.{by_one}
+use Rattle.folder_shelf.specs.Calls.{taken}
+use Rattle.folder_shelf.proofs.ReadingLemmas.{by_one}
 use Rattle.file_commands.specs.Front.{longest_line}
 use Rattle.file_commands.proofs.file_bytes.take_text.Goals as goal
 

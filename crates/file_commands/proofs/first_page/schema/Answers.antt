@@ -1,5 +1,5 @@
 use Rattle.std.proofs.Common.{List, ℕ, Option, Some, None, Bor, sym, subst}
-use Rattle.recorded_system.proofs.ReadingLemmas.{by_same}
+use Rattle.folder_shelf.proofs.ReadingLemmas.{by_same}
 use Rattle.file_commands.specs.Schema.{AnswersSchema}
 use Rattle.file_commands.proofs.SchemaLemmas.{told_alone, compared_with}
 use Rattle.file_commands.proofs.first_page.schema.Goals as goal

@@ -1,5 +1,5 @@
 use Rattle.std.proofs.Common.{subst}
-use Rattle.recorded_system.proofs.ReadingLemmas.{by_same}
+use Rattle.folder_shelf.proofs.ReadingLemmas.{by_same}
 use Rattle.schema_listing.specs.Listing.{read_of_file}
 use Rattle.file_commands.specs.Schema.{TellsAs}
 use Rattle.file_commands.proofs.SchemaLemmas.{file_told, file_not_read}

@@ -1,5 +1,5 @@
 use Rattle.std.proofs.Common.{rules, sym, subst}
-use Rattle.recorded_system.proofs.ReadingLemmas.{by_same}
+use Rattle.folder_shelf.proofs.ReadingLemmas.{by_same}
 use Rattle.file_commands.specs.DeckFile.{IsDeckFault}
 use Rattle.file_commands.proofs.forms.columns_in.Goals as goal
 

@@ -1,6 +1,6 @@
 use Rattle.std.proofs.Common.{rules, arith, ap, option_map}
 use Rattle.std.proofs.lemmas.Grind.{common_steps}
-use Rattle.recorded_system.proofs.ReadingLemmas.{by_none, by_same}
+use Rattle.folder_shelf.proofs.ReadingLemmas.{by_none, by_same}
 use Rattle.command_words.specs.Asks.{form_text}
 use Rattle.file_commands.proofs.FormLemmas.{cut_refused, without_deck, with_deck}
 use Rattle.file_commands.proofs.forms.columns_of.Goals as goal

@@ -1,5 +1,5 @@
 use Rattle.std.proofs.Common.{rules}
-use Rattle.recorded_system.proofs.ReadingLemmas.{by_none, by_same}
+use Rattle.folder_shelf.proofs.ReadingLemmas.{by_none, by_same}
 use Rattle.file_commands.proofs.forms.form_of.Goals as goal
 
 pub returns-then-eq : goal.returns-then-eq

@@ -1,5 +1,5 @@
 use Rattle.std.proofs.Common.{rules, ◌≡◌, Bool, true, false, subst}
-use Rattle.recorded_system.proofs.ReadingLemmas.{by_none, by_same, by_both}
+use Rattle.folder_shelf.proofs.ReadingLemmas.{by_none, by_same, by_both}
 use Rattle.record_listing.specs.FileList.{EndsIn}
 use Rattle.file_commands.specs.Records.{AgreesWith, WritesOther, TellsOther}
 use Rattle.file_commands.proofs.RecordsLemmas.{not_asked, no_form, broken_off, other_schema, listed}

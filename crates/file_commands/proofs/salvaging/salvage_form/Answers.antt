@@ -1,6 +1,6 @@
 use Rattle.std.proofs.Common.{rules, ◌≡◌}
 use Rattle.std.specs.Prelude.{◌≢◌, codes}
-use Rattle.recorded_system.proofs.ReadingLemmas.{by_same}
+use Rattle.folder_shelf.proofs.ReadingLemmas.{by_same}
 use Rattle.command_words.specs.Asks.{form_text}
 use Rattle.file_commands.proofs.SalvageLemmas.{other_given, text_given, text_refused}
 use Rattle.file_commands.proofs.salvaging.salvage_form.Goals as goal

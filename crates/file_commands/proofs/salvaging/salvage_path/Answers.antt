@@ -1,7 +1,7 @@
 use Rattle.std.proofs.Common.{◌≡◌, [], ◌∷◌, ◌++◌, Some, None, refl}
 use Rattle.std.specs.Prelude.{⊤}
-use Rattle.recorded_system.specs.Calls.{taken_shared}
-use Rattle.recorded_system.proofs.ReadingLemmas.{by_one, by_same, by_both}
+use Rattle.folder_shelf.specs.Calls.{taken_shared}
+use Rattle.folder_shelf.proofs.ReadingLemmas.{by_one, by_same, by_both}
 use Rattle.command_words.specs.Asks.{form_text}
 use Rattle.file_commands.proofs.SalvageLemmas.{not_begun, not_read, bytes_salvaged}
 use Rattle.file_commands.proofs.salvaging.salvage_path.Goals as goal

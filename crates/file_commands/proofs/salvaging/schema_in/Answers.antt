@@ -1,6 +1,6 @@
 use Rattle.std.proofs.Common.{ap, sym, subst, ◌∙◌}
 use Rattle.file_control.specs.Description.{FileDesc}
-use Rattle.recorded_system.proofs.ReadingLemmas.{by_same}
+use Rattle.folder_shelf.proofs.ReadingLemmas.{by_same}
 use Rattle.file_commands.specs.DeckFile.{IsDeckFault}
 use Rattle.file_commands.proofs.salvaging.schema_in.Goals as goal
 

@@ -1,5 +1,5 @@
 use Rattle.std.proofs.Common.{rules, ◌≡◌, ℕ, List, [], ◌∷◌, ◌++◌, Bor, sym, subst}
-use Rattle.recorded_system.proofs.ReadingLemmas.{by_none, by_same, by_both}
+use Rattle.folder_shelf.proofs.ReadingLemmas.{by_none, by_same, by_both}
 use Rattle.command_outcomes.specs.declared.outcome.WorstCheck.{WorstCheck}
 use Rattle.command_outcomes.specs.declared.outcome.WorstCheck.TheVariants.{AllSound}
 use Rattle.file_commands.specs.Verdicts.{worse_of, paths_of, WritesVerdicts}

@@ -1,4 +1,4 @@
-use Rattle.recorded_system.proofs.ReadingLemmas.{by_same}
+use Rattle.folder_shelf.proofs.ReadingLemmas.{by_same}
 use Rattle.file_commands.proofs.VerdictLemmas.{line_of}
 use Rattle.file_commands.proofs.verdict.check_named.Goals as goal
 

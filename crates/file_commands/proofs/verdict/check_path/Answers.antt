@@ -1,5 +1,5 @@
 use Rattle.std.proofs.Common.{refl}
-use Rattle.recorded_system.proofs.ReadingLemmas.{by_same}
+use Rattle.folder_shelf.proofs.ReadingLemmas.{by_same}
 use Rattle.file_commands.proofs.verdict.check_path.Goals as goal
 
 pub returns-in-Err : goal.returns-in-Err

@@ -1,5 +1,5 @@
 use Rattle.std.proofs.Common.{refl}
-use Rattle.recorded_system.proofs.ReadingLemmas.{by_same}
+use Rattle.folder_shelf.proofs.ReadingLemmas.{by_same}
 use Rattle.file_commands.proofs.verdict.check_paths.Goals as goal
 
 pub returns-in-Ok : goal.returns-in-Ok

@@ -1,5 +1,5 @@
 use Rattle.std.proofs.Common.{subst}
-use Rattle.recorded_system.proofs.ReadingLemmas.{by_same}
+use Rattle.folder_shelf.proofs.ReadingLemmas.{by_same}
 use Rattle.file_checker.specs.Sound.{IsRight}
 use Rattle.std.proofs.lemmas.Result.{IfOk-weaker}
 use Rattle.file_commands.proofs.VerdictLemmas.{found_by}

@@ -1,7 +1,7 @@
 use Rattle.std.proofs.Common.{rules, ◌≡◌, [], string_bytes, ap, subst, ◌∙◌}
 use Rattle.std.specs.Prelude.{IsTrue}
 use Rattle.record_listing.specs.FileList.{EndsOfFile}
-use Rattle.path_shelf.specs.Answers.{are_answers_of}
+use Rattle.folder_shelf.specs.Answers.{are_answers_of}
 use Rattle.record_listing.proofs.AsideLemmas.{set_aside}
 use Rattle.record_listing.proofs.path_list.list_at_path.Goals as goal
 

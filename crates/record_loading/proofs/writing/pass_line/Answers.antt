@@ -1,7 +1,8 @@
-use Rattle.std.proofs.Common.{ℕ, length, sym, ◌∙◌, subst}
+use Rattle.std.proofs.Common.{ℕ, length, sym, ap, ◌∙◌, subst}
+use Rattle.record_layout.specs.Schema.{Schema}
 use Rattle.record_reading.specs.ReadLine.{ReadsRecord, BeginsWithNoRecord}
 use Rattle.record_reading.specs.Mistake.{IsLineMistake}
-use Rattle.record_loading.proofs.GoingLemmas.{nothing_passed, nothing_ends, line_written, line_rejected, line_ends}
+use Rattle.record_loading.proofs.GoingLemmas.{nothing_passed, nothing_ends, line_written, line_rejected, line_ends, line_replaces, refused_keys}
 use Rattle.record_loading.proofs.writing.pass_line.Goals as goal
 
 -- no record was read
@@ -42,4 +43,22 @@ returns g c =
     let area = c.record_or_mistake.new.area in
     let reads = subst (λ (least : ℕ). ReadsRecord c.args.form.now c.args.text.now least c.args.area.now area line.length line.behind.now) c.requires.takes.least c.in-Ok.ensures.read in
     line_rejected g.L.Library.shown c.args.options c.args.form.now c.args.text.now c.args.connector.now c.args.lib.now c.args.area.now area c.write-status.new.self c.write-status.new.lib line.length c.write-status.result
-    line.behind c.write-status.ensures reads c.requires.takes.room.length_is c.record_or_mistake.auto.area (sym c.ends_lines.ensures ∙ c.if-ends_lines.false)
+    line.behind c.write-status.ensures reads c.requires.takes.room.length_is c.record_or_mistake.auto.area (sym c.ends_lines.ensures ∙ c.if-ends_lines.false) c.if-options-2.false
+
+-- its WRITE was refused for its keys, and a REWRITE behind it was answered
+pub returns-then-options-2 : goal.returns-then-options-2
+returns-then-options-2 g c =
+    let line = c.in-Ok.line in
+    let area = c.record_or_mistake.new.area in
+    let reads = subst (λ (least : ℕ). ReadsRecord c.args.form.now c.args.text.now least c.args.area.now area line.length line.behind.now) c.requires.takes.least c.in-Ok.ensures.read in
+    line_replaces g.L.Library.shown c.args.options c.args.form.now c.args.text.now c.args.connector.now c.args.lib.now c.args.area.now area c.write-status.new.self c.write-status.new.lib line.length c.write-status.result
+    line.behind c.write-status.ensures reads c.requires.takes.room.length_is c.record_or_mistake.auto.area g.met.L.Library.joins g.met.L.Library.ends c.requires.takes.fits.attached c.if-options-2.true
+    (refused_keys c.args.options c.write-status.result (sym c.ends_lines.ensures ∙ c.if-ends_lines.false)) c.replace_record.new.connector c.replace_record.new.lib c.replace_record.ensures.status c.replace_record.ensures.performed
+    c.replace_record.result c.replace_record.ensures.passed_by
+
+pub replace_record-requires : goal.replace_record-requires
+replace_record-requires g c = record {
+  fits = c.write-status.ensures.fits;
+  operands = tt;
+  area = c.record_or_mistake.auto.area ∙ c.requires.takes.room.length_is ∙ sym (ap (λ (s : Schema). s.greatest) c.write-status.ensures.schema);
+}

@@ -7,7 +7,7 @@ use Rattle.record_loading.proofs.writing.write_lines.Given as goal
 abbrev pub invariant-more : goal.invariant-more
 invariant-more g l =
     ArePassedSoFar g.L.Library.shown g.R.RejectLog.tells (record { form = l.fn.form; text = l.fn.text; options = l.fn.options }) (in_memory l.fn.connector l.fn.lib l.fn.area) (in_memory l.connector l.lib l.area)
-    l.fn.rejects l.rejects l.records l.rejected l.rest
+    l.fn.rejects l.rejects l.records l.replaced l.rejected l.rest
 
 abbrev pub decreases-more : goal.decreases-more
 decreases-more g l = length l.rest

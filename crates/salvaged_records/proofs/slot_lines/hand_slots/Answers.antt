@@ -1,5 +1,5 @@
 use Rattle.std.proofs.Common.{map}
-use Rattle.used_slots.specs.Slots.{found_slot}
+use Rattle.salvaged_records.specs.Slots.{found_slot}
 use Rattle.salvaged_records.specs.Lines.{salvaged_lines}
 use Rattle.salvaged_records.proofs.LineLemmas.{handed_if}
 use Rattle.salvaged_records.proofs.slot_lines.hand_slots.Goals as goal

@@ -1,7 +1,7 @@
 use Rattle.std.proofs.Common.{map, take, vec_capacity}
 use Rattle.record_forms.specs.Room.{IsLineRoom}
 use Rattle.streams.specs.Output.{HoldsText}
-use Rattle.used_slots.specs.Slots.{found_slot}
+use Rattle.salvaged_records.specs.Slots.{found_slot}
 use Rattle.salvaged_records.specs.Lines.{salvaged_lines}
 use Rattle.salvaged_records.proofs.slot_lines.hold_slots.Given as goal
 

@@ -1,7 +1,7 @@
 use Rattle.std.proofs.Common.{◌++◌, map, subst, ◌∙◌}
 use Rattle.record_forms.specs.Lines.{form_header}
 use Rattle.streams.specs.Output.{HoldsText}
-use Rattle.used_slots.specs.Slots.{found_slot}
+use Rattle.salvaged_records.specs.Slots.{found_slot}
 use Rattle.salvaged_records.specs.Leads.{lead_header}
 use Rattle.salvaged_records.specs.Lines.{salvaged_lines}
 use Rattle.salvaged_records.proofs.LineLemmas.{all_handed}

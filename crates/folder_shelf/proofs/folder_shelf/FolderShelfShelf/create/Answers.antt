@@ -1,5 +1,5 @@
 use Rattle.std.proofs.Common.{rules, refl}
-use Rattle.recorded_system.specs.Calls.{made}
+use Rattle.folder_shelf.specs.Calls.{made}
 use Rattle.folder_shelf.proofs.CallLemmas.{on_err, made_true, made_fails, made_only}
 use Rattle.folder_shelf.proofs.WithinLemmas.{noted_within}
 use Rattle.folder_shelf.proofs.folder_shelf.FolderShelfShelf.create.Goals as goal

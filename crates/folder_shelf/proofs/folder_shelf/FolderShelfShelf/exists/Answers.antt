@@ -1,5 +1,5 @@
 use Rattle.std.proofs.Common.{rules, refl}
-use Rattle.recorded_system.specs.Calls.{looked}
+use Rattle.folder_shelf.specs.Calls.{looked}
 use Rattle.folder_shelf.proofs.WithinLemmas.{noted_within}
 use Rattle.folder_shelf.proofs.folder_shelf.FolderShelfShelf.exists.Goals as goal
 

@@ -1,5 +1,5 @@
 use Rattle.std.proofs.Common.{rules, refl}
-use Rattle.recorded_system.specs.Calls.{flushed}
+use Rattle.folder_shelf.specs.Calls.{flushed}
 use Rattle.folder_shelf.proofs.CallLemmas.{flushed_true, flushed_only}
 use Rattle.folder_shelf.proofs.WithinLemmas.{noted_within}
 use Rattle.folder_shelf.proofs.folder_shelf.FolderShelfShelf.sync.Goals as goal

@@ -1,5 +1,5 @@
 use Rattle.std.proofs.Common.{rules, refl, ◌≡◌, subst, length, ◌<◌}
-use Rattle.recorded_system.specs.Calls.{held, written}
+use Rattle.folder_shelf.specs.Calls.{held, written}
 use Rattle.folder_shelf.proofs.CallLemmas.{on_err, written_all, written_any, written_only}
 use Rattle.folder_shelf.proofs.WithinLemmas.{noted_within}
 use Rattle.folder_shelf.proofs.folder_shelf.FolderShelfShelf.write_at.Goals as goal

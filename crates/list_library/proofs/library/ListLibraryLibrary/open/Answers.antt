@@ -10,6 +10,7 @@ returns-clause-opens c = record {
   only = first_of (search rules, grind (arith, common_steps));
   fault = first_of (search rules, grind (arith, common_steps));
   undamaged = first_of (search rules, grind (arith, common_steps));
+  memory = λ is. absurd (cc);
   images = λ honest shown. goes_in_memory _ _ _ _;
   others = others_stay_in_memory _ _ _;
   keeps = keeps_all _ _;

@@ -1,4 +1,4 @@
-use Rattle.std.proofs.Common.{◌≢◌, length, IsTrue, OnErr, IfErr, inr, rules, arith, false}
+use Rattle.std.proofs.Common.{◌≢◌, length, IsTrue, OnErr, IfErr, Err, refl, inr, rules, arith, false}
 use Rattle.std.proofs.lemmas.Grind.{common_steps}
 use Rattle.std.specs.NonZero.{non_zero_usize_get}
 use Rattle.io_state.specs.declared.fault.Fault.TheVariants.{Damage}
@@ -12,8 +12,22 @@ use Rattle.shelf_file.specs.Shelves.{IsMade}
 use Rattle.shelf_file.specs.Standing.{HasLimits}
 use Rattle.shelf_file.proofs.StepLemmas.{at_end, at_ends}
 use Rattle.shelf_file.proofs.MadeLemmas.{made_images, made_refused, made_cause, made_limits, is_made, new_sound, new_free}
-use Rattle.shelf_file.proofs.MadeLemmas.{handed_on, at_err}
+use Rattle.shelf_file.proofs.MadeLemmas.{handed_on, at_err, memory_first, never_memory}
 use Rattle.shelf_file.proofs.shelf_file.ShelfFile.create.Goals as goal
+
+pub returns-in_err-pages : goal.returns-in_err-pages
+returns-in_err-pages g c = record {
+  made = search rules;
+  limits = search rules;
+  images = search rules;
+  failed = search rules;
+  others = search rules;
+  count = search rules;
+  cause = search rules;
+  memory = memory_first g.S.Shelf.state g.S.Shelf.fault_count _ _ (Err c.in_err-pages.field-0.0) c.from_residual.result c.in_err-pages.field-0.0
+      refl c.from_residual.ensures.1 c.in_err-pages.ensures.opens.cause;
+  damage = search rules;
+}
 
 pub returns-in_err-file : goal.returns-in_err-file
 returns-in_err-file g c =
@@ -48,6 +62,7 @@ returns-in_err-file g c =
           (made_cause unit limit a _ _ _ _ _ made ready goes (g.S.Shelf.fault_count c.args.shelf.now) (length c.args.schema.now.keys)
           c.in_err-file.field-0.0 c.create.ensures.opens.no_fewer c.requires.limit c.key_count-keys.ensures.schema.few
           c.in_err-file.ensures.takes.writes.cause));
+      memory = never_memory c.from_residual-in_err-file.result c.in_err-file.field-0.0 c.from_residual-in_err-file.ensures.1 c.in_err-file.ensures.takes.writes.cause.not_memory;
       damage =
           at_end (λ s. IsTrue (g.S.Shelf.state s).is_honest → IfErr c.from_residual-in_err-file.result (λ e. e ≢ Damage))
           _ _ c.shelf-1.given.1 c.create-2.ensures.takes.writes.step.1
@@ -88,5 +103,6 @@ returns g c =
       others = first_of (search rules, grind (arith, common_steps));
       count = first_of (search rules, grind (arith, common_steps));
       cause = tt;
+      memory = λ is. absurd (cc);
       damage = λ honest. tt;
     }

@@ -1,7 +1,7 @@
 use Rattle.std.proofs.Common.{arith, slice_set}
 use Rattle.shelf_library.proofs.Terms.{LooksAt}
 use Rattle.shelf_library.proofs.StateLemmas.{library_state, state_left, is_within, looks_at, is_item}
-use Rattle.shelf_library.proofs.LookingLemmas.{units_looked, look_named, look_seen, look_holding, look_opens}
+use Rattle.shelf_library.proofs.LookingLemmas.{units_looked, look_named, look_seen, look_holding, look_not_memory, look_opens}
 use Rattle.shelf_library.proofs.LimitLemmas.{limits_looked}
 use Rattle.shelf_library.proofs.library.ShelfLibraryLibrary.look.Given as given
 use Rattle.shelf_library.proofs.library.ShelfLibraryLibrary.look.Goals as goal
@@ -39,6 +39,10 @@ returns-clause-holding g c = rw c.held_and_seen-held.ensures.seen (look_holding 
 
 pub returns-clause-named : goal.returns-clause-named
 returns-clause-named g c = look_named _ _ _ _ (call g c)
+
+pub returns-clause-not_memory : goal.returns-clause-not_memory
+returns-clause-not_memory g c =
+    look_not_memory c.args.u c.look_at.result _ _ (call g c) c.held_and_seen-held.result.1 c.held_and_seen-held.ensures.seen
 
 pub returns-clause-opens : goal.returns-clause-opens
 returns-clause-opens g c =

@@ -1,0 +1,4 @@
+mod FillLemmas
+mod CopyLemmas
+mod MoveLemmas
+mod UnitLemmas

@@ -1,0 +1,74 @@
+-- What is found of the two files before anything is written.
+use Rattle.std.specs.Prelude.{◌≡◌, ◌≤◌, ℕ, ⊤, IsTrue, Result, Ok, Err, IfOk, IfErr, None, is_some}
+use Rattle.io_state.specs.declared.fault.Fault.TheVariants.{Device}
+use Rattle.page_store.specs.DeviceFile.{DeviceFile}
+use Rattle.page_store.specs.ShelfState.{ShelfState, OnlyAnswers, unit_file}
+use Rattle.page_alloc.specs.Joining.{FaultsRose}
+use Rattle.file_header.specs.declared.header.Header.{Header}
+use Rattle.file_header.specs.Bounds.{IsHeader}
+use Rattle.shelf_file.specs.declared.look.Look.TheVariants.{NoFile, Refused, Accepted}
+use Rattle.shelf_file.specs.Named.{look_of}
+use Rattle.shelf_file.specs.Opening.{CountedShelf, counted_shelf}
+use Rattle.file_copying.specs.declared.fault.CopyingFault.{CopyingFault}
+use Rattle.file_copying.specs.declared.fault.CopyingFault.TheVariants.{NoneToCopy, NotAccepted, IsThere, Reading, Writing}
+
+-- what an answer tells of the file that is to be copied
+abbrev pub IsToldSource : DeviceFile → Result Header CopyingFault → Type 0
+IsToldSource file (Ok header) = look_of file.seen ≡ Accepted header
+IsToldSource file (Err NoneToCopy) = look_of file.seen ≡ NoFile
+IsToldSource file (Err NotAccepted) = look_of file.seen ≡ Refused
+IsToldSource file (Err IsThere) = ⊤
+IsToldSource file (Err (Reading fault)) = ⊤
+IsToldSource file (Err (Writing fault)) = ⊤
+
+-- why no header of it was told
+abbrev pub IsNoSource : Type 0 → CopyingFault → Type 0
+IsNoSource failed NoneToCopy = ⊤
+IsNoSource failed NotAccepted = ⊤
+IsNoSource failed IsThere = ⊥
+IsNoSource failed (Reading fault) = (fault ≡ Device) × failed
+IsNoSource failed (Writing fault) = ⊥
+
+-- a call that looks for the file to copy, and writes nothing
+pub record LooksForSource (unit : ℕ) (old new : CountedShelf) (result : Result Header CopyingFault)
+    : Type 0 where
+  pub told : IsTrue new.shelf.is_honest → IsToldSource (unit_file old.shelf unit) result
+  pub header : IfOk result IsHeader
+  pub only : OnlyAnswers old.shelf new.shelf
+  pub count : old.faults ≤ new.faults
+  pub cause : IfErr result (IsNoSource (FaultsRose old.faults new.faults))
+
+-- what an answer tells of the file that is to be made
+abbrev pub IsToldTarget : DeviceFile → Result (Unit {0}) CopyingFault → Type 0
+IsToldTarget file (Ok done) = file.seen ≡ None
+IsToldTarget file (Err NoneToCopy) = ⊤
+IsToldTarget file (Err NotAccepted) = ⊤
+IsToldTarget file (Err IsThere) = IsTrue (is_some file.seen)
+IsToldTarget file (Err (Reading fault)) = ⊤
+IsToldTarget file (Err (Writing fault)) = ⊤
+
+-- why it was not found to be absent
+abbrev pub IsTargetFault : Type 0 → CopyingFault → Type 0
+IsTargetFault failed NoneToCopy = ⊥
+IsTargetFault failed NotAccepted = ⊥
+IsTargetFault failed IsThere = ⊤
+IsTargetFault failed (Reading fault) = ⊥
+IsTargetFault failed (Writing fault) = (fault ≡ Device) × failed
+
+-- a call that looks whether it is there, and writes nothing
+pub record LooksForTarget (unit : ℕ) (old new : CountedShelf) (result : Result (Unit {0}) CopyingFault)
+    : Type 0 where
+  pub told : IsTrue new.shelf.is_honest → IsToldTarget (unit_file old.shelf unit) result
+  pub only : OnlyAnswers old.shelf new.shelf
+  pub count : old.faults ≤ new.faults
+  pub cause : IfErr result (IsTargetFault (FaultsRose old.faults new.faults))
+
+-- the same, of shelves that show this state and count their faults so
+module _ {H : Type 0} (state : H → ShelfState) (count : H → ℕ) where
+  abbrev pub FindsSource : ℕ → H → H → Result Header CopyingFault → Type 0
+  FindsSource unit old new result = LooksForSource unit (counted_shelf (state old) (count old))
+      (counted_shelf (state new) (count new)) result
+
+  abbrev pub FindsNoTarget : ℕ → H → H → Result (Unit {0}) CopyingFault → Type 0
+  FindsNoTarget unit old new result = LooksForTarget unit (counted_shelf (state old) (count old))
+      (counted_shelf (state new) (count new)) result

@@ -1,0 +1,35 @@
+//! What is found before anything is written.
+
+ghost use Rattle.std.specs.Prelude.{◌≡◌};
+ghost use Rattle.page_store.specs.ShelfState.{HasUnit};
+ghost use Rattle.file_copying.specs.Looking.{FindsSource, FindsNoTarget};
+
+use crate::fault::CopyingFault;
+use file_header::Header;
+use page_store::Shelf;
+use shelf_file::{Look, look_at};
+
+/// The header of the file that is to be copied.
+pub fn source_header<S: Shelf>(shelf: &mut S, unit: usize) -> Result<Header, CopyingFault>
+    requires unit { HasUnit (S.state shelf.old) unit }
+    ensures { FindsSource S.state S.fault_count unit shelf.old shelf.new result }
+{
+    match look_at(shelf, unit) {
+        Ok(Look::Accepted(header)) => Ok(header),
+        Ok(Look::NoFile) => Err(CopyingFault::NoneToCopy),
+        Ok(Look::Refused) => Err(CopyingFault::NotAccepted),
+        Err(fault) => Err(CopyingFault::Reading(fault)),
+    }
+}
+
+/// Finds that the new file is not there.
+pub fn find_no_target<T: Shelf>(shelf: &mut T, unit: usize) -> Result<(), CopyingFault>
+    requires unit { HasUnit (T.state shelf.old) unit }
+    ensures { FindsNoTarget T.state T.fault_count unit shelf.old shelf.new result }
+{
+    match shelf.exists(unit) {
+        Ok(false) => Ok(()),
+        Ok(true) => Err(CopyingFault::IsThere),
+        Err(fault) => Err(CopyingFault::Writing(fault)),
+    }
+}

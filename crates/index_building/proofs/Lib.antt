@@ -1,3 +1,0 @@
-pub mod PushLemmas
-pub mod LawLemmas
-pub mod RisingLemmas

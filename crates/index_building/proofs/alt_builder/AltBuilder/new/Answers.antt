@@ -1,4 +1,0 @@
-use Rattle.index_building.proofs.alt_builder.AltBuilder.new.Goals as goal
-
-pub returns-clause-begun : goal.returns-clause-begun
-returns-clause-begun c pages = record { tree = c.new.ensures.begun pages; each = tt }

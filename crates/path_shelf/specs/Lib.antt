@@ -1,4 +1,0 @@
-pub mod Answers
-pub mod Reads
-pub mod Shelf
-pub mod ShelfLaws

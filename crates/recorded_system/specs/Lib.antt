@@ -1,4 +1,0 @@
-pub mod Calls
-pub mod SystemState
-pub mod Kept
-pub mod Reading

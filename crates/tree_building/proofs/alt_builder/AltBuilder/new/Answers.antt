@@ -1,0 +1,4 @@
+use Rattle.tree_building.proofs.alt_builder.AltBuilder.new.Goals as goal
+
+pub returns-clause-begun : goal.returns-clause-begun
+returns-clause-begun c pages = record { tree = c.new.ensures.begun pages; each = tt }

@@ -1,5 +1,0 @@
-pub mod ValueLemmas
-pub mod SlotLemmas
-pub mod EntryLemmas
-pub mod PickLemmas
-pub mod OnceLemmas

@@ -1,7 +1,0 @@
-use Rattle.std.proofs.Common.{take}
-use Rattle.used_slots.specs.Leaves.{leaf_entries_in}
-use Rattle.used_slots.specs.Values.{HasValues}
-use Rattle.used_slots.proofs.leaves.leaf_entries.Given as goal
-
-abbrev pub invariant-loop-page : goal.invariant-loop-page
-invariant-loop-page l = HasValues l.entries (leaf_entries_in l.fn.shape (take l.page-index l.fn.pages))
