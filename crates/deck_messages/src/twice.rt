@@ -1,7 +1,7 @@
 //! What stands a second time.
 
-use deck_words::{Twice, WordPlace};
-use refused_deck::{Among, Reading, Told};
+use deck_words::{FirstNamed, ItemPlace, Twice, WordPlace};
+use refused_deck::{Reading, Told};
 
 fn already(deck: &Reading<'_>, place: WordPlace, what: &str, line: u64) -> Told {
     deck.tell(
@@ -10,45 +10,24 @@ fn already(deck: &Reading<'_>, place: WordPlace, what: &str, line: u64) -> Told 
     )
 }
 
-/// The word of the item of a file that has this name.
-fn item_of(deck: &Reading<'_>, file: usize, name: &str) -> Option<WordPlace> {
-    let (fd, at) = deck.known.item_of(file, name)?;
-    Some(deck.item_word(fd, at))
-}
-
 /// What is told of an FD with an item whose name an item of an earlier file has.
-fn item_twice(deck: &Reading<'_>, fd: WordPlace, file: usize) -> Told {
-    let own = deck.known.file_name(file);
-    let names = deck.known.names(deck.alloc, &Among::ItemsOf(own))?;
-    for name in &names {
-        for earlier in 0..file {
-            if let Some(first) = item_of(deck, earlier, name) {
-                let line = first.line;
-                let place = item_of(deck, file, name).unwrap_or(fd);
-                let file = deck.known.file_name(earlier);
-                let why = format!(in deck.alloc; "{file} has an item of this name, in line {line}");
-                return deck.tell(place, why)?.with_text(
-                    deck.alloc,
-                    "data names are unique in a deck: name one of the two items otherwise",
-                );
-            }
-        }
-    }
-    already(deck, fd, "a name of an item is there", fd.line)
-}
-
-/// The line of the first 77 item, or item of a file, that has this name.
-fn first_line_of(deck: &Reading<'_>, name: &str) -> u64 {
-    match (deck.known.item(name), deck.known.storage_place(name)) {
-        (Some((described, at)), _) => deck.item_word(described.place, at).line,
-        (None, Some(place)) => place.line,
-        (None, None) => 1,
-    }
+fn item_twice(deck: &Reading<'_>, fd: WordPlace, first: ItemPlace, item: ItemPlace) -> Told {
+    let place = deck.word_of_item(item).unwrap_or(fd);
+    let file = deck.known.file_name(first.file);
+    let line = deck.word_of_item(first).unwrap_or(fd).line;
+    let why = format!(in deck.alloc; "{file} has an item of this name, in line {line}");
+    deck.tell(place, why)?.with_text(
+        deck.alloc,
+        "data names are unique in a deck: name one of the two items otherwise",
+    )
 }
 
 /// What is told of a 77 item whose name is there already.
-fn storage_twice(deck: &Reading<'_>, level: WordPlace) -> Told {
-    let line = first_line_of(deck, deck.subject_name(level).as_str());
+fn storage_twice(deck: &Reading<'_>, level: WordPlace, first: FirstNamed) -> Told {
+    let line = match first {
+        FirstNamed::Item(item) => deck.word_of_item(item).unwrap_or(level).line,
+        FirstNamed::LengthItem(line) => line,
+    };
     already(deck, deck.subject(level), "this name is there", line)
 }
 
@@ -59,7 +38,7 @@ pub fn twice(deck: &Reading<'_>, place: WordPlace, twice: Twice) -> Told {
         Twice::Selected(line) => already(deck, place, "this file is selected", line),
         Twice::Assigned(line) => already(deck, place, "this name is assigned to a file", line),
         Twice::Described(line) => already(deck, place, "this file has an FD", line),
-        Twice::Item(file) => item_twice(deck, place, file),
-        Twice::LengthItem => storage_twice(deck, place),
+        Twice::Item(first, item) => item_twice(deck, place, first, item),
+        Twice::LengthItem(first) => storage_twice(deck, place, first),
     }
 }

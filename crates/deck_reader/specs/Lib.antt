@@ -1,4 +1,5 @@
 pub mod Names
+pub mod Named
 pub mod Places
 pub mod StatementPlaces
 pub mod Placed

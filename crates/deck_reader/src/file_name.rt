@@ -16,7 +16,7 @@ pub fn file(parser: &mut Parser<'_>, names: &Names<'_>) -> Result<usize, Refusal
     let name = parser.name(NameOf::File)?;
     match names.file(name.as_str()) {
         Some(file) => Ok(file),
-        None => Err(place.fault(Cause::Unknown(Unknown::File))),
+        None => Err(place.fault(Cause::Unknown(Unknown::File(names.named(&name))))),
     }
 }
 
@@ -29,6 +29,6 @@ pub fn record_name(parser: &mut Parser<'_>, names: &Names<'_>) -> Result<usize, 
     let name = parser.name(NameOf::Record)?;
     match names.record(name.as_str()) {
         Some(file) => Ok(file),
-        None => Err(place.fault(Cause::Unknown(Unknown::Record))),
+        None => Err(place.fault(Cause::Unknown(Unknown::Record(names.named(&name))))),
     }
 }

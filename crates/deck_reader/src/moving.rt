@@ -126,7 +126,8 @@ fn receiver(
         return Ok(statements.with(moved, places.line)?);
     }
     let Some(item) = names.length_item(name.as_str()) else {
-        return Err(place.fault(Cause::Unknown(Unknown::Receiver)));
+        let unknown = Unknown::Receiver(names.named(&name));
+        return Err(place.fault(Cause::Unknown(unknown)));
     };
     if !is_numeric(source) {
         let refused = NotAllowed::Source(places.source, names.digits(item));

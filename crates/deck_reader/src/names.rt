@@ -6,8 +6,10 @@ ghost use Rattle.record_layout.specs.Schema.{key_at, key_of_field, key_led_by};
 ghost use Rattle.deck_reader.specs.Names.{names_of, item_in, item_named, access_at};
 ghost use Rattle.std.specs.Option.{option_map_or, option_or};
 ghost use Rattle.deck_reader.specs.Places.{place_of_name, AddsPlace, ArePlaces};
+ghost use Rattle.deck_reader.specs.Named.{IsNamed};
 ghost use Rattle.std.specs.Prelude.{bytes_eq};
 
+use deck_words::Named;
 use file_control::{FileDesc, LengthItem};
 use io_state::{Access, Name};
 use record_layout::Field;
@@ -154,6 +156,25 @@ impl<'a> Names<'a> {
         ensures { result ≡ position (λ item. bytes_eq item.name name.now) self.now.items }
     {
         self.item_places.get(name).copied()
+    }
+
+    /// What has a name. A file of the name comes first, then an item, then a 77-level item.
+    pub fn named(&self, name: &Name) -> Named
+        ensures { IsNamed self.now name.now.bytes result }
+    {
+        if let Some(file) = self.file(name.as_str()) {
+            return Named::File(file);
+        }
+        if let Some(file) = self.record(name.as_str()) {
+            return Named::Record(file);
+        }
+        if let Some(file) = self.holder(name) {
+            return Named::Item(file);
+        }
+        match self.length_item(name.as_str()) {
+            Some(_) => Named::LengthItem,
+            None => Named::Nothing,
+        }
     }
 
     /// How many digits a 77-level item has.

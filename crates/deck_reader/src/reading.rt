@@ -40,7 +40,8 @@ fn key(parser: &mut Parser<'_>, names: &Names<'_>, file: usize) -> Result<u8, Re
     let place = parser.place();
     let name = parser.name(NameOf::Item)?;
     let Some(field) = names.item_in(file, &name) else {
-        return Err(place.fault(Cause::Unknown(Unknown::KeyItem(file))));
+        let unknown = Unknown::KeyItem(file, names.named(&name));
+        return Err(place.fault(Cause::Unknown(unknown)));
     };
     match names.key(file, field) {
         Some(key) => Ok(key),

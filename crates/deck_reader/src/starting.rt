@@ -40,7 +40,8 @@ fn led_key(parser: &mut Parser<'_>, names: &Names<'_>, file: usize) -> Result<(u
     let place = parser.place();
     let name = parser.name(NameOf::Item)?;
     let Some(field) = names.item_in(file, &name) else {
-        return Err(place.fault(Cause::Unknown(Unknown::KeyItem(file))));
+        let unknown = Unknown::KeyItem(file, names.named(&name));
+        return Err(place.fault(Cause::Unknown(unknown)));
     };
     match names.led_key(file, field) {
         Some(led) => Ok(led),

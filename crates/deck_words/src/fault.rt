@@ -53,36 +53,66 @@ pub enum Expected {
     RecordKey,
 }
 
-/// Of what a name is none. A file is its place among the SELECT entries, from 0.
+/// What has a name. A file is its place among the SELECT entries, from 0.
+#[derive(Clone, Copy, Debug, PartialEq, Eq)]
+pub enum Named {
+    Nothing,
+    File(usize),
+    /// The record of this file.
+    Record(usize),
+    /// Another item of the record of this file.
+    Item(usize),
+    /// A 77-level item.
+    LengthItem,
+}
+
+/// An item of a file: the place of the file among the SELECT entries, and the item's in its FD, both from 0.
+#[derive(Clone, Copy, Debug, PartialEq, Eq)]
+pub struct ItemPlace {
+    pub file: usize,
+    pub item: usize,
+}
+
+/// What has a data name first.
+#[derive(Clone, Copy, Debug, PartialEq, Eq)]
+pub enum FirstNamed {
+    Item(ItemPlace),
+    /// The 77-level item that begins in this line.
+    LengthItem(u64),
+}
+
+/// Of what a name is none, and what it is the name of, where something else may have it. A file is
+/// its place among the SELECT entries, from 0.
 #[derive(Clone, Copy, Debug, PartialEq, Eq)]
 pub enum Unknown {
     /// A file with a SELECT entry, behind FD.
     Selected,
     /// A file with an FD, behind SELECT.
     Described,
-    /// An item of the record of this file, which a key has to be.
-    Key(usize),
+    /// An item of the record of this file, which a key has to be; and which key that is: 0 is the
+    /// RECORD KEY, and from 1 on there are the alternate keys.
+    Key(usize, usize),
     /// A 77-level item, behind DEPENDING ON in the FD of this file.
-    LengthItem(usize),
-    File,
-    Record,
+    LengthItem(usize, Named),
+    File(Named),
+    Record(Named),
     /// An item of the record of this file, behind KEY IS.
-    KeyItem(usize),
+    KeyItem(usize, Named),
     /// What a MOVE can receive.
-    Receiver,
+    Receiver(Named),
 }
 
-/// What is there already, and the line of the first one.
+/// What is there already, and the line of the first one, or what the first one is.
 #[derive(Clone, Copy, Debug, PartialEq, Eq)]
 pub enum Twice {
     Clause(u64),
     Selected(u64),
     Assigned(u64),
     Described(u64),
-    /// The name of an item of this file, which an earlier file has.
-    Item(usize),
+    /// The name of an item of an earlier file, and the item of a later one that has it too.
+    Item(ItemPlace, ItemPlace),
     /// The name of a 77-level item.
-    LengthItem,
+    LengthItem(FirstNamed),
 }
 
 /// What is not allowed where it stands. A file is its place among the SELECT entries, from 0.

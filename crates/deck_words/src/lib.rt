@@ -20,7 +20,8 @@ mod wanted;
 mod word;
 
 pub use fault::{
-    Cause, DeckFault, Expected, LayoutCause, Limit, NotAllowed, Refusal, Twice, Unknown,
+    Cause, DeckFault, Expected, FirstNamed, ItemPlace, LayoutCause, Limit, Named, NotAllowed,
+    Refusal, Twice, Unknown,
 };
 pub use literal::Quoted;
 pub use place::WordPlace;

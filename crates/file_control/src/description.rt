@@ -11,6 +11,7 @@ ghost use Rattle.file_control.specs.FirstFault.{IsContentsFault, IsDescriptionFa
 ghost use Rattle.file_control.specs.Described.{AreDescribed};
 
 use crate::data_names::DataNames;
+use crate::described_files::DescribedFiles;
 use crate::files::{FileList, ItemList, check_items, files_of, items_of};
 use deck_entries::{Divisions, read_divisions};
 use deck_parser::Parser;
@@ -39,15 +40,21 @@ fn contents_of(alloc: Global, divisions: &Divisions) -> Result<Contents, Refusal
     ensures none { IfErr result (DescribeNone divisions.now) }
     ensures fault { TellsFault (IsContentsFault divisions.now) result }
 {
+    let entries = divisions.entries.as_slice();
+    let descriptions = divisions.descriptions.as_slice();
     let mut names = DataNames::new(alloc);
     let files = files_of(
         alloc,
-        divisions.entries.as_slice(),
-        divisions.descriptions.as_slice(),
+        entries,
+        descriptions,
         divisions.storage.as_slice(),
         &mut names,
     )?;
-    check_items(divisions.storage.as_slice(), names)?;
+    let described = DescribedFiles {
+        entries,
+        descriptions,
+    };
+    check_items(&described, divisions.storage.as_slice(), names)?;
     let items = items_of(alloc, divisions.storage.as_slice())?;
     Ok(Contents { files, items })
 }

@@ -14,11 +14,12 @@ ghost use Rattle.file_control.specs.FieldPlaces.{AreFields};
 ghost use Rattle.file_control.specs.FirstFault.{has_length_item, IsFileFault, TellsFault};
 
 use crate::data_names::{DataNames, are_new};
+use crate::described_files::DescribedFiles;
 use crate::field_places::{FieldPlaces, fields_by_name};
-use crate::keys::are_keys_named;
+use crate::keys::{are_keys_named, first_unnamed};
 use crate::length_item::length_item;
 use deck_entries::{Described, FileControlEntry, RecordLength, Selected, StorageItem};
-use deck_words::{Cause, LayoutCause, Refusal, Twice, Unknown, WordPlace};
+use deck_words::{Cause, LayoutCause, Refusal, Unknown, WordPlace};
 use io_state::{Access, FileName, Name};
 use record_layout::{Field, Item, Layout, LayoutFault, Schema, one_outcome};
 use std::alloc::Global;
@@ -80,7 +81,13 @@ fn check_entry(at: usize, selected: &Selected, described: &Described) -> Result<
     ensures told { TellsFault (λ fault. fault ≡ fault_of selected.now.line 3) result }
 {
     if !are_keys_named(described.items(), &selected.entry) {
-        return Err(selected.entry.place.fault(Cause::Unknown(Unknown::Key(at))));
+        let key = first_unnamed(described.items(), &selected.entry);
+        return Err(
+            selected
+                .entry
+                .place
+                .fault(Cause::Unknown(Unknown::Key(at, key))),
+        );
     }
     Ok(())
 }
@@ -128,6 +135,7 @@ fn are_names_new(names: &DataNames<'_>, described: &Described) -> bool
 }
 
 fn place_of(
+    files: &DescribedFiles<'_>,
     storage: &[StorageItem],
     at: usize,
     described: &Described,
@@ -138,7 +146,7 @@ fn place_of(
     ensures code { IfErr result (λ cause. cause_code cause
         ≡ (if has_length_item storage.now described.now.lengths then 7 else 3)) }
 {
-    depends_on(storage, at, &described.lengths)
+    depends_on(files, storage, at, &described.lengths)
 }
 
 /// The least length of the records, where the lengths that are described end with that of the record.
@@ -168,6 +176,7 @@ fn least_length(lengths: &Option<RecordLength>, greatest: u16) -> Option<u16>
 
 /// The place of the item on which this length depends, if it varies.
 fn item_of_length(
+    files: &DescribedFiles<'_>,
     storage: &[StorageItem],
     at: usize,
     length: &RecordLength,
@@ -181,7 +190,7 @@ fn item_of_length(
     match length {
         RecordLength::Fixed(_) => Ok(None),
         RecordLength::Varying(lengths) => {
-            match length_item(storage, at, lengths.item_bytes(), lengths.greatest) {
+            match length_item(files, storage, at, lengths.item_bytes(), lengths.greatest) {
                 Ok(place) => Ok(Some(place)),
                 Err(cause) => Err(cause),
             }
@@ -191,6 +200,7 @@ fn item_of_length(
 
 /// The place of the item that a record's length depends on, if its length varies.
 fn depends_on(
+    files: &DescribedFiles<'_>,
     storage: &[StorageItem],
     at: usize,
     lengths: &Option<RecordLength>,
@@ -201,7 +211,7 @@ fn depends_on(
         ≡ (if has_length_item storage.now lengths.now then 7 else 3)) }
 {
     match lengths {
-        Some(length) => item_of_length(storage, at, length),
+        Some(length) => item_of_length(files, storage, at, length),
         None => Ok(None),
     }
 }
@@ -313,6 +323,7 @@ fn whole_file(
 /// other fault of the keys.
 pub fn file(
     alloc: Global,
+    files: &DescribedFiles<'_>,
     at: usize,
     selected: &Selected,
     described: &Described,
@@ -329,9 +340,10 @@ pub fn file(
         return Err(described.place.fault(Cause::Layout(length)));
     };
     if !are_names_new(names, described) {
-        return Err(described.place.fault(Cause::Twice(Twice::Item(at))));
+        let twice = files.item_twice(at, described);
+        return Err(described.place.fault(Cause::Twice(twice)));
     }
-    let place = match place_of(storage, at, described) {
+    let place = match place_of(files, storage, at, described) {
         Ok(place) => place,
         Err(cause) => return Err(described.place.fault(cause)),
     };

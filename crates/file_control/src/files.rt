@@ -8,6 +8,7 @@ ghost use Rattle.file_control.specs.NoFiles.{AreNoFiles};
 ghost use Rattle.file_control.specs.FirstFault.{IsFilesFault, IsItemFault, TellsFault};
 
 use crate::data_names::DataNames;
+use crate::described_files::DescribedFiles;
 use crate::file::{FileDesc, file};
 use crate::length_item::digits_of_item;
 use deck_entries::{Described, Selected, StorageItem};
@@ -154,7 +155,11 @@ pub fn files_of<'a>(
             );
         };
         let at = files.as_slice().len();
-        let next = file(alloc, at, selected, described, storage, names)?;
+        let known = DescribedFiles {
+            entries,
+            descriptions,
+        };
+        let next = file(alloc, &known, at, selected, described, storage, names)?;
         names.add_all(described.items())?;
         files.push(next)?;
         rest = after;
@@ -164,7 +169,11 @@ pub fn files_of<'a>(
 
 /// Looks whether each 77-level item has digits and a name that is new behind these. The names are
 /// not wanted behind that, and give their memory back.
-pub fn check_items<'a>(storage: &'a [StorageItem], names: DataNames<'a>) -> Result<(), Refusal>
+pub fn check_items<'a>(
+    files: &DescribedFiles<'_>,
+    storage: &'a [StorageItem],
+    names: DataNames<'a>,
+) -> Result<(), Refusal>
     ensures items { OnOk result ((items : List Digits) × AreItems names.entry storage.now items) }
     ensures none { HasNoneIfRefused (AreItems names.entry storage.now) result }
     ensures fault { TellsFault (IsItemFault names.entry storage.now) result }
@@ -173,7 +182,8 @@ pub fn check_items<'a>(storage: &'a [StorageItem], names: DataNames<'a>) -> Resu
     let mut rest = storage;
     'more: while let Some((item, after)) = rest.split_first() {
         if names.has(item.name.as_str()) {
-            return Err(item.place.fault(Cause::Twice(Twice::LengthItem)));
+            let first = files.first_named(storage, item.name.as_str().as_bytes());
+            return Err(item.place.fault(Cause::Twice(Twice::LengthItem(first))));
         }
         let Some(_) = digits_of_item(item) else {
             return Err(item.place.fault(Cause::Layout(LayoutCause::Digits)));

@@ -48,6 +48,19 @@ fn are_alternates_named(items: &[Item], keys: &[(Name, bool)]) -> bool
     are_items(items, keys)
 }
 
+/// Which key is the first that is no item: 0 is the RECORD KEY, and from 1 on there are the alternate
+/// keys.
+pub fn first_unnamed(items: &[Item], entry: &FileControlEntry) -> usize {
+    if !is_item(items, entry.record_key.as_str().as_bytes()) {
+        return 0;
+    }
+    let mut alternates = entry.alternate_keys.as_slice().iter();
+    match alternates.position(|key| !is_item(items, key.0.as_str().as_bytes())) {
+        Some(key) => key.saturating_add(1),
+        None => 0,
+    }
+}
+
 /// Whether each key is an item.
 pub fn are_keys_named(items: &[Item], entry: &FileControlEntry) -> bool
     ensures { result ≡ are_keys_named (map entry_of_item items.now) entry.now }

@@ -6,6 +6,7 @@ ghost use Rattle.deck_words.specs.Fault.{cause_code};
 ghost use Rattle.file_control.specs.Checks.{HasDigitsFor};
 ghost use Rattle.file_control.specs.Description.{HasDigits, digit_count, IsLengthItem};
 
+use crate::described_files::DescribedFiles;
 use deck_entries::StorageItem;
 use deck_words::{Cause, LayoutCause, Unknown};
 use io_state::Name;
@@ -70,6 +71,7 @@ fn has_room(item: &StorageItem, greatest: u64) -> bool
 /// The place of the item that the length of the records of a file depends on. It is unknown, or has
 /// too few digits or none.
 pub fn length_item(
+    files: &DescribedFiles<'_>,
     storage: &[StorageItem],
     at: usize,
     name: &[u8],
@@ -82,7 +84,7 @@ pub fn length_item(
         (position (λ entry. bytes_eq entry.name name.now) storage.now) then 7 else 3)) }
 {
     let Some(place) = place_of(storage, name) else {
-        return Err(Cause::Unknown(Unknown::LengthItem(at)));
+        return Err(Cause::Unknown(Unknown::LengthItem(at, files.named(name))));
     };
     match storage.get(place) {
         Some(item) if has_room(item, greatest) => Ok(place),

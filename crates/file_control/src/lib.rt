@@ -11,6 +11,7 @@
 #![tactic(auto)]
 
 mod data_names;
+mod described_files;
 mod description;
 mod field_places;
 mod file;

@@ -41,7 +41,7 @@ fn is_of_another_form(text: &[u8]) -> bool {
 fn is_of_file(refusal: &DeckRefusal) -> bool {
     matches!(
         refusal.refusal,
-        Refusal::Fault(_, _, Cause::Layout(_) | Cause::Unknown(Unknown::Key(_)))
+        Refusal::Fault(_, _, Cause::Layout(_) | Cause::Unknown(Unknown::Key(..)))
     )
 }
 

@@ -75,10 +75,10 @@ pub fn texts_of(
         Cause::Expected(Expected::Indexed) => these(alloc, &["INDEXED"]),
         Cause::Expected(_) => all_wanted(alloc, &refusal.wanted),
         Cause::Unknown(Unknown::Selected) => near_files(&deck, place),
-        Cause::Unknown(Unknown::Key(file)) => {
+        Cause::Unknown(Unknown::Key(file, _)) => {
             names(&deck, &Among::ItemsOf(deck.known.file_name(file)))
         }
-        Cause::Unknown(Unknown::LengthItem(_)) => names(&deck, &Among::Storage),
+        Cause::Unknown(Unknown::LengthItem(..)) => names(&deck, &Among::Storage),
         Cause::NotAllowed(NotAllowed::FileName) | Cause::Twice(Twice::Assigned(_)) => {
             these(alloc, &FILE_NAMES)
         }

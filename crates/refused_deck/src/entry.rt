@@ -1,8 +1,7 @@
 //! The words of an entry, each of which ends with its period.
 
-use crate::reading::{Reading, capitals, says, says_one_of};
-use deck_words::WordPlace;
-use io_state::Name;
+use crate::reading::{Reading, says, says_one_of};
+use deck_words::{ItemPlace, WordPlace};
 
 impl<'a> Reading<'a> {
     /// Whether a word is this one, in capitals or small letters.
@@ -65,11 +64,6 @@ impl<'a> Reading<'a> {
         }
     }
 
-    /// The same in capitals.
-    pub fn subject_name(&self, from: WordPlace) -> Name {
-        capitals(self.text(self.subject(from)))
-    }
-
     /// The last word of an entry before its period: its picture, where it is an item.
     pub fn last_word(&self, from: WordPlace, entry: usize) -> WordPlace {
         match self.entry_words(from, entry) {
@@ -85,6 +79,12 @@ impl<'a> Reading<'a> {
             [level, ..] => *level,
             [] => from,
         }
+    }
+
+    /// The word by which an item of a file is told.
+    pub fn word_of_item(&self, item: ItemPlace) -> Option<WordPlace> {
+        let described = self.known.description(self.known.file_name(item.file))?;
+        Some(self.item_word(described.place, item.item))
     }
 
     /// The place of a name in an entry that begins at a place, behind its first two words.

@@ -17,15 +17,6 @@ pub enum Known {
     Nothing,
 }
 
-/// What a name is the name of.
-#[derive(Clone, Copy)]
-pub enum Named<'a> {
-    File,
-    RecordOf(&'a str),
-    ItemOf(&'a str),
-    StorageItem,
-}
-
 /// The names among which one is looked for.
 #[derive(Clone, Copy)]
 pub enum Among<'a> {
@@ -128,36 +119,23 @@ impl Known {
         Some(self.storage_item(name)?.place)
     }
 
-    /// Where the FD of a file stands, and which of its items has this name.
-    pub fn item_of(&self, file: usize, name: &str) -> Option<(WordPlace, usize)> {
-        let described = self.description(self.file_name(file))?;
-        Some((described.place, item_named(described, name)?))
+    /// The name of a key of a file: 0 is the RECORD KEY, and from 1 on there are the alternate keys.
+    pub fn key_name(&self, file: usize, key: usize) -> Option<&str> {
+        let entry = &self.entry(file)?.entry;
+        match key.checked_sub(1) {
+            None => Some(entry.record_key.as_str()),
+            Some(at) => Some(entry.alternate_keys.as_slice().get(at)?.0.as_str()),
+        }
     }
 
     /// The first FD with an item of this name, and which of its items that is.
-    pub fn item(&self, name: &str) -> Option<(&Described, usize)> {
+    fn item(&self, name: &str) -> Option<(&Described, usize)> {
         for described in self.descriptions() {
             if let Some(at) = item_named(described, name) {
                 return Some((described, at));
             }
         }
         None
-    }
-
-    /// What a name is the name of. The record of an FD is its first item.
-    pub fn named(&self, name: &str) -> Option<Named<'_>> {
-        if self
-            .entries()
-            .iter()
-            .any(|selected| selected.entry.name.as_str() == name)
-        {
-            return Some(Named::File);
-        }
-        match self.item(name) {
-            Some((described, 0)) => Some(Named::RecordOf(described.name.as_str())),
-            Some((described, _)) => Some(Named::ItemOf(described.name.as_str())),
-            None => self.storage_item(name).map(|_| Named::StorageItem),
-        }
     }
 
     /// The picture of the item of a name.

@@ -14,7 +14,7 @@ mod near;
 mod reading;
 mod shown;
 
-pub use known::{Among, Known, Named};
+pub use known::{Among, Known};
 pub use message::{Message, Told};
 pub use near::is_near;
 pub use reading::{Reading, capitals, is_name, is_number, part_of, says, says_one_of, word_places};

@@ -13,8 +13,7 @@ use Rattle.deck_reader.specs.Names.{Names, item_named}
 use Rattle.deck_reader.specs.StatementRules.{receiver}
 use Rattle.deck_reader.proofs.ProcedureLemmas.{moved_to}
 use Rattle.deck_parser.specs.Rule.{stop_at}
-use Rattle.deck_words.specs.declared.fault.Cause.TheVariants.{Unknown, NotAllowed}
-use Rattle.deck_words.specs.declared.fault.Unknown.TheVariants.{Receiver}
+use Rattle.deck_words.specs.declared.fault.Cause.TheVariants.{NotAllowed}
 use Rattle.deck_words.specs.declared.fault.NotAllowed.TheVariants.{Source as SourceRefused}
 use Rattle.deck_reader.proofs.JoinLemmas.{refused, told_there}
 use Rattle.deck_reader.proofs.moving.receiver.Goals as goal
@@ -55,7 +54,7 @@ returns-in_default-length_item c =
     let nowhere = none_of _ (λ x e. c.in_default-length_item.not-Some x e) in
     let reads = no_item c.args.names.now c.args.places.line (sent c.args.source.now) c.as_str.result.now c.in_ok-name.name.bytes None c.args.parser.now c.name.new.self c.in_ok-name.ensures.reads none c.as_str.ensures.value (sym nowhere ∙ c.length_item.ensures) in
     let stops = no_receiver c.args.names.now c.args.places.line (sent c.args.source.now) c.as_str.result.now c.in_ok-name.name.bytes c.args.parser.now c.name.new.self c.in_ok-name.ensures.reads none c.as_str.ensures.value (sym c.length_item.ensures ∙ nowhere) in
-    (refused _ _ (rw reads refl), rw stops (told_there c.args.parser.now c.place-place.result (Unknown Receiver) c.fault-in_default-length_item.result c.fault-in_default-length_item.ensures.given c.place-place.ensures))
+    (refused _ _ (rw reads refl), rw stops (told_there c.args.parser.now c.place-place.result _ c.fault-in_default-length_item.result c.fault-in_default-length_item.ensures.given c.place-place.ensures))
 
 pub returns-then-not-is_numeric : goal.returns-then-not-is_numeric
 returns-then-not-is_numeric c =
