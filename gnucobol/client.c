@@ -89,7 +89,7 @@ struct server *server_of(const char *folder, struct server *behind)
     return start(folder, &found);
 }
 
-size_t exchange(struct server *server, uint8_t *request, size_t length, unsigned most, struct answers *from, const uint8_t **answer)
+size_t exchange(struct server *server, uint8_t *request, size_t length, unsigned most, struct answers *from, struct answer *answer)
 {
     if (server->engine)
         return inside_exchange(server, request, length, answer);

@@ -55,7 +55,7 @@ static cob_file *opening;
 static uint8_t request[FRAME];
 static struct { const struct connector *file; const struct verb *verb; unsigned times; } refused; /* in a row, with no other verb between */
 static struct answers one;
-static const uint8_t *answer;
+static struct answer answer;
 
 static const char *refuse(const struct connector *connector, const struct verb *verb, const char *status, const char *why)
 {
@@ -188,10 +188,10 @@ static const char *describe(struct connector *connector, const struct verb *verb
     memcpy(request + 2, (uint8_t[]){DESCRIBE, connector->number, access, (fcd->otherFlags & OTH_OPTIONAL) != 0}, 4);
     end = (uint8_t *)stpcpy((char *)end, name);
     size_t got = exchange(connector->server, request, (size_t)(end - request), 1, &one, &answer);
-    connector->described = connector->server->taken[connector->number] = got == 3 && answer[2] == DESCRIBE;
+    connector->described = connector->server->taken[connector->number] = got == 3 && answer.head[2] == DESCRIBE;
     if (connector->described)
         return NULL;
-    switch (got > 3 && answer[2] == 0 ? answer[3] : 0) {
+    switch (got > 3 && answer.head[2] == 0 ? answer.head[3] : 0) {
     case NO_SUCH_FILE:
         return refuse(connector, verb, "39", "cobix has no files of this name, these lengths or these keys");
     case NO_MEMORY:
@@ -203,7 +203,7 @@ static const char *describe(struct connector *connector, const struct verb *verb
 static void release(struct connector *connector)
 {
     memcpy(request + 2, (uint8_t[]){RELEASE, connector->number}, 2);
-    connector->described = exchange(connector->server, request, 4, 1, &one, &answer) > 3 && answer[2] == 0 && answer[3] == FILE_IS_OPEN;
+    connector->described = exchange(connector->server, request, 4, 1, &one, &answer) > 3 && answer.head[2] == 0 && answer.head[3] == FILE_IS_OPEN;
     connector->server->taken[connector->number] = connector->described;
 }
 
@@ -238,7 +238,7 @@ static void deliver(struct connector *connector, FCD3 *fcd, size_t length)
 {
     if (length > connector->greatest)
         length = connector->greatest;
-    memcpy(connector->area, answer + 5, length);
+    memcpy(connector->area, answer.record, length);
     put_two(put_two(fcd->curRecLen, 0), (unsigned)length);
     if (!connector->file)
         return;
@@ -256,11 +256,11 @@ static const char *perform(struct connector *connector, const struct verb *verb,
     if (verb->verb == READ || verb->verb == START || verb->verb == CLOSE)
         connector->ahead.left = connector->ahead.asked = 0;
     size_t got = exchange(connector->server, request, put_verb(connector, verb, fcd), from == &one ? 1 : MOST, from, &answer);
-    if (got < 5 || answer[2] != PERFORM || answer[3] < '0' || answer[3] > '9')
+    if (got < HEAD || answer.head[2] != PERFORM || answer.head[3] < '0' || answer.head[3] > '9')
         return refuse(connector, verb, "30", got ? "cobix did not understand the request" : "cobix has ended");
-    memcpy(status, answer + 3, 2);
+    memcpy(status, answer.head + 3, 2);
     if ((verb->verb == READ || verb->verb == READ_NEXT) && *status == '0')
-        deliver(connector, fcd, got - 5);
+        deliver(connector, fcd, got - HEAD);
     return status;
 }
 

@@ -15,7 +15,7 @@
 #define HAS_INSIDE 1
 #endif
 
-enum { FRAME = 2 + 8192, MOST = 64, ANSWERS = MOST * 4096, FILES = 64, PATH = 4096 };
+enum { HEAD = 5 /* that of an answer which has a record */, FRAME = 2 + 8192, MOST = 64, ANSWERS = MOST * 4096, FILES = 64, PATH = 4096 };
 
 static inline unsigned two(const uint8_t *from) { return (unsigned)from[0] << 8 | from[1]; }
 static inline uint8_t *put_two(uint8_t *at, unsigned value) { at[0] = (uint8_t)(value >> 8); at[1] = (uint8_t)value; return at + 2; }
@@ -45,6 +45,11 @@ bool is_ours(pid_t process);
 /* Ends the sessions in this process, which close the files that are open, and tells those in others that they are to end. */
 void end_sessions(void);
 
+/* An answer: its head, and where behind it the record is that was delivered, if one was. Good until the next exchange. */
+struct answer {
+    const uint8_t *head, *record;
+};
+
 /* Answers that came, whole frames: how many were asked for at the last time, how many were not given out, and the next of them. */
 struct answers {
     unsigned asked, left;
@@ -53,18 +58,18 @@ struct answers {
 
 /* The two ways. `start` tells whether a session was had. In this process it can be had where the proved library is linked. */
 bool inside_start(struct server *server, const char *folder);
-size_t inside_exchange(struct server *server, uint8_t *request, size_t length, const uint8_t **answer);
+size_t inside_exchange(struct server *server, uint8_t *request, size_t length, struct answer *answer);
 void inside_end(struct server *server);
 bool process_start(struct server *server, const char *folder);
 size_t process_exchange(struct server *server, uint8_t *request, size_t length, unsigned most, struct answers *from,
-                        const uint8_t **answer);
+                        struct answer *answer);
 void process_hang_up(struct server *server);
 int process_wait(const struct server *server); /* its exit status */
 
 /* Gives out the next answer to a request, and how many bytes it has. Where none is left it sends the request and takes its answer: once at
    first, and then twice as often as the last time, up to `most`. 0 where the process has ended or sent what is no frame, which is then
    asked no more. The first two bytes of the request are filled in, and it is repeated behind itself in FRAME bytes. */
-size_t exchange(struct server *server, uint8_t *request, size_t length, unsigned most, struct answers *from, const uint8_t **answer);
+size_t exchange(struct server *server, uint8_t *request, size_t length, unsigned most, struct answers *from, struct answer *answer);
 
 /* The status where a verb was answered 30: that of a conflict of sharing, with a line, where another run has the file so that ours cannot
    read it, or cannot change it. It is 61 where COBIX_STATUS says `gnucobol`, else 30. */

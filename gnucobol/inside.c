@@ -95,13 +95,21 @@ bool inside_start(struct server *server, const char *folder)
     return server->engine != NULL;
 }
 
-size_t inside_exchange(struct server *server, uint8_t *request, size_t length, const uint8_t **answer)
+size_t inside_exchange(struct server *server, uint8_t *request, size_t length, struct answer *answer)
 {
     begin_work();
     bool is_ours_still = server->engine && !cobix_engine_is_parents(server->engine);
-    size_t had = is_ours_still ? cobix_engine_ask(server->engine, request + 2, length - 2, answer) : 0;
+    size_t had = 0;
+    if (is_ours_still) {
+        static uint8_t head[ENGINE_HEAD];
+        struct engine_record record;
+        size_t size = cobix_engine_ask(server->engine, request + 2, length - 2, head, &record);
+        answer->head = head, answer->record = record.bytes;
+        if (size >= 3 && size + record.length == 2 + (size_t)two(head))
+            had = size + record.length;
+    }
     end_work();
-    return had >= 3 && had == 2 + (size_t)two(*answer) ? had : 0;
+    return had;
 }
 
 /* A signal may have come: so it is told by a call of the system alone. */

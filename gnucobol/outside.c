@@ -9,7 +9,7 @@ bool inside_start(struct server *server, const char *folder)
     return false;
 }
 
-size_t inside_exchange(struct server *server, uint8_t *request, size_t length, const uint8_t **answer)
+size_t inside_exchange(struct server *server, uint8_t *request, size_t length, struct answer *answer)
 {
     (void)server, (void)request, (void)length, (void)answer;
     return 0;

@@ -81,7 +81,7 @@ static unsigned get(struct server *server, unsigned wanted, uint8_t *frames)
     return came;
 }
 
-size_t process_exchange(struct server *server, uint8_t *request, size_t length, unsigned most, struct answers *from, const uint8_t **answer)
+size_t process_exchange(struct server *server, uint8_t *request, size_t length, unsigned most, struct answers *from, struct answer *answer)
 {
     if (from->left == 0) {
         from->asked = 2 * from->asked >= most ? most : from->asked ? 2 * from->asked : 1;
@@ -94,7 +94,8 @@ size_t process_exchange(struct server *server, uint8_t *request, size_t length, 
     }
     if (from->left == 0)
         return 0;
-    from->left--, *answer = from->next;
-    from->next += 2 + two(*answer);
-    return 2 + (size_t)two(*answer);
+    size_t size = 2 + (size_t)two(from->next);
+    answer->head = from->next, answer->record = from->next + HEAD;
+    from->left--, from->next += size;
+    return size;
 }

@@ -9,7 +9,7 @@
 #include <string.h>
 #include <sys/stat.h>
 
-enum { FILES = 64, KEYS = 9, NAME = 64, DIGITS = 5 /* where a record begins in an answer */ };
+enum { FILES = 64, KEYS = 9, NAME = 64 };
 enum { DESCRIBE = 1, PERFORM = 2, RELEASE = 3 };                      /* kinds of requests */
 enum { OPEN, CLOSE, READ_NEXT, READ, START, WRITE, REWRITE, DELETE }; /* verbs */
 enum { REFUSED, DONE, TOLD };                                         /* kinds of answers */
@@ -203,25 +203,25 @@ static int refusal(unsigned reason)
 }
 
 /* Has the request whose body ends at `end` answered: 0 where the answer is of this kind, or why the request was refused. */
-static int ask(cobix *session, const uint8_t *end, int kind, const uint8_t **answer, size_t *length)
+static int ask(cobix *session, const uint8_t *end, int kind, uint8_t *head, struct engine_record *record)
 {
-    *length = cobix_engine_ask(session->engine, session->body, (size_t)(end - session->body), answer);
-    if (*length >= 3 && (*answer)[2] == kind)
+    size_t length = cobix_engine_ask(session->engine, session->body, (size_t)(end - session->body), head, record);
+    if (length >= 3 && head[2] == kind)
         return 0;
-    return *length == 4 && (*answer)[2] == REFUSED ? refusal((*answer)[3]) : COBIX_MISUSE;
+    return length == 4 && head[2] == REFUSED ? refusal(head[3]) : COBIX_MISUSE;
 }
 
 /* Has a verb performed and ends the call. Its status, with the record that it delivered; or why it was not performed. */
 static int perform(cobix_file *file, const uint8_t *end, const void **record, size_t *length)
 {
-    const uint8_t *answer;
-    size_t size;
-    int why = ask(file->session, end, TOLD, &answer, &size);
-    if (why || size < DIGITS)
-        return leave(file->session, why ? why : COBIX_MISUSE);
-    int status = (answer[3] - '0') * 10 + answer[4] - '0';
+    uint8_t head[ENGINE_HEAD];
+    struct engine_record delivered;
+    int why = ask(file->session, end, TOLD, head, &delivered);
+    if (why)
+        return leave(file->session, why);
+    int status = (head[3] - '0') * 10 + head[4] - '0';
     if (record)
-        *record = answer + DIGITS, *length = cobix_succeeded(status) ? size - DIGITS : 0;
+        *record = delivered.bytes, *length = cobix_succeeded(status) ? delivered.length : 0;
     return leave(file->session, status);
 }
 
@@ -279,9 +279,9 @@ int cobix_describe(cobix *session, const cobix_description *description, cobix_f
     cobix_file *made = free_file(session);
     if (!made || strlen(description->name) > NAME)
         return leave(session, made ? COBIX_DESCRIPTION : COBIX_MANY);
-    const uint8_t *answer;
-    size_t length;
-    why = ask(session, put_description(session->body, made->number, description), DONE, &answer, &length);
+    uint8_t head[ENGINE_HEAD];
+    struct engine_record none;
+    why = ask(session, put_description(session->body, made->number, description), DONE, head, &none);
     if (why)
         return leave(session, why);
     made->session = session, made->greatest = description->greatest, made->key_count = (uint8_t)description->key_count;
@@ -297,10 +297,10 @@ int cobix_release(cobix_file *file)
     if (why)
         return why;
     cobix *session = file->session;
-    const uint8_t *answer;
-    size_t length;
+    uint8_t head[ENGINE_HEAD];
+    struct engine_record none;
     session->body[0] = RELEASE, session->body[1] = file->number;
-    why = ask(session, session->body + 2, DONE, &answer, &length);
+    why = ask(session, session->body + 2, DONE, head, &none);
     if (!why)
         file->session = NULL;
     return leave(session, why);

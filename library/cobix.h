@@ -27,11 +27,12 @@
  * FORK. A child of fork() has no part in its parent's sessions: their files are closed in it, their locks stay the
  * parent's, and each call answers COBIX_FORKED. cobix_close gives their memory back. The child may open sessions of its own.
  *
- * MEMORY. What a read delivers stays as it is until the next call in its session. Every other pointer that is given to a
- * call is the caller's, and is not kept. A session takes some 100 KiB, a described file some 10 more, and an open one 4 KiB
- * for each page that it holds. Memory for as many pages as the frames of cobix_limits is had at OPEN, with the usual 4,096
- * 16 MiB a file, and given back at CLOSE; what no page has used is not touched. Only cobix_open, cobix_describe and OPEN ask
- * for memory. Where it is refused they answer COBIX_NO_MEMORY, and OPEN COBIX_MEMORY (90), and nothing was changed.
+ * MEMORY. What a read delivers stays as it is until the next call in its session, which has it: nobody is to write
+ * there. Every other pointer that is given to a call is the caller's, and is not kept. A session takes some 100 KiB, a
+ * described file some 10 more, and an open one 4 KiB for each page that it holds. Memory for as many pages as the frames
+ * of cobix_limits is had at OPEN, with the usual 4,096 16 MiB a file, and given back at CLOSE; what no page has used is
+ * not touched. Only cobix_open, cobix_describe and OPEN ask for memory. Where it is refused they answer COBIX_NO_MEMORY,
+ * and OPEN COBIX_MEMORY (90), and nothing was changed.
  *
  * OTHER RUNS. A file is under a shared lock (flock) from the first look at it, and under an exclusive one from its first
  * change, until it is released or the session ends: CLOSE keeps the lock. It is the lock of `cobix run` and `cobix serve`,

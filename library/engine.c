@@ -5,15 +5,17 @@
 #include <pthread.h>
 #include <string.h>
 
-/* What the proved library gives to hold for a session. Each call answers the one for the next call. */
+/* What the proved library gives to hold for a session. */
 struct handle {
     void *at;
 };
 
-/* The functions of the proved library. The room of an answer is long enough for any: five bytes, and the longest record. */
-_Static_assert(ENGINE_ANSWER >= 5 + 4000, "the room that cobix_inside_answer requires");
+/* The functions of the proved library. A record, pointer and length as a slice has them there, is lent with the handle: it is not used
+   once the handle is. It points somewhere, even at no bytes. */
+_Static_assert(ENGINE_HEAD >= 5, "the room that cobix_inside_answer requires");
 bool cobix_inside_begin(const uint8_t *folder, size_t length, uint32_t pages, size_t frames, struct handle *made);
-size_t cobix_inside_answer(struct handle held, const uint8_t *body, size_t length, uint8_t *room, size_t size, struct handle *left);
+size_t cobix_inside_answer(struct handle *held, const uint8_t *body, size_t length, uint8_t *room, size_t size,
+                           struct engine_record *delivered);
 size_t cobix_inside_end(struct handle held);
 
 /* The memory of the proved library, and of a session here: these are the kit's, or those of a program that replaces both. */
@@ -28,7 +30,6 @@ struct engine {
     struct engine *next;
     struct handle handle;
     struct asked asked;
-    uint8_t answer[ENGINE_ANSWER];
 };
 
 static pthread_once_t once = PTHREAD_ONCE_INIT;
@@ -87,11 +88,11 @@ struct engine *cobix_engine_begin(const char *folder, uint32_t pages, uint32_t f
     return engine;
 }
 
-size_t cobix_engine_ask(struct engine *engine, const uint8_t *body, size_t length, const uint8_t **answer)
+size_t cobix_engine_ask(struct engine *engine, const uint8_t *body, size_t length, uint8_t *head, struct engine_record *record)
 {
+    *record = (struct engine_record){head, 0};
     cobix_asked_by(&engine->asked);
-    *answer = engine->answer;
-    return cobix_inside_answer(engine->handle, body, length, engine->answer, sizeof engine->answer, &engine->handle);
+    return cobix_inside_answer(&engine->handle, body, length, head, ENGINE_HEAD, record);
 }
 
 size_t cobix_engine_end(struct engine *engine)

@@ -1,3 +1,4 @@
 pub mod NewLibrary
 pub mod Lending
 pub mod Sessions
+pub mod Holding

@@ -1,6 +1,5 @@
 -- The beginning and the end of a session that C holds. All of this is ours.
-use Rattle.std.specs.Prelude.{◌≡◌, ℕ, Bool, List, []}
-use Rattle.folder_shelf.specs.Replay.{Unseen}
+use Rattle.std.specs.Prelude.{◌≡◌, ℕ, Bool, []}
 use Rattle.indexed_file.specs.Shown.{Shown}
 use Rattle.serve.specs.Files.{Files, files_at_start}
 use Rattle.page_store.specs.ShelfState.{ShelfState}

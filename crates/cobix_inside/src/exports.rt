@@ -1,11 +1,13 @@
 //! What C calls.
 ghost use Rattle.std.specs.Prelude.{◌≡◌, ◌≤◌, ℕ, true, List, [], Some, is_some, IfSome, length};
 ghost use Rattle.std.specs.NonZero.{non_zero_usize_get};
-ghost use Rattle.serve.specs.AnswerRoom.{AnswersInto};
+ghost use Rattle.serve.specs.LentAnswer.{AnswersLending};
+ghost use types.Logic.{sem};
 ghost use Rattle.cobix_inside.specs.NewLibrary.{shown_inside, IsNewInside};
 ghost use Rattle.serve.specs.ExactSession.{ExactInRequests};
 ghost use Rattle.folder_shelf.specs.Replay.{folder_after};
 ghost use Rattle.shelf_session.specs.SessionOnShelf.{ExactOnShelf};
+ghost use Rattle.cobix_inside.specs.Holding.{HoldsSo};
 ghost use Rattle.cobix_inside.specs.Sessions.{IsNewSession, ClosesAll, NoneFalseAtFirst, NewSessionsAreExact};
 ghost use Rattle.cobix_inside.specs.declared.open_session.OpenSession.{OpenSession};
 
@@ -18,7 +20,8 @@ use folder_shelf::{Disk, EmptyDisk};
 use indexed_file::GrowingLibrary;
 use page_store::Shelf;
 use serve::{
-    FreePlaces, Session, answer_into, close_all, exact_in_requests, no_false_file_in_requests,
+    FreePlaces, LentAnswer, Session, answer_lent, close_all, exact_in_requests,
+    no_false_file_in_requests,
 };
 use shelf_session::exact_on_shelf;
 use std::alloc::Global;
@@ -80,38 +83,42 @@ pub extern "C" fn cobix_inside_begin(
     }
 }
 
-/// Does what the body of a frame asks for, and puts the frame of the answer into the room. How many
-/// bytes it has.
-fn answer_in(opened: &mut OpenSession, body: &[u8], room: &mut [u8]) -> usize
-    requires room { 4005 ≤ length room.old }
-    ensures answered { AnswersInto (shown_inside ⟦<AskedShelf as Shelf>⟧)
-        (⟦<AskedLibrary as GrowingLibrary>⟧).keeps_open
-        body.now opened.old.session opened.new.session room.old room.new result }
-{
-    answer_into(&mut opened.session, body, room)
-}
-
-/// Does what the body of a frame asks for, and puts the frame of the answer into the room. How many
-/// bytes it has. The handle is not to be used again: `out` takes its place.
-#[unsafe(no_mangle)]
-pub extern "C" fn cobix_inside_answer(
-    handle: Handle,
+/// What `cobix_inside_answer` says, with what it was told of the head and of the record.
+fn answered<'s>(
+    handle: &'s mut Handle,
     body: &[u8],
     room: &mut [u8],
-    out: &mut Handle,
-) -> usize
-    requires held { is_some handle.value ≡ true }
-    requires room { 4005 ≤ length room.old }
-    ensures held { is_some out.new.value ≡ true }
-    ensures answered { (old new : OpenSession) → handle.value ≡ Some old → out.new.value ≡ Some new
-        → AnswersInto (shown_inside ⟦<AskedShelf as Shelf>⟧)
-        (⟦<AskedLibrary as GrowingLibrary>⟧).keeps_open
-        body.now old.session new.session room.old room.new result }
+    delivered: &mut &'s [u8],
+) -> LentAnswer<'s>
+    requires held { is_some handle.old.value ≡ true }
+    requires room { 5 ≤ length room.old }
+    ensures* answered { sem 𝓛 (HoldsSo handle.entry (λ old new. AnswersLending
+        (shown_inside ⟦<AskedShelf as Shelf>⟧) (⟦<AskedLibrary as GrowingLibrary>⟧).keeps_open
+        body.now old.session new.session room.old room.new result.size delivered.new.now)) }
 {
-    let mut held = handle.into_box();
-    let count = answer_in(&mut held, body, room);
-    *out = Handle::of(held);
-    count
+    let held = handle.lend();
+    let answer = answer_lent(&mut held.session, body, room);
+    *delivered = answer.delivered;
+    answer
+}
+
+/// Does what the body of a frame asks for, and puts the head of the answer's frame into the room: all
+/// but the record. How many bytes it has. The record that was delivered, of no bytes where none was, is
+/// lent: it lies in the session, as it is, until the handle is used again.
+#[unsafe(no_mangle)]
+pub extern "C" fn cobix_inside_answer<'s>(
+    handle: &'s mut Handle,
+    body: &[u8],
+    room: &mut [u8],
+    delivered: &mut &'s [u8],
+) -> usize
+    requires held { is_some handle.old.value ≡ true }
+    requires room { 5 ≤ length room.old }
+    ensures* answered { sem 𝓛 (HoldsSo handle.entry (λ old new. AnswersLending
+        (shown_inside ⟦<AskedShelf as Shelf>⟧) (⟦<AskedLibrary as GrowingLibrary>⟧).keeps_open
+        body.now old.session new.session room.old room.new result delivered.new.now)) }
+{
+    answered(handle, body, room, delivered).size
 }
 
 // Gives the memory of a session back.

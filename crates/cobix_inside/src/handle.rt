@@ -1,4 +1,4 @@
-//! A session that C holds.
+//! A session that C holds, and what it is lent of it.
 ghost use Rattle.std.specs.Prelude.{◌≡◌, true, Option, Some, is_some};
 ghost use Rattle.std.specs.contracts.impls.GlobalAllocator.TheImpl.{ghosts};
 ghost use Rattle.cobix_inside.specs.declared.open_session.OpenSession.{OpenSession};
@@ -28,6 +28,9 @@ impl Model for Handle {
 unsafe impl Send for Handle {}
 
 impl Handle {
+    ghost use types.Logic.{sem};
+    ghost use Rattle.cobix_inside.specs.Holding.{handle_follows};
+
     // The same pointer, of a type that C knows.
     fn seal(raw: RawBox<OpenSession, Global>) -> Handle
         ensures { result.value ≡ Some raw.value }
@@ -55,6 +58,15 @@ impl Handle {
         ensures { result.value ≡ Some value.value }
     {
         Handle::seal(RawBox::of(value))
+    }
+
+    /// Lends the session, and keeps it.
+    pub(crate) fn lend(&mut self) -> &mut OpenSession
+        requires { is_some self.old.value ≡ true }
+        ensures* writes_back { sem 𝓛 (handle_follows self.entry result) }
+        ensures value { self.old.value ≡ Some result.now }
+    {
+        unsafe { &mut *(self.at as *mut OpenSession) }
     }
 
     /// Takes a session back from C.

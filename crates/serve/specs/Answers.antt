@@ -8,7 +8,9 @@ use Rattle.serve.specs.Request.{Described, Performed, Asked, Describing, Perform
 use Rattle.serve.specs.Request.{described_of}
 use Rattle.serve.specs.declared.description.Description.{Description}
 use Rattle.serve.specs.declared.refusal.Refusal.TheVariants as refusal
-use Rattle.serve.specs.Files.{Files, file_of_number}
+use Rattle.serve.specs.Files.{FileTable, Files, file_of_number}
+use Rattle.serve.specs.declared.answering.Outcome.{Outcome}
+use Rattle.serve.specs.declared.answering.Outcome.TheVariants as outcome
 use Rattle.serve.specs.Steps.{Describes, RefusesDescription, StaysRefused, PerformsRequest}
 use Rattle.serve.specs.Steps.{refusal_of_verb, record_by}
 use Rattle.serve.specs.Steps.{Releases, refusal_of_release}
@@ -53,20 +55,14 @@ AnswersRequest shown keeps_open (Some (Releasing number)) old told new = Answers
 abbrev pub answer_frame : Told → List ℕ
 answer_frame told = framed (answer_body told)
 
--- the frame tells an answer of which this is so
-abbrev pub IsFrameOf : List ℕ → (Told → Type 0) → Type 0
-IsFrameOf frame IsAnswer = (told : Told) × (frame ≡ answer_frame told) × IsAnswer told
+-- what is told of what came of a request, with the record that is in the area of a file
+abbrev pub told_by : FileTable → Outcome → Told
+told_by files (outcome.Refused why) = Refuses why
+told_by files outcome.Done = Does
+told_by files (outcome.Performed status file length) = Tells status (record_by (file_of_number files file) length)
 
--- the frame tells the answer to a description, to a verb, and to the request that the body has
-abbrev pub TellsOfFile : {S : Type 0} → Shown S → (keeps_open : S → ℕ → Bool) → Description → (old new : Files S)
-    → (frame : List ℕ) → Type 0
-TellsOfFile shown keeps_open description old new frame =
-    IsFrameOf frame (λ told. AnswersDescription shown keeps_open (described_of description) old told new)
-
-abbrev pub TellsVerb : {S : Type 0} → Shown S → Performed → (old new : Files S) → (frame : List ℕ) → Type 0
-TellsVerb shown p old new frame = IsFrameOf frame (λ told. AnswersVerb shown p old told new)
-
+-- the frame tells the answer to the request that the body has
 abbrev pub TellsAnswer : {S : Type 0} → Shown S → (keeps_open : S → ℕ → Bool) → (body : List ℕ)
     → (old new : Files S) → (frame : List ℕ) → Type 0
 TellsAnswer shown keeps_open body old new frame =
-    IsFrameOf frame (λ told. AnswersRequest shown keeps_open (request_in body) old told new)
+    (told : Told) × (frame ≡ answer_frame told) × AnswersRequest shown keeps_open (request_in body) old told new

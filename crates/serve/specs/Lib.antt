@@ -14,6 +14,6 @@ pub mod Serving
 pub mod Answering
 pub mod Ledgers
 pub mod NoFalseFile
-pub mod AnswerRoom
+pub mod LentAnswer
 pub mod ExactFiles
 pub mod ExactSession

@@ -7,6 +7,8 @@
 //! | 3 | refused: why |
 //! | 3 to 4 | performed: the status |
 //! | 5 to the end | performed: the record that was delivered, if one was |
+//!
+//! What stands before the record is the head of a frame.
 ghost use Rattle.std.specs.Prelude.{◌≡◌, ◌+◌, ◌≤◌, ◌++◌, take, drop, length};
 ghost use Rattle.byteorder.specs.Endian.{big_bytes};
 ghost use Rattle.serve.specs.Answer.{told_of, answer_body, framed, record_told};
@@ -19,6 +21,9 @@ use io_state::Status;
 /// The most bytes of an answer's frame: five, and the longest record.
 pub const ANSWER_LIMIT: usize = 4005;
 
+/// The most bytes of a head: it is all of a frame but the record.
+pub const HEAD_LIMIT: usize = 5;
+
 /// What a request is answered by.
 #[derive(Clone, Copy, Debug)]
 pub enum Answer<'a> {
@@ -27,6 +32,18 @@ pub enum Answer<'a> {
     Done,
     /// The verb was performed. There are no bytes of a record where none was delivered.
     Performed { status: Status, bytes: &'a [u8] },
+}
+
+impl<'a> Answer<'a> {
+    /// The record that is told, of no bytes where none is.
+    pub(crate) fn record(&self) -> &'a [u8]
+        ensures { result.now ≡ record_told self.now }
+    {
+        match *self {
+            Answer::Refused(_) | Answer::Done => &[],
+            Answer::Performed { bytes, .. } => bytes,
+        }
+    }
 }
 
 /// Puts bytes into the room, from this place on. Where they end.
@@ -52,6 +69,25 @@ fn begin(room: &mut [u8], size: u16, first: &[u8]) -> usize
     put(room, at, first)
 }
 
+/// Puts the head of an answer's frame into the beginning of the room, which is long enough for any.
+/// How many bytes the head has.
+pub(crate) fn put_head(room: &mut [u8], answer: &Answer<'_>) -> usize
+    requires room { 5 ≤ length room.old }
+    requires record { length (record_told answer.now) ≤ 4000 }
+    ensures frame { take result room.new ++ record_told answer.now ≡ framed (answer_body (told_of answer.now)) }
+    ensures rest { KeepsBehind result room.old room.new }
+    ensures limit { result ≤ 5 }
+{
+    match *answer {
+        Answer::Refused(refusal) => begin(room, 2, &[0, refusal.code()]),
+        Answer::Done => begin(room, 1, &[1]),
+        Answer::Performed { status, bytes } => {
+            let digits = status.digits();
+            begin(room, 3 + bytes.len() as u16, &[2, digits[0], digits[1]])
+        }
+    }
+}
+
 /// Puts the frame of an answer into the beginning of the room, which is long enough for any. How
 /// many bytes the frame has.
 pub fn put_answer(room: &mut [u8], answer: &Answer<'_>) -> usize
@@ -60,13 +96,6 @@ pub fn put_answer(room: &mut [u8], answer: &Answer<'_>) -> usize
     ensures frame { take result room.new ≡ framed (answer_body (told_of answer.now)) }
     ensures rest { KeepsBehind result room.old room.new }
 {
-    match *answer {
-        Answer::Refused(refusal) => begin(room, 2, &[0, refusal.code()]),
-        Answer::Done => begin(room, 1, &[1]),
-        Answer::Performed { status, bytes } => {
-            let digits = status.digits();
-            let at = begin(room, 3 + bytes.len() as u16, &[2, digits[0], digits[1]]);
-            put(room, at, bytes)
-        }
-    }
+    let head = put_head(room, answer);
+    put(room, head, answer.record())
 }

@@ -1,9 +1,10 @@
 //! The answer to a request.
 ghost use Rattle.std.specs.Prelude.{◌≡◌, ◌≤◌, take, length};
-ghost use Rattle.serve.specs.Request.{performed_of};
-ghost use Rattle.serve.specs.Answer.{Refuses, KeepsBehind};
-ghost use Rattle.serve.specs.Answers.{IsFrameOf, answer_frame, AnswersRelease, TellsOfFile, TellsVerb};
-ghost use Rattle.serve.specs.Answers.{TellsAnswer};
+ghost use Rattle.serve.specs.Request.{described_of, performed_of};
+ghost use Rattle.serve.specs.Reading.{request_in};
+ghost use Rattle.serve.specs.Answer.{KeepsBehind, record_told, told_of};
+ghost use Rattle.serve.specs.Answers.{AnswersDescription, AnswersVerb, AnswersRelease};
+ghost use Rattle.serve.specs.Answers.{AnswersRequest, TellsAnswer, told_by};
 
 use crate::answer::{Answer, put_answer};
 use crate::description::Description;
@@ -12,30 +13,34 @@ use crate::request::{Request, read_request};
 use crate::session::Session;
 use crate::statement::Performance;
 use indexed_file::GrowingLibrary;
+use io_state::Status;
 
-/// Puts the frame of a refusal into the room.
-fn refuse(room: &mut [u8], refusal: Refusal) -> usize
-    requires room { 4005 ≤ length room.old }
-    ensures frame { take result room.new ≡ answer_frame (Refuses refusal) }
-    ensures rest { KeepsBehind result room.old room.new }
-{
-    put_answer(room, &Answer::Refused(refusal))
+/// What came of a request.
+#[derive(Clone, Copy, Debug)]
+pub(crate) enum Outcome {
+    Refused(Refusal),
+    /// The file is described, or released.
+    Done,
+    /// The verb was performed. The record that it delivered has this length in the area of the file;
+    /// no length where it delivered none.
+    Performed {
+        status: Status,
+        file: u8,
+        length: Option<u16>,
+    },
 }
 
 /// Describes a file.
 fn describe<L: GrowingLibrary + Drop>(
     session: &mut Session<L>,
     description: &Description<'_>,
-    room: &mut [u8],
-) -> usize
-    requires room { 4005 ≤ length room.old }
-    ensures frame { TellsOfFile L.shown L.keeps_open description.now
-        session.old session.new (take result room.new) }
-    ensures rest { KeepsBehind result room.old room.new }
+) -> Outcome
+    ensures { AnswersDescription L.shown L.keeps_open (described_of description.now)
+        session.old (told_by session.new.table result) session.new }
 {
     match session.describe(description) {
-        Ok(()) => put_answer(room, &Answer::Done),
-        Err(refusal) => refuse(room, refusal),
+        Ok(()) => Outcome::Done,
+        Err(refusal) => Outcome::Refused(refusal),
     }
 }
 
@@ -43,34 +48,63 @@ fn describe<L: GrowingLibrary + Drop>(
 fn perform<L: GrowingLibrary + Drop>(
     session: &mut Session<L>,
     performance: &Performance<'_>,
-    room: &mut [u8],
-) -> usize
-    requires room { 4005 ≤ length room.old }
-    ensures frame { TellsVerb L.shown (performed_of performance.now) session.old session.new (take result room.new) }
-    ensures rest { KeepsBehind result room.old room.new }
+) -> Outcome
+    ensures { AnswersVerb L.shown (performed_of performance.now)
+        session.old (told_by session.new.table result) session.new }
 {
     match session.perform(performance) {
-        Ok(answer) => {
-            let performed = Answer::Performed {
-                status: answer.status,
-                bytes: session.record(performance.file, answer.length),
-            };
-            put_answer(room, &performed)
-        }
-        Err(refusal) => refuse(room, refusal),
+        Ok(answer) => Outcome::Performed {
+            status: answer.status,
+            file: performance.file,
+            length: answer.length,
+        },
+        Err(refusal) => Outcome::Refused(refusal),
     }
 }
 
 /// Gives up a file.
-fn release<L: GrowingLibrary + Drop>(session: &mut Session<L>, number: u8, room: &mut [u8]) -> usize
-    requires room { 4005 ≤ length room.old }
-    ensures frame { IsFrameOf (take result room.new) (λ told. AnswersRelease L.shown L.keeps_open number
-        session.old told session.new) }
-    ensures rest { KeepsBehind result room.old room.new }
+fn release<L: GrowingLibrary + Drop>(session: &mut Session<L>, number: u8) -> Outcome
+    ensures { AnswersRelease L.shown L.keeps_open number
+        session.old (told_by session.new.table result) session.new }
 {
     match session.release(number) {
-        Ok(()) => put_answer(room, &Answer::Done),
-        Err(refusal) => refuse(room, refusal),
+        Ok(()) => Outcome::Done,
+        Err(refusal) => Outcome::Refused(refusal),
+    }
+}
+
+/// Does what the body of a frame asks for.
+pub(crate) fn outcome_of<L: GrowingLibrary + Drop>(session: &mut Session<L>, body: &[u8]) -> Outcome
+    ensures { AnswersRequest L.shown L.keeps_open (request_in body.now)
+        session.old (told_by session.new.table result) session.new }
+{
+    match read_request(body) {
+        Some(Request::Describe(description)) => describe(session, &description),
+        Some(Request::Perform(performance)) => perform(session, &performance),
+        Some(Request::Release(number)) => release(session, number),
+        None => Outcome::Refused(Refusal::NoRequest),
+    }
+}
+
+/// The answer that tells what came of a request, with the record where it lies in the session.
+pub(crate) fn answer_by<L: GrowingLibrary + Drop>(
+    session: &Session<L>,
+    outcome: Outcome,
+) -> Answer<'_>
+    ensures told { told_of result ≡ told_by session.now.table outcome }
+    ensures short { length (record_told result) ≤ 4000 }
+{
+    match outcome {
+        Outcome::Refused(refusal) => Answer::Refused(refusal),
+        Outcome::Done => Answer::Done,
+        Outcome::Performed {
+            status,
+            file,
+            length,
+        } => Answer::Performed {
+            status,
+            bytes: session.record(file, length),
+        },
     }
 }
 
@@ -86,10 +120,6 @@ pub fn answer_request<L: GrowingLibrary + Drop>(
         session.old session.new (take result room.new) }
     ensures rest { KeepsBehind result room.old room.new }
 {
-    match read_request(body) {
-        Some(Request::Describe(description)) => describe(session, &description, room),
-        Some(Request::Perform(performance)) => perform(session, &performance, room),
-        Some(Request::Release(number)) => release(session, number, room),
-        None => refuse(room, Refusal::NoRequest),
-    }
+    let outcome = outcome_of(session, body);
+    put_answer(room, &answer_by(session, outcome))
 }

@@ -17,7 +17,6 @@
 #![tactic(auto)]
 
 mod answer;
-mod answer_room;
 mod answering;
 mod closing;
 mod described_file;
@@ -29,6 +28,7 @@ mod frame;
 mod held_answers;
 mod input;
 mod laws;
+mod lent_answer;
 mod opening_order;
 mod output;
 mod performing;
@@ -41,14 +41,14 @@ mod session;
 mod statement;
 mod whole_session;
 
-pub use answer::{ANSWER_LIMIT, Answer, put_answer};
-pub use answer_room::answer_into;
+pub use answer::{ANSWER_LIMIT, Answer, HEAD_LIMIT, put_answer};
 pub use answering::answer_request;
 pub use description::{Description, read_description};
 pub use end::SessionEnd;
 pub use fault::ServeFault;
 pub use input::{InputFailed, Next, read_frame};
 pub use laws::what_is_written_is_read;
+pub use lent_answer::{LentAnswer, answer_lent};
 pub use refusal::Refusal;
 pub use request::{LENGTH_LIMIT, Request, read_request};
 pub use serving::{close_all, serve};

@@ -2,7 +2,6 @@
 use Rattle.std.specs.Prelude.{Option, Some, None}
 use mir.Raw.{raw}
 use base.Shift.{Keyless}
-use denote.Builtin.{RawPtr}
 use denote.Memory.{lone}
 use denote.RawPtr.{Ptr}
 use denote.Param.Send.{IsSend, AllSend, owning_send, struct_send, sendable}

@@ -1,5 +1,0 @@
-use Rattle.serve.specs.Answer.{Refuses}
-use Rattle.serve.proofs.answering.describe.Goals as goal
-
-pub returns-in-Err-clause-frame : goal.returns-in-Err-clause-frame
-returns-in-Err-clause-frame g c = (Refuses c.in-Err.refusal, c.refuse.ensures.frame, (c.in-Err.ensures.refused, c.in-Err.ensures.err))
