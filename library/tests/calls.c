@@ -312,6 +312,43 @@ static void given_and_delivered(void)
     CHECK("close session", cobix_close(session), 0);
 }
 
+/* What a read delivers is the session's own, and may be what the next call is given: a record of this file or another, and a key. */
+static void handed_back(void)
+{
+    cobix_file *file, *copy;
+    cobix *session = session_of("HANDED", COBIX_DYNAMIC, &file);
+    cobix_description d = described("COPY", COBIX_DYNAMIC);
+    CHECK("a second file", cobix_describe(session, &d, &copy), 0);
+    CHECK("output", cobix_open_file(file, COBIX_OUTPUT), 0);
+    CHECK("write", cobix_write(file, "00001AAAthe first on", 20), 0);
+    CHECK("write", cobix_write(file, "00002BBBlast", 12), 0);
+    CHECK("close", cobix_close_file(file, false), 0);
+    CHECK("i-o", cobix_open_file(file, COBIX_IO), 0);
+    CHECK("output of the copy", cobix_open_file(copy, COBIX_OUTPUT), 0);
+    CHECK("read next", cobix_read_next(file, &record, &length), 0);
+    CHECK("write it into the copy", cobix_write(copy, record, length), 0);
+    CHECK("read next", cobix_read_next(file, &record, &length), 0);
+    CHECK("write it into the copy", cobix_write(copy, record, length), 0);
+    CHECK("read the first", cobix_read(file, 0, "00001", &record, &length), 0);
+    CHECK("rewrite its first bytes", cobix_rewrite(file, record, 10), 0);
+    CHECK("read the last", cobix_read(file, 1, "BBB", &record, &length), 0);
+    CHECK("read by the key that is delivered", cobix_read(file, 0, record, &record, &length), 0);
+    CHECK("the same record", delivered("00002BBBlast"), true);
+    CHECK("start at it", cobix_start(file, 0, COBIX_NOT_LESS, record, 5), 0);
+    CHECK("read next", cobix_read_next(file, &record, &length), 0);
+    CHECK("the same record", delivered("00002BBBlast"), true);
+    CHECK("delete it", cobix_delete(file, record), 0);
+    CHECK("read the first", cobix_read(file, 0, "00001", &record, &length), 0);
+    CHECK("its first bytes", delivered("00001AAAth"), true);
+    CHECK("close the copy", cobix_close_file(copy, false), 0);
+    CHECK("input", cobix_open_file(copy, COBIX_INPUT), 0);
+    CHECK("read the copy", cobix_read_next(copy, &record, &length), 0);
+    CHECK("the first as it was", delivered("00001AAAthe first on"), true);
+    CHECK("read the copy", cobix_read_next(copy, &record, &length), 0);
+    CHECK("the last", delivered("00002BBBlast"), true);
+    CHECK("close session", cobix_close(session), 0);
+}
+
 /* The lock of a session, as another run sees it by `flock`: none, shared, exclusive. */
 static int lock_of(const char *name)
 {
@@ -752,6 +789,7 @@ int main(int count, char **words)
     at_the_limits(16, false);
     at_the_limits(64, true);
     given_and_delivered();
+    handed_back();
     lock();
     misuse();
     many_files();
