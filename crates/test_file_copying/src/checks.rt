@@ -7,3 +7,13 @@ use std::process::Abort;
 pub fn assert_equal<T: PartialEq + Debug + Drop>(rt: &impl Abort, left: T, right: T) {
     assert_eq!(rt; left, right);
 }
+
+/// Tells too of what the values are.
+pub fn assert_equal_for<W: Debug + Drop, T: PartialEq + Debug + Drop>(
+    rt: &impl Abort,
+    what: W,
+    left: T,
+    right: T,
+) {
+    assert_eq!(rt; left, right, "{what:?}");
+}

@@ -1,0 +1,3 @@
+pub mod NewPlace
+pub mod Attached
+pub mod CopiedPath
