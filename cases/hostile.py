@@ -88,7 +88,7 @@ class Command:
         """Runs the command over a new folder. Answers how it ended, the counts of its calls and the folder."""
         place = self.room.place / name
         shutil.copytree(self.first, place)
-        words = [place if it is self.room.files else it for it in self.words]
+        words = [place if it is self.room.files else it(place) if callable(it) else it for it in self.words]
         # A file, and no pipe, from which a read takes what has come by then: so each run makes the same calls.
         given = place.with_suffix(".input")
         given.write_bytes(self.stdin)
@@ -226,6 +226,22 @@ def command_of_a_load(room):
     return Command(room, [room.program, "load", _deck(room, NEW), "--folder", room.files, "--file", "CUST", "--into", "--frames", "1", text], load_holds)
 
 
+def copy_holds(room, ended, place):
+    """Where the copy says that it is done, the new file has the records of the file; else it has them, or it is refused, or absent. The file is as it was."""
+    wants(records_of(room, place / "cust.dat"), listed(BEFORE), "the records of the file")
+    new = place / "twin.dat"
+    found = records_of(room, new) if new.exists() else None
+    if ended.returncode == 0:
+        wants((ended.stdout, found), (b"", listed(BEFORE)), "what is written, and the records of the new file")
+    elif found is not None:
+        wants(found, listed(BEFORE), "the records of the new file, which is not refused")
+
+
+def command_of_a_copy(room):
+    room.made()
+    return Command(room, [room.program, "copy", lambda place: place / "cust.dat", lambda place: place / "twin.dat", "--frames", "1"], copy_holds)
+
+
 SENT = [
     describes(0, "cust.dat", 1000, 1000, [(0, 6, False)]), performs(0, OPEN, I_O), writes(0, record(6)), writes(0, record(7)),
     performs(0, READ, area="000001"), performs(0, CLOSE), releases(0),
@@ -262,17 +278,18 @@ def command_of_a_session(room):
 
 
 INTERRUPTIBLE = [it for it in GROUPS if it != "stat"]  # no system interrupts that call
-COMMANDS = {"run": command_of_a_run, "load": command_of_a_load, "serve": command_of_a_session}
+COMMANDS = {"run": command_of_a_run, "load": command_of_a_load, "copy": command_of_a_copy, "serve": command_of_a_session}
+LACKS = {"copy": ["read"]}  # no such call is made by the command
 
 
 def each_call_fails(room, name):
     failing_calls()
-    failed_in_turn(room, COMMANDS[name](room), GROUPS)
+    failed_in_turn(room, COMMANDS[name](room), [it for it in GROUPS if it not in LACKS.get(name, [])])
 
 
 def calls_are_interrupted(room, name):
     failing_calls()
-    interrupted(room, COMMANDS[name](room), INTERRUPTIBLE)
+    interrupted(room, COMMANDS[name](room), [it for it in INTERRUPTIBLE if it not in LACKS.get(name, [])])
 
 
 # ---- closes at the end of a session that fail

@@ -1,16 +1,22 @@
--- What the program came to, by what came of a run, a session or a load.
-use Rattle.std.proofs.Common.{◌≡◌, ℕ, Bool, List, Option, Some, None, Result, Err, IfOk, IfErr, inl, inr, refl, sym, subst}
+-- What the program came to, by what came of a run, a session, a load or a copy.
+use Rattle.std.proofs.Common.{◌≡◌, ◌≢◌, ◌⊎◌, ℕ, Bool, List, [], Option, Some, None, Result, Ok, Err, IfOk, IfErr, inl, inr, refl, sym, subst}
 use Rattle.clap.specs.Words.{Text}
 use Rattle.page_store.specs.declared.shelf.Shelf.{Ghosts}
 use Rattle.folder_shelf.specs.Calls.{Call}
 use Rattle.folder_shelf.specs.SystemState.{SystemState}
 use Rattle.folder_shelf.specs.Replay.{Unseen}
-use Rattle.command_words.specs.Asks.{AskRun, AskServe}
+use Rattle.command_words.specs.Asks.{AskCopy, AskRun, AskServe}
 use Rattle.command_words.specs.declared.limits.Limits.{Limits}
 use Rattle.streams.specs.declared.standard_input.StandardInput.{StandardInput}
-use Rattle.command_line.specs.Answered.{CameFor}
+use Rattle.command_line.specs.Answered.{CameAlone, CameFor}
 use Rattle.command_line.specs.AskedSession.{BeginsSession, ComesOfSession}
-use Rattle.command_line.specs.CallsMade.{CallsMade, calls_made, streams_first}
+use Rattle.command_line.specs.CallsMade.{CallsMade, calls_beside, calls_made, streams_first}
+use Rattle.command_line.specs.Copied.{AskForCopy, BeginsCopy, ComesOfCopy, EndsInName, IsToldCopy, IsToldUnread}
+use Rattle.command_line.specs.declared.copying.Copying.{Copying}
+use Rattle.file_copying.specs.declared.fault.Copied.{Copied}
+use Rattle.file_copying.specs.declared.fault.CopyingFault.{CopyingFault}
+use Rattle.file_copying.specs.declared.fault.CopyingFault.TheVariants.{NoneToCopy, NotAccepted, IsThere, Reading, Writing}
+use Rattle.io_state.specs.declared.fault.Fault.TheVariants.{Device, Memory as NoMemory, Full, Damage, Broken}
 use Rattle.command_line.specs.LoadForm.{IsLoadFault}
 use Rattle.command_line.specs.Loaded.{BeginsLoadOfDeck, ComesOfLoad, options_of}
 use Rattle.record_loading.specs.declared.options.LoadOptions.{LoadOptions}
@@ -24,6 +30,7 @@ use Rattle.command_line.proofs.LoadingLemmas.{load_done, told_end}
 use Rattle.record_loading.specs.declared.shelf_end.ShelfEnd.{ShelfEnd}
 use Rattle.command_outcomes.specs.Status.{status_of}
 use Rattle.command_outcomes.specs.declared.fault.Fault.{Fault}
+use Rattle.command_outcomes.specs.declared.fault.Fault.TheVariants.{NoFileName}
 use Rattle.command_outcomes.specs.declared.outcome.Outcome.{Outcome}
 use Rattle.command_outcomes.specs.declared.outcome.Outcome.TheVariants.{Loaded as LoadEnded}
 
@@ -34,7 +41,7 @@ did_not words outcome fault is four = subst (Did words) (sym is) (did_fail words
 module _ {X I W : Type 0} (shelf : Ghosts X) (keeps_open : X → ℕ → Bool) (disk : Unseen) (words : List Text) (before : List Call) (after : SystemState) (left : I → Option (List ℕ))
     (contents : W → Option (List ℕ)) (input input_after : StandardInput I) (out out_after : W) (old : SystemState) (held : old.calls ≡ streams_first) where
   abbrev pub Came : Done → Type 0
-  Came = CameFor shelf keeps_open disk words (calls_made before after) left contents input input_after out out_after
+  Came = CameAlone shelf keeps_open disk words (calls_made before after) left contents input input_after out out_after
 
   -- a run
   module _ (deck folder : Text) (limits : Limits) (strict : Bool) (asks : AskRun words deck folder limits.pages limits.frames.value strict) where
@@ -114,3 +121,66 @@ pub load_did : {W : Type 0} (words : List Text) (load : AskForLoad words) {old :
 load_did words load {old} {made} {out} {out_after} {before} {behind} {base} {input} {disk} outcome comes =
     did_load words load outcome (load_done old made out out_after outcome _ comes.came
     (load_done_by old made out out_after before behind outcome base input load.deck load.folder load.file load.text load.form load.into (options_of load.lines) disk)) comes.fault
+
+-- no other system was asked anything
+pub came_alone : {X I W : Type 0} (shelf : Ghosts X) (keeps_open : X → ℕ → Bool) (disk : Unseen) (words : List Text) (before : List Call) (after : SystemState) (beside : List Call) (left : I → Option (List ℕ))
+    (contents : W → Option (List ℕ)) (input input_after : StandardInput I) (out out_after : W) (done : Done) → beside ≡ []
+    → CameAlone shelf keeps_open disk words (calls_made before after) left contents input input_after out out_after done
+    → CameFor shelf keeps_open disk words (calls_beside before after beside) left contents input input_after out out_after done
+came_alone shelf keeps_open disk words before after beside left contents input input_after out out_after done none came =
+    subst (λ (other : List Call). CameFor shelf keeps_open disk words (calls_beside before after other) left contents input input_after out out_after done) (sym none) (inl (refl, came))
+
+-- a copy: nothing is written to the output
+pub copy_unwritten : {W : Type 0} (out : W) (outcome : Result Outcome Fault) → IfErr outcome (λ fault. status_of fault ≢ 4 → out ≡ out)
+copy_unwritten out (Ok outcome) = tt
+copy_unwritten out (Err fault) = λ other. refl
+
+pub copy_came : {X I W : Type 0} (shelf : Ghosts X) (keeps_open : X → ℕ → Bool) (disk : Unseen) (words : List Text) (before : List Call) (after : SystemState) (beside : List Call) (left : I → Option (List ℕ))
+    (contents : W → Option (List ℕ)) (input : StandardInput I) (out : W) (old : SystemState) → old.calls ≡ streams_first → (asks : Copying) → AskCopy words asks.file.now asks.new.now asks.limits.pages asks.limits.frames.value
+    → (done : Done) → ComesOfCopy old disk (calls_beside before after beside) asks done.outcome
+    → CameFor shelf keeps_open disk words (calls_beside before after beside) left contents input input out out done
+copy_came shelf keeps_open disk words before after beside left contents input out old held asks asked done (inl none) =
+    came_alone shelf keeps_open disk words before after beside left contents input input out out done none.none_beside
+    (inl (begins_alone disk words (left input.reader) contents out out before none.none_aside old after held done.outcome
+    (record { none_aside = none.none_aside; reads = none.reads; unwritten = refl; fault = none.fault; told = none.told })))
+copy_came shelf keeps_open disk words before after beside left contents input out old held asks asked done (inr begins) = inr (
+  refl,
+  (
+    record { file = asks.file.now; new = asks.new.now; pages = asks.limits.pages; frames = asks.limits.frames.value; asked = asked },
+    subst (λ (base : List Call). BeginsCopy base asks.file.now asks.new.now asks.limits.pages disk (calls_beside before after beside) done.outcome) held begins,
+  ),
+)
+
+-- what was done for words that ask for a copy
+module _ (words : List Text) (copy : AskForCopy words) where
+  did_unread : (outcome : Result Outcome Fault) → IsToldUnread outcome → Did words outcome
+  did_unread outcome (inl is) = subst (Did words) (sym is) tt
+  did_unread outcome (inr is) = subst (Did words) (sym is) tt
+
+  did_copy : (result : Result Copied CopyingFault) (outcome : Result Outcome Fault) → IsToldCopy result outcome → Did words outcome
+  did_copy (Ok copied) outcome is = subst (Did words) (sym is) copy
+  did_copy (Err NoneToCopy) outcome is = did_unread outcome is
+  did_copy (Err NotAccepted) outcome is = subst (Did words) (sym is) copy
+  did_copy (Err IsThere) outcome is = subst (Did words) (sym is) copy
+  did_copy (Err (Reading Device)) outcome is = did_unread outcome is
+  did_copy (Err (Reading NoMemory)) outcome is = did_unread outcome is
+  did_copy (Err (Reading Full)) outcome is = did_unread outcome is
+  did_copy (Err (Reading Damage)) outcome is = subst (Did words) (sym is) copy
+  did_copy (Err (Reading Broken)) outcome is = did_unread outcome is
+  did_copy (Err (Writing Device)) outcome is = subst (Did words) (sym is) tt
+  did_copy (Err (Writing NoMemory)) outcome is = subst (Did words) (sym is) tt
+  did_copy (Err (Writing Full)) outcome is = subst (Did words) (sym is) copy
+  did_copy (Err (Writing Damage)) outcome is = subst (Did words) (sym is) tt
+  did_copy (Err (Writing Broken)) outcome is = subst (Did words) (sym is) tt
+
+  did_no_copy : (fault : Fault) → (status_of fault ≡ 4) ⊎ ((fault ≡ NoFileName) × (EndsInName copy.new → ⊥)) → Did words (Err fault)
+  did_no_copy fault (inl four) = did_fail words fault four
+  did_no_copy fault (inr none) = subst (λ (f : Fault). Did words (Err f)) (sym none.0) (copy, none.1)
+
+pub copy_did : (words : List Text) (disk : Unseen) (made : CallsMade) (old : SystemState) (asks : Copying) → AskCopy words asks.file.now asks.new.now asks.limits.pages asks.limits.frames.value
+    → (outcome : Result Outcome Fault) → ComesOfCopy old disk made asks outcome → Did words outcome
+copy_did words disk made old asks asked outcome (inl none) =
+    subst (Did words) (sym none.told)
+    (did_no_copy words (record { file = asks.file.now; new = asks.new.now; pages = asks.limits.pages; frames = asks.limits.frames.value; asked = asked }) none.fault none.cause)
+copy_did words disk made old asks asked outcome (inr begins) =
+    did_copy words (record { file = asks.file.now; new = asks.new.now; pages = asks.limits.pages; frames = asks.limits.frames.value; asked = asked }) begins.result outcome begins.told

@@ -13,8 +13,10 @@ use Rattle.record_loading.specs.declared.shelf_end.ShelfEnd.{ShelfEnd}
 use Rattle.record_loading.specs.declared.shelf_end.ShelfEnd.TheVariants as ends
 use Rattle.salvaged_records.specs.declared.salvaging.Salvage.{Salvage}
 use Rattle.salvaged_records.specs.declared.salvaging.Salvage.TheVariants as salvages
+use Rattle.path_copying.specs.declared.end.CopyEnd.{CopyEnd}
+use Rattle.path_copying.specs.declared.end.CopyEnd.TheVariants as copies
 use Rattle.streams.specs.LineEnds.{has_failed_line}
-use Rattle.command_outcomes.specs.Status.{status_of, status_by, status_of_worst, status_of_list, status_where, status_of_comparison, status_of_load, status_of_count, status_of_salvage, status_for, exit_status, IsExitStatus}
+use Rattle.command_outcomes.specs.Status.{status_of, status_by, status_of_worst, status_of_list, status_where, status_of_comparison, status_of_load, status_of_count, status_of_salvage, status_of_copy, status_for, exit_status, IsExitStatus}
 use Rattle.command_outcomes.specs.declared.fault.Fault.{Fault}
 use Rattle.command_outcomes.specs.declared.fault.Fault.TheVariants as faults
 use Rattle.command_outcomes.specs.declared.outcome.Outcome.{Outcome}
@@ -54,7 +56,7 @@ low_salvage (salvages.All records) = omega arith
 low_salvage (salvages.Slots records told) = omega arith
 low_salvage (salvages.Unsound reason) = omega arith
 
--- and so has an outcome, but that of several files of which one cannot be read
+-- and so has an outcome, but that of several files of which one cannot be read, and that of a copy for which there is no page
 abbrev IsLow : ℕ → Type 0
 IsLow status = (status ≤ 1) ⊎ (status ≡ 4)
 
@@ -62,6 +64,13 @@ low_worst : (found : WorstCheck) → IsLow (status_of_worst found)
 low_worst worst.AllSound = inl (omega arith)
 low_worst worst.Unsound = inl (omega arith)
 low_worst worst.Unread = inr refl
+
+low_copy : (end : CopyEnd) → IsLow (status_of_copy end)
+low_copy (copies.Whole copied) = inl (omega arith)
+low_copy copies.Refused = inl (omega arith)
+low_copy copies.Damaged = inl (omega arith)
+low_copy copies.IsThere = inl (omega arith)
+low_copy copies.Full = inr refl
 
 low : (outcome : Outcome) → IsLow (status_for outcome)
 low outcomes.Helped = inl (omega arith)
@@ -80,6 +89,7 @@ low outcomes.InCobol = inl (omega arith)
 low (outcomes.Loaded end) = inl (low_load end)
 low (outcomes.Counted end) = inl (low_count end)
 low (outcomes.Salvaged end) = inl (low_salvage end)
+low (outcomes.Copied end) = low_copy end
 
 few_is : (n : ℕ) → n ≤ 1 → IsExitStatus n
 few_is zero few = inl refl
@@ -105,6 +115,7 @@ fault_is faults.NoSuchFile = inr (inr (inr (inl refl)))
 fault_is (faults.Form fault) = inr (inr (inr (inl refl)))
 fault_is faults.Unexplained = inr (inr (inr (inl refl)))
 fault_is faults.LongValue = inr (inr (inr (inl refl)))
+fault_is faults.NoFileName = inr (inr (inr (inl refl)))
 fault_is (faults.Usage text) = inr (inr (inr (inl refl)))
 fault_is faults.Input = inr (inr (inr (inr refl)))
 fault_is faults.Output = inr (inr (inr (inr refl)))

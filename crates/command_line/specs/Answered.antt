@@ -1,5 +1,5 @@
 -- What the program answers to the words of its command line. All of this is ours.
-use Rattle.std.specs.Prelude.{◌≡◌, ◌⊎◌, ℕ, nat_lt, Bool, true, false, ◌&&◌, if◌then◌else◌, List}
+use Rattle.std.specs.Prelude.{◌≡◌, ◌⊎◌, ℕ, nat_lt, Bool, true, false, ◌&&◌, if◌then◌else◌, List, []}
 use Rattle.std.specs.Prelude.{Option, Some, None, Result, Ok}
 use Rattle.clap.specs.Words.{Text}
 use Rattle.page_store.specs.declared.shelf.Shelf.{Ghosts}
@@ -10,6 +10,7 @@ use Rattle.streams.specs.Writes.{taken_by}
 use Rattle.streams.specs.declared.standard_output.StandardOutput.{StandardOutput}
 use Rattle.command_line.specs.AskedSession.{ServedAsAsked}
 use Rattle.command_line.specs.CallsMade.{CallsMade, streams_first}
+use Rattle.command_line.specs.Copied.{AskForCopy, BeginsCopy}
 use Rattle.command_line.specs.Loaded.{BeginsLoadOfDeck, options_of}
 use Rattle.command_line.specs.Performed.{wrote, Did, RanAsAsked, AskForLoad}
 use Rattle.command_line.specs.Right.{ReadsAlone}
@@ -55,12 +56,17 @@ LoadedAsAsked words input disk made before behind outcome = (load : AskForLoad w
     × BeginsLoadOfDeck streams_first input load.deck load.folder load.file load.text load.form load.into
     (options_of load.lines) disk made before behind outcome
 
--- for the words the program came to this, by these calls: no folder was entered, and only reads were made;
--- or the run, the session or the load was begun that the words ask for
-abbrev pub CameFor : {X I W : Type 0} → (shelf : Ghosts X) → (X → ℕ → Bool) → Unseen
+-- the words ask for a copy, and this one was begun
+abbrev pub CopiedAsAsked : (words : List Text) → Unseen → CallsMade → Result Outcome Fault → Type 0
+CopiedAsAsked words disk made outcome = (copy : AskForCopy words)
+    × BeginsCopy streams_first copy.file copy.new copy.pages disk made outcome
+
+-- for the words the program came to this, by these calls of one system: no folder was entered, and only reads
+-- were made; or the run, the session or the load was begun that the words ask for
+abbrev pub CameAlone : {X I W : Type 0} → (shelf : Ghosts X) → (X → ℕ → Bool) → Unseen
     → (words : List Text) → CallsMade → (I → Option (List ℕ)) → (W → Option (List ℕ))
     → (input input_after : StandardInput I) → (out out_after : W) → Done → Type 0
-CameFor shelf keeps_open disk words made left contents input input_after out out_after done =
+CameAlone shelf keeps_open disk words made left contents input input_after out out_after done =
     ReadsAlone disk words (left input.reader) made contents out out_after done.outcome
     ⊎ ((ran : Ran) × (done.ran ≡ Some ran) × RanAsAsked words (left input.reader)
     disk made (wrote contents out out_after) ran.strict done.outcome)
@@ -68,6 +74,16 @@ CameFor shelf keeps_open disk words made left contents input input_after out out
     (streams_of left contents input input_after out out_after) done.unclosed done.outcome
     ⊎ LoadedAsAsked words (left input.reader) disk made (contents out)
     (contents out_after) done.outcome
+
+-- so, and no other system was asked anything; or the copy was begun that the words ask for, and nothing was
+-- written to the output
+abbrev pub CameFor : {X I W : Type 0} → (shelf : Ghosts X) → (X → ℕ → Bool) → Unseen
+    → (words : List Text) → CallsMade → (I → Option (List ℕ)) → (W → Option (List ℕ))
+    → (input input_after : StandardInput I) → (out out_after : W) → Done → Type 0
+CameFor shelf keeps_open disk words made left contents input input_after out out_after done =
+    ((made.beside ≡ [])
+    × CameAlone shelf keeps_open disk words made left contents input input_after out out_after done)
+    ⊎ ((out_after ≡ out) × CopiedAsAsked words disk made done.outcome)
 
 -- the exit status is that of an outcome, by the lines that were written where the run is strict, and by the
 -- closes at the end of a session; for the words it came to that outcome, by these calls

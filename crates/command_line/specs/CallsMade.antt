@@ -7,16 +7,22 @@ use Rattle.command_outcomes.specs.declared.fault.Fault.{Fault}
 use Rattle.command_outcomes.specs.declared.outcome.Outcome.{Outcome}
 
 -- the calls that were set aside when a folder was entered, or before a file was read page after page, the
--- newest in front; and the system, with the calls since
+-- newest in front; the system, with the calls since; and those by which another system read a file that is
+-- copied
 pub record CallsMade : Type 0 where
   pub before : List Call
   pub system : SystemState
+  pub beside : List Call
 
 -- the same, by its parts
-abbrev pub calls_made : List Call → SystemState → CallsMade
-calls_made before system = record { before = before; system = system }
+abbrev pub calls_beside : List Call → SystemState → List Call → CallsMade
+calls_beside before system beside = record { before = before; system = system; beside = beside }
 
--- all of them, the newest in front
+-- so, and the other system was asked nothing
+abbrev pub calls_made : List Call → SystemState → CallsMade
+calls_made before system = calls_beside before system []
+
+-- all of them that one system was asked, the newest in front
 abbrev pub all_calls : CallsMade → List Call
 all_calls made = made.system.calls ++ made.before
 

@@ -21,6 +21,7 @@ use Rattle.command_words.specs.declared.line_options.LineOptions.{LineOptions}
 use Rattle.command_words.specs.Asks.{AskList, AskCobol, AskLoad, AskStat, AskSalvage, AskHelp, AskNothing}
 use Rattle.command_words.specs.declared.limits.Limits.{Limits}
 use Rattle.command_line.specs.CallsMade.{CallsMade, BeginsNothing, folder_behind, streams_first}
+use Rattle.command_line.specs.Copied.{AskForCopy, EndsInName}
 use Rattle.command_line.specs.Folder.{OverFolder}
 use Rattle.command_line.specs.Transcript.{IsRunFault}
 use Rattle.command_line.specs.LoadForm.{IsNoFormWord}
@@ -34,14 +35,14 @@ use Rattle.command_outcomes.specs.declared.form_fault.FormFault.{FormFault}
 use Rattle.command_outcomes.specs.declared.form_fault.FormFault.TheVariants.{Kind, HalfDeck}
 use Rattle.command_outcomes.specs.declared.fault.Fault.{Fault}
 use Rattle.command_outcomes.specs.declared.fault.Fault.TheVariants.{Deck, NotListed, NoSuchFile}
-use Rattle.command_outcomes.specs.declared.fault.Fault.TheVariants.{Form as NoForm, Unexplained, LongValue}
+use Rattle.command_outcomes.specs.declared.fault.Fault.TheVariants.{Form as NoForm, Unexplained, LongValue, NoFileName}
 use Rattle.command_outcomes.specs.declared.fault.Fault.TheVariants.{Usage, Input, Output, Memory}
 use Rattle.command_outcomes.specs.declared.outcome.Outcome.{Outcome}
 use Rattle.command_outcomes.specs.declared.outcome.Outcome.TheVariants.{Helped, Checked, Ended, Served}
 use Rattle.command_outcomes.specs.declared.outcome.Outcome.TheVariants.{SchemaTold, SchemaCompared}
 use Rattle.command_outcomes.specs.declared.outcome.Outcome.TheVariants.{SchemaRefused, Explained, Listed}
 use Rattle.command_outcomes.specs.declared.outcome.Outcome.TheVariants.{CheckedAll, Records, InCobol, Loaded}
-use Rattle.command_outcomes.specs.declared.outcome.Outcome.TheVariants.{Counted, OtherSchema, Salvaged}
+use Rattle.command_outcomes.specs.declared.outcome.Outcome.TheVariants.{Counted, OtherSchema, Salvaged, Copied}
 
 -- a run over a folder: the bytes of its deck, and the system since the folder was entered
 pub record Begun : Type 0 where
@@ -233,7 +234,8 @@ AskForNoForm words fault =
 -- that ask for that, records listed for those that ask for records, or the file found to be of another
 -- schema than its deck, for these and for those that ask for a salvage, a program written for those that ask for one in COBOL, a text loaded
 -- for those that ask for that, the pages of a file counted for those that ask for that, the
--- records of a file salvaged for those that ask for that, requests answered for those that ask for a
+-- records of a file salvaged for those that ask for that, a file copied for those that ask for that, requests
+-- answered for those that ask for a
 -- session, a schema told, compared or refused for those that ask for one, and a run came to its end for those that ask for one; a fault that is told of the words is
 -- theirs. The input, the output or memory may fail for any words.
 abbrev pub Did : List Text → Result Outcome Fault → Type 0
@@ -254,10 +256,12 @@ Did words (Ok InCobol) = (deck : Text) × (fixed : Bool) × AskCobol words deck 
 Did words (Ok (Loaded end)) = AskForLoad words
 Did words (Ok (Counted end)) = (file : Text) × AskStat words file
 Did words (Ok (Salvaged end)) = AskForSalvage words
+Did words (Ok (Copied end)) = AskForCopy words
 Did words (Err (Deck fault)) = AskOfFile words ⊎ AskForRun words
 Did words (Err NoSuchFile) = AskOfFile words
 Did words (Err (NoForm fault)) = AskForNoForm words fault
 Did words (Err LongValue) = AskForRecords words
+Did words (Err NoFileName) = (copy : AskForCopy words) × (EndsInName copy.new → ⊥)
 Did words (Err Unexplained) = (kind : Text) × (number : Text) × AskExplain words kind number
 Did words (Err (NotListed fault)) = AskOfDeck words
 Did words (Err (Usage text)) = AskNothing words text

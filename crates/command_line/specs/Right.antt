@@ -6,7 +6,7 @@ use Rattle.folder_shelf.specs.Calls.{Call}
 use Rattle.folder_shelf.specs.Reading.{AreReading}
 use Rattle.command_words.specs.Asks.{Ask, AskCheck, AskCobol, AskDeck, AskExplain, AskStat}
 use Rattle.command_words.specs.declared.request.Request.{Request}
-use Rattle.command_words.specs.declared.request.Request.TheVariants.{Run, Serve, Load}
+use Rattle.command_words.specs.declared.request.Request.TheVariants.{Run, Serve, Load, Copy}
 use Rattle.file_commands.specs.Counted.{CountsFileAt}
 use Rattle.file_commands.specs.Front.{OfNamedDeck}
 use Rattle.file_commands.specs.Listed.{WritesList, WritesCobol}
@@ -28,7 +28,7 @@ use Rattle.command_outcomes.specs.declared.outcome.Outcome.TheVariants.{Helped, 
 use Rattle.command_outcomes.specs.declared.outcome.Outcome.TheVariants.{SchemaTold, SchemaCompared}
 use Rattle.command_outcomes.specs.declared.outcome.Outcome.TheVariants.{SchemaRefused, Explained, Listed}
 use Rattle.command_outcomes.specs.declared.outcome.Outcome.TheVariants.{CheckedAll, Records, InCobol, Loaded}
-use Rattle.command_outcomes.specs.declared.outcome.Outcome.TheVariants.{Counted, OtherSchema, Salvaged}
+use Rattle.command_outcomes.specs.declared.outcome.Outcome.TheVariants.{Counted, OtherSchema, Salvaged, Copied}
 
 -- the records that words ask for were listed: after a check of the bytes that the first page of the file
 -- counts, or page after page
@@ -62,12 +62,13 @@ SalvagesAsAsked input asked calls before behind outcome = (told : Option (List �
 -- first, by what a writer has before and after
 module _ {W : Type 0} (disk : Unseen) (words : List Text) (calls : List Call) (input : Option (List ℕ))
     (contents : W → Option (List ℕ)) (old new : W) where
-  -- the outcome is right, of what was read and of what was written. A run, a session and a load have entered
-  -- a folder, and are none of these; of the text of help nothing is said
+  -- the outcome is right, of what was read and of what was written. A run, a session, a load and a copy have
+  -- entered a folder, and are none of these; of the text of help nothing is said
   abbrev pub IsRightOf : Outcome → Type 0
   IsRightOf (Ended end) = ⊥
   IsRightOf Served = ⊥
   IsRightOf (Loaded end) = ⊥
+  IsRightOf (Copied end) = ⊥
   IsRightOf Helped = ⊤
   -- the verdict is that on the file that the words name, and its line was written
   IsRightOf (Checked verdict) = (file : Text) × (quiet : Bool) × AskCheck words (file ∷ []) quiet
@@ -110,11 +111,12 @@ module _ {W : Type 0} (disk : Unseen) (words : List Text) (calls : List Call) (i
   IsRightOf (Salvaged end) = (asked : AskForSalvage words)
       × SalvagesAsAsked input asked calls (contents old) (contents new) (Salvaged end)
 
--- the request is for no run, no session and no load
+-- the request is for no run, no session, no load and no copy
 abbrev pub IsToRead : Request → Type 0
 IsToRead (Run deck folder limits strict wait) = ⊥
 IsToRead (Serve folder limits wait) = ⊥
 IsToRead (Load deck folder file text form into limits lines quiet) = ⊥
+IsToRead (Copy file new limits) = ⊥
 IsToRead request = ⊤
 
 -- so do the words ask
@@ -122,7 +124,7 @@ abbrev pub AskToRead : List Text → Type 0
 AskToRead words = (request : Request) × IsToRead request × Ask words request
 
 -- no folder was entered, and none but reads were made, of which the outcome is right; and nothing was written,
--- where the words ask for a run, a session or a load
+-- where the words ask for a run, a session, a load or a copy
 pub record ReadsAlone {W : Type 0} (disk : Unseen) (words : List Text) (input : Option (List ℕ))
     (made : CallsMade) (contents : W → Option (List ℕ)) (old new : W) (outcome : Result Outcome Fault) : Type
     0 where

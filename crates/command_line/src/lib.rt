@@ -1,6 +1,6 @@
 //! What the program does with the words of its command line: it runs a deck over the files of a
-//! folder, answers requests over them, loads a text into one, explains what was told, gives help, or
-//! does what `file_commands` has, and answers the exit status.
+//! folder, answers requests over them, loads a text into one, copies a file, explains what was told,
+//! gives help, or does what `file_commands` has, and answers the exit status.
 //!
 //! `program` does what the words ask for, writes to standard output, and tells a fault on another
 //! writer. Its clauses say which words lead to what, what standard output took, and that the exit
@@ -13,6 +13,7 @@
 #![tactic(auto)]
 
 mod causes;
+mod copying;
 mod done;
 mod explaining;
 mod load_form;

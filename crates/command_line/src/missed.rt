@@ -65,10 +65,11 @@ fn tell_output<W: Write, E: Write>(out: &StandardOutput<W>, err: &mut E) -> io::
     }
 }
 
-/// Tells the path of what could not be read, and why, as the system answered; or why standard output
+/// Tells the path of what could not be read, and why, as the two systems answered; or why standard output
 /// was not written.
 pub fn tell_missed<S: System, W: Write, E: Write>(
     system: &S,
+    reader: &S,
     missed: Missed,
     out: &StandardOutput<W>,
     err: &mut E,
@@ -80,6 +81,9 @@ pub fn tell_missed<S: System, W: Write, E: Write>(
         }
         Missed::Input => {
             for unread in system.unread() {
+                let _ = tell_unread(unread, err);
+            }
+            for unread in reader.unread() {
                 let _ = tell_unread(unread, err);
             }
         }

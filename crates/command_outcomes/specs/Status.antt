@@ -15,7 +15,7 @@ use Rattle.file_statistics.specs.declared.listing.FileStatisticsEnd.TheVariants.
 use Rattle.file_statistics.specs.declared.listing.FileStatisticsEnd.TheVariants.{Unsound as NotCounted}
 use Rattle.command_outcomes.specs.declared.fault.Fault.{Fault}
 use Rattle.command_outcomes.specs.declared.fault.Fault.TheVariants.{Deck, NotListed, NoSuchFile}
-use Rattle.command_outcomes.specs.declared.fault.Fault.TheVariants.{Form as NoForm, Unexplained, LongValue}
+use Rattle.command_outcomes.specs.declared.fault.Fault.TheVariants.{Form as NoForm, Unexplained, LongValue, NoFileName}
 use Rattle.command_outcomes.specs.declared.fault.Fault.TheVariants.{Usage, Input, Output, Memory}
 use Rattle.command_outcomes.specs.declared.outcome.WorstCheck.{WorstCheck}
 use Rattle.command_outcomes.specs.declared.outcome.WorstCheck.TheVariants.{AllSound}
@@ -26,7 +26,10 @@ use Rattle.command_outcomes.specs.declared.outcome.Outcome.TheVariants.{Helped, 
 use Rattle.command_outcomes.specs.declared.outcome.Outcome.TheVariants.{SchemaTold, SchemaCompared}
 use Rattle.command_outcomes.specs.declared.outcome.Outcome.TheVariants.{SchemaRefused, Explained, Listed}
 use Rattle.command_outcomes.specs.declared.outcome.Outcome.TheVariants.{CheckedAll, Records, InCobol, Loaded}
-use Rattle.command_outcomes.specs.declared.outcome.Outcome.TheVariants.{Counted, OtherSchema, Salvaged}
+use Rattle.command_outcomes.specs.declared.outcome.Outcome.TheVariants.{Counted, OtherSchema, Salvaged, Copied}
+use Rattle.path_copying.specs.declared.end.CopyEnd.{CopyEnd}
+use Rattle.path_copying.specs.declared.end.CopyEnd.TheVariants.{Whole, Refused, Damaged, Full}
+use Rattle.path_copying.specs.declared.end.CopyEnd.TheVariants.{IsThere as NewIsThere}
 use Rattle.salvaged_records.specs.declared.salvaging.Salvage.{Salvage}
 use Rattle.salvaged_records.specs.declared.salvaging.Salvage.TheVariants.{All as AllSalvaged, Slots}
 use Rattle.salvaged_records.specs.declared.salvaging.Salvage.TheVariants.{Unsound as NotSalvaged}
@@ -39,6 +42,7 @@ status_of NoSuchFile = 3
 status_of (NoForm _) = 3
 status_of Unexplained = 3
 status_of LongValue = 3
+status_of NoFileName = 3
 status_of (Usage _) = 3
 status_of Input = 4
 status_of Output = 4
@@ -87,6 +91,15 @@ status_of_salvage (AllSalvaged records) = 0
 status_of_salvage (Slots records told) = 1
 status_of_salvage (NotSalvaged reason) = 1
 
+-- the exit status that tells what became of a copy: that the new file may have no more pages is a fault of
+-- the output
+abbrev pub status_of_copy : CopyEnd → ℕ
+status_of_copy (Whole copied) = 0
+status_of_copy Refused = 1
+status_of_copy Damaged = 1
+status_of_copy NewIsThere = 1
+status_of_copy Full = 4
+
 -- the exit status that tells what was done: that a run or a session ended, whatever its verbs
 -- answered, a verdict, whether a file has a schema, that of a deck, or a list, or whether all lines
 -- were loaded
@@ -107,6 +120,7 @@ status_for InCobol = 0
 status_for (Loaded end) = status_of_load end
 status_for (Counted end) = status_of_count end
 status_for (Salvaged end) = status_of_salvage end
+status_for (Copied end) = status_of_copy end
 
 -- the exit status that tells what happened
 abbrev pub exit_status : Result Outcome Fault → ℕ

@@ -40,6 +40,7 @@ impl fmt::Display for RefusedDeck {
 /// | there is no such form of a list, or `--deck` or `--file` is alone | 3 | `cobix: `, and why |
 /// | there is no such number to explain | 3 | which there are |
 /// | a value is longer than that of any key | 3 | `cobix: a value of a key has at most 250 bytes` |
+/// | a new file would have no name of a file | 3 | `cobix: `, and which names there are |
 /// | the deck cannot be read | 4 | `cobix: input` |
 /// | the transcript, or the help, cannot be written | 4 | `cobix: output` |
 /// | want of memory | 4 | `cobix: memory` |
@@ -57,6 +58,9 @@ pub enum Fault {
     Unexplained,
     #[error("cobix: a value of a key has at most 250 bytes")]
     LongValue,
+    #[error("cobix: the name of the new file has to be of 1 to 64 letters, digits, '.', '-' or '_', the first a \
+         letter or a digit")]
+    NoFileName,
     #[error(transparent)]
     Usage(clap::Error),
     #[error("cobix: input")]
@@ -150,7 +154,7 @@ impl Fault {
             Fault::NotListed(_) => 2,
             Fault::Usage(_) => 3,
             Fault::NoSuchFile | Fault::Form(_) => 3,
-            Fault::Unexplained | Fault::LongValue => 3,
+            Fault::Unexplained | Fault::LongValue | Fault::NoFileName => 3,
             Fault::Input | Fault::Output | Fault::Memory => 4,
         }
     }

@@ -2,7 +2,7 @@
 ghost use Rattle.std.specs.Prelude.{◌≡◌};
 ghost use Rattle.command_outcomes.specs.Status.{status_by, status_of_list, status_of_load, status_of_count};
 ghost use Rattle.command_outcomes.specs.Status.{status_of_comparison, status_where, status_for, exit_status};
-ghost use Rattle.command_outcomes.specs.Status.{status_of_worst, status_of_salvage};
+ghost use Rattle.command_outcomes.specs.Status.{status_of_worst, status_of_salvage, status_of_copy};
 
 use crate::fault::Fault;
 use deck_runner::RunEnd;
@@ -10,6 +10,7 @@ use explanations::REASON_LINES;
 use file_checker::{Reason, Verdict};
 use file_statistics::FileStatisticsEnd;
 use pages::FaultPlace;
+use path_copying::CopyEnd;
 use record_listing::FileList;
 use record_loading::{ShelfEnd, is_loaded, write_end_mistake};
 use salvaged_records::Salvage;
@@ -63,6 +64,8 @@ pub enum Outcome {
     Counted(FileStatisticsEnd),
     /// The records of a file were salvaged, all of them or those that were found; or there are none.
     Salvaged(Salvage),
+    /// A file was copied into a new one, or it was found why not.
+    Copied(CopyEnd),
 }
 
 /// The exit status that tells what became of the list of a file.
@@ -112,6 +115,17 @@ pub fn status_by_salvage(end: Salvage) -> u8
     match end {
         Salvage::All(_) => 0,
         Salvage::Slots(..) | Salvage::Unsound(_) => 1,
+    }
+}
+
+/// The exit status that tells what became of a copy.
+pub fn status_by_copy(end: CopyEnd) -> u8
+    ensures { result ≡ status_of_copy end }
+{
+    match end {
+        CopyEnd::Whole(_) => 0,
+        CopyEnd::Refused | CopyEnd::Damaged | CopyEnd::IsThere => 1,
+        CopyEnd::Full => 4,
     }
 }
 
@@ -175,6 +189,31 @@ fn tell_salvage<E: Write>(end: Salvage, err: &mut E) -> io::Result<()> {
     }
 }
 
+/// Tells what was copied, or why it was not.
+fn tell_copy<E: Write>(end: CopyEnd, err: &mut E) -> io::Result<()> {
+    let refused = match end {
+        CopyEnd::Whole(copied) => {
+            let (records, pages) = (copied.records, copied.pages);
+            return writeln!(err, "copied {records} records, {pages} pages");
+        }
+        CopyEnd::IsThere => return writeln!(err, "cobix: the new file is there already"),
+        CopyEnd::Full => {
+            writeln!(err, "{}", Fault::Output)?;
+            return writeln!(
+                err,
+                "  the new file needs more pages than '--pages' gives it"
+            );
+        }
+        CopyEnd::Refused => "refused",
+        CopyEnd::Damaged => "damaged",
+    };
+    writeln!(err, "cobix: the file is {refused}")?;
+    writeln!(
+        err,
+        "  'cobix check FILE' tells why, and 'cobix salvage FILE' lists what is left"
+    )
+}
+
 /// Tells that a file was not made, or what is wrong with the line that ended a load, if it is no
 /// record's.
 fn tell_load<E: Write>(end: &ShelfEnd, err: &mut E) -> io::Result<()> {
@@ -192,8 +231,16 @@ fn report_load<E: Write>(end: &ShelfEnd, err: &mut E) -> u8
     status_by_load(*end)
 }
 
+/// Tells what was copied, and answers the exit status that tells what became of a copy.
+fn report_copy<E: Write>(end: CopyEnd, err: &mut E) -> u8
+    ensures { result ≡ status_of_copy end }
+{
+    let _ = tell_copy(end, err);
+    status_by_copy(end)
+}
+
 impl Outcome {
-    /// Tells what was salvaged of a file, or why a file has no schema or no list, is of another schema
+    /// Tells what was salvaged or copied of a file, or why a file has no schema or no list, is of another schema
     /// than a deck, was not made, or was not read, on standard error, as far as that takes it, and
     /// answers the exit status.
     fn report<E: Write>(self, err: &mut E) -> u8
@@ -219,6 +266,7 @@ impl Outcome {
         }
         match self {
             Outcome::Loaded(end) => report_load(&end, err),
+            Outcome::Copied(end) => report_copy(end, err),
             other => other.status(),
         }
     }
@@ -236,6 +284,7 @@ impl Outcome {
             Outcome::Loaded(end) => status_by_load(end),
             Outcome::Counted(end) => status_by_count(end),
             Outcome::Salvaged(end) => status_by_salvage(end),
+            Outcome::Copied(end) => status_by_copy(end),
             Outcome::Checked(verdict) => status_by_verdict(verdict),
             Outcome::CheckedAll(worst) => status_by_worst(worst),
         }

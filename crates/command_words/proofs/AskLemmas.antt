@@ -10,7 +10,7 @@ use Rattle.command_words.specs.Asks.{Ask, AskNothing, AreFaultless, IsNone, IsRe
 use Rattle.command_words.specs.declared.fault.WordsFault.{WordsFault}
 use Rattle.command_words.specs.declared.fault.WordsFault.TheVariants.{Usage}
 use Rattle.command_words.specs.declared.request.Request.{Request}
-use Rattle.command_words.specs.declared.request.Request.TheVariants.{Run, Check, Serve, Schema, Explain, Deck, List as ListRecords, Cobol, Load, Stat, Salvage, Help}
+use Rattle.command_words.specs.declared.request.Request.TheVariants.{Run, Check, Serve, Schema, Explain, Deck, List as ListRecords, Cobol, Load, Stat, Salvage, Copy, Help}
 
 -- the matches of the program's command line, and its faults, are known
 is_known : is_simple_and_free program_app ≡ true
@@ -36,6 +36,7 @@ asked words (Cobol deck fixed) faultless h = (faultless, h)
 asked words (Load deck folder file text form into limits lines quiet) faultless h = (faultless, h)
 asked words (Stat file) faultless h = (faultless, h)
 asked words (Salvage file form places) faultless h = (faultless, h)
+asked words (Copy file new limits) faultless h = (faultless, h)
 asked words (Help text) faultless h = absurd h
 
 pub met_asked : (words : List Text) (met : Option (Text × List Row)) (result : Result Request WordsFault) → AreFaultless words

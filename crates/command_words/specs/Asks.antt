@@ -14,7 +14,7 @@ use Rattle.command_words.specs.declared.line_options.LineOptions.{LineOptions}
 use Rattle.command_words.specs.declared.request.Request.{Request}
 use Rattle.command_words.specs.declared.request.Request.TheVariants.{Run, Check, Serve, Schema, Explain, Deck}
 use Rattle.command_words.specs.declared.request.Request.TheVariants.{List as ListRecords, Cobol, Load, Stat}
-use Rattle.command_words.specs.declared.request.Request.TheVariants.{Salvage, Help}
+use Rattle.command_words.specs.declared.request.Request.TheVariants.{Salvage, Copy, Help}
 
 -- the text is this number
 abbrev pub IsNumber : ℕ → Text → ℕ → Type 0
@@ -22,7 +22,7 @@ IsNumber bits text n =
     IsNumeral 10 (without_leading_plus text) × (digits_value 10 (without_leading_plus text) < 2 ^ bits)
     × (n ≡ digits_value 10 (without_leading_plus text))
 
--- the numbers of pages and frames that a run may have, and a session
+-- the numbers of pages and frames that a run may have, and a session, a load or a copy
 pub record AreLimits (rows : List Row) (pages frames : ℕ) : Type 0 where
   pub pages_text : Text
   pub frames_text : Text
@@ -228,6 +228,14 @@ pub record IsSalvageRequest (met : Option (Text × List Row)) (file : Text) (for
   pub places_given : one_of (codes "places") rows ≡ Some places_text
   pub places_is : IsFlag places_text places
 
+-- the subcommand that was met is to copy this file into the new one of a path, with these limits
+pub record IsCopyRequest (met : Option (Text × List Row)) (file new : Text) (pages frames : ℕ) : Type 0 where
+  pub rows : List Row
+  pub is : met ≡ Some (codes "copy", rows)
+  pub file_given : first_of (codes "file") rows ≡ Some file
+  pub new_given : first_of (codes "new") rows ≡ Some new
+  pub limits : AreLimits rows pages frames
+
 -- the subcommand that was met, with its values, is what is asked for
 abbrev pub IsRequestMet : Option (Text × List Row) → Request → Type 0
 IsRequestMet met (Run deck folder limits strict wait) =
@@ -249,6 +257,8 @@ IsRequestMet met (Load deck folder file text form into limits lines quiet) =
     lines quiet
 IsRequestMet met (Stat file) = IsStat met file.now
 IsRequestMet met (Salvage file form places) = IsSalvageRequest met file.now (form_text form) places
+IsRequestMet met (Copy file new limits) =
+    IsCopyRequest met file.now new.now limits.pages limits.frames.value
 IsRequestMet met (Help text) = ⊥
 
 -- the subcommand that was met is no run, or its values are none that a run can have; and so of each
@@ -290,6 +300,9 @@ abbrev pub IsNoSalvage : Option (Text × List Row) → Type 0
 IsNoSalvage met = (file : Text) (form : FormText) (places : Bool)
     → ¬ (IsSalvageRequest met file form places)
 
+abbrev pub IsNoCopy : Option (Text × List Row) → Type 0
+IsNoCopy met = (file new : Text) (pages frames : ℕ) → ¬ (IsCopyRequest met file new pages frames)
+
 -- it is no run, session, schema, explanation or list of a deck
 pub record IsNoRunOrList (met : Option (Text × List Row)) : Type 0 where
   pub no_run : IsNoRun met
@@ -298,13 +311,14 @@ pub record IsNoRunOrList (met : Option (Text × List Row)) : Type 0 where
   pub no_explain : IsNoExplain met
   pub no_deck : IsNoDeckList met
 
--- and no list of records, no program in COBOL, no load, no count and no salvage
+-- and no list of records, no program in COBOL, no load, no count, no salvage and no copy
 pub record IsNoRecords (met : Option (Text × List Row)) : Type 0 where
   pub no_list : IsNoList met
   pub no_cobol : IsNoCobol met
   pub no_load : IsNoLoad met
   pub no_stat : IsNoStat met
   pub no_salvage : IsNoSalvage met
+  pub no_copy : IsNoCopy met
 
 -- it is none of these, and no check
 pub record IsNone (met : Option (Text × List Row)) : Type 0 where
@@ -387,6 +401,11 @@ abbrev pub AskSalvage : List Text → (file : Text) (form : FormText) (places : 
 AskSalvage words file form places = AreFaultless words
     × IsSalvageRequest (subcommand_of program_app words) file form places
 
+-- to copy this file into the new one of a path, with these limits
+abbrev pub AskCopy : List Text → (file new : Text) (pages frames : ℕ) → Type 0
+AskCopy words file new pages frames = AreFaultless words
+    × IsCopyRequest (subcommand_of program_app words) file new pages frames
+
 -- to wait so many seconds for a lock that another run has
 abbrev pub AskWait : List Text → (seconds : ℕ) → Type 0
 AskWait words seconds = AreFaultless words × IsWaitMet (subcommand_of program_app words) seconds
@@ -416,6 +435,8 @@ Ask words (Load deck folder file text form into limits lines quiet) =
     lines quiet
 Ask words (Stat file) = AskStat words file.now
 Ask words (Salvage file form places) = AskSalvage words file.now (form_text form) places
+Ask words (Copy file new limits) =
+    AskCopy words file.now new.now limits.pages limits.frames.value
 Ask words (Help text) = AskHelp words text
 
 -- for nothing, and the text tells why

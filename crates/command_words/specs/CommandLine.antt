@@ -149,6 +149,12 @@ salvage_shape = record (new_shape (codes "salvage")) {
       ∷ text_rule (codes "deck") ∷ name_rule ∷ [];
 }
 
+-- `copy FILE NEW [--pages N] [--frames N]`
+abbrev pub copy_shape : Shape
+copy_shape = record (new_shape (codes "copy")) {
+  rules = word_rule (codes "file") ∷ word_rule (codes "new") ∷ pages_rule ∷ frames_rule (codes "64") ∷ [];
+}
+
 -- the program with its version, and before its subcommands
 abbrev pub versioned_shape : Shape
 versioned_shape = record (new_shape (codes "cobix")) { has_version = true }
@@ -193,10 +199,18 @@ loads_app = record {
       cobol_shape ∷ load_shape ∷ stat_shape ∷ [];
 }
 
--- one of these, to salvage the records of a file, or help or the version
+-- and to salvage the records of a file
+abbrev pub salvages_app : App
+salvages_app = record {
+  top = record program_shape { is_leaf = false };
+  subs = run_shape ∷ check_shape ∷ serve_shape ∷ schema_shape ∷ explain_shape ∷ deck_shape ∷ list_shape ∷
+      cobol_shape ∷ load_shape ∷ stat_shape ∷ salvage_shape ∷ [];
+}
+
+-- one of these, to copy a file, or help or the version
 abbrev pub program_app : App
 program_app = record {
   top = record program_shape { is_leaf = false };
   subs = run_shape ∷ check_shape ∷ serve_shape ∷ schema_shape ∷ explain_shape ∷ deck_shape ∷ list_shape ∷
-      cobol_shape ∷ load_shape ∷ stat_shape ∷ salvage_shape ∷ [];
+      cobol_shape ∷ load_shape ∷ stat_shape ∷ salvage_shape ∷ copy_shape ∷ [];
 }

@@ -6,7 +6,7 @@ ghost use Rattle.command_words.specs.Asks.{AreLimits, AreLineOptions, IsCheckedR
 ghost use Rattle.command_words.specs.Asks.{IsRequestMet, IsNoRun};
 ghost use Rattle.command_words.specs.Asks.{IsNoCheck, IsNoServe, IsNoSchema, IsNoExplain, IsNoDeckList};
 ghost use Rattle.command_words.specs.Asks.{IsNoList, IsNoCobol, IsNoLoad, IsNoStat, IsNoRunOrList};
-ghost use Rattle.command_words.specs.Asks.{IsNoSalvage, IsNoRecords, IsNone, IsSalvageForm};
+ghost use Rattle.command_words.specs.Asks.{IsNoSalvage, IsNoCopy, IsNoRecords, IsNone, IsSalvageForm};
 
 use crate::form_words::FormWords;
 use crate::limits::Limits;
@@ -25,7 +25,7 @@ fn met<'m, 'a>(matches: &'m ArgMatches<'a>, name: &str) -> Option<&'m ArgMatches
     matches.subcommand_matches(name)
 }
 
-/// The limits of a run, of a session or of a load.
+/// The limits of a run, of a session, of a load or of a copy.
 fn limits_of(files: &ArgMatches<'_>) -> Option<Limits>
     ensures some { IfSome result (λ limits. AreLimits
         (rows_of (found_of files.now)) limits.pages limits.frames.value) }
@@ -291,6 +291,18 @@ fn salvage_of<'a>(matches: &ArgMatches<'a>) -> Option<Request<'a>>
     Some(Request::Salvage { file, form, places })
 }
 
+/// The copy that the matches ask for, if they ask for one.
+fn copy_of<'a>(matches: &ArgMatches<'a>) -> Option<Request<'a>>
+    ensures some { IfSome result (IsRequestMet (subcommand_rows_of matches.now)) }
+    ensures none { result ≡ None → IsNoCopy (subcommand_rows_of matches.now) }
+{
+    let copy = met(matches, "copy")?;
+    let file = copy.get_str("file")?;
+    let new = copy.get_str("new")?;
+    let limits = limits_of(copy)?;
+    Some(Request::Copy { file, new, limits })
+}
+
 /// A run, a session, a schema, an explanation or the list of a deck that the matches ask for, if
 /// they ask for one.
 fn run_or_list_of<'a>(matches: &ArgMatches<'a>) -> Option<Request<'a>>
@@ -312,8 +324,8 @@ fn run_or_list_of<'a>(matches: &ArgMatches<'a>) -> Option<Request<'a>>
     deck_of(matches)
 }
 
-/// A list of records, a program in COBOL, a load, a count or a salvage that the matches ask for, if
-/// they ask for one.
+/// A list of records, a program in COBOL, a load, a count, a salvage or a copy that the matches ask
+/// for, if they ask for one.
 fn records_of<'a>(matches: &ArgMatches<'a>) -> Option<Request<'a>>
     ensures some { IfSome result (IsRequestMet (subcommand_rows_of matches.now)) }
     ensures none { result ≡ None → IsNoRecords (subcommand_rows_of matches.now) }
@@ -330,7 +342,10 @@ fn records_of<'a>(matches: &ArgMatches<'a>) -> Option<Request<'a>>
     if let Some(stat) = stat_of(matches) {
         return Some(stat);
     }
-    salvage_of(matches)
+    if let Some(salvage) = salvage_of(matches) {
+        return Some(salvage);
+    }
+    copy_of(matches)
 }
 
 /// What the matches ask for.

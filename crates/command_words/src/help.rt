@@ -206,6 +206,25 @@ no file NAME
   4   the file or the deck could not be read ('cobix: input'), the lines could not be written ('cobix: output'), \
 or memory ran out ('cobix: memory')";
 
+/// What a copy is, and what it answers.
+pub const COPIED: &str =
+    "FILE is a file that 'cobix check' finds sound, and that no run has open for changes. It is read page after \
+page, and no run changes it meanwhile; it is not checked. NEW gets its records in the order of the prime key, in pages one behind another, and records of one \
+value of an alternate key keep their order.
+The last part of NEW is the name of the new file: 1 to 64 letters, digits, full stops, hyphens and underscores, \
+the first of them a letter or a digit. Until all of NEW is written, OPEN refuses it with 91, also where this \
+command was killed: remove what is left of it before the next copy.
+
+Exit status:
+  0   'copied R records, P pages' on standard error: NEW is whole, closed, and on the disk
+  1   'cobix: the file is refused': OPEN would answer 91 too; 'cobix check FILE' tells why, and 'cobix salvage \
+FILE' lists what is left. Nothing was written
+      'cobix: the file is damaged': so, behind its first page. What there is of NEW is refused
+      'cobix: the new file is there already': nothing was written
+  3   the command line is not understood, or the last part of NEW is the name of no file
+  4   FILE could not be read, or the folder of NEW is none ('cobix: input'); NEW could not be written, or it needs \
+more than '--pages' pages ('cobix: output'); or memory ran out ('cobix: memory'). What there is of NEW is refused";
+
 /// What a load answers.
 pub const LOADED: &str =
     "TEXT is what 'cobix list' writes in the same form. The lines are read first, and then written one after \

@@ -1,6 +1,6 @@
 //! What the words of a command line ask the program for: a run, checks, a session, a schema, an
-//! explanation, the list of a deck, the records of a file, a program in COBOL, a load, a count, or
-//! help.
+//! explanation, the list of a deck, the records of a file, a program in COBOL, a load, a count, a
+//! salvage, a copy, or help.
 //!
 //! The words are parsed by `clap`. What they ask for is a definition over its own of what an
 //! option's value is, so `read_words` says in both outcomes which words ask for what. The texts of

@@ -101,6 +101,12 @@ pub enum Request<'a> {
         form: FormWords<'a>,
         places: bool,
     },
+    /// To copy the file of this path into a new file, whose name and folder the other path tells.
+    Copy {
+        file: &'a str,
+        new: &'a str,
+        limits: Limits,
+    },
     /// This text: help, or the version.
     Help(Error),
 }

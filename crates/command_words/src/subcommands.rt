@@ -9,15 +9,15 @@ ghost use Rattle.command_words.specs.Commands.{with_file_words};
 ghost use Rattle.command_words.specs.Commands.{with_text, with_line_options, with_salvage_form};
 ghost use Rattle.command_words.specs.CommandLine.{run_shape, check_shape, serve_shape, schema_shape};
 ghost use Rattle.command_words.specs.CommandLine.{explain_shape, deck_shape, list_shape, cobol_shape};
-ghost use Rattle.command_words.specs.CommandLine.{load_shape, stat_shape, salvage_shape};
+ghost use Rattle.command_words.specs.CommandLine.{load_shape, stat_shape, salvage_shape, copy_shape};
 ghost use Rattle.command_words.specs.CommandLine.{versioned_shape, program_shape, runs_app, schemas_app};
-ghost use Rattle.command_words.specs.CommandLine.{lists_app, records_app, loads_app, program_app};
+ghost use Rattle.command_words.specs.CommandLine.{lists_app, records_app, loads_app, salvages_app, program_app};
 
 use crate::arguments::{
     deck, first, flag, folder, name, number, option, skip, text, usual, wait, word, words,
 };
 use crate::help::{
-    ANSWERS, COBOL, COUNTED, EXPLAINED, LISTED, LOADED, REASONS, RECORDS, SALVAGED, SCHEMA,
+    ANSWERS, COBOL, COPIED, COUNTED, EXPLAINED, LISTED, LOADED, REASONS, RECORDS, SALVAGED, SCHEMA,
     SERVING, VERSION,
 };
 use clap::{Arg, Command};
@@ -56,7 +56,7 @@ fn with_files<'a>(
     )
 }
 
-/// `run`, `serve` or `load` with its limits: so many frames where none are given.
+/// `run`, `serve`, `load` or `copy` with its limits: so many frames where none are given.
 fn with_limits<'a>(
     alloc: Global,
     files: Result<Command<'a>, AllocError>,
@@ -488,6 +488,31 @@ fn salvage_command<'a>(alloc: Global) -> Result<Command<'a>, AllocError>
     )
 }
 
+/// `copy`.
+fn copy_command<'a>(alloc: Global) -> Result<Command<'a>, AllocError>
+    ensures { IfOk result (HasShape copy_shape) }
+{
+    let file = word(
+        alloc,
+        "file",
+        "FILE",
+        "The file that is copied; it is not changed",
+    );
+    let new = word(
+        alloc,
+        "new",
+        "NEW",
+        "The path of the new file; its folder has to be there, and the file must not",
+    );
+    let copy = named(
+        alloc,
+        "copy",
+        "Copies a file into a new one, in the order of its keys",
+        COPIED,
+    );
+    with_limits(alloc, with_argument(copy.arg(file), new), "64")
+}
+
 /// The program, with its version.
 fn versioned<'a>(alloc: Global) -> Command<'a>
     ensures { HasShape versioned_shape result }
@@ -557,9 +582,16 @@ fn with_loads<'a>(alloc: Global) -> Result<Command<'a>, AllocError>
     with_added(load, stat_command(alloc))
 }
 
+/// The program with these, and the one that salvages records.
+fn with_salvages<'a>(alloc: Global) -> Result<Command<'a>, AllocError>
+    ensures { IfOk result (IsApp salvages_app) }
+{
+    with_added(with_loads(alloc), salvage_command(alloc))
+}
+
 /// The program with all its subcommands.
 pub fn command<'a>(alloc: Global) -> Result<Command<'a>, AllocError>
     ensures { IfOk result (λ command. app_of command ≡ program_app) }
 {
-    with_added(with_loads(alloc), salvage_command(alloc))
+    with_added(with_salvages(alloc), copy_command(alloc))
 }

@@ -121,9 +121,19 @@ where
     let mut rejects = RejectedLines::new(io::sink());
     let nothing = BufReader::new(alloc, io::empty())?;
     let system = RecordedSystem::new(rt, alloc);
+    let reader = RecordedSystem::new(rt, alloc);
     let mut aside = CallRecord::unasked(rt);
-    let (status, _system) = program::<_, EmptyDisk, BufReader<Empty>, _, P, Narrow, Narrow>(
+    let (status, _system, _reader) = program::<
+        _,
+        EmptyDisk,
+        BufReader<Empty>,
+        _,
+        P,
+        Narrow,
+        Narrow,
+    >(
         system,
+        reader,
         &mut aside,
         alloc,
         given.as_slice(),
@@ -219,6 +229,22 @@ fn standard_error_may_refuse_too(rt: HostRuntime) -> Result<(), Fail> {
         is_refused(&rt, words, *status, told, 0)?;
         is_refused(&rt, words, *status, told, 3)?;
     }
+    Ok(())
+}
+
+// A copy writes nothing to standard output, and tells what it has on standard error.
+#[test]
+fn a_copy_is_told_on_standard_error(rt: HostRuntime) -> Result<(), Fail> {
+    fs::write(&rt, "cust.deck", DECK)?;
+    let made = run(&rt, &RUN, 100, 100, 100)?;
+    assert_that(&rt, made.is(0, TRANSCRIPT.as_bytes(), b""));
+    let copied = run(&rt, &["copy", "cust.dat", "copy.dat"], 100, 0, 100)?;
+    assert_that(&rt, copied.is(0, b"", b"copied 0 records, 2 pages\n"));
+    let again = run(&rt, &["copy", "cust.dat", "copy.dat"], 100, 0, 100)?;
+    assert_that(
+        &rt,
+        again.is(1, b"", b"cobix: the new file is there already\n"),
+    );
     Ok(())
 }
 

@@ -7,5 +7,6 @@ returns-clause-none c =
       no_cobol = c.cobol_of.ensures.none c.in_default-cobol_of.is;
       no_load = c.load_of.ensures.none c.in_default-load_of.is;
       no_stat = c.stat_of.ensures.none c.in_default-stat_of.is;
-      no_salvage = c.salvage_of.ensures.none none;
+      no_salvage = c.salvage_of.ensures.none c.in_default-salvage_of.is;
+      no_copy = c.copy_of.ensures.none none;
     }

@@ -1,0 +1,7 @@
+use Rattle.command_words.proofs.ShapeLemmas.{last_arg}
+use Rattle.command_words.proofs.subcommands.copy_command.Goals as goal
+
+pub returns : goal.returns
+returns c =
+    c.with_limits.ensures _
+    (c.with_argument.ensures _ _ (last_arg _ _ c.arg.result c.arg.ensures c.named-copy.ensures c.word-file.ensures) c.word-new.ensures)
