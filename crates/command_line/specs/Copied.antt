@@ -12,10 +12,10 @@ use Rattle.file_copying.specs.declared.fault.Copied.{Copied}
 use Rattle.file_copying.specs.declared.fault.CopyingFault.{CopyingFault}
 use Rattle.file_copying.specs.declared.fault.CopyingFault.TheVariants.{NoneToCopy, NotAccepted, IsThere}
 use Rattle.file_copying.specs.declared.fault.CopyingFault.TheVariants.{Reading, Writing}
-use Rattle.path_copying.specs.NewPlace.{folder_of, last_part}
-use Rattle.path_copying.specs.CopiedPath.{CopiesPath, copy_paths}
-use Rattle.path_copying.specs.declared.end.CopyEnd.TheVariants.{Whole, Refused, Damaged}
-use Rattle.path_copying.specs.declared.end.CopyEnd.TheVariants.{IsThere as NewIsThere, Full as NewIsFull}
+use Rattle.file_copying.specs.NewPlace.{folder_of, last_part}
+use Rattle.file_copying.specs.CopiedPath.{CopiesPath, copy_paths}
+use Rattle.file_copying.specs.declared.end.CopyEnd.TheVariants.{Whole, Refused, Damaged}
+use Rattle.file_copying.specs.declared.end.CopyEnd.TheVariants.{IsThere as NewIsThere, Full as NewIsFull}
 use Rattle.command_words.specs.Asks.{AskCopy}
 use Rattle.command_words.specs.declared.request.Request.{Request}
 use Rattle.command_words.specs.declared.request.Request.TheVariants.{Copy}

@@ -27,9 +27,9 @@ use Rattle.command_outcomes.specs.declared.outcome.Outcome.TheVariants.{SchemaTo
 use Rattle.command_outcomes.specs.declared.outcome.Outcome.TheVariants.{SchemaRefused, Explained, Listed}
 use Rattle.command_outcomes.specs.declared.outcome.Outcome.TheVariants.{CheckedAll, Records, InCobol, Loaded}
 use Rattle.command_outcomes.specs.declared.outcome.Outcome.TheVariants.{Counted, OtherSchema, Salvaged, Copied}
-use Rattle.path_copying.specs.declared.end.CopyEnd.{CopyEnd}
-use Rattle.path_copying.specs.declared.end.CopyEnd.TheVariants.{Whole, Refused, Damaged, Full}
-use Rattle.path_copying.specs.declared.end.CopyEnd.TheVariants.{IsThere as NewIsThere}
+use Rattle.file_copying.specs.declared.end.CopyEnd.{CopyEnd}
+use Rattle.file_copying.specs.declared.end.CopyEnd.TheVariants.{Whole, Refused, Damaged, Full}
+use Rattle.file_copying.specs.declared.end.CopyEnd.TheVariants.{IsThere as NewIsThere}
 use Rattle.salvaged_records.specs.declared.salvaging.Salvage.{Salvage}
 use Rattle.salvaged_records.specs.declared.salvaging.Salvage.TheVariants.{All as AllSalvaged, Slots}
 use Rattle.salvaged_records.specs.declared.salvaging.Salvage.TheVariants.{Unsound as NotSalvaged}

@@ -17,10 +17,10 @@ use Rattle.open_file.specs.Stands.{Stands}
 use Rattle.open_file.specs.declared.open_file.OpenFile.{OpenFile}
 use Rattle.shelf_file.specs.Opening.{counted_shelf}
 use Rattle.tree_building.specs.Fresh.{IsBuildCause}
-use Rattle.file_building.specs.Fault.{IsCopyCause, IsCopyAnswer, IsNoDamage as IsNoCopyDamage}
-use Rattle.file_building.specs.Opening.{IsOpenedLike}
-use Rattle.file_building.specs.declared.fault.CopyFault.{CopyFault}
-use Rattle.file_building.specs.declared.fault.CopyFault.TheVariants.{Reading, Writing}
+use Rattle.file_copying.specs.CopyFault.{IsCopyCause, IsCopyAnswer, IsNoDamage as IsNoCopyDamage}
+use Rattle.file_copying.specs.Opening.{IsOpenedLike}
+use Rattle.file_copying.specs.declared.copy_fault.CopyFault.{CopyFault}
+use Rattle.file_copying.specs.declared.copy_fault.CopyFault.TheVariants.{Reading, Writing}
 use Rattle.file_copying.specs.declared.fault.CopyingFault.{CopyingFault}
 use Rattle.file_copying.specs.declared.fault.CopyingFault.TheVariants.{Reading as NotRead, Writing as NotWritten}
 use Rattle.file_copying.specs.Faults.{copying_fault_of, IsReadingCause, IsMovingCause, IsNoSourceDamage}

@@ -17,8 +17,8 @@ use Rattle.file_header.specs.declared.header.Header.{Header}
 use Rattle.open_file.specs.Fields.{file_schema}
 use Rattle.shelf_file.specs.Opening.{counted_shelf}
 use Rattle.shelf_file.specs.Shelves.{IsOpened}
-use Rattle.file_parts.specs.declared.file_parts.FileParts.{FileParts}
-use Rattle.file_parts.specs.Parts.{joined_file}
+use Rattle.file_copying.specs.declared.file_parts.FileParts.{FileParts}
+use Rattle.file_copying.specs.Parts.{joined_file}
 use Rattle.file_copying.specs.declared.fault.Copied.{Copied}
 use Rattle.file_copying.specs.declared.fault.CopyingFault.{CopyingFault}
 use Rattle.file_copying.specs.declared.fault.CopyingFault.TheVariants.{NoneToCopy, NotAccepted, IsThere, Reading, Writing}

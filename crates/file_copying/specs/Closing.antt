@@ -13,8 +13,8 @@ use Rattle.shelf_file.specs.ClosedFile.{AreClosed}
 use Rattle.shelf_file.specs.Opening.{CountedShelf, counted_shelf}
 use Rattle.shelf_file.specs.Shelves.{ClosedFileOrRefused}
 use Rattle.shelf_file.specs.Standing.{IsReady, StandsFor}
-use Rattle.file_parts.specs.declared.file_parts.FileParts.{FileParts}
-use Rattle.file_parts.specs.Parts.{joined_file}
+use Rattle.file_copying.specs.declared.file_parts.FileParts.{FileParts}
+use Rattle.file_copying.specs.Parts.{joined_file}
 use Rattle.file_copying.specs.declared.fault.Copied.{Copied}
 use Rattle.file_copying.specs.declared.fault.CopyingFault.{CopyingFault}
 use Rattle.file_copying.specs.Faults.{IsClosingCause}

@@ -3,8 +3,8 @@ use Rattle.std.specs.Prelude.{◌≡◌, ◌≢◌, ⊤, Result, IfOk, IfErr}
 use Rattle.io_state.specs.declared.fault.Fault.{Fault}
 use Rattle.io_state.specs.declared.fault.Fault.TheVariants.{Device, Memory, Full, Damage, Broken}
 use Rattle.tree_building.specs.Fresh.{IsBuildCause}
-use Rattle.file_building.specs.declared.fault.CopyFault.{CopyFault}
-use Rattle.file_building.specs.declared.fault.CopyFault.TheVariants.{Reading as OfFile, Writing as OfCopy}
+use Rattle.file_copying.specs.declared.copy_fault.CopyFault.{CopyFault}
+use Rattle.file_copying.specs.declared.copy_fault.CopyFault.TheVariants.{Reading as OfFile, Writing as OfCopy}
 use Rattle.file_copying.specs.declared.fault.CopyingFault.{CopyingFault}
 use Rattle.file_copying.specs.declared.fault.CopyingFault.TheVariants.{NoneToCopy, NotAccepted, IsThere, Reading, Writing}
 

@@ -13,8 +13,8 @@ use Rattle.open_file.specs.Fields.{has_broken, file_schema}
 use Rattle.open_file.specs.Stands.{Stands, IsShaped}
 use Rattle.shelf_file.specs.Opening.{CountedShelf, counted_shelf}
 use Rattle.shelf_file.specs.Standing.{IsReady, StandsFor}
-use Rattle.file_parts.specs.declared.file_parts.FileParts.{FileParts}
-use Rattle.file_parts.specs.Parts.{joined_file}
+use Rattle.file_copying.specs.declared.file_parts.FileParts.{FileParts}
+use Rattle.file_copying.specs.Parts.{joined_file}
 use Rattle.file_copying.specs.declared.fault.CopyingFault.{CopyingFault}
 use Rattle.file_copying.specs.Faults.{IsMovingCause, IsCopyingAnswer}
 

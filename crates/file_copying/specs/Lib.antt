@@ -1,5 +1,16 @@
+pub mod Parts
+pub mod CopyFault
+pub mod Walk
+pub mod Rows
+pub mod CopiedRows
+pub mod CopiedEntries
+pub mod Opening
+pub mod Copies
 pub mod Faults
 pub mod Looking
 pub mod Filling
 pub mod Closing
 pub mod Copying
+pub mod NewPlace
+pub mod Attached
+pub mod CopiedPath

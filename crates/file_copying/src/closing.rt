@@ -3,7 +3,7 @@
 ghost use Rattle.file_copying.specs.Closing.{IsReadyParts, ClosesCopy};
 
 use crate::fault::{Copied, CopyingFault};
-use file_parts::FileParts;
+use crate::file_parts::FileParts;
 use page_store::Shelf;
 
 /// Closes the new file, and tells what it has.

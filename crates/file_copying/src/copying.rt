@@ -6,10 +6,10 @@ ghost use Rattle.file_copying.specs.Copying.{CopiesUnit, CopiesByHeader, CanCopy
 
 use crate::closing::close_copy;
 use crate::fault::{Copied, CopyingFault};
+use crate::file_parts::FileParts;
 use crate::filling::fill;
 use crate::looking::{find_no_target, source_header};
 use file_header::Header;
-use file_parts::FileParts;
 use page_alloc::PagedFile;
 use page_store::Shelf;
 use pages::PAGE_SIZE;

@@ -4,9 +4,10 @@ ghost use Rattle.std.specs.Prelude.{◌≡◌};
 ghost use Rattle.file_copying.specs.Faults.{copying_fault_of};
 ghost use Rattle.file_copying.specs.Filling.{CanFill, FillsPages};
 
+use crate::copied_pages::copy_file;
+use crate::copy_fault::CopyFault;
 use crate::fault::CopyingFault;
-use file_building::{CopyFault, copy_file};
-use file_parts::FileParts;
+use crate::file_parts::FileParts;
 use open_file::OpenFile;
 use page_alloc::{FilePages, PagedFile};
 use page_store::Shelf;

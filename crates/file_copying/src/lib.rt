@@ -1,18 +1,37 @@
-//! The closed file of one shelf, copied into a new file of another.
+//! A closed file copied: into pages of its own, into a new file of another shelf, and by paths.
 //!
-//! `copy_closed` looks at a file, makes another, and puts into it what `copy_file` builds of the
-//! pages of the first one. The gate of the new file is open until all is written. So a crash leaves
-//! it absent, refused, or the whole copy. The file that is copied is only read.
+//! `copy_file` puts the rows of an open file into pages of which none was in use: the same records
+//! with the same stamps, in the same order by each key. `copy_closed` does so with a file of one shelf
+//! and a new file of another, whose gate is open until all is written. So a crash leaves it absent,
+//! refused, or the whole copy. `copy_path` does so with the file of a path and a new file of a folder,
+//! each by a system of its own. The file that is copied is only read.
 //!
-//! Which paths the two have, and who asks for a copy, is not known here. Read `specs/Copying.antt`,
-//! then `copying`.
+//! Which words ask for a copy is not known here. Read `specs/Rows.antt`, `specs/Copies.antt` and
+//! `copied_pages`; `specs/Copying.antt` and `copying`; `specs/CopiedPath.antt` and `copied_path`.
 #![tactic(auto)]
 
+mod alternates;
+mod attaching;
 mod closing;
+mod copied_pages;
+mod copied_path;
+mod copy_fault;
 mod copying;
+mod end;
+mod entries;
 mod fault;
+mod file_parts;
 mod filling;
 mod looking;
+mod new_place;
+mod opening;
+mod rows;
+mod rows_builder;
+mod walk;
 
+pub use copied_path::copy_path;
 pub use copying::copy_closed;
+pub use end::CopyEnd;
 pub use fault::{Copied, CopyingFault};
+pub use file_parts::FileParts;
+pub use new_place::{NewPlace, place_of};

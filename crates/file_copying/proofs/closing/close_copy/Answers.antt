@@ -1,5 +1,5 @@
 use Rattle.shelf_file.specs.Standing.{live_of}
-use Rattle.file_parts.specs.Parts.{joined_file}
+use Rattle.file_copying.specs.Parts.{joined_file}
 use Rattle.file_copying.proofs.CopyLemmas.{many}
 use Rattle.file_copying.proofs.closing.close_copy.Goals as goal
 

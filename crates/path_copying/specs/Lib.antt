@@ -1,3 +1,0 @@
-pub mod NewPlace
-pub mod Attached
-pub mod CopiedPath
