@@ -1,6 +1,6 @@
 //! What is told with the help.
 
-use explanation_texts::{faults, reasons, statuses};
+use explanations::{faults, reasons, statuses};
 
 macro_rules! with_faults {
     ([] $($statuses:tt)*) => {

@@ -1,6 +1,6 @@
 //! The tables of what is explained: in each row the number as it is written, and the text.
 
-use explanation_texts::{faults, handler_status, reasons, statuses};
+use crate::{faults, handler_status, reasons, statuses};
 
 macro_rules! row {
     ([$kind:literal] $name:ident $number:literal [$first:literal $($more:literal)*] $text:literal) => {
