@@ -6,10 +6,10 @@ use Rattle.deck_entries.specs.FileDescription.{FileDescription, StorageEntry}
 use Rattle.file_control.specs.Description.{FileDesc, IsFile, AreFiles, with_names}
 use Rattle.deck_reader.specs.declared.deck.Deck.{Deck}
 use Rattle.deck_reader.specs.Deck.{IsDeck}
-use Rattle.record_forms.specs.declared.form.Form.{Form}
-use Rattle.record_forms.specs.declared.form.Form.TheVariants.{Text, Csv, Json}
-use Rattle.record_forms.specs.Parts.{Part, part_of_column, item_parts}
-use Rattle.record_reading.specs.Whole.{AreTiled, IsWholeForm, AreItemsWhole}
+use Rattle.record_text.specs.declared.form.Form.{Form}
+use Rattle.record_text.specs.declared.form.Form.TheVariants.{Text, Csv, Json}
+use Rattle.record_text.specs.Parts.{Part, part_of_column, item_parts}
+use Rattle.record_text.specs.Whole.{AreTiled, IsWholeForm, AreItemsWhole}
 use Rattle.file_commands.specs.DeckFile.{is_named_in_deck, IsFileOf}
 use Rattle.command_line.specs.LoadForm.{IsFormOf}
 

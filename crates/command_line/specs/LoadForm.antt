@@ -2,10 +2,10 @@
 use Rattle.std.specs.Prelude.{◌≡◌, ◌≢◌, ◌⊎◌, List, map, codes}
 use Rattle.clap.specs.Words.{Text as Word}
 use Rattle.file_control.specs.Description.{FileDesc}
-use Rattle.record_forms.specs.declared.column.Column.{Column}
-use Rattle.record_forms.specs.declared.form.Form.{Form}
-use Rattle.record_forms.specs.declared.form.Form.TheVariants.{Text, Csv, Json}
-use Rattle.record_forms.specs.Parts.{part_of_column, item_parts}
+use Rattle.record_text.specs.declared.column.Column.{Column}
+use Rattle.record_text.specs.declared.form.Form.{Form}
+use Rattle.record_text.specs.declared.form.Form.TheVariants.{Text, Csv, Json}
+use Rattle.record_text.specs.Parts.{part_of_column, item_parts}
 use Rattle.file_commands.specs.DeckFile.{IsDeckFault}
 use Rattle.command_outcomes.specs.declared.form_fault.FormFault.TheVariants.{Kind}
 use Rattle.command_outcomes.specs.declared.fault.Fault.{Fault}

@@ -14,7 +14,7 @@ use Rattle.file_control.specs.Description.{FileDesc}
 use Rattle.deck_reader.specs.declared.deck.Deck.{Deck}
 use Rattle.deck_reader.specs.Deck.{IsDeck}
 use Rattle.shelf_run.specs.ShelfRun.{LeavesFiles}
-use Rattle.record_forms.specs.declared.form.Form.{Form}
+use Rattle.record_text.specs.declared.form.Form.{Form}
 use Rattle.page_store.specs.ShelfState.{ShelfState}
 use Rattle.command_words.specs.declared.line_options.LineOptions.{LineOptions}
 use Rattle.record_loading.specs.Passing.{LoadSource}

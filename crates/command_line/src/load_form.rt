@@ -4,7 +4,7 @@ ghost use Rattle.command_line.specs.LoadForm.{form_word, IsNoFormWord, IsFormOf,
 
 use command_outcomes::Fault;
 use file_control::FileDesc;
-use record_forms::{Column, Form, item_columns};
+use record_text::{Column, Form, item_columns};
 use std::alloc::Global;
 
 /// The forms that a text can have.

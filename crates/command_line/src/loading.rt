@@ -1,6 +1,6 @@
 //! The loading of a text into a file of a deck over a folder.
 ghost use Rattle.std.specs.Prelude.{◌≡◌, [], true, false, codes, string_bytes, IfErr};
-ghost use Rattle.record_reading.specs.Whole.{IsWholeForm};
+ghost use Rattle.record_text.specs.Whole.{IsWholeForm};
 ghost use Rattle.command_line.specs.CallsMade.{calls_made};
 ghost use Rattle.command_line.specs.Loaded.{load_of, options_of, load_source, LoadsDescribed, IsShelfFault, LoadsBytes};
 
@@ -11,9 +11,8 @@ use command_words::{Limits, LineOptions};
 use file_commands::{deck_of, file_named, read_text};
 use file_control::FileDesc;
 use folder_shelf::{CallRecord, Disk, FolderShelf, System};
-use record_forms::Form;
 use record_loading::{Load, LoadOptions, RejectLog, ShelfEnd, ShelfFault, load_lines_on_shelf};
-use record_reading::items_are_whole;
+use record_text::{Form, items_are_whole};
 use std::alloc::Global;
 use std::io::{Read, Write};
 use streams::{Progress, StandardInput};

@@ -1,7 +1,7 @@
 -- Why there is no form.
 use Rattle.std.proofs.Common.{rules, ◌≡◌, ◌⊎◌, ℕ, true, List, [], Option, Some, None, Result, Ok, Err, IfErr, inl, inr, refl, sym, ap, subst}
 use Rattle.clap.specs.Words.{Text}
-use Rattle.record_forms.specs.Parts.{do_rise}
+use Rattle.record_text.specs.Parts.{do_rise}
 use Rattle.command_words.specs.Asks.{FormText, form_text}
 use Rattle.command_words.specs.declared.form_words.FormWords.{FormWords}
 use Rattle.folder_shelf.specs.Calls.{Call}

@@ -3,7 +3,7 @@ use Rattle.std.proofs.Common.{◌≡◌, ℕ, List, ◌++◌, Option, Result, Ok
 use Rattle.record_layout.specs.Schema.{Schema}
 use Rattle.record_listing.specs.declared.asked.Asked.{Asked}
 use Rattle.record_listing.specs.declared.end.ListFault.{ListFault}
-use Rattle.record_forms.specs.declared.form.Form.{Form}
+use Rattle.record_text.specs.declared.form.Form.{Form}
 use Rattle.record_listing.specs.FileList.{EndsIn}
 use Rattle.record_listing.specs.declared.file_list.FileList.{FileList}
 use Rattle.command_words.specs.Asks.{form_text}

@@ -2,8 +2,8 @@
 use Rattle.std.proofs.Common.{rules, ◌≡◌, ℕ, Bool, List, [], ◌∷◌, Option, Some, Result, Ok, Err, Bor, refl, sym, ap, subst, ◌∙◌, inl, inr}
 use Rattle.record_layout.specs.Schema.{Schema}
 use Rattle.std.specs.Prelude.{◌≢◌, ◌⊎◌, codes}
-use Rattle.record_forms.specs.declared.form.Form.{Form}
-use Rattle.record_forms.specs.declared.form.Form.TheVariants.{Text}
+use Rattle.record_text.specs.declared.form.Form.{Form}
+use Rattle.record_text.specs.declared.form.Form.TheVariants.{Text}
 use Rattle.salvaged_records.specs.Salvaged.{outputs, with_gate_closed}
 use Rattle.command_words.specs.Asks.{FormText, form_text}
 use Rattle.command_words.specs.declared.form_words.FormWords.{FormWords}

@@ -2,7 +2,7 @@
 use Rattle.std.specs.Prelude.{◌≡◌, ℕ, ◌==◌, true, List, [], ◌∷◌, ⊤}
 use Rattle.std.specs.List.{slice_split}
 use Rattle.command_words.specs.Asks.{IsNumber}
-use Rattle.record_forms.specs.Parts.{do_rise}
+use Rattle.record_text.specs.Parts.{do_rise}
 
 -- the texts before, between and behind the commas of a text
 abbrev pub between_commas : List ℕ → List (List ℕ)

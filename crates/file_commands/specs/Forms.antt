@@ -4,10 +4,10 @@ use Rattle.std.specs.Prelude.{⊤, ◌++◌, Result, Err, IfOk, IfErr}
 use Rattle.clap.specs.Words.{Text as Word}
 use Rattle.record_layout.specs.Schema.{Schema}
 use Rattle.file_control.specs.Description.{FileDesc}
-use Rattle.record_forms.specs.declared.column.Column.{Column}
-use Rattle.record_forms.specs.declared.form.Form.{Form}
-use Rattle.record_forms.specs.declared.form.Form.TheVariants.{Text, Csv, Json}
-use Rattle.record_forms.specs.Parts.{part_of_column, do_rise, cut_parts, item_parts, whole_part}
+use Rattle.record_text.specs.declared.column.Column.{Column}
+use Rattle.record_text.specs.declared.form.Form.{Form}
+use Rattle.record_text.specs.declared.form.Form.TheVariants.{Text, Csv, Json}
+use Rattle.record_text.specs.Parts.{part_of_column, do_rise, cut_parts, item_parts, whole_part}
 use Rattle.command_words.specs.Asks.{FormText, IsNumber, form_text}
 use Rattle.command_words.specs.declared.form_words.FormWords.{FormWords}
 use Rattle.file_commands.specs.declared.forms.Columns.{Columns}

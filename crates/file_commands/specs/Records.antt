@@ -8,7 +8,7 @@ use Rattle.schema_listing.specs.Listing.{read_of_file}
 use Rattle.schema_listing.specs.Comparing.{comparison_of, TellsDifferences}
 use Rattle.schema_listing.specs.declared.comparing.Comparison.TheVariants.{Same, Different}
 use Rattle.record_listing.specs.declared.asked.Asked.{Asked}
-use Rattle.record_forms.specs.declared.form.Form.{Form}
+use Rattle.record_text.specs.declared.form.Form.{Form}
 use Rattle.record_listing.specs.FileList.{EndsWithIn}
 use Rattle.record_listing.specs.declared.file_list.FileList.{FileList}
 use Rattle.record_listing.specs.declared.end.ListFault.{ListFault}

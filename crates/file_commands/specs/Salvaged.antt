@@ -5,8 +5,8 @@ use denote.Ref.{Bor}
 use Rattle.clap.specs.Words.{Text as Word}
 use Rattle.record_layout.specs.Schema.{Schema}
 use Rattle.file_control.specs.Description.{FileDesc}
-use Rattle.record_forms.specs.declared.form.Form.{Form}
-use Rattle.record_forms.specs.declared.form.Form.TheVariants.{Text}
+use Rattle.record_text.specs.declared.form.Form.{Form}
+use Rattle.record_text.specs.declared.form.Form.TheVariants.{Text}
 use Rattle.salvaged_records.specs.Salvaged.{EndsWith, Outputs, outputs, with_gate_closed}
 use Rattle.command_words.specs.Asks.{FormText}
 use Rattle.file_commands.specs.Forms.{IsFormBy, IsFormRefused}

@@ -8,7 +8,7 @@ use Rattle.file_checker.specs.Numbers.{number_of}
 use Rattle.file_checker.specs.Sound.{IsRight}
 use Rattle.file_checker.specs.declared.verdict.Verdict.{Verdict}
 use Rattle.file_checker.specs.declared.verdict.Verdict.TheVariants.{Sound, Unsound}
-use Rattle.record_forms.specs.Columns.{text_of}
+use Rattle.record_text.specs.Columns.{text_of}
 use Rattle.system_files.specs.declared.cause.Cause.{Cause}
 use Rattle.folder_shelf.specs.Calls.{Call}
 use Rattle.file_commands.specs.Front.{OfCountedFile, IsUnreadBy}

@@ -11,8 +11,8 @@ use crate::deck::{deck_at, file_in};
 use command_outcomes::{Fault, FormFault};
 use command_words::FormWords;
 use folder_shelf::System;
-use record_forms::{Column, CutFault, Form, cut_columns, item_columns, whole_column};
 use record_layout::Schema;
+use record_text::{Column, CutFault, Form, cut_columns, item_columns, whole_column};
 use std::alloc::Global;
 use std::io::Read;
 

@@ -1,7 +1,7 @@
 //! A path as it is shown: with the escapes of the transcript, so that no byte of it ends a line.
 ghost use Rattle.std.specs.Prelude.{◌≡◌, ◌≤◌, ◌++◌, OnOk};
 ghost use Rattle.deck_runner.specs.Line.{hex_digit, shown_byte};
-ghost use Rattle.record_forms.specs.Columns.{text_of};
+ghost use Rattle.record_text.specs.Columns.{text_of};
 
 use std::alloc::AllocError;
 

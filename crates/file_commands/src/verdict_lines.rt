@@ -1,6 +1,6 @@
 //! The lines that tell of files that were checked.
 ghost use Rattle.std.specs.Prelude.{◌≡◌, ◌++◌, codes, decimal, IfOk, OnOk};
-ghost use Rattle.record_forms.specs.Columns.{text_of};
+ghost use Rattle.record_text.specs.Columns.{text_of};
 ghost use Rattle.file_commands.specs.Verdicts.{verdict_line, behind_path, IsUnreadLine};
 
 use crate::shown::add_shown;

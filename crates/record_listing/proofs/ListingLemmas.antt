@@ -14,7 +14,7 @@ use Rattle.indexed_file.specs.Shown.{Shown}
 use Rattle.record_listing.specs.declared.asked.Asked.{Asked}
 use Rattle.record_listing.specs.declared.rows.Stop.{Stop}
 use Rattle.record_listing.specs.declared.rows.Stop.TheVariants.{Library as GaveUp, Output as NotTaken}
-use Rattle.record_forms.specs.declared.form.Form.{Form}
+use Rattle.record_text.specs.declared.form.Form.{Form}
 use Rattle.record_listing.specs.Lines.{list_of}
 use Rattle.record_listing.specs.Reading.{IsWritten, IsWrittenInPart, MayStop, OnlyReadsUnit, rows_asked}
 use Rattle.record_listing.specs.Listing.{end_by, list_end_of, WritesFront, ListBreaksOff, EndsList, TellsWhy}

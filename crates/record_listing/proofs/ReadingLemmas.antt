@@ -4,9 +4,9 @@ use Rattle.std.specs.Io.KnownBytes.{Appends}
 use Rattle.std.proofs.KnownBytes.{Appends-nil, Appends-trans}
 use Rattle.std.proofs.lemmas.Grind.{flat_map-append}
 use Rattle.indexed_file.specs.File.{Row}
-use Rattle.record_forms.specs.declared.form.Form.{Form}
-use Rattle.record_forms.specs.Lines.{line_in, form_header}
-use Rattle.record_forms.specs.Room.{AddsInRoom, IsLineRoom}
+use Rattle.record_text.specs.declared.form.Form.{Form}
+use Rattle.record_text.specs.Lines.{line_in, form_header}
+use Rattle.record_text.specs.Room.{AddsInRoom, IsLineRoom}
 use Rattle.record_listing.specs.Lines.{lines_of_rows, list_of}
 use Rattle.streams.specs.Output.{AppendsFront, HoldsText}
 use Rattle.streams.specs.declared.output.Refused.{Refused}

@@ -10,8 +10,8 @@ use Rattle.indexed_file.specs.File.{Row, File}
 use Rattle.indexed_file.specs.World.{World, name_at, schema_at, file_at}
 use Rattle.indexed_file.specs.Believed.{Believed}
 use Rattle.indexed_file.specs.Shown.{Shown}
-use Rattle.record_forms.specs.declared.form.Form.{Form}
-use Rattle.record_forms.specs.Lines.{line_in}
+use Rattle.record_text.specs.declared.form.Form.{Form}
+use Rattle.record_text.specs.Lines.{line_in}
 use Rattle.record_listing.specs.Lines.{lines_of_rows}
 use Rattle.streams.specs.Output.{AppendsFront, HoldsText}
 use Rattle.record_listing.specs.Reading.{OnlyReadsUnit, rows_from, RowsGoOn, ComesNext, IsOnItsWay, IsWrittenInPart}

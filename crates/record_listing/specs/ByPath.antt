@@ -1,6 +1,6 @@
 -- What a list of a file that is read by its path promises. All of this is ours.
 use Rattle.std.specs.Prelude.{◌≡◌, ℕ, List, ◌++◌, Option, Result, IsTrue}
-use Rattle.record_forms.specs.declared.form.Form.{Form}
+use Rattle.record_text.specs.declared.form.Form.{Form}
 use Rattle.record_listing.specs.declared.asked.Asked.{Asked}
 use Rattle.record_listing.specs.declared.end.ListEnd.{ListEnd}
 use Rattle.record_listing.specs.declared.end.ListFault.{ListFault}

@@ -9,8 +9,8 @@ use Rattle.shelf_file.specs.ClosedFile.{AreClosed}
 use Rattle.shelf_run.specs.Files.{Represents}
 use Rattle.file_checker.specs.Sound.{IsRight}
 use Rattle.file_checker.specs.declared.verdict.Verdict.TheVariants.{Unsound as IsRefused}
-use Rattle.record_forms.specs.declared.form.Form.{Form}
-use Rattle.record_forms.specs.declared.form.Form.TheVariants.{Text}
+use Rattle.record_text.specs.declared.form.Form.{Form}
+use Rattle.record_text.specs.declared.form.Form.TheVariants.{Text}
 use Rattle.record_listing.specs.declared.asked.Asked.{Asked}
 use Rattle.record_listing.specs.declared.end.ListEnd.{ListEnd}
 use Rattle.record_listing.specs.declared.end.ListFault.{ListFault}

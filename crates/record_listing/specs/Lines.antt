@@ -1,8 +1,8 @@
 -- The list of rows: a line for each, in the form that is asked for.
 use Rattle.std.specs.Prelude.{ℕ, List, ◌++◌, flat_map}
 use Rattle.indexed_file.specs.File.{Row}
-use Rattle.record_forms.specs.declared.form.Form.{Form}
-use Rattle.record_forms.specs.Lines.{text_line, line_in, form_header}
+use Rattle.record_text.specs.declared.form.Form.{Form}
+use Rattle.record_text.specs.Lines.{text_line, line_in, form_header}
 
 -- the line of a record as text
 abbrev pub record_text_line : List ℕ → List ℕ

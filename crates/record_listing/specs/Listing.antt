@@ -19,7 +19,7 @@ use Rattle.record_listing.specs.declared.end.ListFault.TheVariants.{Input, Outpu
 use Rattle.record_listing.specs.declared.rows.Stop.{Stop}
 use Rattle.record_listing.specs.declared.rows.Stop.TheVariants.{Library as GaveUp, Output as NotTaken}
 use Rattle.record_listing.specs.Listed.{AreListed}
-use Rattle.record_forms.specs.declared.form.Form.{Form}
+use Rattle.record_text.specs.declared.form.Form.{Form}
 use Rattle.record_listing.specs.Lines.{list_of}
 
 -- what a fault of the library makes of a list

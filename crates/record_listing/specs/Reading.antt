@@ -23,11 +23,11 @@ use Rattle.record_listing.specs.declared.asked.Asked.{Asked}
 use Rattle.record_listing.specs.declared.rows.Stop.{Stop}
 use Rattle.record_listing.specs.declared.rows.Stop.TheVariants.{Library as GaveUp, Output as NotTaken}
 use Rattle.record_listing.specs.Listed.{is_past}
-use Rattle.record_forms.specs.declared.form.Form.{Form}
+use Rattle.record_text.specs.declared.form.Form.{Form}
 use Rattle.streams.specs.Output.{AppendsFront, HoldsText}
 use Rattle.streams.specs.declared.output.Refused.{Refused}
 use Rattle.record_listing.specs.Lines.{lines_of_rows, list_of}
-use Rattle.record_forms.specs.Lines.{line_in}
+use Rattle.record_text.specs.Lines.{line_in}
 
 -- unit 0 has an open file that is not broken, which has key k and records of so many bytes at most
 pub record HasOpenFile {S : Type 0} (shown : Shown S) (library : S) (k greatest : ℕ) : Type 0 where

@@ -9,7 +9,7 @@ use crate::file_bytes::FileBytes;
 use crate::listing::list_records;
 use file_checker::{Reason, Verdict, check_bytes};
 use io_state::FileName;
-use record_forms::Form;
+use record_text::Form;
 use shelf_library::ShelfLibrary;
 use std::alloc::Global;
 use std::io::Write;

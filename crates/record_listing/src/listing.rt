@@ -12,8 +12,8 @@ use crate::end::{ListEnd, ListFault, end_by};
 use crate::rows::{Stop, write_rows};
 use indexed_file::{Library, Seen};
 use io_state::{Fault, FileName};
-use record_forms::Form;
 use record_layout::Schema;
+use record_text::Form;
 use std::alloc::Global;
 use std::io::Write;
 

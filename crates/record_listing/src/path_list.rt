@@ -6,7 +6,7 @@ use crate::asked::Asked;
 use crate::end::{ListEnd, ListFault};
 use crate::shelf_list::list_shelf;
 use folder_shelf::{CallRecord, Disk, PathShelf, System};
-use record_forms::Form;
+use record_text::Form;
 use std::alloc::Global;
 use std::io::Write;
 

@@ -1,8 +1,8 @@
 //! The records of an open file, one after another.
 ghost use Rattle.std.specs.Prelude.{◌≡◌, ◌≤◌, ◌⊎◌, [], length, take, vec_capacity, IfOk, IfErr, IsTrue, IsFalse, true};
 ghost use Rattle.std.specs.Prelude.{false};
-ghost use Rattle.record_forms.specs.Lines.{form_header};
-ghost use Rattle.record_forms.specs.Room.{IsLineRoom};
+ghost use Rattle.record_text.specs.Lines.{form_header};
+ghost use Rattle.record_text.specs.Room.{IsLineRoom};
 ghost use Rattle.record_listing.specs.Reading.{CanListFile, BringsOut, WritesOut, IsWritten, HandsOver};
 ghost use Rattle.record_listing.specs.Reading.{HoldsRecord};
 
@@ -10,7 +10,7 @@ use crate::asked::Asked;
 use crate::next::next_record;
 use indexed_file::{Found, Library};
 use io_state::{Fault, Key, Position};
-use record_forms::{Form, append_header, append_line, line_room};
+use record_text::{Form, append_header, append_line, line_room};
 use std::alloc::{AllocError, Global};
 use std::io::Write;
 use streams::{HeldText, Refused, write_text};

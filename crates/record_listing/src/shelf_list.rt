@@ -7,7 +7,7 @@ use crate::end::{ListEnd, ListFault};
 use crate::listing::list_records;
 use io_state::FileName;
 use page_store::Shelf;
-use record_forms::Form;
+use record_text::Form;
 use shelf_library::ShelfLibrary;
 use std::alloc::Global;
 use std::io::Write;

@@ -16,11 +16,11 @@ use Rattle.verbs.specs.Held.{Held, silent}
 use Rattle.verbs.specs.Fits.{Fits}
 use Rattle.verbs.specs.Performed.{FileInMemory, IsPerformed, Trusted, in_memory, state_in}
 use Rattle.verbs.proofs.WorldLemmas.{only_twice}
-use Rattle.record_forms.specs.declared.form.Form.{Form}
+use Rattle.record_text.specs.declared.form.Form.{Form}
 use Rattle.record_listing.proofs.WorldLemmas.{keeps_self, keeps_both, still_true}
-use Rattle.record_reading.specs.ReadLine.{ReadsRecord, BeginsWithNoRecord}
-use Rattle.record_reading.specs.Mistake.{IsLineMistake}
-use Rattle.record_reading.specs.declared.mistake.LineMistake.{LineMistake}
+use Rattle.record_text.specs.ReadLine.{ReadsRecord, BeginsWithNoRecord}
+use Rattle.record_text.specs.Mistake.{IsLineMistake}
+use Rattle.record_text.specs.declared.mistake.LineMistake.{LineMistake}
 use Rattle.record_loading.specs.declared.options.LoadOptions.{LoadOptions}
 use Rattle.record_loading.specs.declared.rejected.RejectReason.TheVariants.{Refused, NoRecord}
 use Rattle.record_loading.specs.declared.writing.PassedLine.TheVariants.{Written, Replaced, Rejected, Stopped}

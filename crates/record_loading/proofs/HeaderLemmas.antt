@@ -1,12 +1,12 @@
 -- How long lines are, and what stands before the first one.
 use Rattle.std.proofs.Common.{◌≡◌, ◌≤◌, ℕ, ◌+◌, List, [], ◌∷◌, ◌++◌, length, take, map, ap, arith, length-append}
-use Rattle.record_forms.specs.declared.form.Form.{Form}
-use Rattle.record_forms.specs.declared.form.Form.TheVariants.{Text, Csv, Json}
-use Rattle.record_forms.specs.Columns.{column_value, column_name}
-use Rattle.record_forms.specs.Csv.{fields}
-use Rattle.record_forms.specs.Lines.{line_in, form_header}
-use Rattle.record_reading.specs.ReadLine.{ReadsLine}
-use Rattle.record_reading.specs.Header.{header_lines}
+use Rattle.record_text.specs.declared.form.Form.{Form}
+use Rattle.record_text.specs.declared.form.Form.TheVariants.{Text, Csv, Json}
+use Rattle.record_text.specs.Columns.{column_value, column_name}
+use Rattle.record_text.specs.Csv.{fields}
+use Rattle.record_text.specs.Lines.{line_in, form_header}
+use Rattle.record_text.specs.ReadLine.{ReadsLine}
+use Rattle.record_text.specs.Header.{header_lines}
 
 line_some : (form : Form) (bytes : List ℕ) → 1 ≤ length (line_in form bytes)
 line_some Text bytes = omega arith

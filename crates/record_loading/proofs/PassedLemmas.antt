@@ -3,7 +3,7 @@ use Rattle.std.proofs.Common.{◌≡◌, ℕ, suc, ◌+◌, List, [], ◌∷◌,
 use Rattle.std.specs.Prelude.{IsTrue}
 use Rattle.record_layout.specs.Schema.{Schema}
 use Rattle.verbs.specs.Connector.{FileState}
-use Rattle.record_forms.specs.Lines.{form_header}
+use Rattle.record_text.specs.Lines.{form_header}
 use Rattle.record_loading.specs.declared.rejected.RejectReason.{RejectReason}
 use Rattle.record_loading.specs.declared.rejected.RejectReason.TheVariants.{Refused, NoRecord}
 use Rattle.record_loading.specs.Passing.{LoadSource, Place, from_to, number_of_line, rejected_line, IsRecordWritten, IsRecordReplaced, IsRejected, IsEnd, lines_end}

@@ -6,9 +6,9 @@ use Rattle.indexed_file.specs.Shown.{Shown}
 use Rattle.record_layout.specs.Schema.{Schema}
 use Rattle.verbs.specs.Fits.{Fits}
 use Rattle.verbs.specs.Performed.{FileInMemory, Trusted, in_memory, state_in}
-use Rattle.record_forms.specs.Lines.{form_header}
-use Rattle.record_reading.specs.Header.{header_lines}
-use Rattle.record_reading.specs.Whole.{IsWholeForm}
+use Rattle.record_text.specs.Lines.{form_header}
+use Rattle.record_text.specs.Header.{header_lines}
+use Rattle.record_text.specs.Whole.{IsWholeForm}
 use Rattle.record_loading.specs.declared.end.LinesEnd.TheVariants.{Loaded}
 use Rattle.record_loading.specs.declared.rejected.RejectReason.{RejectReason}
 use Rattle.record_loading.specs.declared.rejected.RejectedLine.{RejectedLine}

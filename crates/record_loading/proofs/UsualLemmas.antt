@@ -5,7 +5,7 @@ use Rattle.indexed_file.specs.World.{Named}
 use Rattle.io_state.specs.declared.modes.OpenMode.{OpenMode}
 use Rattle.page_store.specs.ShelfState.{ShelfState}
 use Rattle.verbs.specs.Connector.{FileState}
-use Rattle.record_forms.specs.declared.form.Form.{Form}
+use Rattle.record_text.specs.declared.form.Form.{Form}
 use Rattle.record_loading.specs.declared.end.Load.{Load}
 use Rattle.record_loading.specs.declared.end.Load.TheVariants.{New, Into}
 use Rattle.record_loading.specs.declared.end.LinesEnd.{LinesEnd}

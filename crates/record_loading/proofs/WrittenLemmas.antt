@@ -23,8 +23,8 @@ use Rattle.verbs.specs.Marred.{Step}
 use Rattle.verbs.specs.Verbs.{perform}
 use Rattle.verbs.specs.Writing.{write_in, written_record, rewrite_in, rewritten, changed}
 use Rattle.deck_runner.proofs.CleanLemmas.{clean_step}
-use Rattle.record_forms.specs.declared.form.Form.{Form}
-use Rattle.record_reading.specs.ReadLine.{ReadsRecord}
+use Rattle.record_text.specs.declared.form.Form.{Form}
+use Rattle.record_text.specs.ReadLine.{ReadsRecord}
 use Rattle.record_loading.specs.declared.options.LoadOptions.{LoadOptions}
 use Rattle.record_loading.specs.Passing.{Passing, CanBeRecord, with_record, write_of, rewrite_of, is_refused_for_keys, replaces_nothing, ends_lines}
 use Rattle.record_loading.specs.Passing.{IsRecordWritten, IsRefusedForKeys, IsRefusal, IsRecordReplaced, IsNotReplaced, IsReplacingEnd}

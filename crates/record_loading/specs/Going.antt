@@ -11,8 +11,8 @@ use Rattle.verbs.specs.Connector.{FileState}
 use Rattle.verbs.specs.Fits.{Fits}
 use Rattle.verbs.specs.Held.{Held, state_of, held_at_start}
 use Rattle.verbs.specs.Performed.{FileInMemory, StaysStanding, Trusted, in_memory, state_in}
-use Rattle.record_forms.specs.declared.form.Form.{Form}
-use Rattle.record_reading.specs.Whole.{IsWholeForm}
+use Rattle.record_text.specs.declared.form.Form.{Form}
+use Rattle.record_text.specs.Whole.{IsWholeForm}
 use Rattle.record_loading.specs.declared.end.LinesEnd.{LinesEnd}
 use Rattle.record_loading.specs.declared.end.LoadEnd.{LoadEnd}
 use Rattle.record_loading.specs.declared.options.LoadOptions.{LoadOptions}

@@ -14,11 +14,11 @@ use Rattle.record_listing.specs.Listing.{TrueFor}
 use Rattle.verbs.specs.Connector.{FileState, closed_connector, answers}
 use Rattle.verbs.specs.Marred.{Step}
 use Rattle.verbs.specs.Verbs.{perform}
-use Rattle.record_forms.specs.declared.form.Form.{Form}
-use Rattle.record_forms.specs.Lines.{form_header}
-use Rattle.record_reading.specs.Header.{LacksHeader}
-use Rattle.record_reading.specs.declared.mistake.LineMistake.{LineMistake}
-use Rattle.record_reading.specs.declared.mistake.LineMistake.TheVariants.{Names}
+use Rattle.record_text.specs.declared.form.Form.{Form}
+use Rattle.record_text.specs.Lines.{form_header}
+use Rattle.record_text.specs.Header.{LacksHeader}
+use Rattle.record_text.specs.declared.mistake.LineMistake.{LineMistake}
+use Rattle.record_text.specs.declared.mistake.LineMistake.TheVariants.{Names}
 use Rattle.record_loading.specs.declared.end.Load.{Load}
 use Rattle.record_loading.specs.declared.end.Load.TheVariants.{New, Into}
 use Rattle.record_loading.specs.declared.end.LinesEnd.{LinesEnd}

@@ -1,13 +1,13 @@
 -- The line that tells what is wrong with a line that is no record's. Its form is ours.
 use Rattle.std.specs.Prelude.{ℕ, ◌/◌, ◌%◌, ◌==◌, List, [], ◌∷◌, ◌++◌, codes, decimal, if◌then◌else◌}
 use Rattle.deck_runner.specs.Line.{hex_digit}
-use Rattle.record_reading.specs.declared.mistake.Stray.{Stray}
-use Rattle.record_reading.specs.declared.mistake.Stray.TheVariants.{End, Backslash, Char}
-use Rattle.record_reading.specs.declared.mistake.ValueMistake.{ValueMistake}
-use Rattle.record_reading.specs.declared.mistake.ValueMistake.TheVariants as of_value
-use Rattle.record_reading.specs.declared.mistake.ColumnMistake.{ColumnMistake}
-use Rattle.record_reading.specs.declared.mistake.LineMistake.{LineMistake}
-use Rattle.record_reading.specs.declared.mistake.LineMistake.TheVariants as of_line
+use Rattle.record_text.specs.declared.mistake.Stray.{Stray}
+use Rattle.record_text.specs.declared.mistake.Stray.TheVariants.{End, Backslash, Char}
+use Rattle.record_text.specs.declared.mistake.ValueMistake.{ValueMistake}
+use Rattle.record_text.specs.declared.mistake.ValueMistake.TheVariants as of_value
+use Rattle.record_text.specs.declared.mistake.ColumnMistake.{ColumnMistake}
+use Rattle.record_text.specs.declared.mistake.LineMistake.{LineMistake}
+use Rattle.record_text.specs.declared.mistake.LineMistake.TheVariants as of_line
 use Rattle.record_loading.specs.declared.end.LinesEnd.TheVariants.{Loaded, Refused, NoRecord}
 use Rattle.record_loading.specs.declared.end.LoadEnd.{LoadEnd}
 use Rattle.record_loading.specs.declared.end.LoadEnd.TheVariants.{NotOpened, Opened}

@@ -11,12 +11,12 @@ use Rattle.verbs.specs.Connector.{FileState, Outcome, answers}
 use Rattle.verbs.specs.Fits.{IsRecordOf}
 use Rattle.verbs.specs.Marred.{Step}
 use Rattle.verbs.specs.Verbs.{perform}
-use Rattle.record_forms.specs.declared.form.Form.{Form}
-use Rattle.record_forms.specs.Lines.{line_in}
-use Rattle.record_reading.specs.ReadLine.{AreBytes, BeginsWithNoRecord}
-use Rattle.record_reading.specs.Header.{header_lines}
-use Rattle.record_reading.specs.Mistake.{IsLineMistake}
-use Rattle.record_reading.specs.declared.mistake.LineMistake.{LineMistake}
+use Rattle.record_text.specs.declared.form.Form.{Form}
+use Rattle.record_text.specs.Lines.{line_in}
+use Rattle.record_text.specs.ReadLine.{AreBytes, BeginsWithNoRecord}
+use Rattle.record_text.specs.Header.{header_lines}
+use Rattle.record_text.specs.Mistake.{IsLineMistake}
+use Rattle.record_text.specs.declared.mistake.LineMistake.{LineMistake}
 use Rattle.record_loading.specs.declared.end.LinesEnd.{LinesEnd}
 use Rattle.record_loading.specs.declared.end.LinesEnd.TheVariants as ends
 use Rattle.record_loading.specs.declared.options.LoadOptions.{LoadOptions}

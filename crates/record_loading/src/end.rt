@@ -3,7 +3,7 @@ ghost use Rattle.std.specs.Prelude.{◌≡◌};
 ghost use Rattle.record_loading.specs.Loading.{mode_of};
 
 use io_state::{OpenMode, Status};
-use record_reading::LineMistake;
+use record_text::LineMistake;
 use thiserror::Error;
 
 /// Into what records are loaded.

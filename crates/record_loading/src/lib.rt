@@ -15,7 +15,7 @@
 //! between. `add_answer` makes the lines that tell of a load, and `write_mistake` the line that tells
 //! what is wrong with a line that is no record's.
 //!
-//! Read `record_reading` for a line, `specs/Passing.antt` for what comes of a line, `specs/Loading.antt`
+//! Read `record_text` for a line, `specs/Passing.antt` for what comes of a line, `specs/Loading.antt`
 //! for what is promised, and then `loading`;
 //! `specs/Loaded.antt`, `specs/Answer.antt` and `shelf_load` for files of a shelf.
 #![tactic(auto)]

@@ -10,7 +10,7 @@ ghost use Rattle.record_loading.specs.MistakeLine.{line_mistake_text, mistake_li
 use crate::end::{LinesEnd, LoadEnd};
 use crate::rejected::RejectReason;
 use itoa::Buffer;
-use record_reading::{ColumnMistake, LineMistake, Stray, ValueMistake};
+use record_text::{ColumnMistake, LineMistake, Stray, ValueMistake};
 use std::io::{self, Write};
 
 /// Writes a number.

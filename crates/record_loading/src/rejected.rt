@@ -3,7 +3,7 @@ ghost use Rattle.std.specs.Prelude.{◌≡◌};
 ghost use Rattle.record_loading.specs.Passing.{is_refused_for_keys, replaces_nothing};
 
 use io_state::Status;
-use record_reading::LineMistake;
+use record_text::LineMistake;
 
 /// Why a line is rejected.
 #[derive(Clone, Copy, Debug, PartialEq, Eq)]

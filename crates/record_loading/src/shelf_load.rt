@@ -1,6 +1,6 @@
 //! The loading.
 ghost use Rattle.std.specs.Prelude.{◌≡◌, ◌≤◌, [], IsTrue, IfOk, OnOk, OnErr, ⊤};
-ghost use Rattle.record_reading.specs.Whole.{IsWholeForm};
+ghost use Rattle.record_text.specs.Whole.{IsWholeForm};
 ghost use Rattle.record_loading.specs.Loading.{listing, listing_by};
 ghost use Rattle.record_loading.specs.Loaded.{TellsLoadEnd};
 ghost use Rattle.record_loading.specs.Loaded.{EndsLoad, EndsAnyhow, LoadsInto, TellsIfThere};
@@ -12,8 +12,8 @@ use crate::rejected::{RejectLog, RejectedLine};
 use crate::shelf_end::{ShelfEnd, ShelfFault, end_of, fault_by};
 use io_state::{Fault, FileName};
 use page_store::Shelf;
-use record_forms::Form;
 use record_layout::Schema;
+use record_text::Form;
 use shelf_library::ShelfLibrary;
 use std::alloc::Global;
 use std::num::NonZeroUsize;

@@ -1,6 +1,6 @@
 //! The records of lines are written into an open file.
 ghost use Rattle.std.specs.Prelude.{◌≡◌, ◌++◌, ◌<◌, length};
-ghost use Rattle.record_forms.specs.Lines.{form_header};
+ghost use Rattle.record_text.specs.Lines.{form_header};
 ghost use Rattle.io_state.specs.declared.statement.FileStatement.TheVariants.{Rewrite};
 ghost use Rattle.verbs.specs.Fits.{MayPerform};
 ghost use Rattle.verbs.specs.Performed.{in_memory};
@@ -18,8 +18,7 @@ use crate::rejected::{
 };
 use indexed_file::Library;
 use io_state::Status;
-use record_forms::Form;
-use record_reading::{LineMistake, behind_header, header_lines, record_or_mistake};
+use record_text::{Form, LineMistake, behind_header, header_lines, record_or_mistake};
 use streams::Progress;
 use verbs::Connector;
 

@@ -5,8 +5,8 @@ use Rattle.std.specs.Io.KnownBytes.{Appends}
 use Rattle.std.proofs.KnownBytes.{Appends-nil, Appends-trans}
 use Rattle.std.proofs.lemmas.List.{map_push, take_more}
 use Rattle.std.proofs.lemmas.Grind.{flat_map-append}
-use Rattle.record_forms.specs.Room.{AddsInRoom, Grows}
-use Rattle.record_forms.specs.declared.form.Form.{Form}
+use Rattle.record_text.specs.Room.{AddsInRoom, Grows}
+use Rattle.record_text.specs.declared.form.Form.{Form}
 use Rattle.streams.specs.Output.{HoldsText}
 use Rattle.salvaged_records.specs.declared.used_slot.UsedSlot.{UsedSlot}
 use Rattle.salvaged_records.specs.Slots.{found_slot}

@@ -2,7 +2,7 @@
 use Rattle.std.proofs.Common.{◌≡◌, ◌≤◌, ℕ, Bool, true, false, List, [], ◌∷◌, length, Option, Some, None, IfSome, slice_get, refl, sym, subst, ◌∙◌, inl, inr, arith}
 use Rattle.record_layout.specs.declared.schema.KeyPart.{KeyPart}
 use Rattle.record_layout.specs.Schema.{AreKeys, Schema}
-use Rattle.record_forms.specs.declared.form.Form.{Form}
+use Rattle.record_text.specs.declared.form.Form.{Form}
 use Rattle.record_listing.specs.declared.asked.Asked.{Asked}
 use Rattle.file_checker.specs.Sound.{IsSound}
 use Rattle.file_checker.proofs.HeldLemmas.{first_of_pages}

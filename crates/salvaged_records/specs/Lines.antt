@@ -1,7 +1,7 @@
 -- The lines of the records in slots. All of this is ours.
 use Rattle.std.specs.Prelude.{ℕ, List, ◌++◌, flat_map}
-use Rattle.record_forms.specs.declared.form.Form.{Form}
-use Rattle.record_forms.specs.Lines.{line_in, form_header}
+use Rattle.record_text.specs.declared.form.Form.{Form}
+use Rattle.record_text.specs.Lines.{line_in, form_header}
 use Rattle.salvaged_records.specs.Slots.{FoundSlot}
 use Rattle.salvaged_records.specs.declared.lead.Lead.{Lead}
 use Rattle.salvaged_records.specs.Leads.{lead_header, lead_text_of}

@@ -10,8 +10,8 @@ use Rattle.file_checker.specs.Bytes.{AreAllPages}
 use Rattle.file_checker.specs.Sound.{IsRight, IsSound, IsUnsound}
 use Rattle.file_checker.specs.declared.verdict.Verdict.TheVariants.{Unsound as IsRefused}
 use Rattle.std.specs.Io.KnownBytes.{Appends}
-use Rattle.record_forms.specs.declared.form.Form.{Form}
-use Rattle.record_forms.specs.declared.form.Form.TheVariants.{Text}
+use Rattle.record_text.specs.declared.form.Form.{Form}
+use Rattle.record_text.specs.declared.form.Form.TheVariants.{Text}
 use Rattle.record_listing.specs.FileList.{EndsWithIn}
 use Rattle.record_listing.specs.declared.file_list.FileList.TheVariants.{Listed}
 use Rattle.record_listing.specs.declared.asked.Asked.{Asked}

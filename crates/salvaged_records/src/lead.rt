@@ -6,7 +6,7 @@ ghost use Rattle.salvaged_records.specs.Leads.{lead_header, lead_text_of, place_
 use crate::used_slot::UsedSlot;
 use arrayvec::ArrayVec;
 use itoa::Buffer;
-use record_forms::Form;
+use record_text::Form;
 
 /// What stands before the line of a record.
 #[derive(Clone, Copy, Debug, PartialEq, Eq)]

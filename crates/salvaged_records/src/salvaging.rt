@@ -16,9 +16,9 @@ use file_checker::{Reason, Verdict, check_bytes};
 use file_header::Header;
 use io_state::Key;
 use pages::PAGE_SIZE;
-use record_forms::Form;
 use record_layout::Schema;
 use record_listing::{Asked, ListFault, list_sound};
+use record_text::Form;
 use std::alloc::Global;
 use std::io::Write;
 

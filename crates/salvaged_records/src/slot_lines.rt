@@ -1,8 +1,8 @@
 //! The lines of the records in slots.
 ghost use Rattle.std.specs.Prelude.{◌≡◌, ◌++◌, length, map, vec_capacity, IfOk, OnOk};
 ghost use Rattle.std.specs.Io.KnownBytes.{Appends};
-ghost use Rattle.record_forms.specs.Lines.{form_header};
-ghost use Rattle.record_forms.specs.Room.{IsLineRoom};
+ghost use Rattle.record_text.specs.Lines.{form_header};
+ghost use Rattle.record_text.specs.Room.{IsLineRoom};
 ghost use Rattle.streams.specs.Output.{HoldsText};
 ghost use Rattle.salvaged_records.specs.Slots.{found_slot};
 ghost use Rattle.salvaged_records.specs.Leads.{lead_header};
@@ -10,8 +10,8 @@ ghost use Rattle.salvaged_records.specs.Lines.{salvaged_line, salvaged_lines, sa
 
 use crate::lead::{Lead, lead_header, lead_text_of};
 use crate::used_slot::UsedSlot;
-use record_forms::{Form, append_header, append_line, line_room};
 use record_listing::ListFault;
+use record_text::{Form, append_header, append_line, line_room};
 use std::alloc::{AllocError, Global};
 use std::io::Write;
 use streams::{HeldText, Refused};

@@ -5,13 +5,13 @@ use crate::checks::assert_that;
 use io_state::{FileName, Key};
 use memory_shelf::MemShelf;
 use page_store::Shelf;
-use record_forms::Form;
 use record_layout::{KeyKind, KeyPart, Schema};
 use record_listing::{Asked, ListEnd, list_records};
 use record_loading::{
     Load, LoadOptions, RejectLog, RejectedLine, ShelfEnd, add_answer, add_rejected_line,
     load_lines_on_shelf, write_end_mistake, write_mistake,
 };
+use record_text::Form;
 use shelf_library::ShelfLibrary;
 use std::alloc::Global;
 use std::num::NonZeroUsize;

@@ -3,7 +3,7 @@ use Rattle.std.proofs.lemmas.Result.{IfOk-at_ok, IfOk-weaker, IfErr-at_err}
 use Rattle.file_control.specs.Description.{FileDesc}
 use Rattle.folder_shelf.specs.Replay.{folder_state}
 use Rattle.shelf_run.specs.ShelfRun.{LeavesFiles}
-use Rattle.record_reading.specs.Whole.{IsWholeForm}
+use Rattle.record_text.specs.Whole.{IsWholeForm}
 use Rattle.command_line.specs.Loaded.{EndsLoadOf, LoadsFolder, load_source}
 use Rattle.command_line.proofs.LoadingLemmas.{load_ended, load_failed}
 use Rattle.command_line.proofs.loading.load_over_folder.Goals as goal

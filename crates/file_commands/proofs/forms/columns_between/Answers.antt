@@ -1,5 +1,5 @@
 use Rattle.std.proofs.Common.{◌≡◌, ℕ, List, false, Err, inl, refl, sym, ap, ◌∙◌}
-use Rattle.record_forms.specs.Parts.{do_rise}
+use Rattle.record_text.specs.Parts.{do_rise}
 use Rattle.file_commands.specs.Cuts.{between_commas}
 use Rattle.file_commands.proofs.CutLemmas.{one_reading}
 use Rattle.file_commands.proofs.forms.columns_between.Goals as goal

@@ -1,6 +1,6 @@
 use Rattle.std.proofs.Common.{◌≡◌, ℕ, List, length, take, sym, subst, ◌∙◌}
-use Rattle.record_forms.specs.Lines.{line_in}
-use Rattle.record_forms.specs.Room.{IsLineRoom}
+use Rattle.record_text.specs.Lines.{line_in}
+use Rattle.record_text.specs.Room.{IsLineRoom}
 use Rattle.record_listing.proofs.ReadingLemmas.{in_room, held_or_refused}
 use Rattle.record_listing.proofs.rows.hold_record.Goals as goal
 

@@ -1,6 +1,6 @@
 use Rattle.std.proofs.Common.{ℕ, vec_capacity, rules, sym, subst, ◌∙◌}
 use Rattle.indexed_file.specs.World.{schema_at, file_at}
-use Rattle.record_forms.specs.Room.{IsLineRoom}
+use Rattle.record_text.specs.Room.{IsLineRoom}
 use Rattle.record_listing.specs.Reading.{rows_asked}
 use Rattle.record_listing.proofs.ReadingLemmas.{none_done}
 use Rattle.record_listing.proofs.StepLemmas.{goes_on, step, step_refused, all_done}

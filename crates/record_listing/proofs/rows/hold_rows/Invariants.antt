@@ -1,6 +1,6 @@
 use Rattle.std.proofs.Common.{IsTrue, length, vec_capacity}
 use Rattle.indexed_file.specs.World.{schema_at, file_at, name_at}
-use Rattle.record_forms.specs.Room.{IsLineRoom}
+use Rattle.record_text.specs.Room.{IsLineRoom}
 use Rattle.record_listing.specs.Reading.{OnlyReadsUnit, rows_from, rows_asked, IsOnItsWay}
 use Rattle.record_listing.proofs.rows.hold_rows.Given as goal
 

@@ -1,7 +1,7 @@
 use Rattle.std.proofs.Common.{ℕ, length, sym, ap, ◌∙◌, subst}
 use Rattle.record_layout.specs.Schema.{Schema}
-use Rattle.record_reading.specs.ReadLine.{ReadsRecord, BeginsWithNoRecord}
-use Rattle.record_reading.specs.Mistake.{IsLineMistake}
+use Rattle.record_text.specs.ReadLine.{ReadsRecord, BeginsWithNoRecord}
+use Rattle.record_text.specs.Mistake.{IsLineMistake}
 use Rattle.record_loading.proofs.GoingLemmas.{nothing_passed, nothing_ends, line_written, line_rejected, line_ends, line_replaces, refused_keys}
 use Rattle.record_loading.proofs.writing.pass_line.Goals as goal
 

@@ -1,5 +1,5 @@
 use Rattle.std.proofs.Common.{◌≡◌, ◌≤◌, List, ℕ, ◌++◌, length, ap, sym, subst, ◌∙◌}
-use Rattle.record_forms.specs.Lines.{line_in}
+use Rattle.record_text.specs.Lines.{line_in}
 use Rattle.salvaged_records.specs.Slots.{found_slot}
 use Rattle.salvaged_records.specs.Leads.{lead_text_of}
 use Rattle.salvaged_records.proofs.LineLemmas.{line_added, second_held}

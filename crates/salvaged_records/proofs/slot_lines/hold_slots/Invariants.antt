@@ -1,5 +1,5 @@
 use Rattle.std.proofs.Common.{map, take, vec_capacity}
-use Rattle.record_forms.specs.Room.{IsLineRoom}
+use Rattle.record_text.specs.Room.{IsLineRoom}
 use Rattle.streams.specs.Output.{HoldsText}
 use Rattle.salvaged_records.specs.Slots.{found_slot}
 use Rattle.salvaged_records.specs.Lines.{salvaged_lines}

@@ -1,5 +1,5 @@
 use Rattle.std.proofs.Common.{◌++◌, map, subst, ◌∙◌}
-use Rattle.record_forms.specs.Lines.{form_header}
+use Rattle.record_text.specs.Lines.{form_header}
 use Rattle.streams.specs.Output.{HoldsText}
 use Rattle.salvaged_records.specs.Slots.{found_slot}
 use Rattle.salvaged_records.specs.Leads.{lead_header}

@@ -1,8 +1,0 @@
-use Rattle.std.proofs.Common.{◌∷◌, take, flat_map}
-use Rattle.record_forms.specs.Json.{member}
-use Rattle.record_forms.specs.Lines.{member_of}
-use Rattle.record_forms.specs.Room.{Grows}
-use Rattle.record_forms.proofs.json.add_more_members.Given as goal
-
-abbrev pub invariant-loop-column : goal.invariant-loop-column
-invariant-loop-column l = Grows l.fn.text l.text (flat_map (λ column. 44 ∷ member (member_of l.fn.bytes column)) (take l.column-index l.columns))

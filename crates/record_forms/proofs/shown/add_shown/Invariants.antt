@@ -1,7 +1,0 @@
-use Rattle.std.proofs.Common.{take, flat_map}
-use Rattle.deck_runner.specs.Line.{shown_byte}
-use Rattle.record_forms.specs.Room.{Grows}
-use Rattle.record_forms.proofs.shown.add_shown.Given as goal
-
-abbrev pub invariant-loop-byte : goal.invariant-loop-byte
-invariant-loop-byte l = Grows l.fn.text l.text (flat_map (shown_byte) (take l.byte-index l.bytes))

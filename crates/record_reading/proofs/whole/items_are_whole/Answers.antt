@@ -1,5 +1,0 @@
-use Rattle.record_reading.proofs.WholeLemmas.{items_whole}
-use Rattle.record_reading.proofs.whole.items_are_whole.Goals as goal
-
-pub returns : goal.returns
-returns c = items_whole

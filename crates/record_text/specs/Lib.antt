@@ -1,0 +1,12 @@
+pub mod Columns
+pub mod Csv
+pub mod Json
+pub mod Lines
+pub mod Parts
+pub mod Room
+pub mod ReadLine
+pub mod Whole
+pub mod Quoted
+pub mod Part
+pub mod Header
+pub mod Mistake

@@ -1,0 +1,52 @@
+//! Bytes as the transcript shows them.
+ghost use Rattle.std.specs.Prelude.{◌≡◌, ◌≤◌, false};
+ghost use Rattle.deck_runner.specs.Line.{hex_digit, is_plain, shown_byte};
+ghost use Rattle.record_text.specs.Columns.{text_of};
+ghost use Rattle.record_text.specs.Room.{AddsInRoom};
+
+use crate::text::{add, add_char};
+use std::alloc::AllocError;
+
+/// A hexadecimal digit, in lower case.
+fn digit(n: u8) -> u8
+    requires { n ≤ 15 }
+    ensures { result ≡ hex_digit n }
+{
+    if n < 10 { b'0' + n } else { 87 + n }
+}
+
+/// Whether a byte stands as itself.
+pub fn is_plain(byte: u8) -> bool
+    ensures { result ≡ is_plain byte }
+{
+    byte > 31 && byte < 127 && byte != b'\\'
+}
+
+/// A byte that does not stand as itself, as it is shown: a backslash and two digits.
+pub fn escape_of(byte: u8) -> [u8; 3]
+    requires { is_plain byte ≡ false }
+    ensures { result ≡ shown_byte byte }
+{
+    [b'\\', digit(byte / 16), digit(byte % 16)]
+}
+
+/// Adds a byte as it is shown.
+fn add_byte(text: &mut Vec<u8>, byte: u8) -> Result<(), AllocError>
+    ensures { AddsInRoom text.old text.new (shown_byte byte) result }
+{
+    if is_plain(byte) {
+        add_char(text, byte)
+    } else {
+        add(text, &escape_of(byte))
+    }
+}
+
+/// Adds bytes as they are shown.
+pub fn add_shown(text: &mut Vec<u8>, bytes: &[u8]) -> Result<(), AllocError>
+    ensures { AddsInRoom text.old text.new (text_of bytes.now) result }
+{
+    for byte in bytes {
+        add_byte(text, *byte)?;
+    }
+    Ok(())
+}
