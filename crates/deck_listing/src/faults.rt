@@ -4,10 +4,10 @@ ghost use Rattle.std.specs.List.Sorted.{IsNonDecreasingBy};
 ghost use Rattle.deck_listing.specs.Told.{TellsOf, SaysOf, AreTold, AreFurther};
 
 use crate::diagnosis::{Diagnosis, diagnosis_of};
+use crate::later::later_faults;
 use deck_messages::message_of;
 use deck_reader::read_deck_told;
 use deck_words::DeckFault;
-use later_faults::later_faults;
 use refused_deck::Message;
 use std::alloc::{AllocError, Global};
 

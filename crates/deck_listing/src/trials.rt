@@ -1,8 +1,8 @@
 //! Mends of an entry, of which the first is taken with which the reader goes on behind it.
 
 use crate::blank::{blank, put};
+use crate::meant_words::texts_of;
 use crate::mended::MendedDeck;
-use crate::texts::texts_of;
 use deck_messages::{message_of, without};
 use deck_reader::{DeckRefusal, read_deck_told};
 use deck_words::{Cause, Refusal, WordPlace};

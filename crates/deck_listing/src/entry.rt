@@ -45,19 +45,19 @@ fn is_one_of(word: &Word<'_>, texts: &[&str]) -> bool {
 }
 
 /// The same; the deck's end where none does.
-fn first_of(bytes: &[u8], from: u32, texts: &[&str]) -> u32 {
+fn first_or_end(bytes: &[u8], from: u32, texts: &[&str]) -> u32 {
     let end = u32::try_from(bytes.len()).unwrap_or(u32::MAX);
     first_among(bytes, from, texts).unwrap_or(end)
 }
 
 /// Where a file description and its items end, which stands before this place.
 pub fn description_end(bytes: &[u8], behind: u32) -> u32 {
-    first_of(bytes, behind, &["FD", "WORKING-STORAGE", "PROCEDURE"])
+    first_or_end(bytes, behind, &["FD", "WORKING-STORAGE", "PROCEDURE"])
 }
 
 /// Where the word PROCEDURE stands.
 pub fn procedure_start(bytes: &[u8]) -> u32 {
-    first_of(bytes, 0, &["PROCEDURE"])
+    first_or_end(bytes, 0, &["PROCEDURE"])
 }
 
 /// Whether one of the words of a part of a deck is this one.
