@@ -1,4 +1,4 @@
-"""Sessions of `cobix serve`: requests as frames, and the answers to them, byte for byte (docs/FRAMES.md).
+"""Sessions of `cobix serve`: requests as frames, and the answers to them, byte for byte (docs/LIBRARY.md).
 
 `trials()` gives each by its name, as those of edges.py.
 """

@@ -1,4 +1,4 @@
-/* The calls of cobix.h as requests of docs/FRAMES.md, and the answers back. */
+/* The calls of cobix.h as requests of docs/LIBRARY.md, and the answers back. */
 #define _GNU_SOURCE
 #include "cobix.h"
 #include "engine.h"
@@ -194,7 +194,7 @@ static uint8_t *put_two(uint8_t *at, unsigned value)
     return at + 2;
 }
 
-/* Why a request was refused: the reasons of docs/FRAMES.md. The rest are of requests that are never made. */
+/* Why a request was refused: the reasons of docs/LIBRARY.md. The rest are of requests that are never made. */
 static int refusal(unsigned reason)
 {
     static const int why[] = {

@@ -45,7 +45,7 @@
  * that is accepted and false. CLOSE brings all to the disk, in order, and its status says whether that was done.
  * cobix_close closes what is open, and so does the end of the process by exit() or a return from main(); _exit(), abort()
  * and a signal do not. Where a program may be killed at any time, and what it wrote has to survive that, CLOSE the file at
- * each point to which it is to return, or use the serving process (docs/FRAMES.md), which closes it.
+ * each point to which it is to return, or use the serving process (docs/LIBRARY.md), which closes it.
  */
 #ifndef COBIX_H
 #define COBIX_H

@@ -1,4 +1,4 @@
-/* A session of the proved library in this process: a request goes in, its answer comes out, both as docs/FRAMES.md has them. */
+/* A session of the proved library in this process: a request goes in, its answer comes out, both as docs/LIBRARY.md has them. */
 #ifndef ENGINE_H
 #define ENGINE_H
 #include <stdbool.h>

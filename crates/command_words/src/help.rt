@@ -51,7 +51,7 @@ pub const REASONS: &str = reasons!(verdicts);
 /// How frames are answered.
 pub const SERVING: &str =
     "Each frame on standard input is a request, and each is answered by a frame on standard output \
-(docs/FRAMES.md). At the end of the input each file that is still open is closed.
+(docs/LIBRARY.md). At the end of the input each file that is still open is closed.
 
 Exit status:
   0   the input ended

@@ -2,7 +2,7 @@
 //! does over those of a folder.
 //!
 //! Its file `stdin` has a session, and `stdout` the answers, worked out by hand from
-//! docs/FRAMES.md. First come verbs and descriptions that are refused. Then a file is described,
+//! docs/LIBRARY.md. First come verbs and descriptions that are refused. Then a file is described,
 //! opened OUTPUT, written, closed, opened I-O, read by both keys, rewritten, and records of it
 //! deleted; among these are frames that are no requests. After CLOSE WITH LOCK it is released, and
 //! another one is left open at the end. `cases/sessions.py` has the same requests, over a folder.
