@@ -106,7 +106,7 @@ def pkg_config(prefix, libraries):
 
 def pages():
     """The pages that a user reads, by their paths here, so that their links hold."""
-    found = [*TOP.glob("*.md"), *TOP.glob("LICENSE-*"), *TOP.glob("docs/*.md"), TOP / "cases" / "README.md", TOP / "gnucobol" / "README.md"]
+    found = [*TOP.glob("*.md"), *TOP.glob("LICENSE-*"), *TOP.glob("docs/*.md"), TOP / "gnucobol" / "README.md"]
     found += [it for it in [*TOP.glob("examples/*"), *TOP.glob("examples/programs/*")] if it.is_file()]
     for path in sorted(found):
         yield str(path.relative_to(TOP)), read(path)
