@@ -1,6 +1,6 @@
 //! What became of the words of a command line, and how that is told.
 //!
-//! An `Outcome` is what was done, and a `Fault` is why it was not. `tell` writes the line of a
+//! An `Outcome` is what was done, and a `Fault` is why it was not. `report` writes the line of a
 //! fault, or why a file has no schema or no list, as far as the writer takes it, and answers the
 //! exit status: its clause says which. The texts are shown by runs of the program.
 //!
