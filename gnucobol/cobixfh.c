@@ -319,9 +319,16 @@ static const char *close_file(struct connector *connector, struct verb verb, FCD
     return status;
 }
 
+/* What a verb answers on a file that is not open, as the proved verbs do. Of OPEN it is what it answers where memory lacks for the
+   file's connector: then the file is not open, and no other verb answers 90. */
+static const char *when_closed(const struct verb *verb)
+{
+    static const char *const statuses[] = {"90", "42", "47", "47", "47", "48", "49", "49", "00", "95"};
+    return statuses[verb->verb];
+}
+
 static const char *answer_to(struct connector *connector, const struct verb *verb, FCD3 *fcd)
 {
-    static const char *const when_closed[] = {"47", "42", "47", "47", "47", "48", "49", "49"};
     bool back = verb->verb == READ_NEXT && four(fcd->opt) & (COB_READ_PREVIOUS | COB_READ_FIRST | COB_READ_LAST);
     if (verb->verb == NO_EFFECT)
         return "00";
@@ -329,8 +336,8 @@ static const char *answer_to(struct connector *connector, const struct verb *ver
         return refuse_verb(connector, verb, "the COBOL of 1985 does not have it");
     if (verb->verb == OPEN)
         return open_file(connector, verb, fcd);
-    if (!connector->described) /* as the proved verbs answer on a file that is not open */
-        return when_closed[verb->verb];
+    if (!connector->described)
+        return when_closed(verb);
     if (verb->verb == CLOSE)
         return close_file(connector, *verb, fcd);
     if ((verb->verb == READ || verb->verb == START) && two(fcd->refKey) >= connector->key_count)
@@ -350,7 +357,7 @@ int cobixfh(unsigned char *opcode, FCD3 *fcd)
     struct connector *connector = connector_of(fcd);
     if (connector && verb->verb == OPEN && has_area(opening, connector->area))
         connector->file = opening;
-    memcpy(fcd->fileStatus, connector ? answer_to(connector, verb, fcd) : "90", 2);
+    memcpy(fcd->fileStatus, connector ? answer_to(connector, verb, fcd) : when_closed(verb), 2);
     if (memcmp(fcd->fileStatus, "95", 2) != 0)
         refused.times = 0;
     if (connector && verb->verb == CLOSE)
