@@ -28,12 +28,12 @@ Meaning
   byte of the file says so. OPEN of it answers 91.
 
 What brings it about
-  The run was killed, or the machine stopped; a verb of it answered 30 or 90
+  The run was killed, or the machine stopped; a verb of it answered 30 or 91
   part-way; or its transcript could not be written. A file that is no file
   of cobix has this reason too, if it is long enough.
 
 What to do
-  Look at the transcript of that run for the first 30, 90 or 91, and at its
+  Look at the transcript of that run for the first 30 or 91, and at its
   exit status. Put the last copy of the whole folder back, and run the deck
   again. Do not change the first byte: the pages behind it do not fit
   together.

@@ -435,12 +435,12 @@ Example
 "
 OutOfMemory "90" ["memory ran out"] "
 Meaning
-  The system gave cobix no more memory. The verb did not do its work.
+  The system gave cobix no more memory. The OPEN left the file as it was.
 
 What brings it about
   A machine with too little memory, a limit of the user (ulimit), or other
-  programs that take it all. After a 90 in the middle of a change, each later
-  verb on the file answers 92, its CLOSE 30, and its next OPEN 91.
+  programs that take it all. OPEN alone answers 90: once a file is open, it
+  has all the memory of its verbs.
 
 What to do
   Look at free and ulimit -v. End what is not needed, or take another
@@ -460,7 +460,7 @@ Meaning
 What brings it about
   - a run that changed the file did not come to its CLOSE: it was killed, or
     the machine stopped, or its transcript could not be written
-  - a verb of that run answered 30 or 90 part-way
+  - a verb of that run answered 30 or 91 part-way
   - the file is no file of cobix, or the disk has harmed it
   READ and other verbs answer 91 too, where they meet a harmed page.
 
@@ -486,11 +486,11 @@ Meaning
   file. Nothing more is done with the file until it is closed.
 
 What brings it about
-  A WRITE, REWRITE or DELETE on this file that answered 30 or 90. Each later
+  A WRITE, REWRITE or DELETE on this file that answered 30 or 91. Each later
   READ, START, WRITE, REWRITE and DELETE of it answers 92.
 
 What to do
-  Look further up for the first 30 or 90 of this file: that is the cause.
+  Look further up for the first 30 or 91 of this file: that is the cause.
   CLOSE answers 30, and the next OPEN 91. Put the copy of the folder back,
   remove the cause, and run the deck again.
 
