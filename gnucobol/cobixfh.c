@@ -1,6 +1,7 @@
 /* The handler: from an FCD to a frame and back. */
 #define _GNU_SOURCE
 #include "handler.h"
+#include <errno.h>
 #include <stdio.h>
 #include <stdlib.h>
 #include <string.h>
@@ -180,8 +181,9 @@ static const char *describe(struct connector *connector, const struct verb *verb
     if (!*name || strlen(name) > 255 || greatest > 65535)
         return refuse(connector, verb, "39", "cobix has no files of this name or these lengths");
     const struct connector *holder = NULL;
+    errno = 0;
     if (!take_server(connector, (size_t)(name - connector->path), &holder))
-        return refuse(connector, verb, "30", "the folder is not there, or cobix cannot be started");
+        return errno == ENOMEM ? "90" : refuse(connector, verb, "30", "the folder is not there, or cobix cannot be started");
     if (is_shared_wrongly(verb, holder))
         return holder->locked ? "38" : tell_select(verb->name, connector->path, holder->file);
     uint8_t access = fcd->accessFlags & ACCESS_DYNAMIC ? 2 : fcd->accessFlags & ACCESS_RANDOM ? 1 : 0;
