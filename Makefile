@@ -21,7 +21,7 @@ LISTS = crates/decks_over_lists/out/decks_over_lists
 PROVED = crates/cobix_inside/out/libcobix_inside.a
 QUICK = examples cases 'command lines' mistakes edges sessions scripts copies
 JOBS = 2
-# How many crates the gate proves side by side, each by one process: one a processor, as far as there are four gigabytes for each.
+# How many crates the gate proves side by side, each by one process, and tries the edits of: one a processor, as far as there are four gigabytes for each.
 LANES = $(shell awk -v most=$$(nproc) '/^MemAvailable/ { few = int($$2 / 4000000); print (few < 1 ? 1 : few < most ? few : most) }' /proc/meminfo)
 
 try: | $(DIR)
@@ -36,18 +36,19 @@ run: | $(DIR)
 $(DIR):
 	mkdir -p $@
 
-# A gate that passes leaves the program that it built in crates/cobix/out, and a note of it in out/gate.
-# `rt ci` refuses a checkout in which there are links, as the library has in library/out.
+# A gate that passes leaves the program that it built in crates/cobix/out, and a note of it in out/gate. It proves by `rt ci`, over a
+# copy without the must-fail edits, and tries these over what was proved.
 test:
 	rm -rf out/gate library/out
 	mkdir -p out
 	edits/run
 	docs/believed
 	share/write --check
-	RT_JOBS=$(LANES) rt ci | tee out/rt-ci
+	RT_JOBS=$(LANES) edits/prove | tee out/rt-ci
 	cases/run $(PROGRAM)
 	$(MAKE) --no-print-directory --output-sync=target -j2 tried-program tried-library
-	package/gate out/rt-ci $(PROGRAM) $(PROVED) > out/gate.new
+	LANES=$(LANES) edits/run gate | tee out/edits
+	package/gate out/rt-ci out/edits $(PROGRAM) $(PROVED) > out/gate.new
 	package/test $(PROGRAM) $(PROVED) out/gate.new
 	mv out/gate.new out/gate
 
