@@ -15,7 +15,10 @@ from edit import BadEdit
 PARTS = ("src", "specs", "proofs")
 GOAL = r"fn {crate}::(?:\w+::)*{function}: no proof: expected answers in (?!.*; it calls )"
 ERROR = r"(?:\./)?proofs/(?:\w+/)*{folder}/\w+\.antt:\d+:\d+: error: (?!.*(?:has no field|is not in scope|has no `|was not admitted))"
-UNREAD = re.compile(r"(?:\./)?(?:src|specs)/\S+:\d+:\d+: error")
+UNREAD = re.compile(
+    r"^(?:\./)?(?:src|specs)/\S+?:\d+:\d+: error: (?:(?!`)|`[^`]*`: .*(?:is not in scope|has no field|is no name|operand is missing|expected the end|cannot continue))",
+    re.M,
+)
 
 
 class Trial:
@@ -79,7 +82,7 @@ def fault_alone(trial, edit):
     """What is wrong with an edit that is tried by itself, if anything."""
     functions = {edit.function()} - {None}
     said, status = trial.said(edit.texts, functions)
-    if status == 0 and functions:
+    if status != 1 and functions:  # not refused there, or the prover knows the function by another name
         said, status = trial.said(edit.texts, set())
     last = said.rstrip().rpartition("\n")[2]
     if status == 0:
@@ -95,6 +98,8 @@ def tried(rtlib, crate, edits):
         trial = Trial(rtlib, crate, kept)
         local = [it for it in edits if it.function()]
         said, status = trial.said({}, {it.function() for it in local[:1]})
+        if status == 2:  # the prover knows the function by another name
+            said, status = trial.said({}, set())
         if status:
             return {it: "NOT TRIED: the prover refuses the crate without an edit: " + said[-300:] for it in edits}
         refused = refused_together(trial, local)
