@@ -14,3 +14,6 @@ mod MistakeLemmas
 mod ColumnLemmas
 mod LongLemmas
 mod FormLemmas
+mod PaddedLemmas
+mod PaddedLineLemmas
+mod PaddedValueLemmas

@@ -21,10 +21,10 @@ fused : (f : ℕ → List ℕ) (bytes : List ℕ) → flat_map f (text_of bytes)
 fused f [] = refl
 fused f (byte ∷ bytes) = flat_map-append f (shown_byte byte) (text_of bytes) ∙ ap (λ (l : List ℕ). flat_map f (shown_byte byte) ++ l) (fused f bytes)
 
-in_csv : (bytes : List ℕ) → flat_map doubled_quote (text_of bytes) ≡ inside Doubled bytes
+pub in_csv : (bytes : List ℕ) → flat_map doubled_quote (text_of bytes) ≡ inside Doubled bytes
 in_csv bytes = fused doubled_quote bytes
 
-in_json : (bytes : List ℕ) → flat_map escaped (text_of bytes) ≡ inside Escaped bytes
+pub in_json : (bytes : List ℕ) → flat_map escaped (text_of bytes) ≡ inside Escaped bytes
 in_json bytes = fused escaped bytes
 
 -- the bytes of a column
@@ -104,10 +104,10 @@ json_is bytes columns end is behind =
 
 -- ---- a line that was read
 
-ends_csv : (behind : List ℕ) → EndsValue Doubled (13 ∷ 10 ∷ behind)
+pub ends_csv : (behind : List ℕ) → EndsValue Doubled (13 ∷ 10 ∷ behind)
 ends_csv behind = no_byte_in_csv 13 (10 ∷ behind) (λ is. omega (arith, is))
 
-ends_json : (behind : List ℕ) → EndsValue Escaped (125 ∷ 10 ∷ behind)
+pub ends_json : (behind : List ℕ) → EndsValue Escaped (125 ∷ 10 ∷ behind)
 ends_json behind = no_byte_in_json (125 ∷ 10 ∷ behind)
 
 -- the values are a part, and the line is one

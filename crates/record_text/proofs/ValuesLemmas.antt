@@ -55,7 +55,7 @@ splits n cell more few short = by_more more refl
 
 -- ---- what is behind a value
 
-ends_comma : (quoting : Quoting) (rest : List ℕ) → EndsValue quoting (44 ∷ rest)
+pub ends_comma : (quoting : Quoting) (rest : List ℕ) → EndsValue quoting (44 ∷ rest)
 ends_comma Doubled rest = no_byte_in_csv 44 rest (λ is. omega (arith, is))
 ends_comma Escaped rest = no_byte_in_json (44 ∷ rest)
 

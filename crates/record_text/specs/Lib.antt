@@ -10,3 +10,5 @@ pub mod Quoted
 pub mod Part
 pub mod Header
 pub mod Mistake
+pub mod Padded
+pub mod PaddedPart

@@ -6,14 +6,20 @@ use Rattle.record_layout.specs.Layout.{Entry, Placed, Structure, Nothing, Elemen
 use Rattle.record_layout.specs.Layout.{IsLayout}
 use Rattle.record_text.specs.declared.column.Column.{Column}
 
--- what a column says: its name, and its place
+-- what a column says: its name, its place, and whether it is numeric
 pub record Part : Type 0 where
   pub name : List ℕ
   pub offset : ℕ
   pub length : ℕ
+  pub numeric : Bool
 
 abbrev pub part_of_column : Column → Part
-part_of_column column = record { name = column.name.bytes; offset = column.offset; length = column.length }
+part_of_column column = record {
+  name = column.name.bytes;
+  offset = column.offset;
+  length = column.length;
+  numeric = column.numeric;
+}
 
 -- columns with these parts were added
 abbrev pub AddsParts : (old new : List Column) → List Part → Type 0
@@ -28,7 +34,12 @@ do_rise from (at ∷ cuts) = nat_lt from at && do_rise at cuts
 
 -- column n
 abbrev pub cut_part : ℕ → ℕ → ℕ → Part
-cut_part n offset length = record { name = codes "column-" ++ decimal n; offset = offset; length = length }
+cut_part n offset length = record {
+  name = codes "column-" ++ decimal n;
+  offset = offset;
+  length = length;
+  numeric = false;
+}
 
 -- from column n on, which begins at an offset: up to each cut, and what is behind the last one (no
 -- record has more than 4,000 bytes)
@@ -48,6 +59,7 @@ item_part item = record {
   name = name_or item.field.offset item.name;
   offset = item.field.offset;
   length = item.field.length;
+  numeric = item.field.numeric;
 }
 
 -- whether an item is a group: the item behind it, its first one, begins where it does
@@ -83,4 +95,4 @@ AreElementary = (entries : List Entry) (layout : List Placed) (laid : IsLayout e
 
 -- the record, as one column
 abbrev pub whole_part : Part
-whole_part = record { name = codes "record"; offset = 0; length = 4000 }
+whole_part = record { name = codes "record"; offset = 0; length = 4000; numeric = false }

@@ -5,12 +5,13 @@ ghost use Rattle.record_text.specs.Columns.{cell_of};
 use io_state::Name;
 
 /// A part of a record with a name: bytes from the record's first on. A record that ends before the
-/// part does has fewer of its bytes, or none.
+/// part does has fewer of its bytes, or none. It is numeric where its item has digits.
 #[derive(Clone, Copy, Debug)]
 pub struct Column {
     pub name: Name,
     pub offset: u16,
     pub length: u16,
+    pub numeric: bool,
 }
 
 /// The bytes of a column in a record, as many as the record has of them.

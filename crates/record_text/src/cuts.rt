@@ -34,6 +34,7 @@ fn push_column(columns: &mut Vec<Column>, n: u32, offset: u16, length: u16) -> R
         name,
         offset,
         length,
+        numeric: false,
     };
     columns.push(column).map_err(|_| CutFault::Memory)
 }
@@ -81,6 +82,7 @@ pub fn whole_column(alloc: Global) -> Result<Vec<Column>, AllocError>
         name,
         offset: 0,
         length: RECORD_LIMIT,
+        numeric: false,
     })?;
     Ok(columns)
 }

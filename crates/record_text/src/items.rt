@@ -28,6 +28,7 @@ fn column_of(item: &Placed) -> Column
         name: name_or(&item.name, item.field.offset),
         offset: item.field.offset,
         length: item.field.length,
+        numeric: item.field.numeric,
     }
 }
 
