@@ -18,8 +18,6 @@ use Rattle.verbs.specs.Performed.{FileInMemory, IsPerformed, Trusted, in_memory,
 use Rattle.verbs.proofs.WorldLemmas.{only_twice}
 use Rattle.record_text.specs.declared.form.Form.{Form}
 use Rattle.record_listing.proofs.WorldLemmas.{keeps_self, keeps_both, still_true}
-use Rattle.record_text.specs.ReadLine.{ReadsRecord, BeginsWithNoRecord}
-use Rattle.record_text.specs.Mistake.{IsLineMistake}
 use Rattle.record_text.specs.declared.mistake.LineMistake.{LineMistake}
 use Rattle.record_loading.specs.declared.options.LoadOptions.{LoadOptions}
 use Rattle.record_loading.specs.declared.rejected.RejectReason.TheVariants.{Refused, NoRecord}
@@ -29,6 +27,7 @@ use Rattle.record_loading.specs.Going.{LoadGoesOn, PassesLineOf, passing_in}
 use Rattle.record_loading.specs.declared.rejected.RejectReason.{RejectReason}
 use Rattle.record_loading.specs.Passing.{IsRecordReplaced, IsNotReplaced, IsRefusedLine, IsRejected, IsEnd, behind_line, is_refused_for_keys, replaces_nothing, ends_lines}
 use Rattle.record_loading.specs.Replacing.{IsPassedBy}
+use Rattle.record_loading.specs.LineForm.{LineForm, line_form, ReadsLineOf, BeginsWithNone, HasMistake}
 use Rattle.record_loading.proofs.HeaderLemmas.{shorter}
 use Rattle.record_loading.proofs.PassingLemmas.{behind_shorter}
 use Rattle.record_loading.proofs.RealLemmas.{real_goes, real_both}
@@ -102,18 +101,21 @@ module _ {S : Type 0} (shown : Shown S) where
 -- ---- a line
 
 module _ {S : Type 0} (shown : Shown S) (options : LoadOptions) (form : Form) (text : List ℕ) (held : Held) (library : S) (area area_now : List ℕ) where
+  abbrev lines : LineForm
+  lines = line_form form options
+
   abbrev now : FileInMemory S
   now = in_memory held library area
 
   -- no record was read, and nothing was done
-  module _ (same : length area_now ≡ length area) (fits : Fits held (shown.world library) 0) (none : BeginsWithNoRecord form text held.connector.schema.least (length area))
-      (mistake : LineMistake) (is_wrong : IsLineMistake form text held.connector.schema.least (length area) mistake)
+  module _ (same : length area_now ≡ length area) (fits : Fits held (shown.world library) 0) (none : BeginsWithNone options.pad form text held.connector.schema.least (length area))
+      (mistake : LineMistake) (is_wrong : HasMistake options.pad form text held.connector.schema.least (length area) mistake)
       (whole : length area ≡ held.connector.schema.greatest) (some : 0 < length text) where
-    none_of : BeginsWithNoRecord form text held.connector.schema.least held.connector.schema.greatest
-    none_of = subst (λ (greatest : ℕ). BeginsWithNoRecord form text held.connector.schema.least greatest) whole none
+    none_of : BeginsWithNone options.pad form text held.connector.schema.least held.connector.schema.greatest
+    none_of = subst (λ (greatest : ℕ). BeginsWithNone options.pad form text held.connector.schema.least greatest) whole none
 
-    wrong_of : IsLineMistake form text held.connector.schema.least held.connector.schema.greatest mistake
-    wrong_of = subst (λ (greatest : ℕ). IsLineMistake form text held.connector.schema.least greatest mistake) whole is_wrong
+    wrong_of : HasMistake options.pad form text held.connector.schema.least held.connector.schema.greatest mistake
+    wrong_of = subst (λ (greatest : ℕ). HasMistake options.pad form text held.connector.schema.least greatest mistake) whole is_wrong
 
     pub nothing_passed : (behind : Bor (List ℕ)) → behind.now ≡ behind_line text → options.keep_going ≡ true → PassesLineOf shown options form text now (in_memory held library area_now) (Rejected (NoRecord mistake) behind)
     nothing_passed behind is going = record {
@@ -131,19 +133,19 @@ module _ {S : Type 0} (shown : Shown S) (options : LoadOptions) (form : Form) (t
 
   -- a record was read, and WRITE was answered so
   module _ (held_after : Held) (later : S) (n : ℕ) (status : Status) (behind : Bor (List ℕ)) (does : IsPerformed shown 0 Write n (in_memory held library area_now) (silent status) (in_memory held_after later area_now))
-      (reads : ReadsRecord form text held.connector.schema.least area area_now n behind.now) (whole : length area ≡ held.connector.schema.greatest) (same : length area_now ≡ length area) where
+      (reads : ReadsLineOf lines text held.connector.schema.least area area_now n behind.now) (whole : length area ≡ held.connector.schema.greatest) (same : length area_now ≡ length area) where
     goes : LoadGoesOn shown (in_memory held library []) (in_memory held_after later [])
     goes = goes_performed shown Write n (in_memory held library area_now) (silent status) (in_memory held_after later area_now) does
 
     fewer : length behind.now < length text
-    fewer = let some = shorter form text area area_now n behind.now reads.line in omega (arith, some)
+    fewer = let some = shorter lines text held.connector.schema.least area area_now n behind.now reads in omega (arith, some)
 
     pub line_written : is_successful status ≡ true → PassesLineOf shown options form text now (in_memory held_after later area_now) (Written behind)
     line_written success = record {
       goes = goes;
       shorter = fewer;
       line = λ honest truly standing.
-          written_here form held.connector.schema text (state_in shown 0 now) area_now n behind.now same reads (state_in shown 0 (in_memory held_after later area_now)) status whole (does.step honest truly standing) success;
+          written_here lines held.connector.schema text (state_in shown 0 now) area_now n behind.now same reads (state_in shown 0 (in_memory held_after later area_now)) status whole (does.step honest truly standing) success;
     }
 
     pub line_rejected : ends_lines options status ≡ false → options.replace ≡ false → PassesLineOf shown options form text now (in_memory held_after later area_now) (Rejected (Refused status) behind)
@@ -153,9 +155,9 @@ module _ {S : Type 0} (shown : Shown S) (options : LoadOptions) (form : Form) (t
           goes = goes;
           shorter = fewer;
           line = λ honest truly standing.
-              let refused = keys_here form held.connector.schema text (state_in shown 0 now) area_now n behind.now same reads (state_in shown 0 (in_memory held_after later area_now)) status whole (does.step honest truly standing) both.1 in (
+              let refused = keys_here lines held.connector.schema text (state_in shown 0 now) area_now n behind.now same reads (state_in shown 0 (in_memory held_after later area_now)) status whole (does.step honest truly standing) both.1 in (
                 other_true options.keep_going options.replace both.0 none,
-                subst (λ (replace : Bool). IsRefusedLine replace held.connector.schema form status (passing_in shown text behind.now now (in_memory held_after later area_now) area_now)) (sym none) refused,
+                subst (λ (replace : Bool). IsRefusedLine replace held.connector.schema lines status (passing_in shown text behind.now now (in_memory held_after later area_now) area_now)) (sym none) refused,
               );
         }
 
@@ -166,7 +168,7 @@ module _ {S : Type 0} (shown : Shown S) (options : LoadOptions) (form : Form) (t
       line = λ honest truly standing. (
         area_now,
         behind.now,
-        inl (refused_here form held.connector.schema text (state_in shown 0 now) area_now n behind.now same reads (state_in shown 0 (in_memory held_after later area_now)) status options whole (does.step honest truly standing) failed ends),
+        inl (refused_here lines held.connector.schema text (state_in shown 0 now) area_now n behind.now same reads (state_in shown 0 (in_memory held_after later area_now)) status options whole (does.step honest truly standing) failed ends),
       );
     }
 
@@ -197,8 +199,8 @@ module _ {S : Type 0} (shown : Shown S) (options : LoadOptions) (form : Form) (t
         shorter = subst (λ (l : List ℕ). length l < length text) (sym is.0) fewer;
         line = both_steps _ (λ first second. (
           asked,
-          subst (λ (l : List ℕ). IsRecordReplaced held.connector.schema form (passing_in shown text l now final area_now)) (sym is.0)
-              (replaced_here form held.connector.schema text (state_in shown 0 now) area_now n behind.now same reads (state_in shown 0 (in_memory held_after later area_now)) status whole first keys (state_in shown 0 final) again second is.1),
+          subst (λ (l : List ℕ). IsRecordReplaced held.connector.schema lines (passing_in shown text l now final area_now)) (sym is.0)
+              (replaced_here lines held.connector.schema text (state_in shown 0 now) area_now n behind.now same reads (state_in shown 0 (in_memory held_after later area_now)) status whole first keys (state_in shown 0 final) again second is.1),
         ));
       }
       line_replaces (Rejected reason left) is = record {
@@ -206,10 +208,10 @@ module _ {S : Type 0} (shown : Shown S) (options : LoadOptions) (form : Form) (t
         shorter = subst (λ (l : List ℕ). length l < length text) (sym is.0) fewer;
         line = both_steps _ (λ first second. (
           is.3,
-          subst (λ (r : RejectReason). IsRejected held.connector.schema form options.replace r (passing_in shown text left.now now final area_now)) (sym is.1)
-              (subst (λ (replace : Bool). IsRefusedLine replace held.connector.schema form status (passing_in shown text left.now now final area_now)) (sym asked)
-              (subst (λ (l : List ℕ). IsNotReplaced held.connector.schema form status (passing_in shown text l now final area_now)) (sym is.0)
-              (not_replaced_here form held.connector.schema text (state_in shown 0 now) area_now n behind.now same reads (state_in shown 0 (in_memory held_after later area_now)) status whole first keys (state_in shown 0 final) again second is.2))),
+          subst (λ (r : RejectReason). IsRejected held.connector.schema lines options.replace r (passing_in shown text left.now now final area_now)) (sym is.1)
+              (subst (λ (replace : Bool). IsRefusedLine replace held.connector.schema lines status (passing_in shown text left.now now final area_now)) (sym asked)
+              (subst (λ (l : List ℕ). IsNotReplaced held.connector.schema lines status (passing_in shown text l now final area_now)) (sym is.0)
+              (not_replaced_here lines held.connector.schema text (state_in shown 0 now) area_now n behind.now same reads (state_in shown 0 (in_memory held_after later area_now)) status whole first keys (state_in shown 0 final) again second is.2))),
         ));
       }
       line_replaces (Stopped reason) (inl is) = record {
@@ -218,10 +220,10 @@ module _ {S : Type 0} (shown : Shown S) (options : LoadOptions) (form : Form) (t
         line = both_steps _ (λ first second. (
           area_now,
           behind.now,
-          subst (λ (r : RejectReason). IsEnd held.connector.schema form options r (passing_in shown text behind.now now final area_now)) (sym is.0)
+          subst (λ (r : RejectReason). IsEnd held.connector.schema lines options r (passing_in shown text behind.now now final area_now)) (sym is.0)
               (inr (inl (record {
                 asked = asked;
-                refused = not_replaced_here form held.connector.schema text (state_in shown 0 now) area_now n behind.now same reads (state_in shown 0 (in_memory held_after later area_now)) status whole first keys (state_in shown 0 final) again second is.1;
+                refused = not_replaced_here lines held.connector.schema text (state_in shown 0 now) area_now n behind.now same reads (state_in shown 0 (in_memory held_after later area_now)) status whole first keys (state_in shown 0 final) again second is.1;
                 ends = is.2;
               }))),
         ));
@@ -232,7 +234,7 @@ module _ {S : Type 0} (shown : Shown S) (options : LoadOptions) (form : Form) (t
         line = both_steps _ (λ first second. (
           area_now,
           behind.now,
-          subst (λ (r : RejectReason). IsEnd held.connector.schema form options r (passing_in shown text behind.now now final area_now)) (sym is.0)
-              (inr (inr (not_replacing_here form held.connector.schema text (state_in shown 0 now) area_now n behind.now same reads (state_in shown 0 (in_memory held_after later area_now)) status whole first keys (state_in shown 0 final) again second options asked is.1 is.2))),
+          subst (λ (r : RejectReason). IsEnd held.connector.schema lines options r (passing_in shown text behind.now now final area_now)) (sym is.0)
+              (inr (inr (not_replacing_here lines held.connector.schema text (state_in shown 0 now) area_now n behind.now same reads (state_in shown 0 (in_memory held_after later area_now)) status whole first keys (state_in shown 0 final) again second options asked is.1 is.2))),
         ));
       }

@@ -11,3 +11,4 @@ mod PassedLemmas
 mod PlaceLemmas
 mod UsualLemmas
 mod MistakeLemmas
+mod ReadingLemmas

@@ -6,7 +6,7 @@ use Rattle.verbs.specs.Connector.{FileState}
 use Rattle.record_text.specs.Lines.{form_header}
 use Rattle.record_loading.specs.declared.rejected.RejectReason.{RejectReason}
 use Rattle.record_loading.specs.declared.rejected.RejectReason.TheVariants.{Refused, NoRecord}
-use Rattle.record_loading.specs.Passing.{LoadSource, Place, from_to, number_of_line, rejected_line, IsRecordWritten, IsRecordReplaced, IsRejected, IsEnd, lines_end}
+use Rattle.record_loading.specs.Passing.{LoadSource, Place, from_to, number_of_line, lines_form, rejected_line, IsRecordWritten, IsRecordReplaced, IsRejected, IsEnd, lines_end}
 use Rattle.record_loading.specs.Loading.{Listing, place_at_first, IsPassedUpTo, LinesLeave}
 
 module _ (schema : Schema) (source : LoadSource) (start : FileState) where
@@ -14,7 +14,7 @@ module _ (schema : Schema) (source : LoadSource) (start : FileState) where
   none_passed lines is = record { lines = lines; text_is = is; count = 0; passed = refl }
 
   module _ (place after : Place) (so_far : IsPassedUpTo schema source start place) where
-    pub one_written : IsRecordWritten schema source.form (from_to place after) → after.records ≡ place.records + 1 → after.replaced ≡ place.replaced → after.told ≡ place.told → IsPassedUpTo schema source start after
+    pub one_written : IsRecordWritten schema (lines_form source) (from_to place after) → after.records ≡ place.records + 1 → after.replaced ≡ place.replaced → after.told ≡ place.told → IsPassedUpTo schema source start after
     one_written line records replaced told = record {
       lines = so_far.lines;
       text_is = so_far.text_is;
@@ -22,7 +22,7 @@ module _ (schema : Schema) (source : LoadSource) (start : FileState) where
       passed = (place, so_far.passed, inl (record { line = line; records = records; replaced = replaced; told = told }));
     }
 
-    pub one_replaced : IsTrue source.options.replace → IsRecordReplaced schema source.form (from_to place after) → after.records ≡ place.records → after.replaced ≡ place.replaced + 1 → after.told ≡ place.told
+    pub one_replaced : IsTrue source.options.replace → IsRecordReplaced schema (lines_form source) (from_to place after) → after.records ≡ place.records → after.replaced ≡ place.replaced + 1 → after.told ≡ place.told
         → IsPassedUpTo schema source start after
     one_replaced asked line records replaced told = record {
       lines = so_far.lines;
@@ -31,7 +31,7 @@ module _ (schema : Schema) (source : LoadSource) (start : FileState) where
       passed = (place, so_far.passed, inr (inl (record { asked = asked; line = line; records = records; replaced = replaced; told = told })));
     }
 
-    pub one_rejected : (reason : RejectReason) → IsTrue source.options.keep_going → IsRejected schema source.form source.options.replace reason (from_to place after) → after.records ≡ place.records → after.replaced ≡ place.replaced
+    pub one_rejected : (reason : RejectReason) → IsTrue source.options.keep_going → IsRejected schema (lines_form source) source.options.replace reason (from_to place after) → after.records ≡ place.records → after.replaced ≡ place.replaced
         → after.told ≡ place.told ++ (rejected_line (number_of_line source place) reason ∷ []) → IsPassedUpTo schema source start after
     one_rejected reason asked line records replaced told = record {
       lines = so_far.lines;
@@ -43,7 +43,7 @@ module _ (schema : Schema) (source : LoadSource) (start : FileState) where
 -- the lines end at one that is neither written nor passed over
 pub ended_at : (schema : Schema) (list : Listing) (start : FileState) (place : Place) (behind : List ℕ) (after : FileState) (reason : RejectReason)
     → IsPassedUpTo schema list.source start place → place.told ≡ list.told
-    → IsEnd schema list.source.form list.source.options reason (record { text = place.rest; behind = behind; before = place.file; after = after })
+    → IsEnd schema (lines_form list.source) list.source.options reason (record { text = place.rest; behind = behind; before = place.file; after = after })
     → LinesLeave schema list start (lines_end (number_of_line list.source place) reason) after
 ended_at schema list start place behind after (Refused status) so_far told end = record { place = place; passed = so_far; told = told; line_is = refl; behind = behind; end = end }
 ended_at schema list start place behind after (NoRecord mistake) so_far told end = inr (record { place = place; passed = so_far; told = told; line_is = refl; behind = behind; end = end })

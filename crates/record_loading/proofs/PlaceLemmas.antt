@@ -14,7 +14,7 @@ use Rattle.record_loading.specs.declared.rejected.RejectReason.{RejectReason}
 use Rattle.record_loading.specs.declared.rejected.RejectedLine.{RejectedLine}
 use Rattle.record_loading.specs.declared.writing.PassedLine.TheVariants.{Written, Replaced, Rejected, Stopped}
 use Rattle.record_loading.specs.Told.{AreToldRejected, TellsRejected}
-use Rattle.record_loading.specs.Passing.{LoadSource, Place, IsRecordWritten, IsRecordReplaced, IsRejected, IsEnd, behind_lines, number_of_line, rejected_line, lines_end}
+use Rattle.record_loading.specs.Passing.{LoadSource, Place, IsRecordWritten, IsRecordReplaced, IsRejected, IsEnd, behind_lines, number_of_line, lines_form, rejected_line, lines_end}
 use Rattle.record_loading.specs.Loading.{IsPassedUpTo, LinesLeave}
 use Rattle.record_loading.specs.Going.{TakesLines, LoadGoesOn, PassesLineOf, WritesListing}
 use Rattle.record_loading.proofs.GoingLemmas.{goes_self, goes_both, trusted}
@@ -71,6 +71,7 @@ module _ {S R : Type 0} (shown : Shown S) (Tells : R → R → RejectedLine → 
     pub takes : (shortest : ℕ) → TakesLines shown source.form shortest begun → length now.area ≡ length begun.area → TakesLines shown source.form shortest now
     takes shortest at_first same = record {
       fits = is.goes.fits;
+      ordered = subst (λ (n : ℕ). shortest ≤ n) (sym same) at_first.ordered;
       least = at_first.least ∙ ap (λ (s : Schema). s.least) (sym is.goes.schema);
       room = record {
         length_is = same ∙ at_first.room.length_is ∙ ap (λ (s : Schema). s.greatest) (sym is.goes.schema);
@@ -100,7 +101,7 @@ module _ {S R : Type 0} (shown : Shown S) (Tells : R → R → RejectedLine → 
         so_far = λ honest truly standing.
             one_written begun.held.connector.schema source (state_in shown 0 begun) (place_in shown rest records replaced is.told now) (place_in shown behind.now (records + 1) replaced is.told after)
             (is.so_far (line.goes.keeps.honest honest) truly standing)
-            (subst (λ (schema : Schema). IsRecordWritten schema source.form (record { text = rest; behind = behind.now; before = state_in shown 0 now; after = state_in shown 0 after })) is.goes.schema
+            (subst (λ (schema : Schema). IsRecordWritten schema (lines_form source) (record { text = rest; behind = behind.now; before = state_in shown 0 now; after = state_in shown 0 after })) is.goes.schema
             (later _ line.goes line.line honest truly standing)) refl refl refl;
       }
 
@@ -117,7 +118,7 @@ module _ {S R : Type 0} (shown : Shown S) (Tells : R → R → RejectedLine → 
             let known = later _ line.goes line.line honest truly standing in
             one_replaced begun.held.connector.schema source (state_in shown 0 begun) (place_in shown rest records replaced is.told now) (place_in shown behind.now records (replaced + 1) is.told after)
             (is.so_far (line.goes.keeps.honest honest) truly standing) known.0
-            (subst (λ (schema : Schema). IsRecordReplaced schema source.form (record { text = rest; behind = behind.now; before = state_in shown 0 now; after = state_in shown 0 after })) is.goes.schema known.1) refl refl refl;
+            (subst (λ (schema : Schema). IsRecordReplaced schema (lines_form source) (record { text = rest; behind = behind.now; before = state_in shown 0 now; after = state_in shown 0 after })) is.goes.schema known.1) refl refl refl;
       }
 
       -- one line more was rejected, and told
@@ -136,7 +137,7 @@ module _ {S R : Type 0} (shown : Shown S) (Tells : R → R → RejectedLine → 
                 let known = later _ line.goes line.line honest truly standing in
                 one_rejected begun.held.connector.schema source (state_in shown 0 begun) (place_in shown rest records replaced is.told now) (place_in shown behind.now records replaced (is.told ++ (rejected_line number reason ∷ [])) after)
                 (is.so_far (line.goes.keeps.honest honest) truly standing) reason known.0
-                (subst (λ (schema : Schema). IsRejected schema source.form source.options.replace reason (record { text = rest; behind = behind.now; before = state_in shown 0 now; after = state_in shown 0 after })) is.goes.schema known.1)
+                (subst (λ (schema : Schema). IsRejected schema (lines_form source) source.options.replace reason (record { text = rest; behind = behind.now; before = state_in shown 0 now; after = state_in shown 0 after })) is.goes.schema known.1)
                 refl refl (ap (λ (n : ℕ). is.told ++ (rejected_line n reason ∷ [])) at);
           }
 
@@ -156,7 +157,7 @@ module _ {S R : Type 0} (shown : Shown S) (Tells : R → R → RejectedLine → 
                     subst (λ (n : ℕ). LinesLeave begun.held.connector.schema (record { source = source; told = is.told }) (state_in shown 0 begun) (lines_end n reason) (state_in shown 0 (in_memory after.held after.library known.0))) (sym at)
                         (ended_at begun.held.connector.schema (record { source = source; told = is.told }) (state_in shown 0 begun) (place_in shown rest records replaced is.told now) known.1 (state_in shown 0 (in_memory after.held after.library known.0)) reason
                         (is.so_far (line.goes.keeps.honest honest) truly standing) refl
-                        (subst (λ (schema : Schema). IsEnd schema source.form source.options reason (record { text = rest; behind = known.1; before = state_in shown 0 now; after = state_in shown 0 (in_memory after.held after.library known.0) })) is.goes.schema known.2)),
+                        (subst (λ (schema : Schema). IsEnd schema (lines_form source) source.options reason (record { text = rest; behind = known.1; before = state_in shown 0 now; after = state_in shown 0 (in_memory after.held after.library known.0) })) is.goes.schema known.2)),
                   );
             },
           )

@@ -23,9 +23,8 @@ use Rattle.verbs.specs.Marred.{Step}
 use Rattle.verbs.specs.Verbs.{perform}
 use Rattle.verbs.specs.Writing.{write_in, written_record, rewrite_in, rewritten, changed}
 use Rattle.deck_runner.proofs.CleanLemmas.{clean_step}
-use Rattle.record_text.specs.declared.form.Form.{Form}
-use Rattle.record_text.specs.ReadLine.{ReadsRecord}
 use Rattle.record_loading.specs.declared.options.LoadOptions.{LoadOptions}
+use Rattle.record_loading.specs.LineForm.{LineForm, BeginsWith, ReadsLineOf}
 use Rattle.record_loading.specs.Passing.{Passing, CanBeRecord, with_record, write_of, rewrite_of, is_refused_for_keys, replaces_nothing, ends_lines}
 use Rattle.record_loading.specs.Passing.{IsRecordWritten, IsRefusedForKeys, IsRefusal, IsRecordReplaced, IsNotReplaced, IsReplacingEnd}
 
@@ -214,13 +213,13 @@ write_leaves n s (Some session) =
 
 -- ---- a record
 
-module _ (form : Form) (schema : Schema) (text : List ℕ) (s : FileState) (area : List ℕ) (n : ℕ) (behind : List ℕ) (same : length area ≡ length s.area) (reads : ReadsRecord form text schema.least s.area area n behind) where
+module _ (form : LineForm) (schema : Schema) (text : List ℕ) (s : FileState) (area : List ℕ) (n : ℕ) (behind : List ℕ) (same : length area ≡ length s.area) (reads : ReadsLineOf form text schema.least s.area area n behind) where
   length_read : length (take n area) ≡ n
-  length_read = let within = reads.line.within in length-take-le n area (omega (arith, same, within))
+  length_read = let within = reads.within in length-take-le n area (omega (arith, same, within))
 
   -- it stands in the beginning of the area
   area_is : take n area ++ drop (length (take n area)) s.area ≡ area
-  area_is = ap (λ (m : ℕ). take n area ++ drop m s.area) length_read ∙ ap (λ (l : List ℕ). take n area ++ l) (sym reads.line.rest) ∙ take-append-drop n area
+  area_is = ap (λ (m : ℕ). take n area ++ drop m s.area) length_read ∙ ap (λ (l : List ℕ). take n area ++ l) (sym reads.rest) ∙ take-append-drop n area
 
   state_is : with_record (take n area) s ≡ record s { area = area }
   state_is = ap (λ (l : List ℕ). record s { area = l }) area_is
@@ -232,13 +231,16 @@ module _ (form : Form) (schema : Schema) (text : List ℕ) (s : FileState) (area
 
   can_be : length s.area ≡ schema.greatest → CanBeRecord schema (take n area)
   can_be whole =
-      let within = reads.line.within in
+      let within = reads.within in
       let long = reads.long in
       let is = length_read in
       record {
-        are_bytes = reads.line.bytes;
+        are_bytes = reads.are_bytes;
         length_is = record { least = omega (arith, is, long); greatest = omega (arith, is, within, whole) };
       }
+
+  begins_here : length s.area ≡ schema.greatest → BeginsWith form.pad form.form schema.greatest text (take n area) behind
+  begins_here whole = subst (λ (m : ℕ). BeginsWith form.pad form.form m text (take n area) behind) whole reads.begins
 
   abbrev passing : FileState → Passing
   passing next = record { text = text; behind = behind; before = s; after = next }
@@ -251,7 +253,7 @@ module _ (form : Form) (schema : Schema) (text : List ℕ) (s : FileState) (area
       let should : write_of bytes s ≡ answers status next = success_step Write (length bytes) (with_record bytes s) status next success (step_is (answers status next) step) in
       record {
         bytes = bytes;
-        text_is = reads.line.line;
+        begins = begins_here whole;
         can_be = can_be whole;
         success = subst (λ (o : Outcome). IsTrue (is_successful o.status)) (sym should) success;
         file = sym (ap (λ (o : Outcome). o.next) should);
@@ -266,7 +268,7 @@ module _ (form : Form) (schema : Schema) (text : List ℕ) (s : FileState) (area
       let stays = write_leaves (length bytes) (with_record bytes s) s.connector.session (subst (λ (o : Outcome). is_refused_for_keys o.status ≡ true) (sym should) keys) in
       record {
         bytes = bytes;
-        text_is = reads.line.line;
+        begins = begins_here whole;
         can_be = can_be whole;
         status_is = sym (ap (λ (o : Outcome). o.status) should);
         of_keys = keys;
@@ -280,7 +282,7 @@ module _ (form : Form) (schema : Schema) (text : List ℕ) (s : FileState) (area
       → ends_lines options status ≡ true → IsRefusal schema form options status (passing next)
   refused_here next status options whole step failed ends = record {
     bytes = take n area;
-    text_is = reads.line.line;
+    begins = begins_here whole;
     can_be = can_be whole;
     step = step_is (answers status next) step;
     no_success = failed;
@@ -309,7 +311,7 @@ module _ (form : Form) (schema : Schema) (text : List ℕ) (s : FileState) (area
         let should : rewrite_of bytes s ≡ answers status next = success_step Rewrite (length bytes) (write_of bytes s).next status next success rewrite_step in
         record {
           bytes = bytes;
-          text_is = reads.line.line;
+          begins = begins_here whole;
           can_be = can_be whole;
           of_keys = should_keys;
           success = subst (λ (o : Outcome). IsTrue (is_successful o.status)) (sym should) success;
@@ -325,7 +327,7 @@ module _ (form : Form) (schema : Schema) (text : List ℕ) (s : FileState) (area
         let stays = rewrite_leaves (length bytes) (write_of bytes s).next (write_of bytes s).next.connector.session (subst (λ (o : Outcome). replaces_nothing o.status ≡ true) (sym should) nothing) in
         record {
           bytes = bytes;
-          text_is = reads.line.line;
+          begins = begins_here whole;
           can_be = can_be whole;
           status_is = sym (ap (λ (o : Outcome). o.status) should_write);
           of_keys = keys;
@@ -340,7 +342,7 @@ module _ (form : Form) (schema : Schema) (text : List ℕ) (s : FileState) (area
     not_replacing_here options asked failed ends = record {
       asked = asked;
       bytes = take n area;
-      text_is = reads.line.line;
+      begins = begins_here whole;
       can_be = can_be whole;
       of_keys = should_keys;
       step = rewrite_step;

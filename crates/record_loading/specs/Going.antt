@@ -21,6 +21,7 @@ use Rattle.record_loading.specs.declared.writing.PassedLine.TheVariants.{Written
 use Rattle.record_loading.specs.Passing.{Passing, IsRecordWritten, IsRecordReplaced, IsRejected, IsEnd}
 use Rattle.record_loading.specs.Loading.{Listing, LinesLeave, Loads}
 use Rattle.record_loading.specs.Real.{AllStayReal}
+use Rattle.record_loading.specs.LineForm.{line_form}
 
 -- the area is as long as the greatest record, of which the columns of the form are the whole
 pub record HasAreaFor (form : Form) (schema : Schema) (area : List ℕ) : Type 0 where
@@ -34,6 +35,7 @@ pub record TakesLines {S : Type 0} (shown : Shown S) (form : Form) (shortest : �
   pub fits : Fits before.held (shown.world before.library) 0
   pub least : shortest ≡ before.held.connector.schema.least
   pub room : HasAreaFor form before.held.connector.schema before.area
+  pub ordered : shortest ≤ length before.area
   pub short : length before.area ≤ 4000
 
 -- every part: the connector goes with its unit and keeps its schema, nothing else is changed, the
@@ -61,17 +63,18 @@ passing_in shown text behind before after area = record {
 abbrev pub ComesOfLine : {S : Type 0} → Shown S → LoadOptions → Form → (text : List ℕ) → FileInMemory S
     → FileInMemory S → PassedLine → Type 0
 ComesOfLine shown options form text before after (Written behind) =
-    IsRecordWritten before.held.connector.schema form (passing_in shown text behind.now before after after.area)
+    IsRecordWritten before.held.connector.schema (line_form form options)
+    (passing_in shown text behind.now before after after.area)
 ComesOfLine shown options form text before after (Replaced behind) =
     IsTrue options.replace
-    × IsRecordReplaced before.held.connector.schema form
+    × IsRecordReplaced before.held.connector.schema (line_form form options)
     (passing_in shown text behind.now before after after.area)
 ComesOfLine shown options form text before after (Rejected reason behind) =
     IsTrue options.keep_going
-    × IsRejected before.held.connector.schema form options.replace reason
+    × IsRejected before.held.connector.schema (line_form form options) options.replace reason
     (passing_in shown text behind.now before after after.area)
 ComesOfLine shown options form text before after (Stopped reason) = (area : List ℕ) × (behind : List ℕ)
-    × IsEnd before.held.connector.schema form options reason
+    × IsEnd before.held.connector.schema (line_form form options) options reason
     (passing_in shown text behind before after area)
 
 -- the text behind a line is shorter

@@ -7,3 +7,4 @@ pub mod Passing
 pub mod Replacing
 pub mod Told
 pub mod MistakeLine
+pub mod LineForm

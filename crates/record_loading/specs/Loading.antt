@@ -29,7 +29,8 @@ use Rattle.record_loading.specs.declared.options.LoadOptions.{LoadOptions}
 use Rattle.record_loading.specs.declared.rejected.RejectedLine.{RejectedLine}
 use Rattle.record_loading.specs.declared.rejected.RejectReason.{RejectReason}
 use Rattle.record_loading.specs.declared.rejected.RejectReason.TheVariants.{Refused as Refuses, NoRecord as IsNoRecord}
-use Rattle.record_loading.specs.Passing.{LoadSource, Place, PassesLines, IsEnd, behind_lines, number_of_line}
+use Rattle.record_loading.specs.Passing.{LoadSource, Place, PassesLines, IsEnd, behind_lines, lines_form}
+use Rattle.record_loading.specs.Passing.{number_of_line}
 
 -- what is loaded, and the lines that were told as rejected
 pub record Listing : Type 0 where
@@ -41,9 +42,9 @@ abbrev pub listing_by : Form → List ℕ → LoadOptions → (told : List Rejec
 listing_by form text options told =
     record { source = record { form = form; text = text; options = options }; told = told }
 
--- no line is skipped, the first that is rejected ends a load, and no record is replaced
+-- no line is skipped, the first that is rejected ends a load, no record is replaced, and no value filled up
 abbrev pub usual_options : LoadOptions
-usual_options = record { skip = 0; keep_going = false; replace = false }
+usual_options = record { skip = 0; keep_going = false; replace = false; pad = false }
 
 -- so of a text in a form: no line is passed over, and none is told
 abbrev pub listing : Form → List ℕ → Listing
@@ -83,7 +84,7 @@ pub record IsEndedAt (schema : Schema) (list : Listing) (before : FileState) (li
   pub told : place.told ≡ list.told
   pub line_is : line ≡ number_of_line list.source place
   pub behind : List ℕ
-  pub end : IsEnd schema list.source.form list.source.options reason
+  pub end : IsEnd schema (lines_form list.source) list.source.options reason
       (record { text = place.rest; behind = behind; before = place.file; after = after })
 
 -- the text does not begin with what stands before its first line (for text that is nothing, and

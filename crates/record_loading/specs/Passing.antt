@@ -12,10 +12,8 @@ use Rattle.verbs.specs.Fits.{IsRecordOf}
 use Rattle.verbs.specs.Marred.{Step}
 use Rattle.verbs.specs.Verbs.{perform}
 use Rattle.record_text.specs.declared.form.Form.{Form}
-use Rattle.record_text.specs.Lines.{line_in}
-use Rattle.record_text.specs.ReadLine.{AreBytes, BeginsWithNoRecord}
+use Rattle.record_text.specs.ReadLine.{AreBytes}
 use Rattle.record_text.specs.Header.{header_lines}
-use Rattle.record_text.specs.Mistake.{IsLineMistake}
 use Rattle.record_text.specs.declared.mistake.LineMistake.{LineMistake}
 use Rattle.record_loading.specs.declared.end.LinesEnd.{LinesEnd}
 use Rattle.record_loading.specs.declared.end.LinesEnd.TheVariants as ends
@@ -23,6 +21,7 @@ use Rattle.record_loading.specs.declared.options.LoadOptions.{LoadOptions}
 use Rattle.record_loading.specs.declared.rejected.RejectReason.{RejectReason}
 use Rattle.record_loading.specs.declared.rejected.RejectReason.TheVariants.{Refused, NoRecord}
 use Rattle.record_loading.specs.declared.rejected.RejectedLine.{RejectedLine}
+use Rattle.record_loading.specs.LineForm.{LineForm, line_form, BeginsWith, BeginsWithNone, HasMistake}
 
 -- ---- lines that are passed over
 
@@ -81,18 +80,18 @@ pub record Passing : Type 0 where
   pub after : FileState
 
 -- the line is that of a record: WRITE should be a success, and it was
-pub record IsRecordWritten (schema : Schema) (form : Form) (line : Passing) : Type 0 where
+pub record IsRecordWritten (schema : Schema) (form : LineForm) (line : Passing) : Type 0 where
   pub bytes : List ℕ
-  pub text_is : line.text ≡ line_in form bytes ++ line.behind
+  pub begins : BeginsWith form.pad form.form schema.greatest line.text bytes line.behind
   pub can_be : CanBeRecord schema bytes
   pub success : IsTrue (is_successful (write_of bytes line.before).status)
   pub file : line.after ≡ (write_of bytes line.before).next
 
 -- the line is that of a record: WRITE should be refused so for its keys, and it was; the file and what its
 -- name stands for are as they were
-pub record IsRefusedForKeys (schema : Schema) (form : Form) (status : Status) (line : Passing) : Type 0 where
+pub record IsRefusedForKeys (schema : Schema) (form : LineForm) (status : Status) (line : Passing) : Type 0 where
   pub bytes : List ℕ
-  pub text_is : line.text ≡ line_in form bytes ++ line.behind
+  pub begins : BeginsWith form.pad form.form schema.greatest line.text bytes line.behind
   pub can_be : CanBeRecord schema bytes
   pub status_is : status ≡ (write_of bytes line.before).status
   pub of_keys : IsTrue (is_refused_for_keys status)
@@ -102,9 +101,9 @@ pub record IsRefusedForKeys (schema : Schema) (form : Form) (status : Status) (l
 
 -- the line is that of a record: WRITE should be refused for its keys, and REWRITE behind it should be a
 -- success, and they were, so that it took the place of the record of its prime value
-pub record IsRecordReplaced (schema : Schema) (form : Form) (line : Passing) : Type 0 where
+pub record IsRecordReplaced (schema : Schema) (form : LineForm) (line : Passing) : Type 0 where
   pub bytes : List ℕ
-  pub text_is : line.text ≡ line_in form bytes ++ line.behind
+  pub begins : BeginsWith form.pad form.form schema.greatest line.text bytes line.behind
   pub can_be : CanBeRecord schema bytes
   pub of_keys : IsTrue (is_refused_for_keys (write_of bytes line.before).status)
   pub success : IsTrue (is_successful (rewrite_of bytes line.before).status)
@@ -112,9 +111,9 @@ pub record IsRecordReplaced (schema : Schema) (form : Form) (line : Passing) : T
 
 -- the line is that of a record: WRITE should be refused so for its keys, and REWRITE behind it should replace
 -- nothing, and so they were answered; the file and what its name stands for are as they were
-pub record IsNotReplaced (schema : Schema) (form : Form) (status : Status) (line : Passing) : Type 0 where
+pub record IsNotReplaced (schema : Schema) (form : LineForm) (status : Status) (line : Passing) : Type 0 where
   pub bytes : List ℕ
-  pub text_is : line.text ≡ line_in form bytes ++ line.behind
+  pub begins : BeginsWith form.pad form.form schema.greatest line.text bytes line.behind
   pub can_be : CanBeRecord schema bytes
   pub status_is : status ≡ (write_of bytes line.before).status
   pub of_keys : IsTrue (is_refused_for_keys status)
@@ -125,38 +124,38 @@ pub record IsNotReplaced (schema : Schema) (form : Form) (status : Status) (line
 
 -- the line is that of a record that was refused so for its keys: by a WRITE, and by a REWRITE behind it where
 -- records are to be replaced
-abbrev pub IsRefusedLine : (replace : Bool) → Schema → Form → Status → Passing → Type 0
+abbrev pub IsRefusedLine : (replace : Bool) → Schema → LineForm → Status → Passing → Type 0
 IsRefusedLine false schema form status line = IsRefusedForKeys schema form status line
 IsRefusedLine true schema form status line = IsNotReplaced schema form status line
 
 -- the line is that of no record that the file can have, and has this mistake: it is passed over up to its
 -- LF, and the file is as it was; in the record area other bytes may be
-pub record IsOfNoRecord (schema : Schema) (form : Form) (mistake : LineMistake) (line : Passing) : Type 0 where
+pub record IsOfNoRecord (schema : Schema) (form : LineForm) (mistake : LineMistake) (line : Passing) : Type 0 where
   pub some : 0 < length line.text
-  pub none : BeginsWithNoRecord form line.text schema.least schema.greatest
-  pub wrong : IsLineMistake form line.text schema.least schema.greatest mistake
+  pub none : BeginsWithNone form.pad form.form line.text schema.least schema.greatest
+  pub wrong : HasMistake form.pad form.form line.text schema.least schema.greatest mistake
   pub behind : line.behind ≡ behind_line line.text
   pub area : List ℕ
   pub area_length : length area ≡ length line.before.area
   pub file : line.after ≡ record line.before { area = area }
 
 -- the line was rejected for this reason
-abbrev pub IsRejected : Schema → Form → (replace : Bool) → RejectReason → Passing → Type 0
+abbrev pub IsRejected : Schema → LineForm → (replace : Bool) → RejectReason → Passing → Type 0
 IsRejected schema form replace (Refused status) line = IsRefusedLine replace schema form status line
 IsRejected schema form replace (NoRecord mistake) line = IsOfNoRecord schema form mistake line
 
 -- the line is that of a record whose WRITE was answered so, which is no success, and it ends the lines
-pub record IsRefusal (schema : Schema) (form : Form) (options : LoadOptions) (status : Status) (line : Passing)
+pub record IsRefusal (schema : Schema) (form : LineForm) (options : LoadOptions) (status : Status) (line : Passing)
     : Type 0 where
   pub bytes : List ℕ
-  pub text_is : line.text ≡ line_in form bytes ++ line.behind
+  pub begins : BeginsWith form.pad form.form schema.greatest line.text bytes line.behind
   pub can_be : CanBeRecord schema bytes
   pub step : Step Write (length bytes) (with_record bytes line.before) (answers status line.after)
   pub no_success : is_successful status ≡ false
   pub ends : IsTrue (ends_lines options status)
 
 -- the line is that of a record that was refused so for its keys, and replaced none; and it ends the lines
-pub record IsNotReplacedEnd (schema : Schema) (form : Form) (options : LoadOptions) (status : Status)
+pub record IsNotReplacedEnd (schema : Schema) (form : LineForm) (options : LoadOptions) (status : Status)
     (line : Passing) : Type 0 where
   pub asked : IsTrue options.replace
   pub refused : IsNotReplaced schema form status line
@@ -164,11 +163,11 @@ pub record IsNotReplacedEnd (schema : Schema) (form : Form) (options : LoadOptio
 
 -- the line is that of a record: WRITE should be refused for its keys, and was, and REWRITE behind it was
 -- answered so, which is no success, and not that it replaced nothing; and it ends the lines
-pub record IsReplacingEnd (schema : Schema) (form : Form) (options : LoadOptions) (status : Status)
+pub record IsReplacingEnd (schema : Schema) (form : LineForm) (options : LoadOptions) (status : Status)
     (line : Passing) : Type 0 where
   pub asked : IsTrue options.replace
   pub bytes : List ℕ
-  pub text_is : line.text ≡ line_in form bytes ++ line.behind
+  pub begins : BeginsWith form.pad form.form schema.greatest line.text bytes line.behind
   pub can_be : CanBeRecord schema bytes
   pub of_keys : IsTrue (is_refused_for_keys (write_of bytes line.before).status)
   pub step : Step Rewrite (length bytes) (write_of bytes line.before).next (answers status line.after)
@@ -176,23 +175,23 @@ pub record IsReplacingEnd (schema : Schema) (form : Form) (options : LoadOptions
   pub ends : replaces_nothing status ≡ false
 
 -- the record of the line was answered so, and ends the lines
-abbrev pub IsRefusedEnd : Schema → Form → LoadOptions → Status → Passing → Type 0
+abbrev pub IsRefusedEnd : Schema → LineForm → LoadOptions → Status → Passing → Type 0
 IsRefusedEnd schema form options status line =
     IsRefusal schema form options status line
     ⊎ IsNotReplacedEnd schema form options status line
     ⊎ IsReplacingEnd schema form options status line
 
 -- the line is that of no record that the file can have, and has this mistake; and it ends the lines
-pub record IsNoRecordEnd (schema : Schema) (form : Form) (keep_going : Bool) (mistake : LineMistake) (line : Passing)
+pub record IsNoRecordEnd (schema : Schema) (form : LineForm) (keep_going : Bool) (mistake : LineMistake) (line : Passing)
     : Type 0 where
   pub some : 0 < length line.text
-  pub none : BeginsWithNoRecord form line.text schema.least schema.greatest
-  pub wrong : IsLineMistake form line.text schema.least schema.greatest mistake
+  pub none : BeginsWithNone form.pad form.form line.text schema.least schema.greatest
+  pub wrong : HasMistake form.pad form.form line.text schema.least schema.greatest mistake
   pub ends : keep_going ≡ false
   pub file : line.after ≡ line.before
 
 -- the line ended the lines, for this reason
-abbrev pub IsEnd : Schema → Form → LoadOptions → RejectReason → Passing → Type 0
+abbrev pub IsEnd : Schema → LineForm → LoadOptions → RejectReason → Passing → Type 0
 IsEnd schema form options (Refused status) line = IsRefusedEnd schema form options status line
 IsEnd schema form options (NoRecord mistake) line = IsNoRecordEnd schema form options.keep_going mistake line
 
@@ -204,6 +203,10 @@ pub record LoadSource : Type 0 where
   pub form : Form
   pub text : List ℕ
   pub options : LoadOptions
+
+-- how its lines are read
+abbrev pub lines_form : LoadSource → LineForm
+lines_form source = line_form source.form source.options
 
 -- where a load stands between two lines: the text that is left, how many records were written, and how many
 -- replaced, which lines were told as rejected, and the file
@@ -230,7 +233,7 @@ rejected_line line reason = record { line = line; reason = reason }
 
 -- the record of the next line was written, and nothing was told
 pub record WritesRecordOfLine (schema : Schema) (source : LoadSource) (before after : Place) : Type 0 where
-  pub line : IsRecordWritten schema source.form (from_to before after)
+  pub line : IsRecordWritten schema (lines_form source) (from_to before after)
   pub records : after.records ≡ before.records + 1
   pub replaced : after.replaced ≡ before.replaced
   pub told : after.told ≡ before.told
@@ -238,7 +241,7 @@ pub record WritesRecordOfLine (schema : Schema) (source : LoadSource) (before af
 -- the record of the next line replaced another one, as is asked for, and nothing was told
 pub record ReplacesRecordOfLine (schema : Schema) (source : LoadSource) (before after : Place) : Type 0 where
   pub asked : IsTrue source.options.replace
-  pub line : IsRecordReplaced schema source.form (from_to before after)
+  pub line : IsRecordReplaced schema (lines_form source) (from_to before after)
   pub records : after.records ≡ before.records
   pub replaced : after.replaced ≡ before.replaced + 1
   pub told : after.told ≡ before.told
@@ -247,7 +250,7 @@ pub record ReplacesRecordOfLine (schema : Schema) (source : LoadSource) (before 
 pub record RejectsLine (schema : Schema) (source : LoadSource) (before after : Place) : Type 0 where
   pub reason : RejectReason
   pub asked : IsTrue source.options.keep_going
-  pub line : IsRejected schema source.form source.options.replace reason (from_to before after)
+  pub line : IsRejected schema (lines_form source) source.options.replace reason (from_to before after)
   pub records : after.records ≡ before.records
   pub replaced : after.replaced ≡ before.replaced
   pub told : after.told ≡ before.told ++ (rejected_line (number_of_line source before) reason ∷ [])

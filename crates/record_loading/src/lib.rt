@@ -26,6 +26,7 @@ mod loading;
 mod mistake_line;
 mod options;
 mod passing;
+mod reading;
 mod rejected;
 mod shelf_end;
 mod shelf_load;

@@ -1,7 +1,7 @@
 //! Which lines a load takes, and what comes of a line that it cannot take.
 
-/// Which lines of a text are loaded, whether a line that is rejected ends that, and whether a record may
-/// replace another one.
+/// Which lines of a text are loaded, whether a line that is rejected ends that, whether a record may
+/// replace another one, and whether its values are filled up.
 #[derive(Clone, Copy, Debug, PartialEq, Eq)]
 pub struct LoadOptions {
     /// How many lines behind the header are passed over, unread.
@@ -10,4 +10,6 @@ pub struct LoadOptions {
     pub keep_going: bool,
     /// Whether a record whose WRITE is refused for its keys replaces the one of its prime value.
     pub replace: bool,
+    /// Whether values that are shorter than their columns are filled up.
+    pub pad: bool,
 }

@@ -206,6 +206,7 @@ pub fn load_on_shelf<S: Shelf, P: Progress>(
         skip: 0,
         keep_going: false,
         replace: false,
+        pad: false,
     };
     load_lines_on_shelf(
         alloc,

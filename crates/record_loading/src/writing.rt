@@ -13,12 +13,13 @@ ghost use Rattle.record_loading.specs.Going.{TakesLines, PassesLineOf, WritesLin
 use crate::end::LinesEnd;
 use crate::options::LoadOptions;
 use crate::passing::{behind_line, behind_lines};
+use crate::reading::read_line;
 use crate::rejected::{
     RejectLog, RejectReason, RejectedLine, is_refused_for_keys, replaces_nothing,
 };
 use indexed_file::Library;
 use io_state::Status;
-use record_text::{Form, LineMistake, behind_header, header_lines, record_or_mistake};
+use record_text::{Form, LineMistake, behind_header, header_lines};
 use streams::Progress;
 use verbs::Connector;
 
@@ -102,7 +103,7 @@ fn pass_line<'a, L: Library>(
     ensures { PassesLineOf L.shown options form.now text.now (in_memory connector.old lib.old area.old)
         (in_memory connector.new lib.new area.new) result }
 {
-    let line = match record_or_mistake(form, text, least, area) {
+    let line = match read_line(form, options, text, least, area) {
         Ok(line) => line,
         Err(mistake) => {
             if options.keep_going {

@@ -78,6 +78,7 @@ pub const USUAL: LoadOptions = LoadOptions {
     skip: 0,
     keep_going: false,
     replace: false,
+    pad: false,
 };
 
 /// What is told of a load over a shelf, whose units are forgotten.

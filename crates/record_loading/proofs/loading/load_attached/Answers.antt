@@ -1,4 +1,4 @@
-use Rattle.std.proofs.Common.{rules, [], refl, sym, ap, ◌∙◌}
+use Rattle.std.proofs.Common.{rules, arith, [], refl, sym, ap, ◌∙◌}
 use Rattle.record_loading.specs.Loading.{listing_by}
 use Rattle.record_loading.proofs.LoadLemmas.{opens_at_start, not_opened, goes_all, loaded}
 use Rattle.record_loading.proofs.loading.load_attached.Goals as goal
@@ -22,6 +22,7 @@ write_listing-lines-requires-clause-takes g c =
     record {
       fits = (c.open-opened.ensures 0 []).fits;
       least = c.least-least.ensures.least ∙ ap (λ s. s.least) (sym same);
+      ordered = (let is = c.least-least.ensures.least in let order = c.least-least.ensures.schema.ordered in let long = c.requires.area.length_is in omega (arith, is, order, long));
       room = record { length_is = c.requires.area.length_is ∙ ap (λ s. s.greatest) (sym same); whole = c.requires.area.whole };
       short = search rules;
     }
