@@ -48,7 +48,12 @@ load_of false = New
 
 -- which lines the words ask for
 abbrev pub options_of : LineOptions → LoadOptions
-options_of lines = record { skip = lines.skip; keep_going = lines.keep_going; replace = lines.replace }
+options_of lines = record {
+  skip = lines.skip;
+  keep_going = lines.keep_going;
+  replace = lines.replace;
+  pad = lines.pad;
+}
 
 -- a text in a form, of which these lines are to be loaded
 abbrev pub load_source : Form → (text : List ℕ) → LoadOptions → LoadSource

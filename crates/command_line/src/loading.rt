@@ -52,6 +52,7 @@ pub fn options_of(lines: LineOptions) -> LoadOptions
         skip: lines.skip,
         keep_going: lines.keep_going,
         replace: lines.replace,
+        pad: lines.pad,
     }
 }
 

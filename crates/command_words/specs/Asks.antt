@@ -183,6 +183,9 @@ pub record AreLineOptions (rows : List Row) (lines : LineOptions) : Type 0 where
   pub replace_text : Text
   pub replace_given : one_of (codes "replace") rows ≡ Some replace_text
   pub replace_is : IsFlag replace_text lines.replace
+  pub pad_text : Text
+  pub pad_given : one_of (codes "pad") rows ≡ Some pad_text
+  pub pad_is : IsFlag pad_text lines.pad
 
 -- the subcommand that was met is to load the lines of this text, in a form, into a file of this
 -- deck over this folder, into the one that is there or not, with these limits, these of the lines,

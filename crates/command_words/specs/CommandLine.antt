@@ -127,13 +127,14 @@ cobol_shape = record (new_shape (codes "cobol")) {
 }
 
 -- `load DECK --folder DIR --file NAME TEXT [--as FORM] [--into] [--skip N] [--keep-going] [--replace]
--- [--pages N] [--frames N] [--quiet]`
+-- [--pad] [--pages N] [--frames N] [--quiet]`
 abbrev pub load_shape : Shape
 load_shape = record (new_shape (codes "load")) {
   rules = word_rule (codes "deck") ∷ option_rule (codes "folder") ∷ option_rule (codes "file") ∷ word_rule
       (codes "text") ∷ usual_rule (codes "as") (codes "text")
       ∷ flag_rule (codes "into")
       ∷ skip_rule ∷ flag_rule (codes "keep-going") ∷ flag_rule (codes "replace")
+      ∷ flag_rule (codes "pad")
       ∷ pages_rule
       ∷ frames_rule (codes "64") ∷ flag_rule (codes "quiet") ∷ [];
 }

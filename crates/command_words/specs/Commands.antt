@@ -70,10 +70,11 @@ abbrev pub with_text : App → App
 with_text app = with_rule (with_rule (with_file_words app) (usual_rule (codes "as") (codes "text")))
     (flag_rule (codes "into"))
 
--- with the options by which it skips lines, keeps going, and replaces records
+-- with the options by which it skips lines, keeps going, replaces records, and fills up values
 abbrev pub with_line_options : App → App
 with_line_options app =
-    with_rule (with_rule (with_rule app skip_rule) (flag_rule (codes "keep-going"))) (flag_rule (codes "replace"))
+    with_rule (with_rule (with_rule (with_rule app skip_rule) (flag_rule (codes "keep-going")))
+    (flag_rule (codes "replace"))) (flag_rule (codes "pad"))
 
 -- with the form of a salvage
 abbrev pub with_salvage_form : App → App

@@ -219,10 +219,12 @@ fn line_options_of(load: &ArgMatches<'_>) -> Option<LineOptions>
     let skip = load.get_one("skip")?;
     let keep_going = load.get_one("keep-going")?;
     let replace = load.get_one("replace")?;
+    let pad = load.get_one("pad")?;
     Some(LineOptions {
         skip,
         keep_going,
         replace,
+        pad,
     })
 }
 

@@ -234,6 +234,10 @@ error, as 'cobix: line L: status 22' or 'cobix: line L: no record of this file',
 with a line that is no record's is told behind that: 'line L, column 3 CUST-CITY: 9 characters, 6 wanted'.
 With '--replace' a record whose WRITE answers 22 is put by REWRITE in the place of the one that has its prime \
 value. Where REWRITE answers 22 or 23, or 49 in a new file, which OPEN OUTPUT made, the line is refused with 22.
+With '--pad' a value that is shorter than its item is filled up, as MOVE does it: with spaces behind it, or, in \
+an item of digits, with zeros before its digits. There a value without digits, or with anything else, stays a \
+mistake, and so does each value that is too long. In the form 'text' the record gets spaces behind it. Every \
+record has the greatest length then.
 Without '--into' a file that is there is left as it is, whatever it is.
 
 Forms:
@@ -242,7 +246,7 @@ Forms:
 commas between, and CRLF at the end
   json  an object on a line for each record, with a string for each column
 The columns are the elementary items of the record of NAME, as 'cobix list' has them by that deck. No value \
-is padded, cut or converted.
+is padded without '--pad', and none is cut or converted.
 
 Exit status:
   0   'loaded N': the records of all N lines were written, but for those that '--skip' passes over

@@ -1,7 +1,7 @@
 //! Which lines of a text a load takes.
 
-/// Which lines of a text are loaded, whether a line that is rejected ends that, and whether the record
-/// of a line may replace one of the file.
+/// Which lines of a text are loaded, whether a line that is rejected ends that, whether the record of a
+/// line may replace one of the file, and whether its values are filled up.
 #[derive(Clone, Copy, Debug, PartialEq, Eq)]
 pub struct LineOptions {
     /// How many lines behind the header are passed over, unread.
@@ -10,4 +10,6 @@ pub struct LineOptions {
     pub keep_going: bool,
     /// Whether the record of a line replaces the one that has its prime value already.
     pub replace: bool,
+    /// Whether values that are shorter than their columns are filled up.
+    pub pad: bool,
 }

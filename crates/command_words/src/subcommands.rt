@@ -385,7 +385,7 @@ fn with_text<'a>(
     with_argument(formed, into)
 }
 
-/// A load with the options by which it skips lines, keeps going, and replaces records.
+/// A load with the options by which it skips lines, keeps going, replaces records, and fills up values.
 fn with_line_options<'a>(
     alloc: Global,
     load: Result<Command<'a>, AllocError>,
@@ -402,9 +402,15 @@ fn with_line_options<'a>(
         "replace",
         "With '--into': where a record has the prime value of a line already, that line replaces it",
     );
+    let pad = flag(
+        alloc,
+        "pad",
+        "Fills up a value that is shorter than its item: spaces behind it, zeros before digits",
+    );
     let skipping = with_argument(load, skip(alloc));
     let going = with_argument(skipping, keep_going);
-    with_argument(going, replace)
+    let replacing = with_argument(going, replace);
+    with_argument(replacing, pad)
 }
 
 /// `load`.

@@ -30,12 +30,19 @@ returns-in_err-replace-clause-none c =
     no_flag (found_of c.args.load.now) (codes "replace") c.get_one-3.result c.get_one-3.ensures.value c.in_err-replace.was lines.replace
     (given.replace_text, given.replace_given, given.replace_is)
 
+pub returns-in_err-pad-clause-none : goal.returns-in_err-pad-clause-none
+returns-in_err-pad-clause-none c =
+    λ none lines given.
+    no_flag (found_of c.args.load.now) (codes "pad") c.get_one-4.result c.get_one-4.ensures.value c.in_err-pad.was lines.pad
+    (given.pad_text, given.pad_given, given.pad_is)
+
 pub returns-clause-some : goal.returns-clause-some
 returns-clause-some c =
     let f = found_of c.args.load.now in
     let skip = is_read f (codes "skip") 64 Gives (λ t x g. g.0) c.get_one.result c.get_one.ensures.none c.get_one.ensures.value c.in_ok-skip.skip c.in_ok-skip.was in
     let keep = flag_read f (codes "keep-going") c.get_one-2.result c.get_one-2.ensures.none c.get_one-2.ensures.value c.in_ok-keep_going.keep_going c.in_ok-keep_going.was in
     let replace = flag_read f (codes "replace") c.get_one-3.result c.get_one-3.ensures.none c.get_one-3.ensures.value c.in_ok-replace.replace c.in_ok-replace.was in
+    let pad = flag_read f (codes "pad") c.get_one-4.result c.get_one-4.ensures.none c.get_one-4.ensures.value c.in_ok-pad.pad c.in_ok-pad.was in
     record {
       skip_text = skip.0;
       skip_given = skip.1;
@@ -46,4 +53,7 @@ returns-clause-some c =
       replace_text = replace.0;
       replace_given = replace.1;
       replace_is = replace.2;
+      pad_text = pad.0;
+      pad_given = pad.1;
+      pad_is = pad.2;
     }
