@@ -1,5 +1,6 @@
 pub mod RankLemmas
 pub mod EachLemmas
+pub mod RisingLemmas
 pub mod ApartLemmas
 pub mod ListedLemmas
 pub mod ReadingLemmas

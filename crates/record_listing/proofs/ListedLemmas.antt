@@ -1,5 +1,5 @@
 -- The rows that READ NEXT gives, one after another, are those that are asked for.
-use Rattle.std.proofs.Common.{◌≡◌, ◌⊎◌, inl, inr, ◌≤◌, ◌<◌, ℕ, zero, suc, Bool, true, false, not, List, [], ◌∷◌, length, take, drop, Option, Some, None, option_map, refl, sym, ap, subst, ◌∙◌, add-one, arith}
+use Rattle.std.proofs.Common.{◌≡◌, ◌⊎◌, inl, inr, ◌≤◌, ◌<◌, ℕ, zero, suc, Bool, true, false, not, List, [], ◌∷◌, length, take, drop, filter, Option, Some, None, option_map, refl, sym, ap, subst, ◌∙◌, add-one, arith}
 use Rattle.std.specs.Prelude.{IsTrue}
 use Rattle.std.specs.Ordering.{is_lt}
 use Rattle.std.proofs.lemmas.Bool.{and_parts, and_from}
@@ -18,12 +18,13 @@ use Rattle.indexed_file.specs.Sound.{is_file}
 use Rattle.indexed_file.proofs.TestLemmas.{either}
 use Rattle.record_listing.specs.declared.asked.Asked.{Asked}
 use Rattle.indexed_file.specs.Laws.{IsOf}
+use Rattle.record_listing.specs.Condition.{all_hold}
 use Rattle.record_listing.specs.Listed.{is_past, is_row_within, ComesBefore, Rise, AreListed}
 use Rattle.record_listing.specs.Reading.{behind_row, comes_behind, rows_from, rows_asked, ComesNext}
-use Rattle.indexed_file.proofs.RankLemmas.{row_total, gt_back, differ}
+use Rattle.indexed_file.proofs.RankLemmas.{row_total, gt_back, not_self, differ}
 use Rattle.record_listing.proofs.RankLemmas.{admits_up, past_up, front_from}
 use Rattle.indexed_file.proofs.LeastLemmas.{least_is, none_passes}
-use Rattle.record_listing.proofs.EachLemmas.{each_weaker}
+use Rattle.record_listing.proofs.EachLemmas.{each_weaker, each_take, each_filter, few_taken, few_filtered, in_filter, some_pass, fewer, rise_filter, rise_take, in_front}
 use Rattle.record_listing.proofs.ApartLemmas.{one_row}
 
 -- ---- one step
@@ -53,6 +54,22 @@ module _ (schema : Schema) (file : File) (k : ℕ) (to : Option (ArrayVec ℕ)) 
 
 -- ---- what was found
 
+-- a row is behind another
+is_behind : (schema : Schema) (k : ℕ) (first row : Row) → admits schema k (behind_row schema k first) row ≡ true → is_lt (row_cmp schema k first row) ≡ true
+is_behind schema k first row is = sym (gt_back (row_cmp schema k) (row_total schema k) row first) ∙ is
+
+-- the position behind a row does not admit it
+not_again : (schema : Schema) (k : ℕ) (row : Row) → admits schema k (behind_row schema k row) row ≡ false
+not_again schema k row = gt_back (row_cmp schema k) (row_total schema k) row row ∙ not_self (row_cmp schema k) (row_total schema k) row
+
+-- so it admits fewer
+fewer_behind : (schema : Schema) (file : File) (k : ℕ) (position : Position) (first : Row) → least schema k (admits schema k position) file ≡ Some first
+    → length (filter (admits schema k (behind_row schema k first)) file.rows) < length (filter (admits schema k position) file.rows)
+fewer_behind schema file k position first is =
+    let l = least_is schema k (admits schema k position) file first is in
+    fewer (admits schema k (behind_row schema k first)) (admits schema k position) (λ row one. admits_up schema k position first row l.passes (is_behind schema k first row one)) file.rows first l.there
+    (not_again schema k first) l.passes
+
 from_some : {X : Type 0} (x y : X) → Some x ≡ Some y → x ≡ y
 from_some x y e = cc
 
@@ -65,6 +82,7 @@ module _ (schema : Schema) (file : File) (k : ℕ) (to : Option (ArrayVec ℕ)) 
         row = row;
         bytes = ap (λ (l : List ℕ). take (length row.bytes) l) read ∙ take-append_seam row.bytes (drop (length row.bytes) old);
         rows = λ n. subst (λ (m : ℕ). rows_from schema file k to m position ≡ row ∷ rows_from schema file k to n (behind_row schema k row)) (sym (add-one n)) (next_first schema file k to position n row is near);
+        fewer = fewer_behind schema file k position row is;
       })
 
   -- a record that was found is the first
@@ -130,10 +148,6 @@ module _ (schema : Schema) (file : File) (k : ℕ) (to : Option (ArrayVec ℕ)) 
     few : length rows ≤ n
     whole : Whole n position rows
 
-  -- a row is behind another
-  is_behind : (first row : Row) → admits schema k (behind_row schema k first) row ≡ true → is_lt (row_cmp schema k first row) ≡ true
-  is_behind first row is = sym (gt_back (row_cmp schema k) (row_total schema k) row first) ∙ is
-
   behind_is : (first row : Row) → is_lt (row_cmp schema k first row) ≡ true → admits schema k (behind_row schema k first) row ≡ true
   behind_is first row low = gt_back (row_cmp schema k) (row_total schema k) row first ∙ low
 
@@ -150,8 +164,8 @@ module _ (schema : Schema) (file : File) (k : ℕ) (to : Option (ArrayVec ℕ)) 
   more_from n position first rows is within rest =
       let l = least_is schema k (admits schema k position) file first is in
       let up : (row : Row) → IsIn (behind_row schema k first) row → IsIn position row =
-      λ row one. (one.0, admits_up schema k position first row l.passes (is_behind first row one.1), one.2) in
-      let later : Each (ComesBefore schema k first) rows = each_weaker (IsIn (behind_row schema k first)) (ComesBefore schema k first) (λ row one. is_behind first row one.1) rows rest.within in
+      λ row one. (one.0, admits_up schema k position first row l.passes (is_behind schema k first row one.1), one.2) in
+      let later : Each (ComesBefore schema k first) rows = each_weaker (IsIn (behind_row schema k first)) (ComesBefore schema k first) (λ row one. is_behind schema k first row one.1) rows rest.within in
       record {
         within = ((l.there, l.passes, within), each_weaker (IsIn (behind_row schema k first)) (IsIn position) up rows rest.within);
         rise = (later, rest.rise);
@@ -173,6 +187,24 @@ module _ (schema : Schema) (file : File) (k : ℕ) (to : Option (ArrayVec ℕ)) 
           (λ past. subst (AreFrom (suc n) position) (sym (next_past schema file k to position (suc n) first is past)) (past_from (suc n) position first is past))
           (λ within. subst (AreFrom (suc n) position) (sym (next_first schema file k to position n first is within)) (more_from n position first _ is within (more (behind_row schema k first))))
 
+  -- where there is room for all that the position admits, all are there
+  complete : (n : ℕ) (position : Position) → length (filter (admits schema k position) file.rows) ≤ n → (row : Row) → IsIn position row → IsOf (rows_from schema file k to n position) row
+  complete zero position room row one = absurd (some_pass (admits schema k position) file.rows row one.0 one.1 room)
+  complete (suc n) position room row one = by (λ other enough more. complete n other enough row more) (least schema k (admits schema k position) file) refl
+    where
+      by : ((other : Position) → length (filter (admits schema k other) file.rows) ≤ n → IsIn other row → IsOf (rows_from schema file k to n other) row)
+          → (o : Option Row) → least schema k (admits schema k position) file ≡ o → IsOf (rows_from schema file k to (suc n) position) row
+      by more None none = absurd (none_passes schema k (admits schema k position) file row none one.0 one.1)
+      by more (Some first) is =
+          let l = least_is schema k (admits schema k position) file first is in
+          let room_behind = fewer_behind schema file k position first is in
+          either (is_past to (value_of schema k first.bytes)) (IsOf (rows_from schema file k to (suc n) position) row)
+          (λ past. absurd (differ (past_up schema k to first row past (l.least row one.0 one.1)) one.2))
+          (λ within. subst (λ (rows : List Row). IsOf rows row) (sym (next_first schema file k to position n first is within))
+          (either (is_lt (row_cmp schema k first row)) (IsOf (first ∷ rows_from schema file k to n (behind_row schema k first)) row)
+          (λ yes. inr (more (behind_row schema k first) (omega (arith, room, room_behind)) (one.0, behind_is first row yes, one.2)))
+          (λ no. inl (one_row schema k file row first lt sound one.0 l.there (l.least row one.0 one.1) no))))
+
 -- ---- those that are asked for
 
 not_true : (b : Bool) → b ≡ false → not b ≡ true
@@ -182,16 +214,27 @@ true_not : (b : Bool) → not b ≡ true → b ≡ false
 true_not true e = absurd (cc)
 true_not false e = refl
 
--- they are those from the first bound on
+-- they are the first of those between the bounds for which the conditions hold
 pub are_listed : (schema : Schema) (file : File) (asked : Asked) → asked.key < length schema.keys → is_file schema file ≡ true → AreListed schema file asked (rows_asked schema file asked)
 are_listed schema file asked lt sound =
-    let all = are_from schema file asked.key asked.to lt sound asked.first (From asked.from) in
-    let start : (row : Row) → satisfies schema asked.key NotLess asked.from.items row ≡ admits schema asked.key (From asked.from) row =
-    λ row. front_from (value_of schema asked.key row.bytes) asked.from.items in
+    let k = asked.key in
+    let from = From asked.from in
+    let between = rows_from schema file k asked.to (length file.rows) from in
+    let test : Row → Bool = λ row. all_hold asked.conditions.items row.bytes in
+    let all = are_from schema file k asked.to lt sound (length file.rows) from in
+    let start : (row : Row) → satisfies schema k NotLess asked.from.items row ≡ admits schema k from row =
+    λ row. front_from (value_of schema k row.bytes) asked.from.items in
+    let held = each_filter (IsIn schema file k asked.to lt sound from) test between all.within in
+    let rise = rise_filter schema k test between all.rise in
     record {
-      within = each_weaker _ (λ row. IsOf file.rows row × IsTrue (is_row_within schema asked row))
-          (λ row one. (one.0, and_from _ _ (start row ∙ one.1) (not_true _ one.2))) (rows_asked schema file asked) all.within;
-      rise = all.rise;
-      few = all.few;
-      whole = λ row there within. (let parts = and_parts _ _ within in all.whole row (there, sym (start row) ∙ parts.0, true_not _ parts.1));
+      within = each_take _ asked.first (filter test between)
+          (each_weaker (λ row. IsIn schema file k asked.to lt sound from row × (test row ≡ true)) (λ row. IsOf file.rows row × IsTrue (is_row_within schema asked row))
+          (λ row one. (one.0.0, and_from _ _ (and_from _ _ (start row ∙ one.0.1) (not_true _ one.0.2)) one.1)) (filter test between) held);
+      rise = rise_take schema k asked.first (filter test between) rise;
+      few = few_taken asked.first (filter test between);
+      whole = λ row there within.
+          (let outer = and_parts _ _ within in
+          let parts = and_parts _ _ outer.0 in
+          let one = complete schema file k asked.to lt sound (length file.rows) from (few_filtered (admits schema k from) file.rows) row (there, sym (start row) ∙ parts.0, true_not _ parts.1) in
+          in_front schema k asked.first (filter test between) row rise (in_filter test between row one outer.1));
     }

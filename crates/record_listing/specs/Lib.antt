@@ -1,3 +1,5 @@
+pub mod Condition
+pub mod Rising
 pub mod Listed
 pub mod Lines
 pub mod Reading

@@ -1,5 +1,6 @@
 -- The rows of an open file, one after another, and the text on its way to the writer.
 use Rattle.std.specs.Prelude.{◌≡◌, ◌<◌, ◌≤◌, ℕ, zero, suc, ◌+◌, List, [], ◌∷◌, ◌++◌, length, take, false}
+use Rattle.std.specs.Prelude.{filter}
 use Rattle.std.specs.Prelude.{Bool, true, Option, Some, None, Result, Ok, Err, IsTrue, IfOk, IfErr}
 use Rattle.std.specs.Prelude.{if◌then◌else◌}
 use Rattle.std.specs.Ordering.{is_gt}
@@ -22,7 +23,10 @@ use Rattle.indexed_file.specs.Shown.{Shown}
 use Rattle.record_listing.specs.declared.asked.Asked.{Asked}
 use Rattle.record_listing.specs.declared.rows.Stop.{Stop}
 use Rattle.record_listing.specs.declared.rows.Stop.TheVariants.{Library as GaveUp, Output as NotTaken}
+use Rattle.record_listing.specs.declared.condition.Condition.{Condition}
+use Rattle.record_listing.specs.Condition.{all_hold}
 use Rattle.record_listing.specs.Listed.{is_past}
+use Rattle.record_listing.specs.Rising.{ranks_behind}
 use Rattle.record_text.specs.declared.form.Form.{Form}
 use Rattle.streams.specs.Output.{AppendsFront, HoldsText}
 use Rattle.streams.specs.declared.output.Refused.{Refused}
@@ -58,10 +62,11 @@ comes_behind Missing found = true
 comes_behind (From value) found = true
 comes_behind (After value stamp) found = is_gt (rank_cmp found.key.items found.stamp value.items stamp)
 
--- so it is, whatever the library says
+-- so it is, whatever the library says, and fewer can come behind it
 abbrev pub ComesBehind : Position → Option Found → Type 0
 ComesBehind position None = Unit {0}
-ComesBehind position (Some found) = comes_behind position found ≡ true
+ComesBehind position (Some found) = (comes_behind position found ≡ true)
+    × (ranks_behind (After found.key found.stamp) < ranks_behind position)
 
 -- the rows from a position on, as READ NEXT gives them one after another: up to the bound, and so
 -- many at most
@@ -72,17 +77,22 @@ rows_from schema file k to (suc n) position =
     file k to n (behind_row schema k row))
     (least schema k (admits schema k position) file) []
 
--- the rows that are asked for
+-- the rows of a file that are asked for: of those between the bounds, of which there are no more than
+-- rows of the file, the first so many for which the conditions hold
 abbrev pub rows_asked : Schema → File → Asked → List Row
-rows_asked schema file asked = rows_from schema file asked.key asked.to asked.first (From asked.from)
+rows_asked schema file asked = take asked.first (filter (λ row. all_hold asked.conditions.items row.bytes)
+    (rows_from schema file asked.key asked.to (length file.rows) (From asked.from)))
 
--- a record that was found is in the first bytes of the area, and is the first of the rows from a position on
+-- a record that was found is in the first bytes of the area, and is the first of the rows from a position
+-- on; a position behind it admits fewer
 pub record ComesNext (schema : Schema) (file : File) (k : ℕ) (to : Option (ArrayVec ℕ))
     (position : Position) (area : List ℕ) (found : Found) : Type 0 where
   pub row : Row
   pub bytes : take found.length area ≡ row.bytes
   pub rows : (n : ℕ) → rows_from schema file k to (n + 1) position ≡ row ∷ rows_from schema file k to n
       (After found.key found.stamp)
+  pub fewer : length (filter (admits schema k (After found.key found.stamp)) file.rows)
+      < length (filter (admits schema k position) file.rows)
 
 -- how the rows from a position on go on: there is none, or a first one
 abbrev pub RowsGoOn : Schema → File → ℕ → Option (ArrayVec ℕ) → Position → List ℕ → Option Found → Type 0
@@ -142,6 +152,18 @@ abbrev pub HoldsRecord : Form → (size : ℕ) → (area : List ℕ) → (before
     → (held held_after : List ℕ) → Result Unit Refused → Type 0
 HoldsRecord form size area before now held held_after result =
     HoldsLine before now held held_after (line_in form (take size area)) result
+
+-- the conditions hold of that record, and its line is held so; or they do not, and nothing is
+abbrev pub HoldsWhere : Form → List Condition → (size : ℕ) → (area : List ℕ)
+    → (before now : Option (List ℕ)) → (held held_after : List ℕ) → Result Bool Refused → Type 0
+HoldsWhere form conditions size area before now held held_after (Ok true) =
+    (all_hold conditions (take size area) ≡ true)
+    × HoldsText before now held held_after (line_in form (take size area))
+HoldsWhere form conditions size area before now held held_after (Ok false) =
+    (all_hold conditions (take size area) ≡ false) × (now ≡ before) × (held_after ≡ held)
+HoldsWhere form conditions size area before now held held_after (Err refused) =
+    (all_hold conditions (take size area) ≡ true)
+    × AppendsFront before now (held ++ line_in form (take size area))
 
 -- why not all lines are written: a call of the library answered a fault that it may answer; or the
 -- writer refused one

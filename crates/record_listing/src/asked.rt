@@ -2,6 +2,7 @@
 ghost use Rattle.std.specs.Prelude.{◌≡◌};
 ghost use Rattle.record_listing.specs.Listed.{is_past};
 
+use crate::condition::Condition;
 use io_state::Key;
 
 /// Which records are listed, and how.
@@ -15,6 +16,8 @@ pub struct Asked {
     pub to: Option<Key>,
     /// How many are listed at most.
     pub first: u64,
+    /// What has to hold of each of them.
+    pub conditions: Vec<Condition>,
 }
 
 /// Whether a value is past a bound.

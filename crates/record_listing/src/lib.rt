@@ -11,12 +11,13 @@
 //! a shelf as it is read, and checks nothing first. `list_at_path` does so of the file of a path, page
 //! after page by a system, under a shared lock.
 //!
-//! Read `specs/Listed.antt` for the rows, `specs/Lines.antt` for the lines, `specs/Listing.antt`
-//! for what is promised, and then `listing`; `specs/FileList.antt` and `file_list`; `specs/ByPath.antt`
-//! and `path_list`.
+//! Read `specs/Listed.antt` for the rows, `specs/Condition.antt` for conditions on them,
+//! `specs/Lines.antt` for the lines, `specs/Listing.antt` for what is promised, and then `listing`;
+//! `specs/FileList.antt` and `file_list`; `specs/ByPath.antt` and `path_list`.
 #![tactic(auto)]
 
 mod asked;
+mod condition;
 mod end;
 mod file_bytes;
 mod file_list;
@@ -27,6 +28,7 @@ mod rows;
 mod shelf_list;
 
 pub use asked::Asked;
+pub use condition::{Condition, Operator};
 pub use end::{ListEnd, ListFault};
 pub use file_list::{FileList, list_file, list_file_as, list_sound};
 pub use listing::list_records;

@@ -1,12 +1,13 @@
 //! The records of an open file, one after another.
 ghost use Rattle.std.specs.Prelude.{◌≡◌, ◌≤◌, ◌⊎◌, [], length, take, vec_capacity, IfOk, IfErr, IsTrue, IsFalse, true};
-ghost use Rattle.std.specs.Prelude.{false};
+ghost use Rattle.std.specs.Prelude.{◌<◌, ◌-◌, false, if◌then◌else◌};
 ghost use Rattle.record_text.specs.Lines.{form_header};
 ghost use Rattle.record_text.specs.Room.{IsLineRoom};
 ghost use Rattle.record_listing.specs.Reading.{CanListFile, BringsOut, WritesOut, IsWritten, HandsOver};
-ghost use Rattle.record_listing.specs.Reading.{HoldsRecord};
+ghost use Rattle.record_listing.specs.Reading.{HoldsRecord, HoldsWhere};
 
 use crate::asked::Asked;
+use crate::condition::{Condition, all_hold};
 use crate::next::next_record;
 use indexed_file::{Found, Library};
 use io_state::{Fault, Key, Position};
@@ -52,6 +53,39 @@ fn hold_record<W: Write>(
     lines.hold(line.as_slice(), out)
 }
 
+/// Holds the line of the record in the first bytes of the area, unless a condition does not hold of it:
+/// then nothing is held.
+fn hold_where<W: Write>(
+    lines: &mut HeldText,
+    line: &mut Vec<u8>,
+    form: &Form,
+    conditions: &[Condition],
+    area: &[u8],
+    size: u16,
+    out: &mut W,
+) -> Result<bool, Refused>
+    requires room { IsLineRoom form.now (length area.now) (vec_capacity line.old) }
+    ensures held { HoldsWhere form.now conditions.now size area.now (W.contents out.old) (W.contents out.new)
+        lines.old lines.new result }
+    ensures room { IsLineRoom form.now (length area.now) (vec_capacity line.new) }
+{
+    if !all_hold(conditions, front_of(area, size)) {
+        return Ok(false);
+    }
+    match hold_record(lines, line, form, area, size, out) {
+        Ok(()) => Ok(true),
+        Err(refused) => Err(refused),
+    }
+}
+
+/// How many records are still to be listed, behind one that was listed or passed over.
+fn left_behind(left: u64, listed: bool) -> u64
+    requires { 0 < left }
+    ensures { result ≡ (if listed then left - 1 else left) }
+{
+    if listed { left - 1 } else { left }
+}
+
 /// Holds the lines of the records that are asked for, each of which has room in `line`. Where a call
 /// of the library gives up, the first of them are held or written.
 fn hold_rows<L: Library, W: Write>(
@@ -75,6 +109,7 @@ fn hold_rows<L: Library, W: Write>(
         from,
         to,
         first,
+        conditions,
     } = asked;
     let mut position = Position::From(from);
     let mut left = first;
@@ -84,10 +119,11 @@ fn hold_rows<L: Library, W: Write>(
             Ok(None) => return Ok(()),
             Err(fault) => return Err(Stop::Library(fault)),
         };
-        match hold_record(lines, line, form, area, found.length, out) {
-            Ok(()) => {
+        let conditions = conditions.as_slice();
+        match hold_where(lines, line, form, conditions, area, found.length, out) {
+            Ok(listed) => {
                 position = Position::After(found.key, found.stamp);
-                left -= 1;
+                left = left_behind(left, listed);
             }
             Err(_) => return Err(Stop::Output),
         }

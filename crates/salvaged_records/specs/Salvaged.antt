@@ -31,12 +31,13 @@ abbrev pub with_gate_closed : List ℕ → List ℕ
 with_gate_closed bytes = slice_set bytes 0 67
 
 -- all records are asked for, in the order of the prime key: from the first one to the last, and the
--- greatest number at most
+-- greatest number at most, without a condition
 pub record AreAllAsked (asked : Asked) : Type 0 where
   pub key_is : asked.key ≡ 0
   pub from_is : asked.from.items ≡ []
   pub to_is : asked.to ≡ None
   pub first_is : asked.first ≡ 2 ^ 64 - 1
+  pub none_refused : asked.conditions.items ≡ []
 
 -- what a writer of lines has before and behind, and so a writer to which slots in doubt are told
 pub record Outputs : Type 0 where

@@ -55,7 +55,7 @@ pub fn close_gate(bytes: &mut [u8])
 }
 
 /// All records, in the order of the prime key.
-fn all_records() -> Asked
+fn all_records(alloc: Global) -> Asked
     ensures { AreAllAsked result }
 {
     Asked {
@@ -63,6 +63,7 @@ fn all_records() -> Asked
         from: Key::new(),
         to: None,
         first: u64::MAX,
+        conditions: Vec::new(alloc),
     }
 }
 
@@ -81,7 +82,7 @@ fn list_all<W: Write, E: Write>(
         (outputs (W.contents out.old) (W.contents out.new) (E.contents told.old) (E.contents told.new))) }
     ensures memory { result ≡ Err ListFault.Memory → W.contents out.new ≡ W.contents out.old }
 {
-    match list_sound(alloc, bytes, all_records(), form, out) {
+    match list_sound(alloc, bytes, all_records(alloc), form, out) {
         // A file that is sound has a prime key, so it was listed.
         Ok(_) => Ok(Salvage::All(records)),
         Err(fault) => Err(fault),

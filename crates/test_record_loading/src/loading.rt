@@ -162,6 +162,7 @@ pub fn lists(rt: &impl Abort, alloc: Global, shelf: MemShelf) -> String {
         from: Key::new(),
         to: None,
         first: 100,
+        conditions: Vec::new(alloc),
     };
     let mut out: Vec<u8> = Vec::with_capacity(alloc, 1000).expect(rt, "memory");
     let end = list_records(alloc, &mut library, name(), asked, &Form::Text, &mut out);

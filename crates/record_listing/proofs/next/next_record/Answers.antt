@@ -7,7 +7,7 @@ pub returns-then-not-is_behind-clause-fault : goal.returns-then-not-is_behind-cl
 returns-then-not-is_behind-clause-fault g c = (
   refl,
   λ honest truly.
-      not_behind (schema_at (g.L.Library.shown.world c.args.lib.now) 0) (file_at (g.L.Library.shown.world c.args.lib.now) 0) c.args.k c.args.position.now c.in-Ok-Some.found (sym c.in-Ok-Some.field-0-is ∙ c.in-Ok-Some.ensures.found honest truly) (sym c.is_behind.ensures ∙ (search rules)),
+      not_behind (schema_at (g.L.Library.shown.world c.args.lib.now) 0) (file_at (g.L.Library.shown.world c.args.lib.now) 0) c.args.k c.args.position.now c.in-Ok-Some.found (sym c.in-Ok-Some.field-0-is ∙ c.in-Ok-Some.ensures.found honest truly) (sym c.is_behind.ensures.behind ∙ (search rules)),
 )
 
 pub returns-then-is_past-clause-goes : goal.returns-then-is_past-clause-goes

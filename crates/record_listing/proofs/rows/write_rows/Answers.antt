@@ -16,8 +16,8 @@ returns-in-Ok-write_header-clause-writes g c =
       cause = search rules;
     }
 
-pub returns-clause-writes : goal.returns-clause-writes
-returns-clause-writes g c =
+pub returns-in-Err-clause-writes : goal.returns-in-Err-clause-writes
+returns-in-Err-clause-writes g c =
     let world = g.L.Library.shown.world c.args.lib.now in
     record {
       reads = reads_self g.L.Library.shown c.args.lib.now;
