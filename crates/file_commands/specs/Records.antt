@@ -25,12 +25,14 @@ use Rattle.file_commands.specs.declared.listing.Bounds.{Bounds}
 use Rattle.command_outcomes.specs.declared.outcome.Outcome.{Outcome}
 use Rattle.command_outcomes.specs.declared.outcome.Outcome.TheVariants.{Records, OtherSchema}
 
--- this is asked for by the number of a key, the first and the last value, and how many records at most
+-- this is asked for by the number of a key, the first and the last value, and how many records at most,
+-- under no condition
 pub record IsAskedFor (key : ℕ) (from to : Option (List ℕ)) (first : ℕ) (asked : Asked) : Type 0 where
   pub key_is : asked.key ≡ key
   pub from_is : asked.from.items ≡ unescaped (unwrap_or from [])
   pub to_is : option_map (λ value. value.items) asked.to ≡ option_map unescaped to
   pub first_is : asked.first ≡ first
+  pub conditions_are : asked.conditions.items ≡ []
 
 -- the list of these bytes in a form ended so
 abbrev pub ListsRecords : Form → List ℕ → (key : ℕ) (from to : Option (List ℕ)) (first : ℕ)

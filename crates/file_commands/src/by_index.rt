@@ -93,7 +93,7 @@ fn read_start<S: System, I: Read>(
     ensures { ByReads (ReadsStart (I.remaining input.old) path.now bounds.entry form.entry result)
         (S.state system.old) (S.state system.new) }
 {
-    let asked = match asked_by(bounds) {
+    let asked = match asked_by(alloc, bounds) {
         Ok(asked) => asked,
         Err(fault) => return Err(fault),
     };

@@ -28,8 +28,8 @@ pub struct Bounds<'a> {
     pub first: u64,
 }
 
-/// What the words of a command line ask of a list.
-pub fn asked_by(bounds: Bounds<'_>) -> Result<Asked, Fault>
+/// What the words of a command line ask of a list, which is under no condition.
+pub fn asked_by(alloc: Global, bounds: Bounds<'_>) -> Result<Asked, Fault>
     ensures { FitsValue (IsAskedBy bounds.entry) result }
 {
     let from = value_of(bounds.from.unwrap_or(""))?;
@@ -39,6 +39,7 @@ pub fn asked_by(bounds: Bounds<'_>) -> Result<Asked, Fault>
         from,
         to,
         first: bounds.first,
+        conditions: Vec::new(alloc),
     })
 }
 
@@ -92,7 +93,7 @@ pub fn list_checked<S: System, I: Read, P: Progress, W: Write>(
     ensures { ByReads (ListsFile (I.remaining input.old) path.now bounds.entry form.entry
         W.contents out.old out.new result) (S.state system.old) (S.state system.new) }
 {
-    let asked = match asked_by(bounds) {
+    let asked = match asked_by(alloc, bounds) {
         Ok(asked) => asked,
         Err(fault) => return Err(fault),
     };
