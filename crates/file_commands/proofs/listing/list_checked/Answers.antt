@@ -44,7 +44,7 @@ returns-in-Ok-false g c =
     (subst (λ out. EndsIn told.form bytes c.in-Ok.asked (g.W.Write.contents out) behind c.list_file_as.result) same.1 c.list_file_as.ensures.ends)
     c.ended.ensures)
 
-pub returns : goal.returns
-returns g c =
+pub returns-in-Err-is_other : goal.returns-in-Err-is_other
+returns-in-Err-is_other g c =
     by_both _ _ _ c.in-Ok-form_of.ensures c.in-Ok-read_counted.ensures (λ calls later came read.
     broken_off (g.I.Read.remaining c.args.input.now) c.args.path.now c.args.bounds c.args.form g.W.Write.contents c.args.out.now c.is_other.new.out _ c.in-Err-is_other.fault c.in-Err-is_other.ensures)
