@@ -136,7 +136,7 @@ copy_unwritten out (Ok outcome) = tt
 copy_unwritten out (Err fault) = λ other. refl
 
 pub copy_came : {X I W : Type 0} (shelf : Ghosts X) (keeps_open : X → ℕ → Bool) (disk : Unseen) (words : List Text) (before : List Call) (after : SystemState) (beside : List Call) (left : I → Option (List ℕ))
-    (contents : W → Option (List ℕ)) (input : StandardInput I) (out : W) (old : SystemState) → old.calls ≡ streams_first → (asks : Copying) → AskCopy words asks.file.now asks.new.now asks.limits.pages asks.limits.frames.value
+    (contents : W → Option (List ℕ)) (input : StandardInput I) (out : W) (old : SystemState) → old.calls ≡ streams_first → (asks : Copying) → AskCopy words asks.file.now asks.new.now asks.key asks.limits.pages asks.limits.frames.value
     → (done : Done) → ComesOfCopy old disk (calls_beside before after beside) asks done.outcome
     → CameFor shelf keeps_open disk words (calls_beside before after beside) left contents input input out out done
 copy_came shelf keeps_open disk words before after beside left contents input out old held asks asked done (inl none) =
@@ -146,7 +146,7 @@ copy_came shelf keeps_open disk words before after beside left contents input ou
 copy_came shelf keeps_open disk words before after beside left contents input out old held asks asked done (inr begins) = inr (
   refl,
   (
-    record { file = asks.file.now; new = asks.new.now; pages = asks.limits.pages; frames = asks.limits.frames.value; asked = asked },
+    record { file = asks.file.now; new = asks.new.now; key = asks.key; pages = asks.limits.pages; frames = asks.limits.frames.value; asked = asked },
     subst (λ (base : List Call). BeginsCopy base asks.file.now asks.new.now asks.limits.pages disk (calls_beside before after beside) done.outcome) held begins,
   ),
 )
@@ -177,10 +177,10 @@ module _ (words : List Text) (copy : AskForCopy words) where
   did_no_copy fault (inl four) = did_fail words fault four
   did_no_copy fault (inr none) = subst (λ (f : Fault). Did words (Err f)) (sym none.0) (copy, none.1)
 
-pub copy_did : (words : List Text) (disk : Unseen) (made : CallsMade) (old : SystemState) (asks : Copying) → AskCopy words asks.file.now asks.new.now asks.limits.pages asks.limits.frames.value
+pub copy_did : (words : List Text) (disk : Unseen) (made : CallsMade) (old : SystemState) (asks : Copying) → AskCopy words asks.file.now asks.new.now asks.key asks.limits.pages asks.limits.frames.value
     → (outcome : Result Outcome Fault) → ComesOfCopy old disk made asks outcome → Did words outcome
 copy_did words disk made old asks asked outcome (inl none) =
     subst (Did words) (sym none.told)
-    (did_no_copy words (record { file = asks.file.now; new = asks.new.now; pages = asks.limits.pages; frames = asks.limits.frames.value; asked = asked }) none.fault none.cause)
+    (did_no_copy words (record { file = asks.file.now; new = asks.new.now; key = asks.key; pages = asks.limits.pages; frames = asks.limits.frames.value; asked = asked }) none.fault none.cause)
 copy_did words disk made old asks asked outcome (inr begins) =
-    did_copy words (record { file = asks.file.now; new = asks.new.now; pages = asks.limits.pages; frames = asks.limits.frames.value; asked = asked }) begins.result outcome begins.told
+    did_copy words (record { file = asks.file.now; new = asks.new.now; key = asks.key; pages = asks.limits.pages; frames = asks.limits.frames.value; asked = asked }) begins.result outcome begins.told

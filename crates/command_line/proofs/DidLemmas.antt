@@ -6,13 +6,15 @@ use Rattle.folder_shelf.specs.Replay.{Unseen}
 use Rattle.folder_shelf.specs.Calls.{Call}
 use Rattle.clap.specs.declared.error.Error.{Error}
 use Rattle.command_words.specs.declared.line_options.LineOptions.{LineOptions}
-use Rattle.command_words.specs.Asks.{Ask, AskCheck, AskExplain, AskHelp, AskNothing, AskSchema, AskServe, AskStat, FormText, IfUsage, form_text}
+use Rattle.command_words.specs.Asks.{Ask, AskCheck, AskExplain, AskHelp, AskList, AskNothing, AskSchema, AskServe, AskStat, FormText, IfUsage, form_text}
 use Rattle.command_words.specs.declared.fault.WordsFault.{WordsFault}
 use Rattle.command_words.specs.declared.fault.WordsFault.TheVariants.{Usage as NotUnderstood, Memory as NoMemoryForWords}
 use Rattle.command_words.specs.declared.form_words.FormWords.{FormWords}
 use Rattle.command_words.specs.declared.limits.Limits.{Limits}
-use Rattle.command_words.specs.declared.request.Request.TheVariants.{Schema, List as ListRecords, Load, Salvage}
-use Rattle.file_commands.specs.Forms.{IsFormRefused, IsListRefused}
+use Rattle.command_words.specs.declared.request.Request.TheVariants.{Schema, Load, Salvage}
+use Rattle.file_commands.specs.AskedForm.{IsConditionRefused, IsListRefused}
+use Rattle.file_commands.specs.Conditions.{texts_of}
+use Rattle.file_commands.specs.Forms.{IsFormRefused}
 use Rattle.file_commands.specs.Listed.{IsListFault}
 use Rattle.file_commands.specs.ByIndex.{DoesByIndex}
 use Rattle.file_commands.specs.Records.{ListsAsked}
@@ -30,7 +32,7 @@ use Rattle.command_line.specs.LoadForm.{IsLoadFault}
 use Rattle.command_line.specs.Performed.{AskOfDeck, AskForLoad, AskForRecords, AskForRun, AskForSalvage, AskForSchema, Did, IsRunOutcome}
 use Rattle.command_outcomes.specs.Status.{status_of}
 use Rattle.command_outcomes.specs.declared.fault.Fault.{Fault}
-use Rattle.command_outcomes.specs.declared.fault.Fault.TheVariants.{Deck, NoSuchFile, NotListed, Form as NoForm, Unexplained, Input, Output, Memory}
+use Rattle.command_outcomes.specs.declared.fault.Fault.TheVariants.{Deck, NoSuchFile, NotListed, Form as NoForm, Condition as NoCondition, Unexplained, Input, Output, Memory}
 use Rattle.command_outcomes.specs.declared.outcome.Outcome.{Outcome}
 use Rattle.command_outcomes.specs.declared.outcome.Outcome.TheVariants.{Helped, CheckedAll, Counted, Explained, Ended, Served, SchemaTold, SchemaCompared, SchemaRefused, Records, OtherSchema, Loaded, Salvaged}
 use Rattle.command_outcomes.specs.declared.outcome.WorstCheck.{WorstCheck}
@@ -44,32 +46,35 @@ for_schema words file deck name asked =
 abbrev pub for_salvage : (words : List Text) (file : Bor Text) (form : FormWords) (places : Bool) → Ask words (Salvage file form places) → AskForSalvage words
 for_salvage words file form places asked = record { file = file.now; form = form_text form; places = places; asked = asked }
 
-abbrev pub for_records : (words : List Text) (file : Bor Text) (key : ℕ) (from to : Option (Bor Text)) (first : ℕ) (form : FormWords) (checked quiet : Bool) (wait : ℕ)
-    → Ask words (ListRecords file key from to first form checked quiet wait) → AskForRecords words
-for_records words file key from to first form checked quiet wait asked = record {
+abbrev pub for_records : (words : List Text) (file : Bor Text) (key : ℕ) (from to : Option (Bor Text)) (first : ℕ) (conditions : Bor (List (Bor Text))) (form : FormWords) (checked quiet : Bool)
+    → AskList words file.now key (option_map (λ text. text.now) from) (option_map (λ text. text.now) to) first (texts_of conditions.now) (form_text form) checked quiet → AskForRecords words
+for_records words file key from to first conditions form checked quiet asked = record {
   file = file.now;
   key = key;
   from = option_map (λ text. text.now) from;
   to = option_map (λ text. text.now) to;
   first = first;
+  conditions = texts_of conditions.now;
   form = form_text form;
   checked = checked;
   quiet = quiet;
-  asked = asked.0;
+  asked = asked;
 }
 
-abbrev pub for_load : (words : List Text) (deck folder file text form : Bor Text) (into : Bool) (limits : Limits) (lines : LineOptions) (quiet : Bool)
-    → Ask words (Load deck folder file text form into limits lines quiet) → AskForLoad words
-for_load words deck folder file text form into limits lines quiet asked = record {
+abbrev pub for_load : (words : List Text) (deck folder file text form encoding : Bor Text) (into : Bool) (limits : Limits) (lines : LineOptions) (rejects : Option (Bor Text)) (quiet : Bool)
+    → Ask words (Load deck folder file text form encoding into limits lines rejects quiet) → AskForLoad words
+for_load words deck folder file text form encoding into limits lines rejects quiet asked = record {
   deck = deck.now;
   folder = folder.now;
   file = file.now;
   text = text.now;
   form = form.now;
+  encoding = encoding.now;
   into = into;
   pages = limits.pages;
   frames = limits.frames.value;
   lines = lines;
+  rejects = option_map (λ text. text.now) rejects;
   quiet = quiet;
   asked = asked;
 }
@@ -85,31 +90,39 @@ module _ (words : List Text) (list : AskForRecords words) where
   did_refused Memory h = tt
   did_refused fault h = absurd h
 
-  did_checked : {W : Type 0} (input : Option (List ℕ)) (path : List ℕ) (bounds : Bounds) (contents : W → Option (List ℕ)) (old new : W) (calls : List Call) (result : Result Outcome Fault)
-      → IfOk result (ListsAsked input path bounds list.form contents old new calls) → IfErr result (IsListRefused list.form) → Did words result
-  did_checked input path bounds contents old new calls (Ok (Records end)) done fault = list
-  did_checked input path bounds contents old new calls (Ok OtherSchema) done fault = inl list
-  did_checked input path bounds contents old new calls (Ok outcome) done fault = absurd done
-  did_checked input path bounds contents old new calls (Err f) done (inl long) = subst (λ (x : Fault). Did words (Err x)) (sym long) list
-  did_checked input path bounds contents old new calls (Err f) done (inr refused) = did_refused f refused
+  did_condition : (fault : Fault) → IsConditionRefused list.form list.conditions fault → Did words (Err fault)
+  did_condition (NoCondition fault) h = (list, h)
+  did_condition fault h = absurd h
 
-  did_pages : (disk : Unseen) (input : Option (List ℕ)) (path : List ℕ) (bounds : Bounds) (before behind : Option (List ℕ)) (calls : List Call) (result : Result Outcome Fault)
-      → IfOk result (DoesByIndex disk input path bounds list.form before behind calls) → IfErr result (IsListRefused list.form) → Did words result
-  did_pages disk input path bounds before behind calls (Ok (Records end)) done fault = list
-  did_pages disk input path bounds before behind calls (Ok OtherSchema) done fault = inl list
-  did_pages disk input path bounds before behind calls (Ok outcome) done fault = absurd done
-  did_pages disk input path bounds before behind calls (Err f) done (inl long) = subst (λ (x : Fault). Did words (Err x)) (sym long) list
-  did_pages disk input path bounds before behind calls (Err f) done (inr refused) = did_refused f refused
+  did_not_asked : (fault : Fault) → IsListRefused list.form list.conditions fault → Did words (Err fault)
+  did_not_asked fault (inl long) = subst (λ (x : Fault). Did words (Err x)) (sym long) list
+  did_not_asked fault (inr (inl refused)) = did_refused fault refused
+  did_not_asked fault (inr (inr none)) = did_condition fault none
 
-  pub did_list : {W : Type 0} (checked : Bool) (disk : Unseen) (input : Option (List ℕ)) (path : List ℕ) (bounds : Bounds) (form : FormWords) → form_text form ≡ list.form
+  did_checked : {W : Type 0} (input : Option (List ℕ)) (path : List ℕ) (bounds : Bounds) (texts : List Text) (contents : W → Option (List ℕ)) (old new : W) (calls : List Call) (result : Result Outcome Fault)
+      → IfOk result (ListsAsked input path bounds texts list.form contents old new calls) → IfErr result (IsListRefused list.form list.conditions) → Did words result
+  did_checked input path bounds texts contents old new calls (Ok (Records end)) done fault = list
+  did_checked input path bounds texts contents old new calls (Ok OtherSchema) done fault = inl list
+  did_checked input path bounds texts contents old new calls (Ok outcome) done fault = absurd done
+  did_checked input path bounds texts contents old new calls (Err f) done refused = did_not_asked f refused
+
+  did_pages : (disk : Unseen) (input : Option (List ℕ)) (path : List ℕ) (bounds : Bounds) (texts : List Text) (before behind : Option (List ℕ)) (calls : List Call) (result : Result Outcome Fault)
+      → IfOk result (DoesByIndex disk input path bounds texts list.form before behind calls) → IfErr result (IsListRefused list.form list.conditions) → Did words result
+  did_pages disk input path bounds texts before behind calls (Ok (Records end)) done fault = list
+  did_pages disk input path bounds texts before behind calls (Ok OtherSchema) done fault = inl list
+  did_pages disk input path bounds texts before behind calls (Ok outcome) done fault = absurd done
+  did_pages disk input path bounds texts before behind calls (Err f) done refused = did_not_asked f refused
+
+  pub did_list : {W : Type 0} (checked : Bool) (disk : Unseen) (input : Option (List ℕ)) (path : List ℕ) (bounds : Bounds) (form : FormWords) → form_text form ≡ list.form → texts_of bounds.conditions.now ≡ list.conditions
       → (contents : W → Option (List ℕ)) (old new : W) (calls : List Call) (result : Result Outcome Fault) → ListsEitherWay checked disk input path bounds form contents old new result calls → Did words result
-  did_list true disk input path bounds form same contents old new calls result lists =
-      did_checked input path bounds contents old new calls result (subst (λ (f : FormText). IfOk result (ListsAsked input path bounds f contents old new calls)) same lists.records)
-      (subst (λ (f : FormText). IfErr result (IsListRefused f)) same lists.fault)
-  did_list false disk input path bounds form same contents old new calls result lists =
-      did_pages disk input path bounds (contents old) (contents new) calls result
-      (subst (λ (f : FormText). IfOk result (DoesByIndex disk input path bounds f (contents old) (contents new) calls)) same lists.records)
-      (subst (λ (f : FormText). IfErr result (IsListRefused f)) same lists.fault)
+  did_list true disk input path bounds form same are contents old new calls result lists =
+      did_checked input path bounds (texts_of bounds.conditions.now) contents old new calls result
+      (subst (λ (f : FormText). IfOk result (ListsAsked input path bounds (texts_of bounds.conditions.now) f contents old new calls)) same lists.records)
+      (subst (λ (texts : List Text). IfErr result (IsListRefused list.form texts)) are (subst (λ (f : FormText). IfErr result (IsListRefused f (texts_of bounds.conditions.now))) same lists.fault))
+  did_list false disk input path bounds form same are contents old new calls result lists =
+      did_pages disk input path bounds (texts_of bounds.conditions.now) (contents old) (contents new) calls result
+      (subst (λ (f : FormText). IfOk result (DoesByIndex disk input path bounds (texts_of bounds.conditions.now) f (contents old) (contents new) calls)) same lists.records)
+      (subst (λ (texts : List Text). IfErr result (IsListRefused list.form texts)) are (subst (λ (f : FormText). IfErr result (IsListRefused f (texts_of bounds.conditions.now))) same lists.fault))
 
 -- the words ask for a schema
 module _ (words : List Text) (schema : AskForSchema words) where

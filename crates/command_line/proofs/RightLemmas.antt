@@ -1,13 +1,13 @@
 -- What an outcome is right of, by what is known of the command that gave it.
-use Rattle.std.proofs.Common.{◌≡◌, ℕ, Bool, true, false, List, [], ◌∷◌, Option, Result, Ok, Err, Bor, inl, inr, sym, subst}
+use Rattle.std.proofs.Common.{◌≡◌, ℕ, Bool, true, false, List, [], ◌∷◌, Option, option_map, Result, Ok, Err, Bor, inl, inr, sym, subst}
 use Rattle.std.specs.Prelude.{IfOk}
 use Rattle.clap.specs.Words.{Text}
 use Rattle.folder_shelf.specs.Replay.{Unseen}
 use Rattle.folder_shelf.specs.Calls.{Call}
-use Rattle.command_words.specs.Asks.{Ask, AskCheck, AskCobol, AskDeck, AskExplain, AskStat, form_text}
+use Rattle.command_words.specs.Asks.{AskCheck, AskCobol, AskDeck, AskExplain, AskList, AskStat, form_text}
 use Rattle.command_words.specs.declared.form_words.FormWords.{FormWords}
-use Rattle.command_words.specs.declared.request.Request.TheVariants.{List as ListRecords}
 use Rattle.explanations.specs.Tables.{explanation}
+use Rattle.file_commands.specs.Conditions.{texts_of}
 use Rattle.file_commands.specs.Counted.{CountsFileAt}
 use Rattle.file_commands.specs.Front.{DoesBy, IsDeckNamed}
 use Rattle.file_commands.specs.Listed.{TellsDeck, WritesList, WritesCobol}
@@ -92,25 +92,28 @@ module _ {W : Type 0} (disk : Unseen) (words : List Text) (calls : List Call) (i
   right_schema schema (Err fault) told compared done = tt
 
   -- the records of a file were listed, or it is of another schema
-  module _ (file : Bor Text) (key : ℕ) (from to : Option (Bor Text)) (first : ℕ) (form : FormWords) (quiet : Bool) (wait : ℕ) where
+  module _ (file : Bor Text) (key : ℕ) (from to : Option (Bor Text)) (first : ℕ) (conditions : Bor (List (Bor Text))) (form : FormWords) (quiet : Bool) where
     abbrev bounds : Bounds
-    bounds = record { key = key; from = from; to = to; first = first }
+    bounds = record { key = key; from = from; to = to; first = first; conditions = conditions }
 
-    by_check : Ask words (ListRecords file key from to first form true quiet wait) → (result : Result Outcome Fault)
-        → IfOk result (ListsAsked input file.now bounds (form_text form) contents old new calls) → IfOk result IsRight
-    by_check asked (Ok (Records end)) is = (for_records words file key from to first form true quiet wait asked, is)
-    by_check asked (Ok OtherSchema) is = inl (for_records words file key from to first form true quiet wait asked, is)
+    abbrev AskSo : Bool → Type 0
+    AskSo checked = AskList words file.now key (option_map (λ text. text.now) from) (option_map (λ text. text.now) to) first (texts_of conditions.now) (form_text form) checked quiet
+
+    by_check : AskSo true → (result : Result Outcome Fault)
+        → IfOk result (ListsAsked input file.now bounds (texts_of conditions.now) (form_text form) contents old new calls) → IfOk result IsRight
+    by_check asked (Ok (Records end)) is = (for_records words file key from to first conditions form true quiet asked, is)
+    by_check asked (Ok OtherSchema) is = inl (for_records words file key from to first conditions form true quiet asked, is)
     by_check asked (Ok outcome) is = absurd is
     by_check asked (Err fault) is = tt
 
-    by_index : Ask words (ListRecords file key from to first form false quiet wait) → (result : Result Outcome Fault)
-        → IfOk result (DoesByIndex disk input file.now bounds (form_text form) (contents old) (contents new) calls) → IfOk result IsRight
-    by_index asked (Ok (Records end)) is = (for_records words file key from to first form false quiet wait asked, is)
-    by_index asked (Ok OtherSchema) is = inl (for_records words file key from to first form false quiet wait asked, is)
+    by_index : AskSo false → (result : Result Outcome Fault)
+        → IfOk result (DoesByIndex disk input file.now bounds (texts_of conditions.now) (form_text form) (contents old) (contents new) calls) → IfOk result IsRight
+    by_index asked (Ok (Records end)) is = (for_records words file key from to first conditions form false quiet asked, is)
+    by_index asked (Ok OtherSchema) is = inl (for_records words file key from to first conditions form false quiet asked, is)
     by_index asked (Ok outcome) is = absurd is
     by_index asked (Err fault) is = tt
 
-    pub right_list : (checked : Bool) → Ask words (ListRecords file key from to first form checked quiet wait) → (result : Result Outcome Fault)
+    pub right_list : (checked : Bool) → AskSo checked → (result : Result Outcome Fault)
         → ListsEitherWay checked disk input file.now bounds form contents old new result calls → IfOk result IsRight
     right_list true asked result lists = by_check asked result lists.records
     right_list false asked result lists = by_index asked result lists.records

@@ -29,16 +29,17 @@ use Rattle.command_outcomes.specs.declared.outcome.Outcome.TheVariants.{Copied a
 
 -- whether a request asks for a copy
 abbrev pub is_copy : Request → Bool
-is_copy (Copy file new limits) = true
+is_copy (Copy file new key limits) = true
 is_copy request = false
 
 -- the words ask for a copy
 pub record AskForCopy (words : List Text) : Type 0 where
   pub file : Text
   pub new : Text
+  pub key : ℕ
   pub pages : ℕ
   pub frames : ℕ
-  pub asked : AskCopy words file new pages frames
+  pub asked : AskCopy words file new key pages frames
 
 -- the last part of a path is the name of a file
 abbrev pub EndsInName : Text → Type 0

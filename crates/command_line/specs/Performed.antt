@@ -1,5 +1,6 @@
 -- What the program did for the words of its command line. All of this is ours.
-use Rattle.std.specs.Prelude.{◌≡◌, ◌≢◌, ◌⊎◌, ℕ, Bool, true, List, [], ◌∷◌, Option, Some, None}
+use Rattle.std.specs.Prelude.{◌≡◌, ◌≢◌, ◌⊎◌, ℕ, Bool, true, false, List, [], ◌∷◌, Option, Some, None}
+use Rattle.std.specs.Prelude.{IsSome}
 use Rattle.std.specs.Prelude.{Result, Ok, Err, IfOk, IfErr, ⊤, String, string_bytes, codes}
 use Rattle.std.specs.Global.{Global, Vec}
 use Rattle.folder_shelf.specs.Calls.{Call, asked_of_folder}
@@ -25,6 +26,7 @@ use Rattle.command_line.specs.Copied.{AskForCopy, EndsInName}
 use Rattle.command_line.specs.Folder.{OverFolder}
 use Rattle.command_line.specs.Transcript.{IsRunFault}
 use Rattle.command_line.specs.LoadForm.{IsNoFormWord}
+use Rattle.file_commands.specs.AskedForm.{IsConditionFaultOf}
 use Rattle.file_commands.specs.DeckFile.{IsDeckAsked, IsHalf}
 use Rattle.file_commands.specs.Forms.{HasFormFault}
 use Rattle.file_commands.specs.Front.{IsDeckNamed}
@@ -36,6 +38,7 @@ use Rattle.command_outcomes.specs.declared.form_fault.FormFault.TheVariants.{Kin
 use Rattle.command_outcomes.specs.declared.fault.Fault.{Fault}
 use Rattle.command_outcomes.specs.declared.fault.Fault.TheVariants.{Deck, NotListed, NoSuchFile}
 use Rattle.command_outcomes.specs.declared.fault.Fault.TheVariants.{Form as NoForm, Unexplained, LongValue, NoFileName}
+use Rattle.command_outcomes.specs.declared.fault.Fault.TheVariants.{Condition as NoCondition, LoneRejects}
 use Rattle.command_outcomes.specs.declared.fault.Fault.TheVariants.{Usage, Input, Output, Memory}
 use Rattle.command_outcomes.specs.declared.outcome.Outcome.{Outcome}
 use Rattle.command_outcomes.specs.declared.outcome.Outcome.TheVariants.{Helped, Checked, Ended, Served}
@@ -173,12 +176,14 @@ pub record AskForLoad (words : List Text) : Type 0 where
   pub file : Text
   pub text : Text
   pub form : Text
+  pub encoding : Text
   pub into : Bool
   pub pages : ℕ
   pub frames : ℕ
   pub lines : LineOptions
+  pub rejects : Option Text
   pub quiet : Bool
-  pub asked : AskLoad words deck folder file text form into pages frames lines quiet
+  pub asked : AskLoad words deck folder file text form encoding into pages frames lines rejects quiet
 
 -- the words ask for records of a file
 pub record AskForRecords (words : List Text) : Type 0 where
@@ -187,10 +192,11 @@ pub record AskForRecords (words : List Text) : Type 0 where
   pub from : Option Text
   pub to : Option Text
   pub first : ℕ
+  pub conditions : List Text
   pub form : FormText
   pub checked : Bool
   pub quiet : Bool
-  pub asked : AskList words file key from to first form checked quiet
+  pub asked : AskList words file key from to first conditions form checked quiet
 
 -- the words ask for a schema
 pub record AskForSchema (words : List Text) : Type 0 where
@@ -260,7 +266,11 @@ Did words (Ok (Copied end)) = AskForCopy words
 Did words (Err (Deck fault)) = AskOfFile words ⊎ AskForRun words
 Did words (Err NoSuchFile) = AskOfFile words
 Did words (Err (NoForm fault)) = AskForNoForm words fault
+Did words (Err (NoCondition fault)) =
+    (list : AskForRecords words) × IsConditionFaultOf list.form list.conditions fault
 Did words (Err LongValue) = AskForRecords words
+Did words (Err LoneRejects) =
+    (load : AskForLoad words) × IsSome load.rejects × (load.lines.keep_going ≡ false)
 Did words (Err NoFileName) = (copy : AskForCopy words) × (EndsInName copy.new → ⊥)
 Did words (Err Unexplained) = (kind : Text) × (number : Text) × AskExplain words kind number
 Did words (Err (NotListed fault)) = AskOfDeck words

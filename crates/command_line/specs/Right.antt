@@ -35,19 +35,21 @@ use Rattle.command_outcomes.specs.declared.outcome.Outcome.TheVariants.{Counted,
 abbrev pub ListsAsAsked : (checked : Bool) → {words : List Text} → Unseen → (input : Option (List ℕ))
     → AskForRecords words → List Call → (before behind : Option (List ℕ)) → FileList → Type 0
 ListsAsAsked true disk input asked calls before behind list =
-    OfFormAndFile input asked.file asked.form calls (λ form schema bytes. AgreesWith schema bytes
-    × ListsRecords form bytes asked.key asked.from asked.to asked.first before behind list)
+    OfFormAndFile input asked.file asked.form asked.conditions calls (λ form schema conditions bytes.
+    AgreesWith schema bytes × ListsRecords form bytes asked.key asked.from asked.to asked.first conditions
+    before behind list)
 ListsAsAsked false disk input asked calls before behind list =
-    ListsRecordsByIndex disk input asked.file asked.form asked.key asked.from asked.to asked.first before
-    behind calls list
+    ListsRecordsByIndex disk input asked.file asked.form asked.key asked.from asked.to asked.first
+    asked.conditions before behind calls list
 
 -- so the differences of the file from the deck whose columns they ask for
 abbrev pub DiffersAsAsked : (checked : Bool) → {words : List Text} → (input : Option (List ℕ))
     → AskForRecords words → List Call → (before behind : Option (List ℕ)) → Type 0
 DiffersAsAsked true input asked calls before behind =
-    OfFormAndFile input asked.file asked.form calls (λ form schema bytes. WritesOther schema bytes before behind)
+    OfFormAndFile input asked.file asked.form asked.conditions calls (λ form schema conditions bytes.
+    WritesOther schema bytes before behind)
 DiffersAsAsked false input asked calls before behind =
-    FindsOther input asked.file asked.form before behind calls
+    FindsOther input asked.file asked.form asked.conditions before behind calls
 
 -- the records that are left in a file were salvaged as words ask for it, or its differences from a deck were
 -- written; and what was told, a writer took
@@ -115,8 +117,8 @@ module _ {W : Type 0} (disk : Unseen) (words : List Text) (calls : List Call) (i
 abbrev pub IsToRead : Request → Type 0
 IsToRead (Run deck folder limits strict wait) = ⊥
 IsToRead (Serve folder limits wait) = ⊥
-IsToRead (Load deck folder file text form into limits lines quiet) = ⊥
-IsToRead (Copy file new limits) = ⊥
+IsToRead (Load deck folder file text form encoding into limits lines rejects quiet) = ⊥
+IsToRead (Copy file new key limits) = ⊥
 IsToRead request = ⊤
 
 -- so do the words ask

@@ -15,23 +15,31 @@ use std::alloc::Global;
 use std::io::ErrorKind;
 use system_files::Cause;
 
-/// What is asked of a copy: the path of a file, that of the new one, and the limits of its pages.
+/// What is asked of a copy: the path of a file, that of the new one, the key in whose order its records
+/// lie, and the limits of its pages.
 #[derive(Clone, Copy)]
 pub struct Copying<'a> {
     pub file: &'a str,
     pub new: &'a str,
+    pub key: u8,
     pub limits: Limits,
 }
 
 /// The copy that a request asks for, if it asks for one.
 pub fn copy_asked<'a>(request: &Request<'a>) -> Option<Copying<'a>>
-    ensures some { IfSome result (λ copy. request.now ≡ Copy copy.file copy.new copy.limits) }
+    ensures some { IfSome result (λ copy. request.now ≡ Copy copy.file copy.new copy.key copy.limits) }
     ensures none { result ≡ None → is_copy request.now ≡ false }
 {
     match request {
-        Request::Copy { file, new, limits } => Some(Copying {
+        Request::Copy {
             file,
             new,
+            key,
+            limits,
+        } => Some(Copying {
+            file,
+            new,
+            key: *key,
             limits: *limits,
         }),
         _ => None,

@@ -16,6 +16,7 @@ use Rattle.file_statistics.specs.declared.listing.FileStatisticsEnd.TheVariants.
 use Rattle.command_outcomes.specs.declared.fault.Fault.{Fault}
 use Rattle.command_outcomes.specs.declared.fault.Fault.TheVariants.{Deck, NotListed, NoSuchFile}
 use Rattle.command_outcomes.specs.declared.fault.Fault.TheVariants.{Form as NoForm, Unexplained, LongValue, NoFileName}
+use Rattle.command_outcomes.specs.declared.fault.Fault.TheVariants.{Condition as NoCondition, LoneRejects}
 use Rattle.command_outcomes.specs.declared.fault.Fault.TheVariants.{Usage, Input, Output, Memory}
 use Rattle.command_outcomes.specs.declared.outcome.WorstCheck.{WorstCheck}
 use Rattle.command_outcomes.specs.declared.outcome.WorstCheck.TheVariants.{AllSound}
@@ -40,8 +41,10 @@ status_of (Deck _) = 2
 status_of (NotListed _) = 2
 status_of NoSuchFile = 3
 status_of (NoForm _) = 3
+status_of (NoCondition _) = 3
 status_of Unexplained = 3
 status_of LongValue = 3
+status_of LoneRejects = 3
 status_of NoFileName = 3
 status_of (Usage _) = 3
 status_of Input = 4

@@ -4,6 +4,7 @@ ghost use Rattle.std.specs.IoError.{error_kind};
 ghost use Rattle.command_outcomes.specs.Status.{status_of};
 ghost use Rattle.command_outcomes.specs.Told.{told_as, words_told_as};
 
+use crate::condition_fault::ConditionFault;
 use crate::form_fault::FormFault;
 use command_words::WordsFault;
 use deck_listing::DeckFaults;
@@ -38,8 +39,10 @@ impl fmt::Display for RefusedDeck {
 /// | the command line is not understood | 3 | why, and the usage |
 /// | a deck has no such file | 3 | `cobix: the deck has no file of this name` |
 /// | there is no such form of a list, or `--deck` or `--file` is alone | 3 | `cobix: `, and why |
+/// | a condition of a list is none, or there is no deck for it | 3 | `cobix: `, and why |
 /// | there is no such number to explain | 3 | which there are |
 /// | a value is longer than that of any key | 3 | `cobix: a value of a key has at most 250 bytes` |
+/// | rejected lines are to be written, and none is passed over | 3 | `cobix: '--rejects' wants '--keep-going'` |
 /// | a new file would have no name of a file | 3 | `cobix: `, and which names there are |
 /// | the deck cannot be read | 4 | `cobix: input` |
 /// | the transcript, or the help, cannot be written | 4 | `cobix: output` |
@@ -54,10 +57,14 @@ pub enum Fault {
     NoSuchFile,
     #[error("cobix: {0}")]
     Form(FormFault),
+    #[error("cobix: {0}")]
+    Condition(ConditionFault),
     #[error("cobix: there is no such status, fault or reason")]
     Unexplained,
     #[error("cobix: a value of a key has at most 250 bytes")]
     LongValue,
+    #[error("cobix: '--rejects' wants '--keep-going'")]
+    LoneRejects,
     #[error("cobix: the name of the new file has to be of 1 to 64 letters, digits, '.', '-' or '_', the first a \
          letter or a digit")]
     NoFileName,
@@ -153,8 +160,9 @@ impl Fault {
             Fault::Deck(_) => 2,
             Fault::NotListed(_) => 2,
             Fault::Usage(_) => 3,
-            Fault::NoSuchFile | Fault::Form(_) => 3,
-            Fault::Unexplained | Fault::LongValue | Fault::NoFileName => 3,
+            Fault::NoSuchFile | Fault::Form(_) | Fault::Condition(_) => 3,
+            Fault::Unexplained | Fault::LongValue => 3,
+            Fault::LoneRejects | Fault::NoFileName => 3,
             Fault::Input | Fault::Output | Fault::Memory => 4,
         }
     }

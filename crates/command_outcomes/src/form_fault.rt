@@ -7,6 +7,8 @@ use thiserror::Error;
 pub enum FormFault {
     #[error("a form is 'text', 'csv' or 'json'")]
     Kind,
+    #[error("an encoding is 'ascii' or 'utf-8'")]
+    Encoding,
     #[error("text has no columns")]
     TextColumns,
     #[error("columns are those of '--cut' or those of '--deck', and not both")]

@@ -7,10 +7,12 @@
 //! Read `specs/Status.antt` for the exit statuses, then `fault`.
 #![tactic(auto)]
 
+mod condition_fault;
 mod fault;
 mod form_fault;
 mod outcome;
 
+pub use condition_fault::ConditionFault;
 pub use fault::{Fault, RefusedDeck};
 pub use form_fault::FormFault;
 pub use outcome::{Outcome, WorstCheck, report};

@@ -31,12 +31,12 @@ asked words (Serve folder limits wait) faultless h = ((faultless, h.0), (faultle
 asked words (Schema file deck name) faultless h = (faultless, h)
 asked words (Explain kind number) faultless h = (faultless, h)
 asked words (Deck deck) faultless h = (faultless, h)
-asked words (ListRecords file key from to first form checked quiet wait) faultless h = ((faultless, h.0), (faultless, h.1))
+asked words (ListRecords file key from to first conditions form checked quiet wait) faultless h = ((faultless, h.0), (faultless, h.1))
 asked words (Cobol deck fixed) faultless h = (faultless, h)
-asked words (Load deck folder file text form into limits lines quiet) faultless h = (faultless, h)
+asked words (Load deck folder file text form encoding into limits lines rejects quiet) faultless h = (faultless, h)
 asked words (Stat file) faultless h = (faultless, h)
 asked words (Salvage file form places) faultless h = (faultless, h)
-asked words (Copy file new limits) faultless h = (faultless, h)
+asked words (Copy file new key limits) faultless h = (faultless, h)
 asked words (Help text) faultless h = absurd h
 
 pub met_asked : (words : List Text) (met : Option (Text × List Row)) (result : Result Request WordsFault) → AreFaultless words

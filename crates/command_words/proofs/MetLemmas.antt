@@ -1,5 +1,5 @@
 -- The subcommand that a parse met, and its values.
-use Rattle.std.proofs.Common.{◌≡◌, ◌↔◌, List, map, Option, Some, None, option_map, IsSome, refl, sym, ap, ap₂, ◌∙◌, Bor}
+use Rattle.std.proofs.Common.{◌≡◌, ◌↔◌, List, [], map, unwrap_or, Option, Some, None, option_map, IsSome, refl, sym, ap, ap₂, ◌∙◌, Bor}
 use Rattle.std.proofs.lemmas.Bool.{false≢true}
 use Rattle.std.specs.Option.{IfSome}
 use Rattle.clap.specs.Words.{Text, Row, all_of, first_of, found_of, matched_of, raw_values, first_value, rows_of, subcommand_name_of, subcommand_rows_of}
@@ -68,3 +68,8 @@ no_texts f id read e none rows same texts given =
     let found : all_of id rows ≡ None = rw same (sym (raw_values-rows f id) ∙ sym absent) in
     let bad : Some texts ≡ None = sym given ∙ found in
     absurd (cc)
+
+-- the texts of all uses that were read, or none where there are none
+pub all_read : (f : Found) (id : Text) (read : Option (Bor (List (Bor Text)))) → option_map (λ s. map (λ v. v.now) s.now) read ≡ option_map raw_values (matched_of f id)
+    → unwrap_or (all_of id (rows_of f)) [] ≡ unwrap_or (option_map (λ s. map (λ v. v.now) s.now) read) []
+all_read f id read e = ap (λ (o : Option (List Text)). unwrap_or o []) (sym (raw_values-rows f id) ∙ sym e)

@@ -2,6 +2,7 @@
 -- values, and which are a fault, is a definition of `clap`.
 use Rattle.std.specs.Prelude.{◌≡◌, ◌≢◌, ◌⊎◌, ◌≤◌, ◌<◌, ◌^◌, ℕ, Bool, true, false, List, [], map, Option, Some, None}
 use Rattle.std.specs.Prelude.{option_map, codes}
+use Rattle.std.specs.Option.{unwrap_or}
 use Rattle.std.specs.Str.Parse.{IsNumeral, digits_value, without_leading_plus}
 use Rattle.clap.specs.Words.{IsAmong, Row, Text, all_of, first_of, one_of, fault_of, kind_of, subcommand_of}
 use Rattle.clap.specs.declared.error.Error.{Error}
@@ -119,10 +120,11 @@ pub record IsDeckRequest (met : Option (Text × List Row)) (deck : Text) : Type 
   pub is : met ≡ Some (codes "deck", rows)
   pub deck_given : first_of (codes "deck") rows ≡ Some deck
 
--- the words that ask for the form of a list: which it is, and what its columns are: those between
--- cuts, or those of a file of a deck
+-- the words that ask for the form of a list: which it is, how characters outside of ASCII are written,
+-- and what its columns are: those between cuts, or those of a file of a deck
 pub record FormText : Type 0 where
   pub kind : Text
+  pub encoding : Text
   pub cut : Option Text
   pub deck : Option Text
   pub name : Option Text
@@ -130,6 +132,7 @@ pub record FormText : Type 0 where
 abbrev pub form_text : FormWords → FormText
 form_text form = record {
   kind = form.kind.now;
+  encoding = form.encoding.now;
   cut = option_map (λ text. text.now) form.cut;
   deck = option_map (λ text. text.now) form.deck;
   name = option_map (λ text. text.now) form.name;
@@ -138,14 +141,20 @@ form_text form = record {
 -- the values ask for a list in this form
 pub record IsForm (rows : List Row) (form : FormText) : Type 0 where
   pub kind_given : first_of (codes "as") rows ≡ Some form.kind
+  pub encoding_given : first_of (codes "encoding") rows ≡ Some form.encoding
   pub cut_is : first_of (codes "cut") rows ≡ form.cut
   pub deck_is : first_of (codes "deck") rows ≡ form.deck
   pub name_is : first_of (codes "name") rows ≡ form.name
 
+-- the values ask for records of which these conditions hold
+abbrev pub AreConditions : List Row → (conditions : List Text) → Type 0
+AreConditions rows conditions = unwrap_or (all_of (codes "where") rows) [] ≡ conditions
+
 -- the subcommand that was met is to list records of this file in the order of a key, from a value
--- on, to a value, and so many at most, in a form, with progress or not
+-- on, to a value, and so many at most of those for which conditions hold, in a form, with progress or
+-- not
 pub record IsList (met : Option (Text × List Row)) (file : Text) (key : ℕ) (from to : Option Text)
-    (first : ℕ) (form : FormText) (checked quiet : Bool) : Type 0 where
+    (first : ℕ) (conditions : List Text) (form : FormText) (checked quiet : Bool) : Type 0 where
   pub rows : List Row
   pub is : met ≡ Some (codes "list", rows)
   pub file_given : first_of (codes "file") rows ≡ Some file
@@ -157,6 +166,7 @@ pub record IsList (met : Option (Text × List Row)) (file : Text) (key : ℕ) (f
   pub first_is : IsNumber 64 first_text first
   pub from_is : first_of (codes "from") rows ≡ from
   pub to_is : first_of (codes "to") rows ≡ to
+  pub conditions_are : AreConditions rows conditions
   pub form_is : IsForm rows form
   pub checked_is : IsCheckedRequest rows checked
   pub quiet_is : IsQuietRequest rows quiet
@@ -187,11 +197,11 @@ pub record AreLineOptions (rows : List Row) (lines : LineOptions) : Type 0 where
   pub pad_given : one_of (codes "pad") rows ≡ Some pad_text
   pub pad_is : IsFlag pad_text lines.pad
 
--- the subcommand that was met is to load the lines of this text, in a form, into a file of this
--- deck over this folder, into the one that is there or not, with these limits, these of the lines,
--- with progress or not
-pub record IsLoad (met : Option (Text × List Row)) (deck folder file text form : Text) (into : Bool)
-    (pages frames : ℕ) (lines : LineOptions) (quiet : Bool) : Type 0 where
+-- the subcommand that was met is to load the lines of this text, in a form and an encoding, into a
+-- file of this deck over this folder, into the one that is there or not, with these limits, these of
+-- the lines, with a file of those that are rejected or without, with progress or not
+pub record IsLoad (met : Option (Text × List Row)) (deck folder file text form encoding : Text) (into : Bool)
+    (pages frames : ℕ) (lines : LineOptions) (rejects : Option Text) (quiet : Bool) : Type 0 where
   pub rows : List Row
   pub is : met ≡ Some (codes "load", rows)
   pub deck_given : first_of (codes "deck") rows ≡ Some deck
@@ -199,11 +209,13 @@ pub record IsLoad (met : Option (Text × List Row)) (deck folder file text form 
   pub file_given : first_of (codes "file") rows ≡ Some file
   pub text_given : first_of (codes "text") rows ≡ Some text
   pub form_given : first_of (codes "as") rows ≡ Some form
+  pub encoding_given : first_of (codes "encoding") rows ≡ Some encoding
   pub into_text : Text
   pub into_given : one_of (codes "into") rows ≡ Some into_text
   pub into_is : IsFlag into_text into
   pub limits : AreLimits rows pages frames
   pub lines_are : AreLineOptions rows lines
+  pub rejects_are : first_of (codes "rejects") rows ≡ rejects
   pub quiet_is : IsQuietRequest rows quiet
 
 -- the subcommand that was met is to count what this file has
@@ -215,6 +227,7 @@ pub record IsStat (met : Option (Text × List Row)) (file : Text) : Type 0 where
 -- the values ask for a salvage in this form, which cuts no columns
 pub record IsSalvageForm (rows : List Row) (form : FormText) : Type 0 where
   pub kind_given : first_of (codes "as") rows ≡ Some form.kind
+  pub encoding_given : first_of (codes "encoding") rows ≡ Some form.encoding
   pub cut_is : form.cut ≡ None
   pub deck_is : first_of (codes "deck") rows ≡ form.deck
   pub name_is : first_of (codes "name") rows ≡ form.name
@@ -231,12 +244,17 @@ pub record IsSalvageRequest (met : Option (Text × List Row)) (file : Text) (for
   pub places_given : one_of (codes "places") rows ≡ Some places_text
   pub places_is : IsFlag places_text places
 
--- the subcommand that was met is to copy this file into the new one of a path, with these limits
-pub record IsCopyRequest (met : Option (Text × List Row)) (file new : Text) (pages frames : ℕ) : Type 0 where
+-- the subcommand that was met is to copy this file into the new one of a path, in the order of a key,
+-- with these limits
+pub record IsCopyRequest (met : Option (Text × List Row)) (file new : Text) (key pages frames : ℕ) : Type
+    0 where
   pub rows : List Row
   pub is : met ≡ Some (codes "copy", rows)
   pub file_given : first_of (codes "file") rows ≡ Some file
   pub new_given : first_of (codes "new") rows ≡ Some new
+  pub key_text : Text
+  pub key_given : one_of (codes "key") rows ≡ Some key_text
+  pub key_is : IsNumber 8 key_text key
   pub limits : AreLimits rows pages frames
 
 -- the subcommand that was met, with its values, is what is asked for
@@ -251,17 +269,17 @@ IsRequestMet met (Schema file deck name) = IsSchemaRequest met file.now (option_
     (option_map (λ text. text.now) name)
 IsRequestMet met (Explain kind number) = IsExplain met kind.now number.now
 IsRequestMet met (Deck deck) = IsDeckRequest met deck.now
-IsRequestMet met (ListRecords file key from to first form checked quiet wait) =
+IsRequestMet met (ListRecords file key from to first conditions form checked quiet wait) =
     IsList met file.now key (option_map (λ text. text.now) from) (option_map (λ text. text.now) to) first
-    (form_text form) checked quiet × IsWaitMet met wait
+    (map (λ text. text.now) conditions.items) (form_text form) checked quiet × IsWaitMet met wait
 IsRequestMet met (Cobol deck fixed) = IsCobol met deck.now fixed
-IsRequestMet met (Load deck folder file text form into limits lines quiet) =
-    IsLoad met deck.now folder.now file.now text.now form.now into limits.pages limits.frames.value
-    lines quiet
+IsRequestMet met (Load deck folder file text form encoding into limits lines rejects quiet) =
+    IsLoad met deck.now folder.now file.now text.now form.now encoding.now into limits.pages
+    limits.frames.value lines (option_map (λ text. text.now) rejects) quiet
 IsRequestMet met (Stat file) = IsStat met file.now
 IsRequestMet met (Salvage file form places) = IsSalvageRequest met file.now (form_text form) places
-IsRequestMet met (Copy file new limits) =
-    IsCopyRequest met file.now new.now limits.pages limits.frames.value
+IsRequestMet met (Copy file new key limits) =
+    IsCopyRequest met file.now new.now key limits.pages limits.frames.value
 IsRequestMet met (Help text) = ⊥
 
 -- the subcommand that was met is no run, or its values are none that a run can have; and so of each
@@ -286,15 +304,17 @@ abbrev pub IsNoDeckList : Option (Text × List Row) → Type 0
 IsNoDeckList met = (deck : Text) → ¬ (IsDeckRequest met deck)
 
 abbrev pub IsNoList : Option (Text × List Row) → Type 0
-IsNoList met = (file : Text) (key : ℕ) (from to : Option Text) (first : ℕ) (form : FormText)
-    (checked quiet : Bool) → ¬ (IsList met file key from to first form checked quiet)
+IsNoList met = (file : Text) (key : ℕ) (from to : Option Text) (first : ℕ) (conditions : List Text)
+    (form : FormText) (checked quiet : Bool)
+    → ¬ (IsList met file key from to first conditions form checked quiet)
 
 abbrev pub IsNoCobol : Option (Text × List Row) → Type 0
 IsNoCobol met = (deck : Text) (fixed : Bool) → ¬ (IsCobol met deck fixed)
 
 abbrev pub IsNoLoad : Option (Text × List Row) → Type 0
-IsNoLoad met = (deck folder file text form : Text) (into : Bool) (pages frames : ℕ) (lines : LineOptions)
-    (quiet : Bool) → ¬ (IsLoad met deck folder file text form into pages frames lines quiet)
+IsNoLoad met = (deck folder file text form encoding : Text) (into : Bool) (pages frames : ℕ)
+    (lines : LineOptions) (rejects : Option Text) (quiet : Bool)
+    → ¬ (IsLoad met deck folder file text form encoding into pages frames lines rejects quiet)
 
 abbrev pub IsNoStat : Option (Text × List Row) → Type 0
 IsNoStat met = (file : Text) → ¬ (IsStat met file)
@@ -304,7 +324,7 @@ IsNoSalvage met = (file : Text) (form : FormText) (places : Bool)
     → ¬ (IsSalvageRequest met file form places)
 
 abbrev pub IsNoCopy : Option (Text × List Row) → Type 0
-IsNoCopy met = (file new : Text) (pages frames : ℕ) → ¬ (IsCopyRequest met file new pages frames)
+IsNoCopy met = (file new : Text) (key pages frames : ℕ) → ¬ (IsCopyRequest met file new key pages frames)
 
 -- it is no run, session, schema, explanation or list of a deck
 pub record IsNoRunOrList (met : Option (Text × List Row)) : Type 0 where
@@ -314,19 +334,19 @@ pub record IsNoRunOrList (met : Option (Text × List Row)) : Type 0 where
   pub no_explain : IsNoExplain met
   pub no_deck : IsNoDeckList met
 
--- and no list of records, no program in COBOL, no load, no count, no salvage and no copy
+-- and no program in COBOL, no load, no count, no salvage and no copy
 pub record IsNoRecords (met : Option (Text × List Row)) : Type 0 where
-  pub no_list : IsNoList met
   pub no_cobol : IsNoCobol met
   pub no_load : IsNoLoad met
   pub no_stat : IsNoStat met
   pub no_salvage : IsNoSalvage met
   pub no_copy : IsNoCopy met
 
--- it is none of these, and no check
+-- it is none of these, no list of records, and no check
 pub record IsNone (met : Option (Text × List Row)) : Type 0 where
   pub no_run_or_list : IsNoRunOrList met
   pub no_records : IsNoRecords met
+  pub no_list : IsNoList met
   pub no_check : IsNoCheck met
 
 -- the words have no fault
@@ -379,20 +399,21 @@ AskDeck words deck = AreFaultless words × IsDeckRequest (subcommand_of program_
 
 -- to list records of this file in a form, with progress or not
 abbrev pub AskList : List Text → (file : Text) (key : ℕ) (from to : Option Text) (first : ℕ)
-    (form : FormText) (checked quiet : Bool) → Type 0
-AskList words file key from to first form checked quiet =
-    AreFaultless words × IsList (subcommand_of program_app words) file key from to first form checked quiet
+    (conditions : List Text) (form : FormText) (checked quiet : Bool) → Type 0
+AskList words file key from to first conditions form checked quiet = AreFaultless words
+    × IsList (subcommand_of program_app words) file key from to first conditions form checked quiet
 
 -- to write this deck in COBOL
 abbrev pub AskCobol : List Text → (deck : Text) (fixed : Bool) → Type 0
 AskCobol words deck fixed = AreFaultless words × IsCobol (subcommand_of program_app words) deck fixed
 
--- to load these lines of this text, in a form, into a file of this deck, with progress or not
-abbrev pub AskLoad : List Text → (deck folder file text form : Text) (into : Bool) (pages frames : ℕ)
-    (lines : LineOptions) (quiet : Bool) → Type 0
-AskLoad words deck folder file text form into pages frames lines quiet =
-    AreFaultless words × IsLoad (subcommand_of program_app words) deck folder file text form into pages
-    frames lines quiet
+-- to load these lines of this text, in a form and an encoding, into a file of this deck, with a file of
+-- those that are rejected or without, with progress or not
+abbrev pub AskLoad : List Text → (deck folder file text form encoding : Text) (into : Bool) (pages frames : ℕ)
+    (lines : LineOptions) (rejects : Option Text) (quiet : Bool) → Type 0
+AskLoad words deck folder file text form encoding into pages frames lines rejects quiet =
+    AreFaultless words × IsLoad (subcommand_of program_app words) deck folder file text form encoding into
+    pages frames lines rejects quiet
 
 -- to count what this file has
 abbrev pub AskStat : List Text → (file : Text) → Type 0
@@ -404,10 +425,10 @@ abbrev pub AskSalvage : List Text → (file : Text) (form : FormText) (places : 
 AskSalvage words file form places = AreFaultless words
     × IsSalvageRequest (subcommand_of program_app words) file form places
 
--- to copy this file into the new one of a path, with these limits
-abbrev pub AskCopy : List Text → (file new : Text) (pages frames : ℕ) → Type 0
-AskCopy words file new pages frames = AreFaultless words
-    × IsCopyRequest (subcommand_of program_app words) file new pages frames
+-- to copy this file into the new one of a path, in the order of a key, with these limits
+abbrev pub AskCopy : List Text → (file new : Text) (key pages frames : ℕ) → Type 0
+AskCopy words file new key pages frames = AreFaultless words
+    × IsCopyRequest (subcommand_of program_app words) file new key pages frames
 
 -- to wait so many seconds for a lock that another run has
 abbrev pub AskWait : List Text → (seconds : ℕ) → Type 0
@@ -429,17 +450,17 @@ Ask words (Schema file deck name) = AskSchema words file.now (option_map (λ tex
     (option_map (λ text. text.now) name)
 Ask words (Explain kind number) = AskExplain words kind.now number.now
 Ask words (Deck deck) = AskDeck words deck.now
-Ask words (ListRecords file key from to first form checked quiet wait) =
-    AskList words file.now key (option_map (λ text. text.now) from)
-    (option_map (λ text. text.now) to) first (form_text form) checked quiet × AskWait words wait
+Ask words (ListRecords file key from to first conditions form checked quiet wait) =
+    AskList words file.now key (option_map (λ text. text.now) from) (option_map (λ text. text.now) to) first
+    (map (λ text. text.now) conditions.items) (form_text form) checked quiet × AskWait words wait
 Ask words (Cobol deck fixed) = AskCobol words deck.now fixed
-Ask words (Load deck folder file text form into limits lines quiet) =
-    AskLoad words deck.now folder.now file.now text.now form.now into limits.pages limits.frames.value
-    lines quiet
+Ask words (Load deck folder file text form encoding into limits lines rejects quiet) =
+    AskLoad words deck.now folder.now file.now text.now form.now encoding.now into limits.pages
+    limits.frames.value lines (option_map (λ text. text.now) rejects) quiet
 Ask words (Stat file) = AskStat words file.now
 Ask words (Salvage file form places) = AskSalvage words file.now (form_text form) places
-Ask words (Copy file new limits) =
-    AskCopy words file.now new.now limits.pages limits.frames.value
+Ask words (Copy file new key limits) =
+    AskCopy words file.now new.now key limits.pages limits.frames.value
 Ask words (Help text) = AskHelp words text
 
 -- for nothing, and the text tells why
@@ -452,5 +473,5 @@ abbrev pub seconds_of : Request → ℕ
 seconds_of (Run deck folder limits strict wait) = wait
 seconds_of (Check files quiet wait) = wait
 seconds_of (Serve folder limits wait) = wait
-seconds_of (ListRecords file key from to first form checked quiet wait) = wait
+seconds_of (ListRecords file key from to first conditions form checked quiet wait) = wait
 seconds_of other = 0

@@ -4,7 +4,7 @@ use Rattle.std.specs.Prelude.{ℕ, [], ◌∷◌, Some, true, false, codes}
 use Rattle.clap.specs.Words.{App, Shape, Rule, Text, new_rule}
 use Rattle.clap.specs.Simple.{new_shape}
 use Rattle.clap.specs.Lexer.{usize_max}
-use Rattle.clap.specs.declared.builder.action.ArgAction.TheVariants.{SetTrue}
+use Rattle.clap.specs.declared.builder.action.ArgAction.TheVariants.{SetTrue, Append}
 use Rattle.clap.specs.declared.builder.value_parser.ValueParser.TheVariants.{Unsigned}
 
 -- a word that has to be given
@@ -108,14 +108,27 @@ skip_rule = number_rule (codes "skip") 0 18446744073709551615 (codes "0")
 abbrev pub first_rule : Rule
 first_rule = number_rule (codes "first") 0 18446744073709551615 (codes "18446744073709551615")
 
--- `list FILE [--key N] [--from V] [--to V] [--first N] [--as FORM] [--cut N,N..] [--deck DECK
--- --file NAME] [--checked] [--quiet] [--wait SECONDS]`
+-- `[--where ITEM=VALUE]`, which may be given several times
+abbrev pub where_rule : Rule
+where_rule = record (text_rule (codes "where")) { action = Some Append }
+
+-- `[--key N]`
+abbrev pub key_rule : Rule
+key_rule = number_rule (codes "key") 0 8 (codes "0")
+
+-- `[--encoding ENCODING]`
+abbrev pub encoding_rule : Rule
+encoding_rule = usual_rule (codes "encoding") (codes "ascii")
+
+-- `list FILE [--key N] [--from V] [--to V] [--first N] [--where ITEM=VALUE].. [--as FORM]
+-- [--encoding ENCODING] [--cut N,N..] [--deck DECK --file NAME] [--checked] [--quiet]
+-- [--wait SECONDS]`
 abbrev pub list_shape : Shape
 list_shape = record (new_shape (codes "list")) {
-  rules = word_rule (codes "file") ∷ number_rule (codes "key") 0 8 (codes "0") ∷ text_rule
+  rules = word_rule (codes "file") ∷ key_rule ∷ text_rule
       (codes "from") ∷ text_rule (codes "to")
-      ∷ first_rule ∷ usual_rule (codes "as") (codes "text") ∷ text_rule (codes "cut") ∷ text_rule
-      (codes "deck") ∷ name_rule ∷ flag_rule (codes "checked")
+      ∷ first_rule ∷ where_rule ∷ usual_rule (codes "as") (codes "text") ∷ encoding_rule ∷ text_rule
+      (codes "cut") ∷ text_rule (codes "deck") ∷ name_rule ∷ flag_rule (codes "checked")
       ∷ flag_rule (codes "quiet") ∷ wait_rule ∷ [];
 }
 
@@ -126,14 +139,15 @@ cobol_shape = record (new_shape (codes "cobol")) {
       (codes "fixed") ∷ [];
 }
 
--- `load DECK --folder DIR --file NAME TEXT [--as FORM] [--into] [--skip N] [--keep-going] [--replace]
--- [--pad] [--pages N] [--frames N] [--quiet]`
+-- `load DECK --folder DIR --file NAME TEXT [--as FORM] [--encoding ENCODING] [--into] [--skip N]
+-- [--keep-going] [--rejects FILE] [--replace] [--pad] [--pages N] [--frames N] [--quiet]`
 abbrev pub load_shape : Shape
 load_shape = record (new_shape (codes "load")) {
   rules = word_rule (codes "deck") ∷ option_rule (codes "folder") ∷ option_rule (codes "file") ∷ word_rule
-      (codes "text") ∷ usual_rule (codes "as") (codes "text")
+      (codes "text") ∷ usual_rule (codes "as") (codes "text") ∷ encoding_rule
       ∷ flag_rule (codes "into")
-      ∷ skip_rule ∷ flag_rule (codes "keep-going") ∷ flag_rule (codes "replace")
+      ∷ skip_rule ∷ flag_rule (codes "keep-going") ∷ text_rule (codes "rejects") ∷ flag_rule
+      (codes "replace")
       ∷ flag_rule (codes "pad")
       ∷ pages_rule
       ∷ frames_rule (codes "64") ∷ flag_rule (codes "quiet") ∷ [];
@@ -143,17 +157,17 @@ load_shape = record (new_shape (codes "load")) {
 abbrev pub stat_shape : Shape
 stat_shape = record (new_shape (codes "stat")) { rules = word_rule (codes "file") ∷ [] }
 
--- `salvage FILE [--as FORM] [--places] [--deck DECK --file NAME]`
+-- `salvage FILE [--as FORM] [--encoding ENCODING] [--places] [--deck DECK --file NAME]`
 abbrev pub salvage_shape : Shape
 salvage_shape = record (new_shape (codes "salvage")) {
-  rules = word_rule (codes "file") ∷ usual_rule (codes "as") (codes "text") ∷ flag_rule (codes "places")
-      ∷ text_rule (codes "deck") ∷ name_rule ∷ [];
+  rules = word_rule (codes "file") ∷ usual_rule (codes "as") (codes "text") ∷ encoding_rule ∷ flag_rule
+      (codes "places") ∷ text_rule (codes "deck") ∷ name_rule ∷ [];
 }
 
--- `copy FILE NEW [--pages N] [--frames N]`
+-- `copy FILE NEW [--key N] [--pages N] [--frames N]`
 abbrev pub copy_shape : Shape
 copy_shape = record (new_shape (codes "copy")) {
-  rules = word_rule (codes "file") ∷ word_rule (codes "new") ∷ pages_rule ∷ frames_rule (codes "64") ∷ [];
+  rules = word_rule (codes "file") ∷ word_rule (codes "new") ∷ key_rule ∷ pages_rule ∷ frames_rule (codes "64") ∷ [];
 }
 
 -- the program with its version, and before its subcommands

@@ -6,6 +6,7 @@ use Rattle.clap.specs.declared.builder.command.Command.{Command}
 use Rattle.clap.specs.declared.builder.command.Command.TheViews.{out-Command}
 use Rattle.command_words.specs.CommandLine.{word_rule, option_rule, text_rule, usual_rule, name_rule}
 use Rattle.command_words.specs.CommandLine.{flag_rule, number_rule, pages_rule, frames_rule, wait_rule, skip_rule}
+use Rattle.command_words.specs.CommandLine.{key_rule, encoding_rule}
 
 -- an argument of this rule, for its own command alone
 abbrev pub HasRule : Rule → Arg → Type 0
@@ -54,12 +55,15 @@ with_values app = with_rule (with_rule app (text_rule (codes "from"))) (text_rul
 
 -- with the bounds of a list
 abbrev pub with_bounds : App → App
-with_bounds app = with_values (with_rule app (number_rule (codes "key") 0 8 (codes "0")))
+with_bounds app = with_values (with_rule app key_rule)
+
+-- with a kind of form, and an encoding
+abbrev pub with_kind : App → App
+with_kind app = with_rule (with_rule app (usual_rule (codes "as") (codes "text"))) encoding_rule
 
 -- with the form of a list
 abbrev pub with_form : App → App
-with_form app = with_deck (with_rule (with_rule app (usual_rule (codes "as") (codes "text")))
-    (text_rule (codes "cut")))
+with_form app = with_deck (with_rule (with_kind app) (text_rule (codes "cut")))
 
 -- with the file of a load, and its text
 abbrev pub with_file_words : App → App
@@ -67,16 +71,19 @@ with_file_words app = with_rule (with_rule app (option_rule (codes "file"))) (wo
 
 -- with its options too
 abbrev pub with_text : App → App
-with_text app = with_rule (with_rule (with_file_words app) (usual_rule (codes "as") (codes "text")))
-    (flag_rule (codes "into"))
+with_text app = with_rule (with_kind (with_file_words app)) (flag_rule (codes "into"))
 
--- with the options by which it skips lines, keeps going, replaces records, and fills up values
+-- with the options by which it skips lines, keeps going, and writes those that are rejected
+abbrev pub with_rejects : App → App
+with_rejects app =
+    with_rule (with_rule (with_rule app skip_rule) (flag_rule (codes "keep-going")))
+    (text_rule (codes "rejects"))
+
+-- and replaces records, and fills up values
 abbrev pub with_line_options : App → App
 with_line_options app =
-    with_rule (with_rule (with_rule (with_rule app skip_rule) (flag_rule (codes "keep-going")))
-    (flag_rule (codes "replace"))) (flag_rule (codes "pad"))
+    with_rule (with_rule (with_rejects app) (flag_rule (codes "replace"))) (flag_rule (codes "pad"))
 
 -- with the form of a salvage
 abbrev pub with_salvage_form : App → App
-with_salvage_form app = with_rule (with_rule app (usual_rule (codes "as") (codes "text")))
-    (flag_rule (codes "places"))
+with_salvage_form app = with_rule (with_kind app) (flag_rule (codes "places"))

@@ -2,6 +2,7 @@
 ghost use Rattle.std.specs.Prelude.{codes};
 ghost use Rattle.command_words.specs.CommandLine.{word_rule, words_rule, option_rule, text_rule, usual_rule};
 ghost use Rattle.command_words.specs.CommandLine.{name_rule, flag_rule, number_rule, first_rule, wait_rule, skip_rule};
+ghost use Rattle.command_words.specs.CommandLine.{where_rule, key_rule, encoding_rule};
 ghost use Rattle.command_words.specs.Commands.{HasRule};
 
 use clap::builder::ValueParser;
@@ -22,6 +23,20 @@ pub fn number<'a>(
     usual(alloc, name, "N", default, help).value_parser(ValueParser::unsigned(least, most))
 }
 
+/// The option `--key`.
+pub fn key<'a>(alloc: Global, help: &'a str) -> Arg<'a>
+    ensures { HasRule key_rule result }
+{
+    number(alloc, "key", 0, 8, "0", help)
+}
+
+/// The option `--encoding`.
+pub fn encoding<'a>(alloc: Global, help: &'a str) -> Arg<'a>
+    ensures { HasRule encoding_rule result }
+{
+    usual(alloc, "encoding", "ENCODING", "ascii", help)
+}
+
 /// The option `--first`: the greatest number stands for no bound, so help does not show it.
 pub fn first<'a>(alloc: Global) -> Arg<'a>
     ensures { HasRule first_rule result }
@@ -35,6 +50,19 @@ pub fn first<'a>(alloc: Global) -> Arg<'a>
         "The most records that are listed; where it is not given, all of them",
     );
     first.hide_default_value(true)
+}
+
+/// The option `--where`, which may be given several times.
+pub fn conditions<'a>(alloc: Global) -> Arg<'a>
+    ensures { HasRule where_rule result }
+{
+    let condition = text(
+        alloc,
+        "where",
+        "ITEM=VALUE",
+        "Lists only records of which this holds; also with '<', '<=', '>' or '>='; may be given several times",
+    );
+    condition.action(ArgAction::Append)
 }
 
 /// The option `--skip`.

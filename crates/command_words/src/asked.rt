@@ -1,9 +1,9 @@
 //! What the matches of a parse ask for.
-ghost use Rattle.std.specs.Prelude.{◌≡◌, ℕ, Bool, List, Option, Some, None, IfOk};
+ghost use Rattle.std.specs.Prelude.{◌≡◌, ℕ, Bool, List, Option, Some, None, IfOk, map, codes};
 ghost use Rattle.std.specs.Option.{IfSome};
-ghost use Rattle.clap.specs.Words.{Row, found_of, rows_of, subcommand_rows_of};
+ghost use Rattle.clap.specs.Words.{Row, Text, found_of, rows_of, subcommand_rows_of};
 ghost use Rattle.command_words.specs.Asks.{AreLimits, AreLineOptions, IsCheckedRequest, IsQuietRequest, IsWaitRequest, FormText, form_text, IsForm};
-ghost use Rattle.command_words.specs.Asks.{IsRequestMet, IsNoRun};
+ghost use Rattle.command_words.specs.Asks.{IsRequestMet, IsNoRun, AreConditions};
 ghost use Rattle.command_words.specs.Asks.{IsNoCheck, IsNoServe, IsNoSchema, IsNoExplain, IsNoDeckList};
 ghost use Rattle.command_words.specs.Asks.{IsNoList, IsNoCobol, IsNoLoad, IsNoStat, IsNoRunOrList};
 ghost use Rattle.command_words.specs.Asks.{IsNoSalvage, IsNoCopy, IsNoRecords, IsNone, IsSalvageForm};
@@ -165,20 +165,37 @@ fn form_of<'a>(list: &ArgMatches<'a>) -> Option<FormWords<'a>>
     ensures none { result ≡ None → (form : FormText) → IsForm (rows_of (found_of list.now)) form → ⊥ }
 {
     let kind = list.get_str("as")?;
+    let encoding = list.get_str("encoding")?;
     Some(FormWords {
         kind,
+        encoding,
         cut: list.get_str("cut"),
         deck: list.get_str("deck"),
         name: list.get_str("name"),
     })
 }
 
-/// The list that the matches ask for, if they ask for one.
-fn list_of<'a>(matches: &ArgMatches<'a>) -> Option<Request<'a>>
-    ensures some { IfSome result (IsRequestMet (subcommand_rows_of matches.now)) }
-    ensures none { result ≡ None → IsNoList (subcommand_rows_of matches.now) }
+/// The conditions that the records of a list have to meet.
+fn conditions_of<'a>(alloc: Global, list: &ArgMatches<'a>) -> Result<Vec<&'a str>, AllocError>
+    ensures { IfOk result (λ words. AreConditions (rows_of (found_of list.now)) (map (λ word. word.now) words.items)) }
 {
-    let list = met(matches, "list")?;
+    match list.get_strs("where") {
+        Some(words) => {
+            let conditions = words.to_vec(alloc)?;
+            Ok(conditions)
+        }
+        None => Ok(Vec::new(alloc)),
+    }
+}
+
+/// The list that the matches of `list` ask for, with these conditions, if they ask for one.
+fn listed<'a>(list: &ArgMatches<'a>, conditions: Vec<&'a str>) -> Option<Request<'a>>
+    requires { AreConditions (rows_of (found_of list.now)) (map (λ word. word.now) conditions.items) }
+    ensures some { (met : Option (Text × List Row)) → met ≡ Some (codes "list", rows_of (found_of list.now))
+        → IfSome result (IsRequestMet met) }
+    ensures none { result ≡ None → (met : Option (Text × List Row))
+        → met ≡ Some (codes "list", rows_of (found_of list.now)) → IsNoList met }
+{
     let file = list.get_str("file")?;
     let key = list.get_one("key")?;
     let first = list.get_one("first")?;
@@ -192,11 +209,26 @@ fn list_of<'a>(matches: &ArgMatches<'a>) -> Option<Request<'a>>
         from: list.get_str("from"),
         to: list.get_str("to"),
         first,
+        conditions,
         form,
         checked,
         quiet,
         wait,
     })
+}
+
+/// The list that the matches ask for, if they ask for one.
+fn list_of<'a>(alloc: Global, matches: &ArgMatches<'a>) -> Result<Option<Request<'a>>, AllocError>
+    ensures some { IfOk result (λ found. IfSome found (IsRequestMet (subcommand_rows_of matches.now))) }
+    ensures none { IfOk result (λ found. found ≡ None → IsNoList (subcommand_rows_of matches.now)) }
+{
+    let Some(list) = met(matches, "list") else {
+        return Ok(None);
+    };
+    match conditions_of(alloc, list) {
+        Ok(conditions) => Ok(listed(list, conditions)),
+        Err(error) => Err(error),
+    }
 }
 
 /// The program in COBOL that the matches ask for, if they ask for one.
@@ -239,6 +271,7 @@ fn load_of<'a>(matches: &ArgMatches<'a>) -> Option<Request<'a>>
     let file = load.get_str("file")?;
     let text = load.get_str("text")?;
     let form = load.get_str("as")?;
+    let encoding = load.get_str("encoding")?;
     let into = load.get_one("into")?;
     let limits = limits_of(load)?;
     let lines = line_options_of(load)?;
@@ -249,9 +282,11 @@ fn load_of<'a>(matches: &ArgMatches<'a>) -> Option<Request<'a>>
         file,
         text,
         form,
+        encoding,
         into,
         limits,
         lines,
+        rejects: load.get_str("rejects"),
         quiet,
     })
 }
@@ -273,8 +308,10 @@ fn salvage_form_of<'a>(salvage: &ArgMatches<'a>) -> Option<FormWords<'a>>
         → IsSalvageForm (rows_of (found_of salvage.now)) form → ⊥ }
 {
     let written = salvage.get_str("as")?;
+    let encoding = salvage.get_str("encoding")?;
     Some(FormWords {
         kind: written,
+        encoding,
         cut: None,
         deck: salvage.get_str("deck"),
         name: salvage.get_str("name"),
@@ -301,8 +338,14 @@ fn copy_of<'a>(matches: &ArgMatches<'a>) -> Option<Request<'a>>
     let copy = met(matches, "copy")?;
     let file = copy.get_str("file")?;
     let new = copy.get_str("new")?;
+    let key = copy.get_one("key")?;
     let limits = limits_of(copy)?;
-    Some(Request::Copy { file, new, limits })
+    Some(Request::Copy {
+        file,
+        new,
+        key,
+        limits,
+    })
 }
 
 /// A run, a session, a schema, an explanation or the list of a deck that the matches ask for, if
@@ -326,15 +369,12 @@ fn run_or_list_of<'a>(matches: &ArgMatches<'a>) -> Option<Request<'a>>
     deck_of(matches)
 }
 
-/// A list of records, a program in COBOL, a load, a count, a salvage or a copy that the matches ask
-/// for, if they ask for one.
+/// A program in COBOL, a load, a count, a salvage or a copy that the matches ask for, if they ask for
+/// one.
 fn records_of<'a>(matches: &ArgMatches<'a>) -> Option<Request<'a>>
     ensures some { IfSome result (IsRequestMet (subcommand_rows_of matches.now)) }
     ensures none { result ≡ None → IsNoRecords (subcommand_rows_of matches.now) }
 {
-    if let Some(list) = list_of(matches) {
-        return Some(list);
-    }
     if let Some(cobol) = cobol_of(matches) {
         return Some(cobol);
     }
@@ -364,5 +404,9 @@ pub fn request_of<'a>(
     if let Some(request) = records_of(matches) {
         return Ok(Some(request));
     }
-    check_of(alloc, matches)
+    match list_of(alloc, matches) {
+        Ok(Some(list)) => Ok(Some(list)),
+        Ok(None) => check_of(alloc, matches),
+        Err(error) => Err(error),
+    }
 }

@@ -119,11 +119,22 @@ The file is read page after page, and no run changes it meanwhile. What is met t
 ends the list, and the lines before it stay. With '--checked' the whole file is checked first, and read once \
 before the first line.
 
+Conditions:
+  --where ITEM=VALUE        only records whose ITEM has this VALUE; with several conditions those of which all hold
+  '<', '<=', '>', '>='      in the place of '=': ITEM is less, not greater, greater, not less
+ITEM is an item of the record of NAME, so '--deck' and '--file' are wanted. It is compared with VALUE byte by \
+byte, and VALUE has escapes as V. A shorter VALUE has spaces after it; where ITEM is numeric, digits have zeros \
+before them. No condition holds of a record that ends before ITEM does.
+
 Forms:
   text  a record in brackets
   csv   the names of the columns, and then the columns of each record: in quotes, with commas between, and \
 CRLF at the end
   json  an object on a line for each record, with a string for each column
+
+Encodings:
+  ascii  a byte that is not from 20 to 7e, or is a backslash, is a backslash and two digits from 0 to f
+  utf-8  bytes a0 to ff are the characters of Latin-1 with these numbers; the others are as in 'ascii'
 
 Columns of csv and json:
   --cut N,N..               'column-1' up to the first N, 'column-2' up to the next, and so on; the last one \
@@ -138,9 +149,10 @@ no line was written
       'cobix: the file has no such key': no line was written
       'cobix: the file is of another schema than the deck': a line for each difference, as of 'cobix schema'
   2   the deck is refused: 'cobix: line L: fault C'
-  3   the command line is not understood, V is longer than 250 bytes, there is no such form, text is to have \
-columns, '--cut' is beside '--deck', '--deck' or '--file' is alone, the cuts are no rising numbers from 1 to \
-65,535, or the deck has no file NAME
+  3   the command line is not understood, V is longer than 250 bytes, there is no such form or encoding, text is \
+to have columns, '--cut' is beside '--deck', '--deck' or '--file' is alone, the cuts are no rising numbers from 1 to \
+65,535, the deck has no file NAME, a condition has no sign or is without '--deck' and '--file', the record has no \
+ITEM, or VALUE is longer than it
   4   the file or the deck could not be read ('cobix: input'), the lines could not be written \
 ('cobix: output'), or memory ran out ('cobix: memory')";
 
@@ -190,6 +202,10 @@ CRLF at the end
 The columns are the elementary items of the record of NAME, by their names; without a deck there is one, \
 'record'.
 
+Encodings:
+  ascii  a byte that is not from 20 to 7e, or is a backslash, is a backslash and two digits from 0 to f
+  utf-8  bytes a0 to ff are the characters of Latin-1 with these numbers; the others are as in 'ascii'
+
 Exit status:
   0   'salvaged R records, all of them' on standard error: with its gate closed the file is sound, and these \
 are exactly its records, in the order of the prime key
@@ -201,16 +217,17 @@ told before
 written
       'cobix: the file is of another schema than the deck': a line for each difference, as of 'cobix schema'
   2   the deck is refused: 'cobix: line L: fault C'
-  3   the command line is not understood, there is no such form, '--deck' or '--file' is alone, or the deck has \
-no file NAME
+  3   the command line is not understood, there is no such form or encoding, '--deck' or '--file' is alone, or \
+the deck has no file NAME
   4   the file or the deck could not be read ('cobix: input'), the lines could not be written ('cobix: output'), \
 or memory ran out ('cobix: memory')";
 
 /// What a copy is, and what it answers.
 pub const COPIED: &str =
     "FILE is a file that 'cobix check' finds sound, and that no run has open for changes. It is read page after \
-page, and no run changes it meanwhile; it is not checked. NEW gets its records in the order of the prime key, in pages one behind another, and records of one \
-value of an alternate key keep their order.
+page, and no run changes it meanwhile; it is not checked. NEW gets its records in the order of the prime key, or \
+of the key of '--key', in pages one after another, and records of one value of an alternate key keep their order. A \
+list in that order reads each page of records once.
 The last part of NEW is the name of the new file: 1 to 64 letters, digits, full stops, hyphens and underscores, \
 the first of them a letter or a digit. Until all of NEW is written, OPEN refuses it with 91, also where this \
 command was killed: remove what is left of it before the next copy.
@@ -220,7 +237,7 @@ Exit status:
   1   'cobix: the file is refused': OPEN would answer 91 too; 'cobix check FILE' tells why, and 'cobix salvage \
 FILE' lists what is left. Nothing was written
       'cobix: the file is damaged': so, behind its first page. What there is of NEW is refused
-      'cobix: the new file is there already': nothing was written
+      'cobix: the new file is there already', or 'cobix: the file has no such key': nothing was written
   3   the command line is not understood, or the last part of NEW is the name of no file
   4   FILE could not be read, or the folder of NEW is none ('cobix: input'); NEW could not be written, or it needs \
 more than '--pages' pages ('cobix: output'); or memory ran out ('cobix: memory'). What there is of NEW is refused";
@@ -238,6 +255,8 @@ With '--pad' a value that is shorter than its item is filled up, as MOVE does it
 an item of digits, with zeros before its digits. There a value without digits, or with anything else, stays a \
 mistake, and so does each value that is too long. In the form 'text' the record gets spaces behind it. Every \
 record has the greatest length then.
+With '--rejects' the lines that are told and passed over are also written into FILE, as they are in TEXT, and in \
+csv after the names of the columns. FILE must not be there before.
 Without '--into' a file that is there is left as it is, whatever it is.
 
 Forms:
@@ -247,6 +266,10 @@ commas between, and CRLF at the end
   json  an object on a line for each record, with a string for each column
 The columns are the elementary items of the record of NAME, as 'cobix list' has them by that deck. No value \
 is padded without '--pad', and none is cut or converted.
+
+Encodings:
+  ascii  a byte that is not from 20 to 7e, or is a backslash, is a backslash and two digits from 0 to f
+  utf-8  bytes a0 to ff are the characters of Latin-1 with these numbers; the others are as in 'ascii'
 
 Exit status:
   0   'loaded N': the records of all N lines were written, but for those that '--skip' passes over
@@ -258,7 +281,8 @@ this file', and what is wrong with it on standard error. The lines before it wer
       'open: status S' or 'close: status S': OPEN or CLOSE answered S
       'cobix: the file is there already': nothing was done
   2   the deck is refused: 'cobix: line L: fault C'
-  3   the command line is not understood, there is no such form, or the deck has no file NAME
+  3   the command line is not understood, there is no such form or encoding, '--rejects' is without \
+'--keep-going', or the deck has no file NAME
   4   the deck or TEXT could not be read, both are '-', or DIR is no folder ('cobix: input'), the answer \
 could not be written ('cobix: output'), or memory ran out ('cobix: memory')";
 

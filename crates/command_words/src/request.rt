@@ -56,14 +56,15 @@ pub enum Request<'a> {
         deck: &'a str,
     },
     /// The records of the file of this path, in the order of a key: from this value on, to that
-    /// one, and so many at most, in this form; after a check of the whole file, or as it is read;
-    /// without progress where it is quiet.
+    /// one, and so many at most of those for which these conditions hold, in this form; after a check of
+    /// the whole file, or as it is read; without progress where it is quiet.
     List {
         file: &'a str,
         key: u8,
         from: Option<&'a str>,
         to: Option<&'a str>,
         first: u64,
+        conditions: Vec<&'a str>,
         form: FormWords<'a>,
         checked: bool,
         quiet: bool,
@@ -75,18 +76,21 @@ pub enum Request<'a> {
         fixed: bool,
     },
     /// To write the lines of the text of this path, or of standard input where it is `-`, which are
-    /// in this form, as records into the file of this name in the deck in the file of a path: into
+    /// in this form and encoding, as records into the file of this name in the deck in the file of a path: into
     /// the file that is there, or into a new one; which lines those are, and whether one that is
-    /// rejected ends that; without progress where it is quiet.
+    /// rejected ends that; with a new file of the lines that were rejected, where its path is given;
+    /// without progress where it is quiet.
     Load {
         deck: &'a str,
         folder: &'a str,
         file: &'a str,
         text: &'a str,
         form: &'a str,
+        encoding: &'a str,
         into: bool,
         limits: Limits,
         lines: LineOptions,
+        rejects: Option<&'a str>,
         quiet: bool,
     },
     /// What the file of this path has: its pages, its slots, and the levels of its trees.
@@ -101,10 +105,12 @@ pub enum Request<'a> {
         form: FormWords<'a>,
         places: bool,
     },
-    /// To copy the file of this path into a new file, whose name and folder the other path tells.
+    /// To copy the file of this path into a new file, whose name and folder the other path tells, with
+    /// its records in the order of a key.
     Copy {
         file: &'a str,
         new: &'a str,
+        key: u8,
         limits: Limits,
     },
     /// This text: help, or the version.

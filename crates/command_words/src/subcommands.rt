@@ -4,9 +4,9 @@ ghost use Rattle.clap.specs.Words.{App, Rule, Shape, app_of, with_rule, with_sub
 ghost use Rattle.clap.specs.Simple.{new_shape};
 ghost use Rattle.command_words.specs.Commands.{HasRule, IsApp, HasShape};
 ghost use Rattle.command_words.specs.Commands.{with_files, with_limits, with_checked, with_quiet, with_wait};
-ghost use Rattle.command_words.specs.Commands.{with_deck, with_values, with_bounds, with_form};
+ghost use Rattle.command_words.specs.Commands.{with_deck, with_values, with_bounds, with_kind, with_form};
 ghost use Rattle.command_words.specs.Commands.{with_file_words};
-ghost use Rattle.command_words.specs.Commands.{with_text, with_line_options, with_salvage_form};
+ghost use Rattle.command_words.specs.Commands.{with_text, with_rejects, with_line_options, with_salvage_form};
 ghost use Rattle.command_words.specs.CommandLine.{run_shape, check_shape, serve_shape, schema_shape};
 ghost use Rattle.command_words.specs.CommandLine.{explain_shape, deck_shape, list_shape, cobol_shape};
 ghost use Rattle.command_words.specs.CommandLine.{load_shape, stat_shape, salvage_shape, copy_shape};
@@ -14,7 +14,8 @@ ghost use Rattle.command_words.specs.CommandLine.{versioned_shape, program_shape
 ghost use Rattle.command_words.specs.CommandLine.{lists_app, records_app, loads_app, salvages_app, program_app};
 
 use crate::arguments::{
-    deck, first, flag, folder, name, number, option, skip, text, usual, wait, word, words,
+    conditions, deck, encoding, first, flag, folder, key, name, number, option, skip, text, usual,
+    wait, word, words,
 };
 use crate::help::{
     ANSWERS, COBOL, COPIED, COUNTED, EXPLAINED, LISTED, LOADED, REASONS, RECORDS, SALVAGED, SCHEMA,
@@ -22,6 +23,13 @@ use crate::help::{
 };
 use clap::{Arg, Command};
 use std::alloc::{AllocError, Global};
+
+/// The forms in which records are written.
+const KINDS: &str = "How they are written: 'text', 'csv' or 'json'";
+
+/// The encodings in which records are written.
+const ENCODINGS: &str =
+    "How bytes a0 to ff are written: 'ascii', as escapes, or 'utf-8', as the characters of Latin-1";
 
 /// A subcommand without its words: its name, what it does, and what is told below its help.
 fn named<'a>(alloc: Global, name: &'a str, about: &'a str, after: &'a str) -> Command<'a>
@@ -261,15 +269,24 @@ fn with_bounds<'a>(
 ) -> Result<Command<'a>, AllocError>
     ensures { (app : App) → IfOk list.entry (IsApp app) → IfOk result (IsApp (with_bounds app)) }
 {
-    let key = number(
+    let key = key(
         alloc,
-        "key",
-        0,
-        8,
-        "0",
         "The key in whose order they are listed: 0 is the prime key, 1 to 8 the alternate keys",
     );
     with_values(alloc, with_argument(list, key))
+}
+
+/// `list`, `load` or `salvage` with a kind of form, and an encoding.
+fn with_kind<'a>(
+    alloc: Global,
+    formed: Result<Command<'a>, AllocError>,
+    kinds: &'a str,
+    encodings: &'a str,
+) -> Result<Command<'a>, AllocError>
+    ensures { (app : App) → IfOk formed.entry (IsApp app) → IfOk result (IsApp (with_kind app)) }
+{
+    let begun = with_argument(formed, usual(alloc, "as", "FORM", "text", kinds));
+    with_argument(begun, encoding(alloc, encodings))
 }
 
 /// The form of a list.
@@ -279,24 +296,17 @@ fn with_form<'a>(
 ) -> Result<Command<'a>, AllocError>
     ensures { (app : App) → IfOk list.entry (IsApp app) → IfOk result (IsApp (with_form app)) }
 {
-    let form = usual(
-        alloc,
-        "as",
-        "FORM",
-        "text",
-        "How they are written: 'text', 'csv' or 'json'",
-    );
     let cut = text(
         alloc,
         "cut",
         "N,N..",
         "Begins a column at each of these offsets, and at 0",
     );
-    let formed = with_argument(list, form);
+    let formed = with_kind(alloc, list, KINDS, ENCODINGS);
     with_deck(
         alloc,
         with_argument(formed, cut),
-        "Takes the columns from the record of a file of the deck in this file, or '-' for standard input",
+        "Takes the items of columns and conditions from a file of the deck in this file, or '-' for standard input",
     )
 }
 
@@ -317,7 +327,8 @@ fn list_command<'a>(alloc: Global) -> Result<Command<'a>, AllocError>
         RECORDS,
     );
     let bounded = with_bounds(alloc, list.arg(file));
-    let formed = with_form(alloc, with_argument(bounded, first(alloc)));
+    let chosen = with_argument(with_argument(bounded, first(alloc)), conditions(alloc));
+    let formed = with_form(alloc, chosen);
     with_wait(alloc, with_quiet(alloc, with_checked(alloc, formed)))
 }
 
@@ -369,34 +380,50 @@ fn with_text<'a>(
 ) -> Result<Command<'a>, AllocError>
     ensures { (app : App) → IfOk load.entry (IsApp app) → IfOk result (IsApp (with_text app)) }
 {
-    let form = usual(
-        alloc,
-        "as",
-        "FORM",
-        "text",
-        "How the lines are written: 'text', 'csv' or 'json'",
-    );
     let into = flag(
         alloc,
         "into",
         "Writes them into the file that is there; where it is not given, a new file is made",
     );
-    let formed = with_argument(with_names(alloc, load), form);
+    let formed = with_kind(
+        alloc,
+        with_names(alloc, load),
+        "How the lines are written: 'text', 'csv' or 'json'",
+        "How their bytes a0 to ff are written: 'ascii', as escapes, or 'utf-8', as the characters of Latin-1",
+    );
     with_argument(formed, into)
 }
 
-/// A load with the options by which it skips lines, keeps going, replaces records, and fills up values.
-fn with_line_options<'a>(
+/// A load with the options by which it skips lines, keeps going, and writes those that are rejected.
+fn with_rejects<'a>(
     alloc: Global,
     load: Result<Command<'a>, AllocError>,
 ) -> Result<Command<'a>, AllocError>
-    ensures { (app : App) → IfOk load.entry (IsApp app) → IfOk result (IsApp (with_line_options app)) }
+    ensures { (app : App) → IfOk load.entry (IsApp app) → IfOk result (IsApp (with_rejects app)) }
 {
     let keep_going = flag(
         alloc,
         "keep-going",
         "Tells of a line that is rejected, and goes on behind it",
     );
+    let rejects = text(
+        alloc,
+        "rejects",
+        "FILE",
+        "With '--keep-going': a new file, in which the lines that are rejected are written",
+    );
+    let skipping = with_argument(load, skip(alloc));
+    let going = with_argument(skipping, keep_going);
+    with_argument(going, rejects)
+}
+
+/// A load with these, and the options by which it replaces records, and fills up values.
+fn with_line_options<'a>(
+    alloc: Global,
+    load: Result<Command<'a>, AllocError>,
+) -> Result<Command<'a>, AllocError>
+    ensures { (app : App) → IfOk load.entry (IsApp app) → IfOk result (IsApp (with_line_options app)) }
+{
     let replace = flag(
         alloc,
         "replace",
@@ -407,9 +434,7 @@ fn with_line_options<'a>(
         "pad",
         "Fills up a value that is shorter than its item: spaces behind it, zeros before digits",
     );
-    let skipping = with_argument(load, skip(alloc));
-    let going = with_argument(skipping, keep_going);
-    let replacing = with_argument(going, replace);
+    let replacing = with_argument(with_rejects(alloc, load), replace);
     with_argument(replacing, pad)
 }
 
@@ -454,19 +479,12 @@ fn with_salvage_form<'a>(
 ) -> Result<Command<'a>, AllocError>
     ensures { (app : App) → IfOk salvage.entry (IsApp app) → IfOk result (IsApp (with_salvage_form app)) }
 {
-    let form = usual(
-        alloc,
-        "as",
-        "FORM",
-        "text",
-        "How they are written: 'text', 'csv' or 'json'",
-    );
     let places = flag(
         alloc,
         "places",
         "Writes the page and the slot of each record before its line",
     );
-    let formed = with_argument(salvage, form);
+    let formed = with_kind(alloc, salvage, KINDS, ENCODINGS);
     with_argument(formed, places)
 }
 
@@ -516,7 +534,12 @@ fn copy_command<'a>(alloc: Global) -> Result<Command<'a>, AllocError>
         "Copies a file into a new one, in the order of its keys",
         COPIED,
     );
-    with_limits(alloc, with_argument(copy.arg(file), new), "64")
+    let named = with_argument(copy.arg(file), new);
+    let key = key(
+        alloc,
+        "The key in whose order the records lie: 0 is the prime key, 1 to 8 the alternate keys",
+    );
+    with_limits(alloc, with_argument(named, key), "64")
 }
 
 /// The program, with its version.

@@ -1,7 +1,8 @@
-use Rattle.std.proofs.Common.{List, Bor, refl, subst, sym, inl, inr}
+use Rattle.std.proofs.Common.{List, Bor, option_map, refl, subst, sym, inl, inr}
 use Rattle.clap.specs.Words.{Text}
-use Rattle.command_words.specs.Asks.{Ask, AskCheck}
+use Rattle.command_words.specs.Asks.{Ask, AskCheck, AskList, form_text}
 use Rattle.folder_shelf.proofs.ReadingLemmas.{by_none}
+use Rattle.file_commands.specs.Conditions.{texts_of}
 use Rattle.file_commands.specs.Verdicts.{paths_of}
 use Rattle.command_line.proofs.CallsMadeLemmas.{reads_alone, reads_aside}
 use Rattle.command_line.proofs.DidLemmas.{for_schema, for_salvage, for_records, for_load, did_list, did_schema, did_help, did_explain, did_check, did_count, did_salvage, did_deck, served_did}
@@ -90,19 +91,23 @@ returns-in-Deck-clause-came g c words is =
 pub returns-in-List-clause-did : goal.returns-in-List-clause-did
 returns-in-List-clause-did g c words is =
     let asked = subst (Ask words) c.in-List.is is in
-    let records = for_records words c.in-List.file c.in-List.key c.in-List.from c.in-List.to c.in-List.first c.in-List.form c.in-List.checked c.in-List.quiet c.in-List.wait asked in
+    let listed = subst (λ (l : List (Bor Text)). AskList words c.in-List.file.now c.in-List.key (option_map (λ text. text.now) c.in-List.from) (option_map (λ text. text.now) c.in-List.to) c.in-List.first (texts_of l) (form_text c.in-List.form)
+    c.in-List.checked c.in-List.quiet) (sym c.as_slice-words.ensures.value) asked.0 in
+    let records = for_records words c.in-List.file c.in-List.key c.in-List.from c.in-List.to c.in-List.first c.as_slice-words.result c.in-List.form c.in-List.checked c.in-List.quiet listed in
     rw c.without_run-in-List.ensures (did_list words records c.in-List.checked g.D.Disk.unseen (g.I.Read.remaining c.args.input.now.reader) c.in-List.file.now
-    (record { key = c.in-List.key; from = c.in-List.from; to = c.in-List.to; first = c.in-List.first }) c.in-List.form refl g.W.Write.contents c.args.out.now c.list-system.new.out
+    (record { key = c.in-List.key; from = c.in-List.from; to = c.in-List.to; first = c.in-List.first; conditions = c.as_slice-words.result }) c.in-List.form refl refl g.W.Write.contents c.args.out.now c.list-system.new.out
     c.list-system.ensures.so.calls c.list-system.result.1 c.list-system.ensures.so.so)
 
 pub returns-in-List-clause-came : goal.returns-in-List-clause-came
 returns-in-List-clause-came g c words is =
     let asked = subst (Ask words) c.in-List.is is in
+    let listed = subst (λ (l : List (Bor Text)). AskList words c.in-List.file.now c.in-List.key (option_map (λ text. text.now) c.in-List.from) (option_map (λ text. text.now) c.in-List.to) c.in-List.first (texts_of l) (form_text c.in-List.form)
+    c.in-List.checked c.in-List.quiet) (sym c.as_slice-words.ensures.value) asked.0 in
     let input = g.I.Read.remaining c.args.input.now.reader in
     rw c.without_run-in-List.ensures (inl (reads_aside g.D.Disk.unseen words input g.W.Write.contents c.args.out.now c.list-system.new.out c.list-system.new.aside.calls
     (g.S.System.state c.args.system).calls (g.S.System.state c.list-system.result.0) c.requires.held c.list-system.result.1 c.list-system.ensures.so (c.args.request, rw c.in-List.is tt, is)
-    (λ calls so. right_list g.D.Disk.unseen words calls input g.W.Write.contents c.args.out.now c.list-system.new.out c.in-List.file c.in-List.key c.in-List.from c.in-List.to c.in-List.first c.in-List.form
-    c.in-List.quiet c.in-List.wait c.in-List.checked asked c.list-system.result.1 so)))
+    (λ calls so. right_list g.D.Disk.unseen words calls input g.W.Write.contents c.args.out.now c.list-system.new.out c.in-List.file c.in-List.key c.in-List.from c.in-List.to c.in-List.first c.as_slice-words.result c.in-List.form
+    c.in-List.quiet c.in-List.checked listed c.list-system.result.1 so)))
 
 pub returns-in-Stat-clause-did : goal.returns-in-Stat-clause-did
 returns-in-Stat-clause-did g c words is =
@@ -176,12 +181,12 @@ returns-in-Serve-clause-came g c words is =
 pub returns-clause-did : goal.returns-clause-did
 returns-clause-did g c words is =
     let asked = subst (Ask words) c.in-Load.is is in
-    let load = for_load words c.in-Load.deck c.in-Load.folder c.in-Load.file c.in-Load.text c.in-Load.form c.in-Load.into c.in-Load.limits c.in-Load.lines c.in-Load.quiet asked in
+    let load = for_load words c.in-Load.deck c.in-Load.folder c.in-Load.file c.in-Load.text c.in-Load.form c.in-Load.encoding c.in-Load.into c.in-Load.limits c.in-Load.lines c.in-Load.rejects c.in-Load.quiet asked in
     rw c.without_run-in-Load.ensures (load_did words load c.load-system.result.1 (rw c.options_of.ensures at c.load-system.ensures))
 
 pub returns-clause-came : goal.returns-clause-came
 returns-clause-came g c words is =
     let asked = subst (Ask words) c.in-Load.is is in
-    let load = for_load words c.in-Load.deck c.in-Load.folder c.in-Load.file c.in-Load.text c.in-Load.form c.in-Load.into c.in-Load.limits c.in-Load.lines c.in-Load.quiet asked in
+    let load = for_load words c.in-Load.deck c.in-Load.folder c.in-Load.file c.in-Load.text c.in-Load.form c.in-Load.encoding c.in-Load.into c.in-Load.limits c.in-Load.lines c.in-Load.rejects c.in-Load.quiet asked in
     load_came _ _ g.D.Disk.unseen words c.load-system.new.aside.calls (g.S.System.state c.load-system.result.0) g.I.Read.remaining g.W.Write.contents c.args.input.now c.load-system.new.input
     c.args.out.now c.load-system.new.out (g.S.System.state c.args.system) c.requires.held load c.without_run-in-Load.result (rw c.without_run-in-Load.ensures (rw c.options_of.ensures at c.load-system.ensures))

@@ -10,14 +10,21 @@ returns-in_err-kind-clause-none c =
     let f = found_of c.args.list.now in
     no_text f (codes "as") c.get_str.result c.get_str.ensures c.in_err-kind.was (rows_of f) refl form.kind given.kind_given
 
+pub returns-in_err-encoding-clause-none : goal.returns-in_err-encoding-clause-none
+returns-in_err-encoding-clause-none c =
+    λ none form given.
+    let f = found_of c.args.list.now in
+    no_text f (codes "encoding") c.get_str-2.result c.get_str-2.ensures c.in_err-encoding.was (rows_of f) refl form.encoding given.encoding_given
+
 pub returns-clause-some : goal.returns-clause-some
 returns-clause-some c =
     let f = found_of c.args.list.now in
     record {
       kind_given = text_read f (codes "as") _ c.in_ok-kind.ensures;
-      cut_is = text_read f (codes "cut") _ c.get_str-2.ensures;
-      deck_is = text_read f (codes "deck") _ c.get_str-3.ensures;
-      name_is = text_read f (codes "name") _ c.get_str-4.ensures;
+      encoding_given = text_read f (codes "encoding") _ c.in_ok-encoding.ensures;
+      cut_is = text_read f (codes "cut") _ c.get_str-3.ensures;
+      deck_is = text_read f (codes "deck") _ c.get_str-4.ensures;
+      name_is = text_read f (codes "name") _ c.get_str-5.ensures;
     }
 
 pub returns-clause-none : goal.returns-clause-none

@@ -2,4 +2,4 @@ use Rattle.command_words.proofs.subcommands.with_salvage_form.Goals as goal
 
 pub returns : goal.returns
 returns c =
-    λ app is. c.with_argument.ensures _ _ (c.with_argument-formed.ensures _ _ is c.usual-form.ensures) c.flag-places.ensures
+    λ app is. c.with_argument.ensures _ _ (c.with_kind-formed.ensures _ is) c.flag-places.ensures
