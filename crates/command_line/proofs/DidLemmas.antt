@@ -12,9 +12,9 @@ use Rattle.command_words.specs.declared.fault.WordsFault.TheVariants.{Usage as N
 use Rattle.command_words.specs.declared.form_words.FormWords.{FormWords}
 use Rattle.command_words.specs.declared.limits.Limits.{Limits}
 use Rattle.command_words.specs.declared.request.Request.TheVariants.{Schema, Load, Salvage}
-use Rattle.file_commands.specs.AskedForm.{IsConditionRefused, IsListRefused}
-use Rattle.file_commands.specs.Conditions.{texts_of}
-use Rattle.file_commands.specs.Forms.{IsFormRefused}
+use Rattle.command_inputs.specs.AskedForm.{IsConditionRefused, IsListRefused}
+use Rattle.command_inputs.specs.Conditions.{texts_of}
+use Rattle.command_inputs.specs.Forms.{IsFormRefused}
 use Rattle.file_commands.specs.Listed.{IsListFault}
 use Rattle.file_commands.specs.ByIndex.{DoesByIndex}
 use Rattle.file_commands.specs.Records.{ListsAsked}
@@ -22,8 +22,8 @@ use Rattle.salvaged_records.specs.Salvaged.{Outputs}
 use Rattle.file_commands.specs.Salvaged.{IsSalvageRefused, SalvagesFileAt}
 use Rattle.file_commands.specs.Schema.{IsSchemaDone, IsSchemaFault}
 use Rattle.file_commands.specs.declared.listing.Bounds.{Bounds}
-use Rattle.file_commands.specs.DeckFile.{IsDeckFault}
-use Rattle.file_commands.specs.Front.{DoesBy}
+use Rattle.command_inputs.specs.DeckFile.{IsDeckFault}
+use Rattle.command_inputs.specs.Front.{DoesBy}
 use Rattle.file_commands.specs.Verdicts.{ChecksFile}
 use Rattle.file_statistics.specs.declared.listing.FileStatisticsEnd.{FileStatisticsEnd}
 use Rattle.record_loading.specs.declared.shelf_end.ShelfEnd.{ShelfEnd}

@@ -19,9 +19,9 @@ use Rattle.record_loading.specs.declared.shelf_end.ShelfEnd.{ShelfEnd}
 use Rattle.command_line.specs.CallsMade.{CallsMade, BeginsNothing, folder_behind}
 use Rattle.command_line.specs.Folder.{folder_at_first}
 use Rattle.system_files.specs.Front.{IsTextRead}
-use Rattle.file_commands.specs.DeckFile.{IsDeckFault}
-use Rattle.file_commands.specs.Front.{IsDeckNamed, IsTextNamed, longest_line}
-use Rattle.file_commands.proofs.DeckLemmas.{not_there}
+use Rattle.command_inputs.specs.DeckFile.{IsDeckFault}
+use Rattle.command_inputs.specs.Front.{IsDeckNamed, IsTextNamed, longest_line}
+use Rattle.command_inputs.proofs.DeckLemmas.{not_there}
 use Rattle.command_line.specs.LoadForm.{IsLoadFault}
 use Rattle.command_line.specs.Loaded.{EndsLoadOf, LoadsFolder, LoadsDeck, TellsLoad, ComesOfLoad, BeginsLoad, BeginsLoadOfDeck}
 use Rattle.command_line.proofs.FolderLemmas.{untouched}

@@ -7,9 +7,9 @@ use Rattle.folder_shelf.specs.Calls.{Call}
 use Rattle.command_words.specs.Asks.{AskCheck, AskCobol, AskDeck, AskExplain, AskList, AskStat, form_text}
 use Rattle.command_words.specs.declared.form_words.FormWords.{FormWords}
 use Rattle.explanations.specs.Tables.{explanation}
-use Rattle.file_commands.specs.Conditions.{texts_of}
+use Rattle.command_inputs.specs.Conditions.{texts_of}
 use Rattle.file_commands.specs.Counted.{CountsFileAt}
-use Rattle.file_commands.specs.Front.{DoesBy, IsDeckNamed}
+use Rattle.command_inputs.specs.Front.{DoesBy, IsDeckNamed}
 use Rattle.file_commands.specs.Listed.{TellsDeck, WritesList, WritesCobol}
 use Rattle.file_commands.specs.ByIndex.{DoesByIndex}
 use Rattle.file_commands.specs.Records.{ListsAsked}

@@ -6,7 +6,7 @@ use Rattle.record_text.specs.declared.column.Column.{Column}
 use Rattle.record_text.specs.declared.form.Form.{Form}
 use Rattle.record_text.specs.declared.form.Form.TheVariants.{Text, Csv, Json}
 use Rattle.record_text.specs.Parts.{part_of_column, item_parts}
-use Rattle.file_commands.specs.DeckFile.{IsDeckFault}
+use Rattle.command_inputs.specs.DeckFile.{IsDeckFault}
 use Rattle.command_outcomes.specs.declared.form_fault.FormFault.TheVariants.{Kind}
 use Rattle.command_outcomes.specs.declared.fault.Fault.{Fault}
 use Rattle.command_outcomes.specs.declared.fault.Fault.TheVariants.{Form as NoForm}

@@ -29,9 +29,9 @@ use Rattle.record_loading.specs.declared.shelf_end.ShelfEnd.TheVariants.{IsThere
 use Rattle.command_line.specs.CallsMade.{CallsMade, BeginsNothing, folder_behind}
 use Rattle.command_line.specs.Folder.{OverFolder}
 use Rattle.command_line.specs.LoadForm.{IsFormOf, IsLoadFault, form_word}
-use Rattle.file_commands.specs.DeckFile.{IsFileOf, IsDeckFault}
+use Rattle.command_inputs.specs.DeckFile.{IsFileOf, IsDeckFault}
 use Rattle.file_commands.specs.Differing.{AreDifferencesOf}
-use Rattle.file_commands.specs.Front.{IsTextNamed, IsDeckNamed}
+use Rattle.command_inputs.specs.Front.{IsTextNamed, IsDeckNamed}
 use Rattle.streams.specs.declared.standard_input.StandardInput.{StandardInput}
 use Rattle.command_line.specs.declared.load_form.FormKind.{FormKind}
 use Rattle.command_line.specs.declared.loading.Loading.{Loading}

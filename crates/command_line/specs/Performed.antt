@@ -26,10 +26,10 @@ use Rattle.command_line.specs.Copied.{AskForCopy, EndsInName}
 use Rattle.command_line.specs.Folder.{OverFolder}
 use Rattle.command_line.specs.Transcript.{IsRunFault}
 use Rattle.command_line.specs.LoadForm.{IsNoFormWord}
-use Rattle.file_commands.specs.AskedForm.{IsConditionFaultOf}
-use Rattle.file_commands.specs.DeckFile.{IsDeckAsked, IsHalf}
-use Rattle.file_commands.specs.Forms.{HasFormFault}
-use Rattle.file_commands.specs.Front.{IsDeckNamed}
+use Rattle.command_inputs.specs.AskedForm.{IsConditionFaultOf}
+use Rattle.command_inputs.specs.DeckFile.{IsDeckAsked, IsHalf}
+use Rattle.command_inputs.specs.Forms.{HasFormFault}
+use Rattle.command_inputs.specs.Front.{IsDeckNamed}
 use Rattle.streams.specs.declared.standard_input.StandardInput.{StandardInput}
 use Rattle.command_line.specs.declared.done.Ran.{Ran}
 use Rattle.command_outcomes.specs.Status.{status_of}

@@ -8,7 +8,7 @@ use Rattle.command_words.specs.Asks.{Ask, AskCheck, AskCobol, AskDeck, AskExplai
 use Rattle.command_words.specs.declared.request.Request.{Request}
 use Rattle.command_words.specs.declared.request.Request.TheVariants.{Run, Serve, Load, Copy}
 use Rattle.file_commands.specs.Counted.{CountsFileAt}
-use Rattle.file_commands.specs.Front.{OfNamedDeck}
+use Rattle.command_inputs.specs.Front.{OfNamedDeck}
 use Rattle.file_commands.specs.Listed.{WritesList, WritesCobol}
 use Rattle.file_commands.specs.ByIndex.{ListsRecordsByIndex, FindsOther}
 use Rattle.record_listing.specs.declared.file_list.FileList.{FileList}

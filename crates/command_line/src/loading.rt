@@ -6,9 +6,9 @@ ghost use Rattle.command_line.specs.Loaded.{load_of, options_of, load_source, Lo
 
 use crate::load_form::{FormKind, form_of};
 use crate::told_load::{room_and_path, tell_end};
+use command_inputs::{deck_of, file_named, read_text};
 use command_outcomes::{Fault, Outcome};
 use command_words::{Limits, LineOptions};
-use file_commands::{deck_of, file_named, read_text};
 use file_control::FileDesc;
 use folder_shelf::{CallRecord, Disk, FolderShelf, System};
 use record_loading::{Load, LoadOptions, RejectLog, ShelfEnd, ShelfFault, load_lines_on_shelf};
@@ -110,7 +110,7 @@ fn load_over_folder<S: System + Drop, D: Disk, R: RejectLog, P: Progress>(
     }
 }
 
-#[tactic(auto, using(file_commands::proofs::DeckLemmas::not_there))]
+#[tactic(auto, using(command_inputs::proofs::DeckLemmas::not_there))]
 /// Loads a text of this kind into a file of the deck that the bytes are, over the files of a folder,
 /// and tells how that ended. What was asked before the folder is entered is set aside. `Deck`,
 /// `NoSuchFile`: nothing was written or changed, and no folder entered.

@@ -20,11 +20,12 @@ use Rattle.command_outcomes.specs.declared.fault.Fault.{Fault}
 use Rattle.command_outcomes.specs.declared.outcome.Outcome.{Outcome}
 use Rattle.command_outcomes.specs.declared.outcome.Outcome.TheVariants.{Records, OtherSchema}
 use Rattle.file_commands.specs.ByIndex.{TellsReasonBy, TellsEnd, ToldOfPages, EndsByIndex, IsStart, ListsPages, ListsByIndex, DoesByIndex}
-use Rattle.file_commands.specs.Forms.{IsListRefused}
+use Rattle.command_inputs.specs.AskedForm.{IsListRefused}
+use Rattle.command_inputs.specs.Conditions.{texts_of}
 use Rattle.file_commands.specs.Records.{AgreesWith, WritesOther}
 use Rattle.file_commands.specs.declared.by_index.ListStart.{ListStart}
 use Rattle.file_commands.specs.declared.listing.Bounds.{Bounds}
-use Rattle.file_commands.proofs.FormLemmas.{form_not_read}
+use Rattle.command_inputs.proofs.FormLemmas.{form_not_read}
 
 -- none was set aside
 pub none_aside : {IsFirst IsSo : List Call → Type 0} (old new : SystemState) (aside : List Call) → aside ≡ [] → ByReads IsFirst old new
@@ -85,18 +86,18 @@ module _ (disk : Unseen) (path : List ℕ) (form : Form) (asked : Asked) (before
 -- the start was read by these calls
 module _ {W : Type 0} (disk : Unseen) (input : Option (List ℕ)) (path : List ℕ) (bounds : Bounds) (words : FormWords) (contents : W → Option (List ℕ)) (old new : W) where
   -- the words are refused
-  pub not_begun : (calls : List Call) (fault : Fault) → IsListRefused (form_text words) fault → ListsByIndex disk input path bounds words contents old old (Err fault) calls
+  pub not_begun : (calls : List Call) (fault : Fault) → IsListRefused (form_text words) (texts_of bounds.conditions.now) fault → ListsByIndex disk input path bounds words contents old old (Err fault) calls
   not_begun calls fault is = record { records = tt; untouched = λ _. refl; fault = is }
 
   -- the input, the output or memory failed
   pub broken_off : (calls : List Call) (fault : Fault) → status_of fault ≡ 4 → ListsByIndex disk input path bounds words contents old new (Err fault) calls
-  broken_off calls fault four = record { records = tt; untouched = λ other. absurd (other four); fault = inr (form_not_read (form_text words) fault four) }
+  broken_off calls fault four = record { records = tt; untouched = λ other. absurd (other four); fault = inr (inl (form_not_read (form_text words) fault four)) }
 
   module _ (start : ListStart) (calls : List Call) (begun : IsStart input path bounds (form_text words) calls start) where
     -- the file is of another schema than that of the deck
     pub other_schema : WritesOther start.told.schema start.page.items (contents old) (contents new) → ListsByIndex disk input path bounds words contents old new (Ok OtherSchema) calls
     other_schema written = record {
-      records = (start.told.form, start.told.schema, begun.deck, begun.is_form, (start.page.items, begun.are, written));
+      records = (start.told.form, start.told.schema, begun.conditions, begun.deck, begun.is_form, (start.page.items, begun.are, written));
       untouched = tt;
       fault = tt;
     }
@@ -106,8 +107,9 @@ module _ {W : Type 0} (disk : Unseen) (input : Option (List ℕ)) (path : List �
         → ListsPages disk path start.told.form start.asked (contents old) (contents new) result pages → ListsByIndex disk input path bounds words contents old new result (pages ++ calls)
     listed (Err fault) pages agrees lists = broken_off (pages ++ calls) fault lists.fault
     listed (Ok outcome) pages agrees lists = let done = lists.done in record {
-      records = subst (DoesByIndex disk input path bounds (form_text words) (contents old) (contents new) (pages ++ calls)) (sym done.1) (
+      records = subst (DoesByIndex disk input path bounds (texts_of bounds.conditions.now) (form_text words) (contents old) (contents new) (pages ++ calls)) (sym done.1) (
         start.asked,
+        begun.conditions,
         begun.asked,
         record {
           form = start.told.form;

@@ -1,12 +1,7 @@
-pub mod FrontLemmas
 pub mod SchemaLemmas
-pub mod DeckLemmas
-pub mod CutLemmas
-pub mod FormLemmas
 pub mod ListLemmas
 pub mod VerdictLemmas
 pub mod RecordsLemmas
 pub mod DifferingLemmas
 pub mod ByIndexLemmas
-pub mod BoundLemmas
 pub mod SalvageLemmas

@@ -1,5 +1,6 @@
 -- How a list of records ended.
-use Rattle.std.proofs.Common.{◌≡◌, ℕ, List, ◌++◌, Option, Result, Ok, Err, inl, inr, refl, sym, ap, subst}
+use Rattle.std.specs.Global.{Vec}
+use Rattle.std.proofs.Common.{◌≡◌, ℕ, List, [], ◌++◌, Option, Result, Ok, Err, inl, inr, refl, sym, ap, subst}
 use Rattle.record_layout.specs.Schema.{Schema}
 use Rattle.record_listing.specs.declared.asked.Asked.{Asked}
 use Rattle.record_listing.specs.declared.end.ListFault.{ListFault}
@@ -9,16 +10,28 @@ use Rattle.record_listing.specs.declared.file_list.FileList.{FileList}
 use Rattle.command_words.specs.Asks.{form_text}
 use Rattle.command_words.specs.declared.form_words.FormWords.{FormWords}
 use Rattle.folder_shelf.specs.Calls.{Call}
-use Rattle.file_commands.specs.Front.{counted_calls}
-use Rattle.file_commands.specs.Forms.{IsFormBy, IsFormRefused}
+use Rattle.command_inputs.specs.Front.{counted_calls}
+use Rattle.record_listing.specs.declared.condition.Condition.{Condition}
+use Rattle.command_inputs.specs.AskedForm.{IsAskedFormBy, IsAskedFormRefused}
+use Rattle.command_inputs.specs.Conditions.{texts_of}
 use Rattle.file_commands.specs.Records.{AgreesWith, WritesOther, IsAskedBy, ListsAsked, ListsFile, ToldOfList}
 use Rattle.file_commands.specs.declared.listing.Bounds.{Bounds}
-use Rattle.file_commands.proofs.FormLemmas.{form_not_read}
+use Rattle.command_inputs.proofs.FormLemmas.{form_not_read}
 use Rattle.command_outcomes.specs.Status.{status_of}
 use Rattle.command_outcomes.specs.declared.outcome.Outcome.{Outcome}
 use Rattle.command_outcomes.specs.declared.outcome.Outcome.TheVariants.{OtherSchema}
 use Rattle.command_outcomes.specs.declared.fault.Fault.{Fault}
 use Rattle.command_outcomes.specs.declared.fault.Fault.TheVariants.{LongValue}
+
+-- the same is asked for, with conditions
+pub with_these : (bounds : Bounds) (asked : Asked) (conditions : Vec Condition) (new : Asked) → IsAskedBy bounds [] asked → new ≡ record asked { conditions = conditions } → IsAskedBy bounds conditions.items new
+with_these bounds asked conditions new is same = subst (IsAskedBy bounds conditions.items) (sym same) (record {
+  key_is = is.key_is;
+  from_is = is.from_is;
+  to_is = is.to_is;
+  first_is = is.first_is;
+  conditions_are = refl;
+})
 
 module _ {W : Type 0} (input : Option (List ℕ)) (path : List ℕ) (bounds : Bounds) (words : FormWords) (contents : W → Option (List ℕ)) (old : W) where
   -- a value is too long
@@ -26,30 +39,31 @@ module _ {W : Type 0} (input : Option (List ℕ)) (path : List ℕ) (bounds : Bo
   not_asked calls fault is = record { records = tt; untouched = λ _. refl; fault = inl is }
 
   -- the form is refused
-  pub no_form : (calls : List Call) (fault : Fault) → IsFormRefused (form_text words) fault → ListsFile input path bounds words contents old old (Err fault) calls
+  pub no_form : (calls : List Call) (fault : Fault) → IsAskedFormRefused (form_text words) (texts_of bounds.conditions.now) fault → ListsFile input path bounds words contents old old (Err fault) calls
   no_form calls fault is = record { records = tt; untouched = λ _. refl; fault = inr is }
 
   module _ (new : W) where
     -- the input, the output or memory failed
     pub broken_off : (calls : List Call) (fault : Fault) → status_of fault ≡ 4 → ListsFile input path bounds words contents old new (Err fault) calls
-    broken_off calls fault four = record { records = tt; untouched = λ other. absurd (other four); fault = inr (form_not_read (form_text words) fault four) }
+    broken_off calls fault four = record { records = tt; untouched = λ other. absurd (other four); fault = inr (inl (form_not_read (form_text words) fault four)) }
 
-    module _ (form : Form) (schema : Option Schema) (bytes : List ℕ) (before later : List Call) (formed : IsFormBy before input (form_text words) form schema)
+    module _ (form : Form) (schema : Option Schema) (conditions : List Condition) (bytes : List ℕ) (before later : List Call)
+        (formed : IsAskedFormBy before input (form_text words) (texts_of bounds.conditions.now) form schema conditions)
         (came : later ≡ counted_calls path bytes) where
       -- the file is of another schema than that of the deck
       pub other_schema : WritesOther schema bytes (contents old) (contents new) → ListsFile input path bounds words contents old new (Ok OtherSchema) (later ++ before)
       other_schema written = record {
-        records = (form, schema, before, formed, (bytes, ap (λ (l : List Call). l ++ before) came, written));
+        records = (form, schema, conditions, before, formed, (bytes, ap (λ (l : List Call). l ++ before) came, written));
         untouched = tt;
         fault = tt;
       }
 
       -- the list ended
-      pub listed : (asked : Asked) (end : Result FileList ListFault) (result : Result Outcome Fault) → AgreesWith schema bytes → IsAskedBy bounds asked
+      pub listed : (asked : Asked) (end : Result FileList ListFault) (result : Result Outcome Fault) → AgreesWith schema bytes → IsAskedBy bounds conditions asked
           → EndsIn form bytes asked (contents old) (contents new) end → ToldOfList end result → ListsFile input path bounds words contents old new result (later ++ before)
       listed asked (Ok list) (Ok outcome) agrees is_asked ends told = record {
-        records = subst (ListsAsked input path bounds (form_text words) contents old new (later ++ before)) (sym told.done)
-            (form, schema, before, formed, (bytes, ap (λ (l : List Call). l ++ before) came, (agrees, (asked, is_asked, ends))));
+        records = subst (ListsAsked input path bounds (texts_of bounds.conditions.now) (form_text words) contents old new (later ++ before)) (sym told.done)
+            (form, schema, conditions, before, formed, (bytes, ap (λ (l : List Call). l ++ before) came, (agrees, (asked, is_asked, ends))));
         untouched = tt;
         fault = tt;
       }

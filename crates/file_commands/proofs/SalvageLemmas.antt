@@ -7,11 +7,11 @@ use Rattle.record_text.specs.declared.form.Form.TheVariants.{Text}
 use Rattle.salvaged_records.specs.Salvaged.{outputs, with_gate_closed}
 use Rattle.command_words.specs.Asks.{FormText, form_text}
 use Rattle.command_words.specs.declared.form_words.FormWords.{FormWords}
-use Rattle.file_commands.specs.Forms.{ComesOfForm, IsFormToldBy}
-use Rattle.file_commands.specs.declared.forms.ListForm.{ListForm}
+use Rattle.command_inputs.specs.Forms.{ComesOfForm, IsFormToldBy}
+use Rattle.command_inputs.specs.declared.forms.ListForm.{ListForm}
 use Rattle.folder_shelf.specs.Calls.{Call, taken_shared}
-use Rattle.file_commands.specs.DeckFile.{IsDeckFault}
-use Rattle.file_commands.specs.Front.{GivesSuch, word_in}
+use Rattle.command_inputs.specs.DeckFile.{IsDeckFault}
+use Rattle.command_inputs.specs.Front.{GivesSuch, word_in}
 use Rattle.file_commands.specs.Salvaged.{IsSchemaIn, IsSchemaAsked, GivesSchemaAsked, GivesSalvageForm, IsSalvageFormBy, IsSalvageRefused, SalvagesBytes, SalvagesFile}
 use Rattle.file_commands.specs.Schema.{IsSchemaFault}
 use Rattle.command_outcomes.specs.Status.{status_of}

@@ -7,10 +7,10 @@ use Rattle.schema_listing.specs.Listing.{TellsHeader, read_of_file}
 use Rattle.schema_listing.specs.declared.first_page.Refusal.{Refusal}
 use Rattle.file_control.specs.Description.{FileDesc}
 use Rattle.folder_shelf.specs.Calls.{Call}
-use Rattle.file_commands.specs.DeckFile.{IsDeckFault, IsOfDeck}
-use Rattle.file_commands.specs.Front.{IsDeckNamed, word_in}
+use Rattle.command_inputs.specs.DeckFile.{IsDeckFault, IsOfDeck}
+use Rattle.command_inputs.specs.Front.{IsDeckNamed, word_in}
 use Rattle.file_commands.specs.Schema.{ComparesFile, TellsFile, ComparesPaths, AnswersSchema, IsSchemaFault, ComesOfFile, IsOfSchema, IsOfComparison}
-use Rattle.file_commands.proofs.DeckLemmas.{not_there}
+use Rattle.command_inputs.proofs.DeckLemmas.{not_there}
 use Rattle.command_outcomes.specs.Status.{status_of}
 use Rattle.command_outcomes.specs.declared.fault.Fault.{Fault}
 use Rattle.command_outcomes.specs.declared.fault.Fault.TheVariants.{Deck as DeckRefused, NoSuchFile, Input, Output, Memory}

@@ -8,7 +8,7 @@ use Rattle.command_outcomes.specs.declared.outcome.WorstCheck.TheVariants.{AllSo
 use Rattle.folder_shelf.specs.Calls.{Call}
 use Rattle.file_checker.specs.Sound.{IsRight}
 use Rattle.command_outcomes.specs.declared.fault.Fault.{Fault}
-use Rattle.file_commands.specs.Front.{GivesSuch, counted_calls}
+use Rattle.command_inputs.specs.Front.{GivesSuch, counted_calls}
 use Rattle.file_commands.specs.declared.verdict.NoVerdict.{NoVerdict}
 use Rattle.file_commands.specs.declared.verdict.NoVerdict.TheVariants.{Unread, Memory}
 use Rattle.file_commands.specs.Verdicts.{worse_of, IsFoundBy, FindsVerdict, WritesFound, WritesLine, WritesLineOf, WritesVerdicts}

@@ -3,7 +3,7 @@ use Rattle.std.specs.Prelude.{◌≡◌, List, [], ℕ, Option}
 use Rattle.file_statistics.specs.Listing.{EndsStatisticsWith}
 use Rattle.file_statistics.specs.declared.listing.FileStatisticsEnd.{FileStatisticsEnd}
 use Rattle.folder_shelf.specs.Calls.{Call}
-use Rattle.file_commands.specs.Front.{OfCountedFile}
+use Rattle.command_inputs.specs.Front.{OfCountedFile}
 use Rattle.command_outcomes.specs.declared.outcome.Outcome.{Outcome}
 use Rattle.command_outcomes.specs.declared.outcome.Outcome.TheVariants.{Counted}
 

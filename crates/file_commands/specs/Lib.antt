@@ -1,8 +1,3 @@
-pub mod Front
-pub mod Bound
-pub mod DeckFile
-pub mod Cuts
-pub mod Forms
 pub mod Records
 pub mod Listed
 pub mod Verdicts

@@ -11,7 +11,7 @@ use Rattle.cobol_program.specs.Layout.{IsLaidOut}
 use Rattle.cobol_program.specs.declared.form.Form.{Form}
 use Rattle.cobol_program.specs.declared.form.Form.TheVariants.{Free, Fixed}
 use Rattle.folder_shelf.specs.Calls.{Call}
-use Rattle.file_commands.specs.Front.{IsDeckNamed}
+use Rattle.command_inputs.specs.Front.{IsDeckNamed}
 use Rattle.command_outcomes.specs.Status.{status_of}
 use Rattle.command_outcomes.specs.declared.outcome.Outcome.{Outcome}
 use Rattle.command_outcomes.specs.declared.outcome.Outcome.TheVariants.{Listed, InCobol}

@@ -8,6 +8,7 @@ use Rattle.schema_listing.specs.Listing.{read_of_file}
 use Rattle.schema_listing.specs.Comparing.{comparison_of, TellsDifferences}
 use Rattle.schema_listing.specs.declared.comparing.Comparison.TheVariants.{Same, Different}
 use Rattle.record_listing.specs.declared.asked.Asked.{Asked}
+use Rattle.record_listing.specs.declared.condition.Condition.{Condition}
 use Rattle.record_text.specs.declared.form.Form.{Form}
 use Rattle.record_listing.specs.FileList.{EndsWithIn}
 use Rattle.record_listing.specs.declared.file_list.FileList.{FileList}
@@ -18,31 +19,34 @@ use Rattle.command_outcomes.specs.declared.fault.Fault.TheVariants.{LongValue}
 use Rattle.command_words.specs.Asks.{FormText, form_text}
 use Rattle.command_words.specs.declared.form_words.FormWords.{FormWords}
 use Rattle.folder_shelf.specs.Calls.{Call}
-use Rattle.file_commands.specs.Bound.{unescaped}
-use Rattle.file_commands.specs.Front.{OfCountedFile, word_in}
-use Rattle.file_commands.specs.Forms.{IsFormBy, IsListRefused}
+use Rattle.command_inputs.specs.Bound.{unescaped}
+use Rattle.command_inputs.specs.Front.{OfCountedFile, word_in}
+use Rattle.command_inputs.specs.AskedForm.{IsAskedFormBy, IsListRefused}
+use Rattle.command_inputs.specs.Conditions.{texts_of}
 use Rattle.file_commands.specs.declared.listing.Bounds.{Bounds}
 use Rattle.command_outcomes.specs.declared.outcome.Outcome.{Outcome}
 use Rattle.command_outcomes.specs.declared.outcome.Outcome.TheVariants.{Records, OtherSchema}
 
--- this is asked for by the number of a key, the first and the last value, and how many records at most,
--- under no condition
-pub record IsAskedFor (key : ℕ) (from to : Option (List ℕ)) (first : ℕ) (asked : Asked) : Type 0 where
+-- this is asked for by the number of a key, the first and the last value, how many records at most,
+-- and what has to hold of each
+pub record IsAskedFor (key : ℕ) (from to : Option (List ℕ)) (first : ℕ) (conditions : List Condition)
+    (asked : Asked) : Type 0 where
   pub key_is : asked.key ≡ key
   pub from_is : asked.from.items ≡ unescaped (unwrap_or from [])
   pub to_is : option_map (λ value. value.items) asked.to ≡ option_map unescaped to
   pub first_is : asked.first ≡ first
-  pub conditions_are : asked.conditions.items ≡ []
+  pub conditions_are : asked.conditions.items ≡ conditions
 
 -- the list of these bytes in a form ended so
 abbrev pub ListsRecords : Form → List ℕ → (key : ℕ) (from to : Option (List ℕ)) (first : ℕ)
-    → (before behind : Option (List ℕ)) → FileList → Type 0
-ListsRecords form bytes key from to first before behind list =
-    (asked : Asked) × IsAskedFor key from to first asked × EndsWithIn form bytes asked before behind list
+    → List Condition → (before behind : Option (List ℕ)) → FileList → Type 0
+ListsRecords form bytes key from to first conditions before behind list = (asked : Asked)
+    × IsAskedFor key from to first conditions asked × EndsWithIn form bytes asked before behind list
 
--- this is asked for by the words of a command line
-abbrev pub IsAskedBy : Bounds → Asked → Type 0
-IsAskedBy bounds asked = IsAskedFor bounds.key (word_in bounds.from) (word_in bounds.to) bounds.first asked
+-- this is asked for by the words of a command line, which ask for these conditions
+abbrev pub IsAskedBy : Bounds → List Condition → Asked → Type 0
+IsAskedBy bounds conditions asked =
+    IsAskedFor bounds.key (word_in bounds.from) (word_in bounds.to) bounds.first conditions asked
 
 -- OPEN would find a file of these bytes to be of the schema of a deck, where there is one
 abbrev pub AgreesWith : Option Schema → List ℕ → Type 0
@@ -56,25 +60,28 @@ WritesOther None bytes before behind = ⊥
 WritesOther (Some deck) bytes before behind =
     TellsDifferences deck before behind (read_of_file bytes) (Ok Different)
 
--- the form is the one that is asked for, and behind the calls by which its deck was read, if one is
--- asked for, others gave the bytes that the first page of the file of a path counts, of which this is so
-abbrev pub OfFormAndFile : (input : Option (List ℕ)) → (path : List ℕ) → FormText → List Call
-    → (IsSo : Form → Option Schema → List ℕ → Type 0) → Type 0
-OfFormAndFile input path asked calls IsSo = (form : Form) × (schema : Option Schema) × (before : List Call)
-    × IsFormBy before input asked form schema × OfCountedFile path before calls (IsSo form schema)
+-- the form is the one that is asked for, and so are the conditions, and behind the calls by which their
+-- deck was read, if one is asked for, others gave the bytes that the first page of the file of a path
+-- counts, of which this is so
+abbrev pub OfFormAndFile : (input : Option (List ℕ)) → (path : List ℕ) → FormText → (words : List (List ℕ))
+    → List Call → (IsSo : Form → Option Schema → List Condition → List ℕ → Type 0) → Type 0
+OfFormAndFile input path asked words calls IsSo = (form : Form) × (schema : Option Schema)
+    × (conditions : List Condition) × (before : List Call)
+    × IsAskedFormBy before input asked words form schema conditions
+    × OfCountedFile path before calls (IsSo form schema conditions)
 
 -- the records of a file were listed as these words ask for it, in the form that is asked for, and this
 -- is how the list ended; or the file is of another schema than the deck whose columns are asked for
-abbrev pub ListsAsked : {W : Type 0} → (input : Option (List ℕ)) → (path : List ℕ) → Bounds → FormText
-    → (W → Option (List ℕ)) → (old new : W) → List Call → Outcome → Type 0
-ListsAsked input path bounds asked contents old new calls (Records list) =
-    OfFormAndFile input path asked calls (λ form schema bytes. AgreesWith schema bytes
-    × ListsRecords form bytes bounds.key (word_in bounds.from)
-    (word_in bounds.to) bounds.first (contents old) (contents new) list)
-ListsAsked input path bounds asked contents old new calls OtherSchema =
-    OfFormAndFile input path asked calls (λ form schema bytes.
+abbrev pub ListsAsked : {W : Type 0} → (input : Option (List ℕ)) → (path : List ℕ) → Bounds
+    → (words : List (List ℕ)) → FormText → (W → Option (List ℕ)) → (old new : W) → List Call → Outcome → Type 0
+ListsAsked input path bounds words asked contents old new calls (Records list) =
+    OfFormAndFile input path asked words calls (λ form schema conditions bytes.
+    AgreesWith schema bytes × ListsRecords form bytes bounds.key (word_in bounds.from)
+    (word_in bounds.to) bounds.first conditions (contents old) (contents new) list)
+ListsAsked input path bounds words asked contents old new calls OtherSchema =
+    OfFormAndFile input path asked words calls (λ form schema conditions bytes.
     WritesOther schema bytes (contents old) (contents new))
-ListsAsked input path bounds asked contents old new calls outcome = ⊥
+ListsAsked input path bounds words asked contents old new calls outcome = ⊥
 
 -- whether a file of these bytes is of another schema than that of a deck, if there is one: the
 -- differences are written then, and nothing otherwise
@@ -82,11 +89,6 @@ abbrev pub TellsOther : {W : Type 0} → Option Schema → List ℕ → (W → O
     → Bool → Type 0
 TellsOther schema bytes contents old new true = WritesOther schema bytes (contents old) (contents new)
 TellsOther schema bytes contents old new false = AgreesWith schema bytes × (new ≡ old)
-
--- a value that is so; or a text is too long for one
-pub record FitsValue {X : Type 0} (IsSo : X → Type 0) (result : Result X Fault) : Type 0 where
-  pub value : IfOk result IsSo
-  pub fault : IfErr result (λ fault. fault ≡ LongValue)
 
 -- how a list ended, as what was done
 pub record ToldOfList (end : Result FileList ListFault) (result : Result Outcome Fault) : Type 0 where
@@ -100,6 +102,7 @@ pub record ListsFile
     {W : Type 0} (input : Option (List ℕ)) (path : List ℕ) (bounds : Bounds) (form : FormWords)
     (contents : W → Option (List ℕ)) (old new : W) (result : Result Outcome Fault) (calls : List Call)
     : Type 0 where
-  pub records : IfOk result (ListsAsked input path bounds (form_text form) contents old new calls)
+  pub records : IfOk result (ListsAsked input path bounds (texts_of bounds.conditions.now) (form_text form)
+      contents old new calls)
   pub untouched : IfErr result (λ fault. status_of fault ≢ 4 → new ≡ old)
-  pub fault : IfErr result (IsListRefused (form_text form))
+  pub fault : IfErr result (IsListRefused (form_text form) (texts_of bounds.conditions.now))

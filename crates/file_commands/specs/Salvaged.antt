@@ -9,11 +9,11 @@ use Rattle.record_text.specs.declared.form.Form.{Form}
 use Rattle.record_text.specs.declared.form.Form.TheVariants.{Text}
 use Rattle.salvaged_records.specs.Salvaged.{EndsWith, Outputs, outputs, with_gate_closed}
 use Rattle.command_words.specs.Asks.{FormText}
-use Rattle.file_commands.specs.Forms.{IsFormBy, IsFormRefused}
-use Rattle.file_commands.specs.declared.forms.ListForm.{ListForm}
+use Rattle.command_inputs.specs.Forms.{IsFormBy, IsFormRefused}
+use Rattle.command_inputs.specs.declared.forms.ListForm.{ListForm}
 use Rattle.folder_shelf.specs.Calls.{Call, taken_shared}
-use Rattle.file_commands.specs.DeckFile.{IsOfDeck}
-use Rattle.file_commands.specs.Front.{IsDeckNamed, word_in}
+use Rattle.command_inputs.specs.DeckFile.{IsOfDeck}
+use Rattle.command_inputs.specs.Front.{IsDeckNamed, word_in}
 use Rattle.file_commands.specs.Records.{AgreesWith, WritesOther}
 use Rattle.file_commands.specs.Schema.{IsSchemaFault}
 use Rattle.command_outcomes.specs.Status.{status_of}

@@ -13,9 +13,9 @@ use Rattle.schema_listing.specs.Listing.{TellsHeader, read_of_file}
 use Rattle.schema_listing.specs.declared.comparing.Comparison.{Comparison}
 use Rattle.file_control.specs.Description.{FileDesc}
 use Rattle.schema_listing.specs.Comparing.{TellsDifferences}
-use Rattle.file_commands.specs.DeckFile.{IsOfDeck, IsDeckAsked, IsDeckFile, IsHalf, IsDeckFault}
+use Rattle.command_inputs.specs.DeckFile.{IsOfDeck, IsDeckAsked, IsDeckFile, IsHalf, IsDeckFault}
 use Rattle.folder_shelf.specs.Calls.{Call}
-use Rattle.file_commands.specs.Front.{IsDeckNamed, IsDeckReadBy, OfFirstPage, GivesSuch, word_in}
+use Rattle.command_inputs.specs.Front.{IsDeckNamed, IsDeckReadBy, OfFirstPage, GivesSuch, word_in}
 use Rattle.command_outcomes.specs.Status.{status_of}
 use Rattle.command_outcomes.specs.declared.form_fault.FormFault.TheVariants.{HalfDeck}
 use Rattle.command_outcomes.specs.declared.fault.Fault.{Fault}

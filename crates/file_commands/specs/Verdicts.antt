@@ -11,7 +11,7 @@ use Rattle.file_checker.specs.declared.verdict.Verdict.TheVariants.{Sound, Unsou
 use Rattle.record_text.specs.Columns.{text_of}
 use Rattle.system_files.specs.declared.cause.Cause.{Cause}
 use Rattle.folder_shelf.specs.Calls.{Call}
-use Rattle.file_commands.specs.Front.{OfCountedFile, IsUnreadBy}
+use Rattle.command_inputs.specs.Front.{OfCountedFile, IsUnreadBy}
 use Rattle.file_commands.specs.declared.verdict.NoVerdict.{NoVerdict}
 use Rattle.file_commands.specs.declared.verdict.NoVerdict.TheVariants.{Unread, Memory}
 use Rattle.command_outcomes.specs.declared.outcome.Outcome.{Outcome}

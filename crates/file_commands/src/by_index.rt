@@ -5,9 +5,10 @@ ghost use Rattle.folder_shelf.specs.Reading.{ByReads};
 ghost use Rattle.record_listing.specs.ByPath.{ByReadsAside};
 ghost use Rattle.file_commands.specs.ByIndex.{TellsReason, ToldOfPages, ReadsStart, ListsPages, ListsByIndex};
 
-use crate::file_bytes::{fault_of as not_read, read_counted, read_first_page};
-use crate::forms::{ListForm, form_of};
-use crate::listing::{Bounds, asked_by, is_other};
+use crate::listing::{Bounds, asked_by, is_other, with_conditions};
+use command_inputs::{
+    AskedForm, ListForm, asked_form, fault_of as not_read, read_counted, read_first_page,
+};
 use command_outcomes::{Fault, Outcome};
 use command_words::FormWords;
 use file_checker::{Verdict, check_bytes};
@@ -97,10 +98,12 @@ fn read_start<S: System, I: Read>(
         Ok(asked) => asked,
         Err(fault) => return Err(fault),
     };
-    let told = match form_of(system, alloc, form, input) {
-        Ok(told) => told,
+    let formed = match asked_form(system, alloc, form, bounds.conditions, input) {
+        Ok(formed) => formed,
         Err(fault) => return Err(fault),
     };
+    let AskedForm { told, conditions } = formed;
+    let asked = with_conditions(asked, conditions);
     match read_first_page(system, path) {
         Ok(page) => Ok(ListStart { asked, told, page }),
         Err(fault) => Err(fault),

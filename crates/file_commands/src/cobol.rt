@@ -4,9 +4,9 @@ ghost use Rattle.folder_shelf.specs.Reading.{ByReads};
 ghost use Rattle.file_commands.specs.Listed.{form_of, IsInCobol, GivesText, WritesCobolAt};
 
 use crate::deck_list::refused;
-use crate::file_bytes::read_deck_bytes;
 use crate::text::write_text;
 use cobol_program::{Form, write_program};
+use command_inputs::read_deck_bytes;
 use command_outcomes::{Fault, Outcome};
 use folder_shelf::System;
 use std::alloc::Global;

@@ -5,9 +5,8 @@ ghost use Rattle.folder_shelf.specs.Reading.{ByReads};
 ghost use Rattle.file_commands.specs.Schema.{ComparesAs, ComparesFile, IsOfComparison, ComesOfFile};
 ghost use Rattle.file_commands.specs.Schema.{ComparesPaths};
 
-use crate::deck::{deck_at, file_in};
-use crate::file_bytes::read_first_page;
 use crate::first_page::fault_of;
+use command_inputs::{deck_at, file_in, read_first_page};
 use command_outcomes::{Fault, Outcome};
 use folder_shelf::System;
 use record_layout::Schema;

@@ -2,10 +2,10 @@
 ghost use Rattle.std.specs.Prelude.{◌≡◌};
 ghost use Rattle.folder_shelf.specs.Reading.{ByReads};
 ghost use Rattle.file_commands.specs.Counted.{CountsFileAt};
-ghost use Rattle.file_commands.specs.Front.{DoesBy};
+ghost use Rattle.command_inputs.specs.Front.{DoesBy};
 ghost use Rattle.command_outcomes.specs.Status.{status_of};
 
-use crate::file_bytes::{fault_of as not_read, read_counted};
+use command_inputs::{fault_of as not_read, read_counted};
 use command_outcomes::{Fault, Outcome};
 use file_statistics::{FileStatisticsEnd, StatisticsFault, list_statistics};
 use folder_shelf::System;

@@ -6,8 +6,8 @@ ghost use Rattle.deck_listing.specs.Listing.{Lists};
 ghost use Rattle.folder_shelf.specs.Reading.{ByReads};
 ghost use Rattle.file_commands.specs.Listed.{IsRefusalOf, IsListFault, GivesText, ListsDeckAt};
 
-use crate::file_bytes::read_deck_bytes;
 use crate::text::write_text;
+use command_inputs::read_deck_bytes;
 use command_outcomes::{Fault, Outcome, RefusedDeck};
 use deck_listing::{diagnose, list_deck};
 use file_control::DeckFault;

@@ -7,7 +7,7 @@ ghost use Rattle.file_commands.specs.Schema.{listing_told_as};
 ghost use Rattle.command_outcomes.specs.Status.{status_of};
 
 use crate::comparing::compare_path;
-use crate::file_bytes::read_first_page;
+use command_inputs::read_first_page;
 use command_outcomes::{Fault, FormFault, Outcome};
 use folder_shelf::System;
 use schema_listing::{ListingFault, list_schema};

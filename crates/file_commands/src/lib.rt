@@ -7,21 +7,16 @@
 //! gave which it made of the system, all of them reads. A file of records is read as long as no run
 //! changes it.
 //!
-//! Read `file_bytes` first, then `verdict` and `listing`; `deck` finds a file in a deck.
+//! What they read before they act is in `command_inputs`. Read `verdict` first, then `listing`.
 #![tactic(auto)]
 
-mod bound;
 mod by_index;
 mod cobol;
 mod comparing;
 mod counting;
-mod cuts;
-mod deck;
 mod deck_list;
 mod differing;
-mod file_bytes;
 mod first_page;
-mod forms;
 mod listing;
 mod salvaging;
 mod shown;
@@ -32,10 +27,8 @@ mod verdict_lines;
 pub use by_index::list_records;
 pub use cobol::write_cobol;
 pub use counting::count_path;
-pub use deck::{deck_of, file_named};
 pub use deck_list::list_path;
 pub use differing::{differences_at, path_in};
-pub use file_bytes::{read_deck_bytes, read_text};
 pub use first_page::schema;
 pub use listing::{Bounds, list_checked};
 pub use salvaging::salvage_path;

@@ -1,36 +1,38 @@
 //! The list of the records of the file of a path.
-ghost use Rattle.std.specs.Prelude.{◌≡◌, option_map};
+ghost use Rattle.std.specs.Prelude.{◌≡◌, option_map, []};
 ghost use Rattle.folder_shelf.specs.Reading.{ByReads};
-ghost use Rattle.file_commands.specs.Front.{word_in, GivesSuch};
-ghost use Rattle.file_commands.specs.Records.{IsAskedBy, FitsValue, ToldOfList, ListsFile, TellsOther};
+ghost use Rattle.command_inputs.specs.Front.{word_in, GivesSuch};
+ghost use Rattle.command_inputs.specs.Bound.{FitsValue};
+ghost use Rattle.file_commands.specs.Records.{IsAskedBy, ToldOfList, ListsFile, TellsOther};
 
-use crate::bound::{last_of, value_of};
-use crate::file_bytes::{fault_of as not_read, read_counted};
 use crate::first_page::fault_of;
-use crate::forms::form_of;
+use command_inputs::{
+    AskedForm, asked_form, fault_of as not_read, last_of, read_counted, value_of,
+};
 use command_outcomes::{Fault, Outcome};
 use command_words::FormWords;
 use folder_shelf::System;
 use record_layout::Schema;
-use record_listing::{Asked, FileList, ListFault, list_file_as};
+use record_listing::{Asked, Condition, FileList, ListFault, list_file_as};
 use schema_listing::{Comparison, compare_schema};
 use std::alloc::Global;
 use std::io::{Read, Write};
 use streams::Progress;
 
-/// What is asked of the list of a file: the number of a key, the first and the last value, and how
-/// many records at most.
+/// What is asked of the list of a file: the number of a key, the first and the last value, how many
+/// records at most, and the words of the conditions that each has to meet.
 #[derive(Clone, Copy)]
 pub struct Bounds<'a> {
     pub key: u8,
     pub from: Option<&'a str>,
     pub to: Option<&'a str>,
     pub first: u64,
+    pub conditions: &'a [&'a str],
 }
 
-/// What the words of a command line ask of a list, which is under no condition.
+/// What the words of a command line ask of a list, but for its conditions.
 pub fn asked_by(alloc: Global, bounds: Bounds<'_>) -> Result<Asked, Fault>
-    ensures { FitsValue (IsAskedBy bounds.entry) result }
+    ensures { FitsValue (IsAskedBy bounds.entry []) result }
 {
     let from = value_of(bounds.from.unwrap_or(""))?;
     let to = last_of(bounds.to)?;
@@ -41,6 +43,19 @@ pub fn asked_by(alloc: Global, bounds: Bounds<'_>) -> Result<Asked, Fault>
         first: bounds.first,
         conditions: Vec::new(alloc),
     })
+}
+
+/// The same list, of records that have to meet these conditions.
+pub fn with_conditions(asked: Asked, conditions: Vec<Condition>) -> Asked
+    ensures { result ≡ record asked { conditions = conditions } }
+{
+    Asked {
+        key: asked.key,
+        from: asked.from,
+        to: asked.to,
+        first: asked.first,
+        conditions,
+    }
 }
 
 /// How a list ended, as what was done.
@@ -97,10 +112,12 @@ pub fn list_checked<S: System, I: Read, P: Progress, W: Write>(
         Ok(asked) => asked,
         Err(fault) => return Err(fault),
     };
-    let told = match form_of(system, alloc, form, input) {
-        Ok(told) => told,
+    let formed = match asked_form(system, alloc, form, bounds.conditions, input) {
+        Ok(formed) => formed,
         Err(fault) => return Err(fault),
     };
+    let AskedForm { told, conditions } = formed;
+    let asked = with_conditions(asked, conditions);
     let bytes = match read_counted(system, path, progress) {
         Ok(bytes) => bytes,
         Err(fault) => return Err(not_read(fault)),

@@ -1,5 +1,5 @@
 //! A text that is written whole.
-ghost use Rattle.file_commands.specs.Front.{WritesWhole};
+ghost use Rattle.command_inputs.specs.Front.{WritesWhole};
 
 use command_outcomes::{Fault, Outcome};
 use std::io::Write;

@@ -7,7 +7,7 @@ use Rattle.file_control.specs.Description.{FileDesc}
 use Rattle.record_layout.specs.Schema.{Schema}
 use Rattle.folder_shelf.specs.SystemState.{file_path}
 use Rattle.record_loading.specs.declared.end.Load.{Load}
-use Rattle.file_commands.specs.DeckFile.{is_named_in_deck, IsFileOf}
+use Rattle.command_inputs.specs.DeckFile.{is_named_in_deck, IsFileOf}
 use Rattle.command_line.specs.LoadForm.{form_word}
 use Rattle.command_line.proofs.LoadFormLemmas.{laid_in, form_is_whole}
 use Rattle.command_line.proofs.LoadingLemmas.{told_fault, deck_fault, untouched_unless}

@@ -2,7 +2,7 @@ use Rattle.std.proofs.Common.{List, Bor, option_map, refl, subst, sym, inl, inr}
 use Rattle.clap.specs.Words.{Text}
 use Rattle.command_words.specs.Asks.{Ask, AskCheck, AskList, form_text}
 use Rattle.folder_shelf.proofs.ReadingLemmas.{by_none}
-use Rattle.file_commands.specs.Conditions.{texts_of}
+use Rattle.command_inputs.specs.Conditions.{texts_of}
 use Rattle.file_commands.specs.Verdicts.{paths_of}
 use Rattle.command_line.proofs.CallsMadeLemmas.{reads_alone, reads_aside}
 use Rattle.command_line.proofs.DidLemmas.{for_schema, for_salvage, for_records, for_load, did_list, did_schema, did_help, did_explain, did_check, did_count, did_salvage, did_deck, served_did}
