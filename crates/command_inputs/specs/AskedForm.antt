@@ -92,9 +92,16 @@ pub record ComesOfFormWhere {X : Type 0} (IsSo : X → Type 0) (words : List Wor
   pub fault : IfErr result (λ fault. IsDeckFault fault
       ⊎ ((layout : List Placed) × AreWordsRefused layout words fault))
 
+-- so a form and conditions came of the file of a name in a deck
+abbrev pub ComesOfFile : (input : Option (List ℕ)) → (kind deck name : Word) → (words : List Word)
+    → Result AskedForm Fault → (calls : List Call) → Type 0
+ComesOfFile input kind deck name words result calls =
+    ComesOfFormWhere (λ told. IsFormOfFile calls input kind deck name words told.told.form told.told.schema
+    told.conditions.items) words result
+
 -- what came of the words of a list is so; or they are refused
-pub record ComesOfAskedForm (calls : List Call) (input : Option (List ℕ)) (asked : FormText)
-    (words : List Word) (result : Result AskedForm Fault) : Type 0 where
+pub record ComesOfAskedForm (input : Option (List ℕ)) (asked : FormText) (words : List Word)
+    (result : Result AskedForm Fault) (calls : List Call) : Type 0 where
   pub form : IfOk result (λ told. IsAskedFormBy calls input asked words told.told.form told.told.schema
       told.conditions.items)
   pub refused : IfErr result (IsAskedFormRefused asked words)

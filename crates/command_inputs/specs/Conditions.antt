@@ -2,7 +2,7 @@
 use Rattle.std.specs.Prelude.{◌≡◌, ℕ, ◌-◌, ◌<◌, ◌≤◌, ◌==◌, ◌||◌, ◌&&◌, Bool, false, List, [], ◌∷◌, ◌++◌}
 use Rattle.std.specs.Prelude.{length, take, drop, replicate, map, position, bytes_eq, Option, Some, None}
 use Rattle.std.specs.Prelude.{option_map, option_and_then, if◌then◌else◌, Result, IfOk, IfErr, ◌⊎◌, ⊤}
-use Rattle.std.specs.Option.{option_map_or}
+use Rattle.std.specs.Global.{Vec}
 use Rattle.std.specs.List.{list_all}
 use Rattle.std.specs.Char.{to_ascii_lowercase, is_ascii_digit}
 use denote.Ref.{Bor}
@@ -138,6 +138,11 @@ pub record ComesOfWords {X : Type 0} (IsSo : X → Type 0) (layout : List Placed
   pub right : IfOk result IsSo
   pub refused : IfErr result (AreWordsRefused layout words)
 
+-- the conditions of words on a record with these items; or the words are refused
+abbrev pub GivesConditions : List Placed → (words : List (List ℕ)) → Result (Vec Condition) Fault → Type 0
+GivesConditions layout words result =
+    ComesOfWords (λ conditions. AreConditionsBy layout words conditions.items) layout words result
+
 -- the words of conditions
 abbrev pub texts_of : List (Bor (List ℕ)) → List Text
 texts_of words = map (λ word. word.now) words
@@ -146,3 +151,9 @@ texts_of words = map (λ word. word.now) words
 abbrev pub AddsConditions : List Placed → (words : List (List ℕ)) → (old new : List Condition) → Type 0
 AddsConditions layout words old new = (added : List Condition) × (new ≡ old ++ added)
     × AreConditionsBy layout words added
+
+-- so it was; or the words are refused
+abbrev pub AddsOrRefuses : List Placed → (words : List (List ℕ)) → (old new : List Condition)
+    → Result Unit Fault → Type 0
+AddsOrRefuses layout words old new result =
+    ComesOfWords (λ _. AddsConditions layout words old new) layout words result

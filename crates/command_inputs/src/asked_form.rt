@@ -2,7 +2,7 @@
 ghost use Rattle.std.specs.Prelude.{◌≡◌, []};
 ghost use Rattle.folder_shelf.specs.Reading.{ByReads};
 ghost use Rattle.command_words.specs.Asks.{form_text};
-ghost use Rattle.command_inputs.specs.AskedForm.{IsFormWord, IsWrittenAs, IsFormOfFile, ComesOfFormWhere};
+ghost use Rattle.command_inputs.specs.AskedForm.{IsFormWord, IsWrittenAs, ComesOfFile};
 ghost use Rattle.command_inputs.specs.AskedForm.{ComesOfAskedForm, TellsFormFault};
 ghost use Rattle.command_inputs.specs.Conditions.{texts_of};
 ghost use Rattle.command_inputs.specs.Forms.{WantsOnlyMemory};
@@ -68,9 +68,8 @@ fn form_where<S: System, I: Read>(
     input: &mut I,
 ) -> Result<AskedForm, Fault>
     requires { IsFormWord kind.now }
-    ensures { ByReads (λ calls. ComesOfFormWhere (λ told. IsFormOfFile calls (I.remaining input.old) kind.now deck.now
-        name.now (texts_of words.now) told.told.form told.told.schema told.conditions.items)
-        (texts_of words.now) result) (S.state system.old) (S.state system.new) }
+    ensures { ByReads (ComesOfFile (I.remaining input.old) kind.now deck.now name.now (texts_of words.now)
+        result) (S.state system.old) (S.state system.new) }
 {
     let deck = match deck_at(system, alloc, deck, input) {
         Ok(deck) => deck,
@@ -103,7 +102,7 @@ fn form_alone<S: System, I: Read>(
     asked: FormWords<'_>,
     input: &mut I,
 ) -> Result<AskedForm, Fault>
-    ensures { ByReads (λ calls. ComesOfAskedForm calls (I.remaining input.old) (form_text asked.entry) [] result)
+    ensures { ByReads (ComesOfAskedForm (I.remaining input.old) (form_text asked.entry) [] result)
         (S.state system.old) (S.state system.new) }
 {
     match form_of(system, alloc, asked, input) {
@@ -126,8 +125,8 @@ pub fn asked_form<S: System, I: Read>(
     words: &[&str],
     input: &mut I,
 ) -> Result<AskedForm, Fault>
-    ensures { ByReads (λ calls. ComesOfAskedForm calls (I.remaining input.old) (form_text asked.entry)
-        (texts_of words.now) result) (S.state system.old) (S.state system.new) }
+    ensures { ByReads (ComesOfAskedForm (I.remaining input.old) (form_text asked.entry) (texts_of words.now)
+        result) (S.state system.old) (S.state system.new) }
 {
     if words.is_empty() {
         return form_alone(system, alloc, asked, input);

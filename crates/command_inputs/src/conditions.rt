@@ -7,7 +7,7 @@ ghost use Rattle.record_layout.specs.Layout.{item_of};
 ghost use Rattle.command_inputs.specs.Bound.{unescaped};
 ghost use Rattle.command_inputs.specs.Conditions.{is_sign, or_equal, operator_in, said_of, said_in};
 ghost use Rattle.command_inputs.specs.Conditions.{is_item_named, item_with_name, are_digits, full_value};
-ghost use Rattle.command_inputs.specs.Conditions.{IsConditionBy, AreConditionsBy, AddsConditions, ComesOfWords};
+ghost use Rattle.command_inputs.specs.Conditions.{IsConditionBy, ComesOfWords, AddsOrRefuses, GivesConditions};
 ghost use Rattle.command_inputs.specs.Conditions.{texts_of};
 
 use crate::bound::next_byte;
@@ -199,8 +199,8 @@ fn add_conditions(
     words: &[&str],
     conditions: &mut Vec<Condition>,
 ) -> Result<(), Fault>
-    ensures { ComesOfWords (λ _. AddsConditions (map item_of items.now) (texts_of words.now)
-        conditions.old.items conditions.new.items) (map item_of items.now) (texts_of words.now) result }
+    ensures { AddsOrRefuses (map item_of items.now) (texts_of words.now) conditions.old.items
+        conditions.new.items result }
 {
     let Some((first, rest)) = words.split_first() else {
         return Ok(());
@@ -221,8 +221,7 @@ pub fn conditions_of(
     items: &[Placed],
     words: &[&str],
 ) -> Result<Vec<Condition>, Fault>
-    ensures { ComesOfWords (λ conditions. AreConditionsBy (map item_of items.now) (texts_of words.now)
-        conditions.items) (map item_of items.now) (texts_of words.now) result }
+    ensures { GivesConditions (map item_of items.now) (texts_of words.now) result }
 {
     let mut conditions = Vec::new(alloc);
     match add_conditions(alloc, items, words, &mut conditions) {

@@ -10,4 +10,4 @@ pub returns-then-is_empty : goal.returns-then-is_empty
 returns-then-is_empty g c =
     let none : c.args.words.now ≡ [] = search rules in
     by_same _ _ c.form_alone.ensures (λ calls came.
-    subst (λ (words : List (Bor (List ℕ))). ComesOfAskedForm calls (g.I.Read.remaining c.args.input.now) (form_text c.args.asked) (texts_of words) c.form_alone.result) (sym none) came)
+    subst (λ (words : List (Bor (List ℕ))). ComesOfAskedForm (g.I.Read.remaining c.args.input.now) (form_text c.args.asked) (texts_of words) c.form_alone.result calls) (sym none) came)
