@@ -17,7 +17,7 @@ use Rattle.command_outcomes.specs.declared.condition_fault.ConditionFault.{Condi
 use Rattle.command_outcomes.specs.declared.condition_fault.ConditionFault.TheVariants.{NoSign, NoDeck, NoItem, LongValue as LongItem}
 use Rattle.command_outcomes.specs.declared.fault.Fault.{Fault}
 use Rattle.command_outcomes.specs.declared.fault.Fault.TheVariants.{Deck as DeckRefused, NoSuchFile, Form as NoForm, Condition as NoCondition, Input, Output, Memory}
-use Rattle.command_inputs.specs.AskedForm.{IsWrittenAs, IsFormOfFile, IsAskedFormRefused, ComesOfAskedForm, ComesOfFile}
+use Rattle.command_inputs.specs.AskedForm.{IsWrittenAs, IsFormOfFile, IsAskedFormRefused, ComesOfAskedForm, GivesFormOfFile}
 use Rattle.command_inputs.specs.Conditions.{AreConditionsBy, AreWordsRefused, HasConditionFault, HaveConditionFault}
 use Rattle.command_inputs.specs.DeckFile.{IsDeckAsked, IsDeckFault, IsHalf, IsOfDeck}
 use Rattle.command_inputs.specs.Forms.{HasFormFault, IsFormRefused}
@@ -68,7 +68,7 @@ module _ (asked : FormText) (words : List Word) where
 -- what came of the file of a deck, where one is asked for
 pub asked_where : (calls : List Call) (input : Option (List ℕ)) (asked : FormText) (word : Word) (words : List Word) (deck name : Word) (result : Result AskedForm Fault)
     → asked.deck ≡ Some deck → asked.name ≡ Some name → asked.cut ≡ None → IsDeckAsked asked.deck asked.name
-    → ComesOfFile input asked.kind deck name (word ∷ words) result calls
+    → GivesFormOfFile input asked.kind deck name (word ∷ words) result calls
     → ComesOfAskedForm input asked (word ∷ words) result calls
 asked_where calls input asked word words deck name (Ok told) a_deck a_name uncut both came = record {
   form = record { deck = deck; name = name; deck_given = a_deck; name_given = a_name; uncut = uncut; of_file = came.right };

@@ -93,9 +93,9 @@ pub record ComesOfFormWhere {X : Type 0} (IsSo : X → Type 0) (words : List Wor
       ⊎ ((layout : List Placed) × AreWordsRefused layout words fault))
 
 -- so a form and conditions came of the file of a name in a deck
-abbrev pub ComesOfFile : (input : Option (List ℕ)) → (kind deck name : Word) → (words : List Word)
+abbrev pub GivesFormOfFile : (input : Option (List ℕ)) → (kind deck name : Word) → (words : List Word)
     → Result AskedForm Fault → (calls : List Call) → Type 0
-ComesOfFile input kind deck name words result calls =
+GivesFormOfFile input kind deck name words result calls =
     ComesOfFormWhere (λ told. IsFormOfFile calls input kind deck name words told.told.form told.told.schema
     told.conditions.items) words result
 

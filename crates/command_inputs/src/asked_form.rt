@@ -2,7 +2,7 @@
 ghost use Rattle.std.specs.Prelude.{◌≡◌, []};
 ghost use Rattle.folder_shelf.specs.Reading.{ByReads};
 ghost use Rattle.command_words.specs.Asks.{form_text};
-ghost use Rattle.command_inputs.specs.AskedForm.{IsFormWord, IsWrittenAs, ComesOfFile};
+ghost use Rattle.command_inputs.specs.AskedForm.{IsFormWord, IsWrittenAs, GivesFormOfFile};
 ghost use Rattle.command_inputs.specs.AskedForm.{ComesOfAskedForm, TellsFormFault};
 ghost use Rattle.command_inputs.specs.Conditions.{texts_of};
 ghost use Rattle.command_inputs.specs.Forms.{WantsOnlyMemory};
@@ -68,7 +68,7 @@ fn form_where<S: System, I: Read>(
     input: &mut I,
 ) -> Result<AskedForm, Fault>
     requires { IsFormWord kind.now }
-    ensures { ByReads (ComesOfFile (I.remaining input.old) kind.now deck.now name.now (texts_of words.now)
+    ensures { ByReads (GivesFormOfFile (I.remaining input.old) kind.now deck.now name.now (texts_of words.now)
         result) (S.state system.old) (S.state system.new) }
 {
     let deck = match deck_at(system, alloc, deck, input) {
