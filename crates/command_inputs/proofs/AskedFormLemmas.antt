@@ -1,7 +1,7 @@
 -- The form of a list with conditions.
 use Rattle.std.specs.Global.{Vec}
-use Rattle.std.proofs.Common.{◌≡◌, ◌⊎◌, inl, inr, ℕ, List, [], ◌∷◌, map, Option, Some, None, Result, Ok, Err, refl, sym, ap, subst, ◌∙◌}
-use Rattle.std.specs.Prelude.{◌≢◌}
+use Rattle.std.proofs.Common.{◌≡◌, ◌⊎◌, ◌<◌, inl, inr, ℕ, List, [], ◌∷◌, map, length, Option, Some, None, Result, Ok, Err, Bor, refl, sym, ap, subst, ◌∙◌, arith}
+use Rattle.std.specs.Prelude.{◌≢◌, IsSome}
 use Rattle.clap.specs.Words.{Text as Word}
 use Rattle.record_layout.specs.Layout.{Placed, item_of}
 use Rattle.record_layout.specs.declared.item.Placed.{Placed as Declared}
@@ -18,7 +18,7 @@ use Rattle.command_outcomes.specs.declared.condition_fault.ConditionFault.TheVar
 use Rattle.command_outcomes.specs.declared.fault.Fault.{Fault}
 use Rattle.command_outcomes.specs.declared.fault.Fault.TheVariants.{Deck as DeckRefused, NoSuchFile, Form as NoForm, Condition as NoCondition, Input, Output, Memory}
 use Rattle.command_inputs.specs.AskedForm.{IsWrittenAs, IsFormOfFile, IsAskedFormRefused, ComesOfAskedForm, GivesFormOfFile}
-use Rattle.command_inputs.specs.Conditions.{AreConditionsBy, AreWordsRefused, HasConditionFault, HaveConditionFault}
+use Rattle.command_inputs.specs.Conditions.{AreConditionsBy, AreWordsRefused, HasConditionFault, HaveConditionFault, texts_of}
 use Rattle.command_inputs.specs.DeckFile.{IsDeckAsked, IsDeckFault, IsHalf, IsOfDeck}
 use Rattle.command_inputs.specs.Forms.{HasFormFault, IsFormRefused}
 use Rattle.command_inputs.specs.Front.{IsDeckNamed}
@@ -66,7 +66,7 @@ module _ (asked : FormText) (words : List Word) where
   form_at_fault fault is = inl is
 
 -- what came of the file of a deck, where one is asked for
-pub asked_where : (calls : List Call) (input : Option (List ℕ)) (asked : FormText) (word : Word) (words : List Word) (deck name : Word) (result : Result AskedForm Fault)
+asked_where : (calls : List Call) (input : Option (List ℕ)) (asked : FormText) (word : Word) (words : List Word) (deck name : Word) (result : Result AskedForm Fault)
     → asked.deck ≡ Some deck → asked.name ≡ Some name → asked.cut ≡ None → IsDeckAsked asked.deck asked.name
     → GivesFormOfFile input asked.kind deck name (word ∷ words) result calls
     → ComesOfAskedForm input asked (word ∷ words) result calls
@@ -82,3 +82,17 @@ asked_where calls input asked word words deck name (Err fault) a_deck a_name unc
     by : IsDeckFault fault ⊎ ((layout : List Placed) × AreWordsRefused layout (word ∷ words) fault) → IsAskedFormRefused asked (word ∷ words) fault
     by (inl is) = inl (form_of_deck asked fault both is)
     by (inr is) = refused_of asked (word ∷ words) both fault is.0 is.1
+
+-- so for words that are some
+pub asked_by_some : (calls : List Call) (input : Option (List ℕ)) (asked : FormText) (words : List Word) (deck name : Word) (result : Result AskedForm Fault)
+    → words ≢ [] → asked.deck ≡ Some deck → asked.name ≡ Some name → asked.cut ≡ None → GivesFormOfFile input asked.kind deck name words result calls
+    → ComesOfAskedForm input asked words result calls
+asked_by_some calls input asked [] deck name result some a_deck a_name uncut came = absurd (some refl)
+asked_by_some calls input asked (word ∷ words) deck name result some a_deck a_name uncut came =
+    let both : IsDeckAsked asked.deck asked.name = (subst (λ (o : Option Word). IsSome o) (sym a_deck) refl, subst (λ (o : Option Word). IsSome o) (sym a_name) refl) in
+    asked_where calls input asked word words deck name result a_deck a_name uncut both came
+
+-- words that are some have texts
+pub some_texts : (words : List (Bor (List ℕ))) → 0 < length words → texts_of words ≢ []
+some_texts [] some none = absurd (omega (arith, some))
+some_texts (word ∷ words) some none = absurd (cc)

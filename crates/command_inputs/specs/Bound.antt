@@ -1,8 +1,10 @@
 -- A bound of a list, as a list writes the bytes of a record. All of this is ours.
 use Rattle.std.specs.Prelude.{◌≡◌, ℕ, ◌+◌, ◌*◌, ◌-◌, ◌<◌, ◌==◌, nat_le, ◌&&◌, List, [], ◌∷◌, length}
 use Rattle.std.specs.Prelude.{Option, Some, None}
-use Rattle.std.specs.Prelude.{if◌then◌else◌}
+use Rattle.std.specs.Prelude.{if◌then◌else◌, Result, IfOk, IfErr}
 use Rattle.std.specs.Option.{option_map_or}
+use Rattle.command_outcomes.specs.declared.fault.Fault.{Fault}
+use Rattle.command_outcomes.specs.declared.fault.Fault.TheVariants.{LongValue}
 
 -- what a hexadecimal digit counts, if it is one; its letters are small
 abbrev pub digit_in : ℕ → Option ℕ

@@ -118,7 +118,7 @@ fn form_alone<S: System, I: Read>(
 /// The form of a list that words ask for, and its conditions, which are those of a file of a deck.
 /// `Form`: they ask for none. `Condition`: there is no deck, or a word is no condition on the record of
 /// the file. `Deck`, `NoSuchFile`: the deck is refused, or does not have the file.
-pub fn asked_form<S: System, I: Read>(
+pub fn form_and_conditions<S: System, I: Read>(
     system: &mut S,
     alloc: Global,
     asked: FormWords<'_>,

@@ -16,7 +16,7 @@ mod deck;
 mod file_bytes;
 mod forms;
 
-pub use asked_form::{AskedForm, asked_form};
+pub use asked_form::{AskedForm, form_and_conditions};
 pub use bound::{last_of, value_of};
 pub use deck::{deck_at, deck_of, file_in, file_named};
 pub use file_bytes::{fault_of, read_counted, read_deck_bytes, read_first_page, read_text};

@@ -7,7 +7,7 @@ ghost use Rattle.file_commands.specs.ByIndex.{TellsReason, ToldOfPages, ReadsSta
 
 use crate::listing::{Bounds, asked_by, is_other, with_conditions};
 use command_inputs::{
-    AskedForm, ListForm, asked_form, fault_of as not_read, read_counted, read_first_page,
+    AskedForm, ListForm, fault_of as not_read, form_and_conditions, read_counted, read_first_page,
 };
 use command_outcomes::{Fault, Outcome};
 use command_words::FormWords;
@@ -98,7 +98,7 @@ fn read_start<S: System, I: Read>(
         Ok(asked) => asked,
         Err(fault) => return Err(fault),
     };
-    let formed = match asked_form(system, alloc, form, bounds.conditions, input) {
+    let formed = match form_and_conditions(system, alloc, form, bounds.conditions, input) {
         Ok(formed) => formed,
         Err(fault) => return Err(fault),
     };

@@ -7,7 +7,7 @@ ghost use Rattle.file_commands.specs.Records.{IsAskedBy, ToldOfList, ListsFile, 
 
 use crate::first_page::fault_of;
 use command_inputs::{
-    AskedForm, asked_form, fault_of as not_read, last_of, read_counted, value_of,
+    AskedForm, fault_of as not_read, form_and_conditions, last_of, read_counted, value_of,
 };
 use command_outcomes::{Fault, Outcome};
 use command_words::FormWords;
@@ -112,7 +112,7 @@ pub fn list_checked<S: System, I: Read, P: Progress, W: Write>(
         Ok(asked) => asked,
         Err(fault) => return Err(fault),
     };
-    let formed = match asked_form(system, alloc, form, bounds.conditions, input) {
+    let formed = match form_and_conditions(system, alloc, form, bounds.conditions, input) {
         Ok(formed) => formed,
         Err(fault) => return Err(fault),
     };

@@ -1,4 +1,4 @@
-use Rattle.std.proofs.Common.{inl, inr, map, sym, subst}
+use Rattle.std.proofs.Common.{rules, inl, inr, map, sym, subst}
 use Rattle.record_layout.specs.Layout.{item_of}
 use Rattle.folder_shelf.proofs.ReadingLemmas.{by_same}
 use Rattle.command_inputs.specs.DeckFile.{IsDeckFault}
@@ -20,7 +20,7 @@ returns-in-Ok-form_by g c =
     by_same _ _ c.in-Ok.ensures (λ calls came. record {
       right = form_made calls (g.I.Read.remaining c.args.input.now) c.args.kind.now c.args.deck.now c.args.name.now _ c.in-Ok-form_by.form _ _ c.in-Ok-file_in.file.now
           (record { bytes = came.right.0; is_read = came.right.1; deck = c.in-Ok.deck; is_deck = came.right.2; named = c.in-Ok-file_in.ensures.file })
-          _ c.items.ensures c.in-Ok-form_by.ensures.column c.copy.ensures c.in-Ok-conditions_of.ensures.right;
+          c.items.result.now (search rules) (search rules) (search rules) c.in-Ok-conditions_of.ensures.right;
       fault = tt;
     })
 

@@ -1,7 +1,7 @@
-use Rattle.std.proofs.Common.{rules, ◌≡◌, ℕ, List, [], ◌∷◌, map, Bor, subst, sym}
+use Rattle.std.proofs.Common.{rules, ◌≡◌, ℕ, List, ◌∷◌, map, Bor, subst, sym}
 use Rattle.record_layout.specs.Layout.{item_of}
 use Rattle.command_inputs.specs.Conditions.{AddsConditions, AreWordsRefused, ComesOfWords, texts_of}
-use Rattle.command_inputs.proofs.ConditionLemmas.{no_words, none_added, one_added, refused_first, with_first}
+use Rattle.command_inputs.proofs.ConditionLemmas.{no_words, none_added, refused_first, with_first}
 use Rattle.command_inputs.proofs.conditions.+add_conditions.Goals as goal
 
 pub returns-in_default : goal.returns-in_default

@@ -1,4 +1,4 @@
-use Rattle.std.proofs.Common.{rules, arith, ◌<◌, length}
+use Rattle.std.proofs.Common.{rules, ◌<◌, length}
 use Rattle.command_inputs.proofs.ConditionLemmas.{digits_if_some}
 use Rattle.command_inputs.proofs.conditions.are_digits.Goals as goal
 
