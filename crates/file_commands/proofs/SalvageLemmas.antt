@@ -11,7 +11,7 @@ use Rattle.command_inputs.specs.Forms.{ComesOfForm, IsFormToldBy}
 use Rattle.command_inputs.specs.declared.forms.ListForm.{ListForm}
 use Rattle.folder_shelf.specs.Calls.{Call, taken_shared}
 use Rattle.command_inputs.specs.DeckFile.{IsDeckFault}
-use Rattle.command_inputs.specs.Front.{GivesSuch, word_in}
+use Rattle.command_inputs.specs.Front.{GivesSuch}
 use Rattle.file_commands.specs.Salvaged.{IsSchemaIn, IsSchemaAsked, GivesSchemaAsked, GivesSalvageForm, IsSalvageFormBy, IsSalvageRefused, SalvagesBytes, SalvagesFile}
 use Rattle.file_commands.specs.Schema.{IsSchemaFault}
 use Rattle.command_outcomes.specs.Status.{status_of}

@@ -31,8 +31,8 @@ returns-in-Ok-false g c =
     start calls came.start c.list_pages.result.1 later (subst (λ bytes. AgreesWith start.told.schema bytes) c.as_slice.ensures.value same.0)
     (subst (λ out. ListsPages g.D.Disk.unseen c.args.path.now start.told.form start.asked (g.W.Write.contents out) behind c.list_pages.result.1 later) same.1 lists))
 
-pub returns : goal.returns
-returns g c =
+pub returns-in-Err-is_other : goal.returns-in-Err-is_other
+returns-in-Err-is_other g c =
     none_aside _ _ c.args.aside.now.calls c.requires.none_aside c.in-Ok.ensures (λ calls came.
     broken_off g.D.Disk.unseen (g.I.Read.remaining c.args.input.now) c.args.path.now c.args.bounds c.args.form g.W.Write.contents c.args.out.now c.is_other.new.out calls
     c.in-Err-is_other.fault c.in-Err-is_other.ensures)
