@@ -25,7 +25,7 @@ use Rattle.record_loading.specs.declared.writing.PassedLine.TheVariants.{Written
 use Rattle.record_loading.specs.declared.writing.PassedLine.{PassedLine}
 use Rattle.record_loading.specs.Going.{LoadGoesOn, PassesLineOf, passing_in}
 use Rattle.record_loading.specs.declared.rejected.RejectReason.{RejectReason}
-use Rattle.record_loading.specs.Passing.{IsRecordReplaced, IsNotReplaced, IsRefusedLine, IsRejected, IsEnd, behind_line, is_refused_for_keys, replaces_nothing, ends_lines}
+use Rattle.record_loading.specs.Passing.{IsRecordReplaced, IsNotReplaced, IsRefusedLine, IsRejected, IsEnd, behind_line, is_refused_for_keys, ends_lines}
 use Rattle.record_loading.specs.Replacing.{IsPassedBy}
 use Rattle.record_loading.specs.LineForm.{LineForm, line_form, ReadsLineOf, BeginsWithNone, HasMistake}
 use Rattle.record_loading.proofs.HeaderLemmas.{shorter}

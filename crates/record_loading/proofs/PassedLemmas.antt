@@ -6,7 +6,7 @@ use Rattle.verbs.specs.Connector.{FileState}
 use Rattle.record_text.specs.Lines.{form_header}
 use Rattle.record_loading.specs.declared.rejected.RejectReason.{RejectReason}
 use Rattle.record_loading.specs.declared.rejected.RejectReason.TheVariants.{Refused, NoRecord}
-use Rattle.record_loading.specs.Passing.{LoadSource, Place, from_to, number_of_line, lines_form, rejected_line, IsRecordWritten, IsRecordReplaced, IsRejected, IsEnd, lines_end}
+use Rattle.record_loading.specs.Passing.{LoadSource, Place, from_to, number_of_line, lines_form, told_line, IsRecordWritten, IsRecordReplaced, IsRejected, IsEnd, lines_end}
 use Rattle.record_loading.specs.Loading.{Listing, place_at_first, IsPassedUpTo, LinesLeave}
 
 module _ (schema : Schema) (source : LoadSource) (start : FileState) where
@@ -31,13 +31,13 @@ module _ (schema : Schema) (source : LoadSource) (start : FileState) where
       passed = (place, so_far.passed, inr (inl (record { asked = asked; line = line; records = records; replaced = replaced; told = told })));
     }
 
-    pub one_rejected : (reason : RejectReason) → IsTrue source.options.keep_going → IsRejected schema (lines_form source) source.options.replace reason (from_to place after) → after.records ≡ place.records → after.replaced ≡ place.replaced
-        → after.told ≡ place.told ++ (rejected_line (number_of_line source place) reason ∷ []) → IsPassedUpTo schema source start after
-    one_rejected reason asked line records replaced told = record {
+    pub one_rejected : (reason : RejectReason) (bytes : List ℕ) → IsTrue source.options.keep_going → IsRejected schema (lines_form source) source.options.replace reason (from_to place after) → place.rest ≡ bytes ++ after.rest → after.records ≡ place.records → after.replaced ≡ place.replaced
+        → after.told ≡ place.told ++ (told_line (number_of_line source place) reason bytes ∷ []) → IsPassedUpTo schema source start after
+    one_rejected reason bytes asked line whole records replaced told = record {
       lines = so_far.lines;
       text_is = so_far.text_is;
       count = suc so_far.count;
-      passed = (place, so_far.passed, inr (inr (record { reason = reason; asked = asked; line = line; records = records; replaced = replaced; told = told })));
+      passed = (place, so_far.passed, inr (inr (record { reason = reason; bytes = bytes; whole = whole; asked = asked; line = line; records = records; replaced = replaced; told = told })));
     }
 
 -- the lines end at one that is neither written nor passed over

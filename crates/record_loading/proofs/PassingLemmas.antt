@@ -1,8 +1,15 @@
 -- Lines are passed over, and told.
-use Rattle.std.proofs.Common.{◌≡◌, ◌<◌, ◌≤◌, ℕ, zero, suc, ◌+◌, ◌-◌, ◌==◌, Bool, true, false, List, [], ◌∷◌, ◌++◌, length, cond, refl, ap, subst, arith}
+use Rattle.std.proofs.Common.{◌≡◌, ◌<◌, ◌≤◌, ℕ, zero, suc, ◌+◌, ◌-◌, ◌==◌, Bool, true, false, List, [], ◌∷◌, ◌++◌, length, cond, refl, sym, ap, ◌∙◌, subst, arith}
+use Rattle.io_state.specs.declared.status.Status.{Status}
+use Rattle.record_layout.specs.Schema.{Schema}
+use Rattle.record_text.specs.declared.form.Form.{Form}
+use Rattle.record_text.specs.Lines.{line_in}
 use Rattle.record_loading.specs.declared.rejected.RejectedLine.{RejectedLine}
-use Rattle.record_loading.specs.Passing.{behind_line, behind_lines}
-use Rattle.record_loading.specs.Told.{AreToldRejected}
+use Rattle.record_loading.specs.declared.rejected.RejectReason.{RejectReason}
+use Rattle.record_loading.specs.declared.rejected.RejectReason.TheVariants.{Refused, NoRecord}
+use Rattle.record_loading.specs.LineForm.{LineForm, BeginsWith}
+use Rattle.record_loading.specs.Passing.{Passing, IsRefusedLine, IsRejected, behind_line, behind_lines}
+use Rattle.record_loading.specs.Told.{ToldLine, AreToldRejected}
 
 -- ---- what is behind lines
 
@@ -51,9 +58,36 @@ pub empty_is : (text : List ℕ) → length text ≡ 0 → text ≡ []
 empty_is [] is = refl
 empty_is (byte ∷ text) is = absurd (omega (arith, is))
 
+-- ---- the bytes of a line
+
+first_front : (byte : ℕ) (text : List ℕ) → ((front : List ℕ) × (text ≡ front ++ behind_line text)) → (test : Bool) → (front : List ℕ) × (byte ∷ text ≡ front ++ cond test text (behind_line text))
+first_front byte text later true = (byte ∷ [], refl)
+first_front byte text later false = (byte ∷ later.0, ap (λ (l : List ℕ). byte ∷ l) later.1)
+
+-- what is behind a line is behind some bytes
+pub line_front : (text : List ℕ) → (front : List ℕ) × (text ≡ front ++ behind_line text)
+line_front [] = ([], refl)
+line_front (byte ∷ text) = first_front byte text (line_front text) (byte == 10)
+
+-- so is what is behind the line of a record
+begins_front : (pad : Bool) (form : Form) (greatest : ℕ) (text bytes behind : List ℕ) → BeginsWith pad form greatest text bytes behind → (front : List ℕ) × (text ≡ front ++ behind)
+begins_front false form greatest text bytes behind is = (line_in form bytes, is)
+begins_front true form greatest text bytes behind is = (is.0, is.1)
+
+refused_front : (replace : Bool) (schema : Schema) (form : LineForm) (status : Status) (line : Passing) → IsRefusedLine replace schema form status line → (front : List ℕ) × (line.text ≡ front ++ line.behind)
+refused_front false schema form status line is = begins_front form.pad form.form schema.greatest line.text is.bytes line.behind is.begins
+refused_front true schema form status line is = begins_front form.pad form.form schema.greatest line.text is.bytes line.behind is.begins
+
+-- and what is behind a line that was rejected
+pub rejected_front : (schema : Schema) (form : LineForm) (replace : Bool) (reason : RejectReason) (line : Passing) → IsRejected schema form replace reason line → (front : List ℕ) × (line.text ≡ front ++ line.behind)
+rejected_front schema form replace (Refused status) line is = refused_front replace schema form status line is
+rejected_front schema form replace (NoRecord mistake) line is =
+    let front = line_front line.text in
+    (front.0, front.1 ∙ ap (λ (l : List ℕ). front.0 ++ l) (sym is.behind))
+
 -- ---- what is told
 
-pub told_one_more : {R : Type 0} (Tells : R → R → RejectedLine → Type 0) (lines : List RejectedLine) (line : RejectedLine) (old now new : R)
-    → AreToldRejected Tells lines old now → Tells now new line → AreToldRejected Tells (lines ++ (line ∷ [])) old new
-told_one_more {R} Tells [] line old now new told tells = (new, subst (λ (log : R). Tells log new line) told tells, refl)
+pub told_one_more : {R : Type 0} (Tells : R → R → RejectedLine → List ℕ → Type 0) (lines : List ToldLine) (line : ToldLine) (old now new : R)
+    → AreToldRejected Tells lines old now → Tells now new line.rejected line.bytes → AreToldRejected Tells (lines ++ (line ∷ [])) old new
+told_one_more {R} Tells [] line old now new told tells = (new, subst (λ (log : R). Tells log new line.rejected line.bytes) told tells, refl)
 told_one_more Tells (first ∷ lines) line old now new told tells = (told.0, told.1, told_one_more Tells lines line told.0 now new told.2 tells)

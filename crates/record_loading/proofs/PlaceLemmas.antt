@@ -13,22 +13,22 @@ use Rattle.record_loading.specs.declared.end.LinesEnd.TheVariants.{Loaded}
 use Rattle.record_loading.specs.declared.rejected.RejectReason.{RejectReason}
 use Rattle.record_loading.specs.declared.rejected.RejectedLine.{RejectedLine}
 use Rattle.record_loading.specs.declared.writing.PassedLine.TheVariants.{Written, Replaced, Rejected, Stopped}
-use Rattle.record_loading.specs.Told.{AreToldRejected, TellsRejected}
-use Rattle.record_loading.specs.Passing.{LoadSource, Place, IsRecordWritten, IsRecordReplaced, IsRejected, IsEnd, behind_lines, number_of_line, lines_form, rejected_line, lines_end}
+use Rattle.record_loading.specs.Told.{ToldLine, AreToldRejected, TellsRejected}
+use Rattle.record_loading.specs.Passing.{LoadSource, Place, IsRecordWritten, IsRecordReplaced, IsRejected, IsEnd, behind_lines, number_of_line, lines_form, told_line, lines_end}
 use Rattle.record_loading.specs.Loading.{IsPassedUpTo, LinesLeave}
 use Rattle.record_loading.specs.Going.{TakesLines, LoadGoesOn, PassesLineOf, WritesListing}
 use Rattle.record_loading.proofs.GoingLemmas.{goes_self, goes_both, trusted}
 use Rattle.record_loading.proofs.HeaderLemmas.{lines_before}
-use Rattle.record_loading.proofs.PassingLemmas.{told_one_more, lines_skipped, nothing_left}
+use Rattle.record_loading.proofs.PassingLemmas.{told_one_more, rejected_front, lines_skipped, nothing_left}
 use Rattle.record_loading.proofs.PassedLemmas.{none_passed, one_written, one_replaced, one_rejected, ended_at}
 
 -- a place between two lines, of a file in memory
-abbrev pub place_in : {S : Type 0} → Shown S → (rest : List ℕ) → (records replaced : ℕ) → List RejectedLine → FileInMemory S → Place
+abbrev pub place_in : {S : Type 0} → Shown S → (rest : List ℕ) → (records replaced : ℕ) → List ToldLine → FileInMemory S → Place
 place_in shown rest records replaced told file = record { rest = rest; records = records; replaced = replaced; told = told; file = state_in shown 0 file }
 
 -- the first lines were passed
-pub record ArePassedSoFar {S R : Type 0} (shown : Shown S) (Tells : R → R → RejectedLine → Type 0) (source : LoadSource) (begun now : FileInMemory S) (log log_now : R) (records replaced rejected : ℕ) (rest : List ℕ) : Type 0 where
-  pub told : List RejectedLine
+pub record ArePassedSoFar {S R : Type 0} (shown : Shown S) (Tells : R → R → RejectedLine → List ℕ → Type 0) (source : LoadSource) (begun now : FileInMemory S) (log log_now : R) (records replaced rejected : ℕ) (rest : List ℕ) : Type 0 where
+  pub told : List ToldLine
   pub tells : AreToldRejected Tells told log log_now
   pub many : rejected ≡ length told
   pub few : 0 < length rest → header_lines source.form + source.options.skip + records + replaced + rejected + length rest ≤ length source.text
@@ -36,7 +36,7 @@ pub record ArePassedSoFar {S R : Type 0} (shown : Shown S) (Tells : R → R → 
   pub so_far : Trusted shown 0 (in_memory begun.held begun.library []) (in_memory now.held now.library [])
       (IsPassedUpTo begun.held.connector.schema source (state_in shown 0 begun) (place_in shown rest records replaced told now))
 
-module _ {S R : Type 0} (shown : Shown S) (Tells : R → R → RejectedLine → Type 0) (source : LoadSource) (begun : FileInMemory S) (log : R) where
+module _ {S R : Type 0} (shown : Shown S) (Tells : R → R → RejectedLine → List ℕ → Type 0) (source : LoadSource) (begun : FileInMemory S) (log : R) where
   -- none was passed but those that are skipped
   pub begins : (lines rest : List ℕ) → source.text ≡ form_header source.form ++ lines → rest ≡ behind_lines source.options.skip lines → Fits begun.held (shown.world begun.library) 0
       → ArePassedSoFar shown Tells source begun begun log log 0 0 0 rest
@@ -122,23 +122,25 @@ module _ {S R : Type 0} (shown : Shown S) (Tells : R → R → RejectedLine → 
       }
 
       -- one line more was rejected, and told
-      pub more_rejected : (reason : RejectReason) (behind : Bor (List ℕ)) (log_after : R) (number : ℕ) → number ≡ header_lines source.form + source.options.skip + records + replaced + rejected + 1
-          → Tells log_now log_after (rejected_line number reason) → 0 < length rest → PassesLineOf shown source.options source.form rest now after (Rejected reason behind)
+      pub more_rejected : (reason : RejectReason) (behind : Bor (List ℕ)) (bytes : List ℕ) (log_after : R) (number : ℕ) → number ≡ header_lines source.form + source.options.skip + records + replaced + rejected + 1
+          → Tells log_now log_after (record { line = number; reason = reason }) bytes → ((front : List ℕ) → rest ≡ front ++ behind.now → bytes ≡ front) → 0 < length rest → PassesLineOf shown source.options source.form rest now after (Rejected reason behind)
           → ArePassedSoFar shown Tells source begun after log log_after records replaced (rejected + 1) behind.now
-      more_rejected reason behind log_after number number_is tells some line =
+      more_rejected reason behind bytes log_after number number_is tells cut some line =
           let at : number ≡ number_of_line source (place_in shown rest records replaced is.told now) = number_is ∙ ap (λ (n : ℕ). header_lines source.form + source.options.skip + records + replaced + n + 1) is.many in
           record {
-            told = is.told ++ (rejected_line number reason ∷ []);
-            tells = told_one_more Tells is.told (rejected_line number reason) log log_now log_after is.tells tells;
-            many = (let many = is.many in let one = length-append is.told (rejected_line number reason ∷ []) in omega (arith, many, one));
+            told = is.told ++ (told_line number reason bytes ∷ []);
+            tells = told_one_more Tells is.told (told_line number reason bytes) log log_now log_after is.tells tells;
+            many = (let many = is.many in let one = length-append is.told (told_line number reason bytes ∷ []) in omega (arith, many, one));
             few = λ left. (let few = is.few some in let fewer = line.shorter in omega (arith, few, fewer));
             goes = goes_on line.goes;
             so_far = λ honest truly standing.
                 let known = later _ line.goes line.line honest truly standing in
-                one_rejected begun.held.connector.schema source (state_in shown 0 begun) (place_in shown rest records replaced is.told now) (place_in shown behind.now records replaced (is.told ++ (rejected_line number reason ∷ [])) after)
-                (is.so_far (line.goes.keeps.honest honest) truly standing) reason known.0
-                (subst (λ (schema : Schema). IsRejected schema (lines_form source) source.options.replace reason (record { text = rest; behind = behind.now; before = state_in shown 0 now; after = state_in shown 0 after })) is.goes.schema known.1)
-                refl refl (ap (λ (n : ℕ). is.told ++ (rejected_line n reason ∷ [])) at);
+                let passed : IsRejected now.held.connector.schema (lines_form source) source.options.replace reason (record { text = rest; behind = behind.now; before = state_in shown 0 now; after = state_in shown 0 after }) = known.1 in
+                let front = rejected_front now.held.connector.schema (lines_form source) source.options.replace reason _ passed in
+                one_rejected begun.held.connector.schema source (state_in shown 0 begun) (place_in shown rest records replaced is.told now) (place_in shown behind.now records replaced (is.told ++ (told_line number reason bytes ∷ [])) after)
+                (is.so_far (line.goes.keeps.honest honest) truly standing) reason bytes known.0
+                (subst (λ (schema : Schema). IsRejected schema (lines_form source) source.options.replace reason (record { text = rest; behind = behind.now; before = state_in shown 0 now; after = state_in shown 0 after })) is.goes.schema passed)
+                (front.1 ∙ ap (λ (l : List ℕ). l ++ behind.now) (sym (cut front.0 front.1))) refl refl (ap (λ (n : ℕ). is.told ++ (told_line n reason bytes ∷ [])) at);
           }
 
       -- the next line ends the lines

@@ -12,10 +12,10 @@ use Rattle.record_loading.specs.declared.end.LinesEnd.{LinesEnd}
 use Rattle.record_loading.specs.declared.end.LinesEnd.TheVariants.{Loaded, Refused, NoRecord}
 use Rattle.record_loading.specs.declared.end.LoadEnd.{LoadEnd}
 use Rattle.record_loading.specs.declared.end.LoadEnd.TheVariants.{NotOpened, Opened}
-use Rattle.record_loading.specs.declared.rejected.RejectedLine.{RejectedLine}
 use Rattle.record_loading.specs.declared.shelf_end.ShelfEnd.{ShelfEnd}
 use Rattle.record_loading.specs.declared.shelf_end.ShelfEnd.TheVariants.{IsThere, Loaded as LoadedSo}
 use Rattle.record_loading.specs.Passing.{LoadSource, Place, PassesLines}
+use Rattle.record_loading.specs.Told.{ToldLine}
 use Rattle.record_loading.specs.Loading.{Listing, Loads, LinesLeave, listing, listing_by, usual_options, mode_of}
 use Rattle.record_loading.specs.Loaded.{EndsAnyhow, EndsLoad, LeavesFile, file_at_first}
 
@@ -25,7 +25,7 @@ none_told schema source stops (suc count) before after (between, first, inl line
 none_told schema source stops (suc count) before after (between, first, inr (inl line)) = line.told ∙ none_told schema source stops count before between first
 none_told schema source stops (suc count) before after (between, first, inr (inr line)) = absurd (true≢false (sym line.asked ∙ stops))
 
-module _ (schema : Schema) (mode : OpenMode) (form : Form) (text : List ℕ) (told : List RejectedLine) where
+module _ (schema : Schema) (mode : OpenMode) (form : Form) (text : List ℕ) (told : List ToldLine) where
   abbrev list : Listing
   list = listing_by form text usual_options told
 
@@ -39,11 +39,11 @@ module _ (schema : Schema) (mode : OpenMode) (form : Form) (text : List ℕ) (to
   untold before (NotOpened status) after is = is.1
   untold before (Opened lines closed) after is = lines_untold _ lines is.written is.lines_are
 
-module _ (name : List ℕ) (schema : Schema) (form : Form) (text : List ℕ) (told : List RejectedLine) (old new : ShelfState) where
+module _ (name : List ℕ) (schema : Schema) (form : Form) (text : List ℕ) (told : List ToldLine) (old new : ShelfState) where
   leaves : (load : Load) (named : Named) (end : LoadEnd) (seen : Option (List ℕ)) → LeavesFile schema load (listing_by form text usual_options told) named end seen → LeavesFile schema load (listing form text) named end seen
   leaves load named end seen is = record {
     after = is.after;
-    loads = subst (λ (lines : List RejectedLine). Loads schema (mode_of load) (listing_by form text usual_options lines) (file_at_first named schema) end is.after)
+    loads = subst (λ (lines : List ToldLine). Loads schema (mode_of load) (listing_by form text usual_options lines) (file_at_first named schema) end is.after)
         (untold schema (mode_of load) form text told (file_at_first named schema) end is.after is.loads) is.loads;
     of_schema = is.of_schema;
     represents = is.represents;

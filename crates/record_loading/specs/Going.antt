@@ -16,12 +16,14 @@ use Rattle.record_text.specs.Whole.{IsWholeForm}
 use Rattle.record_loading.specs.declared.end.LinesEnd.{LinesEnd}
 use Rattle.record_loading.specs.declared.end.LoadEnd.{LoadEnd}
 use Rattle.record_loading.specs.declared.options.LoadOptions.{LoadOptions}
+use Rattle.record_loading.specs.declared.rejected.RejectedLine.{RejectedLine}
 use Rattle.record_loading.specs.declared.writing.PassedLine.{PassedLine}
 use Rattle.record_loading.specs.declared.writing.PassedLine.TheVariants.{Written, Replaced, Rejected, Stopped}
-use Rattle.record_loading.specs.Passing.{Passing, IsRecordWritten, IsRecordReplaced, IsRejected, IsEnd}
+use Rattle.record_loading.specs.Passing.{LoadSource, Passing, IsRecordWritten, IsRecordReplaced, IsRejected, IsEnd}
 use Rattle.record_loading.specs.Loading.{Listing, LinesLeave, Loads}
 use Rattle.record_loading.specs.Real.{AllStayReal}
 use Rattle.record_loading.specs.LineForm.{line_form}
+use Rattle.record_loading.specs.Told.{TellsRejected}
 
 -- the area is as long as the greatest record, of which the columns of the form are the whole
 pub record HasAreaFor (form : Form) (schema : Schema) (area : List ℕ) : Type 0 where
@@ -112,6 +114,14 @@ abbrev pub WritesLinesOf : {S : Type 0} → Shown S → Listing → (held : Held
 WritesLinesOf shown list held old area held_after new end =
     WritesListing shown list (in_memory held old area) (in_memory held_after new []) end
 
+-- and a log was told of the lines that were rejected
+abbrev pub WritesLinesTold : {S R : Type 0} → (Tells : R → R → RejectedLine → List ℕ → Type 0)
+    → (log log_after : R) → Shown S → LoadSource → (held : Held) → (old : S) → (area : List ℕ)
+    → (held_after : Held) → (new : S) → LinesEnd → Type 0
+WritesLinesTold Tells log log_after shown source held old area held_after new end =
+    TellsRejected Tells log log_after
+    (λ told. WritesLinesOf shown (record { source = source; told = told }) held old area held_after new end)
+
 -- a load leaves the file of unit 0 so, which was closed, and no image becomes a false one
 pub record LoadsUnit {S : Type 0} (shown : Shown S) (schema : Schema) (mode : OpenMode) (list : Listing)
     (area : List ℕ) (old : S) (end : LoadEnd) (new : S) : Type 0 where
@@ -126,3 +136,10 @@ abbrev pub LoadsUnitTruly : {S : Type 0} → Shown S → (old new : S) → Schem
     → (area : List ℕ) → LoadEnd → Type 0
 LoadsUnitTruly shown old new schema mode list area end =
     Believed shown 0 old new (LoadsUnit shown schema mode list area old end new)
+
+-- and a log was told of the lines that were rejected
+abbrev pub LoadsUnitTold : {S R : Type 0} → (Tells : R → R → RejectedLine → List ℕ → Type 0)
+    → (log log_after : R) → Shown S → (old new : S) → Schema → OpenMode → LoadSource → (area : List ℕ) → LoadEnd
+    → Type 0
+LoadsUnitTold Tells log log_after shown old new schema mode source area end = TellsRejected Tells log log_after
+    (λ told. LoadsUnitTruly shown old new schema mode (record { source = source; told = told }) area end)

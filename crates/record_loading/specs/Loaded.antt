@@ -15,7 +15,8 @@ use Rattle.shelf_run.specs.Files.{reads_of, Represents}
 use Rattle.shelf_run.specs.ShelfRun.{LeavesFiles, StaysSound}
 use Rattle.record_loading.specs.Loading.{Listing, Loads, mode_of}
 use Rattle.record_loading.specs.declared.rejected.RejectedLine.{RejectedLine}
-use Rattle.record_loading.specs.Told.{TellsRejected}
+use Rattle.record_loading.specs.Passing.{LoadSource}
+use Rattle.record_loading.specs.Told.{ToldLine, TellsRejected}
 use Rattle.record_loading.specs.declared.end.Load.{Load}
 use Rattle.record_loading.specs.declared.end.Load.TheVariants.{New, Into}
 use Rattle.record_loading.specs.declared.end.LoadEnd.{LoadEnd}
@@ -103,9 +104,9 @@ EndsLoad name schema New list old (Loaded end) new = IsTrue new.is_honest
     → LoadsAnew name schema list old end new
 EndsLoad name schema Into list old end new = EndsAnyhow name schema Into list old end new
 
--- a load ended so, of the lines that were told of as it went on
-abbrev pub TellsLoadEnd : {R : Type 0} → (Tells : R → R → RejectedLine → Type 0) → (log log_after : R)
-    → (List RejectedLine → ShelfState → ShelfEnd → ShelfState → Type 0) → ShelfState → ShelfEnd → ShelfState
+-- a load ended so, of the lines that were told as it went on
+abbrev pub TellsLoadEnd : {R : Type 0} → (Tells : R → R → RejectedLine → List ℕ → Type 0) → (log log_after : R)
+    → (List ToldLine → ShelfState → ShelfEnd → ShelfState → Type 0) → ShelfState → ShelfEnd → ShelfState
     → Type 0
 TellsLoadEnd Tells log log_after EndsSo old end new =
     TellsRejected Tells log log_after (λ told. EndsSo told old end new)
@@ -129,6 +130,21 @@ pub record LoadsInto (name : List ℕ) (EndsSo : ShelfState → ShelfEnd → She
   pub nothing : OnErr result (LeavesFiles old new)
   pub others : KeepsOtherNames name old new
   pub safe : IsSafeLoad name old new
+
+-- a load of a text into the file of a name: it ended as a load does, and a log was told of the lines that were
+-- rejected
+abbrev pub LoadsTold : {R : Type 0} → (Tells : R → R → RejectedLine → List ℕ → Type 0) → (log log_after : R)
+    → (name : List ℕ) → Schema → Load → LoadSource → (old new : ShelfState) → Result ShelfEnd ShelfFault → Type 0
+LoadsTold Tells log log_after name schema load source old new result = LoadsInto name
+    (TellsLoadEnd Tells log log_after (λ told. EndsLoad name schema load (record { source = source; told = told })))
+    old new result
+
+-- so of one that looked for no file before
+abbrev pub LoadsAnyhow : {R : Type 0} → (Tells : R → R → RejectedLine → List ℕ → Type 0) → (log log_after : R)
+    → (name : List ℕ) → Schema → Load → LoadSource → (old new : ShelfState) → Result ShelfEnd ShelfFault → Type 0
+LoadsAnyhow Tells log log_after name schema load source old new result = LoadsInto name
+    (TellsLoadEnd Tells log log_after (λ told. EndsAnyhow name schema load (record { source = source; told = told })))
+    old new result
 
 -- 39
 abbrev pub is_conflict : Status → Bool

@@ -26,21 +26,25 @@ use Rattle.record_loading.specs.declared.end.LinesEnd.TheVariants.{Loaded, Refus
 use Rattle.record_loading.specs.declared.end.LoadEnd.{LoadEnd}
 use Rattle.record_loading.specs.declared.end.LoadEnd.TheVariants.{NotOpened, Opened}
 use Rattle.record_loading.specs.declared.options.LoadOptions.{LoadOptions}
-use Rattle.record_loading.specs.declared.rejected.RejectedLine.{RejectedLine}
 use Rattle.record_loading.specs.declared.rejected.RejectReason.{RejectReason}
+use Rattle.record_loading.specs.declared.rejected.RejectedLine.{RejectedLine}
 use Rattle.record_loading.specs.declared.rejected.RejectReason.TheVariants.{Refused as Refuses, NoRecord as IsNoRecord}
 use Rattle.record_loading.specs.Passing.{LoadSource, Place, PassesLines, IsEnd, behind_lines, lines_form}
 use Rattle.record_loading.specs.Passing.{number_of_line}
+use Rattle.record_loading.specs.Told.{ToldLine, TellsRejected}
 
 -- what is loaded, and the lines that were told as rejected
 pub record Listing : Type 0 where
   pub source : LoadSource
-  pub told : List RejectedLine
+  pub told : List ToldLine
 
--- the same, by its parts
-abbrev pub listing_by : Form → List ℕ → LoadOptions → (told : List RejectedLine) → Listing
-listing_by form text options told =
-    record { source = record { form = form; text = text; options = options }; told = told }
+-- a text in a form, of which these lines are to be loaded
+abbrev pub text_source : Form → List ℕ → LoadOptions → LoadSource
+text_source form text options = record { form = form; text = text; options = options }
+
+-- so of such a text
+abbrev pub listing_by : Form → List ℕ → LoadOptions → (told : List ToldLine) → Listing
+listing_by form text options told = record { source = text_source form text options; told = told }
 
 -- no line is skipped, the first that is rejected ends a load, no record is replaced, and no value filled up
 abbrev pub usual_options : LoadOptions
@@ -148,6 +152,12 @@ abbrev pub LoadsText : {S : Type 0} → Shown S → (name : List ℕ) → Schema
     → (old new : S) → LoadEnd → Type 0
 LoadsText shown name schema load list old new end =
     LoadsTruly shown name schema (mode_of load) list old new end
+
+-- and a log was told of the lines that were rejected
+abbrev pub LoadsTextTold : {S R : Type 0} → (Tells : R → R → RejectedLine → List ℕ → Type 0) → (log log_after : R)
+    → Shown S → (name : List ℕ) → Schema → Load → LoadSource → (old new : S) → LoadEnd → Type 0
+LoadsTextTold Tells log log_after shown name schema load source old new end = TellsRejected Tells log log_after
+    (λ told. LoadsText shown name schema load (record { source = source; told = told }) old new end)
 
 -- every other name stands for what it stood for
 abbrev pub OthersStay : (name : List ℕ) → (old new : World) → Type 0

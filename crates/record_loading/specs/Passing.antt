@@ -20,8 +20,8 @@ use Rattle.record_loading.specs.declared.end.LinesEnd.TheVariants as ends
 use Rattle.record_loading.specs.declared.options.LoadOptions.{LoadOptions}
 use Rattle.record_loading.specs.declared.rejected.RejectReason.{RejectReason}
 use Rattle.record_loading.specs.declared.rejected.RejectReason.TheVariants.{Refused, NoRecord}
-use Rattle.record_loading.specs.declared.rejected.RejectedLine.{RejectedLine}
 use Rattle.record_loading.specs.LineForm.{LineForm, line_form, BeginsWith, BeginsWithNone, HasMistake}
+use Rattle.record_loading.specs.Told.{ToldLine}
 
 -- ---- lines that are passed over
 
@@ -214,7 +214,7 @@ pub record Place : Type 0 where
   pub rest : List ℕ
   pub records : ℕ
   pub replaced : ℕ
-  pub told : List RejectedLine
+  pub told : List ToldLine
   pub file : FileState
 
 -- from one place to another one
@@ -227,9 +227,9 @@ abbrev pub number_of_line : LoadSource → Place → ℕ
 number_of_line source place =
     header_lines source.form + source.options.skip + place.records + place.replaced + length place.told + 1
 
--- a line of this number, rejected for this reason
-abbrev pub rejected_line : ℕ → RejectReason → RejectedLine
-rejected_line line reason = record { line = line; reason = reason }
+-- a line of this number, rejected for this reason, that stands so in the text
+abbrev pub told_line : ℕ → RejectReason → (bytes : List ℕ) → ToldLine
+told_line line reason bytes = record { rejected = record { line = line; reason = reason }; bytes = bytes }
 
 -- the record of the next line was written, and nothing was told
 pub record WritesRecordOfLine (schema : Schema) (source : LoadSource) (before after : Place) : Type 0 where
@@ -246,14 +246,17 @@ pub record ReplacesRecordOfLine (schema : Schema) (source : LoadSource) (before 
   pub replaced : after.replaced ≡ before.replaced + 1
   pub told : after.told ≡ before.told
 
--- the next line was rejected and passed over, as is asked for, which was told with its number, once
+-- the next line was rejected and passed over, as is asked for, which was told with its number and with all its
+-- bytes, as they stand in the text, once
 pub record RejectsLine (schema : Schema) (source : LoadSource) (before after : Place) : Type 0 where
   pub reason : RejectReason
+  pub bytes : List ℕ
+  pub whole : before.rest ≡ bytes ++ after.rest
   pub asked : IsTrue source.options.keep_going
   pub line : IsRejected schema (lines_form source) source.options.replace reason (from_to before after)
   pub records : after.records ≡ before.records
   pub replaced : after.replaced ≡ before.replaced
-  pub told : after.told ≡ before.told ++ (rejected_line (number_of_line source before) reason ∷ [])
+  pub told : after.told ≡ before.told ++ (told_line (number_of_line source before) reason bytes ∷ [])
 
 -- the next line was passed
 abbrev pub PassesLine : Schema → LoadSource → (before after : Place) → Type 0

@@ -4,8 +4,8 @@ use Rattle.io_state.specs.Status.{is_successful}
 use Rattle.io_state.specs.declared.status.Status.{Status}
 use Rattle.io_state.specs.declared.statement.FileStatement.TheVariants.{Rewrite}
 use Rattle.indexed_file.specs.Shown.{Shown}
-use Rattle.verbs.specs.Held.{silent}
-use Rattle.verbs.specs.Performed.{FileInMemory, IsPerformed}
+use Rattle.verbs.specs.Held.{Held, silent}
+use Rattle.verbs.specs.Performed.{FileInMemory, IsPerformed, in_memory}
 use Rattle.record_loading.specs.declared.options.LoadOptions.{LoadOptions}
 use Rattle.record_loading.specs.declared.rejected.RejectReason.TheVariants.{Refused}
 use Rattle.record_loading.specs.declared.writing.PassedLine.{PassedLine}
@@ -33,3 +33,11 @@ pub record RewritesRecord {S : Type 0} (shown : Shown S) (options : LoadOptions)
   pub status : Status
   pub performed : IsPerformed shown 0 Rewrite length before (silent status) after
   pub passed_by : IsPassedBy options refused behind status passed
+
+-- so, from one state of the connector and the library to another
+abbrev pub RewritesRecordIn : {S : Type 0} → Shown S → LoadOptions → (refused : Status) → (length : ℕ)
+    → (behind : List ℕ) → (held : Held) → (old : S) → (area : List ℕ) → (held_after : Held) → (new : S)
+    → PassedLine → Type 0
+RewritesRecordIn shown options refused length behind held old area held_after new passed =
+    RewritesRecord shown options refused length behind (in_memory held old area) (in_memory held_after new area)
+    passed

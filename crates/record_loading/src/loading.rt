@@ -6,10 +6,9 @@ ghost use Rattle.deck_runner.specs.Beginning.{IsUntouched};
 ghost use Rattle.record_text.specs.Lines.{form_header};
 ghost use Rattle.record_text.specs.Whole.{IsWholeForm};
 ghost use Rattle.record_listing.specs.Listing.{HasShutUnit, TrueFor};
-ghost use Rattle.record_loading.specs.Loading.{listing_by, LoadsText, OthersStay};
-ghost use Rattle.record_loading.specs.Going.{HasAreaFor, LoadsUnitTruly};
+ghost use Rattle.record_loading.specs.Loading.{text_source, LoadsTextTold, OthersStay};
+ghost use Rattle.record_loading.specs.Going.{HasAreaFor, LoadsUnitTold};
 ghost use Rattle.record_loading.specs.Real.{AllStayReal};
-ghost use Rattle.record_loading.specs.Told.{TellsRejected};
 
 use crate::end::{Load, LoadEnd, LoadFault, mode_of};
 use crate::options::LoadOptions;
@@ -57,8 +56,8 @@ fn load_attached<L: Library, P: Progress, R: RejectLog>(
     requires unit { HasShutUnit L.shown lib.old }
     requires area { HasAreaFor form.now schema.now area.old }
     requires header { header.now ≡ form_header form.now }
-    ensures loads { TellsRejected R.tells rejects.old rejects.new (λ told. LoadsUnitTruly L.shown lib.old lib.new
-        schema.now mode (listing_by form.now text.now options told) area.old result) }
+    ensures loads { LoadsUnitTold R.tells rejects.old rejects.new L.shown lib.old lib.new schema.now mode
+        (text_source form.now text.now options) area.old result }
     ensures only { OnlyAt 0 (L.shown.world lib.old) (L.shown.world lib.new) }
     ensures keeps { Keeps L.shown lib.old lib.new }
 {
@@ -109,9 +108,8 @@ pub fn load_records<L: Library, P: Progress, R: RejectLog>(
     progress: &mut P,
 ) -> Result<LoadEnd, LoadFault>
     requires whole { IsWholeForm form.now schema.now.greatest }
-    ensures loads { IfOk result (λ end. TellsRejected R.tells rejects.old rejects.new (λ told.
-        LoadsText L.shown name.bytes schema.now load (listing_by form.now text.now options told)
-        lib.old lib.new end)) }
+    ensures loads { IfOk result (LoadsTextTold R.tells rejects.old rejects.new L.shown name.bytes schema.now
+        load (text_source form.now text.now options) lib.old lib.new) }
     ensures real { TrueFor L.shown name.bytes lib.old lib.new (AllStayReal L.shown lib.old lib.new) }
     ensures others { OthersStay name.bytes (L.shown.world lib.old) (L.shown.world lib.new) }
     ensures memory { OnErr result (IsUntouched L.shown lib.old lib.new) }

@@ -1,5 +1,5 @@
 //! Lines of a text are passed over.
-ghost use Rattle.std.specs.Prelude.{◌≡◌};
+ghost use Rattle.std.specs.Prelude.{◌≡◌, ◌≤◌, ◌++◌, ℕ, List, length};
 ghost use Rattle.record_loading.specs.Passing.{behind_line, behind_lines};
 
 /// The text behind its first line, which ends with LF or with the text.
@@ -27,4 +27,12 @@ pub fn behind_lines(text: &[u8], count: u64) -> &[u8]
         left -= 1;
     }
     rest
+}
+
+/// The first bytes of a text, up to what is behind them.
+pub fn front_of<'a>(text: &'a [u8], behind: &[u8]) -> &'a [u8]
+    requires { length behind.now ≤ length text.now }
+    ensures { (front : List ℕ) → text.now ≡ front ++ behind.now → result.now ≡ front }
+{
+    &text[..text.len() - behind.len()]
 }

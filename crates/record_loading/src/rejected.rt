@@ -23,14 +23,15 @@ pub struct RejectedLine {
 
 /// What is told of the lines that a load rejects and passes over.
 pub trait RejectLog {
+    ghost use Rattle.std.specs.Prelude.{ℕ, List};
     ghost use Rattle.record_loading.specs.declared.rejected.RejectedLine.{RejectedLine};
 
-    /// How one follows another once it is told of a line.
-    ghost tells: { Self → Self → RejectedLine → Type 0 };
+    /// How one follows another once it is told of a line and of its bytes.
+    ghost tells: { Self → Self → RejectedLine → List ℕ → Type 0 };
 
-    /// Tells of a line.
-    fn tell(&mut self, rejected: RejectedLine)
-        ensures { tells self.old self.new rejected };
+    /// Tells of a line, which stands so in the text, with its line end.
+    fn tell(&mut self, rejected: RejectedLine, line: &[u8])
+        ensures { tells self.old self.new rejected line.now };
 }
 
 /// Whether a WRITE was refused for the keys of its record, so that the file can take other records.

@@ -1,9 +1,8 @@
 //! The loading.
 ghost use Rattle.std.specs.Prelude.{◌≡◌, ◌≤◌, [], IsTrue, IfOk, OnOk, OnErr, ⊤};
 ghost use Rattle.record_text.specs.Whole.{IsWholeForm};
-ghost use Rattle.record_loading.specs.Loading.{listing, listing_by};
-ghost use Rattle.record_loading.specs.Loaded.{TellsLoadEnd};
-ghost use Rattle.record_loading.specs.Loaded.{EndsLoad, EndsAnyhow, LoadsInto, TellsIfThere};
+ghost use Rattle.record_loading.specs.Loading.{listing, text_source};
+ghost use Rattle.record_loading.specs.Loaded.{EndsLoad, LoadsInto, LoadsTold, LoadsAnyhow, TellsIfThere};
 
 use crate::end::Load;
 use crate::loading::load_records;
@@ -51,9 +50,8 @@ fn load_over<S: Shelf, P: Progress, R: RejectLog>(
     requires limit { 16 ≤ limit }
     requires whole { IsWholeForm form.now schema.now.greatest }
     ensures untold { OnErr result.1 (rejects.new ≡ rejects.old) }
-    ensures loads { LoadsInto name.bytes (TellsLoadEnd R.tells rejects.old rejects.new (λ told.
-        EndsAnyhow name.bytes schema.now load (listing_by form.now text.now options told)))
-        (S.state shelf) (S.state result.0) result.1 }
+    ensures loads { LoadsAnyhow R.tells rejects.old rejects.new name.bytes schema.now load
+        (text_source form.now text.now options) (S.state shelf) (S.state result.0) result.1 }
 {
     let mut library = ShelfLibrary::new(alloc, shelf, limit, frames);
     let end = load_records(
@@ -88,9 +86,8 @@ fn load_new<S: Shelf, P: Progress, R: RejectLog>(
     requires limit { 16 ≤ limit }
     requires whole { IsWholeForm form.now schema.now.greatest }
     ensures untold { OnErr result.1 (rejects.new ≡ rejects.old) }
-    ensures loads { LoadsInto name.bytes (TellsLoadEnd R.tells rejects.old rejects.new (λ told.
-        EndsLoad name.bytes schema.now Load.New (listing_by form.now text.now options told)))
-        (S.state shelf) (S.state result.0) result.1 }
+    ensures loads { LoadsTold R.tells rejects.old rejects.new name.bytes schema.now Load.New
+        (text_source form.now text.now options) (S.state shelf) (S.state result.0) result.1 }
 {
     let mut shelf = shelf;
     match is_there(&mut shelf, name) {
@@ -145,9 +142,8 @@ pub fn load_lines_on_shelf<S: Shelf, P: Progress, R: RejectLog>(
     requires limit { 16 ≤ limit }
     requires whole { IsWholeForm form.now schema.now.greatest }
     ensures untold { OnErr result.1 (rejects.new ≡ rejects.old) }
-    ensures loads { LoadsInto name.bytes (TellsLoadEnd R.tells rejects.old rejects.new (λ told.
-        EndsLoad name.bytes schema.now load (listing_by form.now text.now options told)))
-        (S.state shelf) (S.state result.0) result.1 }
+    ensures loads { LoadsTold R.tells rejects.old rejects.new name.bytes schema.now load
+        (text_source form.now text.now options) (S.state shelf) (S.state result.0) result.1 }
 {
     match load {
         Load::New => load_new(
@@ -175,9 +171,9 @@ pub fn load_lines_on_shelf<S: Shelf, P: Progress, R: RejectLog>(
 struct Unheard;
 
 impl RejectLog for Unheard {
-    ghost tells = { λ _ _ _. ⊤ };
+    ghost tells = { λ _ _ _ _. ⊤ };
 
-    fn tell(&mut self, _rejected: RejectedLine) {}
+    fn tell(&mut self, _rejected: RejectedLine, _line: &[u8]) {}
 }
 
 /// The same, where no line is skipped, and the first that is the line of no record of the file, or whose

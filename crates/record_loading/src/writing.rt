@@ -5,14 +5,13 @@ ghost use Rattle.io_state.specs.declared.statement.FileStatement.TheVariants.{Re
 ghost use Rattle.verbs.specs.Fits.{MayPerform};
 ghost use Rattle.verbs.specs.Performed.{in_memory};
 ghost use Rattle.record_loading.specs.Passing.{lines_end, ends_lines};
-ghost use Rattle.record_loading.specs.Replacing.{RewritesRecord};
-ghost use Rattle.record_loading.specs.Told.{TellsRejected};
-ghost use Rattle.record_loading.specs.Loading.{listing_by};
-ghost use Rattle.record_loading.specs.Going.{TakesLines, PassesLineOf, WritesLinesOf};
+ghost use Rattle.record_loading.specs.Replacing.{RewritesRecordIn};
+ghost use Rattle.record_loading.specs.Loading.{text_source};
+ghost use Rattle.record_loading.specs.Going.{TakesLines, PassesLineOf, WritesLinesTold};
 
 use crate::end::LinesEnd;
 use crate::options::LoadOptions;
-use crate::passing::{behind_line, behind_lines};
+use crate::passing::{behind_line, behind_lines, front_of};
 use crate::reading::read_line;
 use crate::rejected::{
     RejectLog, RejectReason, RejectedLine, is_refused_for_keys, replaces_nothing,
@@ -71,8 +70,8 @@ fn replace_record<'a, L: Library>(
     behind: &'a [u8],
 ) -> PassedLine<'a>
     requires { MayPerform Rewrite connector.old (L.shown.world lib.old) 0 area.now }
-    ensures { RewritesRecord L.shown options refused length behind.now
-        (in_memory connector.old lib.old area.now) (in_memory connector.new lib.new area.now) result }
+    ensures { RewritesRecordIn L.shown options refused length behind.now connector.old lib.old area.now
+        connector.new lib.new result }
 {
     let status = connector.rewrite(lib, 0, area, length);
     if status.is_success() {
@@ -145,9 +144,8 @@ fn write_lines<L: Library, P: Progress, R: RejectLog>(
 ) -> LinesEnd
     requires takes { TakesLines L.shown form.now least (in_memory connector.old lib.old area.old) }
     requires lines { text.now ≡ form_header form.now ++ lines.now }
-    ensures { TellsRejected R.tells rejects.old rejects.new (λ told. WritesLinesOf L.shown
-        (listing_by form.now text.now options told) connector.old lib.old area.old connector.new lib.new
-        result) }
+    ensures { WritesLinesTold R.tells rejects.old rejects.new L.shown (text_source form.now text.now options)
+        connector.old lib.old area.old connector.new lib.new result }
 {
     let mut rest = behind_lines(lines, options.skip);
     let mut records = 0;
@@ -167,10 +165,11 @@ fn write_lines<L: Library, P: Progress, R: RejectLog>(
             }
             PassedLine::Rejected(reason, behind) => {
                 progress.wipe();
-                rejects.tell(RejectedLine {
+                let rejected_line = RejectedLine {
                     line: number,
                     reason,
-                });
+                };
+                rejects.tell(rejected_line, front_of(rest, behind));
                 rejected += 1;
                 rest = behind;
             }
@@ -204,9 +203,8 @@ pub fn write_listing<L: Library, P: Progress, R: RejectLog>(
 ) -> LinesEnd
     requires takes { TakesLines L.shown form.now least (in_memory connector.old lib.old area.old) }
     requires header { header.now ≡ form_header form.now }
-    ensures { TellsRejected R.tells rejects.old rejects.new (λ told. WritesLinesOf L.shown
-        (listing_by form.now text.now options told) connector.old lib.old area.old connector.new lib.new
-        result) }
+    ensures { WritesLinesTold R.tells rejects.old rejects.new L.shown (text_source form.now text.now options)
+        connector.old lib.old area.old connector.new lib.new result }
 {
     let Some(lines) = behind_header(text, header) else {
         return LinesEnd::NoRecord {

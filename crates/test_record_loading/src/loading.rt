@@ -64,9 +64,9 @@ struct RejectedLines {
 }
 
 impl RejectLog for RejectedLines {
-    ghost tells = { λ _ _ _. ⊤ };
+    ghost tells = { λ _ _ _ _. ⊤ };
 
-    fn tell(&mut self, rejected: RejectedLine) {
+    fn tell(&mut self, rejected: RejectedLine, _line: &[u8]) {
         let line = &rejected;
         let _told = add_rejected_line(&mut self.lines, *line);
         let _mistake = write_mistake(&mut self.lines, line.line, line.reason);

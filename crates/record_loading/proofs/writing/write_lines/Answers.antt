@@ -48,6 +48,6 @@ more-preserved g c =
           left_so shown g.R.RejectLog.tells source begun c.args.rejects.now after w.tell.new.self c.match-pass_line.rejects c.more.records c.match-pass_line.records c.more.replaced c.match-pass_line.replaced (c.more.rejected + 1) c.match-pass_line.rejected
           w.in-Rejected.behind.now c.match-pass_line.rest.now w.rejects-is w.records-is w.replaced-is w.rejected-is (ap (λ (l : Bor (List ℕ)). l.now) w.rest-is)
           (more_rejected shown g.R.RejectLog.tells source begun c.args.rejects.now now c.more.rejects c.more.records c.more.replaced c.more.rejected c.more.rest.now c.more.invariant
-          g.met.L.Library.joins g.met.L.Library.ends c.requires.takes.fits after w.in-Rejected.reason w.in-Rejected.behind w.tell.new.self number
-          (ap (λ (n : ℕ). n + c.args.options.skip + c.more.records + c.more.replaced + c.more.rejected + 1) c.header_lines-before.ensures) w.tell.ensures some w.in-Rejected.ensures)
+          g.met.L.Library.joins g.met.L.Library.ends c.requires.takes.fits after w.in-Rejected.reason w.in-Rejected.behind w.front_of.result.now w.tell.new.self number
+          (ap (λ (n : ℕ). n + c.args.options.skip + c.more.records + c.more.replaced + c.more.rejected + 1) c.header_lines-before.ensures) w.tell.ensures w.front_of.ensures some w.in-Rejected.ensures)
     ]
