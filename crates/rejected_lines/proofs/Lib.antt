@@ -1,0 +1,2 @@
+mod WrittenLemmas
+pub mod KeptLemmas
