@@ -62,7 +62,7 @@ closed_weaker old schema file c (inr closed) = inr closed
 
 -- nothing is told of a fault
 pub not_done : (schema : Schema) (file : File) (new : DeviceFile) (fault : CopyingFault) → IsCopyDone schema file new (Err fault)
-not_done schema file new fault = record { settled = tt; closed = tt; records = tt }
+not_done schema file new fault = record { settled = tt; closed = tt; records = tt; pages = tt }
 
 -- a copy that gave up before its end
 pub gave_up : (schema : Schema) (file : File) (old new : DeviceFile) (fault : CopyingFault) → Throughout (WasOrRefused old) old new → IsNoSourceDamage fault

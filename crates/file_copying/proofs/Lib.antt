@@ -14,3 +14,4 @@ mod MoveLemmas
 mod UnitLemmas
 pub mod PlaceLemmas
 pub mod PathLemmas
+pub mod PagesLemmas

@@ -14,7 +14,7 @@ use Rattle.shelf_file.specs.Opening.{CountedShelf, counted_shelf}
 use Rattle.shelf_file.specs.Shelves.{ClosedFileOrRefused}
 use Rattle.shelf_file.specs.Standing.{IsReady, StandsFor}
 use Rattle.file_copying.specs.declared.file_parts.FileParts.{FileParts}
-use Rattle.file_copying.specs.Parts.{joined_file}
+use Rattle.file_copying.specs.Parts.{joined_file, HavePages}
 use Rattle.file_copying.specs.declared.fault.Copied.{Copied}
 use Rattle.file_copying.specs.declared.fault.CopyingFault.{CopyingFault}
 use Rattle.file_copying.specs.Faults.{IsClosingCause}
@@ -25,12 +25,14 @@ pub record IsReadyParts (parts : FileParts) (shelf : ShelfState) : Type 0 where
   pub unbroken : IsFalse (has_broken parts.file)
   pub changed : is_begun parts.pages ≡ true
 
--- where it is answered that a file was copied, it is closed, settled, and stands for this file
+-- where it is answered that a file was copied, it is closed, settled, and stands for this file, and so
+-- many records and pages are told as it has
 pub record IsCopyDone (schema : Schema) (file : File) (new : DeviceFile) (result : Result Copied CopyingFault)
     : Type 0 where
   pub settled : OnOk result (IsSettled new)
   pub closed : OnOk result (AreClosed schema file (content new))
   pub records : IfOk result (λ copied. copied.records ≡ length file.rows)
+  pub pages : IfOk result (λ copied. HavePages copied.pages (content new))
 
 -- at each moment a crash leaves the file closed or refused, and at the end it is closed
 pub record EndsCopy (schema : Schema) (file : File) (old new : DeviceFile)

@@ -1,5 +1,14 @@
 -- The parts of a file are the file.
-use Rattle.std.specs.Prelude.{Result, Ok, Err}
+use Rattle.std.specs.Prelude.{◌≡◌, ℕ, List, true, IsTrue, IsFalse, Result, Ok, Err, OnOk}
+use Rattle.indexed_file.specs.File.{File}
+use Rattle.page_store.specs.DeviceFile.{content}
+use Rattle.page_store.specs.ShelfState.{ShelfState, unit_file}
+use Rattle.page_alloc.specs.Joining.{pages_counted}
+use Rattle.page_alloc.specs.PagedFile.{counts_of, is_begun, unit_of_pages}
+use Rattle.file_header.specs.declared.header.Header.{Header}
+use Rattle.open_file.specs.Fields.{has_broken}
+use Rattle.shelf_file.specs.ClosedFile.{IsAcceptedBy}
+use Rattle.shelf_file.specs.Standing.{StandsFor}
 use Rattle.io_state.specs.declared.fault.Fault.{Fault}
 use Rattle.shelf_file.specs.declared.shelf_file.ShelfFile.{ShelfFile}
 use Rattle.file_copying.specs.declared.file_parts.FileParts.{FileParts}
@@ -12,3 +21,17 @@ joined_file parts = record { file = parts.file; pages = parts.pages }
 abbrev pub joined_answer : Result FileParts Fault → Result ShelfFile Fault
 joined_answer (Ok parts) = Ok (joined_file parts)
 joined_answer (Err fault) = Err fault
+
+-- the first page of these bytes is that of a file which was closed, and tells of so many pages, which
+-- are all there
+pub record HavePages (count : ℕ) (bytes : List ℕ) : Type 0 where
+  pub header : Header
+  pub accepted : IsAcceptedBy header bytes
+  pub count_is : header.pages ≡ count
+
+-- where a file that was changed is closed, it has the pages that it counts
+abbrev pub ClosesCounted : ShelfFile → (old new : ShelfState) → Result (Unit {0}) Fault → Type 0
+ClosesCounted held old new result = IsTrue new.is_honest → IsFalse (has_broken held.file)
+    → is_begun held.pages ≡ true → (file : File) → StandsFor held old file
+    → OnOk result (HavePages (pages_counted (counts_of held.pages))
+    (content (unit_file new (unit_of_pages held.pages))))

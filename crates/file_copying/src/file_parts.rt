@@ -6,7 +6,7 @@ ghost use Rattle.open_file.specs.Headers.{IsHeaderOf};
 ghost use Rattle.open_file.specs.Stands.{IsShaped};
 ghost use Rattle.shelf_file.specs.Standing.{IsReady};
 ghost use Rattle.shelf_file.specs.Opening.{CountsPages, OpensByHeader, ClosesHeld};
-ghost use Rattle.file_copying.specs.Parts.{joined_file, joined_answer};
+ghost use Rattle.file_copying.specs.Parts.{joined_file, joined_answer, ClosesCounted};
 
 use file_header::Header;
 use io_state::Fault;
@@ -58,7 +58,8 @@ impl FileParts {
     /// Device, Broken.
     pub fn close<S: Shelf>(&mut self, shelf: &mut S) -> Result<(), Fault>
         requires ready { IsReady (joined_file self.old) (S.state shelf.old) }
-        ensures { ClosesHeld S.state S.fault_count (joined_file self.old) shelf.old shelf.new result }
+        ensures closes { ClosesHeld S.state S.fault_count (joined_file self.old) shelf.old shelf.new result }
+        ensures counted { ClosesCounted (joined_file self.old) (S.state shelf.old) (S.state shelf.new) result }
     {
         if self.file.is_broken() {
             return Err(Fault::Broken);
