@@ -1,5 +1,5 @@
 -- Rows in a heap and a prime index that are built side by side.
-use Rattle.std.proofs.Common.{◌≡◌, ℕ, List, [], ◌∷◌, ◌++◌, Some, None, refl, ap, sym, subst, ◌∙◌, arith, map}
+use Rattle.std.proofs.Common.{◌≡◌, ℕ, List, [], ◌∷◌, ◌++◌, Some, None, refl, subst, arith}
 use Rattle.std.specs.Prelude.{IsTrue, IsSome}
 use Rattle.std.proofs.lemmas.Bool.{and_parts}
 use Rattle.record_layout.specs.Schema.{Schema, prime_of}
@@ -10,20 +10,17 @@ use Rattle.pages.specs.PageMap.{PageMap}
 use Rattle.pages.specs.Owners.{ChangesPages}
 use Rattle.record_heap.specs.declared.shape.Place.{Place}
 use Rattle.record_heap.specs.declared.heap.Heap.{Heap}
-use Rattle.record_heap.specs.declared.builder.HeapBuilder.{HeapBuilder}
-use Rattle.record_heap.specs.Chain.{Slots, put_slot, no_slots}
+use Rattle.record_heap.specs.Chain.{put_slot, no_slots}
 use Rattle.record_heap.specs.Filling.{IsFilling}
 use Rattle.record_heap.specs.Standing.{HeapStands, first_heap_page}
 use Rattle.record_heap.proofs.StandLemmas.{heap_kept, chain_live}
 use Rattle.key_index.specs.declared.entry.PrimeEntry.{PrimeEntry}
 use Rattle.key_index.specs.declared.prime_index.PrimeIndex.{PrimeIndex}
 use Rattle.key_index.specs.Stored.{entry_at}
-use Rattle.tree_building.specs.declared.prime_builder.PrimeBuilder.{PrimeBuilder}
 use Rattle.tree_building.specs.IndexBuilding.{IsBuildingPrime, PrimeBuildsOn, HasBuiltPrime, PrimeEntriesRise}
 use Rattle.tree_building.proofs.LawLemmas.{prime_live, prime_aside, heap_apart, heap_aside}
-use Rattle.open_file.specs.InOrder.{prime_entries, alt_entries}
+use Rattle.open_file.specs.InOrder.{prime_entries}
 use Rattle.open_file.specs.Stored.{stored}
-use Rattle.open_file.specs.Stands.{IsPlaced}
 use Rattle.file_copying.specs.declared.rows_builder.RowsBuilder.{RowsBuilder}
 use Rattle.file_copying.specs.Rows.{HoldsRows, RowsStandIn, builder_width}
 use Rattle.file_copying.proofs.PartLemmas.{none_parted, first_changed, second_changed, first_apart, second_apart, left_alone, same_pages}

@@ -1,12 +1,12 @@
 -- Entries that are copied, one after another.
-use Rattle.std.proofs.Common.{◌≡◌, ℕ, suc, ◌+◌, ◌≤◌, List, [], ◌∷◌, ◌++◌, length, map, take, drop, refl, ap, sym, subst, ◌∙◌, arith, append_assoc, length-append, length-drop}
+use Rattle.std.proofs.Common.{◌≡◌, ℕ, suc, ◌+◌, List, [], ◌∷◌, ◌++◌, length, map, take, drop, refl, sym, subst, ◌∙◌, arith, append_assoc, length-append, length-drop}
 use Rattle.std.proofs.lemmas.List.{append-nil, length-take-le}
 use Rattle.pages.specs.Each.{Each}
 use Rattle.pages.specs.PageMap.{PageMap}
 use Rattle.bplus_tree.proofs.RemoveLemmas.{changes_trans}
 use Rattle.key_index.specs.declared.entry.AltEntry.{AltEntry}
 use Rattle.key_index.specs.declared.alt_index.AltIndex.{AltIndex}
-use Rattle.key_index.specs.Stored.{alt_bytes, alt_entry_in, IsAltEntry}
+use Rattle.key_index.specs.Stored.{alt_bytes, IsAltEntry}
 use Rattle.key_index.specs.Standing.{AltStands, AltChanged}
 use Rattle.byteorder.specs.Numbers.{length-bytes_high_first}
 use Rattle.tree_building.specs.declared.alt_builder.AltBuilder.{AltBuilder}

@@ -1,5 +1,5 @@
 -- Damage that was found in what was built, and a file that is not broken.
-use Rattle.std.proofs.Common.{◌≡◌, ◌≢◌, false, sym, ◌∙◌}
+use Rattle.std.proofs.Common.{◌≡◌, false, sym, ◌∙◌}
 use Rattle.std.proofs.lemmas.Bool.{false≢true}
 use Rattle.std.specs.Prelude.{Bool, IsTrue}
 use Rattle.io_state.specs.declared.fault.Fault.{Fault}

@@ -1,14 +1,14 @@
 -- Rows put one behind the other.
-use Rattle.std.proofs.Common.{◌≡◌, ◌≢◌, ℕ, Bool, true, false, List, [], ◌∷◌, ◌++◌, length, map, take, Some, None, refl, ap, sym, subst, ◌∙◌, arith}
-use Rattle.std.specs.Prelude.{find, is_some, IsSome, IsTrue, ◌||◌, ◌&&◌}
+use Rattle.std.proofs.Common.{◌≡◌, ◌≢◌, ℕ, Bool, true, List, [], ◌∷◌, ◌++◌, map, take, Some, None, refl, ap, sym, ◌∙◌, arith}
+use Rattle.std.specs.Prelude.{find, is_some, IsSome, ◌||◌, ◌&&◌}
 use Rattle.std.specs.List.{list_all}
 use Rattle.std.specs.Ordering.{is_lt}
 use Rattle.std.proofs.lemmas.Bool.{and_parts, or_left, or_right}
 use Rattle.std.proofs.lemmas.Grind.{common_steps}
 use Rattle.record_layout.specs.Schema.{Schema, prime_of}
 use Rattle.io_state.specs.Rank.{value_cmp}
-use Rattle.indexed_file.specs.File.{Row, File}
-use Rattle.indexed_file.specs.Sound.{is_file, are_rows, are_apart, is_row}
+use Rattle.indexed_file.specs.File.{Row}
+use Rattle.indexed_file.specs.Sound.{are_rows, are_apart}
 use Rattle.pages.specs.Each.{Each}
 use Rattle.tree_node.specs.Order.{less, Ascends}
 use Rattle.record_heap.specs.declared.shape.Place.{Place}

@@ -1,14 +1,12 @@
 -- Calls one after another: why they gave up, and what is known of their answers.
-use Rattle.std.proofs.Common.{◌≡◌, ◌≢◌, false, Result, Ok, Err}
+use Rattle.std.proofs.Common.{◌≡◌, false, Result, Ok, Err}
 use Rattle.std.proofs.lemmas.Bool.{false≢true}
 use Rattle.std.specs.Prelude.{Bool, IsTrue, IfOk, IfErr, IsErrAnd}
 use Rattle.std.proofs.lemmas.Result.{err_from_is_err_and}
 use Rattle.io_state.specs.declared.fault.Fault.{Fault}
-use Rattle.io_state.specs.declared.fault.Fault.TheVariants.{Damage}
 use Rattle.pages.specs.Cause.{IsCaused}
 use Rattle.pages.specs.Answer.{IsAnswer}
 use Rattle.pages.specs.ShownPages.{ShownPages}
-use Rattle.open_file.specs.Faults.{IsCausedIn}
 use Rattle.tree_building.specs.Fresh.{IsBuildCause}
 use Rattle.file_copying.specs.declared.copy_fault.CopyFault.{CopyFault}
 use Rattle.file_copying.specs.declared.copy_fault.CopyFault.TheVariants.{Reading, Writing}

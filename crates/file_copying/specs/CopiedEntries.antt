@@ -1,5 +1,5 @@
 -- Entries of the index of an alternate key that are copied, one after another.
-use Rattle.std.specs.Prelude.{◌≡◌, ◌+◌, ◌<◌, ℕ, suc, List, [], ◌∷◌, ◌++◌, length, map, None, Result, IsTrue}
+use Rattle.std.specs.Prelude.{◌≡◌, ◌+◌, ◌<◌, ℕ, suc, List, [], ◌∷◌, ◌++◌, length, map, Result, IsTrue}
 use Rattle.std.specs.Prelude.{IfOk, IfErr, slice_index_or}
 use Rattle.arrayvec.specs.ArrayVec.{ArrayVec}
 use Rattle.indexed_file.specs.File.{File}

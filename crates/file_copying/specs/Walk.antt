@@ -1,5 +1,5 @@
 -- A walk over the entries of a tree.
-use Rattle.std.specs.Prelude.{◌≡◌, ◌≤◌, ◌+◌, ◌*◌, ℕ, Bool, List, [], ◌∷◌, ◌++◌, ◌↔◌, length, take, true, IsTrue}
+use Rattle.std.specs.Prelude.{◌≡◌, ◌≤◌, ◌+◌, ◌*◌, ℕ, Bool, List, [], ◌∷◌, ◌++◌, length, take, true, IsTrue}
 use Rattle.std.specs.Prelude.{Result, OnOk, ⊤}
 use Rattle.io_state.specs.declared.fault.Fault.{Fault}
 use Rattle.pages.specs.Each.{Each}

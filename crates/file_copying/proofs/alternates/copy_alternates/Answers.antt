@@ -1,12 +1,11 @@
-use Rattle.std.proofs.Common.{◌≡◌, ◌+◌, ◌-◌, ◌<◌, ℕ, List, length, false, refl, ap, sym, subst, ◌∙◌, arith}
+use Rattle.std.proofs.Common.{◌≡◌, ◌+◌, ◌-◌, ◌<◌, ℕ, length, false, ap, sym, subst, ◌∙◌, arith}
 use Rattle.std.specs.Prelude.{slice_index_or}
 use Rattle.pages.specs.PageMap.{PageMap}
 use Rattle.key_index.specs.declared.prime_index.PrimeIndex.{PrimeIndex}
-use Rattle.key_index.specs.declared.alt_index.AltIndex.{AltIndex}
 use Rattle.key_index.specs.Standing.{AltStands, CountsPrime}
 use Rattle.open_file.specs.InOrder.{alt_entries}
 use Rattle.open_file.specs.Parts.{alternate_pages}
-use Rattle.open_file.specs.Fields.{file_schema, alternates_of, prime_index_of}
+use Rattle.open_file.specs.Fields.{file_schema, alternates_of}
 use Rattle.file_copying.proofs.StepLemmas.{StepLaws, copy_handed, copy_fails, copy_no_answer, copy_cause}
 use Rattle.file_copying.proofs.AlternateLemmas.{counted_alike, index_more, alike_more}
 use Rattle.file_copying.proofs.alternates.copy_alternates.Goals as goal

@@ -1,4 +1,4 @@
-use Rattle.std.proofs.Common.{◌≡◌, ◌+◌, ◌≤◌, ℕ, List, [], length, IsTrue}
+use Rattle.std.proofs.Common.{◌≡◌, [], length, IsTrue}
 use Rattle.indexed_file.specs.File.{File}
 use Rattle.record_heap.specs.declared.heap.Heap.{Heap}
 use Rattle.key_index.specs.declared.prime_index.PrimeIndex.{PrimeIndex}

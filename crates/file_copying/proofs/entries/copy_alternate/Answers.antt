@@ -1,10 +1,10 @@
-use Rattle.std.proofs.Common.{◌≡◌, ◌+◌, ◌-◌, ℕ, suc, false, refl, ap, sym, subst, ◌∙◌, arith}
+use Rattle.std.proofs.Common.{◌≡◌, ◌+◌, ◌-◌, ℕ, suc, false, ap, sym, subst, ◌∙◌, arith}
 use Rattle.pages.specs.PageMap.{PageMap}
 use Rattle.tree_node.specs.declared.shape.Shape.{Shape}
 use Rattle.file_copying.specs.CopiedEntries.{HasCopiedEntries}
 use Rattle.tree_building.specs.IndexBuilding.{AltEntriesRise}
 use Rattle.tree_building.proofs.RankLemmas.{alts_rise}
-use Rattle.file_copying.proofs.StepLemmas.{StepLaws, copy_handed, copy_fails, copy_no_answer, copy_if_err, copy_if_ok, copy_ok, copy_cause}
+use Rattle.file_copying.proofs.StepLemmas.{StepLaws, copy_handed, copy_fails, copy_no_answer, copy_if_err, copy_if_ok, copy_cause}
 use Rattle.file_copying.proofs.EntryLemmas.{entries_begun}
 use Rattle.file_copying.proofs.entries.copy_alternate.Goals as goal
 

@@ -1,4 +1,4 @@
-use Rattle.std.proofs.Common.{◌≡◌, ◌+◌, ℕ, length, refl, ap, sym, ◌∙◌}
+use Rattle.std.proofs.Common.{length, ap, ◌∙◌}
 use Rattle.bplus_tree.specs.declared.tree.Tree.{Tree}
 use Rattle.bplus_tree.specs.Fields.{tree_shape}
 use Rattle.file_copying.proofs.StepLemmas.{copy_ok}

@@ -1,4 +1,4 @@
-use Rattle.std.proofs.Common.{◌≡◌, ℕ, false, refl}
+use Rattle.std.proofs.Common.{false}
 use Rattle.file_copying.specs.CopyFault.{HasRunOut}
 use Rattle.file_copying.proofs.StepLemmas.{StepLaws, reading_cause, index_cause}
 use Rattle.file_copying.proofs.EntryLemmas.{entries_copied, ended_since}

@@ -1,4 +1,4 @@
-use Rattle.std.proofs.Common.{◌≡◌, false, sym, ◌∙◌}
+use Rattle.std.proofs.Common.{sym, ◌∙◌}
 use Rattle.std.proofs.lemmas.Bool.{false≢true}
 use Rattle.file_copying.proofs.OpeningLemmas.{opens, opens_none}
 use Rattle.file_copying.proofs.opening.open_parts.Goals as goal

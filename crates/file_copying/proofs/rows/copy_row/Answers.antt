@@ -1,7 +1,7 @@
-use Rattle.std.proofs.Common.{◌≡◌, ℕ, refl, ap, sym, ◌∙◌, take}
-use Rattle.open_file.specs.Fields.{file_schema, prime_index_of}
+use Rattle.std.proofs.Common.{ap, sym, ◌∙◌, take}
+use Rattle.open_file.specs.Fields.{prime_index_of}
 use Rattle.file_copying.proofs.StepLemmas.{copy_ok}
-use Rattle.file_copying.proofs.CopiedLemmas.{one_left, copied_more, cut_front}
+use Rattle.file_copying.proofs.CopiedLemmas.{one_left, copied_more}
 use Rattle.file_copying.proofs.rows.copy_row.Goals as goal
 
 pub returns-in-Ok-clause-copies : goal.returns-in-Ok-clause-copies

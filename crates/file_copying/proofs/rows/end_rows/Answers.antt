@@ -1,4 +1,4 @@
-use Rattle.std.proofs.Common.{◌≡◌, ℕ, false, refl}
+use Rattle.std.proofs.Common.{false}
 use Rattle.open_file.specs.Fields.{file_schema}
 use Rattle.file_copying.specs.CopyFault.{HasRunOut}
 use Rattle.file_copying.proofs.StepLemmas.{reading_cause}

@@ -1,7 +1,6 @@
-use Rattle.std.proofs.Common.{◌≡◌, ◌+◌, ℕ, length, refl, ap, sym, subst, ◌∙◌}
+use Rattle.std.proofs.Common.{◌≡◌, ◌+◌, length, ap, sym, subst, ◌∙◌}
 use Rattle.pages.proofs.CauseLemmas.{caused_since}
 use Rattle.pages.specs.PageMap.{PageMap}
-use Rattle.tree_node.specs.declared.shape.Shape.{Shape}
 use Rattle.tree_search.proofs.AnswerLemmas.{fails}
 use Rattle.tree_search.proofs.SearchLemmas.{if_ok}
 use Rattle.bplus_tree.specs.declared.tree.Tree.{Tree}

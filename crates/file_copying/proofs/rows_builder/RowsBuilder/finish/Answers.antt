@@ -1,4 +1,4 @@
-use Rattle.std.proofs.Common.{◌≡◌, refl, ◌∙◌}
+use Rattle.std.proofs.Common.{refl}
 use Rattle.tree_search.proofs.AnswerLemmas.{fails}
 use Rattle.open_file.specs.InOrder.{prime_entries}
 use Rattle.file_copying.proofs.StepLemmas.{StepLaws, heap_cause, index_cause, cause_since, handed_on}

@@ -1,4 +1,3 @@
-use Rattle.std.proofs.Common.{refl}
 use Rattle.file_copying.proofs.BuilderLemmas.{no_rows}
 use Rattle.file_copying.proofs.rows_builder.RowsBuilder.new.Goals as goal
 

@@ -1,4 +1,4 @@
-use Rattle.std.proofs.Common.{◌≡◌, ◌++◌, refl}
+use Rattle.std.proofs.Common.{◌++◌, refl}
 use Rattle.tree_search.proofs.AnswerLemmas.{fails}
 use Rattle.tree_search.proofs.SearchLemmas.{if_ok}
 use Rattle.open_file.specs.InOrder.{prime_entries}

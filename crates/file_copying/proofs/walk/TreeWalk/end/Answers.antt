@@ -1,5 +1,4 @@
-use Rattle.std.proofs.Common.{◌≡◌, List, ℕ, [], ◌++◌, Some, None, refl, rules}
-use Rattle.tree_search.proofs.AnswerLemmas.{fails}
+use Rattle.std.proofs.Common.{◌≡◌, [], ◌++◌, Some, None, rules}
 use Rattle.file_copying.proofs.WalkLemmas.{walk_ended}
 use Rattle.file_copying.proofs.walk.TreeWalk.end.Goals as goal
 

@@ -1,9 +1,7 @@
-use Rattle.std.proofs.Common.{◌≡◌, List, ℕ, ◌∷◌, ◌++◌, length, take, true, Some, None, refl, ap, sym, ◌∙◌, rules}
+use Rattle.std.proofs.Common.{◌≡◌, ◌∷◌, ◌++◌, length, take, true, Some, None, refl, ap, sym, ◌∙◌, rules}
 use Rattle.std.proofs.lemmas.Bool.{false≢true}
-use Rattle.pages.proofs.EachLemmas.{each_weaker}
 use Rattle.tree_node.specs.declared.shape.Shape.{Shape}
 use Rattle.tree_node.specs.Order.{less}
-use Rattle.tree_search.proofs.AnswerLemmas.{fails}
 use Rattle.bplus_tree.specs.Fields.{tree_shape, cursor_key}
 use Rattle.file_copying.proofs.WalkLemmas.{walk_given, walk_on}
 use Rattle.file_copying.proofs.walk.TreeWalk.next.Goals as goal
