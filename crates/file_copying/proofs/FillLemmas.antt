@@ -85,7 +85,7 @@ writing_cause failed ran_out full fault means is = record {
 }
 
 -- a call that filled pages: what it read, wrote and answered
-module _ (file : OpenFile) (a a2 b m : PagedFile) (from from_now to to_now : ShelfState) (i j k l : ℕ) (can : CanFill file a b from to)
+module _ (file : OpenFile) (key : ℕ) (a a2 b m : PagedFile) (from from_now to to_now : ShelfState) (i j k l : ℕ) (can : CanFill file key a b from to)
     (reads : ReadsFilePages a a2 from from_now i j) (writes : KeepsGate b m to to_now k l) where
   -- what the file and its copy stand for
   abbrev Copies : Result OpenFile CopyFault → Type 0

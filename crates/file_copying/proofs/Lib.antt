@@ -14,4 +14,10 @@ mod MoveLemmas
 mod UnitLemmas
 pub mod PlaceLemmas
 pub mod PathLemmas
+pub mod NewPlaceLemmas
+pub mod MoverLemmas
+pub mod MovingLemmas
+pub mod LeadLemmas
+pub mod MovedRowLemmas
+pub mod SourceLemmas
 pub mod PagesLemmas

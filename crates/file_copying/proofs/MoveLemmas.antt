@@ -1,9 +1,10 @@
 -- What the copy of the file of a header comes to, from what its steps leave.
-use Rattle.std.proofs.Common.{zero, suc, ◌≡◌, ◌≤◌, ℕ, ◌⊎◌, inl, inr, false, IsTrue, Result, Ok, Err, refl, sym, ◌∙◌, ap, subst, arith}
+use Rattle.std.proofs.Common.{zero, suc, ◌≡◌, ◌≤◌, ◌<◌, ℕ, length, ◌⊎◌, inl, inr, false, IsTrue, Result, Ok, Err, refl, sym, ◌∙◌, ap, subst, arith}
 use Rattle.std.specs.Prelude.{IfErr}
 use Rattle.std.proofs.lemmas.Bool.{le-ltb, lt-ltb}
 use Rattle.io_state.specs.declared.fault.Fault.{Fault}
 use Rattle.io_state.specs.declared.fault.Fault.TheVariants.{Memory, Device, Full, Damage, Broken}
+use Rattle.record_layout.specs.Schema.{Schema}
 use Rattle.page_store.specs.DeviceFile.{DeviceFile}
 use Rattle.page_store.specs.ShelfState.{ShelfState, KeepsOthers, FaultHasCause, unit_file}
 use Rattle.page_store.proofs.ShelfLemmas.{others_then}
@@ -21,7 +22,7 @@ use Rattle.file_copying.specs.declared.file_parts.FileParts.{FileParts}
 use Rattle.file_copying.specs.Parts.{joined_file}
 use Rattle.file_copying.specs.declared.fault.Copied.{Copied}
 use Rattle.file_copying.specs.declared.fault.CopyingFault.{CopyingFault}
-use Rattle.file_copying.specs.declared.fault.CopyingFault.TheVariants.{NoneToCopy, NotAccepted, IsThere, Reading, Writing}
+use Rattle.file_copying.specs.declared.fault.CopyingFault.TheVariants.{NoneToCopy, NotAccepted, NoKey, IsThere, Reading, Writing}
 use Rattle.file_copying.specs.Faults.{IsMovingCause, IsClosingCause, IsNoSourceDamage}
 use Rattle.file_copying.specs.Filling.{CanFill, IsBlank, FillsNew, IsFullFile}
 use Rattle.file_copying.specs.Closing.{ClosesNew, EndsCopy}
@@ -38,6 +39,7 @@ closing_damage : (failed : Type 0) (result : Result Copied CopyingFault) → IfE
 closing_damage failed (Ok copied) is = tt
 closing_damage failed (Err NoneToCopy) is = tt
 closing_damage failed (Err NotAccepted) is = tt
+closing_damage failed (Err NoKey) is = tt
 closing_damage failed (Err IsThere) is = tt
 closing_damage failed (Err (Reading fault)) is = absurd is
 closing_damage failed (Err (Writing fault)) is = is.1
@@ -46,6 +48,7 @@ closing_cause : (failed read wrote full : Type 0) (result : Result Copied Copyin
 closing_cause failed read wrote full (Ok copied) means is = tt
 closing_cause failed read wrote full (Err NoneToCopy) means is = is
 closing_cause failed read wrote full (Err NotAccepted) means is = is
+closing_cause failed read wrote full (Err NoKey) means is = is
 closing_cause failed read wrote full (Err IsThere) means is = is
 closing_cause failed read wrote full (Err (Reading fault)) means is = absurd is
 closing_cause failed read wrote full (Err (Writing fault)) means is = record {
@@ -58,6 +61,7 @@ closing_stays : (failed : Type 0) (old new : DeviceFile) (result : Result Copied
 closing_stays failed old new (Ok copied) is = tt
 closing_stays failed old new (Err NoneToCopy) is = tt
 closing_stays failed old new (Err NotAccepted) is = tt
+closing_stays failed old new (Err NoKey) is = tt
 closing_stays failed old new (Err IsThere) is = tt
 closing_stays failed old new (Err (Reading fault)) is = absurd is
 closing_stays failed old new (Err (Writing fault)) is = tt
@@ -65,6 +69,7 @@ closing_stays failed old new (Err (Writing fault)) is = tt
 moving_cause : (read wrote later full full_later : Type 0) (fault : CopyingFault) → (wrote → later) → (full → full_later) → IsMovingCause read wrote full fault → IsMovingCause read later full_later fault
 moving_cause read wrote later full full_later NoneToCopy means more is = is
 moving_cause read wrote later full full_later NotAccepted means more is = is
+moving_cause read wrote later full full_later NoKey means more is = is
 moving_cause read wrote later full full_later IsThere means more is = is
 moving_cause read wrote later full full_later (Reading fault) means more is = is
 moving_cause read wrote later full full_later (Writing fault) means more is = record {
@@ -76,21 +81,23 @@ moving_cause read wrote later full full_later (Writing fault) means more is = re
 gives_up_for : (old new : DeviceFile) (fault : CopyingFault) → CopyStaysRefused old new → CopyGivesUp old new fault
 gives_up_for old new NoneToCopy stays = tt
 gives_up_for old new NotAccepted stays = tt
+gives_up_for old new NoKey stays = tt
 gives_up_for old new IsThere stays = tt
 gives_up_for old new (Reading fault) stays = stays
 gives_up_for old new (Writing fault) stays = tt
 
 -- the file that is copied was opened by its header, and pages were made for the new one
-module _ (source unit limit : ℕ) (header : Header) (parts : FileParts) (a : PagedFile) (from to0 to1 : ShelfState) (i k0 k1 : ℕ)
-    (can : CanCopyByHeader source unit header from to0) (opened : IsOpened (joined_file parts) source header)
+module _ (source unit key limit : ℕ) (header : Header) (parts : FileParts) (a : PagedFile) (from to0 to1 : ShelfState) (i k0 k1 : ℕ)
+    (can : CanCopyByHeader source unit key header from to0) (opened : IsOpened (joined_file parts) source header)
     (made : IsNewPagedFile a unit limit) (ready : IsOpenOver a to1) (images : MayRefuse unit to0 to1) (others : KeepsOthers unit to0 to1) (count : k0 ≤ k1) where
-  pub can_fill : CanFill parts.file parts.pages a from to1
+  pub can_fill : CanFill parts.file key parts.pages a from to1
   can_fill =
       let open_now = opened.ready from can.from_unit can.accepted in
       record {
         readable = open_now.over;
         unchanged = opened.unchanged;
         shaped = open_now.shaped;
+        has_key = subst (λ (s : Schema). key < length s.keys) (sym opened.schema_is) can.has_key;
         unbroken = opened.unbroken;
         writable = ready;
         begun = made.changed;

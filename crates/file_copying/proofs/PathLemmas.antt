@@ -13,7 +13,7 @@ use Rattle.folder_shelf.specs.SystemState.{SystemState, entered_at}
 use Rattle.shelf_file.specs.Opening.{counted_shelf}
 use Rattle.file_copying.specs.declared.fault.Copied.{Copied}
 use Rattle.file_copying.specs.declared.fault.CopyingFault.{CopyingFault}
-use Rattle.file_copying.specs.declared.fault.CopyingFault.TheVariants.{NoneToCopy, NotAccepted, IsThere, Reading, Writing}
+use Rattle.file_copying.specs.declared.fault.CopyingFault.TheVariants.{NoneToCopy, NotAccepted, NoKey, IsThere, Reading, Writing}
 use Rattle.file_copying.specs.Copying.{BecomesCopy, CopiesBetween, CopyGivesUp, IsCopyUntouched}
 use Rattle.file_copying.specs.Faults.{IsCopyingCause}
 use Rattle.file_copying.specs.Attached.{LacksNames, named_shelf}
@@ -24,6 +24,7 @@ untouched_as : (names : List (List ℕ)) (old new : ShelfState) (result : Result
 untouched_as names old new (Ok copied) h = tt
 untouched_as names old new (Err NoneToCopy) h = h
 untouched_as names old new (Err NotAccepted) h = h
+untouched_as names old new (Err NoKey) h = h
 untouched_as names old new (Err IsThere) h = h
 untouched_as names old new (Err (Reading fault)) h = tt
 untouched_as names old new (Err (Writing fault)) h = tt
@@ -33,6 +34,7 @@ cause_as : (failed writing full : Type 0) (result : Result Copied CopyingFault) 
 cause_as failed writing full (Ok copied) h = tt
 cause_as failed writing full (Err NoneToCopy) h = tt
 cause_as failed writing full (Err NotAccepted) h = tt
+cause_as failed writing full (Err NoKey) h = tt
 cause_as failed writing full (Err IsThere) h = tt
 cause_as failed writing full (Err (Reading fault)) h = record {
   device = λ is. tt;
@@ -50,7 +52,7 @@ at_first disk folder before after none is =
 module _ (disk : Unseen) (asked : CopyPaths) (reads : List Call) (system : SystemState) where
   between_files : (from_now : ShelfState) (f f_now t t_now : ℕ) → (IsTrue (are_answers_of disk.first reads) → IsTrue from_now.is_honest) → t ≡ 0 → t_now ≡ failed_calls system.calls
       → (result : Result Copied CopyingFault)
-      → CopiesBetween 0 0 asked.limit (named_shelf [] (shelf_after disk.first asked.source [] []) f) (counted_shelf from_now f_now) (named_shelf asked.name (folder_before disk asked) t)
+      → CopiesBetween 0 0 asked.key asked.limit (named_shelf [] (shelf_after disk.first asked.source [] []) f) (counted_shelf from_now f_now) (named_shelf asked.name (folder_before disk asked) t)
       (counted_shelf (folder_state disk system) t_now) result
       → CopiesAtPath disk asked reads system result
   between_files from_now f f_now t t_now honest t_is t_now_is result copies =
@@ -74,9 +76,9 @@ module _ (disk : Unseen) (asked : CopyPaths) (reads : List Call) (system : Syste
   pub copied_path : (from from_now to : ShelfState) (f f_now t t_now : ℕ) → from ≡ shelf_after disk.first asked.source [] [] → (IsTrue (are_answers_of disk.first reads) → IsTrue from_now.is_honest)
       → to ≡ folder_before disk asked → t ≡ 0 → t_now ≡ failed_calls system.calls → (result : Result Copied CopyingFault)
       → LacksNames to (folder_state disk system) result
-      ⊎ CopiesBetween 0 0 asked.limit (named_shelf [] from f) (counted_shelf from_now f_now) (named_shelf asked.name to t) (counted_shelf (folder_state disk system) t_now) result
+      ⊎ CopiesBetween 0 0 asked.key asked.limit (named_shelf [] from f) (counted_shelf from_now f_now) (named_shelf asked.name to t) (counted_shelf (folder_state disk system) t_now) result
       → CopiesPath disk asked reads system result
   copied_path from from_now to f f_now t t_now from_is honest to_is t_is t_now_is result (inl lacks) = inl (subst (λ (s : ShelfState). LacksNames s (folder_state disk system) result) to_is lacks)
   copied_path from from_now to f f_now t t_now from_is honest to_is t_is t_now_is result (inr copies) = inr (between_files from_now f f_now t t_now honest t_is t_now_is result
-      (subst (λ (s : ShelfState). CopiesBetween 0 0 asked.limit (named_shelf [] s f) (counted_shelf from_now f_now) (named_shelf asked.name (folder_before disk asked) t) (counted_shelf (folder_state disk system) t_now) result) from_is
-      (subst (λ (s : ShelfState). CopiesBetween 0 0 asked.limit (named_shelf [] from f) (counted_shelf from_now f_now) (named_shelf asked.name s t) (counted_shelf (folder_state disk system) t_now) result) to_is copies)))
+      (subst (λ (s : ShelfState). CopiesBetween 0 0 asked.key asked.limit (named_shelf [] s f) (counted_shelf from_now f_now) (named_shelf asked.name (folder_before disk asked) t) (counted_shelf (folder_state disk system) t_now) result) from_is
+      (subst (λ (s : ShelfState). CopiesBetween 0 0 asked.key asked.limit (named_shelf [] from f) (counted_shelf from_now f_now) (named_shelf asked.name s t) (counted_shelf (folder_state disk system) t_now) result) to_is copies)))

@@ -21,9 +21,9 @@ named_shelf name shelf faults = counted_shelf (attached_as (name ∷ []) shelf) 
 -- wanting for the two names
 module _ {S T : Type 0} (state : S → ShelfState) (count : S → ℕ) (state_to : T → ShelfState)
     (count_to : T → ℕ) where
-  abbrev pub CopiesNamed : (name : List ℕ) → (limit : ℕ) → S → S → T → T → Result Copied CopyingFault → Type 0
-  CopiesNamed name limit from from_now to to_now result =
+  abbrev pub CopiesNamed : (name : List ℕ) → (key limit : ℕ) → S → S → T → T → Result Copied CopyingFault → Type 0
+  CopiesNamed name key limit from from_now to to_now result =
       LacksNames (state_to to) (state_to to_now) result
-      ⊎ CopiesBetween 0 0 limit (named_shelf [] (state from) (count from))
+      ⊎ CopiesBetween 0 0 key limit (named_shelf [] (state from) (count from))
       (counted_shelf (state from_now) (count from_now)) (named_shelf name (state_to to) (count_to to))
       (counted_shelf (state_to to_now) (count_to to_now)) result

@@ -19,18 +19,19 @@ use Rattle.file_copying.specs.Copying.{IsCopyTold, IsCopyUntouched, BecomesCopy,
 use Rattle.file_copying.specs.Faults.{IsCopyingCause}
 use Rattle.file_copying.specs.Attached.{LacksNames}
 
--- what is copied, and whereto: the path of a file, a folder, the name of the new file in it, and how many
--- pages that may have
+-- what is copied, and whereto: the path of a file, a folder, the name of the new file in it, the key in
+-- whose order its records lie, and how many pages it may have
 pub record CopyPaths : Type 0 where
   pub source : List ℕ
   pub folder : List ℕ
   pub name : List ℕ
+  pub key : ℕ
   pub limit : ℕ
 
 -- the same, by its parts
-abbrev pub copy_paths : (source folder name : List ℕ) → (limit : ℕ) → CopyPaths
-copy_paths source folder name limit =
-    record { source = source; folder = folder; name = name; limit = limit }
+abbrev pub copy_paths : (source folder name : List ℕ) → (key limit : ℕ) → CopyPaths
+copy_paths source folder name key limit =
+    record { source = source; folder = folder; name = name; key = key; limit = limit }
 
 -- what the folder held before the first call
 abbrev pub folder_before : Unseen → CopyPaths → ShelfState
@@ -39,11 +40,12 @@ folder_before disk asked = folder_after disk asked.folder [] []
 -- A copy, where one system was asked these reads of the first file, and another one has the folder of the
 -- second. Where each answer was that of the files of the disk: what is told holds of the two files as they
 -- were; and if the bytes of the first are a closed file that stands for rows, the second becomes a copy, and
--- no crash leaves a false one. Always each other file of the folder stays, and each fault has its cause.
+-- no crash leaves a false one. Always each other file of the folder stays, and each fault of the second has
+-- its cause. That the first is told as not read only where a call on it failed is not said.
 pub record CopiesAtPath (disk : Unseen) (asked : CopyPaths) (reads : List Call) (system : SystemState)
     (result : Result Copied CopyingFault) : Type 0 where
   pub told : IsTrue (are_answers_of disk.first reads) → IsTrue (folder_state disk system).is_honest
-      → IsCopyTold (disk.first asked.source) ((folder_before disk asked).file asked.name) result
+      → IsCopyTold asked.key (disk.first asked.source) ((folder_before disk asked).file asked.name) result
   pub untouched : IfErr result (IsCopyUntouched (folder_before disk asked) (folder_state disk system))
   pub copies : IsTrue (are_answers_of disk.first reads) → IsTrue (folder_state disk system).is_honest
       → (schema : Schema) (file : File) → AreClosed schema file (content (disk.first asked.source))

@@ -1,5 +1,5 @@
 -- A closed file of one shelf that is copied into a new file of another.
-use Rattle.std.specs.Prelude.{◌≡◌, ◌≢◌, ◌⊎◌, ◌≤◌, ℕ, List, ⊤, None, Some, Option, IsTrue, is_some, Result, Ok, Err, IfErr}
+use Rattle.std.specs.Prelude.{◌≡◌, ◌≢◌, ◌⊎◌, ◌≤◌, ◌<◌, ℕ, List, length, ⊤, None, Some, Option, IsTrue, is_some, Result, Ok, Err, IfErr}
 use Rattle.io_state.specs.declared.fault.Fault.TheVariants.{Device}
 use Rattle.record_layout.specs.Schema.{Schema}
 use Rattle.indexed_file.specs.File.{File}
@@ -11,36 +11,37 @@ use Rattle.page_alloc.specs.Joining.{FaultsRose}
 use Rattle.page_alloc.specs.PagedFile.{IsKeptOrRefused}
 use Rattle.file_header.specs.declared.header.Header.{Header}
 use Rattle.file_header.specs.Bounds.{IsHeader}
-use Rattle.shelf_file.specs.declared.look.Look.TheVariants.{NoFile, Refused, Accepted}
+use Rattle.shelf_file.specs.declared.look.Look.TheVariants.{NoFile, Refused}
 use Rattle.shelf_file.specs.ClosedFile.{AreClosed, StandsIn}
 use Rattle.shelf_file.specs.Named.{look_of}
 use Rattle.shelf_file.specs.Opening.{CountedShelf, counted_shelf}
 use Rattle.shelf_file.specs.Shelves.{HasAccepted}
 use Rattle.file_copying.specs.declared.fault.Copied.{Copied}
 use Rattle.file_copying.specs.declared.fault.CopyingFault.{CopyingFault}
-use Rattle.file_copying.specs.declared.fault.CopyingFault.TheVariants.{NoneToCopy, NotAccepted, IsThere, Reading, Writing}
+use Rattle.file_copying.specs.declared.fault.CopyingFault.TheVariants.{NoneToCopy, NotAccepted, NoKey, IsThere, Reading, Writing}
 use Rattle.file_copying.specs.Faults.{IsMovingCause, IsCopyingCause, IsNoSourceDamage}
 use Rattle.file_copying.specs.Filling.{IsFullFile}
+use Rattle.file_copying.specs.Looking.{HasKey, LacksKey}
 use Rattle.file_copying.specs.Closing.{IsCopyDone}
 
--- the file has a header that is accepted
-abbrev pub IsAccepted : DeviceFile → Type 0
-IsAccepted file = (header : Header) × (look_of file.seen ≡ Accepted header)
-
 -- What an answer tells of the two files as they were. So no other answer comes where there is none to
--- copy, where it is refused, or where the new one is there, but that a device failed.
-abbrev pub IsCopyTold : (source target : DeviceFile) → Result Copied CopyingFault → Type 0
-IsCopyTold source target (Ok copied) = IsAccepted source × (target.seen ≡ None)
-IsCopyTold source target (Err NoneToCopy) = look_of source.seen ≡ NoFile
-IsCopyTold source target (Err NotAccepted) = look_of source.seen ≡ Refused
-IsCopyTold source target (Err IsThere) = IsAccepted source × IsTrue (is_some target.seen)
-IsCopyTold source target (Err (Reading fault)) = fault ≢ Device → IsAccepted source × (target.seen ≡ None)
-IsCopyTold source target (Err (Writing fault)) = IsAccepted source × (fault ≢ Device → target.seen ≡ None)
+-- copy, where it is refused or has no such key, or where the new one is there, but that a device failed.
+abbrev pub IsCopyTold : ℕ → (source target : DeviceFile) → Result Copied CopyingFault → Type 0
+IsCopyTold key source target (Ok copied) = HasKey key source × (target.seen ≡ None)
+IsCopyTold key source target (Err NoneToCopy) = look_of source.seen ≡ NoFile
+IsCopyTold key source target (Err NotAccepted) = look_of source.seen ≡ Refused
+IsCopyTold key source target (Err NoKey) = LacksKey key source
+IsCopyTold key source target (Err IsThere) = HasKey key source × IsTrue (is_some target.seen)
+IsCopyTold key source target (Err (Reading fault)) =
+    fault ≢ Device → HasKey key source × (target.seen ≡ None)
+IsCopyTold key source target (Err (Writing fault)) =
+    HasKey key source × (fault ≢ Device → target.seen ≡ None)
 
 -- nothing was written where there was none to copy, it was refused, or the new one is there
 abbrev pub IsCopyUntouched : (old new : ShelfState) → CopyingFault → Type 0
 IsCopyUntouched old new NoneToCopy = new.file ≡ old.file
 IsCopyUntouched old new NotAccepted = new.file ≡ old.file
+IsCopyUntouched old new NoKey = new.file ≡ old.file
 IsCopyUntouched old new IsThere = new.file ≡ old.file
 IsCopyUntouched old new (Reading fault) = ⊤
 IsCopyUntouched old new (Writing fault) = ⊤
@@ -55,6 +56,7 @@ abbrev pub CopyGivesUp : (old new : DeviceFile) → CopyingFault → Type 0
 CopyGivesUp old new (Reading fault) = CopyStaysRefused old new
 CopyGivesUp old new NoneToCopy = ⊤
 CopyGivesUp old new NotAccepted = ⊤
+CopyGivesUp old new NoKey = ⊤
 CopyGivesUp old new IsThere = ⊤
 CopyGivesUp old new (Writing fault) = ⊤
 
@@ -70,11 +72,12 @@ pub record BecomesCopy (schema : Schema) (file : File) (old new : DeviceFile)
   pub done : IsCopyDone schema file new result
   pub no_damage : IfErr result IsNoSourceDamage
 
--- the two files have units, and the one to be copied has this header
-pub record CanCopyByHeader (source unit : ℕ) (header : Header) (from to : ShelfState) : Type 0 where
+-- the two files have units, and the one to be copied has this header, whose schema has the key
+pub record CanCopyByHeader (source unit key : ℕ) (header : Header) (from to : ShelfState) : Type 0 where
   pub from_unit : HasUnit from source
   pub to_unit : HasUnit to unit
   pub is_header : IsHeader header
+  pub has_key : key < length header.schema.keys
   pub accepted : IsTrue from.is_honest → HasAccepted from source header
 
 -- a call that copies the file of this header
@@ -96,10 +99,10 @@ pub record MovesByHeader (source unit limit : ℕ) (header : Header) (from from_
 -- no wrong answer of either device was taken as true, and the bytes of the first are a closed file that
 -- stands for rows, the second becomes a copy. Always the first is only read, each other file of either
 -- shelf stays, and each fault has its cause.
-pub record CopiesBetween (source unit limit : ℕ) (from from_now to to_now : CountedShelf)
+pub record CopiesBetween (source unit key limit : ℕ) (from from_now to to_now : CountedShelf)
     (result : Result Copied CopyingFault) : Type 0 where
   pub told : IsTrue from_now.shelf.is_honest → IsTrue to_now.shelf.is_honest
-      → IsCopyTold (unit_file from.shelf source) (unit_file to.shelf unit) result
+      → IsCopyTold key (unit_file from.shelf source) (unit_file to.shelf unit) result
   pub untouched : IfErr result (IsCopyUntouched to.shelf to_now.shelf)
   pub copies : IsTrue from_now.shelf.is_honest → IsTrue to_now.shelf.is_honest
       → (schema : Schema) (file : File) → AreClosed schema file (content (unit_file from.shelf source))
@@ -123,7 +126,7 @@ module _ {S T : Type 0} (state : S → ShelfState) (count : S → ℕ) (state_to
       (counted_shelf (state from) (count from)) (counted_shelf (state from_now) (count from_now))
       (counted_shelf (state_to to) (count_to to)) (counted_shelf (state_to to_now) (count_to to_now)) result
 
-  abbrev pub CopiesUnit : (source unit limit : ℕ) → S → S → T → T → Result Copied CopyingFault → Type 0
-  CopiesUnit source unit limit from from_now to to_now result = CopiesBetween source unit limit
+  abbrev pub CopiesUnit : (source unit key limit : ℕ) → S → S → T → T → Result Copied CopyingFault → Type 0
+  CopiesUnit source unit key limit from from_now to to_now result = CopiesBetween source unit key limit
       (counted_shelf (state from) (count from)) (counted_shelf (state from_now) (count from_now))
       (counted_shelf (state_to to) (count_to to)) (counted_shelf (state_to to_now) (count_to to_now)) result

@@ -6,7 +6,7 @@ use Rattle.tree_building.specs.Fresh.{IsBuildCause}
 use Rattle.file_copying.specs.declared.copy_fault.CopyFault.{CopyFault}
 use Rattle.file_copying.specs.declared.copy_fault.CopyFault.TheVariants.{Reading as OfFile, Writing as OfCopy}
 use Rattle.file_copying.specs.declared.fault.CopyingFault.{CopyingFault}
-use Rattle.file_copying.specs.declared.fault.CopyingFault.TheVariants.{NoneToCopy, NotAccepted, IsThere, Reading, Writing}
+use Rattle.file_copying.specs.declared.fault.CopyingFault.TheVariants.{NoneToCopy, NotAccepted, NoKey, IsThere, Reading, Writing}
 
 -- why pages were not filled
 abbrev pub copying_fault_of : CopyFault → CopyingFault
@@ -24,6 +24,7 @@ pub record IsReadingCause (failed : Type 0) (fault : Fault) : Type 0 where
 abbrev pub IsMovingCause : (reading_failed writing_failed ran_out : Type 0) → CopyingFault → Type 0
 IsMovingCause reading_failed writing_failed ran_out NoneToCopy = ⊥
 IsMovingCause reading_failed writing_failed ran_out NotAccepted = ⊥
+IsMovingCause reading_failed writing_failed ran_out NoKey = ⊥
 IsMovingCause reading_failed writing_failed ran_out IsThere = ⊥
 IsMovingCause reading_failed writing_failed ran_out (Reading fault) = IsReadingCause reading_failed fault
 IsMovingCause reading_failed writing_failed ran_out (Writing fault) =
@@ -33,6 +34,7 @@ IsMovingCause reading_failed writing_failed ran_out (Writing fault) =
 abbrev pub IsClosingCause : Type 0 → CopyingFault → Type 0
 IsClosingCause failed NoneToCopy = ⊥
 IsClosingCause failed NotAccepted = ⊥
+IsClosingCause failed NoKey = ⊥
 IsClosingCause failed IsThere = ⊥
 IsClosingCause failed (Reading fault) = ⊥
 IsClosingCause failed (Writing fault) = IsBuildCause failed ⊥ fault × (fault ≢ Damage)
@@ -41,6 +43,7 @@ IsClosingCause failed (Writing fault) = IsBuildCause failed ⊥ fault × (fault 
 abbrev pub IsCopyingCause : (reading_failed writing_failed ran_out : Type 0) → CopyingFault → Type 0
 IsCopyingCause reading_failed writing_failed ran_out NoneToCopy = ⊤
 IsCopyingCause reading_failed writing_failed ran_out NotAccepted = ⊤
+IsCopyingCause reading_failed writing_failed ran_out NoKey = ⊤
 IsCopyingCause reading_failed writing_failed ran_out IsThere = ⊤
 IsCopyingCause reading_failed writing_failed ran_out (Reading fault) = IsReadingCause reading_failed fault
 IsCopyingCause reading_failed writing_failed ran_out (Writing fault) =
@@ -50,6 +53,7 @@ IsCopyingCause reading_failed writing_failed ran_out (Writing fault) =
 abbrev pub IsNoSourceDamage : CopyingFault → Type 0
 IsNoSourceDamage NoneToCopy = ⊤
 IsNoSourceDamage NotAccepted = ⊤
+IsNoSourceDamage NoKey = ⊤
 IsNoSourceDamage IsThere = ⊤
 IsNoSourceDamage (Reading fault) = fault ≢ Damage
 IsNoSourceDamage (Writing fault) = fault ≢ Damage

@@ -1,5 +1,5 @@
 -- Pages of a new file that are filled from those of another.
-use Rattle.std.specs.Prelude.{◌≡◌, ◌≤◌, ℕ, None, true, false, IsTrue, IsFalse, Result, IfOk, IfErr}
+use Rattle.std.specs.Prelude.{◌≡◌, ◌≤◌, ◌<◌, ℕ, length, None, true, false, IsTrue, IsFalse, Result, IfOk, IfErr}
 use Rattle.indexed_file.specs.File.{File}
 use Rattle.page_store.specs.Moments.{IsQuiet}
 use Rattle.page_store.specs.Pages.{HoldsPages}
@@ -18,11 +18,12 @@ use Rattle.file_copying.specs.Parts.{joined_file}
 use Rattle.file_copying.specs.declared.fault.CopyingFault.{CopyingFault}
 use Rattle.file_copying.specs.Faults.{IsMovingCause, IsCopyingAnswer}
 
--- one file is open and was not changed, and the gate of the other is open
-pub record CanFill (file : OpenFile) (pages target : PagedFile) (from to : ShelfState) : Type 0 where
+-- one file is open and was not changed, and has the key, and the gate of the other is open
+pub record CanFill (file : OpenFile) (key : ℕ) (pages target : PagedFile) (from to : ShelfState) : Type 0 where
   pub readable : IsOpenOver pages from
   pub unchanged : is_begun pages ≡ false
   pub shaped : IsShaped file
+  pub has_key : key < length (file_schema file).keys
   pub unbroken : IsFalse (has_broken file)
   pub writable : IsOpenOver target to
   pub begun : is_begun target ≡ true

@@ -14,3 +14,6 @@ pub mod Copying
 pub mod NewPlace
 pub mod Attached
 pub mod CopiedPath
+pub mod NewPlaces
+pub mod Moving
+pub mod Leading

@@ -16,10 +16,11 @@ pub fn copy_named<S: Shelf, T: Shelf>(
     from: &mut S,
     to: &mut T,
     name: FileName,
+    key: u8,
     frames: NonZeroUsize,
     limit: u32,
 ) -> Result<Copied, CopyingFault>
-    ensures { CopiesNamed S.state S.fault_count T.state T.fault_count name.bytes limit
+    ensures { CopiesNamed S.state S.fault_count T.state T.fault_count name.bytes key limit
         from.old from.new to.old to.new result }
 {
     if from.attach(&[FileName::new()]).is_err() {
@@ -28,5 +29,5 @@ pub fn copy_named<S: Shelf, T: Shelf>(
     if to.attach(&[name]).is_err() {
         return Err(CopyingFault::Writing(Fault::Memory));
     }
-    copy_closed(alloc, from, 0, to, 0, frames, limit)
+    copy_closed(alloc, from, 0, to, 0, key, frames, limit)
 }

@@ -13,11 +13,12 @@ use std::alloc::Global;
 use std::num::NonZeroUsize;
 
 /// Copies the closed file of a path into a new file of a name in a folder, which may grow to `limit`
-/// pages of 4,096 bytes; at most `frames` pages of each file are held in memory. `reader` reads the
+/// pages of 4,096 bytes, its records in the order of a key; at most `frames` pages of each file are
+/// held in memory. `reader` reads the
 /// first file, and `system` has the folder of the second; nothing was asked of either. Both are given
 /// back, the reader first, with the record of what they were asked and answered.
 ///
-/// `NoneToCopy`, `NotAccepted`, `IsThere`: nothing was written. `Reading`: Device; Damage where an
+/// `NoneToCopy`, `NotAccepted`, `NoKey`, `IsThere`: nothing was written. `Reading`: Device; Damage where an
 /// entry or a record is not what its place requires. `Writing`: Device, Memory, Full. The new file is
 /// absent or refused then, or it is the whole copy where its closing failed.
 pub fn copy_path<S: System + Drop, D: Disk>(
@@ -27,19 +28,20 @@ pub fn copy_path<S: System + Drop, D: Disk>(
     source: String,
     folder: String,
     name: FileName,
+    key: u8,
     frames: NonZeroUsize,
     limit: u32,
 ) -> (S, S, Result<Copied, CopyingFault>)
     requires unread { (S.state reader).calls ≡ [] }
     requires unasked { (S.state system).calls ≡ [] }
     ensures copies { CopiesPath D.Disk.unseen
-        (copy_paths (string_bytes source) (string_bytes folder) name.bytes limit)
+        (copy_paths (string_bytes source) (string_bytes folder) name.bytes key limit)
         (S.state result.0).calls (S.state result.1) result.2 }
     ensures reading { AreReading (S.state result.0).calls }
     ensures within { StaysWithin (S.state result.1) }
 {
     let mut from: PathShelf<S, D> = PathShelf::new(alloc, reader, source);
     let mut to: FolderShelf<S, D> = FolderShelf::new(system, folder);
-    let copied = copy_named(alloc, &mut from, &mut to, name, frames, limit);
+    let copied = copy_named(alloc, &mut from, &mut to, name, key, frames, limit);
     (from.into_system(), to.into_system(), copied)
 }

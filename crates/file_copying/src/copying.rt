@@ -17,11 +17,11 @@ use std::alloc::Global;
 use std::num::NonZeroUsize;
 
 /// Makes the file of `unit`, which is not there yet, with what the closed file of `source` on
-/// another shelf has: the same records with the same stamps, in the order of the prime key. It may
-/// grow to `limit` pages; at most `frames` pages of each file are held in memory.
+/// another shelf has: the same records with the same stamps. They lie in the order of a key, by its
+/// number: 0 is the prime key, and 1 to 8 are the alternate keys. It may grow to `limit` pages; at most `frames` pages of each file are held in memory.
 ///
 /// The file that is copied is only read. The new one is refused until all of it is written.
-/// `NoneToCopy`, `NotAccepted`, `IsThere`: nothing was written. `Reading`: Device; Damage where an
+/// `NoneToCopy`, `NotAccepted`, `NoKey`, `IsThere`: nothing was written. `Reading`: Device; Damage where an
 /// entry or a record is not what its place requires. `Writing`: Device, Memory, Full. The new file
 /// is absent or refused then, or it is the whole copy where its closing failed.
 pub fn copy_closed<S: Shelf, T: Shelf>(
@@ -30,20 +30,21 @@ pub fn copy_closed<S: Shelf, T: Shelf>(
     source: usize,
     to: &mut T,
     unit: usize,
+    key: u8,
     frames: NonZeroUsize,
     limit: u32,
 ) -> Result<Copied, CopyingFault>
     requires source { HasUnit (S.state from.old) source }
     requires target { HasUnit (T.state to.old) unit }
-    ensures { CopiesUnit S.state S.fault_count T.state T.fault_count source unit limit
+    ensures { CopiesUnit S.state S.fault_count T.state T.fault_count source unit key limit
         from.old from.new to.old to.new result }
 {
-    let header = match source_header(from, source) {
+    let header = match source_header(from, source, key) {
         Ok(header) => header,
         Err(fault) => return Err(fault),
     };
     match find_no_target(to, unit) {
-        Ok(()) => copy_by_header(alloc, from, source, &header, to, unit, frames, limit),
+        Ok(()) => copy_by_header(alloc, from, source, &header, to, unit, key, frames, limit),
         Err(fault) => Err(fault),
     }
 }
@@ -56,10 +57,11 @@ fn copy_by_header<S: Shelf, T: Shelf>(
     header: &Header,
     to: &mut T,
     unit: usize,
+    key: u8,
     frames: NonZeroUsize,
     limit: u32,
 ) -> Result<Copied, CopyingFault>
-    requires { CanCopyByHeader source unit header.now (S.state from.old) (T.state to.old) }
+    requires { CanCopyByHeader source unit key header.now (S.state from.old) (T.state to.old) }
     ensures { CopiesByHeader S.state S.fault_count T.state T.fault_count source unit limit header.now
         from.old from.new to.old to.new result }
 {
@@ -71,7 +73,7 @@ fn copy_by_header<S: Shelf, T: Shelf>(
         Ok(pages) => pages,
         Err(fault) => return Err(CopyingFault::Writing(fault)),
     };
-    match fill(alloc, from, &parts.file, &mut parts.pages, to, pages) {
+    match fill(alloc, from, &parts.file, &mut parts.pages, key, to, pages) {
         Ok(copy) => close_copy(to, copy),
         Err(fault) => Err(fault),
     }

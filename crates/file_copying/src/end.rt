@@ -10,6 +10,8 @@ pub enum CopyEnd {
     /// The first page of the file is refused, or the file is shorter than that page tells. Nothing was
     /// written.
     Refused,
+    /// The file has no key of the number that was asked for. Nothing was written.
+    NoKey,
     /// An entry or a record of the file is not what its place requires. What is there of the new file is
     /// refused.
     Damaged,

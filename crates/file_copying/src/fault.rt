@@ -20,6 +20,9 @@ pub enum CopyingFault {
     /// written.
     #[error("the file that is to be copied is refused")]
     NotAccepted,
+    /// The file has no key of this number. Nothing was written.
+    #[error("the file that is to be copied has no such key")]
+    NoKey,
     /// The new file is there already. Nothing was written.
     #[error("the new file is there already")]
     IsThere,

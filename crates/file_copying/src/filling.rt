@@ -23,16 +23,17 @@ fn told_fault(fault: CopyFault) -> CopyingFault
     }
 }
 
-/// Copies an open file of one shelf into new pages on another.
+/// Copies an open file of one shelf into new pages on another, its records in the order of a key.
 pub fn fill<S: Shelf, T: Shelf>(
     alloc: Global,
     from: &mut S,
     file: &OpenFile,
     pages: &mut PagedFile,
+    key: u8,
     to: &mut T,
     target: PagedFile,
 ) -> Result<FileParts, CopyingFault>
-    requires { CanFill file.now pages.old target (S.state from.old) (T.state to.old) }
+    requires { CanFill file.now key pages.old target (S.state from.old) (T.state to.old) }
     ensures { FillsPages S.state S.fault_count T.state T.fault_count file.now pages.old target
         from.old from.new to.old to.new result }
 {
@@ -40,6 +41,7 @@ pub fn fill<S: Shelf, T: Shelf>(
     match copy_file(
         alloc,
         file,
+        key,
         &mut FilePages {
             file: pages,
             shelf: from,

@@ -1,4 +1,4 @@
-use Rattle.std.proofs.Common.{◌≡◌, ◌+◌, ◌<◌, ℕ, length, refl, sym, ap, subst, ◌∙◌, false, arith}
+use Rattle.std.proofs.Common.{sym, subst, ◌∙◌, false, arith}
 use Rattle.pages.specs.PageMap.{PageMap}
 use Rattle.open_file.specs.Stands.{Stands}
 use Rattle.open_file.specs.Fields.{has_broken}
@@ -22,10 +22,10 @@ returns-in_err-alternates g c =
     let laws : StepLaws g.Q.Pages.shown = record { nothing = g.met.Q.Pages.writes_nothing; on = g.met.Q.Pages.writes_on; failed_before = g.met.Q.Pages.failed_before; failed_after = g.met.Q.Pages.failed_after } in
     let source = c.args.source.now in
     let start = c.args.from.now in
-    let mid = c.copy_rows.new.from in
+    let mid = c.copy_rows_by.new.from in
     let late = c.copy_alternates.new.from in
     let x = c.args.to.now in
-    let y = c.copy_rows.new.to in
+    let y = c.copy_rows_by.new.to in
     let z = c.copy_alternates.new.to in
     let first = c.in_ok-rows.ensures.keeps in
     let second = c.in_err-alternates.ensures.keeps in
@@ -52,10 +52,10 @@ pub returns-in-Ok : goal.returns-in-Ok
 returns-in-Ok g c =
     let source = c.args.source.now in
     let start = c.args.from.now in
-    let mid = c.copy_rows.new.from in
+    let mid = c.copy_rows_by.new.from in
     let late = c.copy_alternates.new.from in
     let x = c.args.to.now in
-    let y = c.copy_rows.new.to in
+    let y = c.copy_rows_by.new.to in
     let z = c.copy_alternates.new.to in
     let first = c.in_ok-rows.ensures.keeps in
     let second = c.in_ok-alternates.ensures.keeps in
@@ -84,10 +84,10 @@ pub returns-in-Err : goal.returns-in-Err
 returns-in-Err g c =
     let source = c.args.source.now in
     let start = c.args.from.now in
-    let mid = c.copy_rows.new.from in
+    let mid = c.copy_rows_by.new.from in
     let late = c.copy_alternates.new.from in
     let x = c.args.to.now in
-    let y = c.copy_rows.new.to in
+    let y = c.copy_rows_by.new.to in
     let z = c.copy_alternates.new.to in
     let first = c.in_ok-rows.ensures.keeps in
     let second = c.in_ok-alternates.ensures.keeps in

@@ -7,7 +7,7 @@ pub returns-clause-copies : goal.returns-clause-copies
 returns-clause-copies g c =
     let disk = g.D.Disk.unseen in
     let state = g.S.System.state in
-    let asked = copy_paths (string_bytes c.args.source) (string_bytes c.args.folder) c.args.name.bytes c.args.limit in
+    let asked = copy_paths (string_bytes c.args.source) (string_bytes c.args.folder) c.args.name.bytes c.args.key c.args.limit in
     let from = c.copy_named-copied.new.from in
     let to = c.copy_named-copied.new.to in
     rw c.into_system.ensures.same (rw c.into_system-2.ensures.same

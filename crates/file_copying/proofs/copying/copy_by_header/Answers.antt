@@ -10,7 +10,7 @@ returns-in-Err-create g c =
 pub fill-requires : goal.fill-requires
 fill-requires g c =
     let opens = c.create.ensures.opens in
-    can_fill c.args.source c.args.unit c.args.limit c.args.header.now c.in-Ok.parts c.in-Ok-create.pages
+    can_fill c.args.source c.args.unit c.args.key c.args.limit c.args.header.now c.in-Ok.parts c.in-Ok-create.pages
     (g.S.Shelf.state c.args.from.now) (g.T.Shelf.state c.args.to.now) (g.T.Shelf.state c.create.new.shelf)
     (g.S.Shelf.fault_count c.args.from.now) (g.T.Shelf.fault_count c.args.to.now) (g.T.Shelf.fault_count c.create.new.shelf)
     c.requires c.in-Ok.ensures.opened c.in-Ok-create.ensures.made c.in-Ok-create.ensures.ready opens.images opens.others opens.no_fewer
@@ -18,7 +18,7 @@ fill-requires g c =
 pub returns-in-Ok-fill : goal.returns-in-Ok-fill
 returns-in-Ok-fill g c =
     let opens = c.create.ensures.opens in
-    moved c.args.source c.args.unit c.args.limit c.args.header.now c.in-Ok.parts c.in-Ok-create.pages
+    moved c.args.source c.args.unit c.args.key c.args.limit c.args.header.now c.in-Ok.parts c.in-Ok-create.pages
     (g.S.Shelf.state c.args.from.now) (g.T.Shelf.state c.args.to.now) (g.T.Shelf.state c.create.new.shelf)
     (g.S.Shelf.fault_count c.args.from.now) (g.T.Shelf.fault_count c.args.to.now) (g.T.Shelf.fault_count c.create.new.shelf)
     c.requires c.in-Ok.ensures.opened c.in-Ok-create.ensures.made c.in-Ok-create.ensures.ready opens.images opens.others opens.no_fewer
@@ -29,7 +29,7 @@ returns-in-Ok-fill g c =
 pub returns : goal.returns
 returns g c =
     let opens = c.create.ensures.opens in
-    not_filled c.args.source c.args.unit c.args.limit c.args.header.now c.in-Ok.parts c.in-Ok-create.pages
+    not_filled c.args.source c.args.unit c.args.key c.args.limit c.args.header.now c.in-Ok.parts c.in-Ok-create.pages
     (g.S.Shelf.state c.args.from.now) (g.T.Shelf.state c.args.to.now) (g.T.Shelf.state c.create.new.shelf)
     (g.S.Shelf.fault_count c.args.from.now) (g.T.Shelf.fault_count c.args.to.now) (g.T.Shelf.fault_count c.create.new.shelf)
     c.requires c.in-Ok.ensures.opened c.in-Ok-create.ensures.made c.in-Ok-create.ensures.ready opens.images opens.others opens.no_fewer

@@ -3,7 +3,7 @@ use Rattle.file_copying.proofs.copying.copy_closed.Goals as goal
 
 pub returns-in-Ok-find_no_target : goal.returns-in-Ok-find_no_target
 returns-in-Ok-find_no_target g c =
-    copied c.args.source c.args.unit c.args.limit (g.S.Shelf.state c.args.from.now) (g.S.Shelf.state c.source_header.new.shelf)
+    copied c.args.source c.args.unit c.args.key c.args.limit (g.S.Shelf.state c.args.from.now) (g.S.Shelf.state c.source_header.new.shelf)
     (g.S.Shelf.fault_count c.args.from.now) (g.S.Shelf.fault_count c.source_header.new.shelf) c.in-Ok.header
     (g.T.Shelf.state c.args.to.now) (g.T.Shelf.state c.find_no_target.new.shelf)
     (g.T.Shelf.fault_count c.args.to.now) (g.T.Shelf.fault_count c.find_no_target.new.shelf)

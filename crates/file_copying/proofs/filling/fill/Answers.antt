@@ -21,7 +21,7 @@ returns-in-Ok g c =
     _ _ c.from-1.given.1 keeps.reads.1
     (at_ends (λ q t. FillsPages g.S.Shelf.state g.S.Shelf.fault_count g.T.Shelf.state g.T.Shelf.fault_count file a b from mid to t (Ok (record { file = c.in-Ok.file; pages = q })))
     _ _ _ _ c.target-2-1.given.1 keeps.writes.0 c.to-1.given.1 keeps.writes.1
-    (filled file a c.copy_file.new.from.file.now b m (g.S.Shelf.state from) (g.S.Shelf.state mid) (g.T.Shelf.state to) (g.T.Shelf.state late)
+    (filled file c.args.key a c.copy_file.new.from.file.now b m (g.S.Shelf.state from) (g.S.Shelf.state mid) (g.T.Shelf.state to) (g.T.Shelf.state late)
     (g.S.Shelf.fault_count from) (g.S.Shelf.fault_count mid) (g.T.Shelf.fault_count to) (g.T.Shelf.fault_count late)
     c.requires keeps.reads.2 keeps.writes.2 c.in-Ok.file c.in-Ok.ensures.copied c.in-Ok.ensures.made))
 
@@ -41,7 +41,7 @@ returns-in-Err g c =
     _ _ _ _ c.from-1.given.1 keeps.reads.1 c.to-1.given.1 keeps.writes.1
     (subst (λ (told : CopyingFault). FillsPages g.S.Shelf.state g.S.Shelf.fault_count g.T.Shelf.state g.T.Shelf.fault_count file a b from mid to late (Err told))
     (sym c.told_fault.ensures)
-    (not_filled file a c.copy_file.new.from.file.now b m (g.S.Shelf.state from) (g.S.Shelf.state mid) (g.T.Shelf.state to) (g.T.Shelf.state late)
+    (not_filled file c.args.key a c.copy_file.new.from.file.now b m (g.S.Shelf.state from) (g.S.Shelf.state mid) (g.T.Shelf.state to) (g.T.Shelf.state late)
     (g.S.Shelf.fault_count from) (g.S.Shelf.fault_count mid) (g.T.Shelf.fault_count to) (g.T.Shelf.fault_count late)
     c.requires keeps.reads.2 keeps.writes.2 _ fault c.in-Err.ensures.copied
     (λ ran. full_file b ran.at.file.now m (g.T.Shelf.state to) (g.T.Shelf.state ran.at.shelf.now) (g.T.Shelf.state late) _ _ _ c.requires.writable ran.since.2 ran.until.2 ran.none)
