@@ -139,3 +139,46 @@ pub record StandsOver (shape : Shape) (nodes : List Separator) (more : List (Lis
 pub record IsLargeLeaf (shape : Shape) (page : List ℕ) : Type 0 where
   pub leaf : IsLeaf shape page
   pub large : least_entries shape 0 ≤ length (leaf_entries shape page)
+
+-- one leaf more is written
+abbrev pub WritesLeaf : Shape → (old new : List Separator) → (leaf : List ℕ) → Result Unit Fault
+    → PageMap → PageMap → Type 0 → Type 0
+WritesLeaf shape old new leaf result =
+    WritesMore shape old new (leaf_entries shape leaf) (length (leaf_entries shape leaf) ∷ []) result
+
+-- what two leaves have, and two leaves that share it
+pub record TwoLeaves : Type 0 where
+  pub lower : List ℕ
+  pub upper : List ℕ
+  pub lower_now : List ℕ
+  pub upper_now : List ℕ
+
+abbrev pub two_leaves : (lower upper lower_now upper_now : List ℕ) → TwoLeaves
+two_leaves lower upper lower_now upper_now =
+    record { lower = lower; upper = upper; lower_now = lower_now; upper_now = upper_now }
+
+-- the entries of both, and how many the leaves have that share them
+abbrev pub shared_entries : Shape → TwoLeaves → List (List ℕ)
+shared_entries shape leaves = leaf_entries shape leaves.lower ++ leaf_entries shape leaves.upper
+
+abbrev pub shared_counts : Shape → TwoLeaves → List ℕ
+shared_counts shape leaves =
+    length (leaf_entries shape leaves.lower_now) ∷ length (leaf_entries shape leaves.upper_now) ∷ []
+
+-- two leaves more are written, which share what they had
+abbrev pub WritesTwo : Shape → (old new : List Separator) → TwoLeaves → Result Unit Fault
+    → PageMap → PageMap → Type 0 → Type 0
+WritesTwo shape old new two result =
+    WritesMore shape old new (shared_entries shape two) (shared_counts shape two) result
+
+-- a tree stands over the leaves and one more
+abbrev pub StandsOverLeaf : Shape → List Separator → (leaf : List ℕ) → (count : ℕ) → Result Tree Fault
+    → (left left_now : ℕ) → PageMap → PageMap → Type 0 → Type 0
+StandsOverLeaf shape nodes leaf count result =
+    StandsOver shape nodes (leaf_entries shape leaf) (length (leaf_entries shape leaf) ∷ []) count result
+
+-- a tree stands over the leaves and two more, which share what they had
+abbrev pub StandsOverTwo : Shape → List Separator → TwoLeaves → (count : ℕ) → Result Tree Fault
+    → (left left_now : ℕ) → PageMap → PageMap → Type 0 → Type 0
+StandsOverTwo shape nodes two count result =
+    StandsOver shape nodes (shared_entries shape two) (shared_counts shape two) count result

@@ -36,6 +36,12 @@ abbrev pub TakesExactly : {S X : Type 0} → ShownPages S → ℕ → (old new :
 TakesExactly shown count old new result =
     OnOk result ((shown.state new).available + count ≡ (shown.state old).available)
 
+-- a page was taken for each leaf that was written: so many were before, and so many are now
+abbrev pub TakesForLeaves : {S X : Type 0} → ShownPages S → (were are : ℕ) → (old new : S) → Result X Fault
+    → Type 0
+TakesForLeaves shown were are old new result =
+    OnOk result (are + (shown.state new).available ≡ were + (shown.state old).available)
+
 -- memory lacks only once a page was taken
 abbrev pub LacksMemoryLate : {S X : Type 0} → ShownPages S → (old new : S) → Result X Fault → Type 0
 LacksMemoryLate shown old new result =

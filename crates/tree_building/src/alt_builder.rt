@@ -25,11 +25,11 @@ pub struct AltBuilder {
 }
 
 impl AltBuilder {
-    ghost use Rattle.std.specs.Prelude.{[], IfOk, OnOk};
+    ghost use Rattle.std.specs.Prelude.{[], IfOk};
     ghost use Rattle.pages.specs.PageMap.{PageMap};
     ghost use Rattle.key_index.specs.Stored.{entry_to};
     ghost use Rattle.bplus_tree.specs.Changes.{CanWrite, WhereSound};
-    ghost use Rattle.tree_building.specs.Fresh.{TakesNewPages, TakesForEntry, WhereCounted};
+    ghost use Rattle.tree_building.specs.Fresh.{TakesNewPages, TakesForEntry, TakesForLeaves, WhereCounted};
     ghost use Rattle.tree_building.specs.IndexBuilding.{CanBuildAlt, IsAltBuilderOf, IsBuiltFrom, KeepsAlt};
     ghost use Rattle.tree_building.specs.IndexBuilding.{IsBuildingAlt, CanPushAlt, PushesAlt, FinishesAlt};
     ghost use Rattle.tree_building.specs.IndexBuilding.{alt_builder_count, alt_leaves_written};
@@ -62,8 +62,8 @@ impl AltBuilder {
             result) }
         ensures keeps { KeepsAlt self.old self.new }
         ensures takes { TakesForEntry P.shown (alt_builder_count self.old) pages.old pages.new result }
-        ensures taken { OnOk result (alt_leaves_written self.new + (P.shown.state pages.new).available
-            ≡ alt_leaves_written self.old + (P.shown.state pages.old).available) }
+        ensures taken { TakesForLeaves P.shown (alt_leaves_written self.old)
+            (alt_leaves_written self.new) pages.old pages.new result }
     {
         self.push_parts(pages, &entry.value, entry.stamp, &entry.prime)
     }
@@ -95,8 +95,8 @@ impl AltBuilder {
             (entry_to value.now stamp prime.now) result) }
         ensures keeps { KeepsAlt self.old self.new }
         ensures takes { TakesForEntry P.shown (alt_builder_count self.old) pages.old pages.new result }
-        ensures taken { OnOk result (alt_leaves_written self.new + (P.shown.state pages.new).available
-            ≡ alt_leaves_written self.old + (P.shown.state pages.old).available) }
+        ensures taken { TakesForLeaves P.shown (alt_leaves_written self.old)
+            (alt_leaves_written self.new) pages.old pages.new result }
     {
         let bytes = AltEntry::bytes(value, stamp, prime);
         self.tree.push(pages, bytes.as_slice())

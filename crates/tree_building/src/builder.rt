@@ -6,7 +6,7 @@ ghost use Rattle.pages.specs.PageMap.{PageMap};
 ghost use Rattle.bplus_tree.specs.Changes.{CanWrite, CanInsert, WhereSound};
 ghost use Rattle.bplus_tree.specs.Fields.{tree_shape};
 ghost use Rattle.tree_building.specs.Level.{AreWide};
-ghost use Rattle.tree_building.specs.Fresh.{TakesNewPages, TakesForEntry, WhereCounted};
+ghost use Rattle.tree_building.specs.Fresh.{TakesNewPages, TakesForEntry, TakesForLeaves, WhereCounted};
 ghost use Rattle.tree_building.specs.Pending.{ArePending};
 
 use crate::ending::{end_with_one, end_with_two, stand_alone};
@@ -60,8 +60,8 @@ impl TreeBuilder {
         ensures pushes { WhereSound P.shown pages.old pages.new (Pushes self.old self.new entry.now result) }
         ensures shape { builder_shape self.new ≡ builder_shape self.old }
         ensures takes { TakesForEntry P.shown (entry_count self.old) pages.old pages.new result }
-        ensures taken { OnOk result (leaves_written self.new + (P.shown.state pages.new).available
-            ≡ leaves_written self.old + (P.shown.state pages.old).available) }
+        ensures taken { TakesForLeaves P.shown (leaves_written self.old) (leaves_written self.new)
+            pages.old pages.new result }
     {
         let Some(count) = self.count.checked_add(1) else {
             return Err(Fault::Memory);
@@ -119,8 +119,8 @@ impl TreeBuilder {
             < leaf_room self.new.shape) }
         ensures same { (self.new.shape ≡ self.old.shape) × (self.new.count ≡ self.old.count) }
         ensures takes { TakesNewPages P.shown pages.old pages.new result }
-        ensures taken { OnOk result (leaves_written self.new + (P.shown.state pages.new).available
-            ≡ leaves_written self.old + (P.shown.state pages.old).available) }
+        ensures taken { TakesForLeaves P.shown (leaves_written self.old) (leaves_written self.new)
+            pages.old pages.new result }
     {
         let upper = LeafView {
             page: &self.upper,
@@ -141,8 +141,8 @@ impl TreeBuilder {
             < leaf_room self.new.shape) }
         ensures same { (self.new.shape ≡ self.old.shape) × (self.new.count ≡ self.old.count) }
         ensures takes { TakesNewPages P.shown pages.old pages.new result }
-        ensures taken { OnOk result (leaves_written self.new + (P.shown.state pages.new).available
-            ≡ leaves_written self.old + (P.shown.state pages.old).available) }
+        ensures taken { TakesForLeaves P.shown (leaves_written self.old) (leaves_written self.new)
+            pages.old pages.new result }
     {
         add_leaf(pages, self.shape, &self.lower, &mut self.leaves)?;
         self.lower = self.upper;

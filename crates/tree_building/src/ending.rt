@@ -1,13 +1,14 @@
 //! The end of a tree that is being built: its last leaves, and the levels above.
 
-ghost use Rattle.std.specs.Prelude.{◌≡◌, ◌≤◌, ◌+◌, ◌++◌, [], ◌∷◌, IfOk, OnOk, length};
-ghost use Rattle.tree_node.specs.Leaf.{leaf_entries, IsLeaf};
+ghost use Rattle.std.specs.Prelude.{◌≡◌, ◌≤◌, ◌+◌, [], IfOk, OnOk, length};
+ghost use Rattle.tree_node.specs.Leaf.{IsLeaf};
 ghost use Rattle.bplus_tree.specs.Changes.{CanWrite, WhereSound};
 ghost use Rattle.bplus_tree.specs.Fields.{tree_shape};
 ghost use Rattle.tree_building.specs.Level.{HaveWidth};
 ghost use Rattle.tree_building.specs.Fresh.{TakesExactly, TakesNewPages, WhereCounted};
 ghost use Rattle.tree_building.specs.Pending.{AreUneven};
-ghost use Rattle.tree_building.specs.Building.{WritesMore, StandsOver, IsLargeLeaf};
+ghost use Rattle.tree_building.specs.Building.{IsLargeLeaf, StandsOver, StandsOverLeaf};
+ghost use Rattle.tree_building.specs.Building.{StandsOverTwo, WritesLeaf, WritesTwo, two_leaves};
 
 use crate::fresh_page::put_page;
 use crate::leaves::add_leaf;
@@ -28,9 +29,8 @@ pub fn write_one<P: Pages>(
 ) -> Result<(), Fault>
     requires pages { CanWrite P.shown pages.old }
     requires leaf { IsLargeLeaf shape leaf.now }
-    ensures writes { WhereSound P.shown pages.old pages.new (WritesMore shape leaves.old.items
-        leaves.new.items (leaf_entries shape leaf.now) (length (leaf_entries shape leaf.now) ∷ [])
-        result) }
+    ensures writes { WhereSound P.shown pages.old pages.new (WritesLeaf shape leaves.old.items
+        leaves.new.items leaf.now result) }
     ensures one { OnOk result (length leaves.new.items ≡ length leaves.old.items + 1) }
     ensures width { OnOk result (HaveWidth shape leaves.old.items → HaveWidth shape leaves.new.items) }
     ensures takes { TakesNewPages P.shown pages.old pages.new result }
@@ -49,10 +49,8 @@ pub fn write_two<P: Pages>(
 ) -> Result<(), Fault>
     requires pages { CanWrite P.shown pages.old }
     requires leaves { AreUneven shape lower.old upper.old }
-    ensures writes { WhereSound P.shown pages.old pages.new (WritesMore shape leaves.old.items
-        leaves.new.items (leaf_entries shape lower.old ++ leaf_entries shape upper.old)
-        (length (leaf_entries shape lower.new) ∷ length (leaf_entries shape upper.new) ∷ [])
-        result) }
+    ensures writes { WhereSound P.shown pages.old pages.new (WritesTwo shape leaves.old.items
+        leaves.new.items (two_leaves lower.old upper.old lower.new upper.new) result) }
     ensures two { OnOk result (length leaves.new.items ≡ length leaves.old.items + 2) }
     ensures width { OnOk result (HaveWidth shape leaves.old.items → HaveWidth shape leaves.new.items) }
     ensures takes { TakesNewPages P.shown pages.old pages.new result }
@@ -92,8 +90,8 @@ pub fn stand_alone<P: Pages>(
 ) -> Result<Tree, Fault>
     requires pages { CanWrite P.shown pages.old }
     requires leaf { IsLeaf shape leaf.now }
-    ensures stands { WhereCounted P.shown pages.old pages.new (StandsOver shape []
-        (leaf_entries shape leaf.now) (length (leaf_entries shape leaf.now) ∷ []) count result) }
+    ensures stands { WhereCounted P.shown pages.old pages.new (StandsOverLeaf shape [] leaf.now
+        count result) }
     ensures shape { IfOk result (λ tree. tree_shape tree ≡ shape) }
     ensures takes { TakesNewPages P.shown pages.old pages.new result }
 {
@@ -114,10 +112,8 @@ pub fn end_with_two<P: Pages>(
     requires pages { CanWrite P.shown pages.old }
     requires leaves { AreUneven shape lower.old upper.old }
     requires width { HaveWidth shape leaves.old.items }
-    ensures stands { WhereCounted P.shown pages.old pages.new (StandsOver shape leaves.old.items
-        (leaf_entries shape lower.old ++ leaf_entries shape upper.old)
-        (length (leaf_entries shape lower.new) ∷ length (leaf_entries shape upper.new) ∷ [])
-        count result) }
+    ensures stands { WhereCounted P.shown pages.old pages.new (StandsOverTwo shape leaves.old.items
+        (two_leaves lower.old upper.old lower.new upper.new) count result) }
     ensures shape { IfOk result (λ tree. tree_shape tree ≡ shape) }
     ensures takes { TakesNewPages P.shown pages.old pages.new result }
 {
@@ -139,8 +135,8 @@ pub fn end_with_one<P: Pages>(
     requires leaf { IsLargeLeaf shape leaf.now }
     requires several { 1 ≤ length leaves.old.items }
     requires width { HaveWidth shape leaves.old.items }
-    ensures stands { WhereCounted P.shown pages.old pages.new (StandsOver shape leaves.old.items
-        (leaf_entries shape leaf.now) (length (leaf_entries shape leaf.now) ∷ []) count result) }
+    ensures stands { WhereCounted P.shown pages.old pages.new (StandsOverLeaf shape leaves.old.items
+        leaf.now count result) }
     ensures shape { IfOk result (λ tree. tree_shape tree ≡ shape) }
     ensures takes { TakesNewPages P.shown pages.old pages.new result }
 {

@@ -24,11 +24,12 @@ pub struct PrimeBuilder {
 }
 
 impl PrimeBuilder {
-    ghost use Rattle.std.specs.Prelude.{[], IfOk, OnOk};
+    ghost use Rattle.std.specs.Prelude.{[], IfOk};
     ghost use Rattle.pages.specs.PageMap.{PageMap};
     ghost use Rattle.bplus_tree.specs.Changes.{CanWrite, WhereSound};
     ghost use Rattle.key_index.specs.Stored.{IsWidth, entry_at};
-    ghost use Rattle.tree_building.specs.Fresh.{TakesNewPages, TakesForEntry, WhereCounted};
+    ghost use Rattle.tree_building.specs.Fresh.{TakesNewPages, TakesForEntry, TakesForLeaves};
+    ghost use Rattle.tree_building.specs.Fresh.{WhereCounted};
     ghost use Rattle.tree_building.specs.IndexBuilding.{IsBuildingPrime, CanPushPrime, PushesPrime};
     ghost use Rattle.tree_building.specs.IndexBuilding.{FinishesPrime, prime_builder_count};
     ghost use Rattle.tree_building.specs.IndexBuilding.{prime_leaves_written};
@@ -60,8 +61,8 @@ impl PrimeBuilder {
         ensures width { self.new.width ≡ self.old.width }
         ensures takes { TakesForEntry P.shown (prime_builder_count self.old) pages.old pages.new
             result }
-        ensures taken { OnOk result (prime_leaves_written self.new + (P.shown.state pages.new).available
-            ≡ prime_leaves_written self.old + (P.shown.state pages.old).available) }
+        ensures taken { TakesForLeaves P.shown (prime_leaves_written self.old)
+            (prime_leaves_written self.new) pages.old pages.new result }
     {
         let entry = PrimeEntry::bytes(value, place);
         self.tree.push(pages, entry.as_slice())
