@@ -65,3 +65,9 @@ abbrev pub CopiesPath : Unseen → CopyPaths → List Call → SystemState → R
 CopiesPath disk asked reads system result =
     LacksNames (folder_before disk asked) (folder_state disk system) result
     ⊎ CopiesAtPath disk asked reads system result
+
+-- so, by the record of each of two systems, which are given back
+abbrev pub CopiesBySystems : {S : Type 0} → (S → SystemState) → Unseen → CopyPaths
+    → (S × S × Result Copied CopyingFault) → Type 0
+CopiesBySystems state disk asked given =
+    CopiesPath disk asked (state given.0).calls (state given.1) given.2

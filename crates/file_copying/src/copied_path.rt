@@ -3,7 +3,7 @@
 ghost use Rattle.std.specs.Prelude.{◌≡◌, [], string_bytes};
 ghost use Rattle.folder_shelf.specs.Reading.{AreReading};
 ghost use Rattle.folder_shelf.specs.Within.{StaysWithin};
-ghost use Rattle.file_copying.specs.CopiedPath.{CopiesPath, copy_paths};
+ghost use Rattle.file_copying.specs.CopiedPath.{CopiesBySystems, copy_paths};
 
 use crate::attaching::copy_named;
 use crate::fault::{Copied, CopyingFault};
@@ -34,9 +34,8 @@ pub fn copy_path<S: System + Drop, D: Disk>(
 ) -> (S, S, Result<Copied, CopyingFault>)
     requires unread { (S.state reader).calls ≡ [] }
     requires unasked { (S.state system).calls ≡ [] }
-    ensures copies { CopiesPath D.Disk.unseen
-        (copy_paths (string_bytes source) (string_bytes folder) name.bytes key limit)
-        (S.state result.0).calls (S.state result.1) result.2 }
+    ensures copies { CopiesBySystems S.state D.Disk.unseen
+        (copy_paths (string_bytes source) (string_bytes folder) name.bytes key limit) result }
     ensures reading { AreReading (S.state result.0).calls }
     ensures within { StaysWithin (S.state result.1) }
 {

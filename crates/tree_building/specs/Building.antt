@@ -1,5 +1,6 @@
 -- A tree that is being built: the leaves that are written, and what comes of it.
 use Rattle.std.specs.Prelude.{◌≡◌, ◌≤◌, ◌+◌, ℕ, List, [], ◌∷◌, ◌++◌, flat_map, length, Result}
+use Rattle.std.specs.Global.{Vec}
 use Rattle.io_state.specs.declared.fault.Fault.{Fault}
 use Rattle.tree_node.specs.declared.shape.Shape.{Shape}
 use Rattle.tree_node.specs.Leaf.{leaf_entries, leaf_room, IsLeaf}
@@ -166,10 +167,10 @@ shared_counts shape leaves =
     length (leaf_entries shape leaves.lower_now) ∷ length (leaf_entries shape leaves.upper_now) ∷ []
 
 -- two leaves more are written, which share what they had
-abbrev pub WritesTwo : Shape → (old new : List Separator) → TwoLeaves → Result Unit Fault
+abbrev pub WritesTwo : Shape → (old new : Vec Separator) → TwoLeaves → Result Unit Fault
     → PageMap → PageMap → Type 0 → Type 0
 WritesTwo shape old new two result =
-    WritesMore shape old new (shared_entries shape two) (shared_counts shape two) result
+    WritesMore shape old.items new.items (shared_entries shape two) (shared_counts shape two) result
 
 -- a tree stands over the leaves and one more
 abbrev pub StandsOverLeaf : Shape → List Separator → (leaf : List ℕ) → (count : ℕ) → Result Tree Fault
@@ -178,7 +179,7 @@ StandsOverLeaf shape nodes leaf count result =
     StandsOver shape nodes (leaf_entries shape leaf) (length (leaf_entries shape leaf) ∷ []) count result
 
 -- a tree stands over the leaves and two more, which share what they had
-abbrev pub StandsOverTwo : Shape → List Separator → TwoLeaves → (count : ℕ) → Result Tree Fault
+abbrev pub StandsOverTwo : Shape → Vec Separator → TwoLeaves → (count : ℕ) → Result Tree Fault
     → (left left_now : ℕ) → PageMap → PageMap → Type 0 → Type 0
 StandsOverTwo shape nodes two count result =
-    StandsOver shape nodes (shared_entries shape two) (shared_counts shape two) count result
+    StandsOver shape nodes.items (shared_entries shape two) (shared_counts shape two) count result

@@ -49,8 +49,8 @@ pub fn write_two<P: Pages>(
 ) -> Result<(), Fault>
     requires pages { CanWrite P.shown pages.old }
     requires leaves { AreUneven shape lower.old upper.old }
-    ensures writes { WhereSound P.shown pages.old pages.new (WritesTwo shape leaves.old.items
-        leaves.new.items (two_leaves lower.old upper.old lower.new upper.new) result) }
+    ensures writes { WhereSound P.shown pages.old pages.new (WritesTwo shape leaves.old
+        leaves.new (two_leaves lower.old upper.old lower.new upper.new) result) }
     ensures two { OnOk result (length leaves.new.items ≡ length leaves.old.items + 2) }
     ensures width { OnOk result (HaveWidth shape leaves.old.items → HaveWidth shape leaves.new.items) }
     ensures takes { TakesNewPages P.shown pages.old pages.new result }
@@ -112,7 +112,7 @@ pub fn end_with_two<P: Pages>(
     requires pages { CanWrite P.shown pages.old }
     requires leaves { AreUneven shape lower.old upper.old }
     requires width { HaveWidth shape leaves.old.items }
-    ensures stands { WhereCounted P.shown pages.old pages.new (StandsOverTwo shape leaves.old.items
+    ensures stands { WhereCounted P.shown pages.old pages.new (StandsOverTwo shape leaves.old
         (two_leaves lower.old upper.old lower.new upper.new) count result) }
     ensures shape { IfOk result (λ tree. tree_shape tree ≡ shape) }
     ensures takes { TakesNewPages P.shown pages.old pages.new result }
