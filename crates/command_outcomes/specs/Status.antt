@@ -30,7 +30,7 @@ use Rattle.command_outcomes.specs.declared.outcome.Outcome.TheVariants.{CheckedA
 use Rattle.command_outcomes.specs.declared.outcome.Outcome.TheVariants.{Counted, OtherSchema, Salvaged, Copied}
 use Rattle.file_copying.specs.declared.end.CopyEnd.{CopyEnd}
 use Rattle.file_copying.specs.declared.end.CopyEnd.TheVariants.{Whole, Refused, Damaged, Full}
-use Rattle.file_copying.specs.declared.end.CopyEnd.TheVariants.{IsThere as NewIsThere}
+use Rattle.file_copying.specs.declared.end.CopyEnd.TheVariants.{IsThere as NewIsThere, NoKey as LacksKey}
 use Rattle.salvaged_records.specs.declared.salvaging.Salvage.{Salvage}
 use Rattle.salvaged_records.specs.declared.salvaging.Salvage.TheVariants.{All as AllSalvaged, Slots}
 use Rattle.salvaged_records.specs.declared.salvaging.Salvage.TheVariants.{Unsound as NotSalvaged}
@@ -99,6 +99,7 @@ status_of_salvage (NotSalvaged reason) = 1
 abbrev pub status_of_copy : CopyEnd → ℕ
 status_of_copy (Whole copied) = 0
 status_of_copy Refused = 1
+status_of_copy LacksKey = 1
 status_of_copy Damaged = 1
 status_of_copy NewIsThere = 1
 status_of_copy Full = 4

@@ -124,7 +124,7 @@ pub fn status_by_copy(end: CopyEnd) -> u8
 {
     match end {
         CopyEnd::Whole(_) => 0,
-        CopyEnd::Refused | CopyEnd::Damaged | CopyEnd::IsThere => 1,
+        CopyEnd::Refused | CopyEnd::NoKey | CopyEnd::Damaged | CopyEnd::IsThere => 1,
         CopyEnd::Full => 4,
     }
 }
@@ -196,6 +196,7 @@ fn tell_copy<E: Write>(end: CopyEnd, err: &mut E) -> io::Result<()> {
             let (records, pages) = (copied.records, copied.pages);
             return writeln!(err, "copied {records} records, {pages} pages");
         }
+        CopyEnd::NoKey => return writeln!(err, "cobix: the file has no such key"),
         CopyEnd::IsThere => return writeln!(err, "cobix: the new file is there already"),
         CopyEnd::Full => {
             writeln!(err, "{}", Fault::Output)?;
