@@ -1,5 +1,5 @@
 -- What a question is answered, and what that means. All of this is ours.
-use Rattle.std.specs.Prelude.{◌≡◌, ◌≢◌, ◌==◌, ◌-ℤ◌, ℕ, ℤ, pos, int_lt, Bool, List, ◌++◌, length}
+use Rattle.std.specs.Prelude.{◌≡◌, ◌≢◌, ◌==◌, ◌-ℤ◌, ℕ, ℤ, pos, int_lt, Bool, List, ◌++◌, length, take}
 use Rattle.std.specs.Prelude.{Option, Result, Ok, Err, if◌then◌else◌}
 use Rattle.std.specs.Int.{w64, cast_signed}
 use Rattle.std.specs.Io.KnownBytes.{Appends, Consumes}
@@ -31,40 +31,38 @@ IsLockOutcome (Err error) result = (refusal : TryLockError) × (result ≡ Err r
     × (error_kind error ≡ WouldBlock → refusal ≡ TryLockError.WouldBlock)
     × (error_kind error ≢ WouldBlock → refusal ≡ TryLockError.Error error)
 
--- what the two streams have left and hold, before and after
-pub record BothStreams : Type 0 where
-  pub left : Option (List ℕ)
-  pub left_after : Option (List ℕ)
-  pub written : Option (List ℕ)
-  pub written_after : Option (List ℕ)
+-- a stream before a call and after it: the bytes that a reader has left, or that a writer holds
+pub record Stream : Type 0 where
+  pub before : Option (List ℕ)
+  pub after : Option (List ℕ)
 
-abbrev pub both_streams : (left left_after written written_after : Option (List ℕ)) → BothStreams
-both_streams left left_after written written_after = record {
-  left = left;
-  left_after = left_after;
-  written = written;
-  written_after = written_after;
-}
+abbrev pub stream : {A : Type 0} → (bytes_of : A → Option (List ℕ)) → (old new : A) → Stream
+stream bytes_of old new = record { before = bytes_of old; after = bytes_of new }
 
 -- the bytes of the question were written, no more and no fewer, and these bytes were read
-abbrev pub Asks : BothStreams → Question → List ℕ → Type 0
-Asks s question answer =
-    Appends s.written s.written_after (question_bytes question) × Consumes s.left s.left_after answer
+abbrev pub Asks : (input output : Stream) → Question → List ℕ → Type 0
+Asks input output question answer =
+    Appends output.before output.after (question_bytes question) × Consumes input.before input.after answer
 
 -- the question was asked, and this number told
-abbrev pub IsNumberTold : BothStreams → Question → ℕ → Type 0
-IsNumberTold s question n = (answer : List ℕ) × (length answer ≡ 8) × Asks s question answer
-    × (signed_number answer ≡ pos n)
+abbrev pub IsNumberTold : (input output : Stream) → Question → ℕ → Type 0
+IsNumberTold input output question n = (answer : List ℕ) × (length answer ≡ 8)
+    × Asks input output question answer × (signed_number answer ≡ pos n)
 
 -- it was asked, and no error was told
-abbrev pub IsDone : BothStreams → Question → Type 0
-IsDone s question = (n : ℕ) × IsNumberTold s question n
+abbrev pub IsDone : (input output : Stream) → Question → Type 0
+IsDone input output question = (n : ℕ) × IsNumberTold input output question n
 
 -- it was asked, and told is 1, or another number
-abbrev pub IsYesTold : BothStreams → Question → Bool → Type 0
-IsYesTold s question is_one = (n : ℕ) × IsNumberTold s question n × (is_one ≡ (n == 1))
+abbrev pub IsYesTold : (input output : Stream) → Question → Bool → Type 0
+IsYesTold input output question is_one =
+    (n : ℕ) × IsNumberTold input output question n × (is_one ≡ (n == 1))
 
 -- it was asked, and told are so many bytes, and these
-abbrev pub IsToldBytes : BothStreams → Question → List ℕ → Type 0
-IsToldBytes s question bytes = (number : List ℕ) × (length number ≡ 8)
-    × Asks s question (number ++ bytes) × (signed_number number ≡ pos (length bytes))
+abbrev pub IsToldBytes : (input output : Stream) → Question → List ℕ → Type 0
+IsToldBytes input output question bytes = (number : List ℕ) × (length number ≡ 8)
+    × Asks input output question (number ++ bytes) × (signed_number number ≡ pos (length bytes))
+
+-- it was asked, and told is the front of these bytes, so many
+abbrev pub FillsFront : (input output : Stream) → Question → List ℕ → ℕ → Type 0
+FillsFront input output question bytes n = IsToldBytes input output question (take n bytes)

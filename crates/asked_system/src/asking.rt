@@ -1,7 +1,7 @@
 //! Questions asked, and their answers.
-ghost use Rattle.std.specs.Prelude.{◌≡◌, length, take, pos, IfOk, OnOk};
+ghost use Rattle.std.specs.Prelude.{◌≡◌, length, pos, IfOk, OnOk};
 ghost use Rattle.std.specs.Io.{ReadsAtMost, WritesAtMost};
-ghost use Rattle.asked_system.specs.Answers.{both_streams, IsNumberTold, IsDone, IsYesTold, IsToldBytes};
+ghost use Rattle.asked_system.specs.Answers.{stream, IsNumberTold, IsDone, IsYesTold, FillsFront};
 ghost use Rattle.asked_system.specs.declared.question.Question.TheVariants.{Read as ToRead, Write as ToWrite, Names};
 
 use crate::question::{Question, put_question};
@@ -15,8 +15,8 @@ pub fn ask<R: Read, W: Write>(
     output: &mut W,
     question: &Question<'_>,
 ) -> io::Result<u64>
-    ensures { IfOk result (IsNumberTold (both_streams (R.remaining input.old) (R.remaining input.new)
-        (W.contents output.old) (W.contents output.new)) question.now) }
+    ensures { IfOk result (IsNumberTold (stream R.remaining input.old input.new)
+        (stream W.contents output.old output.new) question.now) }
 {
     put_question(output, question)?;
     let number = take_number(input)?;
@@ -29,8 +29,8 @@ pub fn ask_for_lock<R: Read, W: Write>(
     output: &mut W,
     question: &Question<'_>,
 ) -> Result<(), TryLockError>
-    ensures { OnOk result (IsDone (both_streams (R.remaining input.old) (R.remaining input.new)
-        (W.contents output.old) (W.contents output.new)) question.now) }
+    ensures { OnOk result (IsDone (stream R.remaining input.old input.new)
+        (stream W.contents output.old output.new) question.now) }
 {
     lock_outcome(ask(input, output, question))
 }
@@ -42,8 +42,8 @@ pub fn ask_for_name<R: Read, W: Write>(
     file: u64,
     path: &str,
 ) -> io::Result<bool>
-    ensures { IfOk result (λ told. IsYesTold (both_streams (R.remaining input.old) (R.remaining input.new)
-        (W.contents output.old) (W.contents output.new)) (Names file path.entry) told) }
+    ensures { IfOk result (IsYesTold (stream R.remaining input.old input.new)
+        (stream W.contents output.old output.new) (Names file path.entry)) }
 {
     let told = ask(input, output, &Question::Names { file, path })?;
     Ok(told == 1)
@@ -58,9 +58,8 @@ pub fn ask_to_read<R: Read, W: Write>(
     bytes: &mut [u8],
 ) -> io::Result<usize>
     ensures bound { ReadsAtMost result bytes.new }
-    ensures told { IfOk result (λ n. IsToldBytes (both_streams (R.remaining input.old) (R.remaining input.new)
-        (W.contents output.old) (W.contents output.new)) (ToRead file at (length bytes.old))
-        (take n bytes.new)) }
+    ensures told { IfOk result (FillsFront (stream R.remaining input.old input.new)
+        (stream W.contents output.old output.new) (ToRead file at (length bytes.old)) bytes.new) }
 {
     let count = bytes.len();
     let told = ask(input, output, &Question::Read { file, at, count })?;
@@ -78,8 +77,8 @@ pub fn ask_to_write<R: Read, W: Write>(
     bytes: &[u8],
 ) -> io::Result<usize>
     ensures bound { WritesAtMost result bytes.now }
-    ensures told { IfOk result (IsNumberTold (both_streams (R.remaining input.old) (R.remaining input.new)
-        (W.contents output.old) (W.contents output.new)) (ToWrite file at bytes.entry)) }
+    ensures told { IfOk result (IsNumberTold (stream R.remaining input.old input.new)
+        (stream W.contents output.old output.new) (ToWrite file at bytes.entry)) }
 {
     let told = ask(input, output, &Question::Write { file, at, bytes })?;
     within(told, bytes.len())
