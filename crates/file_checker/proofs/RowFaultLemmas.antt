@@ -1,5 +1,5 @@
 -- What is wrong with the rows of a file, and where.
-use Rattle.std.proofs.Common.{◌≡◌, ◌⊎◌, inl, inr, ℕ, zero, suc, ◌<◌, ◌≤◌, Bool, true, false, List, [], ◌∷◌, length, Option, Some, None, IsSome, Result, Ok, Err, IfErr, refl, ap, sym, subst, ◌∙◌, arith}
+use Rattle.std.proofs.Common.{◌≡◌, ◌⊎◌, inl, inr, ℕ, zero, suc, ◌<◌, ◌≤◌, Bool, true, false, List, [], ◌∷◌, length, Option, Some, None, IsSome, Result, Ok, Err, IfErr, OnOk, refl, ap, sym, subst, ◌∙◌, arith}
 use Rattle.std.specs.Prelude.{IsErrAnd, nat_eq, slice_index_or}
 use Rattle.std.proofs.lemmas.Bool.{eq-eqb}
 use Rattle.pages.specs.Each.{Each}
@@ -32,6 +32,7 @@ use Rattle.file_checker.specs.Leading.{HasEntry, LeadsToRow}
 use Rattle.file_checker.specs.Search.{IsPrimeLeaf}
 use Rattle.file_checker.specs.RowsAhead.{HasItsRow, LeadsAhead, PrimesLead}
 use Rattle.file_checker.specs.RowFaults.{HasNoEntry, IsEntryFault, LeadsToOwn, TellsOfRows}
+use Rattle.file_checker.specs.Comparing.{HasLeaders, Judges, PagesRead}
 use Rattle.file_checker.proofs.SearchLemmas.{spots_there}
 use Rattle.file_checker.proofs.SlotLemmas.{no_page}
 use Rattle.file_checker.proofs.SpotLemmas.{one_left, one_right}
@@ -42,6 +43,16 @@ use Rattle.file_checker.proofs.SpotLemmas.{one_left, one_right}
 pub rows_on : {X : Type 0} (P : RowFault → Type 0) (r : Result X RowFault) (fault : RowFault) → IsErrAnd r (λ e. e ≡ fault) → P fault → IfErr r P
 rows_on P (Ok x) fault was h = tt
 rows_on P (Err e) fault was h = subst P (sym was) h
+
+pub never_ok : {X : Type 0} (P : Type 0) (r : Result X RowFault) (fault : RowFault) → IsErrAnd r (λ e. e ≡ fault) → OnOk r P
+never_ok P (Ok x) fault was = absurd was
+never_ok P (Err e) fault was = tt
+
+-- a check that hands on the fault of another one
+pub handed_on : {Stands Ahead : Type 0} {IsWrong : FaultPlace → Type 0} (read : PagesRead) (r : Result Unit RowFault) (fault : RowFault) → IsErrAnd r (λ e. e ≡ fault)
+    → (HasLeaders read → Ahead → ⊥) → (HasLeaders read → TellsOfRows IsWrong fault) → Judges read Stands Ahead IsWrong r
+handed_on read (Ok x) fault was never told = absurd was
+handed_on {IsWrong = IsWrong} read (Err e) fault was never told = record { stands = tt; refused = never; told = λ lead. subst (TellsOfRows IsWrong) (sym was) (told lead) }
 
 module _ (P Q : FaultPlace → Type 0) where
   -- what is told more exactly is told

@@ -5,6 +5,7 @@ pub mod Search
 pub mod RowsAhead
 pub mod RowLaws
 pub mod RowFaults
+pub mod Comparing
 pub mod Numbers
 pub mod Bytes
 pub mod Parts

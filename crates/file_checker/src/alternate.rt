@@ -1,13 +1,11 @@
 //! The entries of an alternate key, and the rows.
 
-ghost use Rattle.std.specs.Prelude.{◌≡◌, OnOk, OnErr, IfErr, IsTrue, All, length};
-ghost use Rattle.pages.specs.Each.{Each};
-ghost use Rattle.page_walks.specs.Spots.{spots_below, spots_in};
-ghost use Rattle.file_checker.specs.Alternate.{IsIndexFor, IsEntryFor, EntriesAscend, AlternateStands};
-ghost use Rattle.file_checker.specs.Leading.{HasRow, IsEntryOf, OfEachEntry};
-ghost use Rattle.file_checker.specs.RowsAhead.{AlternateAhead, HasItsRow, HasRowAhead, PrimesLead};
-ghost use Rattle.file_checker.specs.RowsAhead.{RefusesRows};
-ghost use Rattle.file_checker.specs.RowFaults.{IsAlternateFault, IsEntryFault, TellsOfRows};
+ghost use Rattle.std.specs.Prelude.{◌≡◌, IsTrue, length};
+ghost use Rattle.page_walks.specs.Spots.{spots_in};
+ghost use Rattle.file_checker.specs.Alternate.{IsIndexFor, IsEntryFor, EntriesAscend};
+ghost use Rattle.file_checker.specs.Leading.{HasRow, IsEntryOf};
+ghost use Rattle.file_checker.specs.RowsAhead.{HasItsRow, HasRowAhead, PrimesLead};
+ghost use Rattle.file_checker.specs.Comparing.{pages_read, ChecksLeaf, ChecksLeaves, ComparesIndex};
 
 use crate::entry::{entry, entry_near, place_in};
 use crate::record::stored_at;
@@ -79,13 +77,7 @@ fn check_leaf(
     leaf: Leaf,
 ) -> Result<(), RowFault>
     requires { IsIndexFor file.now index }
-    ensures rows { OnOk result
-        (OfEachEntry (HasRow file.now pages.now (spots_in primes.now) index) leaf) }
-    ensures refused { OnErr result (PrimesLead file.now pages.now primes.now
-        → OfEachEntry (HasRowAhead file.now pages.now (spots_in primes.now) index) leaf → ⊥) }
-    ensures told { IfErr result (λ fault. PrimesLead file.now pages.now primes.now
-        → TellsOfRows (IsEntryFault (spots_below leaf.page leaf.count)
-        (HasRowAhead file.now pages.now (spots_in primes.now) index)) fault) }
+    ensures { ChecksLeaf (pages_read file.now pages.now primes.now) index leaf result }
 {
     for place in 0..leaf.count {
         let spot = Spot {
@@ -108,12 +100,7 @@ fn check_leaves(
     leaves: &[Leaf],
 ) -> Result<(), RowFault>
     requires { IsIndexFor file.now index }
-    ensures rows { OnOk result
-        (All (OfEachEntry (HasRow file.now pages.now (spots_in primes.now) index)) leaves.now) }
-    ensures refused { OnErr result (PrimesLead file.now pages.now primes.now
-        → Each (HasRowAhead file.now pages.now (spots_in primes.now) index) (spots_in leaves.now) → ⊥) }
-    ensures told { IfErr result (λ fault. PrimesLead file.now pages.now primes.now
-        → TellsOfRows (IsAlternateFault file.now pages.now primes.now index leaves.now) fault) }
+    ensures { ChecksLeaves (pages_read file.now pages.now primes.now) index leaves.now result }
 {
     for &leaf in leaves {
         check_leaf(pages, file, primes, index, leaf)?;
@@ -136,12 +123,7 @@ pub fn check_alternate(
     requires index { IsIndexFor file.now index }
     requires many { length (spots_in leaves.now) ≡ length (spots_in primes.now) }
     requires rises { EntriesAscend index pages.now (spots_in leaves.now) }
-    ensures stands { OnOk result (AlternateStands file.now pages.now (spots_in primes.now) index
-        (spots_in leaves.now)) }
-    ensures refused { IfErr result
-        (RefusesRows (AlternateAhead file.now pages.now primes.now index leaves.now)) }
-    ensures told { IfErr result (λ fault. PrimesLead file.now pages.now primes.now
-        → TellsOfRows (IsAlternateFault file.now pages.now primes.now index leaves.now) fault) }
+    ensures { ComparesIndex (pages_read file.now pages.now primes.now) index leaves.now result }
 {
     check_leaves(pages, file, primes, index, leaves)?;
     Ok(())

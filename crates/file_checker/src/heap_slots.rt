@@ -1,14 +1,14 @@
 //! The slots of the heap, each of which an entry of the prime index leads to, if it is in use.
 
-ghost use Rattle.std.specs.Prelude.{◌≡◌, [], ◌∷◌, IfErr, IsTrue, OnOk, OnErr};
+ghost use Rattle.std.specs.Prelude.{◌≡◌, IsTrue};
 ghost use Rattle.page_walks.specs.Spots.{IsSpotThere, spots_in};
 ghost use Rattle.open_file.specs.Stands.{IsShaped};
 ghost use Rattle.open_file.specs.Fields.{prime_index_of};
 ghost use Rattle.bplus_tree.specs.Fields.{tree_shape};
 ghost use Rattle.file_checker.specs.Rows.{place_at};
-ghost use Rattle.file_checker.specs.Leading.{HasEntry, PageHasEntries, PagesHaveEntries};
+ghost use Rattle.file_checker.specs.Leading.{HasEntry};
 ghost use Rattle.file_checker.specs.RowsAhead.{PrimesLead};
-ghost use Rattle.file_checker.specs.RowFaults.{HasNoEntry, TellsOfRows};
+ghost use Rattle.file_checker.specs.Comparing.{pages_read, ChecksPage, ChecksSlots};
 
 use crate::entry::{entry, entry_near, place_in};
 use crate::record::stored_at;
@@ -55,11 +55,7 @@ fn check_page(
     n: u32,
 ) -> Result<(), RowFault>
     requires { IsShaped file.now }
-    ensures entries { OnOk result (PageHasEntries file.now pages.now (spots_in primes.now) n) }
-    ensures refused { OnErr result (PrimesLead file.now pages.now primes.now
-        → PageHasEntries file.now pages.now (spots_in primes.now) n → ⊥) }
-    ensures told { IfErr result (λ fault. PrimesLead file.now pages.now primes.now
-        → TellsOfRows (HasNoEntry file.now pages.now (spots_in primes.now) (n ∷ [])) fault) }
+    ensures { ChecksPage (pages_read file.now pages.now primes.now) n result }
 {
     for i in 0..file.heap().shape().room() {
         let place = Place {
@@ -81,11 +77,7 @@ pub fn check_slots(
     own: &[u32],
 ) -> Result<(), RowFault>
     requires { IsShaped file.now }
-    ensures entries { OnOk result (PagesHaveEntries file.now pages.now (spots_in primes.now) own.now) }
-    ensures refused { OnErr result (PrimesLead file.now pages.now primes.now
-        → PagesHaveEntries file.now pages.now (spots_in primes.now) own.now → ⊥) }
-    ensures told { IfErr result (λ fault. PrimesLead file.now pages.now primes.now
-        → TellsOfRows (HasNoEntry file.now pages.now (spots_in primes.now) own.now) fault) }
+    ensures { ChecksSlots (pages_read file.now pages.now primes.now) own.now result }
 {
     for &n in own {
         check_page(pages, file, primes, n)?;

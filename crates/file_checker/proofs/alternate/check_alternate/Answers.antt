@@ -6,26 +6,32 @@ use Rattle.file_checker.proofs.PrimeAheadLemmas.{on_err, refuses_rows, rows_ahea
 use Rattle.file_checker.specs.declared.row_fault.RowFault.{RowFault}
 use Rattle.file_checker.specs.RowsAhead.{PrimesLead}
 use Rattle.file_checker.specs.RowFaults.{IsAlternateFault, TellsOfRows}
-use Rattle.file_checker.proofs.RowFaultLemmas.{rows_on}
+use Rattle.file_checker.proofs.RowFaultLemmas.{never_ok, rows_on}
 use Rattle.file_checker.proofs.AlternateRowLemmas.{alternate_stands}
 use Rattle.file_checker.proofs.alternate.check_alternate.Goals as goal
 
-pub returns-in_err-check_leaves-clause-refused : goal.returns-in_err-check_leaves-clause-refused
-returns-in_err-check_leaves-clause-refused c =
-    let Ahead = AlternateAhead c.args.file.now c.args.pages.now c.args.primes.now c.args.index c.args.leaves.now in
-    refuses_rows Ahead c.from_residual.result (on_err (Ahead → ⊥) c.from_residual.result
-    (λ ahead. c.in_err-check_leaves.ensures.refused ahead.primes_lead
-    (rows_ahead c.args.file.now c.args.pages.now c.args.primes.now c.args.index c.args.leaves.now ahead)))
-
-pub returns-clause-stands : goal.returns-clause-stands
-returns-clause-stands c =
+pub returns : goal.returns
+returns c =
     let file = c.args.file.now in
     let list = c.args.pages.now in
     let primes = spots_in c.args.primes.now in
     let spots = spots_in c.args.leaves.now in
-    alternate_stands file list primes c.args.index spots (each_in (HasRow file list primes c.args.index) c.args.leaves.now c.in_ok-check_leaves.ensures.rows) c.requires.many c.requires.rises
+    record {
+      stands = alternate_stands file list primes c.args.index spots (each_in (HasRow file list primes c.args.index) c.args.leaves.now c.in_ok-check_leaves.ensures.stands) c.requires.many c.requires.rises;
+      refused = tt;
+      told = tt;
+    }
 
-pub returns-in_err-check_leaves-clause-told : goal.returns-in_err-check_leaves-clause-told
-returns-in_err-check_leaves-clause-told c =
-    rows_on (λ (fault : RowFault). PrimesLead c.args.file.now c.args.pages.now c.args.primes.now → TellsOfRows (IsAlternateFault c.args.file.now c.args.pages.now c.args.primes.now c.args.index c.args.leaves.now) fault)
-    c.from_residual.result _ c.from_residual.ensures.1 c.in_err-check_leaves.ensures.told
+pub returns-in_err-check_leaves : goal.returns-in_err-check_leaves
+returns-in_err-check_leaves c =
+    let file = c.args.file.now in
+    let list = c.args.pages.now in
+    let primes = c.args.primes.now in
+    let leaves = c.args.leaves.now in
+    let Ahead = AlternateAhead file list primes c.args.index leaves in
+    record {
+      stands = never_ok _ c.from_residual.result _ c.from_residual.ensures.1;
+      refused = refuses_rows Ahead c.from_residual.result (on_err (Ahead → ⊥) c.from_residual.result (λ ahead. c.in_err-check_leaves.ensures.refused ahead.primes_lead (rows_ahead file list primes c.args.index leaves ahead)));
+      told = rows_on (λ (fault : RowFault). PrimesLead file list primes → TellsOfRows (IsAlternateFault file list primes c.args.index leaves) fault) c.from_residual.result _ c.from_residual.ensures.1
+          c.in_err-check_leaves.ensures.told;
+    }

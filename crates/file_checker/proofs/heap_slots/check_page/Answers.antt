@@ -16,18 +16,21 @@ pub loop-i-preserved : goal.loop-i-preserved
 loop-i-preserved c =
     slots_more (slot_shape (heap_of c.args.file.now)) (HasEntry c.args.file.now c.args.pages.now (spots_in c.args.primes.now)) c.args.n c.loop-i.i c.loop-i.invariant (c.if-not-has_entry.ensures.entry refl)
 
-pub returns-then-not-has_entry-clause-refused : goal.returns-then-not-has_entry-clause-refused
-returns-then-not-has_entry-clause-refused c = λ lead all.
+pub returns : goal.returns
+returns c = record {
+  stands = λ p is within. c.loop-i.invariant p is (let end = c.loop-i-test.false in let many = c.room-i-end.ensures.value ∙ ap room (c.shape.ensures ∙ ap slot_shape c.heap.ensures) in omega (arith, end, many, within));
+  refused = tt;
+  told = tt;
+}
+
+pub returns-then-not-has_entry : goal.returns-then-not-has_entry
+returns-then-not-has_entry c =
     let many = c.room-i-end.ensures.value ∙ ap room (c.shape.ensures ∙ ap slot_shape c.heap.ensures) in
     let within = c.loop-i-test.true in
-    never (c.if-not-has_entry.ensures.refused lead (all (record { page = c.args.n; slot = c.loop-i.i }) refl (omega (arith, many, within))))
-
-pub returns-clause-entries : goal.returns-clause-entries
-returns-clause-entries c = λ p is within. c.loop-i.invariant p is (let end = c.loop-i-test.false in let many = c.room-i-end.ensures.value ∙ ap room (c.shape.ensures ∙ ap slot_shape c.heap.ensures) in omega (arith, end, many, within))
-
-pub returns-then-not-has_entry-clause-told : goal.returns-then-not-has_entry-clause-told
-returns-then-not-has_entry-clause-told c = λ lead.
-    let many = c.room-i-end.ensures.value ∙ ap room (c.shape.ensures ∙ ap slot_shape c.heap.ensures) in
-    let within = c.loop-i-test.true in
-    slot_told c.args.file.now c.args.pages.now (spots_in c.args.primes.now) (record { page = c.args.n; slot = c.loop-i.i }) _ c.of_slot.ensures (omega (arith, many, within))
-    (λ has. never (c.if-not-has_entry.ensures.refused lead has))
+    record {
+      stands = tt;
+      refused = λ lead all. never (c.if-not-has_entry.ensures.refused lead (all (record { page = c.args.n; slot = c.loop-i.i }) refl (omega (arith, many, within))));
+      told = λ lead.
+          slot_told c.args.file.now c.args.pages.now (spots_in c.args.primes.now) (record { page = c.args.n; slot = c.loop-i.i }) _ c.of_slot.ensures (omega (arith, many, within))
+          (λ has. never (c.if-not-has_entry.ensures.refused lead has));
+    }

@@ -7,13 +7,12 @@ use Rattle.record_heap.specs.Slot.{room}
 use Rattle.record_heap.specs.Walk.{is_in_list}
 use Rattle.record_heap.specs.Standing.{slot_shape}
 use Rattle.page_walks.specs.Spots.{spots_in}
-use Rattle.file_checker.specs.RowsAhead.{PrimesLead}
-use Rattle.file_checker.specs.Leading.{HasEntry, PagesHaveEntries}
-use Rattle.file_checker.proofs.PrimeAheadLemmas.{in_list_at, on_err, page_has}
+use Rattle.file_checker.specs.Comparing.{pages_read}
+use Rattle.file_checker.specs.Leading.{HasEntry}
+use Rattle.file_checker.proofs.PrimeAheadLemmas.{in_list_at, page_has}
 use Rattle.std.proofs.Common.{[], ◌∷◌}
-use Rattle.file_checker.specs.declared.row_fault.RowFault.{RowFault}
-use Rattle.file_checker.specs.RowFaults.{HasNoEntry, TellsOfRows}
-use Rattle.file_checker.proofs.RowFaultLemmas.{rows_more, rows_on, slot_more}
+use Rattle.file_checker.specs.RowFaults.{HasNoEntry}
+use Rattle.file_checker.proofs.RowFaultLemmas.{handed_on, rows_more, slot_more}
 use Rattle.file_checker.proofs.SlotLemmas.{pages_more, own_slot}
 use Rattle.file_checker.proofs.heap_slots.check_slots.Goals as goal
 use Rattle.open_file.specs.Fields.{heap_of}
@@ -30,25 +29,24 @@ loop-n-preserved c =
     let up : k + 1 ≡ suc k = omega arith in
     subst (λ (m : ℕ). (p : Place) → is_in_list (take m own) p.page ≡ true → p.slot < room shape → Has p) (sym up)
     (subst (λ (ms : List ℕ). (p : Place) → is_in_list ms p.page ≡ true → p.slot < room shape → Has p) (sym (take-suc own k 0 c.loop-n-test.true))
-    (pages_more shape Has (take k own) (get_or own k 0) c.loop-n.invariant c.in_ok-check_page.ensures.entries))
+    (pages_more shape Has (take k own) (get_or own k 0) c.loop-n.invariant c.in_ok-check_page.ensures.stands))
 
-pub returns-in_err-check_page-clause-refused : goal.returns-in_err-check_page-clause-refused
-returns-in_err-check_page-clause-refused c =
-    on_err (PrimesLead c.args.file.now c.args.pages.now c.args.primes.now → PagesHaveEntries c.args.file.now c.args.pages.now (spots_in c.args.primes.now) c.args.own.now → ⊥) c.from_residual.result
-    (λ lead all. c.in_err-check_page.ensures.refused lead
-    (page_has c.args.file.now c.args.pages.now (spots_in c.args.primes.now) c.args.own.now (get_or c.args.own.now c.loop-n.n-index 0) (in_list_at c.args.own.now c.loop-n.n-index 0 c.loop-n-test.true) all))
+pub returns : goal.returns
+returns c = record {
+  stands = λ p some.
+      let own = own_slot (slot_shape (heap_of c.args.file.now)) (pages_in c.args.pages.now) c.args.own.now p some in
+      c.loop-n.invariant p (subst (λ (ms : List ℕ). is_in_list ms p.page ≡ true) (sym (take_all c.loop-n.n-index c.args.own.now c.loop-n-test.false)) own.0) own.1 own.2;
+  refused = tt;
+  told = tt;
+}
 
-pub returns-clause-entries : goal.returns-clause-entries
-returns-clause-entries c = λ p some.
-    let own = own_slot (slot_shape (heap_of c.args.file.now)) (pages_in c.args.pages.now) c.args.own.now p some in
-    c.loop-n.invariant p (subst (λ (ms : List ℕ). is_in_list ms p.page ≡ true) (sym (take_all c.loop-n.n-index c.args.own.now c.loop-n-test.false)) own.0) own.1 own.2
-
-pub returns-in_err-check_page-clause-told : goal.returns-in_err-check_page-clause-told
-returns-in_err-check_page-clause-told c =
+pub returns-in_err-check_page : goal.returns-in_err-check_page
+returns-in_err-check_page c =
     let file = c.args.file.now in
     let list = c.args.pages.now in
     let spots = spots_in c.args.primes.now in
     let own = c.args.own.now in
     let n = get_or own c.loop-n.n-index 0 in
-    rows_on (λ (fault : RowFault). PrimesLead file list c.args.primes.now → TellsOfRows (HasNoEntry file list spots own) fault) c.from_residual.result _ c.from_residual.ensures.1
-    (λ lead. rows_more (HasNoEntry file list spots (n ∷ [])) (HasNoEntry file list spots own) _ (slot_more file list spots own n (in_list_at own c.loop-n.n-index 0 c.loop-n-test.true)) (c.in_err-check_page.ensures.told lead))
+    let one = in_list_at own c.loop-n.n-index 0 c.loop-n-test.true in
+    handed_on (pages_read file list c.args.primes.now) c.from_residual.result _ c.from_residual.ensures.1 (λ lead all. c.in_err-check_page.ensures.refused lead (page_has file list spots own n one all))
+    (λ lead. rows_more (HasNoEntry file list spots (n ∷ [])) (HasNoEntry file list spots own) _ (slot_more file list spots own n one) (c.in_err-check_page.ensures.told lead))

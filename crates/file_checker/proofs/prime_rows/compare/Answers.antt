@@ -34,7 +34,7 @@ returns-clause-stand c =
     let spots = spots_in c.args.primes.now in
     let marks = c.mark_all.new.marks in
     let lead = each_in (LeadsToRow file list marks) c.args.primes.now c.in_ok-check_leaves.ensures.lead in
-    rows_stand file list own spots (all_kept file list own marks c.mark_all.ensures.only spots lead) c.requires.rises c.in_ok-check_slots.ensures.entries
+    rows_stand file list own spots (all_kept file list own marks c.mark_all.ensures.only spots lead) c.requires.rises c.in_ok-check_slots.ensures.stands
 
 pub returns-in_err-check_leaves-clause-told : goal.returns-in_err-check_leaves-clause-told
 returns-in_err-check_leaves-clause-told c =
