@@ -23,8 +23,8 @@ use Rattle.file_checker.specs.declared.row_fault.RowFault.TheVariants.{Memory as
 use Rattle.file_checker.specs.RowsAhead.{AlternateAhead, RefusesRows}
 use Rattle.file_checker.specs.Rows.{rows_in}
 use Rattle.file_header.specs.declared.header.Header.{Header}
-use Rattle.file_checker.specs.declared.stop.Stop.{Stop}
-use Rattle.file_checker.specs.declared.stop.Stop.TheVariants.{Memory, Unsound}
+use Rattle.file_checker.specs.declared.parts_fault.PartsFault.{PartsFault}
+use Rattle.file_checker.specs.declared.parts_fault.PartsFault.TheVariants.{Memory, Unsound}
 use Rattle.file_checker.specs.Ahead.{AlternatesAhead, StopsRightly}
 use Rattle.file_checker.specs.Later.{ChecksPages, StopsIn, StopsWalk, stop_by_rows, stop_by_walk}
 use Rattle.file_checker.specs.Parts.{PagesStand}
@@ -41,18 +41,18 @@ stops_by_rows S T NoRoom f never = tt
 stops_by_rows S T (Index place) f never = λ t. never (f t)
 
 -- a fault that is handed on
-pub stopped_by_walk : {X : Type 0} (S T : Type 0) (r : Result X Stop) (fault : WalkFault) → IsErrAnd r (λ stop. (stop ≡ stop_by_walk fault) × StopsWalk stop) → (T → S) → RefusesRightly S fault
+pub stopped_by_walk : {X : Type 0} (S T : Type 0) (r : Result X PartsFault) (fault : WalkFault) → IsErrAnd r (λ stop. (stop ≡ stop_by_walk fault) × StopsWalk stop) → (T → S) → RefusesRightly S fault
     → IfErr r (StopsRightly T)
 stopped_by_walk S T (Ok x) fault was f never = tt
 stopped_by_walk S T (Err stop) fault was f never = subst (StopsRightly T) (sym was.0) (stops_by_walk S T fault f never)
 
-pub stopped_by_rows : {X : Type 0} (S T : Type 0) (r : Result X Stop) (fault : RowFault) → IsErrAnd r (λ stop. (stop ≡ stop_by_rows fault) × StopsWalk stop) → (T → S) → RefusesRows S fault → IfErr r (StopsRightly T)
+pub stopped_by_rows : {X : Type 0} (S T : Type 0) (r : Result X PartsFault) (fault : RowFault) → IsErrAnd r (λ stop. (stop ≡ stop_by_rows fault) × StopsWalk stop) → (T → S) → RefusesRows S fault → IfErr r (StopsRightly T)
 stopped_by_rows S T (Ok x) fault was f never = tt
 stopped_by_rows S T (Err stop) fault was f never = subst (StopsRightly T) (sym was.0) (stops_by_rows S T fault f never)
 
 -- where a walk stops, a check of the pages does
 module _ (header : Header) (list : List (List ℕ)) where
-  pub checks_stopped : (T : Type 0) (r : Result Unit Stop) (stop : Stop) → IsErrAnd r (λ e. e ≡ stop) → StopsIn header list stop → (PagesStand header list → T) → StopsRightly T stop → ChecksPages header list r
+  pub checks_stopped : (T : Type 0) (r : Result Unit PartsFault) (stop : PartsFault) → IsErrAnd r (λ e. e ≡ stop) → StopsIn header list stop → (PagesStand header list → T) → StopsRightly T stop → ChecksPages header list r
   checks_stopped T (Ok x) stop was met f never = absurd was
   checks_stopped T (Err e) stop was met f never = record {
     stand = tt;
@@ -60,16 +60,16 @@ module _ (header : Header) (list : List (List ℕ)) where
     refused = subst (StopsRightly (PagesStand header list)) (sym was) (more stop never);
   }
     where
-      more : (stop : Stop) → StopsRightly T stop → StopsRightly (PagesStand header list) stop
+      more : (stop : PartsFault) → StopsRightly T stop → StopsRightly (PagesStand header list) stop
       more Memory h = tt
       more (Unsound reason place) h = λ stands. h (f stands)
 
-  pub checks_by_walk : (S : Type 0) (r : Result Unit Stop) (fault : WalkFault) → IsErrAnd r (λ stop. (stop ≡ stop_by_walk fault) × StopsWalk stop) → (PagesStand header list → S) → RefusesRightly S fault
+  pub checks_by_walk : (S : Type 0) (r : Result Unit PartsFault) (fault : WalkFault) → IsErrAnd r (λ stop. (stop ≡ stop_by_walk fault) × StopsWalk stop) → (PagesStand header list → S) → RefusesRightly S fault
       → StopsIn header list (stop_by_walk fault) → ChecksPages header list r
   checks_by_walk S (Ok x) fault was f never told = absurd was
   checks_by_walk S (Err stop) fault was f never told = checks_stopped S (Err stop) stop refl (subst (StopsIn header list) (sym was.0) told) f (subst (StopsRightly S) (sym was.0) (stops_by_walk S S fault (λ s. s) never))
 
-  pub checks_by_rows : (S : Type 0) (r : Result Unit Stop) (fault : RowFault) → IsErrAnd r (λ stop. (stop ≡ stop_by_rows fault) × StopsWalk stop) → (PagesStand header list → S) → RefusesRows S fault
+  pub checks_by_rows : (S : Type 0) (r : Result Unit PartsFault) (fault : RowFault) → IsErrAnd r (λ stop. (stop ≡ stop_by_rows fault) × StopsWalk stop) → (PagesStand header list → S) → RefusesRows S fault
       → StopsIn header list (stop_by_rows fault) → ChecksPages header list r
   checks_by_rows S (Ok x) fault was f never told = absurd was
   checks_by_rows S (Err stop) fault was f never told = checks_stopped S (Err stop) stop refl (subst (StopsIn header list) (sym was.0) told) f (subst (StopsRightly S) (sym was.0) (stops_by_rows S S fault (λ s. s) never))

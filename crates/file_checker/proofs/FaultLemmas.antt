@@ -33,8 +33,8 @@ use Rattle.file_checker.specs.declared.row_fault.RowFault.TheVariants.{Memory as
 use Rattle.file_checker.specs.RowsAhead.{PrimesLead}
 use Rattle.file_checker.specs.RowFaults.{IsAlternateFault, TellsOfRows}
 use Rattle.file_checker.specs.declared.verdict.Reason.{Reason}
-use Rattle.file_checker.specs.declared.stop.Stop.{Stop}
-use Rattle.file_checker.specs.declared.stop.Stop.TheVariants.{Memory, Unsound}
+use Rattle.file_checker.specs.declared.parts_fault.PartsFault.{PartsFault}
+use Rattle.file_checker.specs.declared.parts_fault.PartsFault.TheVariants.{Memory, Unsound}
 use Rattle.file_checker.specs.Faults.{AreLeavesOf, HasIndexFault, HasWalkFault, IsAlternateAt, IsAlternateTreeFault}
 use Rattle.file_checker.specs.Faults.{IsBeforeAlternate, IsBeforeAlternates, IsBeforeHeap, IsBeforePrime, IsTreeReached}
 use Rattle.file_checker.specs.Later.{IsMarkedBefore, IsMetIn, StopsIn, StopsWalk, TellsOfIndexes, reason_by_walk, stop_by_rows, stop_by_walk}
@@ -127,7 +127,7 @@ module _ (header : Header) (list : List (List ℕ)) where
 
   -- what is told of alternate indexes
   pub tells_indexes : (opened : OpenFile) → IsOpenedBy header opened → (primes : List Leaf) → AreLeavesOf (prime_index_of opened).tree list primes → (marks : List Bool) → length marks ≡ length list
-      → ((n : ℕ) → marked_in marks n ≡ true → IsBeforeAlternates header opened list n) → (stop : Stop) → TellsOfIndexes opened list primes marks stop → StopsIn header list stop
+      → ((n : ℕ) → marked_in marks n ≡ true → IsBeforeAlternates header opened list n) → (stop : PartsFault) → TellsOfIndexes opened list primes marks stop → StopsIn header list stop
   tells_indexes opened by primes are marks long before Memory told = tt
   tells_indexes opened by primes are marks long before (Unsound reason place) (inr h) =
       subst (λ (r : Reason). IsMetIn header list r place) (sym h.0) (inr (record { opened = opened; by_header = by; wrong = inr (record { primes = primes; are = are; wrong = h.1 }) }))
@@ -164,7 +164,7 @@ module _ (opened : OpenFile) (list : List (List ℕ)) (primes : List Leaf) (mark
       inl (what, refl, record { j = j; index = index; at = at; wrong = record { marks = now; are = record { many = long; each = so }; wrong = h } })
 
   -- its tree does not stand
-  pub told_of_tree : {X : Type 0} (now : List Bool) → length now ≡ length marks → ReachedSoFar now → (r : Result X Stop) (fault : WalkFault) → IsErrAnd r (λ stop. (stop ≡ stop_by_walk fault) × StopsWalk stop)
+  pub told_of_tree : {X : Type 0} (now : List Bool) → length now ≡ length marks → ReachedSoFar now → (r : Result X PartsFault) (fault : WalkFault) → IsErrAnd r (λ stop. (stop ≡ stop_by_walk fault) × StopsWalk stop)
       → TellsOfFault (IsTreeFault index.tree list now) fault → IfErr r (λ stop. PrimesLead opened list primes → TellsOfIndexes opened list primes marks stop)
   told_of_tree now long so (Ok x) fault was h = tt
   told_of_tree now long so (Err stop) fault was h = λ lead. subst (TellsOfIndexes opened list primes marks) (sym was.0) (tells_tree now long so fault h)
@@ -175,7 +175,7 @@ module _ (opened : OpenFile) (list : List (List ℕ)) (primes : List Leaf) (mark
   tells_entries leaves are (WrongIndex place) h = inr (refl, record { j = j; index = index; at = at; leaves = leaves; are = are; wrong = h })
 
   -- its entries are not those of the rows
-  pub told_of_entries : {X : Type 0} (leaves : List Leaf) → AreLeavesOf index.tree list leaves → (r : Result X Stop) (fault : RowFault) → IsErrAnd r (λ stop. (stop ≡ stop_by_rows fault) × StopsWalk stop)
+  pub told_of_entries : {X : Type 0} (leaves : List Leaf) → AreLeavesOf index.tree list leaves → (r : Result X PartsFault) (fault : RowFault) → IsErrAnd r (λ stop. (stop ≡ stop_by_rows fault) × StopsWalk stop)
       → (PrimesLead opened list primes → TellsOfRows (IsAlternateFault opened list primes index leaves) fault)
       → IfErr r (λ stop. PrimesLead opened list primes → TellsOfIndexes opened list primes marks stop)
   told_of_entries leaves are (Ok x) fault was h = tt

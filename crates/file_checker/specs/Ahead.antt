@@ -13,11 +13,11 @@ use Rattle.open_file.specs.InOrder.{alt_entries}
 use Rattle.open_file.specs.declared.open_file.OpenFile.{OpenFile}
 use Rattle.file_checker.specs.Rows.{rows_in}
 use Rattle.file_checker.specs.RowsAhead.{PrimesLead}
-use Rattle.file_checker.specs.declared.stop.Stop.{Stop}
-use Rattle.file_checker.specs.declared.stop.Stop.TheVariants.{Memory, Unsound}
+use Rattle.file_checker.specs.declared.parts_fault.PartsFault.{PartsFault}
+use Rattle.file_checker.specs.declared.parts_fault.PartsFault.TheVariants.{Memory, Unsound}
 
 -- a check stops for want of memory, or else only where this is not so
-abbrev pub StopsRightly : Type 0 → Stop → Type 0
+abbrev pub StopsRightly : Type 0 → PartsFault → Type 0
 StopsRightly Stands Memory = ⊤
 StopsRightly Stands (Unsound reason place) = Stands → ⊥
 

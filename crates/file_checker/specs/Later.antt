@@ -18,8 +18,8 @@ use Rattle.file_checker.specs.declared.verdict.Reason.{Reason}
 use Rattle.file_checker.specs.declared.verdict.Reason.TheVariants.{Short, Gate, Header as NoHeader}
 use Rattle.file_checker.specs.declared.verdict.Reason.TheVariants.{Shared, Node, Order, Heap, Index}
 use Rattle.file_checker.specs.declared.verdict.Reason.TheVariants.{Lost}
-use Rattle.file_checker.specs.declared.stop.Stop.{Stop}
-use Rattle.file_checker.specs.declared.stop.Stop.TheVariants.{Memory, Unsound}
+use Rattle.file_checker.specs.declared.parts_fault.PartsFault.{PartsFault}
+use Rattle.file_checker.specs.declared.parts_fault.PartsFault.TheVariants.{Memory, Unsound}
 use Rattle.file_checker.specs.Lost.{IsLostAt}
 use Rattle.file_checker.specs.Faults.{HasIndexFault, HasWalkFault, IsAlternateReached}
 use Rattle.file_checker.specs.Faults.{IsAlternateTreeFault, IsAlternateWrong}
@@ -35,12 +35,12 @@ reason_by_walk Chain = Heap
 reason_by_walk Count = Index
 
 -- how a fault of a walk is told
-abbrev pub stop_by_walk : WalkFault → Stop
+abbrev pub stop_by_walk : WalkFault → PartsFault
 stop_by_walk NoMemory = Memory
 stop_by_walk (At fault place) = Unsound (reason_by_walk fault) place
 
 -- how a fault of rows is told
-abbrev pub stop_by_rows : RowFault → Stop
+abbrev pub stop_by_rows : RowFault → PartsFault
 stop_by_rows NoRoom = Memory
 stop_by_rows (WrongIndex place) = Unsound Index place
 
@@ -56,7 +56,7 @@ IsMet Heap = ⊤
 IsMet Index = ⊤
 IsMet Lost = ⊥
 
-abbrev pub StopsWalk : Stop → Type 0
+abbrev pub StopsWalk : PartsFault → Type 0
 StopsWalk Memory = ⊤
 StopsWalk (Unsound reason place) = IsMet reason
 
@@ -73,7 +73,7 @@ IsMetIn header list Index place =
     HasWalkFault header list Count place ⊎ HasIndexFault header list place
 IsMetIn header list Lost place = IsLostAt header list place
 
-abbrev pub StopsIn : Header → List (List ℕ) → Stop → Type 0
+abbrev pub StopsIn : Header → List (List ℕ) → PartsFault → Type 0
 StopsIn header list Memory = ⊤
 StopsIn header list (Unsound reason place) = IsMetIn header list reason place
 
@@ -84,7 +84,7 @@ IsMarkedBefore opened list marks j n =
 
 -- what is told of alternate indexes, where some pages have their marks before: that memory ran out;
 -- or why one of them does not stand, and where; or where it is not that of the rows
-abbrev pub TellsOfIndexes : OpenFile → List (List ℕ) → List Leaf → List Bool → Stop → Type 0
+abbrev pub TellsOfIndexes : OpenFile → List (List ℕ) → List Leaf → List Bool → PartsFault → Type 0
 TellsOfIndexes opened list primes marks Memory = ⊤
 TellsOfIndexes opened list primes marks (Unsound reason place) =
     ((fault : PageFault) × (reason ≡ reason_by_walk fault) × IsAlternateTreeFault
@@ -92,7 +92,7 @@ TellsOfIndexes opened list primes marks (Unsound reason place) =
     ⊎ ((reason ≡ Index) × IsAlternateWrong opened list primes place)
 
 -- what a check of the pages tells: that they stand, or why it stops, and then they do not stand
-pub record ChecksPages (header : Header) (list : List (List ℕ)) (result : Result Unit Stop) : Type 0 where
+pub record ChecksPages (header : Header) (list : List (List ℕ)) (result : Result Unit PartsFault) : Type 0 where
   pub stand : OnOk result (PagesStand header list)
   pub stop : IfErr result (StopsIn header list)
   pub refused : IfErr result (StopsRightly (PagesStand header list))

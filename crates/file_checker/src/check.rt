@@ -9,8 +9,8 @@ ghost use Rattle.file_checker.specs.Sound.{RefusesBehind};
 
 use crate::finding::Finding;
 use crate::parts::check_pages;
+use crate::parts_fault::PartsFault;
 use crate::reading::{push_page, read_page, read_pages, skip_pages};
-use crate::stop::Stop;
 use crate::verdict::{CheckFault, Reason, Verdict};
 use byteorder::{BigEndian, ByteOrder};
 use file_header::Header;
@@ -62,8 +62,8 @@ fn examine_accepted<R: Read>(
             records: header.records,
             pages: header.pages,
         }),
-        Err(Stop::Unsound(reason, place)) => Ok(Finding::Unsound(reason, place)),
-        Err(Stop::Memory) => Err(CheckFault::Memory),
+        Err(PartsFault::Unsound(reason, place)) => Ok(Finding::Unsound(reason, place)),
+        Err(PartsFault::Memory) => Err(CheckFault::Memory),
     }
 }
 

@@ -11,7 +11,7 @@ ghost use Rattle.file_checker.specs.Bytes.{AreAllPages, AreFrontOf};
 
 use crate::finding::Finding;
 use crate::parts::check_pages;
-use crate::stop::Stop;
+use crate::parts_fault::PartsFault;
 use crate::verdict::{Reason, Verdict};
 use byteorder::{BigEndian, ByteOrder};
 use file_header::Header;
@@ -74,8 +74,8 @@ fn examine_counted(
             records: header.records,
             pages: header.pages,
         }),
-        Err(Stop::Unsound(reason, place)) => Ok(Finding::Unsound(reason, place)),
-        Err(Stop::Memory) => Err(AllocError),
+        Err(PartsFault::Unsound(reason, place)) => Ok(Finding::Unsound(reason, place)),
+        Err(PartsFault::Memory) => Err(AllocError),
     }
 }
 

@@ -19,6 +19,7 @@ mod heap_slots;
 mod held_bytes;
 mod law;
 mod parts;
+mod parts_fault;
 mod prime_rows;
 mod reading;
 mod record;
@@ -26,7 +27,6 @@ mod row;
 mod row_fault;
 mod row_law;
 mod stamps;
-mod stop;
 mod verdict;
 
 pub use alternate::check_alternate;

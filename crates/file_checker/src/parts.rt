@@ -11,8 +11,8 @@ ghost use Rattle.file_checker.specs.Lost.{first_unmarked};
 ghost use Rattle.file_checker.specs.Parts.{AllFound, AlternatesCount, MayCheckParts};
 
 use crate::alternate::check_alternate;
+use crate::parts_fault::PartsFault;
 use crate::prime_rows::check_rows;
-use crate::stop::Stop;
 use crate::verdict::Reason;
 use file_header::Header;
 use open_file::OpenFile;
@@ -29,7 +29,7 @@ fn check_alternates(
     file: &OpenFile,
     primes: &[Leaf],
     reached: &mut [bool],
-) -> Result<(), Stop>
+) -> Result<(), PartsFault>
     requires shaped { IsShaped file.now }
     requires many { AlternatesCount file.now (length (spots_in primes.now)) }
     ensures found { OnOk result
@@ -61,7 +61,7 @@ fn check_parts(
     pages: &[[u8; PAGE_SIZE]],
     header: &Header,
     reached: &mut [bool],
-) -> Result<(), Stop>
+) -> Result<(), PartsFault>
     requires { MayCheckParts header.now pages.now reached.old }
     ensures { ChecksPages header.now pages.now result }
 {
@@ -73,20 +73,24 @@ fn check_parts(
     check_rows(alloc, pages, &file, &own, &primes)?;
     check_alternates(alloc, pages, &file, &primes, reached)?;
     match first_lost(reached) {
-        Some(n) => Err(Stop::Unsound(Reason::Lost, FaultPlace::Page(n as u32))),
+        Some(n) => Err(PartsFault::Unsound(Reason::Lost, FaultPlace::Page(n as u32))),
         None => Ok(()),
     }
 }
 
 /// Checks the pages of a file, all that its header counts.
-pub fn check_pages(alloc: Global, pages: &[[u8; PAGE_SIZE]], header: &Header) -> Result<(), Stop>
+pub fn check_pages(
+    alloc: Global,
+    pages: &[[u8; PAGE_SIZE]],
+    header: &Header,
+) -> Result<(), PartsFault>
     requires header { IsHeader header.now }
     requires counted { length pages.now ≡ header.now.pages }
     ensures { ChecksPages header.now pages.now result }
 {
     let mut reached = match vec![in alloc; false; pages.len()] {
         Ok(reached) => reached,
-        Err(_) => return Err(Stop::Memory),
+        Err(_) => return Err(PartsFault::Memory),
     };
     check_parts(alloc, pages, header, &mut reached)
 }

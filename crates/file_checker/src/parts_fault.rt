@@ -10,7 +10,7 @@ use thiserror::Error;
 
 /// Why a list of pages was not found to be a file.
 #[derive(Clone, Copy, Debug, PartialEq, Eq, Error)]
-pub enum Stop {
+pub enum PartsFault {
     #[error("out of memory")]
     Memory,
     /// The reason, and where it was met.
@@ -32,28 +32,28 @@ fn reason_of(fault: PageFault) -> Reason
     }
 }
 
-impl From<WalkFault> for Stop {
+impl From<WalkFault> for PartsFault {
     ghost use Rattle.file_checker.specs.Later.{StopsWalk, stop_by_walk};
 
     ghost from_gives = { λ fault stop. (stop ≡ stop_by_walk fault) × StopsWalk stop };
 
-    fn from(fault: WalkFault) -> Stop {
+    fn from(fault: WalkFault) -> PartsFault {
         match fault {
-            WalkFault::Memory => Stop::Memory,
-            WalkFault::At(fault, place) => Stop::Unsound(reason_of(fault), place),
+            WalkFault::Memory => PartsFault::Memory,
+            WalkFault::At(fault, place) => PartsFault::Unsound(reason_of(fault), place),
         }
     }
 }
 
-impl From<RowFault> for Stop {
+impl From<RowFault> for PartsFault {
     ghost use Rattle.file_checker.specs.Later.{StopsWalk, stop_by_rows};
 
     ghost from_gives = { λ fault stop. (stop ≡ stop_by_rows fault) × StopsWalk stop };
 
-    fn from(fault: RowFault) -> Stop {
+    fn from(fault: RowFault) -> PartsFault {
         match fault {
-            RowFault::Memory => Stop::Memory,
-            RowFault::Index(place) => Stop::Unsound(Reason::Index, place),
+            RowFault::Memory => PartsFault::Memory,
+            RowFault::Index(place) => PartsFault::Unsound(Reason::Index, place),
         }
     }
 }
