@@ -1,6 +1,6 @@
 //! The list.
 ghost use Rattle.std.specs.Prelude.{◌≡◌, []};
-ghost use Rattle.record_listing.specs.ByPath.{ByReadsAside, ListsAtPath};
+ghost use Rattle.record_listing.specs.ByPath.{ReadsAside, ListsAtPath};
 
 use crate::asked::Asked;
 use crate::end::{ListEnd, ListFault};
@@ -25,9 +25,8 @@ pub fn list_at_path<S: System + Drop, D: Disk, W: Write>(
     out: &mut W,
 ) -> (S, Result<ListEnd, ListFault>)
     requires none_aside { aside.old.calls ≡ [] }
-    ensures ends { ByReadsAside (ListsAtPath D.Disk.unseen path.now form.now asked (W.contents out.old)
-        (W.contents out.new) result.1)
-        (S.state system).calls aside.new.calls (S.state result.0).calls }
+    ensures ends { ReadsAside S.state system aside.new.calls result
+        (ListsAtPath D.Disk.unseen path.now form.now asked (W.contents out.old) (W.contents out.new)) }
     ensures memory { result.1 ≡ Err ListFault.Memory → W.contents out.new ≡ W.contents out.old }
 {
     let Ok(path) = path.to_string(alloc) else {
