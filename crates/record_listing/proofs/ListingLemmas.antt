@@ -12,8 +12,8 @@ use Rattle.indexed_file.specs.Answers.{seen_of}
 use Rattle.indexed_file.specs.Calls.{Keeps, MayAnswer, MayAnswerShut}
 use Rattle.indexed_file.specs.Shown.{Shown}
 use Rattle.record_listing.specs.declared.asked.Asked.{Asked}
-use Rattle.record_listing.specs.declared.rows.Stop.{Stop}
-use Rattle.record_listing.specs.declared.rows.Stop.TheVariants.{Library as GaveUp, Output as NotTaken}
+use Rattle.record_listing.specs.declared.rows.RowsFault.{RowsFault}
+use Rattle.record_listing.specs.declared.rows.RowsFault.TheVariants.{Library as GaveUp, Output as NotTaken}
 use Rattle.record_text.specs.declared.form.Form.{Form}
 use Rattle.record_listing.specs.Lines.{list_of}
 use Rattle.record_listing.specs.Reading.{IsWritten, IsWrittenInPart, MayStop, OnlyReadsUnit, rows_asked}
@@ -34,7 +34,7 @@ is_refused (Closed other file) is = absurd (cc)
 
 module _ {S : Type 0} (shown : Shown S) (a b c : S) where
   -- why not all lines were written, after the file was closed
-  pub stop_before : (written : Result Unit Stop) → Keeps shown b c → IfErr written (MayStop shown a b) → IfErr written (MayStop shown a c)
+  pub stop_before : (written : Result Unit RowsFault) → Keeps shown b c → IfErr written (MayStop shown a b) → IfErr written (MayStop shown a c)
   stop_before (Ok done) keeps may = tt
   stop_before (Err (GaveUp fault)) keeps may = fault_before shown a b c fault keeps may
   stop_before (Err NotTaken) keeps may = tt
@@ -70,7 +70,7 @@ module _ {S : Type 0} (shown : Shown S) (a c : S) where
     in_front form schema file asked before behind lt sound part =
         record { rows = rows_asked schema file asked; listed = are_listed schema file asked lt sound; front = part.front; rest = part.rest; text = part.text_is; written = part.appends }
 
-    pub ends : (form : Form) (schema : Schema) (file : File) (asked : Asked) (before behind : Option (List ℕ)) (written : Result Unit Stop) (shut : Result Unit Fault) → asked.key < length schema.keys → is_file schema file ≡ true
+    pub ends : (form : Form) (schema : Schema) (file : File) (asked : Asked) (before behind : Option (List ℕ)) (written : Result Unit RowsFault) (shut : Result Unit Fault) → asked.key < length schema.keys → is_file schema file ≡ true
         → IsWritten (list_of form (rows_asked schema file asked)) before behind written → IfErr written (MayStop shown a c) → IfErr shut (MayAnswerShut shown 0 a c) → EndsList form asked (Closed schema file) before behind (list_end_of written shut)
     ends form schema file asked before behind (Ok done) (Ok closed) lt sound appends may also = record { key = lt; rows = rows_asked schema file asked; listed = are_listed schema file asked lt sound; written = appends }
     ends form schema file asked before behind (Ok done) (Err fault) lt sound appends may also =

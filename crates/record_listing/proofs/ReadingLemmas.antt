@@ -11,8 +11,8 @@ use Rattle.record_listing.specs.Lines.{lines_of_rows, list_of}
 use Rattle.streams.specs.Output.{AppendsFront, HoldsText}
 use Rattle.streams.specs.declared.output.Refused.{Refused}
 use Rattle.std.specs.Prelude.{OnOk, OnErr}
-use Rattle.record_listing.specs.declared.rows.Stop.{Stop}
-use Rattle.record_listing.specs.declared.rows.Stop.TheVariants.{Library as GaveUp, Output as NotTaken}
+use Rattle.record_listing.specs.declared.rows.RowsFault.{RowsFault}
+use Rattle.record_listing.specs.declared.rows.RowsFault.TheVariants.{Library as GaveUp, Output as NotTaken}
 use Rattle.record_listing.specs.Reading.{HoldsLine, IsOnItsWay, IsWrittenInPart, ComesOut, IsWritten}
 
 module _ (form : Form) where
@@ -76,25 +76,25 @@ module _ (form : Form) where
       subst (Appends a c) (sym (whole_text rows [] a b held way ∙ append-nil (way.taken ++ held))) (Appends-trans a b c way.taken held way.appends appends)
 
   -- what was held was handed over
-  pub handed : (rows : List Row) (a b c : Option (List ℕ)) (held : List ℕ) (result : Result Unit Stop) → (result ≡ Err NotTaken → ⊥) → ComesOut form rows a b held result → Appends b c held → IsWritten (lines_of_rows form rows) a c result
+  pub handed : (rows : List Row) (a b c : Option (List ℕ)) (held : List ℕ) (result : Result Unit RowsFault) → (result ≡ Err NotTaken → ⊥) → ComesOut form rows a b held result → Appends b c held → IsWritten (lines_of_rows form rows) a c result
   handed rows a b c held (Ok done) other out appends = all_out rows a b c held out appends
   handed rows a b c held (Err (GaveUp fault)) other out appends = in_part rows out.0 a b c held out.1 appends
   handed rows a b c held (Err NotTaken) other out appends = absurd (other refl)
 
   -- the writer refused a part of what was held
-  pub not_handed : (rows : List Row) (a b c : Option (List ℕ)) (held : List ℕ) (result : Result Unit Stop) → (result ≡ Err NotTaken → ⊥) → ComesOut form rows a b held result → AppendsFront b c held → IsWrittenInPart (lines_of_rows form rows) a c
+  pub not_handed : (rows : List Row) (a b c : Option (List ℕ)) (held : List ℕ) (result : Result Unit RowsFault) → (result ≡ Err NotTaken → ⊥) → ComesOut form rows a b held result → AppendsFront b c held → IsWrittenInPart (lines_of_rows form rows) a c
   not_handed rows a b c held (Ok done) other out front = refused rows [] a b c held out front
   not_handed rows a b c held (Err (GaveUp fault)) other out front = refused rows out.0 a b c held out.1 front
   not_handed rows a b c held (Err NotTaken) other out front = absurd (other refl)
 
   -- the writer had refused one
-  pub still_refused : (rows : List Row) (a b : Option (List ℕ)) (held : List ℕ) (result : Result Unit Stop) → result ≡ Err NotTaken → ComesOut form rows a b held result → IsWritten (lines_of_rows form rows) a b result
+  pub still_refused : (rows : List Row) (a b : Option (List ℕ)) (held : List ℕ) (result : Result Unit RowsFault) → result ≡ Err NotTaken → ComesOut form rows a b held result → IsWritten (lines_of_rows form rows) a b result
   still_refused rows a b held (Ok done) is out = absurd (cc)
   still_refused rows a b held (Err (GaveUp fault)) is out = absurd (cc)
   still_refused rows a b held (Err NotTaken) is out = out
 
   -- the lines stand behind what stands before them
-  pub behind_header : (rows : List Row) (a b c : Option (List ℕ)) (result : Result Unit Stop) → Appends a b (form_header form) → IsWritten (lines_of_rows form rows) b c result → IsWritten (list_of form rows) a c result
+  pub behind_header : (rows : List Row) (a b c : Option (List ℕ)) (result : Result Unit RowsFault) → Appends a b (form_header form) → IsWritten (lines_of_rows form rows) b c result → IsWritten (list_of form rows) a c result
   behind_header rows a b c (Ok done) header lines = Appends-trans a b c (form_header form) (lines_of_rows form rows) header lines
   behind_header rows a b c (Err stop) header lines = record {
     front = form_header form ++ lines.front;

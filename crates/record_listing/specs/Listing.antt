@@ -16,8 +16,8 @@ use Rattle.record_listing.specs.declared.end.ListEnd.{ListEnd}
 use Rattle.record_listing.specs.declared.end.ListEnd.TheVariants.{Listed, Absent, Unsound, NoKey, Damaged}
 use Rattle.record_listing.specs.declared.end.ListFault.{ListFault}
 use Rattle.record_listing.specs.declared.end.ListFault.TheVariants.{Input, Output, Memory}
-use Rattle.record_listing.specs.declared.rows.Stop.{Stop}
-use Rattle.record_listing.specs.declared.rows.Stop.TheVariants.{Library as GaveUp, Output as NotTaken}
+use Rattle.record_listing.specs.declared.rows.RowsFault.{RowsFault}
+use Rattle.record_listing.specs.declared.rows.RowsFault.TheVariants.{Library as GaveUp, Output as NotTaken}
 use Rattle.record_listing.specs.Listed.{AreListed}
 use Rattle.record_text.specs.declared.form.Form.{Form}
 use Rattle.record_listing.specs.Lines.{list_of}
@@ -31,7 +31,7 @@ end_by Damage = Ok Damaged
 end_by Broken = Err Input
 
 -- what becomes of a list whose lines were written or not, and whose file was closed or not
-abbrev pub list_end_of : Result Unit Stop → Result Unit Fault → Result ListEnd ListFault
+abbrev pub list_end_of : Result Unit RowsFault → Result Unit Fault → Result ListEnd ListFault
 list_end_of (Ok _) (Ok _) = Ok Listed
 list_end_of (Ok _) (Err fault) = end_by fault
 list_end_of (Err (GaveUp fault)) shut = end_by fault

@@ -21,8 +21,8 @@ use Rattle.indexed_file.specs.Calls.{OnlyReads, Keeps, MayAnswerShut}
 use Rattle.indexed_file.specs.Believed.{Believed}
 use Rattle.indexed_file.specs.Shown.{Shown}
 use Rattle.record_listing.specs.declared.asked.Asked.{Asked}
-use Rattle.record_listing.specs.declared.rows.Stop.{Stop}
-use Rattle.record_listing.specs.declared.rows.Stop.TheVariants.{Library as GaveUp, Output as NotTaken}
+use Rattle.record_listing.specs.declared.rows.RowsFault.{RowsFault}
+use Rattle.record_listing.specs.declared.rows.RowsFault.TheVariants.{Library as GaveUp, Output as NotTaken}
 use Rattle.record_listing.specs.declared.condition.Condition.{Condition}
 use Rattle.record_listing.specs.Condition.{all_hold}
 use Rattle.record_listing.specs.Listed.{is_past}
@@ -129,7 +129,7 @@ pub record IsWrittenInPart (text : List ℕ) (before now : Option (List ℕ)) : 
   pub appends : Appends before now front
 
 -- the lines of these rows are on their way, or only the first of them; or the writer refused one
-abbrev pub ComesOut : Form → List Row → (before now : Option (List ℕ)) → (held : List ℕ) → Result Unit Stop
+abbrev pub ComesOut : Form → List Row → (before now : Option (List ℕ)) → (held : List ℕ) → Result Unit RowsFault
     → Type 0
 ComesOut form rows before now held (Ok _) = IsOnItsWay form rows [] before now held
 ComesOut form rows before now held (Err (GaveUp fault)) =
@@ -137,7 +137,7 @@ ComesOut form rows before now held (Err (GaveUp fault)) =
 ComesOut form rows before now held (Err NotTaken) = IsWrittenInPart (lines_of_rows form rows) before now
 
 -- the text was written, or a front of it
-abbrev pub IsWritten : List ℕ → (before now : Option (List ℕ)) → Result Unit Stop → Type 0
+abbrev pub IsWritten : List ℕ → (before now : Option (List ℕ)) → Result Unit RowsFault → Type 0
 IsWritten text before now (Ok _) = Appends before now text
 IsWritten text before now (Err stop) = IsWrittenInPart text before now
 
@@ -167,13 +167,13 @@ HoldsWhere form conditions size area before now held held_after (Err refused) =
 
 -- why not all lines are written: a call of the library answered a fault that it may answer; or the
 -- writer refused one
-abbrev pub MayStop : {S : Type 0} → Shown S → S → S → Stop → Type 0
+abbrev pub MayStop : {S : Type 0} → Shown S → S → S → RowsFault → Type 0
 MayStop shown old new (GaveUp fault) = MayAnswerShut shown 0 old new fault
 MayStop shown old new NotTaken = Unit {0}
 
 -- the rows of unit 0 that are asked for were read, and this came of them
 pub record ReadsRows {S : Type 0} (shown : Shown S) (asked : Asked) (old new : S)
-    (Comes : List Row → Type 0) (result : Result Unit Stop) : Type 0 where
+    (Comes : List Row → Type 0) (result : Result Unit RowsFault) : Type 0 where
   pub reads : OnlyReadsUnit shown old new
   pub rows : Believed shown 0 old new
       (Comes (rows_asked (schema_at (shown.world old) 0) (file_at (shown.world old) 0) asked))
@@ -181,18 +181,18 @@ pub record ReadsRows {S : Type 0} (shown : Shown S) (asked : Asked) (old new : S
 
 -- the rows of unit 0 that are asked for were read, and their lines are on their way
 abbrev pub BringsOut : {S : Type 0} → Shown S → Asked → (old new : S) → Form → (before now : Option (List ℕ))
-    → (held : List ℕ) → Result Unit Stop → Type 0
+    → (held : List ℕ) → Result Unit RowsFault → Type 0
 BringsOut shown asked old new form before now held result =
     ReadsRows shown asked old new (λ rows. ComesOut form rows before now held result) result
 
 -- they were read, and their list was written, or a front of it
 abbrev pub WritesOut : {S : Type 0} → Shown S → Asked → (old new : S) → Form → (before now : Option (List ℕ))
-    → Result Unit Stop → Type 0
+    → Result Unit RowsFault → Type 0
 WritesOut shown asked old new form before now result =
     ReadsRows shown asked old new (λ rows. IsWritten (list_of form rows) before now result) result
 
 -- the lines of rows that came out so far are written, once those that are held are handed over
-abbrev pub HandsOver : (old new : Option (List ℕ)) → (held : List ℕ) → (came result : Result Unit Stop)
+abbrev pub HandsOver : (old new : Option (List ℕ)) → (held : List ℕ) → (came result : Result Unit RowsFault)
     → Type 0
 HandsOver old new held came result =
     (form : Form) (rows : List Row) (before : Option (List ℕ)) → ComesOut form rows before old held came

@@ -9,7 +9,7 @@ ghost use Rattle.record_listing.specs.Reading.{CanListFile};
 
 use crate::asked::Asked;
 use crate::end::{ListEnd, ListFault, end_by};
-use crate::rows::{Stop, write_rows};
+use crate::rows::{RowsFault, write_rows};
 use indexed_file::{Library, Seen};
 use io_state::{Fault, FileName};
 use record_layout::Schema;
@@ -18,7 +18,7 @@ use std::alloc::Global;
 use std::io::Write;
 
 /// How a list ends whose lines were written or not, and whose file was closed or not.
-fn end_of(written: Result<(), Stop>, shut: Result<(), Fault>) -> Result<ListEnd, ListFault>
+fn end_of(written: Result<(), RowsFault>, shut: Result<(), Fault>) -> Result<ListEnd, ListFault>
     ensures { result ≡ list_end_of written shut }
 {
     match written {
@@ -26,8 +26,8 @@ fn end_of(written: Result<(), Stop>, shut: Result<(), Fault>) -> Result<ListEnd,
             Ok(()) => Ok(ListEnd::Listed),
             Err(fault) => end_by(fault),
         },
-        Err(Stop::Library(fault)) => end_by(fault),
-        Err(Stop::Output) => Err(ListFault::Output),
+        Err(RowsFault::Library(fault)) => end_by(fault),
+        Err(RowsFault::Output) => Err(ListFault::Output),
     }
 }
 

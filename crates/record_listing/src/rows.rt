@@ -18,7 +18,7 @@ use streams::{HeldText, Refused, write_text};
 
 /// Why not all lines were written.
 #[derive(Clone, Copy, Debug, PartialEq, Eq)]
-pub enum Stop {
+pub enum RowsFault {
     /// A call of the library gave up, or memory was wanted.
     Library(Fault),
     /// The writer refused a line.
@@ -96,13 +96,13 @@ fn hold_rows<L: Library, W: Write>(
     line: &mut Vec<u8>,
     lines: &mut HeldText,
     out: &mut W,
-) -> Result<(), Stop>
+) -> Result<(), RowsFault>
     requires can { CanListFile L.shown lib.old asked.key (length area.old) }
     requires room { IsLineRoom form.now (length area.old) (vec_capacity line.old) }
     requires empty { lines.old ≡ [] }
     ensures brings { BringsOut L.shown asked lib.old lib.new form.now (W.contents out.old)
         (W.contents out.new) lines.new result }
-    ensures memory { result ≡ Err (Stop.Library Fault.Memory) → IsTrue L.shown.may_want_memory }
+    ensures memory { result ≡ Err (RowsFault.Library Fault.Memory) → IsTrue L.shown.may_want_memory }
 {
     let Asked {
         key,
@@ -117,7 +117,7 @@ fn hold_rows<L: Library, W: Write>(
         let found = match next_record(lib, key, &to, &position, area) {
             Ok(Some(found)) => found,
             Ok(None) => return Ok(()),
-            Err(fault) => return Err(Stop::Library(fault)),
+            Err(fault) => return Err(RowsFault::Library(fault)),
         };
         let conditions = conditions.as_slice();
         match hold_where(lines, line, form, conditions, area, found.length, out) {
@@ -125,35 +125,35 @@ fn hold_rows<L: Library, W: Write>(
                 position = Position::After(found.key, found.stamp);
                 left = left_behind(left, listed);
             }
-            Err(_) => return Err(Stop::Output),
+            Err(_) => return Err(RowsFault::Output),
         }
     }
     Ok(())
 }
 
 /// Whether the writer refused a line.
-fn is_refused(held: Result<(), Stop>) -> bool
-    ensures yes { result ≡ true → held ≡ Err Stop.Output }
-    ensures no { result ≡ false → held ≡ Err Stop.Output → ⊥ }
+fn is_refused(held: Result<(), RowsFault>) -> bool
+    ensures yes { result ≡ true → held ≡ Err RowsFault.Output }
+    ensures no { result ≡ false → held ≡ Err RowsFault.Output → ⊥ }
 {
-    matches!(held, Err(Stop::Output))
+    matches!(held, Err(RowsFault::Output))
 }
 
 /// Hands the lines that are held to the writer, unless it refused one.
 fn hand_over<W: Write>(
-    held: Result<(), Stop>,
+    held: Result<(), RowsFault>,
     lines: &mut HeldText,
     out: &mut W,
-) -> Result<(), Stop>
+) -> Result<(), RowsFault>
     ensures written { HandsOver (W.contents out.old) (W.contents out.new) lines.old held result }
-    ensures cause { (result ≡ held) ⊎ (result ≡ Err Stop.Output) }
+    ensures cause { (result ≡ held) ⊎ (result ≡ Err RowsFault.Output) }
 {
     if is_refused(held) {
         return held;
     }
     match lines.hand_over(out) {
         Ok(()) => held,
-        Err(_) => Err(Stop::Output),
+        Err(_) => Err(RowsFault::Output),
     }
 }
 
@@ -167,18 +167,18 @@ fn blank_area(alloc: Global, size: u16) -> Result<Vec<u8>, AllocError>
 }
 
 /// Writes what stands before the first line.
-fn write_header<W: Write>(alloc: Global, form: &Form, out: &mut W) -> Result<(), Stop>
+fn write_header<W: Write>(alloc: Global, form: &Form, out: &mut W) -> Result<(), RowsFault>
     ensures written { IsWritten (form_header form.now) (W.contents out.old) (W.contents out.new) result }
-    ensures cause { IfErr result (λ stop. (stop ≡ Stop.Output) ⊎ (stop ≡ Stop.Library Fault.Memory)) }
-    ensures memory { result ≡ Err (Stop.Library Fault.Memory) → W.contents out.new ≡ W.contents out.old }
+    ensures cause { IfErr result (λ stop. (stop ≡ RowsFault.Output) ⊎ (stop ≡ RowsFault.Library Fault.Memory)) }
+    ensures memory { result ≡ Err (RowsFault.Library Fault.Memory) → W.contents out.new ≡ W.contents out.old }
 {
     let mut header = Vec::new(alloc);
     if append_header(&mut header, form).is_err() {
-        return Err(Stop::Library(Fault::Memory));
+        return Err(RowsFault::Library(Fault::Memory));
     }
     match write_text(out, header.as_slice()) {
         Ok(()) => Ok(()),
-        Err(_) => Err(Stop::Output),
+        Err(_) => Err(RowsFault::Output),
     }
 }
 
@@ -192,21 +192,21 @@ pub fn write_rows<L: Library, W: Write>(
     form: &Form,
     greatest: u16,
     out: &mut W,
-) -> Result<(), Stop>
+) -> Result<(), RowsFault>
     requires { CanListFile L.shown lib.old asked.key greatest }
     ensures writes { WritesOut L.shown asked lib.old lib.new form.now (W.contents out.old)
         (W.contents out.new) result }
-    ensures memory { result ≡ Err (Stop.Library Fault.Memory) → IsFalse L.shown.may_want_memory
+    ensures memory { result ≡ Err (RowsFault.Library Fault.Memory) → IsFalse L.shown.may_want_memory
         → W.contents out.new ≡ W.contents out.old }
 {
     let Ok(mut area) = blank_area(alloc, greatest) else {
-        return Err(Stop::Library(Fault::Memory));
+        return Err(RowsFault::Library(Fault::Memory));
     };
     let Ok(mut lines) = HeldText::new(alloc) else {
-        return Err(Stop::Library(Fault::Memory));
+        return Err(RowsFault::Library(Fault::Memory));
     };
     let Ok(mut line) = line_room(alloc, form, greatest) else {
-        return Err(Stop::Library(Fault::Memory));
+        return Err(RowsFault::Library(Fault::Memory));
     };
     match write_header(alloc, form, out) {
         Ok(()) => {
