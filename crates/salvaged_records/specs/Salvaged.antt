@@ -24,6 +24,7 @@ use Rattle.salvaged_records.specs.Shapes.{IsShapeOf}
 use Rattle.salvaged_records.specs.declared.lead.Lead.{Lead}
 use Rattle.salvaged_records.specs.declared.lead.Lead.TheVariants.{Bare, Place, Doubt}
 use Rattle.salvaged_records.specs.declared.salvaging.Salvage.{Salvage}
+use Rattle.salvaged_records.specs.declared.salvaging.SalvageForm.{SalvageForm}
 use Rattle.salvaged_records.specs.declared.salvaging.Salvage.TheVariants.{All, Slots, Unsound}
 
 -- the bytes with the gate closed: byte 0 is 'C', if there is one
@@ -54,6 +55,11 @@ outputs before behind told_before told_behind = record {
   told_behind = told_behind;
 }
 
+-- the same of two writers, before a call and after it: that of lines, and that to which slots are told
+abbrev pub both_outputs : {W E : Type 0} → (listed : W → Option (List ℕ)) → (told : E → Option (List ℕ))
+    → (old new : W × E) → Outputs
+both_outputs listed told old new = outputs (listed old.0) (listed new.0) (told old.1) (told new.1)
+
 -- the records of the file that the bytes stand for were written in a form, in the order of the prime
 -- key, and nothing was told
 abbrev pub WritesAll : Form → List ℕ → Outputs → Type 0
@@ -81,6 +87,9 @@ pub record WritesSorted (sorted : SortedOut) (form : Form) (places : Bool) (o : 
   pub told : Appends o.told_before o.told_behind (salvaged_list Doubt Text (map found_slot sorted.told.items))
   pub listed : Appends o.before o.behind (salvaged_list (lead_by places) form (map found_slot sorted.kept.items))
 
+abbrev pub ListsSorted : SortedOut → SalvageForm → Outputs → Type 0
+ListsSorted sorted asked o = WritesSorted sorted asked.form.now asked.places o
+
 -- The slots in use of all whole pages, as they are in a file of this schema, were sorted out; those
 -- whose prime value others have were told, page by page, and so many they are; and so many were listed,
 -- page by page: those whose value no other has, and the one of several to which the entries of the prime
@@ -96,6 +105,11 @@ pub record WritesSlots (schema : Schema) (bytes : List ℕ) (form : Form) (place
   pub written : WritesSorted sorted form places o
   pub listed_is : listed ≡ length sorted.kept.items
   pub told_is : told ≡ length sorted.told.items
+
+-- so many were listed, and so many told
+abbrev pub ListsSlots : Schema → List ℕ → SalvageForm → Outputs → (counts : ℕ × ℕ) → Type 0
+ListsSlots schema bytes asked o counts =
+    WritesSlots schema bytes asked.form.now asked.places o counts.0 counts.1
 
 -- the same by the schema of the bytes, or that of a deck
 abbrev pub WritesSlotsFor : Option Schema → List ℕ → Form → (places : Bool) → Outputs → (listed told : ℕ)
@@ -128,8 +142,10 @@ EndsWith deck bytes form places o (Unsound reason) =
     IsRight bytes (IsRefused reason) × HasNoHeader bytes × (deck ≡ None) × (o.behind ≡ o.before)
     × (o.told_behind ≡ o.told_before)
 
+abbrev pub Salvages : Option Schema → List ℕ → SalvageForm → Outputs → Salvage → Type 0
+Salvages deck bytes asked o end = EndsWith deck bytes asked.form.now asked.places o end
+
 -- so it ends of the bytes with the gate closed, unless a writer refused a line or memory was wanted
-abbrev pub Ends : Option Schema → List ℕ → Form → (places : Bool) → Outputs → Result Salvage ListFault
-    → Type 0
-Ends deck bytes form places o (Ok end) = EndsWith deck (with_gate_closed bytes) form places o end
-Ends deck bytes form places o (Err fault) = ⊤
+abbrev pub Ends : Option Schema → List ℕ → SalvageForm → Outputs → Result Salvage ListFault → Type 0
+Ends deck bytes asked o (Ok end) = Salvages deck (with_gate_closed bytes) asked o end
+Ends deck bytes asked o (Err fault) = ⊤

@@ -4,9 +4,9 @@ ghost use Rattle.file_checker.specs.Bytes.{AreAllPages};
 ghost use Rattle.file_checker.specs.Sound.{IsRight, IsSound};
 ghost use Rattle.file_header.specs.FirstPage.{IsFirstPage};
 ghost use Rattle.page_store.specs.DeviceFile.{page_of_bytes};
-ghost use Rattle.salvaged_records.specs.Salvaged.{with_gate_closed, AreAllAsked, EndsWith, Ends};
-ghost use Rattle.salvaged_records.specs.Salvaged.{HasNoHeader, IsSchemaFor, lead_by, outputs, WritesSlots};
-ghost use Rattle.salvaged_records.specs.Salvaged.{IsSalvageOf, WritesSorted};
+ghost use Rattle.salvaged_records.specs.Salvaged.{with_gate_closed, AreAllAsked, both_outputs, EndsWith};
+ghost use Rattle.salvaged_records.specs.Salvaged.{HasNoHeader, IsSalvageOf, IsSchemaFor, lead_by};
+ghost use Rattle.salvaged_records.specs.Salvaged.{Ends, ListsSlots, ListsSorted, Salvages};
 
 use crate::lead::Lead;
 use crate::shape::shape_of;
@@ -79,7 +79,7 @@ fn list_all<W: Write, E: Write>(
 ) -> Result<Salvage, ListFault>
     requires sound { (pages : ℕ) × IsSound bytes.items records pages }
     ensures ends { IfOk result (EndsWith deck.now bytes.items form.now false
-        (outputs (W.contents out.old) (W.contents out.new) (E.contents told.old) (E.contents told.new))) }
+        (both_outputs W.contents E.contents (out.old, told.old) (out.new, told.new))) }
     ensures memory { result ≡ Err ListFault.Memory → W.contents out.new ≡ W.contents out.old }
 {
     match list_sound(alloc, bytes, all_records(alloc), form, out) {
@@ -104,8 +104,8 @@ fn write_sorted<W: Write, E: Write>(
     told: &mut E,
     out: &mut W,
 ) -> Result<(), ListFault>
-    ensures written { OnOk result (WritesSorted sorted.now asked.now.form.now asked.now.places
-        (outputs (W.contents out.old) (W.contents out.new) (E.contents told.old) (E.contents told.new))) }
+    ensures written { OnOk result (ListsSorted sorted.now asked.now
+        (both_outputs W.contents E.contents (out.old, told.old) (out.new, told.new))) }
     ensures memory { result ≡ Err ListFault.Memory → W.contents out.new ≡ W.contents out.old }
 {
     match write_slots(
@@ -138,9 +138,8 @@ fn list_slots<W: Write, E: Write>(
     out: &mut W,
 ) -> Result<(u64, u64), ListFault>
     requires pages { AreAllPages bytes.now pages.now }
-    ensures slots { IfOk result (λ counts. WritesSlots schema.now bytes.now asked.now.form.now asked.now.places
-        (outputs (W.contents out.old) (W.contents out.new) (E.contents told.old) (E.contents told.new))
-        counts.0 counts.1) }
+    ensures slots { IfOk result (ListsSlots schema.now bytes.now asked.now
+        (both_outputs W.contents E.contents (out.old, told.old) (out.new, told.new))) }
     ensures memory { result ≡ Err ListFault.Memory → W.contents out.new ≡ W.contents out.old }
 {
     let Ok(sorted) = sort_out(alloc, pages, schema, shape_of(schema)) else {
@@ -187,8 +186,8 @@ fn list_refused_by<W: Write, E: Write>(
     requires refused { IsRight bytes.now (Verdict.Unsound reason) }
     requires pages { AreAllPages bytes.now pages.now }
     requires schema { IsSchemaFor deck.now bytes.now schema.now }
-    ensures ends { IfOk result (EndsWith deck.now bytes.now asked.now.form.now asked.now.places
-        (outputs (W.contents out.old) (W.contents out.new) (E.contents told.old) (E.contents told.new))) }
+    ensures ends { IfOk result (Salvages deck.now bytes.now asked.now
+        (both_outputs W.contents E.contents (out.old, told.old) (out.new, told.new))) }
     ensures memory { result ≡ Err ListFault.Memory → W.contents out.new ≡ W.contents out.old }
 {
     match list_slots(alloc, bytes, pages, schema, asked, told, out) {
@@ -209,8 +208,8 @@ fn list_refused<W: Write, E: Write>(
     out: &mut W,
 ) -> Result<Salvage, ListFault>
     requires refused { IsRight bytes.now (Verdict.Unsound reason) }
-    ensures ends { IfOk result (EndsWith deck.now bytes.now asked.now.form.now asked.now.places
-        (outputs (W.contents out.old) (W.contents out.new) (E.contents told.old) (E.contents told.new))) }
+    ensures ends { IfOk result (Salvages deck.now bytes.now asked.now
+        (both_outputs W.contents E.contents (out.old, told.old) (out.new, told.new))) }
     ensures memory { result ≡ Err ListFault.Memory → W.contents out.new ≡ W.contents out.old }
 {
     let pages = pages_in(bytes);
@@ -258,8 +257,8 @@ fn list_placed<W: Write, E: Write>(
 ) -> Result<Salvage, ListFault>
     requires sound { (pages : ℕ) × IsSound bytes.now records pages }
     requires places { asked.now.places ≡ true }
-    ensures ends { IfOk result (EndsWith deck.now bytes.now asked.now.form.now asked.now.places
-        (outputs (W.contents out.old) (W.contents out.new) (E.contents told.old) (E.contents told.new))) }
+    ensures ends { IfOk result (Salvages deck.now bytes.now asked.now
+        (both_outputs W.contents E.contents (out.old, told.old) (out.new, told.new))) }
     ensures memory { result ≡ Err ListFault.Memory → W.contents out.new ≡ W.contents out.old }
 {
     let pages = pages_in(bytes);
@@ -285,8 +284,8 @@ fn list_whole<W: Write, E: Write>(
     out: &mut W,
 ) -> Result<Salvage, ListFault>
     requires sound { (pages : ℕ) × IsSound bytes.items records pages }
-    ensures ends { IfOk result (EndsWith deck.now bytes.items asked.now.form.now asked.now.places
-        (outputs (W.contents out.old) (W.contents out.new) (E.contents told.old) (E.contents told.new))) }
+    ensures ends { IfOk result (Salvages deck.now bytes.items asked.now
+        (both_outputs W.contents E.contents (out.old, told.old) (out.new, told.new))) }
     ensures memory { result ≡ Err ListFault.Memory → W.contents out.new ≡ W.contents out.old }
 {
     if asked.places {
@@ -316,9 +315,8 @@ pub fn salvage_records<W: Write, E: Write>(
     told: &mut E,
     out: &mut W,
 ) -> Result<Salvage, ListFault>
-    ensures ends { Ends deck.now bytes.items asked.now.form.now asked.now.places
-        (outputs (W.contents out.old) (W.contents out.new) (E.contents told.old) (E.contents told.new))
-        result }
+    ensures ends { Ends deck.now bytes.items asked.now
+        (both_outputs W.contents E.contents (out.old, told.old) (out.new, told.new)) result }
     ensures memory { result ≡ Err ListFault.Memory → W.contents out.new ≡ W.contents out.old }
 {
     let mut bytes = bytes;
