@@ -64,5 +64,5 @@ IsToldBytes input output question bytes = (number : List ℕ) × (length number 
     × Asks input output question (number ++ bytes) × (signed_number number ≡ pos (length bytes))
 
 -- it was asked, and told is the front of these bytes, so many
-abbrev pub Fills : (input output : Stream) → Question → List ℕ → ℕ → Type 0
-Fills input output question bytes n = IsToldBytes input output question (take n bytes)
+abbrev pub FillsBy : (input output : Stream) → Question → List ℕ → ℕ → Type 0
+FillsBy input output question bytes n = IsToldBytes input output question (take n bytes)

@@ -46,5 +46,5 @@ abbrev pub question_bytes : Question → List ℕ
 question_bytes question = flat_map (little_bytes 8) (question_numbers question) ++ follows question
 
 -- that for as many bytes of a file, from a place on, as there are in a room
-abbrev pub read_into : (file at : ℕ) → (room : List ℕ) → Question
-read_into file at room = Read file at (length room)
+abbrev pub read_for : (file at : ℕ) → (room : List ℕ) → Question
+read_for file at room = Read file at (length room)

@@ -1,8 +1,8 @@
 //! Questions asked, and their answers.
 ghost use Rattle.std.specs.Prelude.{IfOk, OnOk};
 ghost use Rattle.std.specs.Io.{ReadsAtMost, WritesAtMost};
-ghost use Rattle.asked_system.specs.Answers.{stream, IsNumberTold, IsDone, IsYesTold, Fills};
-ghost use Rattle.asked_system.specs.Questions.{read_into};
+ghost use Rattle.asked_system.specs.Answers.{stream, IsNumberTold, IsDone, IsYesTold, FillsBy};
+ghost use Rattle.asked_system.specs.Questions.{read_for};
 ghost use Rattle.asked_system.specs.declared.question.Question.TheVariants.{Write as ToWrite, Names};
 
 use crate::question::{Question, put_question};
@@ -59,8 +59,8 @@ pub fn ask_to_read<R: Read, W: Write>(
     bytes: &mut [u8],
 ) -> io::Result<usize>
     ensures bound { ReadsAtMost result bytes.new }
-    ensures told { IfOk result (Fills (stream R.remaining input.old input.new)
-        (stream W.contents output.old output.new) (read_into file at bytes.old) bytes.new) }
+    ensures told { IfOk result (FillsBy (stream R.remaining input.old input.new)
+        (stream W.contents output.old output.new) (read_for file at bytes.old) bytes.new) }
 {
     let count = bytes.len();
     let told = ask(input, output, &Question::Read { file, at, count })?;
