@@ -25,8 +25,8 @@ use Rattle.deck_runner.proofs.FrameLemmas.{unit_elsewhere}
 use Rattle.serve.specs.Answer.{Told, Refuses, Does, Tells}
 use Rattle.serve.specs.Reading.{request_in}
 use Rattle.serve.specs.Request.{Described, Performed, Asked, Describing, Performing, Releasing}
-use Rattle.serve.specs.declared.refusal.Refusal.{Refusal}
-use Rattle.serve.specs.declared.refusal.Refusal.TheVariants as refusal
+use Rattle.serve.specs.declared.request_refusal.RequestRefusal.{RequestRefusal}
+use Rattle.serve.specs.declared.request_refusal.RequestRefusal.TheVariants as refusal
 use Rattle.serve.specs.Files.{number_limit, NumberedFile, FileTable, Files, file_of_number, is_open_file, is_free_number, is_named_file, has_file_name, order_after, memory_of, files_at_start}
 use Rattle.serve.specs.Steps.{PerformsRequest, Describes, GivesUnit, AddsLast, IsShutUnit, Releases, RefusesDescription, ClosesFirst, refusal_by, refusal_of_file, file_described, with_bytes, record_by, close_request}
 use Rattle.serve.proofs.CallLemmas.{not_named, free_below, free_none}
@@ -308,7 +308,7 @@ module _ {S : Type 0} (shown : Shown S) (joins : JoinsStretches shown.moments) (
       let one = named_place files.table.places name named in
       record { number = one.0; file = file_in_session (world_at files) one.1; at = ap (place_in_session (world_at files)) one.2; name_is = sym ((bytes_eq-Decides name one.1.name).0 one.3) }
 
-  refused_exact : (d : Described) (files : Files S) (why : Refusal) → RefusesDescription files.table d why → is_clean_answer (Some (Describing d)) (Refuses why) ≡ true → RefusesExactly d (files_in_session shown files) why
+  refused_exact : (d : Described) (files : Files S) (why : RequestRefusal) → RefusesDescription files.table d why → is_clean_answer (Some (Describing d)) (Refuses why) ≡ true → RefusesExactly d (files_in_session shown files) why
   refused_exact d files refusal.NoRequest a clean = absurd a
   refused_exact d files refusal.TooLong a clean = absurd a
   refused_exact d files refusal.Number a clean = λ free. true≢false (sym (is_free files d.file free) ∙ a)
@@ -354,7 +354,7 @@ module _ {S : Type 0} (shown : Shown S) (joins : JoinsStretches shown.moments) (
   exact_step (Some (Describing d)) Does old new kept apart a honest were clean = (described_exact d old new kept a apart, described_apart d old new kept a apart)
   exact_step (Some (Describing d)) (Refuses why) old new kept apart a honest were clean =
       let same = unchanged old.files new
-      (a.1.same (λ is. true≢false (sym clean ∙ ap (λ (w : Refusal). is_clean_answer (Some (Describing d)) (Refuses w)) is))) apart in
+      (a.1.same (λ is. true≢false (sym clean ∙ ap (λ (w : RequestRefusal). is_clean_answer (Some (Describing d)) (Refuses w)) is))) apart in
       ((refused_exact d old.files why a.0 clean, same.0), same.1)
   exact_step (Some (Describing d)) (Tells status bytes) old new kept apart a honest were clean = absurd a
   exact_step (Some (Performing p)) Does old new kept apart a honest were clean = absurd a

@@ -5,12 +5,12 @@ use Rattle.io_state.specs.Status.{digits_of}
 use Rattle.io_state.specs.declared.status.Status.{Status}
 use Rattle.serve.specs.declared.answer.Answer.{Answer}
 use Rattle.serve.specs.declared.answer.Answer.TheVariants.{Refused, Done, Performed}
-use Rattle.serve.specs.declared.refusal.Refusal.{Refusal}
-use Rattle.serve.specs.declared.refusal.Refusal.TheVariants.{NoRequest, TooLong, Number, Description}
-use Rattle.serve.specs.declared.refusal.Refusal.TheVariants.{Name, Open, Memory, Key}
+use Rattle.serve.specs.declared.request_refusal.RequestRefusal.{RequestRefusal}
+use Rattle.serve.specs.declared.request_refusal.RequestRefusal.TheVariants.{NoRequest, TooLong, Number, Description}
+use Rattle.serve.specs.declared.request_refusal.RequestRefusal.TheVariants.{Name, Open, Memory, Key}
 
 -- the number of a refusal
-abbrev pub refusal_code : Refusal → ℕ
+abbrev pub refusal_code : RequestRefusal → ℕ
 refusal_code NoRequest = 1
 refusal_code TooLong = 2
 refusal_code Number = 3
@@ -23,7 +23,7 @@ refusal_code Key = 8
 -- what is told: that a request is refused, that a file was described or released, or what a verb
 -- answered, with the record that it delivered (no bytes where it delivered none)
 pub data Told : Type 0 where
-  Refuses : (refusal : Refusal) → Told
+  Refuses : (refusal : RequestRefusal) → Told
   Does : Told
   Tells : (status : Status) → (bytes : List ℕ) → Told
 

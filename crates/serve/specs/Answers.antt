@@ -6,8 +6,8 @@ use Rattle.serve.specs.Answer.{Told, Refuses, Does, Tells, answer_body, framed}
 use Rattle.serve.specs.Reading.{request_in}
 use Rattle.serve.specs.Request.{Described, Performed, Asked, Describing, Performing, Releasing}
 use Rattle.serve.specs.Request.{described_of}
-use Rattle.serve.specs.declared.description.Description.{Description}
-use Rattle.serve.specs.declared.refusal.Refusal.TheVariants as refusal
+use Rattle.serve.specs.declared.file_description.FileDescription.{FileDescription}
+use Rattle.serve.specs.declared.request_refusal.RequestRefusal.TheVariants as refusal
 use Rattle.serve.specs.Files.{FileTable, Files, file_of_number}
 use Rattle.serve.specs.declared.answering.Outcome.{Outcome}
 use Rattle.serve.specs.declared.answering.Outcome.TheVariants as outcome

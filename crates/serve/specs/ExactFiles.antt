@@ -8,8 +8,8 @@ use Rattle.indexed_file.specs.World.{Named}
 use Rattle.serve.specs.Answer.{Told, Refuses, Does, Tells}
 use Rattle.serve.specs.Reading.{request_in}
 use Rattle.serve.specs.Request.{Described, Performed, Asked, Describing, Performing, Releasing}
-use Rattle.serve.specs.declared.refusal.Refusal.{Refusal}
-use Rattle.serve.specs.declared.refusal.Refusal.TheVariants as refusal
+use Rattle.serve.specs.declared.request_refusal.RequestRefusal.{RequestRefusal}
+use Rattle.serve.specs.declared.request_refusal.RequestRefusal.TheVariants as refusal
 use Rattle.verbs.specs.Connector.{FileState, Outcome, closed_connector}
 use Rattle.verbs.specs.Verbs.{perform}
 use Rattle.serve.specs.Files.{number_limit, order_after}
@@ -70,7 +70,7 @@ pub record DescribesExactly (d : Described) (old new : ExactFiles) : Type 0 wher
   pub files : new ≡ with_exact old d.file (Some (exact_described old.named d))
 
 -- why a description is refused: the first that is amiss
-abbrev pub RefusesExactly : Described → ExactFiles → Refusal → Type 0
+abbrev pub RefusesExactly : Described → ExactFiles → RequestRefusal → Type 0
 RefusesExactly d old refusal.Number = IsFree old d.file → ⊥
 RefusesExactly d old refusal.Description = IsFree old d.file × (CanBeFile d → ⊥)
 RefusesExactly d old refusal.Name = IsFree old d.file × CanBeFile d × HasNamed old d.name
@@ -79,7 +79,7 @@ RefusesExactly d old _ = ⊥
 -- ---- a verb
 
 -- why it is refused, if it is
-abbrev pub exact_refusal : Option ExactFile → Performed → Option Refusal
+abbrev pub exact_refusal : Option ExactFile → Performed → Option RequestRefusal
 exact_refusal None p = Some refusal.Number
 exact_refusal (Some file) p =
     if not (is_of_keys file.state.connector.schema p.statement) then Some refusal.Key
@@ -111,7 +111,7 @@ pub record PerformsExactly (p : Performed) (old : ExactFiles) (status : Status) 
 
 -- ---- a release
 
-abbrev pub exact_release : Option ExactFile → Option Refusal
+abbrev pub exact_release : Option ExactFile → Option RequestRefusal
 exact_release None = Some refusal.Number
 exact_release (Some file) = if is_some file.state.connector.session then Some refusal.Open else None
 

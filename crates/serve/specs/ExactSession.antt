@@ -8,7 +8,7 @@ use Rattle.indexed_file.specs.World.{World, named_in}
 use Rattle.serve.specs.Answer.{Told, Refuses, Tells}
 use Rattle.serve.specs.Reading.{request_in}
 use Rattle.serve.specs.Request.{Asked, Describing, Performing, Releasing}
-use Rattle.serve.specs.declared.refusal.Refusal.TheVariants as refusal
+use Rattle.serve.specs.declared.request_refusal.RequestRefusal.TheVariants as refusal
 use Rattle.verbs.specs.Faults.{is_unclean}
 use Rattle.verbs.specs.Held.{state_of}
 use Rattle.serve.specs.Files.{NumberedFile, Files, file_of_number, files_at_start}

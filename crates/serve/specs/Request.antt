@@ -3,7 +3,7 @@ use Rattle.std.specs.Prelude.{ℕ, Bool, List}
 use Rattle.io_state.specs.declared.modes.Access.{Access}
 use Rattle.io_state.specs.declared.statement.FileStatement.{FileStatement}
 use Rattle.record_layout.specs.declared.schema.KeyPart.{KeyPart}
-use Rattle.serve.specs.declared.description.Description.{Description}
+use Rattle.serve.specs.declared.file_description.FileDescription.{FileDescription}
 use Rattle.serve.specs.declared.request.Request.{Request}
 use Rattle.serve.specs.declared.request.Request.TheVariants.{Describe, Perform, Release}
 use Rattle.serve.specs.declared.statement.Performance.{Performance}
@@ -32,7 +32,7 @@ pub data Asked : Type 0 where
   Releasing : (file : ℕ) → Asked
 
 -- these without where their bytes lie in memory
-abbrev pub described_of : Description → Described
+abbrev pub described_of : FileDescription → Described
 described_of d = record {
   file = d.file;
   access = d.access;

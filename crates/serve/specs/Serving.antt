@@ -8,7 +8,7 @@ use Rattle.io_state.specs.declared.status.Status.TheVariants.{Successful}
 use Rattle.indexed_file.specs.Shown.{Shown}
 use Rattle.serve.specs.Answer.{Told, Refuses, framed}
 use Rattle.serve.specs.Reading.{request_in}
-use Rattle.serve.specs.declared.refusal.Refusal.TheVariants as refusal
+use Rattle.serve.specs.declared.request_refusal.RequestRefusal.TheVariants as refusal
 use Rattle.serve.specs.Files.{Files, files_at_start}
 use Rattle.serve.specs.Steps.{ClosesFirst}
 use Rattle.streams.specs.Source.{Source, source_of, GivesBytes, HasEnded, HasFailed}

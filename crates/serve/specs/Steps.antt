@@ -17,16 +17,16 @@ use Rattle.verbs.specs.Held.{held_at_start, record_delivered, silent}
 use Rattle.verbs.specs.Performed.{FileInMemory, IsPerformed}
 use Rattle.io_state.specs.FileName.{is_file_name}
 use Rattle.serve.specs.Request.{Described, Performed}
-use Rattle.serve.specs.declared.refusal.Refusal.{Refusal}
-use Rattle.serve.specs.declared.refusal.Refusal.TheVariants.{NoRequest, TooLong, Number, Description, Name}
-use Rattle.serve.specs.declared.refusal.Refusal.TheVariants.{Memory, Key}
-use Rattle.serve.specs.declared.refusal.Refusal.TheVariants.{Open as IsOpen}
+use Rattle.serve.specs.declared.request_refusal.RequestRefusal.{RequestRefusal}
+use Rattle.serve.specs.declared.request_refusal.RequestRefusal.TheVariants.{NoRequest, TooLong, Number, Description, Name}
+use Rattle.serve.specs.declared.request_refusal.RequestRefusal.TheVariants.{Memory, Key}
+use Rattle.serve.specs.declared.request_refusal.RequestRefusal.TheVariants.{Open as IsOpen}
 use Rattle.serve.specs.Files.{NumberedFile, FileTable, Files, file_of_number, with_file}
 use Rattle.serve.specs.Files.{schema_of_file, is_open_file, is_free_number, is_named_file, order_after}
 use Rattle.serve.specs.Files.{memory_of}
 
 -- why a call was refused, if it was
-abbrev pub refusal_in : {X : Type 0} → Result X Refusal → Option Refusal
+abbrev pub refusal_in : {X : Type 0} → Result X RequestRefusal → Option RequestRefusal
 refusal_in (Ok x) = None
 refusal_in (Err why) = Some why
 
@@ -47,7 +47,7 @@ pub record CanBeDescribed (files : FileTable) (d : Described) : Type 0 where
   pub name : IsFalse (is_named_file files d.name)
 
 -- why a description is refused: the first that is amiss; but want of memory may refuse any
-abbrev pub RefusesDescription : FileTable → Described → Refusal → Type 0
+abbrev pub RefusesDescription : FileTable → Described → RequestRefusal → Type 0
 RefusesDescription files d NoRequest = ⊥
 RefusesDescription files d TooLong = ⊥
 RefusesDescription files d Number = IsFalse (is_free_number files d.file)
@@ -87,7 +87,7 @@ pub record LibraryStays {S : Type 0} (shown : Shown S) (old new : S) : Type 0 wh
 
 -- nothing was changed where a description was refused, but that a library that lacked memory may
 -- have sought it
-pub record StaysRefused {S : Type 0} (shown : Shown S) (why : Refusal) (old new : Files S) : Type 0 where
+pub record StaysRefused {S : Type 0} (shown : Shown S) (why : RequestRefusal) (old new : Files S) : Type 0 where
   pub table : new.table ≡ old.table
   pub library : LibraryStays shown old.library new.library
   pub same : why ≢ Memory → new ≡ old
@@ -124,14 +124,14 @@ is_of_keys schema Delete = true
 
 -- why a verb is refused: there is no file, its key is none of the file, or the bytes are more than
 -- the record area has
-abbrev pub refusal_by : Option NumberedFile → Performed → Option Refusal
+abbrev pub refusal_by : Option NumberedFile → Performed → Option RequestRefusal
 refusal_by None p = Some Number
 refusal_by (Some file) p =
     if not (is_of_keys (schema_of_file file) p.statement) then Some Key
     else if nat_lt (length file.area) (length p.bytes) then Some NoRequest
     else None
 
-abbrev pub refusal_of_verb : FileTable → Performed → Option Refusal
+abbrev pub refusal_of_verb : FileTable → Performed → Option RequestRefusal
 refusal_of_verb files p = refusal_by (file_of_number files p.file) p
 
 -- these bytes are put into the beginning of the record area, and the rest stays
@@ -169,7 +169,7 @@ pub record PerformsRequest {S : Type 0} (shown : Shown S) (p : Performed) (old :
 
 -- a verb was performed, or refused, and then nothing was changed
 pub record PerformsOrRefuses {S : Type 0} (shown : Shown S) (p : Performed) (old new : Files S)
-    (result : Result Answer Refusal) : Type 0 where
+    (result : Result Answer RequestRefusal) : Type 0 where
   pub performed : IfOk result (λ answer. PerformsRequest shown p old answer new)
   pub refused : refusal_in result ≡ refusal_of_verb old.table p
   pub err : OnErr result (new ≡ old)
@@ -186,11 +186,11 @@ record_by (Some file) length = unwrap_or (record_delivered file.area length) []
 
 -- ---- a file is given up
 
-abbrev pub refusal_of_file : Option NumberedFile → Option Refusal
+abbrev pub refusal_of_file : Option NumberedFile → Option RequestRefusal
 refusal_of_file None = Some Number
 refusal_of_file (Some file) = if is_open_file file then Some IsOpen else None
 
-abbrev pub refusal_of_release : FileTable → ℕ → Option Refusal
+abbrev pub refusal_of_release : FileTable → ℕ → Option RequestRefusal
 refusal_of_release files number = refusal_of_file (file_of_number files number)
 
 -- the file of a place is not open, and is this unit
@@ -212,7 +212,7 @@ pub record Releases {S : Type 0} (shown : Shown S) (keeps_open : S → ℕ → B
 
 -- a file was given up, or that was refused, and then nothing was changed
 pub record ReleasesOrRefuses {S : Type 0} (shown : Shown S) (keeps_open : S → ℕ → Bool) (number : ℕ)
-    (old new : Files S) (result : Result (Unit {0}) Refusal) : Type 0 where
+    (old new : Files S) (result : Result (Unit {0}) RequestRefusal) : Type 0 where
   pub released : OnOk result (Releases shown keeps_open number old new)
   pub refused : refusal_in result ≡ refusal_of_release old.table number
   pub err : OnErr result (new ≡ old)

@@ -14,7 +14,7 @@ ghost use Rattle.byteorder.specs.Endian.{big_bytes};
 ghost use Rattle.serve.specs.Answer.{told_of, answer_body, framed, record_told};
 ghost use Rattle.serve.specs.Answer.{KeepsBehind};
 
-use crate::refusal::Refusal;
+use crate::request_refusal::RequestRefusal;
 use byteorder::{BigEndian, ByteOrder};
 use io_state::Status;
 
@@ -27,7 +27,7 @@ pub const HEAD_LIMIT: usize = 5;
 /// What a request is answered by.
 #[derive(Clone, Copy, Debug)]
 pub enum Answer<'a> {
-    Refused(Refusal),
+    Refused(RequestRefusal),
     /// The file is described, or released.
     Done,
     /// The verb was performed. There are no bytes of a record where none was delivered.

@@ -7,9 +7,9 @@ ghost use Rattle.serve.specs.Answers.{AnswersDescription, AnswersVerb, AnswersRe
 ghost use Rattle.serve.specs.Answers.{AnswersRequest, TellsAnswer, told_by};
 
 use crate::answer::{Answer, put_answer};
-use crate::description::Description;
-use crate::refusal::Refusal;
+use crate::file_description::FileDescription;
 use crate::request::{Request, read_request};
+use crate::request_refusal::RequestRefusal;
 use crate::session::Session;
 use crate::statement::Performance;
 use indexed_file::GrowingLibrary;
@@ -18,7 +18,7 @@ use io_state::Status;
 /// What came of a request.
 #[derive(Clone, Copy, Debug)]
 pub(crate) enum Outcome {
-    Refused(Refusal),
+    Refused(RequestRefusal),
     /// The file is described, or released.
     Done,
     /// The verb was performed. The record that it delivered has this length in the area of the file;
@@ -33,7 +33,7 @@ pub(crate) enum Outcome {
 /// Describes a file.
 fn describe<L: GrowingLibrary + Drop>(
     session: &mut Session<L>,
-    description: &Description<'_>,
+    description: &FileDescription<'_>,
 ) -> Outcome
     ensures { AnswersDescription L.shown L.keeps_open (described_of description.now)
         session.old (told_by session.new.table result) session.new }
@@ -82,7 +82,7 @@ pub(crate) fn outcome_of<L: GrowingLibrary + Drop>(session: &mut Session<L>, bod
         Some(Request::Describe(description)) => describe(session, &description),
         Some(Request::Perform(performance)) => perform(session, &performance),
         Some(Request::Release(number)) => release(session, number),
-        None => Outcome::Refused(Refusal::NoRequest),
+        None => Outcome::Refused(RequestRefusal::NoRequest),
     }
 }
 

@@ -9,9 +9,9 @@ ghost use Rattle.serve.specs.Steps.{schema_described, file_described, GivesUnit,
 ghost use Rattle.serve.specs.Steps.{StaysRefused};
 
 use crate::described_file::DescribedFile;
-use crate::description::Description;
+use crate::file_description::FileDescription;
 use crate::place;
-use crate::refusal::Refusal;
+use crate::request_refusal::RequestRefusal;
 use crate::session::Session;
 use indexed_file::GrowingLibrary;
 use io_state::{FileName, file_name_of};
@@ -31,7 +31,7 @@ fn blank_area(alloc: Global, length: u16) -> Result<Vec<u8>, AllocError>
 
 /// The file of a description, which is this unit.
 fn described_file(
-    description: &Description<'_>,
+    description: &FileDescription<'_>,
     name: FileName,
     unit: usize,
     schema: Schema,
@@ -94,27 +94,27 @@ impl<L: GrowingLibrary + Drop> Session<L> {
 
     /// Gives a number to the file of a description. The file is closed, and its record area all
     /// spaces. Where memory is refused, what the library shows stays.
-    pub fn describe(&mut self, description: &Description<'_>) -> Result<(), Refusal>
+    pub fn describe(&mut self, description: &FileDescription<'_>) -> Result<(), RequestRefusal>
         ensures described { OnOk result (Describes L.shown L.keeps_open (described_of description.now)
             self.old self.new) }
         ensures refused { IfErr result (RefusesDescription self.old.table (described_of description.now)) }
         ensures err { IfErr result (λ why. StaysRefused L.shown why self.old self.new) }
     {
         if !self.is_free(description.file) {
-            return Err(Refusal::Number);
+            return Err(RequestRefusal::Number);
         }
         let schema = Schema::from_parts(description.least, description.greatest, &description.keys);
         let (Some(schema), Some(name)) = (schema, file_name_of(description.name)) else {
-            return Err(Refusal::Description);
+            return Err(RequestRefusal::Description);
         };
         if self.is_named(description.name) {
-            return Err(Refusal::Name);
+            return Err(RequestRefusal::Name);
         }
         let Ok(area) = blank_area(self.alloc, schema.greatest()) else {
-            return Err(Refusal::Memory);
+            return Err(RequestRefusal::Memory);
         };
         let Some(unit) = self.give_unit(&name) else {
-            return Err(Refusal::Memory);
+            return Err(RequestRefusal::Memory);
         };
         let file = described_file(description, name, unit, schema, area);
         place::put(&mut self.files[usize::from(description.file)], file);
@@ -122,11 +122,11 @@ impl<L: GrowingLibrary + Drop> Session<L> {
     }
 
     /// Gives up the file of a number, which is free again. The library lets it go.
-    pub fn release(&mut self, number: u8) -> Result<(), Refusal>
+    pub fn release(&mut self, number: u8) -> Result<(), RequestRefusal>
         ensures { ReleasesOrRefuses L.shown L.keeps_open number self.old self.new result }
     {
         if !self.has_place(number) {
-            return Err(Refusal::Number);
+            return Err(RequestRefusal::Number);
         }
         let place = &mut self.files[usize::from(number)];
         let unit = place::closed_unit(place)?;

@@ -6,7 +6,7 @@ ghost use Rattle.serve.specs.Steps.{PerformsAt, ClosesPlace, IsClosedUnit, refus
 ghost use Rattle.serve.specs.Steps.{refusal_of_file, record_by, ShowsRecord};
 
 use crate::described_file::DescribedFile;
-use crate::refusal::Refusal;
+use crate::request_refusal::RequestRefusal;
 use crate::statement::Performance;
 use indexed_file::Library;
 use io_state::Status;
@@ -54,7 +54,7 @@ pub fn perform<L: Library>(
     place: &mut Option<DescribedFile>,
     library: &mut L,
     performance: &Performance<'_>,
-) -> Result<Answer, Refusal>
+) -> Result<Answer, RequestRefusal>
     requires fits { PlaceFits (L.shown.world library.old) place.old }
     ensures performed { IfOk result (λ answer. PerformsAt L.shown (performed_of performance.now)
         library.old place.old answer library.new place.new) }
@@ -63,13 +63,13 @@ pub fn perform<L: Library>(
     ensures library { OnErr result (library.new ≡ library.old) }
 {
     let Some(file) = place else {
-        return Err(Refusal::Number);
+        return Err(RequestRefusal::Number);
     };
     if !file.has_key(&performance.statement) {
-        return Err(Refusal::Key);
+        return Err(RequestRefusal::Key);
     }
     if !file.has_room(performance.bytes) {
-        return Err(Refusal::NoRequest);
+        return Err(RequestRefusal::NoRequest);
     }
     Ok(file.perform(
         library,
@@ -93,15 +93,15 @@ pub fn close<L: Library>(place: &mut Option<DescribedFile>, library: &mut L) -> 
 }
 
 /// The unit of the file, if it may be given up: it is not open.
-pub fn closed_unit(place: &Option<DescribedFile>) -> Result<usize, Refusal>
+pub fn closed_unit(place: &Option<DescribedFile>) -> Result<usize, RequestRefusal>
     ensures unit { IfOk result (IsClosedUnit place.now) }
     ensures refused { refusal_in result ≡ refusal_of_file place.now }
 {
     match place {
-        None => Err(Refusal::Number),
+        None => Err(RequestRefusal::Number),
         Some(file) => {
             if file.is_open() {
-                return Err(Refusal::Open);
+                return Err(RequestRefusal::Open);
             }
             Ok(file.unit())
         }

@@ -3,7 +3,7 @@ ghost use Rattle.std.specs.Prelude.{◌≡◌, option_map};
 ghost use Rattle.serve.specs.Request.{asked_of};
 ghost use Rattle.serve.specs.Reading.{request_in};
 
-use crate::description::{Description, read_description};
+use crate::file_description::{FileDescription, read_description};
 use crate::statement::{Performance, read_performance};
 
 /// The most bytes of a request's body.
@@ -13,7 +13,7 @@ pub const LENGTH_LIMIT: usize = 8192;
 #[derive(Drop)]
 pub enum Request<'a> {
     /// A number for a file.
-    Describe(Description<'a>),
+    Describe(FileDescription<'a>),
     /// A verb.
     Perform(Performance<'a>),
     /// The file of a number is given up.

@@ -12,8 +12,8 @@ use crate::held_answers::{make_way, send_held};
 use crate::input::{Next, read_frame};
 use crate::output::send_frames;
 use crate::reads::only_reads;
-use crate::refusal::Refusal;
 use crate::request::LENGTH_LIMIT;
+use crate::request_refusal::RequestRefusal;
 use crate::session::{FreePlaces, Session};
 use indexed_file::GrowingLibrary;
 use io_state::Status;
@@ -78,7 +78,7 @@ fn refuse_length<W: Write>(held: &mut HeldText, out: &mut W) -> Result<(), Serve
         return Err(ServeFault::Output);
     };
     let mut room = [0; ANSWER_LIMIT];
-    let size = put_answer(&mut room, &Answer::Refused(Refusal::TooLong));
+    let size = put_answer(&mut room, &Answer::Refused(RequestRefusal::TooLong));
     match send_frames(out, &room[..size]) {
         Ok(()) => Ok(()),
         Err(_) => Err(ServeFault::Output),

@@ -5,8 +5,8 @@ use Rattle.indexed_file.specs.World.{Named}
 use Rattle.serve.specs.Answer.{Told, Refuses, Does, Tells}
 use Rattle.serve.specs.Reading.{request_in}
 use Rattle.serve.specs.Request.{Described, Performed, Asked, Describing, Performing, Releasing}
-use Rattle.serve.specs.declared.refusal.Refusal.{Refusal}
-use Rattle.serve.specs.declared.refusal.Refusal.TheVariants as refusal
+use Rattle.serve.specs.declared.request_refusal.RequestRefusal.{RequestRefusal}
+use Rattle.serve.specs.declared.request_refusal.RequestRefusal.TheVariants as refusal
 use Rattle.serve.specs.Steps.{close_request}
 use Rattle.serve.specs.ExactFiles.{ExactFile, ExactFiles, with_exact, IsFree, HasNamed, exact_described, DescribesExactly, RefusesExactly, exact_outcome, PerformsExactly, AnswersExactly, ServesExactly, ClosesExactly}
 use Rattle.serve.specs.ExactSession.{IsSoOfDescribed, IsSoOfAllDescribed}
@@ -54,7 +54,7 @@ named_with files named name has = record { number = has.number; file = has.file;
 named_without : (files : ExactFiles) (named : List ℕ → Named) (name : List ℕ) → HasNamed (with_names files named) name → HasNamed files name
 named_without files named name has = record { number = has.number; file = has.file; at = has.at; name_is = has.name_is }
 
-refuses_with : (d : Described) (files : ExactFiles) (named : List ℕ → Named) (why : Refusal) → RefusesExactly d files why → RefusesExactly d (with_names files named) why
+refuses_with : (d : Described) (files : ExactFiles) (named : List ℕ → Named) (why : RequestRefusal) → RefusesExactly d files why → RefusesExactly d (with_names files named) why
 refuses_with d files named refusal.NoRequest a = absurd a
 refuses_with d files named refusal.TooLong a = absurd a
 refuses_with d files named refusal.Number a = λ free. a (free_of files named d.file free)

@@ -4,7 +4,7 @@ ghost use Rattle.serve.specs.Answer.{refusal_code};
 
 /// Why a request is refused. Nothing was changed by it.
 #[derive(Clone, Copy, Debug, PartialEq, Eq)]
-pub enum Refusal {
+pub enum RequestRefusal {
     /// 1: the frame is that of no request.
     NoRequest,
     /// 2: the frame is longer than any request.
@@ -23,20 +23,20 @@ pub enum Refusal {
     Key,
 }
 
-impl Refusal {
+impl RequestRefusal {
     /// Its number in an answer.
     pub fn code(self) -> u8
         ensures { result ≡ refusal_code self }
     {
         match self {
-            Refusal::NoRequest => 1,
-            Refusal::TooLong => 2,
-            Refusal::Number => 3,
-            Refusal::Description => 4,
-            Refusal::Name => 5,
-            Refusal::Open => 6,
-            Refusal::Memory => 7,
-            Refusal::Key => 8,
+            RequestRefusal::NoRequest => 1,
+            RequestRefusal::TooLong => 2,
+            RequestRefusal::Number => 3,
+            RequestRefusal::Description => 4,
+            RequestRefusal::Name => 5,
+            RequestRefusal::Open => 6,
+            RequestRefusal::Memory => 7,
+            RequestRefusal::Key => 8,
         }
     }
 }

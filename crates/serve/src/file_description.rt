@@ -45,7 +45,7 @@ const KEY_LIMIT: usize = 9;
 
 /// How a program describes a file, and the number that it wants for it.
 #[derive(Drop)]
-pub struct Description<'a> {
+pub struct FileDescription<'a> {
     pub file: u8,
     pub access: Access,
     pub optional: bool,
@@ -109,7 +109,7 @@ fn keys_of(rows: &[u8], count: usize) -> Option<ArrayVec<KeyPart, 9>>
 }
 
 /// What a body of this kind asks for, where it is that of a request.
-pub fn read_description(body: &[u8]) -> Option<Description<'_>>
+pub fn read_description(body: &[u8]) -> Option<FileDescription<'_>>
     ensures { option_map described_of result ≡ described_in body.now }
 {
     if body.len() < KEYS {
@@ -123,7 +123,7 @@ pub fn read_description(body: &[u8]) -> Option<Description<'_>>
     let access = access_of(body[ACCESS])?;
     let optional = flag_of(body[OPTIONAL])?;
     let keys = keys_of(&body[KEYS..], count)?;
-    Some(Description {
+    Some(FileDescription {
         file: body[FILE],
         access,
         optional,

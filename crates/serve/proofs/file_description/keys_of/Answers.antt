@@ -1,6 +1,6 @@
 use Rattle.std.proofs.Common.{rules, sym, ◌∙◌}
 use Rattle.serve.proofs.KeyLemmas.{more_keys}
-use Rattle.serve.proofs.description.keys_of.Goals as goal
+use Rattle.serve.proofs.file_description.keys_of.Goals as goal
 
 pub loop-k-preserved : goal.loop-k-preserved
 loop-k-preserved c = (

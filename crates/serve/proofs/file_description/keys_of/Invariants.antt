@@ -1,7 +1,7 @@
 use Rattle.std.proofs.Common.{◌≡◌, ◌≤◌, ◌-◌, ◌*◌, length}
 use Rattle.serve.specs.Reading.{keys_in}
 use Rattle.serve.proofs.KeyLemmas.{behind}
-use Rattle.serve.proofs.description.keys_of.Given as goal
+use Rattle.serve.proofs.file_description.keys_of.Given as goal
 
 -- the keys so far, and those of the rows that are left
 abbrev pub invariant-loop-k : goal.invariant-loop-k
