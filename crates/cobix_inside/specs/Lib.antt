@@ -2,3 +2,4 @@ pub mod NewLibrary
 pub mod Lending
 pub mod Sessions
 pub mod Holding
+pub mod Answered

@@ -1,19 +1,18 @@
 //! What C calls.
-ghost use Rattle.std.specs.Prelude.{◌≡◌, ◌≤◌, ℕ, true, List, [], Some, is_some, IfSome, length};
-ghost use Rattle.std.specs.NonZero.{non_zero_usize_get};
-ghost use Rattle.serve.specs.LentAnswer.{AnswersLending};
+ghost use Rattle.std.specs.Prelude.{◌≡◌, ◌≤◌, true, [], Some, is_some, IfSome, length};
+ghost use Rattle.serve.specs.LentAnswer.{lent_frame};
 ghost use types.Logic.{sem};
-ghost use Rattle.cobix_inside.specs.NewLibrary.{shown_inside, IsNewInside};
+ghost use Rattle.cobix_inside.specs.Answered.{AnswersFrame};
+ghost use Rattle.cobix_inside.specs.NewLibrary.{shelf_of, shown_inside, unasked, unasked_within};
 ghost use Rattle.serve.specs.ExactSession.{ExactInRequests};
-ghost use Rattle.folder_shelf.specs.Replay.{folder_after};
 ghost use Rattle.shelf_session.specs.SessionOnShelf.{ExactOnShelf};
 ghost use Rattle.cobix_inside.specs.Holding.{HoldsSo};
-ghost use Rattle.cobix_inside.specs.Sessions.{IsNewSession, ClosesAll, NoneFalseAtFirst, NewSessionsAreExact};
+ghost use Rattle.cobix_inside.specs.Sessions.{AreExactAtFirst, StartsAs, ClosesAll, NoneFalseAtFirst};
 ghost use Rattle.cobix_inside.specs.declared.open_session.OpenSession.{OpenSession};
 
 use crate::handle::Handle;
 use crate::library::{AskedLibrary, AskedShelf, asked_library};
-use crate::limits::Limits;
+use crate::library_limits::LibraryLimits;
 use crate::open_session::OpenSession;
 use asked_system::AskedSystem;
 use folder_shelf::{Disk, EmptyDisk};
@@ -39,12 +38,10 @@ fn session(
     alloc: Global,
     system: AskedSystem,
     folder: &[u8],
-    limits: Limits,
+    limits: LibraryLimits,
 ) -> Option<Box<OpenSession>>
-    ensures { IfSome result (λ made. IsNewSession
-        (IsNewInside ⟦<AskedShelf as Shelf>⟧
-        (⟦<EmptyDisk as Disk>⟧).unseen folder.now limits.pages (non_zero_usize_get limits.frames))
-        made.value.session) }
+    ensures { IfSome result (λ made. StartsAs
+        (unasked_within (⟦<EmptyDisk as Disk>⟧).unseen folder.now limits) made.value) }
 {
     let folder = std::str::from_utf8(folder).ok()?;
     let folder = folder.to_string(alloc).ok()?;
@@ -68,10 +65,9 @@ pub extern "C" fn cobix_inside_begin(
 ) -> bool
     ensures held { result ≡ true → is_some out.new.value ≡ true }
     ensures made { (new : OpenSession) → result ≡ true → out.new.value ≡ Some new
-        → IsNewSession (IsNewInside ⟦<AskedShelf as Shelf>⟧
-        (⟦<EmptyDisk as Disk>⟧).unseen folder.now pages frames) new.session }
+        → StartsAs (unasked (⟦<EmptyDisk as Disk>⟧).unseen folder.now pages frames) new }
 {
-    let Some(limits) = Limits::of(pages, frames) else {
+    let Some(limits) = LibraryLimits::of(pages, frames) else {
         return false;
     };
     match session(alloc, AskedSystem::new(input, output), folder, limits) {
@@ -92,9 +88,8 @@ fn answered<'s>(
 ) -> LentAnswer<'s>
     requires held { is_some handle.old.value ≡ true }
     requires room { 5 ≤ length room.old }
-    ensures* answered { sem 𝓛 (HoldsSo handle.entry (λ old new. AnswersLending
-        (shown_inside ⟦<AskedShelf as Shelf>⟧) (⟦<AskedLibrary as GrowingLibrary>⟧).keeps_open
-        body.now old.session new.session room.old room.new result.size delivered.new.now)) }
+    ensures* answered { sem 𝓛 (HoldsSo handle.entry (AnswersFrame
+        (lent_frame body.now room.old room.new result.size delivered.new.now))) }
 {
     let held = handle.lend();
     let answer = answer_lent(&mut held.session, body, room);
@@ -114,9 +109,8 @@ pub extern "C" fn cobix_inside_answer<'s>(
 ) -> usize
     requires held { is_some handle.old.value ≡ true }
     requires room { 5 ≤ length room.old }
-    ensures* answered { sem 𝓛 (HoldsSo handle.entry (λ old new. AnswersLending
-        (shown_inside ⟦<AskedShelf as Shelf>⟧) (⟦<AskedLibrary as GrowingLibrary>⟧).keeps_open
-        body.now old.session new.session room.old room.new result delivered.new.now)) }
+    ensures* answered { sem 𝓛 (HoldsSo handle.entry (AnswersFrame
+        (lent_frame body.now room.old room.new result delivered.new.now))) }
 {
     answered(handle, body, room, delivered).size
 }
@@ -155,20 +149,14 @@ pub fn no_false_file_at_first()
 /// the folder of its path held; behind each answer it is so still; and where no answer has told of a
 /// fault, the files of the folder represent what the definitions leave. It does nothing.
 pub fn exact_from_first()
-    ensures begun { (path : List ℕ) → (pages frames : ℕ)
-        → NewSessionsAreExact (shown_inside ⟦<AskedShelf as Shelf>⟧)
-        (⟦<AskedLibrary as GrowingLibrary>⟧).keeps_open
-        (λ library. (⟦<AskedShelf as Shelf>⟧).state library.shelf)
-        (folder_after (⟦<EmptyDisk as Disk>⟧).unseen path [] [])
-        (IsNewInside ⟦<AskedShelf as Shelf>⟧
-        (⟦<EmptyDisk as Disk>⟧).unseen path pages frames) }
+    ensures begun { AreExactAtFirst (⟦<AskedLibrary as GrowingLibrary>⟧).keeps_open
+        (⟦<EmptyDisk as Disk>⟧).unseen }
     ensures requests { ExactInRequests
         (shown_inside ⟦<AskedShelf as Shelf>⟧)
         (⟦<AskedLibrary as GrowingLibrary>⟧).keeps_open }
     ensures files { ExactOnShelf
         (shown_inside ⟦<AskedShelf as Shelf>⟧)
-        (⟦<AskedLibrary as GrowingLibrary>⟧).keeps_open
-        (λ library. (⟦<AskedShelf as Shelf>⟧).state library.shelf) }
+        (⟦<AskedLibrary as GrowingLibrary>⟧).keeps_open (shelf_of ⟦<AskedShelf as Shelf>⟧) }
 {
     exact_in_requests::<AskedLibrary>();
     exact_on_shelf::<AskedShelf>();

@@ -13,6 +13,6 @@
 mod exports;
 mod handle;
 mod library;
-mod limits;
+mod library_limits;
 mod open_session;
 mod raw_box;

@@ -1,9 +1,8 @@
 //! The library of a session.
 ghost use Rattle.std.specs.Prelude.{◌≡◌, [], string_bytes};
-ghost use Rattle.std.specs.NonZero.{non_zero_usize_get};
-ghost use Rattle.cobix_inside.specs.NewLibrary.{IsNewInside, shown_inside};
+ghost use Rattle.cobix_inside.specs.NewLibrary.{IsNewInside, unasked_within, shown_inside};
 
-use crate::limits::Limits;
+use crate::library_limits::LibraryLimits;
 use asked_system::AskedSystem;
 use folder_shelf::{Disk, EmptyDisk, FolderShelf, RecordedSystem};
 use page_store::Shelf;
@@ -21,10 +20,9 @@ pub fn asked_library(
     alloc: Global,
     system: AskedSystem,
     folder: String,
-    limits: Limits,
+    limits: LibraryLimits,
 ) -> AskedLibrary
-    ensures new { IsNewInside ⟦<AskedShelf as Shelf>⟧ (⟦<EmptyDisk as Disk>⟧).unseen
-        (string_bytes folder) limits.pages (non_zero_usize_get limits.frames) result }
+    ensures new { IsNewInside (unasked_within (⟦<EmptyDisk as Disk>⟧).unseen (string_bytes folder) limits) result }
     ensures units { ((shown_inside ⟦<AskedShelf as Shelf>⟧).world result).units ≡ [] }
 {
     let system = RecordedSystem::new(system, alloc);

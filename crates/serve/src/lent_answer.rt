@@ -1,7 +1,7 @@
 //! The answer to a request, in the room that a caller has for its head.
 ghost use Rattle.std.specs.Prelude.{◌≤◌, length};
 ghost use types.Logic.{sem};
-ghost use Rattle.serve.specs.LentAnswer.{EndsSo, AnswersLending};
+ghost use Rattle.serve.specs.LentAnswer.{EndsAnswering, lent_frame};
 
 use crate::answer::put_head;
 use crate::answering::{answer_by, outcome_of};
@@ -25,9 +25,8 @@ pub fn answer_lent<'s, L: GrowingLibrary + Drop>(
     room: &mut [u8],
 ) -> LentAnswer<'s>
     requires room { 5 ≤ length room.old }
-    ensures* answered { sem 𝓛 (EndsSo L.row (record { keeps_open = L.keeps_open }) (record { shown = L.shown })
-        session.entry (λ new. AnswersLending L.shown L.keeps_open body.now
-        session.old new room.old room.new result.size result.delivered.now)) }
+    ensures* answered { sem 𝓛 (EndsAnswering L.row L.shown L.keeps_open session.entry
+        (lent_frame body.now room.old room.new result.size result.delivered.now)) }
 {
     // Brings the laws that an answered request leaves no false file, and what is exact.
     no_false_file_in_requests::<L>();

@@ -1,10 +1,9 @@
 use Rattle.std.proofs.Common.{rules, ◌≡◌, ℕ, true, List, [], Option, Some, None, string_bytes, subst}
-use Rattle.std.specs.NonZero.{non_zero_usize_get}
 use Rattle.page_store.specs.DeviceFile.{absent}
 use Rattle.folder_shelf.specs.Replay.{Unseen}
 use Rattle.std.specs.Option.{IfSome}
 use Rattle.serve.specs.Files.{Files, files_at_start}
-use Rattle.cobix_inside.specs.NewLibrary.{IsNewInside}
+use Rattle.cobix_inside.specs.NewLibrary.{IsNewInside, unasked_within}
 use Rattle.cobix_inside.specs.Sessions.{IsNewSession}
 use Rattle.cobix_inside.proofs.exports.session.Goals as goal
 
@@ -19,6 +18,5 @@ returns c =
     let empty : Unseen = record { first = λ path. absent; came = λ calls. true; torn = λ calls. [] } in
     let bytes : string_bytes c.in_ok-folder-2.folder ≡ c.args.folder.now = search rules in
     some_new _ c.asked_library-library.result (λ made. made.value.session) c.boxed.result
-    (subst (λ (path : List ℕ). IsNewInside _ empty path c.args.limits.pages (non_zero_usize_get c.args.limits.frames) c.asked_library-library.result) bytes
-    c.asked_library-library.ensures.new)
+    (subst (λ (path : List ℕ). IsNewInside (unasked_within empty path c.args.limits) c.asked_library-library.result) bytes c.asked_library-library.ensures.new)
     (subst (λ (files : Files _). IfSome c.boxed.result (λ made. made.value.session ≡ files)) c.new-2.ensures c.boxed.ensures)
