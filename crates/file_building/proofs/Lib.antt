@@ -1,0 +1,15 @@
+pub mod WrittenLemmas
+pub mod StepLemmas
+pub mod PartLemmas
+pub mod RowLemmas
+pub mod BuilderLemmas
+pub mod OpeningLemmas
+pub mod SortedLemmas
+pub mod RankLemmas
+pub mod FileLemmas
+pub mod EntryLemmas
+pub mod BuiltLemmas
+pub mod RecordLemmas
+pub mod AlternateLemmas
+pub mod DifferLemmas
+pub mod UntiedLemmas

@@ -1,0 +1,108 @@
+-- Indexes of alternate keys that are built from records.
+use Rattle.std.specs.Prelude.{◌≡◌, ◌<◌, ℕ, suc, ◌+◌, List, [], ◌++◌, length, Option, None, Some, Result, IfOk, IsTrue}
+use Rattle.std.specs.Prelude.{slice_index_or}
+use Rattle.std.specs.Option.{IfSome}
+use Rattle.arrayvec.specs.ArrayVec.{ArrayVec}
+use Rattle.io_state.specs.declared.fault.Fault.{Fault}
+use Rattle.record_layout.specs.Schema.{Schema, key_at}
+use Rattle.indexed_file.specs.File.{Row}
+use Rattle.pages.specs.Each.{Each}
+use Rattle.pages.specs.PageMap.{PageMap}
+use Rattle.pages.specs.Answer.{IsAnswer}
+use Rattle.pages.specs.ShownPages.{ShownPages}
+use Rattle.record_heap.specs.declared.heap.Heap.{Heap}
+use Rattle.key_index.specs.declared.entry.AltEntry.{AltEntry}
+use Rattle.key_index.specs.declared.prime_index.PrimeIndex.{PrimeIndex}
+use Rattle.key_index.specs.declared.alt_index.AltIndex.{AltIndex}
+use Rattle.key_index.specs.Standing.{AltChanged, alt_key}
+use Rattle.tree_building.specs.declared.alt_builder.AltBuilder.{AltBuilder}
+use Rattle.tree_building.specs.IndexBuilding.{AltBuildsOn}
+use Rattle.open_file.specs.InOrder.{alt_entries}
+use Rattle.open_file.specs.Lent.{LendsToChange}
+use Rattle.file_building.specs.Written.{HaveLengths, rows_of}
+use Rattle.file_building.specs.Ranks.{RanksRise, RanksDiffer}
+use Rattle.file_building.specs.Rows.{RowsStandIn}
+use Rattle.file_building.specs.Entries.{AreFronts}
+use Rattle.file_building.specs.Steps.{WhereHonest}
+
+-- the entries are as long as those of an index
+abbrev pub FitIndex : (width prime : ℕ) → List AltEntry → Type 0
+FitIndex width prime entries =
+    Each (λ e. (length e.value.items ≡ width) × (length e.prime.items ≡ prime)) entries
+
+-- pages may be changed, and the entries are as long as those of the builder
+pub record CanPushEntries {S : Type 0} (shown : ShownPages S) (builder : AltBuilder)
+    (entries : List AltEntry) (before : S) : Type 0 where
+  pub target : LendsToChange shown before
+  pub fit : FitIndex builder.width builder.prime entries
+
+-- a call that puts entries behind those before them
+pub record PushesEntries {S : Type 0} (shown : ShownPages S) (before after : S) (old new : AltBuilder)
+    (entries : List AltEntry) (result : Result Unit Fault) : Type 0 where
+  pub pushed : WhereHonest shown before after ((start : PageMap) (done : List AltEntry)
+      → AltBuildsOn start (shown.state before).live old [] done
+      → IsAnswer result (λ u. AltBuildsOn start (shown.state after).live new [] (done ++ entries)
+      × IsTrue (shown.state after).is_sound))
+
+-- an index of this key, for values and prime values of these lengths
+pub record IsIndexOf (key width prime : ℕ) (index : AltIndex) : Type 0 where
+  pub key_is : alt_key index ≡ key
+  pub width_is : index.width ≡ width
+  pub prime_is : index.prime ≡ prime
+
+-- a call that builds an index from entries whose ranks rise
+pub record BuildsIndex {S : Type 0} (shown : ShownPages S) (before after : S) (entries : List AltEntry)
+    (result : Result AltIndex Fault) : Type 0 where
+  pub built : WhereHonest shown before after (RanksRise entries → IsAnswer result (λ index.
+      AltChanged (shown.state before).live (shown.state after).live index [] entries
+      × IsTrue (shown.state after).is_sound))
+
+-- an index for key k of the schema
+abbrev pub IsIndexFor : Schema → ℕ → AltIndex → Type 0
+IsIndexFor schema k index = IsIndexOf k (key_at schema k).length (key_at schema 0).length index
+
+-- it stands for the entries of rows, no two of which have one rank; or two of them have
+abbrev pub EndsAlternate : Schema → ℕ → List Row → (before after : PageMap) → (is_sound : Type 0)
+    → Option AltIndex → Type 0
+EndsAlternate schema k rows before after is_sound None = RanksDiffer schema k rows → ⊥
+EndsAlternate schema k rows before after is_sound (Some index) =
+    AltChanged before after index [] (alt_entries schema k rows) × RanksDiffer schema k rows × is_sound
+
+-- a call that builds the index of key k from the fronts of records
+pub record BuildsAlternate {S : Type 0} (shown : ShownPages S) (schema : Schema) (k : ℕ) (fronts : List ℕ)
+    (before after : S) (result : Result (Option AltIndex) Fault) : Type 0 where
+  pub built : WhereHonest shown before after ((records : List (List ℕ)) → HaveLengths schema records
+      → AreFronts schema records fronts → IsAnswer result (EndsAlternate schema k (rows_of schema records)
+      (shown.state before).live (shown.state after).live (IsTrue (shown.state after).is_sound)))
+  pub of : IfOk result (λ found. IfSome found (IsIndexFor schema k))
+
+-- no two rows have one rank by an alternate key
+abbrev pub AllRanksDiffer : Schema → List Row → Type 0
+AllRanksDiffer schema rows = (j : ℕ) → suc j < length schema.keys → RanksDiffer schema (suc j) rows
+
+-- index j is one for alternate key j + 1
+abbrev pub AreIndexesFor : Schema → List AltIndex → Type 0
+AreIndexesFor schema alternates = (j : ℕ) (index : AltIndex) → j < length alternates
+    → index ≡ slice_index_or alternates j index → IsIndexFor schema (j + 1) index
+
+-- and there is one for each alternate key
+pub record AreAllIndexesFor (schema : Schema) (alternates : List AltIndex) : Type 0 where
+  pub each : AreIndexesFor schema alternates
+  pub many : length schema.keys ≡ length alternates + 1
+
+-- they stand beside the heap and the prime index; or two rows have one rank
+abbrev pub EndsAlternates : Schema → List Row → Heap → PrimeIndex → (after : PageMap) → (is_sound : Type 0)
+    → Option (ArrayVec AltIndex) → Type 0
+EndsAlternates schema rows heap prime after is_sound None = AllRanksDiffer schema rows → ⊥
+EndsAlternates schema rows heap prime after is_sound (Some alternates) =
+    RowsStandIn schema heap prime alternates.items after rows × AllRanksDiffer schema rows × is_sound
+
+-- a call that builds the index of each alternate key, beside the rows
+pub record BuildsAlternates {S : Type 0} (shown : ShownPages S) (schema : Schema) (fronts : List ℕ)
+    (before after : S) (result : Result (Option (ArrayVec AltIndex)) Fault) : Type 0 where
+  pub built : WhereHonest shown before after ((records : List (List ℕ)) → HaveLengths schema records
+      → AreFronts schema records fronts → (heap : Heap) (prime : PrimeIndex)
+      → RowsStandIn schema heap prime [] (shown.state before).live (rows_of schema records)
+      → IsAnswer result (EndsAlternates schema (rows_of schema records) heap prime
+      (shown.state after).live (IsTrue (shown.state after).is_sound)))
+  pub of : IfOk result (λ found. IfSome found (λ alternates. AreAllIndexesFor schema alternates.items))

@@ -1,0 +1,34 @@
+-- The entries that an alternate key has of records.
+use Rattle.std.specs.Prelude.{◌≡◌, ℕ, ◌+◌, ◌*◌, List, [], ◌∷◌, length, map, take, if◌then◌else◌}
+use Rattle.record_layout.specs.Schema.{Schema, key_at, value_of, prime_of, has_duplicates}
+use Rattle.pages.specs.Chunks.{chunks}
+use Rattle.key_index.specs.declared.entry.AltEntry.{AltEntry}
+use Rattle.key_index.specs.Stored.{entry_to}
+use Rattle.file_building.specs.declared.ranked.Ranked.{Ranked}
+
+-- the stamp that a new record has in key k, 0 in a unique one
+abbrev pub stamp_in : Schema → ℕ → ℕ → ℕ
+stamp_in schema k stamp = if has_duplicates (key_at schema k) then stamp else 0
+
+-- the entry that key k has of a new record
+abbrev pub entry_of : Schema → ℕ → ℕ → List ℕ → AltEntry
+entry_of schema k stamp bytes =
+    entry_to (value_of schema k bytes) (stamp_in schema k stamp) (prime_of schema bytes)
+
+-- the entry that is seen in its parts
+abbrev pub entry_in : Ranked → AltEntry
+entry_in ranked = entry_to ranked.value.now ranked.stamp ranked.prime.now
+
+abbrev pub entries_in : List Ranked → List AltEntry
+entries_in entries = map entry_in entries
+
+-- the entries of records, of which the first takes this stamp
+abbrev pub entries_from : Schema → ℕ → ℕ → List (List ℕ) → List AltEntry
+entries_from schema k stamp [] = []
+entries_from schema k stamp (bytes ∷ records) =
+    entry_of schema k stamp bytes ∷ entries_from schema k (stamp + 1) records
+
+-- the front of each record, as many bytes as the shortest has: a value of each key is in it
+pub record AreFronts (schema : Schema) (records : List (List ℕ)) (fronts : List ℕ) : Type 0 where
+  pub long : length fronts ≡ length records * schema.least
+  pub are : chunks schema.least (length records) fronts ≡ map (take schema.least) records

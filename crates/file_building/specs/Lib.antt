@@ -1,0 +1,9 @@
+pub mod Written
+pub mod Steps
+pub mod Ranks
+pub mod Rows
+pub mod Stamps
+pub mod Entries
+pub mod Alternates
+pub mod Opening
+pub mod Building

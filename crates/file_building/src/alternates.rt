@@ -1,0 +1,113 @@
+//! The indexes of the alternate keys.
+
+ghost use Rattle.std.specs.Prelude.{◌≡◌, ◌<◌, ◌≤◌, length, IfOk, [], ℕ};
+ghost use Rattle.record_layout.specs.Schema.{IsSchema};
+ghost use Rattle.tree_building.specs.IndexBuilding.{CanBuildAlt, KeepsAlt};
+ghost use Rattle.open_file.specs.Lent.{LendsToChange};
+ghost use Rattle.file_building.specs.Steps.{KeepsBuilding};
+ghost use Rattle.file_building.specs.Entries.{entries_in};
+ghost use Rattle.file_building.specs.Alternates.{CanPushEntries, PushesEntries, FitIndex, BuildsIndex, IsIndexOf};
+ghost use Rattle.file_building.specs.Alternates.{BuildsAlternate, BuildsAlternates};
+
+use crate::entries::{entries_of, rise};
+use crate::ranked::Ranked;
+use arrayvec::ArrayVec;
+use io_state::Fault;
+use key_index::{AltEntry, AltIndex};
+use pages::Pages;
+use record_layout::Schema;
+use std::alloc::Global;
+use tree_building::AltBuilder;
+
+/// The index of each alternate key, from the fronts of the records. None where two records have
+/// one value of a key that is to be unique.
+///
+/// Device; Full where no page is left; Memory.
+pub fn build_alternates<P: Pages>(
+    alloc: Global,
+    pages: &mut P,
+    schema: &Schema,
+    fronts: &[u8],
+) -> Result<Option<ArrayVec<AltIndex, 8>>, Fault>
+    requires target { LendsToChange P.shown pages.old }
+    ensures schema { IsSchema schema.now }
+    ensures builds { BuildsAlternates P.shown schema.now fronts.now pages.old pages.new result }
+    ensures keeps { KeepsBuilding P.shown pages.old pages.new result }
+{
+    let keys = schema.key_count();
+    let mut alternates = ArrayVec::new();
+    for k in 1..keys {
+        match build_alternate(alloc, pages, schema, k as u8, fronts)? {
+            Some(index) => alternates.push(index),
+            None => return Ok(None),
+        }
+    }
+    Ok(Some(alternates))
+}
+
+/// The index of alternate key `k`.
+fn build_alternate<P: Pages>(
+    alloc: Global,
+    pages: &mut P,
+    schema: &Schema,
+    k: u8,
+    fronts: &[u8],
+) -> Result<Option<AltIndex>, Fault>
+    requires target { LendsToChange P.shown pages.old }
+    requires schema { IsSchema schema.now }
+    requires some { 1 ≤ k }
+    requires key { k < length schema.now.keys }
+    ensures builds { BuildsAlternate P.shown schema.now k fronts.now pages.old pages.new result }
+    ensures keeps { KeepsBuilding P.shown pages.old pages.new result }
+{
+    let mut entries = entries_of(alloc, schema, k, fronts)?;
+    entries.sort_unstable();
+    if !rise(entries.as_slice()) {
+        return Ok(None);
+    }
+    let width = schema.part(k).length;
+    let prime = schema.part(0).length;
+    let index = build_index(alloc, pages, k, width, prime, entries.as_slice())?;
+    Ok(Some(index))
+}
+
+/// The index of these entries, whose ranks rise.
+fn build_index<P: Pages>(
+    alloc: Global,
+    pages: &mut P,
+    key: u8,
+    width: u16,
+    prime: u16,
+    entries: &[Ranked<'_>],
+) -> Result<AltIndex, Fault>
+    requires target { LendsToChange P.shown pages.old }
+    requires can { CanBuildAlt width prime }
+    requires fit { FitIndex width prime (entries_in entries.now) }
+    ensures builds { BuildsIndex P.shown pages.old pages.new (entries_in entries.now) result }
+    ensures of { IfOk result (IsIndexOf key width prime) }
+    ensures keeps { KeepsBuilding P.shown pages.old pages.new result }
+{
+    let mut builder = AltBuilder::new(alloc, key, width, prime);
+    push_all(pages, &mut builder, entries)?;
+    builder.finish(alloc, pages)
+}
+
+/// Puts entries behind those of an index.
+fn push_all<P: Pages>(
+    pages: &mut P,
+    builder: &mut AltBuilder,
+    entries: &[Ranked<'_>],
+) -> Result<(), Fault>
+    requires { CanPushEntries P.shown builder.old (entries_in entries.now) pages.old }
+    ensures pushes { PushesEntries P.shown pages.old pages.new builder.old builder.new
+        (entries_in entries.now) result }
+    ensures same { KeepsAlt builder.old builder.new }
+    ensures keeps { KeepsBuilding P.shown pages.old pages.new result }
+{
+    let mut entry = AltEntry::blank();
+    for ranked in entries {
+        entry.set(ranked.value, ranked.stamp, ranked.prime);
+        builder.push(pages, &entry)?;
+    }
+    Ok(())
+}

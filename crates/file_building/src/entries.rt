@@ -1,0 +1,48 @@
+//! The entries of an alternate key.
+
+ghost use Rattle.std.specs.Prelude.{◌≡◌, ◌<◌, ◌↔◌, ◌/◌, length, IfOk, IsOkUnless, IsTrue};
+ghost use Rattle.pages.specs.Chunks.{chunks};
+ghost use Rattle.file_building.specs.Entries.{entries_in, entries_from};
+ghost use Rattle.file_building.specs.Ranks.{RanksRise};
+
+use crate::ranked::{Ranked, entry_of_record, is_lower};
+use io_state::Fault;
+use record_layout::Schema;
+use std::alloc::Global;
+
+/// The entry that key `k` has of each record, in the order of the records, by their fronts.
+pub fn entries_of<'a>(
+    alloc: Global,
+    schema: &Schema,
+    k: u8,
+    fronts: &'a [u8],
+) -> Result<Vec<Ranked<'a>>, Fault>
+    requires { k < length schema.now.keys }
+    ensures entries { IfOk result (λ entries. entries_in entries.items ≡ entries_from schema.now k 1
+        (chunks schema.now.least (length fronts.now / schema.now.least) fronts.now)) }
+    ensures only_memory { IsOkUnless result Fault.Memory }
+{
+    let least = usize::from(schema.least());
+    let count = fronts.len() / least;
+    let mut entries = Vec::new(alloc);
+    for i in 0..count {
+        let front = &fronts[i * least..(i + 1) * least];
+        let entry = entry_of_record(schema, k, front, i as u64 + 1);
+        if entries.push(entry).is_err() {
+            return Err(Fault::Memory);
+        }
+    }
+    Ok(entries)
+}
+
+/// Each entry is of a lower rank than the next, and so than all behind it.
+pub fn rise(entries: &[Ranked<'_>]) -> bool
+    ensures { IsTrue result ↔ RanksRise (entries_in entries.now) }
+{
+    for i in 1..entries.len() {
+        if !is_lower(&entries[i - 1], &entries[i]) {
+            return false;
+        }
+    }
+    true
+}
