@@ -11,13 +11,13 @@ use Rattle.key_index.specs.Standing.{AltChanged}
 use Rattle.open_file.specs.InOrder.{prime_entries, alt_entries}
 use Rattle.open_file.proofs.OrderLemmas.{either}
 use Rattle.open_file.proofs.PartsLemmas.{from_eq, from_ne}
-use Rattle.file_building.specs.Rows.{RowsStandIn}
-use Rattle.file_building.specs.Alternates.{IsIndexFor, AreIndexesFor}
+use Rattle.file_building.specs.Rows.{RowsStandBuilt}
+use Rattle.file_building.specs.Alternates.{IsIndexOfKey, AreIndexesFor}
 use Rattle.file_building.proofs.PartLemmas.{parts_more, before_last, last_here}
 
 -- one index more stands
 pub index_more : (schema : Schema) (heap : Heap) (prime : PrimeIndex) (alternates : List AltIndex) (before after : PageMap) (rows : List Row) (index : AltIndex)
-    → RowsStandIn schema heap prime alternates before rows → AltChanged before after index [] (alt_entries schema (length alternates + 1) rows) → RowsStandIn schema heap prime (alternates ++ index ∷ []) after rows
+    → RowsStandBuilt schema heap prime alternates before rows → AltChanged before after index [] (alt_entries schema (length alternates + 1) rows) → RowsStandBuilt schema heap prime (alternates ++ index ∷ []) after rows
 index_more schema heap prime alternates before after rows index s changed = record {
   places = s.places;
   slots = s.slots;
@@ -26,11 +26,11 @@ index_more schema heap prime alternates before after rows index s changed = reco
 }
 
 -- it is one for its key
-pub index_for_more : (schema : Schema) (xs : List AltIndex) (index : AltIndex) → AreIndexesFor schema xs → IsIndexFor schema (length xs + 1) index → AreIndexesFor schema (xs ++ index ∷ [])
+pub index_for_more : (schema : Schema) (xs : List AltIndex) (index : AltIndex) → AreIndexesFor schema xs → IsIndexOfKey schema (length xs + 1) index → AreIndexesFor schema (xs ++ index ∷ [])
 index_for_more schema xs index all one j a within at =
-    either (j == length xs) (IsIndexFor schema (j + 1) a)
+    either (j == length xs) (IsIndexOfKey schema (j + 1) a)
     (λ yes. let e = from_eq j (length xs) yes in
     let second : a ≡ index = at ∙ ap (λ (n : ℕ). slice_index_or (xs ++ index ∷ []) n a) e ∙ last_here xs index a in
-    subst (IsIndexFor schema (j + 1)) (sym second) (subst (λ (n : ℕ). IsIndexFor schema (n + 1) index) (sym e) one))
+    subst (IsIndexOfKey schema (j + 1)) (sym second) (subst (λ (n : ℕ). IsIndexOfKey schema (n + 1) index) (sym e) one))
     (λ no. let early = from_ne j (length xs) no in
     all j a (omega (arith, within, early, length-append xs (index ∷ []))) (at ∙ before_last xs index a j early))

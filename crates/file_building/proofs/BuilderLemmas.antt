@@ -20,13 +20,13 @@ use Rattle.tree_building.proofs.LawLemmas.{prime_live, prime_aside, heap_apart, 
 use Rattle.open_file.specs.InOrder.{prime_entries}
 use Rattle.open_file.specs.Stored.{stored}
 use Rattle.file_building.specs.declared.rows_builder.RowsBuilder.{RowsBuilder}
-use Rattle.file_building.specs.Rows.{HoldsRows, RowsRise, RowsStandIn, builder_width}
+use Rattle.file_building.specs.Rows.{HasRowsSoFar, RowsRise, RowsStandBuilt, width_built}
 use Rattle.file_building.proofs.PartLemmas.{none_parted, first_changed, second_changed, first_apart, second_apart, left_alone, same_pages}
 use Rattle.file_building.proofs.RowLemmas.{placed_more, none_placed, entries_more, rows_rise}
 
 -- no rows yet
 pub no_rows : (schema : Schema) (builder : RowsBuilder) (pages : PageMap) → IsFilling builder.heap pages no_slots [] [] → IsBuildingPrime builder.prime pages [] [] → ((n : ℕ) → pages n ≡ None)
-    → HoldsRows schema builder pages []
+    → HasRowsSoFar schema builder pages []
 no_rows schema builder pages filling building free = record {
   places = [];
   slots = no_slots;
@@ -38,7 +38,7 @@ no_rows schema builder pages filling building free = record {
   parted = none_parted pages free;
 }
 
-module _ (schema : Schema) (old : RowsBuilder) (before : PageMap) (rows : List Row) (h : HoldsRows schema old before rows) where
+module _ (schema : Schema) (old : RowsBuilder) (before : PageMap) (rows : List Row) (h : HasRowsSoFar schema old before rows) where
   prime_there : Each (λ n. IsSome (before n)) h.prime_own
   prime_there = (prime_live old.prime before (prime_entries schema h.places rows) h.prime_own h.building).live
 
@@ -52,7 +52,7 @@ module _ (schema : Schema) (old : RowsBuilder) (before : PageMap) (rows : List R
       → prime_of schema row.bytes ≡ value → stored schema row ≡ bytes → h.slots place ≡ None
       → IsFilling new.heap mid (put_slot h.slots place (Some bytes)) own_mid (h.places ++ place ∷ []) → ChangesPages before mid h.heap_own own_mid
       → PrimeBuildsOn mid after new.prime h.prime_own (prime_entries schema h.places rows ++ entry_at value place ∷ [])
-      → HoldsRows schema new after (rows ++ row ∷ [])
+      → HasRowsSoFar schema new after (rows ++ row ∷ [])
   row_more new mid after row value bytes place own_mid value_is stored_is free filling changes on =
       let slots = put_slot h.slots place (Some bytes) in
       let places = h.places ++ place ∷ [] in
@@ -71,12 +71,12 @@ module _ (schema : Schema) (old : RowsBuilder) (before : PageMap) (rows : List R
       }
 
   -- the entries rise, since the rows do
-  pub entries_rise : RowsRise schema rows → PrimeEntriesRise (builder_width old) (prime_entries schema h.places rows)
-  entries_rise rise = rows_rise schema h.slots (builder_width old) h.places rows h.placed.rows_at h.building.each rise
+  pub entries_rise : RowsRise schema rows → PrimeEntriesRise (width_built old) (prime_entries schema h.places rows)
+  entries_rise rise = rows_rise schema h.slots (width_built old) h.places rows h.placed.rows_at h.building.each rise
 
   -- both stand
   pub rows_stand : (mid after : PageMap) (heap : Heap) (prime : PrimeIndex) (left left_now : ℕ) → HeapStands heap mid h.slots h.heap_own → ChangesPages before mid h.heap_own h.heap_own
-      → HasBuiltPrime left left_now mid after prime h.prime_own (prime_entries schema h.places rows) → RowsStandIn schema heap prime [] after rows
+      → HasBuiltPrime left left_now mid after prime h.prime_own (prime_entries schema h.places rows) → RowsStandBuilt schema heap prime [] after rows
   rows_stand mid after heap prime left left_now stands changes built =
       let parted = first_changed before mid h.heap_own h.heap_own h.prime_own changes prime_there h.parted in
       let live = chain_live mid (first_heap_page heap) h.heap_own stands.chain in

@@ -16,7 +16,7 @@ use Rattle.open_file.proofs.OrderLemmas.{either}
 use Rattle.open_file.proofs.PartsLemmas.{from_eq}
 use Rattle.open_file.proofs.RowLemmas.{row_total}
 use Rattle.file_changes.proofs.RankLemmas.{apart_in, not_tied}
-use Rattle.file_building.specs.Ranks.{RanksDiffer}
+use Rattle.file_building.specs.Ranks.{NoRankTwice}
 
 turned : (o : Ordering) → is_lt o ≡ false → is_eq o ≡ false → is_lt (ordering_reverse o) ≡ true
 turned o h e = grind (arith, common_steps)
@@ -39,7 +39,7 @@ differ_from schema next k row (other ∷ rows) within fit before sound =
     let others = from_eq _ _ (row_parts schema next other parts.0).1 in
     (one_below schema k row other (not_tied schema k row other (apart_in schema k row other within mine others apart)), differ_from schema next k row rows within fit first.1 parts.2)
 
-pub differ_in : (schema : Schema) (next k : ℕ) (rows : List Row) → k < length schema.keys → are_rows schema next rows ≡ true → RanksDiffer schema k rows
+pub differ_in : (schema : Schema) (next k : ℕ) (rows : List Row) → k < length schema.keys → are_rows schema next rows ≡ true → NoRankTwice schema k rows
 differ_in schema next k [] within sound = tt
 differ_in schema next k (row ∷ rows) within sound =
     let parts = rows_parts schema next row rows sound in

@@ -14,13 +14,13 @@ use Rattle.pages.proofs.ChunkLemmas.{chunks-add, chunks_joined, length-chunks}
 use Rattle.key_index.specs.declared.entry.AltEntry.{AltEntry}
 use Rattle.open_file.specs.InOrder.{alt_entry}
 use Rattle.open_file.proofs.RowLemmas.{behind_first}
-use Rattle.file_building.specs.Written.{rows_from}
+use Rattle.file_building.specs.Written.{rows_with_stamps}
 use Rattle.pages.specs.Each.{Each}
 use Rattle.file_building.specs.Alternates.{FitIndex}
 use Rattle.file_building.specs.declared.ranked.Ranked.{Ranked}
 use Rattle.file_building.specs.Ranks.{RanksRise, is_lower}
 use Rattle.file_building.proofs.RankLemmas.{rises_more}
-use Rattle.file_building.specs.Entries.{stamp_in, entry_of, entry_in, entries_in, entries_from, AreFronts}
+use Rattle.file_building.specs.Entries.{stamp_of_key, entry_of_new, entry_in, ranked_entries, entries_from, AreFronts}
 
 -- ---- a value in the front of a record
 
@@ -40,7 +40,7 @@ value_in_front schema k bytes is within = part_in_front (key_at schema k) schema
 
 -- ---- the stamp of a new row
 
-stamp_of_new : (schema : Schema) (stamp j : ℕ) (bytes : List ℕ) → suc j < length schema.keys → stamp_of (suc j) (new_row schema stamp bytes) ≡ stamp_in schema (suc j) stamp
+stamp_of_new : (schema : Schema) (stamp j : ℕ) (bytes : List ℕ) → suc j < length schema.keys → stamp_of (suc j) (new_row schema stamp bytes) ≡ stamp_of_key schema (suc j) stamp
 stamp_of_new schema stamp j bytes within =
     let d : KeyPart = no_key in
     let of = λ (part : KeyPart). if has_duplicates part then stamp else 0 in
@@ -49,7 +49,7 @@ stamp_of_new schema stamp j bytes within =
 -- ---- the entries of rows
 
 entry_is : (schema : Schema) (stamp j : ℕ) (bytes : List ℕ) → IsSchema schema → suc j < length schema.keys
-    → entry_of schema (suc j) stamp (take schema.least bytes) ≡ alt_entry schema (suc j) (new_row schema stamp bytes)
+    → entry_of_new schema (suc j) stamp (take schema.least bytes) ≡ alt_entry schema (suc j) (new_row schema stamp bytes)
 entry_is schema stamp j bytes is within =
     let value = value_in_front schema (suc j) bytes is within in
     let prime = value_in_front schema 0 bytes is (omega (arith, within)) in
@@ -57,7 +57,7 @@ entry_is schema stamp j bytes is within =
     λ i. record { value = record { items = value i }; stamp = sym number i; prime = record { items = prime i } }
 
 pub entries_are : (schema : Schema) (stamp j : ℕ) (records : List (List ℕ)) → IsSchema schema → suc j < length schema.keys
-    → entries_from schema (suc j) stamp (map (take schema.least) records) ≡ map (alt_entry schema (suc j)) (rows_from schema stamp records)
+    → entries_from schema (suc j) stamp (map (take schema.least) records) ≡ map (alt_entry schema (suc j)) (rows_with_stamps schema stamp records)
 entries_are schema stamp j [] is within = refl
 entries_are schema stamp j (bytes ∷ records) is within =
     let first = entry_is schema stamp j bytes is within in
@@ -66,12 +66,12 @@ entries_are schema stamp j (bytes ∷ records) is within =
 
 -- one more
 pub entries_more : (schema : Schema) (k stamp : ℕ) (records : List (List ℕ)) (bytes : List ℕ)
-    → entries_from schema k stamp (records ++ bytes ∷ []) ≡ entries_from schema k stamp records ++ entry_of schema k (stamp + length records) bytes ∷ []
-entries_more schema k stamp [] bytes = ap (λ (n : ℕ). entry_of schema k n bytes ∷ []) (omega arith)
+    → entries_from schema k stamp (records ++ bytes ∷ []) ≡ entries_from schema k stamp records ++ entry_of_new schema k (stamp + length records) bytes ∷ []
+entries_more schema k stamp [] bytes = ap (λ (n : ℕ). entry_of_new schema k n bytes ∷ []) (omega arith)
 entries_more schema k stamp (first ∷ records) bytes =
     let on : stamp + 1 + length records ≡ stamp + suc (length records) = omega arith in
-    ap (λ (l : List AltEntry). entry_of schema k stamp first ∷ l)
-    (entries_more schema k (stamp + 1) records bytes ∙ ap (λ (n : ℕ). entries_from schema k (stamp + 1) records ++ entry_of schema k n bytes ∷ []) on)
+    ap (λ (l : List AltEntry). entry_of_new schema k stamp first ∷ l)
+    (entries_more schema k (stamp + 1) records bytes ∙ ap (λ (n : ℕ). entries_from schema k (stamp + 1) records ++ entry_of_new schema k n bytes ∷ []) on)
 
 -- ---- fronts
 
@@ -114,7 +114,7 @@ front_more schema records fronts bytes f long =
 
 -- the fronts of as many records as there are, as entries
 pub fronts_entries : (schema : Schema) (j : ℕ) (records : List (List ℕ)) (fronts : List ℕ) → IsSchema schema → suc j < length schema.keys → AreFronts schema records fronts
-    → entries_from schema (suc j) 1 (chunks schema.least (length fronts / schema.least) fronts) ≡ map (alt_entry schema (suc j)) (rows_from schema 1 records)
+    → entries_from schema (suc j) 1 (chunks schema.least (length fronts / schema.least) fronts) ≡ map (alt_entry schema (suc j)) (rows_with_stamps schema 1 records)
 fronts_entries schema j records fronts is within f =
     let count : length fronts / schema.least ≡ length records = ap (λ (n : ℕ). n / schema.least) f.long ∙ mul-div_cancel (length records) is.some in
     ap (λ (n : ℕ). entries_from schema (suc j) 1 (chunks schema.least n fronts)) count
@@ -124,43 +124,43 @@ fronts_entries schema j records fronts is within f =
 -- ---- entries as they are found
 
 -- one entry more of them
-pub next_entry : (xs : List Ranked) (i : ℕ) (d : Ranked) (e : AltEntry) → i < length xs → e ≡ entry_in (slice_index_or xs i d) → take i (entries_in xs) ++ e ∷ [] ≡ take (i + 1) (entries_in xs)
+pub next_entry : (xs : List Ranked) (i : ℕ) (d : Ranked) (e : AltEntry) → i < length xs → e ≡ entry_in (slice_index_or xs i d) → take i (ranked_entries xs) ++ e ∷ [] ≡ take (i + 1) (ranked_entries xs)
 next_entry xs i d e within is =
-    let long : i < length (entries_in xs) = omega (arith, within, length-map xs entry_in) in
+    let long : i < length (ranked_entries xs) = omega (arith, within, length-map xs entry_in) in
     let next : suc i ≡ i + 1 = omega arith in
-    sym (ap (λ (n : ℕ). take n (entries_in xs)) (sym next)
-    ∙ take-suc (entries_in xs) i (entry_in d) long
-    ∙ ap (λ (v : AltEntry). take i (entries_in xs) ++ v ∷ []) (get_or-map entry_in xs i d (entry_in d) within ∙ sym is))
+    sym (ap (λ (n : ℕ). take n (ranked_entries xs)) (sym next)
+    ∙ take-suc (ranked_entries xs) i (entry_in d) long
+    ∙ ap (λ (v : AltEntry). take i (ranked_entries xs) ++ v ∷ []) (get_or-map entry_in xs i d (entry_in d) within ∙ sym is))
 
-pub all_entries : (xs : List Ranked) (i : ℕ) → length xs ≤ i → take i (entries_in xs) ≡ entries_in xs
-all_entries xs i within = take_all i (entries_in xs) (omega (arith, within, length-map xs entry_in))
+pub all_entries : (xs : List Ranked) (i : ℕ) → length xs ≤ i → take i (ranked_entries xs) ≡ ranked_entries xs
+all_entries xs i within = take_all i (ranked_entries xs) (omega (arith, within, length-map xs entry_in))
 
 -- neighbours of rising entries
-low_at : (xs : List Ranked) (j : ℕ) (d e : Ranked) → suc j < length xs → RanksRise (entries_in xs) → is_lower (entry_in (slice_index_or xs j d)) (entry_in (slice_index_or xs (suc j) e)) ≡ true
+low_at : (xs : List Ranked) (j : ℕ) (d e : Ranked) → suc j < length xs → RanksRise (ranked_entries xs) → is_lower (entry_in (slice_index_or xs j d)) (entry_in (slice_index_or xs (suc j) e)) ≡ true
 low_at [] j d e within rise = absurd (omega (arith, within))
 low_at (x ∷ []) j d e within rise = absurd (omega (arith, within))
 low_at (x ∷ y ∷ xs) zero d e within rise = rise.0.0
 low_at (x ∷ y ∷ xs) (suc j) d e within rise = low_at (y ∷ xs) j d e (omega (arith, within)) rise.1
 
-pub neighbours_low : (xs : List Ranked) (i : ℕ) (d e : Ranked) → 1 ≤ i → i < length xs → RanksRise (entries_in xs) → is_lower (entry_in (slice_index_or xs (i - 1) d)) (entry_in (slice_index_or xs i e)) ≡ true
+pub neighbours_low : (xs : List Ranked) (i : ℕ) (d e : Ranked) → 1 ≤ i → i < length xs → RanksRise (ranked_entries xs) → is_lower (entry_in (slice_index_or xs (i - 1) d)) (entry_in (slice_index_or xs i e)) ≡ true
 neighbours_low xs i d e some within rise =
     let same : suc (i - 1) ≡ i = omega (arith, some) in
     subst (λ (n : ℕ). is_lower (entry_in (slice_index_or xs (i - 1) d)) (entry_in (slice_index_or xs n e)) ≡ true) same (low_at xs (i - 1) d e (omega (arith, some, within)) rise)
 
-pub rise_on : (xs : List Ranked) (i : ℕ) (d e : Ranked) → 1 ≤ i → i < length xs → RanksRise (take i (entries_in xs)) → is_lower (entry_in (slice_index_or xs (i - 1) d)) (entry_in (slice_index_or xs i e)) ≡ true
-    → RanksRise (take (i + 1) (entries_in xs))
+pub rise_on : (xs : List Ranked) (i : ℕ) (d e : Ranked) → 1 ≤ i → i < length xs → RanksRise (take i (ranked_entries xs)) → is_lower (entry_in (slice_index_or xs (i - 1) d)) (entry_in (slice_index_or xs i e)) ≡ true
+    → RanksRise (take (i + 1) (ranked_entries xs))
 rise_on xs i d e some within rise low =
     let y = entry_in (slice_index_or xs (i - 1) d) in
     let z = entry_in (slice_index_or xs i e) in
-    let front = take (i - 1) (entries_in xs) in
+    let front = take (i - 1) (ranked_entries xs) in
     let same : i - 1 + 1 ≡ i = omega (arith, some) in
-    let first : front ++ y ∷ [] ≡ take i (entries_in xs) = next_entry xs (i - 1) d y (omega (arith, some, within)) refl ∙ ap (λ (n : ℕ). take n (entries_in xs)) same in
-    let both : (front ++ y ∷ []) ++ z ∷ [] ≡ take (i + 1) (entries_in xs) = ap (λ (l : List AltEntry). l ++ z ∷ []) first ∙ next_entry xs i e z within refl in
+    let first : front ++ y ∷ [] ≡ take i (ranked_entries xs) = next_entry xs (i - 1) d y (omega (arith, some, within)) refl ∙ ap (λ (n : ℕ). take n (ranked_entries xs)) same in
+    let both : (front ++ y ∷ []) ++ z ∷ [] ≡ take (i + 1) (ranked_entries xs) = ap (λ (l : List AltEntry). l ++ z ∷ []) first ∙ next_entry xs i e z within refl in
     subst RanksRise both (rises_more front y z (subst RanksRise (sym first) rise) low)
 
 -- the entry of the next front
-pub entry_more : (schema : Schema) (k i r : ℕ) (fronts : List ℕ) (old : List Ranked) (e : Ranked) → r ≡ schema.least → entry_in e ≡ entry_of schema k (i + 1) (slice_range fronts (i * r) ((i + 1) * r))
-    → entries_in old ≡ entries_from schema k 1 (chunks schema.least i fronts) → entries_in (old ++ e ∷ []) ≡ entries_from schema k 1 (chunks schema.least (i + 1) fronts)
+pub entry_more : (schema : Schema) (k i r : ℕ) (fronts : List ℕ) (old : List Ranked) (e : Ranked) → r ≡ schema.least → entry_in e ≡ entry_of_new schema k (i + 1) (slice_range fronts (i * r) ((i + 1) * r))
+    → ranked_entries old ≡ entries_from schema k 1 (chunks schema.least i fronts) → ranked_entries (old ++ e ∷ []) ≡ entries_from schema k 1 (chunks schema.least (i + 1) fronts)
 entry_more schema k i r fronts old e size is had =
     let before = chunks schema.least i fronts in
     let front = take schema.least (drop (i * schema.least) fronts) in
@@ -169,7 +169,7 @@ entry_more schema k i r fronts old e size is had =
     let number : 1 + length before ≡ i + 1 = omega (arith, length-chunks schema.least i fronts) in
     map-append entry_in old (e ∷ [])
     ∙ ap (λ (l : List AltEntry). l ++ entry_in e ∷ []) had
-    ∙ ap (λ (v : AltEntry). entries_from schema k 1 before ++ v ∷ []) (is ∙ ap (entry_of schema k (i + 1)) cut ∙ ap (λ (n : ℕ). entry_of schema k n front) (sym number))
+    ∙ ap (λ (v : AltEntry). entries_from schema k 1 before ++ v ∷ []) (is ∙ ap (entry_of_new schema k (i + 1)) cut ∙ ap (λ (n : ℕ). entry_of_new schema k n front) (sym number))
     ∙ sym (entries_more schema k 1 before front)
     ∙ ap (entries_from schema k 1) (sym (chunk_more schema.least i fronts))
 
@@ -178,7 +178,7 @@ entry_more schema k i r fronts old e size is had =
 abbrev pub blank : Ranked
 blank = record { value = record { ref_ptr = (0, 0); now = [] }; stamp = 0; prime = record { ref_ptr = (0, 0); now = [] } }
 
-pub fit_at : (w p : ℕ) (xs : List Ranked) (i : ℕ) (d : Ranked) → i < length xs → FitIndex w p (entries_in xs) → (length (slice_index_or xs i d).value.now ≡ w) × (length (slice_index_or xs i d).prime.now ≡ p)
+pub fit_at : (w p : ℕ) (xs : List Ranked) (i : ℕ) (d : Ranked) → i < length xs → FitIndex w p (ranked_entries xs) → (length (slice_index_or xs i d).value.now ≡ w) × (length (slice_index_or xs i d).prime.now ≡ p)
 fit_at w p [] i d within fit = absurd (omega (arith, within))
 fit_at w p (x ∷ xs) zero d within fit = fit.0
 fit_at w p (x ∷ xs) (suc i) d within fit = fit_at w p xs i d (omega (arith, within)) fit.1

@@ -18,7 +18,7 @@ use Rattle.open_file.proofs.OrderLemmas.{either, not_back}
 use Rattle.open_file.proofs.PartsLemmas.{from_eq}
 use Rattle.open_file.proofs.RowLemmas.{row_total}
 use Rattle.file_building.specs.Rows.{RowsRise}
-use Rattle.file_building.specs.Ranks.{RanksDiffer}
+use Rattle.file_building.specs.Ranks.{NoRankTwice}
 
 abbrev none : KeyPart
 none = no_key
@@ -119,7 +119,7 @@ module _ (schema : Schema) (next : ℕ) where
       (are_apart_rows schema next row other fit all.0 rise.0 (λ j within. (differ j within).0)))
       (all_before row rows fit all.1 rise.1 (λ j within. (differ j within).1))
 
-  pub rows_sound : (rows : List Row) → Each (λ row. IsTrue (is_row schema next row)) rows → RowsRise schema rows → ((j : ℕ) → suc j < length schema.keys → RanksDiffer schema (suc j) rows) → are_rows schema next rows ≡ true
+  pub rows_sound : (rows : List Row) → Each (λ row. IsTrue (is_row schema next row)) rows → RowsRise schema rows → ((j : ℕ) → suc j < length schema.keys → NoRankTwice schema (suc j) rows) → are_rows schema next rows ≡ true
   rows_sound [] all rise differ = refl
   rows_sound (row ∷ rows) all rise differ =
       rows_from schema next row rows all.0 (all_before row rows all.0 all.1 rise.0 (λ j within. (differ j within).0)) (rows_sound rows all.1 rise.1 (λ j within. (differ j within).1))

@@ -29,8 +29,8 @@ use Rattle.open_file.specs.Headers.{tree_at, numbers_of, HasTree, IsHeaderOf, Is
 use Rattle.open_file.specs.declared.open_file.OpenFile.{OpenFile}
 use Rattle.open_file.proofs.PartsLemmas.{each_map, found_at, same_default, some_none}
 use Rattle.open_file.proofs.HeaderLemmas.{read_back}
-use Rattle.file_building.specs.Rows.{RowsStandIn}
-use Rattle.file_building.specs.Opening.{IsOpenedWith, AreBehindHeader, ArePartsFor, OpensParts, IsHeaderFor}
+use Rattle.file_building.specs.Rows.{RowsStandBuilt}
+use Rattle.file_building.specs.Opening.{IsOpenedWith, StandBehindHeader, ArePartsFor, OpensBuilt, IsHeaderOfParts}
 
 -- ---- lists
 
@@ -47,7 +47,7 @@ map_at f (y ∷ ys) x (suc j) d within at = map_at f ys x j d (omega (arith, wit
 -- ---- pages in use
 
 -- a page in use is behind the header, and counted
-pub in_use : (pages : PageMap) → AreBehindHeader pages → (n : ℕ) → IsSome (pages n) → (0 < n) × (n < 4294967295)
+pub in_use : (pages : PageMap) → StandBehindHeader pages → (n : ℕ) → IsSome (pages n) → (0 < n) × (n < 4294967295)
 in_use pages behind zero some = absurd (some_none (pages 0) some behind.no_header)
 in_use pages behind (suc n) some = let below : suc n + 1 < 4294967296 = behind.within (suc n) some in (omega arith, omega (arith, below))
 
@@ -73,7 +73,7 @@ first_of_slots behind first (p ∷ ps) room own P count chained all low some =
 -- ---- the file of these parts, which the header tells of
 
 module _ (schema : Schema) (stamp : ℕ) (heap : Heap) (prime : PrimeIndex) (alternates : List AltIndex) (header : Header)
-    (is : IsHeaderFor schema stamp heap prime alternates header) (is_schema : IsSchema schema) (many : length schema.keys ≡ length alternates + 1) where
+    (is : IsHeaderOfParts schema stamp heap prime alternates header) (is_schema : IsSchema schema) (many : length schema.keys ≡ length alternates + 1) where
   abbrev built : OpenFile
   built = record {
     schema = schema;
@@ -158,7 +158,7 @@ module _ (schema : Schema) (stamp : ℕ) (heap : Heap) (prime : PrimeIndex) (alt
     }
 
     module _ (pages : PageMap) (list : List Row) (sound : IsTrue (is_file schema (record { rows = list; next_stamp = stamp }))) (bound : stamp ≤ 2 ^ 63)
-        (rows : RowsStandIn schema heap prime alternates pages list) where
+        (rows : RowsStandBuilt schema heap prime alternates pages list) where
       abbrev file : File
       file = record { rows = list; next_stamp = stamp }
 
@@ -225,10 +225,10 @@ module _ (schema : Schema) (stamp : ℕ) (heap : Heap) (prime : PrimeIndex) (alt
           }
 
       -- its links are within the pages
-      pub are_within : AreBehindHeader pages → AreLinksWithin header
+      pub are_within : StandBehindHeader pages → AreLinksWithin header
       are_within behind = links 4294967295 is.pages_are (omega arith) (in_use pages behind)
 
-  pub opens : (opened : OpenFile) → IsOpenedBy header opened → OpensParts schema stamp heap prime alternates (Ok opened)
+  pub opens : (opened : OpenFile) → IsOpenedBy header opened → OpensBuilt schema stamp heap prime alternates (Ok opened)
   opens opened made = record {
     stands = λ pages list sound few rows for behind. record { answer = opened_stands for pages list sound few rows opened made; no_damage = tt };
     made = opened_with opened made;
@@ -236,7 +236,7 @@ module _ (schema : Schema) (stamp : ℕ) (heap : Heap) (prime : PrimeIndex) (alt
   }
 
   -- no header tells of such parts
-  pub opens_none : (AreLinksWithin header → ⊥) → OpensParts schema stamp heap prime alternates (Err Damage)
+  pub opens_none : (AreLinksWithin header → ⊥) → OpensBuilt schema stamp heap prime alternates (Err Damage)
   opens_none never = record {
     stands = λ pages list sound few rows for behind. absurd (never (are_within for pages list sound few rows behind));
     made = tt;

@@ -23,7 +23,7 @@ use Rattle.key_index.proofs.OrderLemmas.{ranks}
 use Rattle.open_file.specs.InOrder.{put_row, in_order, alt_entry, alt_entries}
 use Rattle.open_file.proofs.OrderLemmas.{either}
 use Rattle.open_file.proofs.PartsLemmas.{from_eq}
-use Rattle.file_building.specs.Ranks.{Rises, is_lower, RanksRise, RanksDiffer}
+use Rattle.file_building.specs.Ranks.{RisesBy, is_lower, RanksRise, NoRankTwice}
 use Rattle.file_building.proofs.SortedLemmas.{put_by, sorted_by, Untied, AreUntied, are_sorted, are_untied, sorted_map}
 
 -- ---- entries in the order of their ranks
@@ -90,14 +90,14 @@ untied_rows schema k row (next ∷ rows) all = (turned all.0, untied_rows schema
     turned (inl h) = inr h
     turned (inr h) = inl h
 
-ranks_differ : (schema : Schema) (k : ℕ) (rows : List Row) → AreUntied is_lower (map (alt_entry schema k) rows) → RanksDiffer schema k rows
+ranks_differ : (schema : Schema) (k : ℕ) (rows : List Row) → AreUntied is_lower (map (alt_entry schema k) rows) → NoRankTwice schema k rows
 ranks_differ schema k [] all = tt
 ranks_differ schema k (row ∷ rows) all = (untied_rows schema k row rows all.0, ranks_differ schema k rows all.1)
 
 -- rising entries, each of which is that of a row, and as many as there are rows, are those of the index
 pub record AreThoseOf (schema : Schema) (k : ℕ) (rows : List Row) (entries : List AltEntry) : Type 0 where
   pub are : alt_entries schema k rows ≡ entries
-  pub differ : RanksDiffer schema k rows
+  pub differ : NoRankTwice schema k rows
 
 pub are_those_of : (schema : Schema) (k : ℕ) (rows : List Row) (entries : List AltEntry) → RanksRise entries → Each (λ e. IsOneOf (map (alt_entry schema k) rows) e) entries → length entries ≡ length (map (alt_entry schema k) rows)
     → AreThoseOf schema k rows entries
@@ -105,7 +105,7 @@ are_those_of schema k rows entries rise all many =
     let sorted = (are_sorted is_lower onward itself decide entries (map (alt_entry schema k) rows) rise all).are many in
     record {
       are = sym (entries_sorted schema k rows) ∙ sorted;
-      differ = ranks_differ schema k rows (are_untied is_lower (map (alt_entry schema k) rows) (subst (Rises is_lower) (sym sorted) rise));
+      differ = ranks_differ schema k rows (are_untied is_lower (map (alt_entry schema k) rows) (subst (RisesBy is_lower) (sym sorted) rise));
     }
 
 -- ---- entries as bytes
@@ -129,7 +129,7 @@ bytes_rise w p (e ∷ entries) all rise = (each_below w p e entries all.0 all.1 
 
 -- ---- neighbours in order
 
-pub rises_more : (xs : List AltEntry) (y z : AltEntry) → Rises is_lower (xs ++ y ∷ []) → is_lower y z ≡ true → Rises is_lower ((xs ++ y ∷ []) ++ z ∷ [])
+pub rises_more : (xs : List AltEntry) (y z : AltEntry) → RisesBy is_lower (xs ++ y ∷ []) → is_lower y z ≡ true → RisesBy is_lower ((xs ++ y ∷ []) ++ z ∷ [])
 rises_more [] y z rise low = ((low, tt), (tt, tt))
 rises_more (x ∷ xs) y z rise low = (each_more (xs ++ y ∷ []) (last xs rise.0) rise.0, rises_more xs y z rise.1 low)
   where
@@ -152,6 +152,6 @@ untied_back schema k row (next ∷ rows) all = (other_way all.0, untied_back sch
     other_way (inl h) = inr h
     other_way (inr h) = inl h
 
-pub untied_entries : (schema : Schema) (k : ℕ) (rows : List Row) → RanksDiffer schema k rows → AreUntied is_lower (map (alt_entry schema k) rows)
+pub untied_entries : (schema : Schema) (k : ℕ) (rows : List Row) → NoRankTwice schema k rows → AreUntied is_lower (map (alt_entry schema k) rows)
 untied_entries schema k [] all = tt
 untied_entries schema k (row ∷ rows) all = (untied_back schema k row rows all.0, untied_entries schema k rows all.1)

@@ -10,18 +10,18 @@ use Rattle.indexed_file.specs.File.{Row}
 use Rattle.indexed_file.proofs.OrderLemmas.{below-trans}
 use Rattle.pages.specs.Each.{Each}
 use Rattle.pages.proofs.EachLemmas.{each_join}
-use Rattle.file_building.specs.Written.{comes_before, PrimesRise, HaveLengths, rows_from}
+use Rattle.file_building.specs.Written.{comes_before, RecordsRise, HaveLengths, rows_with_stamps}
 use Rattle.file_building.specs.Rows.{RowsRise}
 use Rattle.file_building.specs.Building.{last_prime}
 
 -- the last of records whose prime values rise comes before one more: so do all
-before_more : (schema : Schema) (first : List ℕ) (records : List (List ℕ)) (bytes : List ℕ) → PrimesRise schema (first ∷ records) → is_lt (value_cmp (last_prime schema (first ∷ records)) (prime_of schema bytes)) ≡ true
+before_more : (schema : Schema) (first : List ℕ) (records : List (List ℕ)) (bytes : List ℕ) → RecordsRise schema (first ∷ records) → is_lt (value_cmp (last_prime schema (first ∷ records)) (prime_of schema bytes)) ≡ true
     → comes_before schema first bytes ≡ true
 before_more schema first [] bytes rise low = low
 before_more schema first (next ∷ records) bytes rise low =
     below-trans (prime_of schema first) (prime_of schema next) (prime_of schema bytes) rise.0.0 (before_more schema next records bytes rise.1 low)
 
-pub rise_more : (schema : Schema) (records : List (List ℕ)) (bytes : List ℕ) → PrimesRise schema records → is_lt (value_cmp (last_prime schema records) (prime_of schema bytes)) ≡ true → PrimesRise schema (records ++ bytes ∷ [])
+pub rise_more : (schema : Schema) (records : List (List ℕ)) (bytes : List ℕ) → RecordsRise schema records → is_lt (value_cmp (last_prime schema records) (prime_of schema bytes)) ≡ true → RecordsRise schema (records ++ bytes ∷ [])
 rise_more schema [] bytes rise low = (tt, tt)
 rise_more schema (first ∷ []) bytes rise low = ((low, tt), (tt, tt))
 rise_more schema (first ∷ next ∷ records) bytes rise low = (
@@ -30,7 +30,7 @@ rise_more schema (first ∷ next ∷ records) bytes rise low = (
 )
 
 -- where records rise with one more, the last before it comes before it; no bytes come before each value
-pub last_before : (schema : Schema) (records : List (List ℕ)) (bytes : List ℕ) → (is_lt (value_cmp [] (prime_of schema bytes)) ≡ true) → PrimesRise schema (records ++ bytes ∷ []) → is_lt (value_cmp (last_prime schema records) (prime_of schema bytes)) ≡ true
+pub last_before : (schema : Schema) (records : List (List ℕ)) (bytes : List ℕ) → (is_lt (value_cmp [] (prime_of schema bytes)) ≡ true) → RecordsRise schema (records ++ bytes ∷ []) → is_lt (value_cmp (last_prime schema records) (prime_of schema bytes)) ≡ true
 last_before schema [] bytes some rise = some
 last_before schema (first ∷ []) bytes some rise = rise.0.0
 last_before schema (first ∷ next ∷ records) bytes some rise = last_before schema (next ∷ records) bytes some rise.1
@@ -45,11 +45,11 @@ lengths_more schema records bytes long fit = each_join (λ b. is_length schema (
 
 -- the rows of records whose prime values rise do
 rows_after : (schema : Schema) (first : List ℕ) (stamp : ℕ) (records : List (List ℕ)) → Each (λ other. comes_before schema first other ≡ true) records
-    → Each (λ (row : Row). is_lt (value_cmp (prime_of schema first) (prime_of schema row.bytes)) ≡ true) (rows_from schema stamp records)
+    → Each (λ (row : Row). is_lt (value_cmp (prime_of schema first) (prime_of schema row.bytes)) ≡ true) (rows_with_stamps schema stamp records)
 rows_after schema first stamp [] rise = tt
 rows_after schema first stamp (bytes ∷ records) rise = (rise.0, rows_after schema first (stamp + 1) records rise.1)
 
-pub rows_rise_of : (schema : Schema) (stamp : ℕ) (records : List (List ℕ)) → PrimesRise schema records → RowsRise schema (rows_from schema stamp records)
+pub rows_rise_of : (schema : Schema) (stamp : ℕ) (records : List (List ℕ)) → RecordsRise schema records → RowsRise schema (rows_with_stamps schema stamp records)
 rows_rise_of schema stamp [] rise = tt
 rows_rise_of schema stamp (bytes ∷ records) rise = (rows_after schema bytes (stamp + 1) records rise.0, rows_rise_of schema (stamp + 1) records rise.1)
 

@@ -6,7 +6,7 @@ use Rattle.pages.specs.Each.{Each}
 use Rattle.pages.proofs.EachLemmas.{each_weaker, each_join, each_left, each_right}
 use Rattle.record_heap.specs.Chain.{IsOneOf}
 use Rattle.open_file.proofs.OrderLemmas.{either}
-use Rattle.file_building.specs.Ranks.{Rises}
+use Rattle.file_building.specs.Ranks.{RisesBy}
 
 -- sorted by insertion
 abbrev pub put_by : {X : Type 0} → (X → X → Bool) → X → List X → List X
@@ -57,11 +57,11 @@ module _ {X : Type 0} (lt : X → X → Bool) (onward : (x y z : X) → lt x y �
 
   -- what is known of a rising list cut at r
   pub record Cut (r : X) (front back : List X) : Type 0 where
-    pub rises : Rises lt (front ++ back)
+    pub rises : RisesBy lt (front ++ back)
     pub below : Each (λ e. lt e r ≡ true) front
     pub above : Each (λ e. lt r e ≡ true) back
 
-  cut : (r : X) (front back : List X) → Rises lt (front ++ r ∷ back) → Cut r front back
+  cut : (r : X) (front back : List X) → RisesBy lt (front ++ r ∷ back) → Cut r front back
   cut r [] back rises = record { rises = rises.1; below = tt; above = rises.0 }
   cut r (x ∷ front) back rises =
       let rest = cut r front back rises.1 in
@@ -86,11 +86,11 @@ module _ {X : Type 0} (lt : X → X → Bool) (onward : (x y z : X) → lt x y �
     pub few : length es ≤ length rs
     pub are : length es ≡ length rs → sorted_by lt rs ≡ es
 
-  pub are_sorted : (es rs : List X) → Rises lt es → Each (λ e. IsOneOf rs e) es → AreSorted es rs
+  pub are_sorted : (es rs : List X) → RisesBy lt es → Each (λ e. IsOneOf rs e) es → AreSorted es rs
   are_sorted [] [] rises all = record { few = omega arith; are = λ same. refl }
   are_sorted (e ∷ es) [] rises all = absurd all.0
   are_sorted es (r ∷ rs) rises all = by_look (λ fs h k. are_sorted fs rs h k) (look r es) where
-    by_look : ((fs : List X) → Rises lt fs → Each (λ e. IsOneOf rs e) fs → AreSorted fs rs) → Found r es ⊎ Each (λ e. e ≢ r) es → AreSorted es (r ∷ rs)
+    by_look : ((fs : List X) → RisesBy lt fs → Each (λ e. IsOneOf rs e) fs → AreSorted fs rs) → Found r es ⊎ Each (λ e. e ≢ r) es → AreSorted es (r ∷ rs)
     by_look again (inr off) =
         let rest = again es rises (others r rs es all off) in
         let few' = rest.few in
@@ -123,15 +123,15 @@ module _ {X : Type 0} (lt : X → X → Bool) where
   each_sorted P [] all = tt
   each_sorted P (r ∷ rs) all = let two = each_put P r (sorted_by lt rs) all in (two.0, each_sorted P rs two.1)
 
-  untied_put : (r : X) (xs : List X) → Rises lt (put_by lt r xs) → Each (Untied lt r) xs × Rises lt xs
+  untied_put : (r : X) (xs : List X) → RisesBy lt (put_by lt r xs) → Each (Untied lt r) xs × RisesBy lt xs
   untied_put r [] rises = (tt, tt)
   untied_put r (x ∷ xs) rises = by_test (λ h. untied_put r xs h) (λ h. each_put (λ y. lt x y ≡ true) r xs h) (lt x r) refl rises where
-    by_test : (Rises lt (put_by lt r xs) → Each (Untied lt r) xs × Rises lt xs) → (Each (λ y. lt x y ≡ true) (put_by lt r xs) → (lt x r ≡ true) × Each (λ y. lt x y ≡ true) xs)
-        → (t : Bool) → lt x r ≡ t → Rises lt (cond t (x ∷ put_by lt r xs) (r ∷ x ∷ xs)) → Each (Untied lt r) (x ∷ xs) × Rises lt (x ∷ xs)
+    by_test : (RisesBy lt (put_by lt r xs) → Each (Untied lt r) xs × RisesBy lt xs) → (Each (λ y. lt x y ≡ true) (put_by lt r xs) → (lt x r ≡ true) × Each (λ y. lt x y ≡ true) xs)
+        → (t : Bool) → lt x r ≡ t → RisesBy lt (cond t (x ∷ put_by lt r xs) (r ∷ x ∷ xs)) → Each (Untied lt r) (x ∷ xs) × RisesBy lt (x ∷ xs)
     by_test again first true is h = let rest = again h.1 in let one = first h.0 in ((inl is, rest.0), (one.1, rest.1))
     by_test again first false is h = ((inr h.0.0, each_weaker (λ y. lt r y ≡ true) (Untied lt r) (λ y k. inr k) xs h.0.1), h.1)
 
-  pub are_untied : (rs : List X) → Rises lt (sorted_by lt rs) → AreUntied lt rs
+  pub are_untied : (rs : List X) → RisesBy lt (sorted_by lt rs) → AreUntied lt rs
   are_untied [] rises = tt
   are_untied (r ∷ rs) rises =
       let two = untied_put r (sorted_by lt rs) rises in

@@ -7,7 +7,7 @@ use Rattle.io_state.specs.declared.fault.Fault.TheVariants.{Damage, Device, Full
 use Rattle.pages.specs.Cause.{IsCaused}
 use Rattle.pages.specs.ShownPages.{ShownPages}
 use Rattle.tree_building.specs.Fresh.{IsBuildCause}
-use Rattle.file_building.specs.Steps.{HasRunOut}
+use Rattle.file_building.specs.Steps.{RanOutOfPages}
 
 -- the laws of pages that calls one after another ask for
 pub record StepLaws {S : Type 0} (shown : ShownPages S) : Type 0 where
@@ -39,7 +39,7 @@ if_both (Err fault) P Q R f p q = tt
 module _ {S : Type 0} (shown : ShownPages S) (laws : StepLaws shown) where
   -- a heap gives up for want of a page where none was left before the call
   pub heap_cause : (before after : S) (lacks : Type 0) → shown.Writes before after → (lacks → (shown.state before).available ≡ 0)
-      → (fault : Fault) → IsCaused (shown.HasFailed before after) lacks fault → IsBuildCause (shown.HasFailed before after) (HasRunOut shown before after) fault
+      → (fault : Fault) → IsCaused (shown.HasFailed before after) lacks fault → IsBuildCause (shown.HasFailed before after) (RanOutOfPages shown before after) fault
   heap_cause before after lacks goes none fault is = record {
     device = is.device;
     full = λ e. record { at = before; since = laws.nothing before; until = goes; none = none (is.full e) };
@@ -48,19 +48,19 @@ module _ {S : Type 0} (shown : ShownPages S) (laws : StepLaws shown) where
 
   -- an index where none is left behind it
   pub index_cause : (before after : S) → shown.Writes before after
-      → (fault : Fault) → IsBuildCause (shown.HasFailed before after) ((shown.state after).available ≡ 0) fault → IsBuildCause (shown.HasFailed before after) (HasRunOut shown before after) fault
+      → (fault : Fault) → IsBuildCause (shown.HasFailed before after) ((shown.state after).available ≡ 0) fault → IsBuildCause (shown.HasFailed before after) (RanOutOfPages shown before after) fault
   index_cause before after goes fault is = record {
     device = is.device;
     full = λ e. record { at = after; since = goes; until = laws.nothing after; none = is.full e };
     not_broken = is.not_broken;
   }
 
-  pub ran_out_since : (before mid after : S) → shown.Writes before mid → HasRunOut shown mid after → HasRunOut shown before after
+  pub ran_out_since : (before mid after : S) → shown.Writes before mid → RanOutOfPages shown mid after → RanOutOfPages shown before after
   ran_out_since before mid after goes out = record { at = out.at; since = laws.on before mid out.at goes out.since; until = out.until; none = out.none }
 
   -- what has caused a fault of a later call has caused it since before
   pub cause_since : (before mid after : S) → shown.Writes before mid
-      → (fault : Fault) → IsBuildCause (shown.HasFailed mid after) (HasRunOut shown mid after) fault → IsBuildCause (shown.HasFailed before after) (HasRunOut shown before after) fault
+      → (fault : Fault) → IsBuildCause (shown.HasFailed mid after) (RanOutOfPages shown mid after) fault → IsBuildCause (shown.HasFailed before after) (RanOutOfPages shown before after) fault
   cause_since before mid after goes fault is = record {
     device = λ e. laws.failed_after before mid after goes (is.device e);
     full = λ e. ran_out_since before mid after goes (is.full e);

@@ -11,8 +11,8 @@ use Rattle.record_heap.specs.Chain.{IsOneOf}
 use Rattle.key_index.specs.declared.entry.AltEntry.{AltEntry}
 use Rattle.open_file.proofs.OrderLemmas.{either}
 use Rattle.file_building.specs.declared.ranked.Ranked.{Ranked}
-use Rattle.file_building.specs.Ranks.{Rises, is_lower, RanksRise}
-use Rattle.file_building.specs.Entries.{entry_in, entries_in}
+use Rattle.file_building.specs.Ranks.{RisesBy, is_lower, RanksRise}
+use Rattle.file_building.specs.Entries.{entry_in, ranked_entries}
 use Rattle.file_building.proofs.SortedLemmas.{put_by, sorted_by, Untied, AreUntied, are_sorted, are_untied}
 use Rattle.file_building.proofs.RankLemmas.{onward, itself, decide}
 
@@ -27,10 +27,10 @@ all_in : (P : AltEntry → Type 0) (rs : List AltEntry) → Each P rs → Each P
 all_in P [] all = tt
 all_in P (r ∷ rs) all = each_in P r (sorted_by is_lower rs) all.0 (all_in P rs all.1)
 
-put_rises : (r : AltEntry) (xs : List AltEntry) → Each (Untied is_lower r) xs → Rises is_lower xs → Rises is_lower (put_by is_lower r xs)
+put_rises : (r : AltEntry) (xs : List AltEntry) → Each (Untied is_lower r) xs → RisesBy is_lower xs → RisesBy is_lower (put_by is_lower r xs)
 put_rises r [] untied rises = (tt, tt)
 put_rises r (x ∷ xs) untied rises =
-    either (is_lower x r) (Rises is_lower (put_by is_lower r (x ∷ xs)))
+    either (is_lower x r) (RisesBy is_lower (put_by is_lower r (x ∷ xs)))
     (λ yes. rw yes (each_in (λ y. is_lower x y ≡ true) r xs yes rises.0, put_rises r xs untied.1 rises.1))
     (λ above. (let low = below above untied.0 in
     rw above ((low, each_weaker (λ e. is_lower x e ≡ true) (λ e. is_lower r e ≡ true) (λ e k. onward r x e low k) xs rises.0), rises)))
@@ -39,7 +39,7 @@ put_rises r (x ∷ xs) untied rises =
     below above (inl h) = absurd (cc (above, h))
     below above (inr h) = h
 
-sorted_rises : (rs : List AltEntry) → AreUntied is_lower rs → Rises is_lower (sorted_by is_lower rs)
+sorted_rises : (rs : List AltEntry) → AreUntied is_lower rs → RisesBy is_lower (sorted_by is_lower rs)
 sorted_rises [] untied = tt
 sorted_rises (r ∷ rs) untied = put_rises r (sorted_by is_lower rs) (all_in (Untied is_lower r) rs untied.0) (sorted_rises rs untied.1)
 
@@ -59,18 +59,18 @@ pub untied_in : (old new : List AltEntry) → Each (IsOneOf new) old → length 
 untied_in old new all long untied =
     let rise = sorted_rises old untied in
     let same = (are_sorted is_lower onward itself decide (sorted_by is_lower old) new rise (all_in (IsOneOf new) old all)).are (sorted_long old ∙ long) in
-    are_untied is_lower new (subst (Rises is_lower) (sym same) rise)
+    are_untied is_lower new (subst (RisesBy is_lower) (sym same) rise)
 
 -- ---- where no entry is less than the one before it, and no two are tied, they rise
 
 module _ (ord : Ranked → Ranked → Ordering) (gives : (a b : Ranked) → is_lower (entry_in a) (entry_in b) ≡ true → is_lt (ord a b) ≡ true) where
-  pub sorted_rise : (xs : List Ranked) → ((k : ℕ) (d : Ranked) → suc k < length xs → is_lt (ord (slice_index_or xs (suc k) d) (slice_index_or xs k d)) ≡ false) → AreUntied is_lower (entries_in xs) → RanksRise (entries_in xs)
+  pub sorted_rise : (xs : List Ranked) → ((k : ℕ) (d : Ranked) → suc k < length xs → is_lt (ord (slice_index_or xs (suc k) d) (slice_index_or xs k d)) ≡ false) → AreUntied is_lower (ranked_entries xs) → RanksRise (ranked_entries xs)
   sorted_rise [] sorted untied = tt
   sorted_rise (x ∷ []) sorted untied = (tt, tt)
   sorted_rise (x ∷ y ∷ xs) sorted untied =
       let rest = sorted_rise (y ∷ xs) (λ k d within. sorted (suc k) d (omega (arith, within))) untied.1 in
       let low = below (sorted 0 x (omega arith)) untied.0.0 in
-      ((low, each_weaker (λ e. is_lower (entry_in y) e ≡ true) (λ e. is_lower (entry_in x) e ≡ true) (λ e h. onward (entry_in x) (entry_in y) e low h) (entries_in xs) rest.0), rest)
+      ((low, each_weaker (λ e. is_lower (entry_in y) e ≡ true) (λ e. is_lower (entry_in x) e ≡ true) (λ e h. onward (entry_in x) (entry_in y) e low h) (ranked_entries xs) rest.0), rest)
     where
       below : is_lt (ord y x) ≡ false → Untied is_lower (entry_in x) (entry_in y) → is_lower (entry_in x) (entry_in y) ≡ true
       below above (inl h) = (let low = gives y x h in absurd (cc (above, low)))

@@ -21,7 +21,7 @@ use Rattle.indexed_file.proofs.SoundLemmas.{added_is_file}
 use Rattle.pages.specs.Each.{Each}
 use Rattle.pages.proofs.EachLemmas.{each_join}
 use Rattle.open_file.proofs.PartsLemmas.{from_eq}
-use Rattle.file_building.specs.Written.{with_added, AreAccepted, comes_before, PrimesRise, HaveLengths, rows_from, rows_of}
+use Rattle.file_building.specs.Written.{with_all_added, AreAccepted, comes_before, RecordsRise, HaveLengths, rows_with_stamps, rows_of}
 
 -- ---- a row behind all others
 
@@ -49,7 +49,7 @@ put_behind schema new (row ∷ rows) before =
 
 pub record RiseAbove (schema : Schema) (rows : List Row) (records : List (List ℕ)) : Type 0 where
   pub above : Each (AllBefore schema rows) records
-  pub rise : PrimesRise schema records
+  pub rise : RecordsRise schema records
 
 -- the first of them behind the rows
 rise_on : (schema : Schema) (rows : List Row) (new : Row) (records : List (List ℕ)) → Each (AllBefore schema rows) records → Each (λ other. comes_before schema new.bytes other ≡ true) records
@@ -69,14 +69,14 @@ first_added schema rows stamp bytes records r =
 
 -- the file with all of them
 all_added : (schema : Schema) (records : List (List ℕ)) (rows : List Row) (stamp : ℕ) → RiseAbove schema rows records
-    → with_added schema records (record { rows = rows; next_stamp = stamp }) ≡ record { rows = rows ++ rows_from schema stamp records; next_stamp = stamp + length records }
+    → with_all_added schema records (record { rows = rows; next_stamp = stamp }) ≡ record { rows = rows ++ rows_with_stamps schema stamp records; next_stamp = stamp + length records }
 all_added schema [] rows stamp r =
     ap (λ (l : List Row). record { rows = l; next_stamp = stamp }) (sym (append-nil rows))
     ∙ ap (λ (n : ℕ). record { rows = rows ++ []; next_stamp = n }) (omega arith)
 all_added schema (bytes ∷ records) rows stamp r =
     let new = new_row schema stamp bytes in
-    let rest = rows_from schema (stamp + 1) records in
-    ap (with_added schema records) (first_added schema rows stamp bytes records r)
+    let rest = rows_with_stamps schema (stamp + 1) records in
+    ap (with_all_added schema records) (first_added schema rows stamp bytes records r)
     ∙ all_added schema records (rows ++ new ∷ []) (stamp + 1) (next_rise schema rows stamp bytes records r)
     ∙ ap (λ (l : List Row). record { rows = l; next_stamp = stamp + 1 + length records }) (append_assoc rows (new ∷ []) rest)
     ∙ ap (λ (n : ℕ). record { rows = rows ++ new ∷ rest; next_stamp = n }) (omega arith)
@@ -85,12 +85,12 @@ none_above : (schema : Schema) (records : List (List ℕ)) → Each (AllBefore s
 none_above schema [] = tt
 none_above schema (bytes ∷ records) = (tt, none_above schema records)
 
-rise_alone : (schema : Schema) (records : List (List ℕ)) → PrimesRise schema records → RiseAbove schema [] records
+rise_alone : (schema : Schema) (records : List (List ℕ)) → RecordsRise schema records → RiseAbove schema [] records
 rise_alone schema records rise = record { above = none_above schema records; rise = rise }
 
 -- what records whose prime values rise make of a file without rows
-pub file_of : (schema : Schema) (records : List (List ℕ)) → PrimesRise schema records
-    → with_added schema records empty_file ≡ record { rows = rows_of schema records; next_stamp = length records + 1 }
+pub file_of : (schema : Schema) (records : List (List ℕ)) → RecordsRise schema records
+    → with_all_added schema records empty_file ≡ record { rows = rows_of schema records; next_stamp = length records + 1 }
 file_of schema records rise =
     all_added schema records [] 1 (rise_alone schema records rise)
     ∙ ap (λ (n : ℕ). record { rows = rows_of schema records; next_stamp = n }) (omega arith)
@@ -98,13 +98,13 @@ file_of schema records rise =
 -- ---- what is accepted is a file
 
 accepted_on : (schema : Schema) (records : List (List ℕ)) (file : File) → IsSchema schema → is_file schema file ≡ true → HaveLengths schema records → AreAccepted schema records file
-    → is_file schema (with_added schema records file) ≡ true
+    → is_file schema (with_all_added schema records file) ≡ true
 accepted_on schema [] file is sound long accepted = sound
 accepted_on schema (bytes ∷ records) file is sound long accepted =
     accepted_on schema records (added schema bytes file) is (added_is_file schema bytes file is sound long.0 accepted.0) long.1 accepted.1
 
 pub accepted_is_file : (schema : Schema) (records : List (List ℕ)) → IsSchema schema → HaveLengths schema records → AreAccepted schema records empty_file
-    → is_file schema (with_added schema records empty_file) ≡ true
+    → is_file schema (with_all_added schema records empty_file) ≡ true
 accepted_is_file schema records is long accepted = accepted_on schema records empty_file is refl long accepted
 
 -- ---- what is a file was accepted
@@ -164,12 +164,12 @@ row_at : (schema : Schema) (next : ℕ) (rows : List Row) (new : Row) (more : Li
 row_at schema next [] new more sound = (rows_parts schema next new more sound).0
 row_at schema next (row ∷ rows) new more sound = row_at schema next rows new more (rows_parts schema next row (rows ++ new ∷ more) sound).2
 
-were_accepted : (schema : Schema) (next : ℕ) (records : List (List ℕ)) (rows : List Row) (stamp : ℕ) → RiseAbove schema rows records → are_rows schema next (rows ++ rows_from schema stamp records) ≡ true
+were_accepted : (schema : Schema) (next : ℕ) (records : List (List ℕ)) (rows : List Row) (stamp : ℕ) → RiseAbove schema rows records → are_rows schema next (rows ++ rows_with_stamps schema stamp records) ≡ true
     → AreAccepted schema records (record { rows = rows; next_stamp = stamp })
 were_accepted schema next [] rows stamp r sound = tt
 were_accepted schema next (bytes ∷ records) rows stamp r sound =
     let new = new_row schema stamp bytes in
-    let more = rows_from schema (stamp + 1) records in
+    let more = rows_with_stamps schema (stamp + 1) records in
     let fit = row_at schema next rows new more sound in
     let unlike = unlike_before schema next rows new more (row_parts schema next new fit).1 sound in
     let behind : are_rows schema next ((rows ++ new ∷ []) ++ more) ≡ true = ap (are_rows schema next) (append_assoc rows (new ∷ []) more) ∙ sound in (
@@ -178,21 +178,21 @@ were_accepted schema next (bytes ∷ records) rows stamp r sound =
           (were_accepted schema next records (rows ++ new ∷ []) (stamp + 1) (next_rise schema rows stamp bytes records r) behind),
     )
 
-pub file_was_accepted : (schema : Schema) (records : List (List ℕ)) (next : ℕ) → PrimesRise schema records → are_rows schema next (rows_of schema records) ≡ true → AreAccepted schema records empty_file
+pub file_was_accepted : (schema : Schema) (records : List (List ℕ)) (next : ℕ) → RecordsRise schema records → are_rows schema next (rows_of schema records) ≡ true → AreAccepted schema records empty_file
 file_was_accepted schema records next rise sound = were_accepted schema next records [] 1 (rise_alone schema records rise) sound
 
 -- ---- the rows of records
 
 -- one more
-pub rows_more : (schema : Schema) (stamp : ℕ) (records : List (List ℕ)) (bytes : List ℕ) → rows_from schema stamp (records ++ bytes ∷ []) ≡ rows_from schema stamp records ++ new_row schema (stamp + length records) bytes ∷ []
+pub rows_more : (schema : Schema) (stamp : ℕ) (records : List (List ℕ)) (bytes : List ℕ) → rows_with_stamps schema stamp (records ++ bytes ∷ []) ≡ rows_with_stamps schema stamp records ++ new_row schema (stamp + length records) bytes ∷ []
 rows_more schema stamp [] bytes = ap (λ (n : ℕ). new_row schema n bytes ∷ []) (omega arith)
 rows_more schema stamp (first ∷ records) bytes =
     let on : stamp + 1 + length records ≡ stamp + suc (length records) = omega arith in
-    ap (λ (l : List Row). new_row schema stamp first ∷ l) (rows_more schema (stamp + 1) records bytes ∙ ap (λ (n : ℕ). rows_from schema (stamp + 1) records ++ new_row schema n bytes ∷ []) on)
+    ap (λ (l : List Row). new_row schema stamp first ∷ l) (rows_more schema (stamp + 1) records bytes ∙ ap (λ (n : ℕ). rows_with_stamps schema (stamp + 1) records ++ new_row schema n bytes ∷ []) on)
 
 -- each is one under the stamp behind all
 pub each_is_row : (schema : Schema) (stamp : ℕ) (records : List (List ℕ)) (next : ℕ) → IsSchema schema → 1 ≤ stamp → HaveLengths schema records → stamp + length records ≤ next
-    → Each (λ row. is_row schema next row ≡ true) (rows_from schema stamp records)
+    → Each (λ row. is_row schema next row ≡ true) (rows_with_stamps schema stamp records)
 each_is_row schema stamp [] next is some long within = tt
 each_is_row schema stamp (bytes ∷ records) next is some long within = (
   row_later schema (stamp + 1) next (new_row schema stamp bytes) (omega (arith, within)) (new_row_fits schema stamp bytes is.keys some long.0),

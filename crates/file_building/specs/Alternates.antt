@@ -20,10 +20,10 @@ use Rattle.tree_building.specs.IndexBuilding.{AltBuildsOn}
 use Rattle.open_file.specs.InOrder.{alt_entries}
 use Rattle.open_file.specs.Lent.{LendsToChange}
 use Rattle.file_building.specs.Written.{HaveLengths, rows_of}
-use Rattle.file_building.specs.Ranks.{RanksRise, RanksDiffer}
-use Rattle.file_building.specs.Rows.{RowsStandIn}
+use Rattle.file_building.specs.Ranks.{RanksRise, NoRankTwice}
+use Rattle.file_building.specs.Rows.{RowsStandBuilt}
 use Rattle.file_building.specs.Entries.{AreFronts}
-use Rattle.file_building.specs.Steps.{WhereHonest}
+use Rattle.file_building.specs.Steps.{WhereBuiltHonestly}
 
 -- the entries are as long as those of an index
 abbrev pub FitIndex : (width prime : ℕ) → List AltEntry → Type 0
@@ -39,13 +39,13 @@ pub record CanPushEntries {S : Type 0} (shown : ShownPages S) (builder : AltBuil
 -- a call that puts entries behind those before them
 pub record PushesEntries {S : Type 0} (shown : ShownPages S) (before after : S) (old new : AltBuilder)
     (entries : List AltEntry) (result : Result Unit Fault) : Type 0 where
-  pub pushed : WhereHonest shown before after ((start : PageMap) (done : List AltEntry)
+  pub pushed : WhereBuiltHonestly shown before after ((start : PageMap) (done : List AltEntry)
       → AltBuildsOn start (shown.state before).live old [] done
       → IsAnswer result (λ u. AltBuildsOn start (shown.state after).live new [] (done ++ entries)
       × IsTrue (shown.state after).is_sound))
 
 -- an index of this key, for values and prime values of these lengths
-pub record IsIndexOf (key width prime : ℕ) (index : AltIndex) : Type 0 where
+pub record IsIndexWith (key width prime : ℕ) (index : AltIndex) : Type 0 where
   pub key_is : alt_key index ≡ key
   pub width_is : index.width ≡ width
   pub prime_is : index.prime ≡ prime
@@ -53,37 +53,37 @@ pub record IsIndexOf (key width prime : ℕ) (index : AltIndex) : Type 0 where
 -- a call that builds an index from entries whose ranks rise
 pub record BuildsIndex {S : Type 0} (shown : ShownPages S) (before after : S) (entries : List AltEntry)
     (result : Result AltIndex Fault) : Type 0 where
-  pub built : WhereHonest shown before after (RanksRise entries → IsAnswer result (λ index.
+  pub built : WhereBuiltHonestly shown before after (RanksRise entries → IsAnswer result (λ index.
       AltChanged (shown.state before).live (shown.state after).live index [] entries
       × IsTrue (shown.state after).is_sound))
 
 -- an index for key k of the schema
-abbrev pub IsIndexFor : Schema → ℕ → AltIndex → Type 0
-IsIndexFor schema k index = IsIndexOf k (key_at schema k).length (key_at schema 0).length index
+abbrev pub IsIndexOfKey : Schema → ℕ → AltIndex → Type 0
+IsIndexOfKey schema k index = IsIndexWith k (key_at schema k).length (key_at schema 0).length index
 
 -- it stands for the entries of rows, no two of which have one rank; or two of them have
 abbrev pub EndsAlternate : Schema → ℕ → List Row → (before after : PageMap) → (is_sound : Type 0)
     → Option AltIndex → Type 0
-EndsAlternate schema k rows before after is_sound None = RanksDiffer schema k rows → ⊥
+EndsAlternate schema k rows before after is_sound None = NoRankTwice schema k rows → ⊥
 EndsAlternate schema k rows before after is_sound (Some index) =
-    AltChanged before after index [] (alt_entries schema k rows) × RanksDiffer schema k rows × is_sound
+    AltChanged before after index [] (alt_entries schema k rows) × NoRankTwice schema k rows × is_sound
 
 -- a call that builds the index of key k from the fronts of records
 pub record BuildsAlternate {S : Type 0} (shown : ShownPages S) (schema : Schema) (k : ℕ) (fronts : List ℕ)
     (before after : S) (result : Result (Option AltIndex) Fault) : Type 0 where
-  pub built : WhereHonest shown before after ((records : List (List ℕ)) → HaveLengths schema records
+  pub built : WhereBuiltHonestly shown before after ((records : List (List ℕ)) → HaveLengths schema records
       → AreFronts schema records fronts → IsAnswer result (EndsAlternate schema k (rows_of schema records)
       (shown.state before).live (shown.state after).live (IsTrue (shown.state after).is_sound)))
-  pub of : IfOk result (λ found. IfSome found (IsIndexFor schema k))
+  pub of : IfOk result (λ found. IfSome found (IsIndexOfKey schema k))
 
 -- no two rows have one rank by an alternate key
 abbrev pub AllRanksDiffer : Schema → List Row → Type 0
-AllRanksDiffer schema rows = (j : ℕ) → suc j < length schema.keys → RanksDiffer schema (suc j) rows
+AllRanksDiffer schema rows = (j : ℕ) → suc j < length schema.keys → NoRankTwice schema (suc j) rows
 
 -- index j is one for alternate key j + 1
 abbrev pub AreIndexesFor : Schema → List AltIndex → Type 0
 AreIndexesFor schema alternates = (j : ℕ) (index : AltIndex) → j < length alternates
-    → index ≡ slice_index_or alternates j index → IsIndexFor schema (j + 1) index
+    → index ≡ slice_index_or alternates j index → IsIndexOfKey schema (j + 1) index
 
 -- and there is one for each alternate key
 pub record AreAllIndexesFor (schema : Schema) (alternates : List AltIndex) : Type 0 where
@@ -95,14 +95,14 @@ abbrev pub EndsAlternates : Schema → List Row → Heap → PrimeIndex → (aft
     → Option (ArrayVec AltIndex) → Type 0
 EndsAlternates schema rows heap prime after is_sound None = AllRanksDiffer schema rows → ⊥
 EndsAlternates schema rows heap prime after is_sound (Some alternates) =
-    RowsStandIn schema heap prime alternates.items after rows × AllRanksDiffer schema rows × is_sound
+    RowsStandBuilt schema heap prime alternates.items after rows × AllRanksDiffer schema rows × is_sound
 
 -- a call that builds the index of each alternate key, beside the rows
 pub record BuildsAlternates {S : Type 0} (shown : ShownPages S) (schema : Schema) (fronts : List ℕ)
     (before after : S) (result : Result (Option (ArrayVec AltIndex)) Fault) : Type 0 where
-  pub built : WhereHonest shown before after ((records : List (List ℕ)) → HaveLengths schema records
+  pub built : WhereBuiltHonestly shown before after ((records : List (List ℕ)) → HaveLengths schema records
       → AreFronts schema records fronts → (heap : Heap) (prime : PrimeIndex)
-      → RowsStandIn schema heap prime [] (shown.state before).live (rows_of schema records)
+      → RowsStandBuilt schema heap prime [] (shown.state before).live (rows_of schema records)
       → IsAnswer result (EndsAlternates schema (rows_of schema records) heap prime
       (shown.state after).live (IsTrue (shown.state after).is_sound)))
   pub of : IfOk result (λ found. IfSome found (λ alternates. AreAllIndexesFor schema alternates.items))

@@ -13,11 +13,11 @@ use Rattle.file_building.specs.declared.file_builder.Pushed.{Pushed}
 use Rattle.file_building.specs.declared.file_builder.Pushed.TheVariants.{Done, OutOfOrder}
 use Rattle.file_building.specs.declared.file_builder.Built.{Built}
 use Rattle.file_building.specs.declared.file_builder.Built.TheVariants.{File as AFile, Clash}
-use Rattle.file_building.specs.Written.{with_added, AreAccepted, PrimesRise, HaveLengths, rows_of}
-use Rattle.file_building.specs.Rows.{HoldsRows}
+use Rattle.file_building.specs.Written.{with_all_added, AreAccepted, RecordsRise, HaveLengths, rows_of}
+use Rattle.file_building.specs.Rows.{HasRowsSoFar}
 use Rattle.file_building.specs.Entries.{AreFronts}
 use Rattle.file_building.specs.Opening.{IsOpenedWith}
-use Rattle.file_building.specs.Steps.{WhereHonest, KeepsBuilding}
+use Rattle.file_building.specs.Steps.{WhereBuiltHonestly, KeepsWhileBuilding}
 
 -- the schema that it is built for
 abbrev pub builder_schema : FileBuilder → Schema
@@ -32,9 +32,9 @@ last_prime schema (bytes ∷ other ∷ records) = last_prime schema (other ∷ r
 -- these records were put into it, in this order: their rows are in the heap and the prime index
 pub record IsBuildingFile (builder : FileBuilder) (pages : PageMap) (records : List (List ℕ)) : Type 0 where
   pub is_schema : IsSchema builder.schema
-  pub rising : PrimesRise builder.schema records
+  pub rising : RecordsRise builder.schema records
   pub lengths : HaveLengths builder.schema records
-  pub rows : HoldsRows builder.schema builder.rows pages (rows_of builder.schema records)
+  pub rows : HasRowsSoFar builder.schema builder.rows pages (rows_of builder.schema records)
   pub fronts : AreFronts builder.schema records builder.fronts.items
   pub last : builder.last.items ≡ last_prime builder.schema records
   pub count : builder.count ≡ length records
@@ -55,34 +55,34 @@ pub record CanPushRecord {S : Type 0} (shown : ShownPages S) (builder : FileBuil
 abbrev pub EndsPush : FileBuilder → List (List ℕ) → List ℕ → (after : PageMap) → Pushed → Type 0
 EndsPush new records bytes after Done = IsBuildingFile new after (records ++ bytes ∷ [])
 EndsPush new records bytes after OutOfOrder = IsBuildingFile new after records
-    × (PrimesRise new.schema (records ++ bytes ∷ []) → ⊥)
+    × (RecordsRise new.schema (records ++ bytes ∷ []) → ⊥)
 
 -- a call that puts a record behind the others
-pub record PushesRecord {S : Type 0} (shown : ShownPages S) (before after : S) (old new : FileBuilder)
+pub record TakesRecordBehind {S : Type 0} (shown : ShownPages S) (before after : S) (old new : FileBuilder)
     (bytes : List ℕ) (result : Result Pushed Fault) : Type 0 where
-  pub pushed : WhereHonest shown before after ((records : List (List ℕ))
+  pub pushed : WhereBuiltHonestly shown before after ((records : List (List ℕ))
       → IsBuildingFile old (shown.state before).live records
       → IsAnswer result (λ pushed. EndsPush new records bytes (shown.state after).live pushed
       × IsTrue (shown.state after).is_sound))
   pub schema_is : new.schema ≡ old.schema
-  pub keeps : KeepsBuilding shown before after result
+  pub keeps : KeepsWhileBuilding shown before after result
 
 -- a call that puts a record of a greater prime value behind the others
-pub record PutsRecord {S : Type 0} (shown : ShownPages S) (before after : S) (old new : FileBuilder)
+pub record TakesRisingRecord {S : Type 0} (shown : ShownPages S) (before after : S) (old new : FileBuilder)
     (bytes : List ℕ) (result : Result Unit Fault) : Type 0 where
-  pub put : WhereHonest shown before after ((records : List (List ℕ))
+  pub put : WhereBuiltHonestly shown before after ((records : List (List ℕ))
       → IsBuildingFile old (shown.state before).live records
-      → PrimesRise old.schema (records ++ bytes ∷ [])
+      → RecordsRise old.schema (records ++ bytes ∷ [])
       → IsAnswer result (λ done. IsBuildingFile new (shown.state after).live (records ++ bytes ∷ [])
       × IsTrue (shown.state after).is_sound))
   pub schema_is : new.schema ≡ old.schema
-  pub keeps : KeepsBuilding shown before after result
+  pub keeps : KeepsWhileBuilding shown before after result
 
 -- The records were all accepted, one after another, and the file that was built is the one that this
 -- makes of a file without rows; or one of them would not have been accepted.
 abbrev pub EndsBuilding : Schema → List (List ℕ) → (after : PageMap) → (is_sound : Type 0) → Built → Type 0
 EndsBuilding schema records after is_sound (AFile opened) = AreAccepted schema records empty_file
-    × Stands opened after (with_added schema records empty_file) × is_sound
+    × Stands opened after (with_all_added schema records empty_file) × is_sound
 EndsBuilding schema records after is_sound Clash = AreAccepted schema records empty_file → ⊥
 
 -- the file that was built is one of this schema
@@ -93,9 +93,9 @@ IsBuiltFor schema stamp Clash = ⊤
 -- A call that ends a file, where page 0, the header's, was not given out.
 pub record FinishesFile {S : Type 0} (shown : ShownPages S) (before after : S) (builder : FileBuilder)
     (result : Result Built Fault) : Type 0 where
-  pub finished : WhereHonest shown before after ((records : List (List ℕ))
+  pub finished : WhereBuiltHonestly shown before after ((records : List (List ℕ))
       → IsBuildingFile builder (shown.state before).live records → (shown.state after).live 0 ≡ None
       → IsAnswer result (EndsBuilding builder.schema records (shown.state after).live
       (IsTrue (shown.state after).is_sound)))
   pub made : IfOk result (IsBuiltFor builder.schema (builder.count + 1))
-  pub keeps : KeepsBuilding shown before after result
+  pub keeps : KeepsWhileBuilding shown before after result

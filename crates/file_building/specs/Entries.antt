@@ -7,26 +7,26 @@ use Rattle.key_index.specs.Stored.{entry_to}
 use Rattle.file_building.specs.declared.ranked.Ranked.{Ranked}
 
 -- the stamp that a new record has in key k, 0 in a unique one
-abbrev pub stamp_in : Schema → ℕ → ℕ → ℕ
-stamp_in schema k stamp = if has_duplicates (key_at schema k) then stamp else 0
+abbrev pub stamp_of_key : Schema → ℕ → ℕ → ℕ
+stamp_of_key schema k stamp = if has_duplicates (key_at schema k) then stamp else 0
 
 -- the entry that key k has of a new record
-abbrev pub entry_of : Schema → ℕ → ℕ → List ℕ → AltEntry
-entry_of schema k stamp bytes =
-    entry_to (value_of schema k bytes) (stamp_in schema k stamp) (prime_of schema bytes)
+abbrev pub entry_of_new : Schema → ℕ → ℕ → List ℕ → AltEntry
+entry_of_new schema k stamp bytes =
+    entry_to (value_of schema k bytes) (stamp_of_key schema k stamp) (prime_of schema bytes)
 
 -- the entry that is seen in its parts
 abbrev pub entry_in : Ranked → AltEntry
 entry_in ranked = entry_to ranked.value.now ranked.stamp ranked.prime.now
 
-abbrev pub entries_in : List Ranked → List AltEntry
-entries_in entries = map entry_in entries
+abbrev pub ranked_entries : List Ranked → List AltEntry
+ranked_entries entries = map entry_in entries
 
 -- the entries of records, of which the first takes this stamp
 abbrev pub entries_from : Schema → ℕ → ℕ → List (List ℕ) → List AltEntry
 entries_from schema k stamp [] = []
 entries_from schema k stamp (bytes ∷ records) =
-    entry_of schema k stamp bytes ∷ entries_from schema k (stamp + 1) records
+    entry_of_new schema k stamp bytes ∷ entries_from schema k (stamp + 1) records
 
 -- the front of each record, as many bytes as the shortest has: a value of each key is in it
 pub record AreFronts (schema : Schema) (records : List (List ℕ)) (fronts : List ℕ) : Type 0 where

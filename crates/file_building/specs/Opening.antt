@@ -19,7 +19,7 @@ use Rattle.open_file.specs.Stands.{Stands, IsShaped}
 use Rattle.open_file.specs.Stored.{stamps_length}
 use Rattle.open_file.specs.Fields.{file_schema, next_stamp_of, path_of, has_broken}
 use Rattle.open_file.specs.declared.open_file.OpenFile.{OpenFile}
-use Rattle.file_building.specs.Rows.{RowsStandIn}
+use Rattle.file_building.specs.Rows.{RowsStandBuilt}
 use Rattle.file_building.specs.Alternates.{AreAllIndexesFor}
 
 -- a slot has room for the stamps and the longest record
@@ -37,7 +37,7 @@ pub record IsOpenedWith (schema : Schema) (stamp : ℕ) (opened : OpenFile) : Ty
   pub no_path : path_of opened ≡ None
 
 -- each page in use has a number that a header can tell, and is not the header's
-pub record AreBehindHeader (pages : PageMap) : Type 0 where
+pub record StandBehindHeader (pages : PageMap) : Type 0 where
   pub within : (n : ℕ) → IsSome (pages n) → n + 1 < 2 ^ 32
   pub no_header : pages 0 ≡ None
 
@@ -49,18 +49,18 @@ pub record ArePartsFor (schema : Schema) (heap : Heap) (prime : PrimeIndex)
   pub indexes : AreAllIndexesFor schema alternates
 
 -- a call that opens the file of parts: where they stand for the rows of a file, it stands for that file
-pub record OpensParts (schema : Schema) (stamp : ℕ) (heap : Heap) (prime : PrimeIndex)
+pub record OpensBuilt (schema : Schema) (stamp : ℕ) (heap : Heap) (prime : PrimeIndex)
     (alternates : List AltIndex) (result : Result OpenFile Fault) : Type 0 where
   pub stands : (pages : PageMap) (rows : List Row)
       → IsTrue (is_file schema (record { rows = rows; next_stamp = stamp })) → stamp ≤ 2 ^ 63
-      → RowsStandIn schema heap prime alternates pages rows
-      → ArePartsFor schema heap prime alternates → AreBehindHeader pages
+      → RowsStandBuilt schema heap prime alternates pages rows
+      → ArePartsFor schema heap prime alternates → StandBehindHeader pages
       → IsAnswer result (λ opened. Stands opened pages (record { rows = rows; next_stamp = stamp }))
   pub made : IfOk result (IsOpenedWith schema stamp)
   pub damage : IfErr result (λ fault. fault ≡ Damage)
 
 -- the header tells of these parts, of the schema and of the next stamp
-pub record IsHeaderFor (schema : Schema) (stamp : ℕ) (heap : Heap) (prime : PrimeIndex)
+pub record IsHeaderOfParts (schema : Schema) (stamp : ℕ) (heap : Heap) (prime : PrimeIndex)
     (alternates : List AltIndex) (header : Header) : Type 0 where
   pub schema_is : header.schema ≡ schema
   pub stamp_is : header.next_stamp ≡ stamp

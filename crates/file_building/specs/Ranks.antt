@@ -13,16 +13,16 @@ abbrev pub is_lower : AltEntry → AltEntry → Bool
 is_lower a b = is_lt (rank_cmp a.value.items a.stamp b.value.items b.stamp)
 
 -- each comes before all behind it
-abbrev pub Rises : {X : Type 0} → (X → X → Bool) → List X → Type 0
-Rises lt [] = ⊤
-Rises lt (x ∷ xs) = Each (λ y. lt x y ≡ true) xs × Rises lt xs
+abbrev pub RisesBy : {X : Type 0} → (X → X → Bool) → List X → Type 0
+RisesBy lt [] = ⊤
+RisesBy lt (x ∷ xs) = Each (λ y. lt x y ≡ true) xs × RisesBy lt xs
 
 -- each entry is of a lower rank than all behind it
 abbrev pub RanksRise : List AltEntry → Type 0
-RanksRise entries = Rises is_lower entries
+RanksRise entries = RisesBy is_lower entries
 
 -- no two rows have one rank by key k
-abbrev pub RanksDiffer : Schema → ℕ → List Row → Type 0
-RanksDiffer schema k [] = ⊤
-RanksDiffer schema k (row ∷ rows) = Each (λ other. IsTrue (is_lt (row_cmp schema k row other))
-    ⊎ IsTrue (is_lt (row_cmp schema k other row))) rows × RanksDiffer schema k rows
+abbrev pub NoRankTwice : Schema → ℕ → List Row → Type 0
+NoRankTwice schema k [] = ⊤
+NoRankTwice schema k (row ∷ rows) = Each (λ other. IsTrue (is_lt (row_cmp schema k row other))
+    ⊎ IsTrue (is_lt (row_cmp schema k other row))) rows × NoRankTwice schema k rows

@@ -28,16 +28,16 @@ use Rattle.file_building.specs.declared.rows_builder.RowsBuilder.{RowsBuilder}
 use Rattle.file_building.specs.declared.rows_builder.RowParts.{RowParts}
 
 -- the shape of the heap's slots
-abbrev pub builder_slots : RowsBuilder → Shape
-builder_slots builder = built_shape builder.heap
+abbrev pub slots_built : RowsBuilder → Shape
+slots_built builder = built_shape builder.heap
 
 -- the length of a value of the prime key
-abbrev pub builder_width : RowsBuilder → ℕ
-builder_width builder = builder.prime.width
+abbrev pub width_built : RowsBuilder → ℕ
+width_built builder = builder.prime.width
 
 -- these rows are in the heap, at places to which the entries of the prime index lead; each page in
 -- use is one of the heap's or one of the index's, and none is both
-pub record HoldsRows (schema : Schema) (builder : RowsBuilder) (pages : PageMap)
+pub record HasRowsSoFar (schema : Schema) (builder : RowsBuilder) (pages : PageMap)
     (rows : List Row) : Type 0 where
   pub places : List Place
   pub slots : Slots
@@ -49,39 +49,39 @@ pub record HoldsRows (schema : Schema) (builder : RowsBuilder) (pages : PageMap)
   pub parted : Parted pages (heap_own ∷ prime_own ∷ [])
 
 -- it has no rows and no pages, and stands so in pages of which none is in use
-pub record IsRowsBuilderOf (shape : Shape) (width : ℕ) (builder : RowsBuilder) : Type 0 where
-  pub slots_are : builder_slots builder ≡ shape
-  pub width_is : builder_width builder ≡ width
+pub record IsNewRowsBuilder (shape : Shape) (width : ℕ) (builder : RowsBuilder) : Type 0 where
+  pub slots_are : slots_built builder ≡ shape
+  pub width_is : width_built builder ≡ width
   pub begun : (schema : Schema) (pages : PageMap) → ((n : ℕ) → pages n ≡ None)
-      → HoldsRows schema builder pages []
+      → HasRowsSoFar schema builder pages []
 
 -- pages may be changed, the value is as long as those of the index, and a slot takes these stamps
 -- and this record
-pub record CanPushRow {S : Type 0} (shown : ShownPages S) (builder : RowsBuilder)
+pub record CanPutRowBehind {S : Type 0} (shown : ShownPages S) (builder : RowsBuilder)
     (of before behind : List ℕ) (pages : S) : Type 0 where
   pub ready : shown.IsReady pages
   pub «open» : shown.CanChange pages
-  pub long : length of ≡ builder_width builder
-  pub fits : FitsSlot (builder_slots builder) before behind
+  pub long : length of ≡ width_built builder
+  pub fits : FitsSlot (slots_built builder) before behind
 
 -- the builder is for slots and values as before
-pub record KeepsShapes (old new : RowsBuilder) : Type 0 where
-  pub slots_are : builder_slots new ≡ builder_slots old
-  pub width_is : builder_width new ≡ builder_width old
+pub record KeepsRowShapes (old new : RowsBuilder) : Type 0 where
+  pub slots_are : slots_built new ≡ slots_built old
+  pub width_is : width_built new ≡ width_built old
 
 -- a call that puts a row behind the others, by its value, its stamps and its record
-pub record PushesRow {S : Type 0} (shown : ShownPages S) (before after : S) (old new : RowsBuilder)
+pub record TakesRowBehind {S : Type 0} (shown : ShownPages S) (before after : S) (old new : RowsBuilder)
     (of stamps bytes : List ℕ) (result : Result Unit Fault) : Type 0 where
   pub pushed : IsTrue (shown.state after).is_honest → IsTrue (shown.state before).is_sound
       → (schema : Schema) (rows : List Row) (row : Row)
-      → HoldsRows schema old (shown.state before).live rows
+      → HasRowsSoFar schema old (shown.state before).live rows
       → prime_of schema row.bytes ≡ of → stored schema row ≡ stamps ++ bytes
-      → IsAnswer result (λ done. HoldsRows schema new (shown.state after).live (rows ++ row ∷ [])
+      → IsAnswer result (λ done. HasRowsSoFar schema new (shown.state after).live (rows ++ row ∷ [])
       × IsTrue (shown.state after).is_sound)
-  pub same : KeepsShapes old new
+  pub same : KeepsRowShapes old new
 
 -- a heap, a prime index and the indexes of the first alternate keys stand for these rows
-pub record RowsStandIn (schema : Schema) (heap : Heap) (prime : PrimeIndex) (alternates : List AltIndex)
+pub record RowsStandBuilt (schema : Schema) (heap : Heap) (prime : PrimeIndex) (alternates : List AltIndex)
     (pages : PageMap) (rows : List Row) : Type 0 where
   pub places : List Place
   pub slots : Slots
@@ -96,11 +96,11 @@ RowsRise schema (row ∷ rows) = Each (λ other. is_lt (value_cmp (prime_of sche
     (prime_of schema other.bytes)) ≡ true) rows × RowsRise schema rows
 
 -- a call that ends the heap and the index: they stand for rows whose prime values rise
-pub record FinishesRows {S : Type 0} (shown : ShownPages S) (before after : S) (old : RowsBuilder)
+pub record EndsRowsBuilt {S : Type 0} (shown : ShownPages S) (before after : S) (old : RowsBuilder)
     (result : Result RowParts Fault) : Type 0 where
   pub finished : IsTrue (shown.state after).is_honest → IsTrue (shown.state before).is_sound
       → (schema : Schema) (rows : List Row) → RowsRise schema rows
-      → HoldsRows schema old (shown.state before).live rows
+      → HasRowsSoFar schema old (shown.state before).live rows
       → IsAnswer result (λ parts.
-      RowsStandIn schema parts.heap parts.prime [] (shown.state after).live rows
-      × (slot_shape parts.heap ≡ builder_slots old) × IsTrue (shown.state after).is_sound)
+      RowsStandBuilt schema parts.heap parts.prime [] (shown.state after).live rows
+      × (slot_shape parts.heap ≡ slots_built old) × IsTrue (shown.state after).is_sound)

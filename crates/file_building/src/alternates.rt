@@ -4,9 +4,9 @@ ghost use Rattle.std.specs.Prelude.{◌≡◌, ◌<◌, ◌≤◌, length, IfOk,
 ghost use Rattle.record_layout.specs.Schema.{IsSchema};
 ghost use Rattle.tree_building.specs.IndexBuilding.{CanBuildAlt, KeepsAlt};
 ghost use Rattle.open_file.specs.Lent.{LendsToChange};
-ghost use Rattle.file_building.specs.Steps.{KeepsBuilding};
-ghost use Rattle.file_building.specs.Entries.{entries_in};
-ghost use Rattle.file_building.specs.Alternates.{CanPushEntries, PushesEntries, FitIndex, BuildsIndex, IsIndexOf};
+ghost use Rattle.file_building.specs.Steps.{KeepsWhileBuilding};
+ghost use Rattle.file_building.specs.Entries.{ranked_entries};
+ghost use Rattle.file_building.specs.Alternates.{CanPushEntries, PushesEntries, FitIndex, BuildsIndex, IsIndexWith};
 ghost use Rattle.file_building.specs.Alternates.{BuildsAlternate, BuildsAlternates};
 
 use crate::entries::{entries_of, rise};
@@ -32,7 +32,7 @@ pub fn build_alternates<P: Pages>(
     requires target { LendsToChange P.shown pages.old }
     ensures schema { IsSchema schema.now }
     ensures builds { BuildsAlternates P.shown schema.now fronts.now pages.old pages.new result }
-    ensures keeps { KeepsBuilding P.shown pages.old pages.new result }
+    ensures keeps { KeepsWhileBuilding P.shown pages.old pages.new result }
 {
     let keys = schema.key_count();
     let mut alternates = ArrayVec::new();
@@ -58,7 +58,7 @@ fn build_alternate<P: Pages>(
     requires some { 1 ≤ k }
     requires key { k < length schema.now.keys }
     ensures builds { BuildsAlternate P.shown schema.now k fronts.now pages.old pages.new result }
-    ensures keeps { KeepsBuilding P.shown pages.old pages.new result }
+    ensures keeps { KeepsWhileBuilding P.shown pages.old pages.new result }
 {
     let mut entries = entries_of(alloc, schema, k, fronts)?;
     entries.sort_unstable();
@@ -82,10 +82,10 @@ fn build_index<P: Pages>(
 ) -> Result<AltIndex, Fault>
     requires target { LendsToChange P.shown pages.old }
     requires can { CanBuildAlt width prime }
-    requires fit { FitIndex width prime (entries_in entries.now) }
-    ensures builds { BuildsIndex P.shown pages.old pages.new (entries_in entries.now) result }
-    ensures of { IfOk result (IsIndexOf key width prime) }
-    ensures keeps { KeepsBuilding P.shown pages.old pages.new result }
+    requires fit { FitIndex width prime (ranked_entries entries.now) }
+    ensures builds { BuildsIndex P.shown pages.old pages.new (ranked_entries entries.now) result }
+    ensures of { IfOk result (IsIndexWith key width prime) }
+    ensures keeps { KeepsWhileBuilding P.shown pages.old pages.new result }
 {
     let mut builder = AltBuilder::new(alloc, key, width, prime);
     push_all(pages, &mut builder, entries)?;
@@ -98,11 +98,11 @@ fn push_all<P: Pages>(
     builder: &mut AltBuilder,
     entries: &[Ranked<'_>],
 ) -> Result<(), Fault>
-    requires { CanPushEntries P.shown builder.old (entries_in entries.now) pages.old }
+    requires { CanPushEntries P.shown builder.old (ranked_entries entries.now) pages.old }
     ensures pushes { PushesEntries P.shown pages.old pages.new builder.old builder.new
-        (entries_in entries.now) result }
+        (ranked_entries entries.now) result }
     ensures same { KeepsAlt builder.old builder.new }
-    ensures keeps { KeepsBuilding P.shown pages.old pages.new result }
+    ensures keeps { KeepsWhileBuilding P.shown pages.old pages.new result }
 {
     let mut entry = AltEntry::blank();
     for ranked in entries {

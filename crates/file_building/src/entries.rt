@@ -2,7 +2,7 @@
 
 ghost use Rattle.std.specs.Prelude.{◌≡◌, ◌<◌, ◌↔◌, ◌/◌, length, IfOk, IsOkUnless, IsTrue};
 ghost use Rattle.pages.specs.Chunks.{chunks};
-ghost use Rattle.file_building.specs.Entries.{entries_in, entries_from};
+ghost use Rattle.file_building.specs.Entries.{ranked_entries, entries_from};
 ghost use Rattle.file_building.specs.Ranks.{RanksRise};
 
 use crate::ranked::{Ranked, entry_of_record, is_lower};
@@ -18,7 +18,7 @@ pub fn entries_of<'a>(
     fronts: &'a [u8],
 ) -> Result<Vec<Ranked<'a>>, Fault>
     requires { k < length schema.now.keys }
-    ensures entries { IfOk result (λ entries. entries_in entries.items ≡ entries_from schema.now k 1
+    ensures entries { IfOk result (λ entries. ranked_entries entries.items ≡ entries_from schema.now k 1
         (chunks schema.now.least (length fronts.now / schema.now.least) fronts.now)) }
     ensures only_memory { IsOkUnless result Fault.Memory }
 {
@@ -37,7 +37,7 @@ pub fn entries_of<'a>(
 
 /// Each entry is of a lower rank than the next, and so than all behind it.
 pub fn rise(entries: &[Ranked<'_>]) -> bool
-    ensures { IsTrue result ↔ RanksRise (entries_in entries.now) }
+    ensures { IsTrue result ↔ RanksRise (ranked_entries entries.now) }
 {
     for i in 1..entries.len() {
         if !is_lower(&entries[i - 1], &entries[i]) {

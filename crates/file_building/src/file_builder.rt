@@ -2,7 +2,7 @@
 
 ghost use Rattle.std.specs.Prelude.{◌≡◌, ◌<◌, ◌^◌};
 ghost use Rattle.record_layout.specs.Schema.{key_at};
-ghost use Rattle.file_building.specs.Rows.{builder_slots, builder_width};
+ghost use Rattle.file_building.specs.Rows.{slots_built, width_built};
 ghost use Rattle.file_building.specs.Opening.{IsShapeFor};
 
 use crate::alternates::build_alternates;
@@ -49,14 +49,14 @@ pub struct FileBuilder {
     // The prime value of the last record.
     pub(crate) last: Key,
     pub(crate) count: u64,
-    ghost slots: { IsShapeFor schema (builder_slots rows) },
-    ghost width: { builder_width rows ≡ (key_at schema 0).length },
+    ghost slots: { IsShapeFor schema (slots_built rows) },
+    ghost width: { width_built rows ≡ (key_at schema 0).length },
     ghost few: { count < 2 ^ 63 },
 }
 
 impl FileBuilder {
     ghost use Rattle.bplus_tree.specs.Changes.{CanWrite};
-    ghost use Rattle.file_building.specs.Building.{IsNewBuilder, CanPushRecord, PushesRecord, PutsRecord};
+    ghost use Rattle.file_building.specs.Building.{IsNewBuilder, CanPushRecord, TakesRecordBehind, TakesRisingRecord};
     ghost use Rattle.file_building.specs.Building.{FinishesFile, builder_schema};
 
     /// A file without records, of which no page is taken yet.
@@ -86,7 +86,7 @@ impl FileBuilder {
     /// Device; Full where no page is left; Memory, also where there are 2^63 - 1 records.
     pub fn push<P: Pages>(&mut self, pages: &mut P, record: &[u8]) -> Result<Pushed, Fault>
         requires { CanPushRecord P.shown self.old «record».now pages.old }
-        ensures { PushesRecord P.shown pages.old pages.new self.old self.new «record».now result }
+        ensures { TakesRecordBehind P.shown pages.old pages.new self.old self.new «record».now result }
     {
         let value = self.schema.value(record, 0);
         if !self.last.as_slice().cmp(value).is_lt() {
@@ -125,7 +125,7 @@ impl FileBuilder {
     /// Puts a record behind all others, whose prime value comes after theirs.
     fn put<P: Pages>(&mut self, pages: &mut P, record: &[u8]) -> Result<(), Fault>
         requires { CanPushRecord P.shown self.old «record».now pages.old }
-        ensures { PutsRecord P.shown pages.old pages.new self.old self.new «record».now result }
+        ensures { TakesRisingRecord P.shown pages.old pages.new self.old self.new «record».now result }
     {
         let stamp = self.count + 1;
         if stamp >= TOO_MANY {

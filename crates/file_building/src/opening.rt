@@ -4,7 +4,7 @@ ghost use Rattle.std.specs.Prelude.{◌≡◌, ◌+◌, ◌↔◌, IsTrue, All, 
 ghost use Rattle.record_layout.specs.Schema.{IsSchema};
 ghost use Rattle.file_header.specs.Bounds.{AreTreeNumbers, AreLinksWithin};
 ghost use Rattle.open_file.specs.Headers.{AreTrees};
-ghost use Rattle.file_building.specs.Opening.{OpensParts, IsHeaderFor};
+ghost use Rattle.file_building.specs.Opening.{OpensBuilt, IsHeaderOfParts};
 
 use arrayvec::ArrayVec;
 use file_header::{Header, TreeNumbers};
@@ -28,7 +28,7 @@ pub fn open_parts(
     alternates: &ArrayVec<AltIndex, 8>,
 ) -> Result<OpenFile, Fault>
     requires many { length schema.now.keys ≡ length alternates.now.items + 1 }
-    ensures { OpensParts schema.now next_stamp heap.now prime.now alternates.now.items result }
+    ensures { OpensBuilt schema.now next_stamp heap.now prime.now alternates.now.items result }
 {
     let header = header_of(schema, next_stamp, heap, prime, alternates);
     if are_links(&header) {
@@ -46,7 +46,7 @@ fn header_of(
     prime: &PrimeIndex,
     alternates: &ArrayVec<AltIndex, 8>,
 ) -> Header
-    ensures { IsHeaderFor schema.now next_stamp heap.now prime.now alternates.now.items result }
+    ensures { IsHeaderOfParts schema.now next_stamp heap.now prime.now alternates.now.items result }
 {
     let free_slot = heap.first_free();
     Header {

@@ -2,7 +2,7 @@
 
 ghost use Rattle.std.specs.Prelude.{◌≡◌, ◌<◌, ◌≤◌, length};
 ghost use Rattle.std.specs.Ordering.{is_lt};
-ghost use Rattle.file_building.specs.Entries.{entry_in, entry_of, stamp_in};
+ghost use Rattle.file_building.specs.Entries.{entry_in, entry_of_new, stamp_of_key};
 ghost use Rattle.file_building.specs.Ranks.{is_lower};
 
 use record_layout::Schema;
@@ -19,7 +19,7 @@ pub struct Ranked<'a> {
 pub fn entry_of_record<'a>(schema: &Schema, k: u8, record: &'a [u8], stamp: u64) -> Ranked<'a>
     requires key { k < length schema.now.keys }
     requires whole { schema.now.least ≤ length «record».now }
-    ensures { entry_in result ≡ entry_of schema.now k stamp «record».now }
+    ensures { entry_in result ≡ entry_of_new schema.now k stamp «record».now }
 {
     let value = schema.value(record, k);
     let stamp = stamp_by(schema, k, stamp);
@@ -33,7 +33,7 @@ pub fn entry_of_record<'a>(schema: &Schema, k: u8, record: &'a [u8], stamp: u64)
 /// The stamp that a new record has in key `k`.
 fn stamp_by(schema: &Schema, k: u8, stamp: u64) -> u64
     requires { k < length schema.now.keys }
-    ensures { result ≡ stamp_in schema.now k stamp }
+    ensures { result ≡ stamp_of_key schema.now k stamp }
 {
     if schema.part(k).has_duplicates() {
         stamp

@@ -3,9 +3,9 @@
 ghost use Rattle.std.specs.Prelude.{◌≡◌, IfOk};
 ghost use Rattle.bplus_tree.specs.Changes.{CanWrite};
 ghost use Rattle.key_index.specs.Stored.{IsWidth};
-ghost use Rattle.file_building.specs.Steps.{KeepsBuilding};
-ghost use Rattle.file_building.specs.Rows.{IsRowsBuilderOf, CanPushRow, PushesRow, FinishesRows};
-ghost use Rattle.file_building.specs.Rows.{builder_width};
+ghost use Rattle.file_building.specs.Steps.{KeepsWhileBuilding};
+ghost use Rattle.file_building.specs.Rows.{IsNewRowsBuilder, CanPutRowBehind, TakesRowBehind, EndsRowsBuilt};
+ghost use Rattle.file_building.specs.Rows.{width_built};
 
 use io_state::Fault;
 use key_index::PrimeIndex;
@@ -32,7 +32,7 @@ impl RowsBuilder {
     /// No rows yet, and no page.
     pub fn new(alloc: Global, shape: Shape, width: u16) -> RowsBuilder
         requires { IsWidth width }
-        ensures { IsRowsBuilderOf shape width result }
+        ensures { IsNewRowsBuilder shape width result }
     {
         RowsBuilder {
             heap: HeapBuilder::new(shape),
@@ -51,10 +51,10 @@ impl RowsBuilder {
         stamps: &[u8],
         bytes: &[u8],
     ) -> Result<(), Fault>
-        requires { CanPushRow P.shown self.old value.now stamps.now bytes.now pages.old }
-        ensures pushes { PushesRow P.shown pages.old pages.new self.old self.new value.now
+        requires { CanPutRowBehind P.shown self.old value.now stamps.now bytes.now pages.old }
+        ensures pushes { TakesRowBehind P.shown pages.old pages.new self.old self.new value.now
             stamps.now bytes.now result }
-        ensures keeps { KeepsBuilding P.shown pages.old pages.new result }
+        ensures keeps { KeepsWhileBuilding P.shown pages.old pages.new result }
     {
         let place = self.heap.push(pages, stamps, bytes)?;
         self.prime.push(pages, value, place)
@@ -65,9 +65,9 @@ impl RowsBuilder {
     /// Device; Full where no page is left; Memory. A fault may leave pages taken.
     pub fn finish<P: Pages>(self, alloc: Global, pages: &mut P) -> Result<RowParts, Fault>
         requires { CanWrite P.shown pages.old }
-        ensures finishes { FinishesRows P.shown pages.old pages.new self result }
-        ensures width { IfOk result (λ parts. parts.prime.width ≡ builder_width self) }
-        ensures keeps { KeepsBuilding P.shown pages.old pages.new result }
+        ensures finishes { EndsRowsBuilt P.shown pages.old pages.new self result }
+        ensures width { IfOk result (λ parts. parts.prime.width ≡ width_built self) }
+        ensures keeps { KeepsWhileBuilding P.shown pages.old pages.new result }
     {
         let RowsBuilder { heap, prime } = self;
         let heap = heap.finish(pages)?;

@@ -54,10 +54,10 @@ pub fn put_byte(rt: &impl Abort, pages: &mut [[u8; 4096]], n: usize, at: usize, 
 impl Pages for MemoryPages {
     ghost use Rattle.std.specs.Prelude.{◌≡◌, ⊤, refl};
     ghost use Rattle.std.proofs.Common.{◌∙◌, le_refl};
-    ghost use Rattle.test_file_building.specs.MemoryPages.{unclaimed};
+    ghost use Rattle.test_file_building.specs.MemoryPages.{nothing_claimed};
 
     ghost shown = { record {
-      state = λ p. unclaimed p.left;
+      state = λ p. nothing_claimed p.left;
       IsReady = λ p. ⊤;
       CanChange = λ p. ⊤;
       Reads = λ a b. b.left ≡ a.left;

@@ -7,9 +7,9 @@ use Rattle.open_file.specs.InOrder.{alt_entries}
 use Rattle.open_file.proofs.OrderLemmas.{either}
 use Rattle.open_file.proofs.PartsLemmas.{from_eq, from_ne}
 use Rattle.file_building.specs.Written.{rows_of}
-use Rattle.file_building.specs.Ranks.{RanksDiffer}
-use Rattle.file_building.specs.Rows.{RowsStandIn}
-use Rattle.file_building.specs.Alternates.{EndsAlternate, IsIndexFor, AreIndexesFor}
+use Rattle.file_building.specs.Ranks.{NoRankTwice}
+use Rattle.file_building.specs.Rows.{RowsStandBuilt}
+use Rattle.file_building.specs.Alternates.{EndsAlternate, IsIndexOfKey, AreIndexesFor}
 use Rattle.file_building.proofs.StepLemmas.{StepLaws, cause_since, handed_on, no_answer}
 use Rattle.file_building.proofs.AlternateLemmas.{index_more, index_for_more}
 use Rattle.file_building.proofs.alternates.build_alternates.Goals as goal
@@ -56,7 +56,7 @@ returns-in-None-clause-builds g c =
           let one = (c.in_ok-index.ensures.builds.built honest had.2 records long f).answer in
           let none = subst (EndsAlternate schema k rows (g.P.Pages.shown.state mid).live (g.P.Pages.shown.state late).live (IsTrue (g.P.Pages.shown.state late).is_sound)) c.in-None.is one in
           record {
-            answer = λ all. none (subst (λ (n : ℕ). RanksDiffer schema n rows) same (all (k - 1) (omega (arith, same, c.loop-k-test.true, c.key_count-keys.ensures.count))));
+            answer = λ all. none (subst (λ (n : ℕ). NoRankTwice schema n rows) same (all (k - 1) (omega (arith, same, c.loop-k-test.true, c.key_count-keys.ensures.count))));
             no_damage = tt;
           };
       of = tt;
@@ -74,8 +74,8 @@ loop-k-preserved g c =
     let index = c.in-Some.index in
     let xs = c.loop-k.alternates.items in
     let items = c.push.ensures.items in
-    let of : IsIndexFor schema k index = subst (λ (found : Option AltIndex). IfSome found (IsIndexFor schema k)) c.in-Some.is c.in_ok-index.ensures.builds.of in
-    let of_next : IsIndexFor schema (length xs + 1) index = subst (λ (n : ℕ). IsIndexFor schema n index) (sym inv.many) of in
+    let of : IsIndexOfKey schema k index = subst (λ (found : Option AltIndex). IfSome found (IsIndexOfKey schema k)) c.in-Some.is c.in_ok-index.ensures.builds.of in
+    let of_next : IsIndexOfKey schema (length xs + 1) index = subst (λ (n : ℕ). IsIndexOfKey schema n index) (sym inv.many) of in
     record {
       writes = g.met.P.Pages.writes_on start mid late inv.writes keeps.step;
       each = subst (AreIndexesFor schema) (sym items) (index_for_more schema xs index inv.each of_next);
@@ -89,9 +89,9 @@ loop-k-preserved g c =
           let made = subst (EndsAlternate schema k rows (g.P.Pages.shown.state mid).live (g.P.Pages.shown.state late).live (IsTrue (g.P.Pages.shown.state late).is_sound)) c.in-Some.is one in
           let changed = subst (λ (n : ℕ). AltChanged (g.P.Pages.shown.state mid).live (g.P.Pages.shown.state late).live index [] (alt_entries schema n rows)) (sym inv.many) made.0 in
           let stands = index_more schema heap prime xs (g.P.Pages.shown.state mid).live (g.P.Pages.shown.state late).live rows index had.0 changed in (
-            subst (λ (l : List AltIndex). RowsStandIn schema heap prime l (g.P.Pages.shown.state late).live rows) (sym items) stands,
-            λ j within. either (suc j == k) (RanksDiffer schema (suc j) rows)
-                (λ yes. subst (λ (n : ℕ). RanksDiffer schema n rows) (sym (from_eq (suc j) k yes)) made.1)
+            subst (λ (l : List AltIndex). RowsStandBuilt schema heap prime l (g.P.Pages.shown.state late).live rows) (sym items) stands,
+            λ j within. either (suc j == k) (NoRankTwice schema (suc j) rows)
+                (λ yes. subst (λ (n : ℕ). NoRankTwice schema n rows) (sym (from_eq (suc j) k yes)) made.1)
                 (λ no. let other = from_ne (suc j) k no in had.1 j (omega (arith, within, other))),
             made.2,
           );

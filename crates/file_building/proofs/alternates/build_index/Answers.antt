@@ -1,7 +1,7 @@
 use Rattle.std.proofs.Common.{[]}
 use Rattle.tree_search.proofs.AnswerLemmas.{fails}
 use Rattle.tree_search.proofs.SearchLemmas.{if_ok}
-use Rattle.file_building.specs.Entries.{entries_in}
+use Rattle.file_building.specs.Entries.{ranked_entries}
 use Rattle.file_building.proofs.StepLemmas.{StepLaws, index_cause, cause_since, if_err}
 use Rattle.file_building.proofs.RankLemmas.{bytes_rise}
 use Rattle.file_building.proofs.BuiltLemmas.{begun, ended_since}
@@ -26,7 +26,7 @@ returns-clause-builds g c =
     let start = (g.P.Pages.shown.state c.args.pages.now).live in
     let mid = (g.P.Pages.shown.state c.push_all.new.pages).live in
     let late = (g.P.Pages.shown.state c.finish.new.pages).live in
-    let entries = entries_in c.args.entries.now in
+    let entries = ranked_entries c.args.entries.now in
     let builder = c.push_all.new.builder in
     record {
       built = λ honest sound rise.

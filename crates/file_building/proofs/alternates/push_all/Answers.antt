@@ -2,7 +2,7 @@ use Rattle.std.proofs.Common.{◌≡◌, ◌+◌, ◌≤◌, List, [], ◌∷◌
 use Rattle.tree_search.proofs.AnswerLemmas.{fails}
 use Rattle.key_index.specs.declared.entry.AltEntry.{AltEntry}
 use Rattle.tree_building.specs.IndexBuilding.{AltBuildsOn}
-use Rattle.file_building.specs.Entries.{entries_in}
+use Rattle.file_building.specs.Entries.{ranked_entries}
 use Rattle.file_building.proofs.StepLemmas.{StepLaws, index_cause, cause_since, handed_on}
 use Rattle.file_building.proofs.EntryLemmas.{blank, fit_at, next_entry, all_entries}
 use Rattle.file_building.proofs.BuiltLemmas.{built_since}
@@ -35,7 +35,7 @@ push-requires g c =
 pub returns-in_err-push-clause-pushes : goal.returns-in_err-push-clause-pushes
 returns-in_err-push-clause-pushes g c =
     let inv = c.loop-ranked.invariant in
-    let entries = entries_in c.args.entries.now in
+    let entries = ranked_entries c.args.entries.now in
     record {
       pushed = λ honest sound start done on.
           let hb = g.met.P.Pages.writes_honestly c.loop-ranked.pages c.push.new.pages c.push.ensures.takes.step honest in
@@ -59,7 +59,7 @@ returns-in_err-push-clause-keeps g c =
 pub loop-ranked-preserved : goal.loop-ranked-preserved
 loop-ranked-preserved g c =
     let inv = c.loop-ranked.invariant in
-    let entries = entries_in c.args.entries.now in
+    let entries = ranked_entries c.args.entries.now in
     let i = c.loop-ranked.ranked-index in
     let start = c.args.pages.now in
     let mid = c.loop-ranked.pages in

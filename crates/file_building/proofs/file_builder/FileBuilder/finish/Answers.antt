@@ -11,7 +11,7 @@ use Rattle.open_file.specs.Stands.{Stands}
 use Rattle.file_building.specs.Written.{rows_of}
 use Rattle.file_building.specs.Entries.{AreFronts}
 use Rattle.file_building.specs.Alternates.{EndsAlternates, AreAllIndexesFor}
-use Rattle.file_building.specs.Opening.{IsShapeFor, AreBehindHeader, ArePartsFor}
+use Rattle.file_building.specs.Opening.{IsShapeFor, StandBehindHeader, ArePartsFor}
 use Rattle.file_building.proofs.StepLemmas.{StepLaws, cause_since, handed_on, no_answer, damage_cause}
 use Rattle.file_building.proofs.WrittenLemmas.{file_of, accepted_is_file, file_was_accepted, each_is_row}
 use Rattle.file_building.proofs.FileLemmas.{rows_sound}
@@ -114,7 +114,7 @@ returns-in_err-opened g c =
           let all : are_rows schema next rows ≡ true = rows_sound schema next rows (each_is_row schema 1 records next h.is_schema (omega arith) h.lengths (omega (arith, number))) (rows_rise_of schema 1 records h.rising) stand.1 in
           let is : is_file schema (record { rows = rows; next_stamp = next }) ≡ true = and_from (nat_le 1 next) (are_rows schema next rows) (le-leb 1 next (omega arith)) all in
           let for : ArePartsFor schema heap prime alternates.items = record { slots_are = subst (IsShapeFor schema) (sym made.1) c.args.self.slots; width_is = c.in_ok-rows.ensures.width ∙ c.args.self.width; indexes = of } in
-          let behind : AreBehindHeader live = record { within = λ n some. let low = c.count-pages.ensures.low n some in let top = c.count-pages.type_inv in omega (arith, low, top); no_header = free } in
+          let behind : StandBehindHeader live = record { within = λ n some. let low = c.count-pages.ensures.low n some in let top = c.count-pages.type_inv in omega (arith, low, top); no_header = free } in
           let few : next ≤ 2 ^ 63 = omega (arith, c.args.self.few) in
           fails _ _ _ c.from_residual-in_err-opened.ensures.1 (c.in_err-opened.ensures.stands live rows is few stand.0 for behind).no_damage;
       made = no_answer _ _ _ c.from_residual-in_err-opened.ensures.1;
@@ -149,7 +149,7 @@ returns g c =
           let all : are_rows schema next rows ≡ true = rows_sound schema next rows (each_is_row schema 1 records next h.is_schema (omega arith) h.lengths (omega (arith, number))) (rows_rise_of schema 1 records h.rising) stand.1 in
           let is : is_file schema (record { rows = rows; next_stamp = next }) ≡ true = and_from (nat_le 1 next) (are_rows schema next rows) (le-leb 1 next (omega arith)) all in
           let for : ArePartsFor schema heap prime alternates.items = record { slots_are = subst (IsShapeFor schema) (sym made.1) c.args.self.slots; width_is = c.in_ok-rows.ensures.width ∙ c.args.self.width; indexes = of } in
-          let behind : AreBehindHeader live = record { within = λ n some. let low = c.count-pages.ensures.low n some in let top = c.count-pages.type_inv in omega (arith, low, top); no_header = free } in
+          let behind : StandBehindHeader live = record { within = λ n some. let low = c.count-pages.ensures.low n some in let top = c.count-pages.type_inv in omega (arith, low, top); no_header = free } in
           let few : next ≤ 2 ^ 63 = omega (arith, c.args.self.few) in
           let stands = (c.in_ok-opened.ensures.stands live rows is few stand.0 for behind).answer in
           let file : File = record { rows = rows; next_stamp = next } in

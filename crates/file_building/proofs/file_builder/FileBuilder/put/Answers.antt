@@ -5,7 +5,7 @@ use Rattle.tree_search.proofs.AnswerLemmas.{fails}
 use Rattle.indexed_file.specs.Change.{new_row}
 use Rattle.open_file.specs.Stored.{stored}
 use Rattle.file_building.specs.Written.{rows_of}
-use Rattle.file_building.specs.Rows.{HoldsRows}
+use Rattle.file_building.specs.Rows.{HasRowsSoFar}
 use Rattle.file_building.specs.Entries.{AreFronts}
 use Rattle.file_building.proofs.StepLemmas.{handed_on}
 use Rattle.file_building.proofs.BuiltLemmas.{was_ok}
@@ -56,7 +56,7 @@ returns g c =
                 is_schema = h.is_schema;
                 rising = rise;
                 lengths = lengths_more schema records bytes h.lengths fits;
-                rows = subst (HoldsRows schema c.push.new.self after) (sym rows) made.0;
+                rows = subst (HasRowsSoFar schema c.push.new.self after) (sym rows) made.0;
                 fronts = subst (AreFronts schema (records ++ bytes ∷ [])) (sym front) (front_more schema records old.fronts.items bytes h.fronts (length-take-le schema.least bytes enough));
                 last = c.extract-self.ensures ∙ sym (last_of_more schema records bytes);
                 count = number ∙ omega (arith, length-append records (bytes ∷ []));
