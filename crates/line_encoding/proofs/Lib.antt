@@ -1,0 +1,4 @@
+pub mod ByteLemmas
+pub mod FirstLemmas
+pub mod BackLemmas
+pub mod TakenLemmas
