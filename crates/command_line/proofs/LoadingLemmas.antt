@@ -22,11 +22,12 @@ use Rattle.system_files.specs.Front.{IsTextRead}
 use Rattle.command_inputs.specs.DeckFile.{IsDeckFault}
 use Rattle.command_inputs.specs.Front.{IsDeckNamed, IsTextNamed, longest_line}
 use Rattle.command_inputs.proofs.DeckLemmas.{not_there}
-use Rattle.command_line.specs.LoadForm.{IsLoadFault}
+use Rattle.command_line.specs.LoadForm.{IsFaultOfLoad}
 use Rattle.command_line.specs.Loaded.{EndsLoadOf, LoadsFolder, LoadsDeck, TellsLoad, ComesOfLoad, BeginsLoad, BeginsLoadOfDeck}
 use Rattle.command_line.proofs.FolderLemmas.{untouched}
 use Rattle.command_outcomes.specs.Status.{status_of}
 use Rattle.command_outcomes.specs.declared.fault.Fault.{Fault}
+use Rattle.command_outcomes.specs.declared.fault.Fault.TheVariants.{Output}
 use Rattle.command_outcomes.specs.declared.outcome.Outcome.{Outcome}
 use Rattle.command_outcomes.specs.declared.outcome.Outcome.TheVariants.{Loaded as LoadEnded}
 
@@ -115,6 +116,12 @@ told_end path schema (Ok end) calls before behind outcome (inr (inl told)) = sub
 told_end path schema (Ok end) calls before behind outcome (inr (inr told)) = subst (λ (o : Result Outcome Fault). IfOk o (λ o. (e : ShelfEnd) × (o ≡ LoadEnded e))) (sym told.0) tt
 told_end path schema (Err fault) calls before behind outcome told = subst (λ (o : Result Outcome Fault). IfOk o (λ o. (e : ShelfEnd) × (o ≡ LoadEnded e))) (sym told.0) tt
 
+-- it was told so, or that the output failed
+pub told_or_output : (path : List ℕ) (schema : Schema) (end : ShelfEnd) (calls : List Call) (before behind : Option (List ℕ)) (told outcome : Result Outcome Fault)
+    → (outcome ≡ told) ⊎ (outcome ≡ Err Output) → TellsLoad path schema (Ok end) calls before behind told → TellsLoad path schema (Ok end) calls before behind outcome
+told_or_output path schema end calls before behind told outcome (inl same) is = subst (λ (o : Result Outcome Fault). TellsLoad path schema (Ok end) calls before behind o) (sym same) is
+told_or_output path schema end calls before behind told outcome (inr failed) is = inr (inl failed)
+
 -- so it is of a load that was begun or not
 pub load_done : {W : Type 0} (old : SystemState) (made : CallsMade) (out out_after : W) (outcome : Result Outcome Fault) (IsBegun : Type 0)
     → BeginsNothing old made out out_after outcome ⊎ IsBegun → (IsBegun → IfOk outcome (λ o. (e : ShelfEnd) × (o ≡ LoadEnded e))) → IfOk outcome (λ o. (e : ShelfEnd) × (o ≡ LoadEnded e))
@@ -168,9 +175,9 @@ module _ {W : Type 0} (old between : SystemState) (made : CallsMade) (at_first b
   came_of_deck (inl none) = inl (begins_nothing_after old between made out out_after outcome first none)
   came_of_deck (inr is) = inr (of_deck is)
 
-  pub load_of_deck : ComesOfLoad (IsOfBytes between.calls) IsDeckFault between made out out_after outcome → ComesOfLoad IsOfDeck (IsLoadFault form) old made out out_after outcome
-  load_of_deck comes = record {
+  pub load_of_deck : (rejects : Option (List ℕ)) (keep_going : Bool) → ComesOfLoad (IsOfBytes between.calls) IsDeckFault between made out out_after outcome → ComesOfLoad IsOfDeck (IsFaultOfLoad form rejects keep_going) old made out out_after outcome
+  load_of_deck rejects keep_going comes = record {
     came = came_of_deck comes.came;
     untouched = comes.untouched;
-    fault = IfErr-weaker outcome IsDeckFault (IsLoadFault form) (λ fault is. inr is) comes.fault;
+    fault = IfErr-weaker outcome IsDeckFault (IsFaultOfLoad form rejects keep_going) (λ fault is. inl (inr is)) comes.fault;
   }

@@ -1,5 +1,5 @@
 -- The form of the text of a load, as a word asks for it. All of this is ours.
-use Rattle.std.specs.Prelude.{◌≡◌, ◌≢◌, ◌⊎◌, List, map, codes}
+use Rattle.std.specs.Prelude.{◌≡◌, ◌≢◌, ◌⊎◌, Bool, false, List, map, codes, Option, IsSome}
 use Rattle.clap.specs.Words.{Text as Word}
 use Rattle.file_control.specs.Description.{FileDesc}
 use Rattle.record_text.specs.declared.column.Column.{Column}
@@ -9,7 +9,7 @@ use Rattle.record_text.specs.Parts.{part_of_column, item_parts}
 use Rattle.command_inputs.specs.DeckFile.{IsDeckFault}
 use Rattle.command_outcomes.specs.declared.form_fault.FormFault.TheVariants.{Kind}
 use Rattle.command_outcomes.specs.declared.fault.Fault.{Fault}
-use Rattle.command_outcomes.specs.declared.fault.Fault.TheVariants.{Form as NoForm}
+use Rattle.command_outcomes.specs.declared.fault.Fault.TheVariants.{Form as NoForm, LoneRejects}
 use Rattle.command_line.specs.declared.load_form.FormKind.{FormKind}
 use Rattle.command_line.specs.declared.load_form.FormKind.TheVariants as kinds
 
@@ -36,3 +36,8 @@ IsFormOf word file (Json columns) = (word ≡ codes "json") × AreColumnsOf file
 -- why nothing came of a load: the word asks for no form, or it is a fault of a file of a deck
 abbrev pub IsLoadFault : Word → Fault → Type 0
 IsLoadFault word fault = ((fault ≡ NoForm Kind) × IsNoFormWord word) ⊎ IsDeckFault fault
+
+-- or a file for rejected lines is asked for, and the first one ends the load
+abbrev pub IsFaultOfLoad : (form : Word) → (rejects : Option Word) → (keep_going : Bool) → Fault → Type 0
+IsFaultOfLoad form rejects keep_going fault =
+    IsLoadFault form fault ⊎ ((fault ≡ LoneRejects) × IsSome rejects × (keep_going ≡ false))

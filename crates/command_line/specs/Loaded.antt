@@ -1,7 +1,7 @@
 -- What is loaded into a file of a deck over a folder. All of this is ours.
 use Rattle.std.specs.Prelude.{◌≡◌, ◌≢◌, ◌⊎◌, ℕ, Bool, true, false, List, [], ◌++◌, Option, IsTrue}
 use Rattle.std.specs.Prelude.{Result, Ok, Err, IfOk, IfErr, OnErr}
-use Rattle.std.specs.Prelude.{String, string_bytes}
+use Rattle.std.specs.Prelude.{String, string_bytes, option_map}
 use Rattle.std.specs.Global.{Global}
 use Rattle.std.specs.Io.KnownBytes.{Appends}
 use Rattle.folder_shelf.specs.Calls.{Call}
@@ -19,7 +19,7 @@ use Rattle.page_store.specs.ShelfState.{ShelfState}
 use Rattle.command_words.specs.declared.line_options.LineOptions.{LineOptions}
 use Rattle.record_loading.specs.Passing.{LoadSource}
 use Rattle.record_loading.specs.declared.options.LoadOptions.{LoadOptions}
-use Rattle.record_loading.specs.declared.rejected.RejectedLine.{RejectedLine}
+use Rattle.record_loading.specs.Told.{ToldLine}
 use Rattle.record_loading.specs.declared.end.Load.{Load}
 use Rattle.record_loading.specs.declared.end.Load.TheVariants.{New, Into}
 use Rattle.record_loading.specs.Answer.{answer_of}
@@ -28,7 +28,7 @@ use Rattle.record_loading.specs.declared.shelf_end.ShelfEnd.{ShelfEnd}
 use Rattle.record_loading.specs.declared.shelf_end.ShelfEnd.TheVariants.{IsThere, Loaded}
 use Rattle.command_line.specs.CallsMade.{CallsMade, BeginsNothing, folder_behind}
 use Rattle.command_line.specs.Folder.{OverFolder}
-use Rattle.command_line.specs.LoadForm.{IsFormOf, IsLoadFault, form_word}
+use Rattle.command_line.specs.LoadForm.{IsFormOf, IsFaultOfLoad, form_word}
 use Rattle.command_inputs.specs.DeckFile.{IsFileOf, IsDeckFault}
 use Rattle.file_commands.specs.Differing.{AreDifferencesOf}
 use Rattle.command_inputs.specs.Front.{IsTextNamed, IsDeckNamed}
@@ -62,7 +62,7 @@ load_source form text options = record { form = form; text = text; options = opt
 -- a load ended so, of some lines that were rejected and told
 abbrev pub EndsLoadOf : (name : List ℕ) → Schema → Load → LoadSource → (old : ShelfState) → ShelfEnd
     → (new : ShelfState) → Type 0
-EndsLoadOf name schema load source old end new = (told : List RejectedLine)
+EndsLoadOf name schema load source old end new = (told : List ToldLine)
     × EndsLoad name schema load (record { source = source; told = told }) old end new
 
 -- a load of a text into the file of a name in the folder of this path, which the system entered, and of
@@ -191,4 +191,5 @@ abbrev pub LoadsAsked : {I W : Type 0} → (old : SystemState) → (I → Option
 LoadsAsked old left input disk made deck folder asks contents out out_after outcome = ComesOfLoad
     (BeginsLoadOfDeck old.calls (left input.reader) deck folder asks.file.now asks.text.now asks.form.now
     asks.into asks.lines disk made (contents out) (contents out_after) outcome)
-    (IsLoadFault asks.form.now) old made out out_after outcome
+    (IsFaultOfLoad asks.form.now (option_map (λ text. text.now) asks.rejects) asks.lines.keep_going)
+    old made out out_after outcome

@@ -4,6 +4,7 @@ ghost use Rattle.record_text.specs.Whole.{IsWholeForm};
 ghost use Rattle.command_line.specs.CallsMade.{calls_made};
 ghost use Rattle.command_line.specs.Loaded.{load_of, options_of, load_source, LoadsDescribed, IsShelfFault, LoadsBytes};
 
+use crate::kept_rejects::{keep_rejects, told_if_kept};
 use crate::load_form::{FormKind, form_of};
 use crate::told_load::{room_and_path, tell_end};
 use command_inputs::{deck_of, file_named, read_text};
@@ -11,14 +12,16 @@ use command_outcomes::{Fault, Outcome};
 use command_words::{Limits, LineOptions};
 use file_control::FileDesc;
 use folder_shelf::{CallRecord, Disk, FolderShelf, System};
-use record_loading::{Load, LoadOptions, RejectLog, ShelfEnd, ShelfFault, load_lines_on_shelf};
+use record_loading::{Load, LoadOptions, ShelfEnd, ShelfFault};
 use record_text::{Form, items_are_whole};
+use rejected_lines::{KeepsLines, load_keeping};
 use std::alloc::Global;
 use std::io::{Read, Write};
 use streams::{Progress, StandardInput};
 
 /// What is asked of a load: the name of a file in the deck, the path of a text, the word for its
-/// form, whether the file is there, which lines, and the limits of its pages.
+/// form, whether the file is there, which lines, the limits of its pages, and the path of a new file
+/// for the lines that are rejected.
 #[derive(Clone, Copy)]
 pub struct Loading<'a> {
     pub file: &'a str,
@@ -27,6 +30,7 @@ pub struct Loading<'a> {
     pub into: bool,
     pub lines: LoadOptions,
     pub limits: Limits,
+    pub rejects: Option<&'a str>,
 }
 
 /// Whether the input is asked to be the deck and the text.
@@ -68,7 +72,7 @@ fn told_fault(fault: ShelfFault) -> Fault
 
 /// Loads a text in a form into a file over a folder of a system whose record is empty. It is told how
 /// many bytes of the text are written. The system that it gives back has what was asked and answered.
-fn load_over_folder<S: System + Drop, D: Disk, R: RejectLog, P: Progress>(
+fn load_over_folder<S: System + Drop, D: Disk, R: KeepsLines, P: Progress>(
     system: S,
     alloc: Global,
     folder: String,
@@ -88,7 +92,7 @@ fn load_over_folder<S: System + Drop, D: Disk, R: RejectLog, P: Progress>(
     ensures fault { IfErr result.1 IsShelfFault }
 {
     let shelf: FolderShelf<S, D> = FolderShelf::new(system, folder);
-    let (shelf, end) = load_lines_on_shelf(
+    let (shelf, end) = load_keeping(
         alloc,
         shelf,
         file.file,
@@ -114,7 +118,7 @@ fn load_over_folder<S: System + Drop, D: Disk, R: RejectLog, P: Progress>(
 /// Loads a text of this kind into a file of the deck that the bytes are, over the files of a folder,
 /// and tells how that ended. What was asked before the folder is entered is set aside. `Deck`,
 /// `NoSuchFile`: nothing was written or changed, and no folder entered.
-pub fn load_deck<S: System + Drop, D: Disk, I: Read, R: RejectLog, P: Progress, W: Write>(
+pub fn load_deck<S: System + Drop, D: Disk, I: Read, R: KeepsLines, P: Progress, W: Write>(
     system: S,
     aside: &mut CallRecord,
     alloc: Global,
@@ -154,6 +158,10 @@ pub fn load_deck<S: System + Drop, D: Disk, I: Read, R: RejectLog, P: Progress, 
         Ok(had) => had,
         Err(fault) => return (system, Err(fault)),
     };
+    match keep_rejects(alloc, asked.rejects, &form, rejects) {
+        Ok(()) => {}
+        Err(fault) => return (system, Err(fault)),
+    }
     system.exchange_record(aside);
     let (mut system, end) = load_over_folder::<S, D, R, P>(
         system,
@@ -179,7 +187,7 @@ pub fn load_deck<S: System + Drop, D: Disk, I: Read, R: RejectLog, P: Progress, 
                 &end,
                 out,
             );
-            (system, told)
+            (system, told_if_kept(rejects, told))
         }
         Err(fault) => (system, Err(fault)),
     }

@@ -1,9 +1,10 @@
 //! The program, run over writers that refuse a byte.
 
 use crate::checks::{assert_equal, assert_equal_for, assert_that};
-use command_line::{RejectedLines, program};
+use command_line::program;
 use command_outcomes::Fault;
 use folder_shelf::{CallRecord, EmptyDisk, RecordedSystem};
+use rejected_lines::RejectedLines;
 use std::fs;
 use std::io::{self, BufReader, Empty, ErrorKind, Write};
 use std::os::fd::AsRawFd;
@@ -118,7 +119,7 @@ where
         at_once: usize::MAX,
         room: err,
     };
-    let mut rejects = RejectedLines::new(io::sink());
+    let mut rejects = RejectedLines::new(rt, alloc, io::sink());
     let nothing = BufReader::new(alloc, io::empty())?;
     let system = RecordedSystem::new(rt, alloc);
     let reader = RecordedSystem::new(rt, alloc);

@@ -10,7 +10,7 @@ use Rattle.record_loading.specs.declared.end.Load.{Load}
 use Rattle.command_inputs.specs.DeckFile.{is_named_in_deck, IsFileOf}
 use Rattle.command_line.specs.LoadForm.{form_word}
 use Rattle.command_line.proofs.LoadFormLemmas.{laid_in, form_is_whole}
-use Rattle.command_line.proofs.LoadingLemmas.{told_fault, deck_fault, untouched_unless}
+use Rattle.command_line.proofs.LoadingLemmas.{told_fault, told_or_output, deck_fault, untouched_unless}
 use Rattle.command_line.specs.Loaded.{LoadsFolder, TellsLoad, IsShelfFault, load_of, load_source}
 use Rattle.command_line.proofs.loading.load_deck.Goals as goal
 
@@ -32,7 +32,7 @@ returns-in-Ok-end g c =
     let file = c.in-Some.file.now in
     let before = g.W.Write.contents c.args.out.now in
     let behind = g.W.Write.contents c.tell_end-told.new.out in
-    let outcome = c.tell_end-told.result in
+    let outcome = c.told_if_kept.result in
     let system = g.S.System.state c.load_over_folder-system.result.0 in
     let reads = c.in-Ok-read_text.ensures in
     let named : IsFileOf c.in-Ok.deck.files c.args.asked.file.now file =
@@ -42,9 +42,10 @@ returns-in-Ok-end g c =
     subst (loads_as (load_of c.args.asked.into)) c.as_slice-2.ensures.value (subst (λ (load : Load). loads_as load c.as_slice-2.result.now) c.load_of.ensures (subst (λ (r : Result ShelfEnd Fault). LoadsFolder g.D.Disk.unseen (string_bytes c.args.folder) file.file file.schema c.load_of.result (load_source c.in-Ok-form_of.form c.as_slice-2.result.now c.args.asked.lines) system r) c.in-Ok-end.is c.load_over_folder-system.ensures.loads)) in
     let path = file_path (string_bytes c.args.folder) file.file in
     let calls = c.tell_end-told.ensures.calls in
-    let told_at : List ℕ → Schema → Type 0 = λ at schema. TellsLoad at schema (Ok end) calls before behind outcome in
+    let told_at : List ℕ → Schema → Type 0 = λ at schema. TellsLoad at schema (Ok end) calls before behind c.tell_end-told.result in
     let path_is : c.as_str-in-Ok-end.result.now ≡ path = c.as_str-in-Ok-end.ensures.value ∙ c.in-Ok-room_and_path.ensures.path ∙ ap (λ (of : List ℕ). file_path of file.file) c.as_str.ensures.value in
-    let told : told_at path file.schema = subst (λ (at : List ℕ). told_at at file.schema) path_is (subst (λ (x : FileDesc). told_at c.as_str-in-Ok-end.result.now x.schema) c.file.view_is c.tell_end-told.ensures.so) in
+    let told_first : told_at path file.schema = subst (λ (at : List ℕ). told_at at file.schema) path_is (subst (λ (x : FileDesc). told_at c.as_str-in-Ok-end.result.now x.schema) c.file.view_is c.tell_end-told.ensures.so) in
+    let told = told_or_output path file.schema end calls before behind c.tell_end-told.result outcome c.told_if_kept.ensures.told told_first in
     let failed = told_fault path file.schema (Ok end) calls before behind outcome told in record {
       came = inr (
         reads.calls,

@@ -181,12 +181,12 @@ returns-in-Serve-clause-came g c words is =
 pub returns-clause-did : goal.returns-clause-did
 returns-clause-did g c words is =
     let asked = subst (Ask words) c.in-Load.is is in
-    let load = for_load words c.in-Load.deck c.in-Load.folder c.in-Load.file c.in-Load.text c.in-Load.form c.in-Load.encoding c.in-Load.into c.in-Load.limits c.in-Load.lines c.in-Load.rejects c.in-Load.quiet asked in
+    let load = for_load words c.in-Load.deck c.in-Load.folder c.in-Load.file c.in-Load.text c.in-Load.form c.in-Load.encoding c.in-Load.into c.in-Load.limits c.in-Load.lines c.in-Load.asked_rejects c.in-Load.quiet asked in
     rw c.without_run-in-Load.ensures (load_did words load c.load-system.result.1 (rw c.options_of.ensures at c.load-system.ensures))
 
 pub returns-clause-came : goal.returns-clause-came
 returns-clause-came g c words is =
     let asked = subst (Ask words) c.in-Load.is is in
-    let load = for_load words c.in-Load.deck c.in-Load.folder c.in-Load.file c.in-Load.text c.in-Load.form c.in-Load.encoding c.in-Load.into c.in-Load.limits c.in-Load.lines c.in-Load.rejects c.in-Load.quiet asked in
+    let load = for_load words c.in-Load.deck c.in-Load.folder c.in-Load.file c.in-Load.text c.in-Load.form c.in-Load.encoding c.in-Load.into c.in-Load.limits c.in-Load.lines c.in-Load.asked_rejects c.in-Load.quiet asked in
     load_came _ _ g.D.Disk.unseen words c.load-system.new.aside.calls (g.S.System.state c.load-system.result.0) g.I.Read.remaining g.W.Write.contents c.args.input.now c.load-system.new.input
     c.args.out.now c.load-system.new.out (g.S.System.state c.args.system) c.requires.held load c.without_run-in-Load.result (rw c.without_run-in-Load.ensures (rw c.options_of.ensures at c.load-system.ensures))
