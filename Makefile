@@ -19,7 +19,7 @@ PREFIX = /usr/local
 PROGRAM = crates/cobix/out/cobix
 LISTS = crates/decks_over_lists/out/decks_over_lists
 PROVED = crates/cobix_inside/out/libcobix_inside.a
-QUICK = examples cases 'command lines' mistakes edges sessions scripts copies
+QUICK = examples cases 'command lines' mistakes edges sessions scripts copies rejects
 JOBS = 2
 # How many crates the gate proves side by side, each by one process, and tries the edits of: one a processor, as far as there are four gigabytes for each.
 LANES = $(shell awk -v most=$$(nproc) '/^MemAvailable/ { few = int($$2 / 4000000); print (few < 1 ? 1 : few < most ? few : most) }' /proc/meminfo)
