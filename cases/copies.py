@@ -1,4 +1,4 @@
-"""Copies of a file into a new one: files of 0, 1 and 2,000 records, of one length and of several, and what stands in the way of a copy.
+"""Copies of a file into a new one: files of 0, 1 and 2,000 records, of one length and of several, in the order of each key, and what stands in the way of a copy.
 
 `trials()` gives each by its name, as those of edges.py.
 """
@@ -108,6 +108,45 @@ def copy_has_the_same(room, count, text):
         kinds = [it for it in lists(room, new / "goods.dat")[2] if it[13:15] == "K3"]
         wants(kinds[-1][1:7], "999999", "the last record of its kind")
         wants(sound(room, new / "goods.dat")[0], records + 1, "records")
+
+
+def heap(room, file):
+    """The records of a sound file as they lie in its pages: page by page in the order in which these were taken, slot by slot."""
+    told = room.call([room.program, "salvage", file, "--places"])
+    wants(told.returncode, 0, f"exit status of a list of {file.name} by places")
+    return [line.split(" ", 2)[2] for line in sorted(told.stdout.decode().splitlines(), key=lambda line: [int(it) for it in line.split(" ")[:2]])]
+
+
+def copy_lies_in_order(room, count, text):
+    """A copy in the order of a key has the same records by each key, and they lie in the order of that one. So has a copy of such a copy, in whatever order."""
+    file = loaded(room, count, text)
+    by_key = lists(room, file)
+    new = [room.place / f"by-{key}.dat" for key in range(3)]
+    for key in range(3):
+        ended = copied(room, file, new[key], "--key", str(key))
+        there, taken = sound(room, new[key])
+        wants((ended.returncode, ended.stdout, ended.stderr), (0, b"", f"copied {there} records, {taken} pages\n".encode()), f"the copy by key {key}")
+        wants(lists(room, new[key]) == by_key, True, f"whether the lists by each key are the same, copied by key {key}")
+        wants(heap(room, new[key]) == by_key[key], True, f"whether the records lie in the order of key {key}")
+        wants(next_stamp(room, new[key]), next_stamp(room, file), "next stamp")
+        wants(taken, sound(room, new[0])[1], f"pages of the copy by key {key}")
+    without = room.place / "without.dat"
+    wants(copied(room, file, without).returncode, 0, "exit status of a copy without '--key'")
+    wants(without.read_bytes() == new[0].read_bytes(), True, "whether key 0 is meant where none is told")
+    for key in (1, 2):
+        again = room.place / f"again-{key}.dat"
+        wants(copied(room, new[key], again).returncode, 0, "exit status of a copy of the copy")
+        wants(again.read_bytes() == new[0].read_bytes(), True, f"whether the copy by key {key} has all that the file has")
+
+
+def no_such_key(room):
+    """A key that the file has not is told before anything is written, and before the new file is looked for."""
+    file = loaded(room, 20, FIXED)
+    for new in (room.place / "new.dat", file):
+        before = new.exists() and new.read_bytes()
+        ended = copied(room, file, new, "--key", "3")
+        wants((ended.returncode, ended.stdout, ended.stderr), (1, b"", b"cobix: the file has no such key\n"), "a copy by key 3")
+        wants(new.exists() and new.read_bytes(), before, "what is there")
 
 
 def new_file_is_there(room):
@@ -232,6 +271,10 @@ def trials():
     for count in (0, 1, 2000):
         for what, text in (("one length", FIXED), ("several lengths", VARYING)):
             yield f"a copy of {count:,} records of {what}", lambda room, count=count, text=text: copy_has_the_same(room, count, text)
+    for count in (0, 1, 2000):
+        for what, text in (("one length", FIXED), ("several lengths", VARYING)):
+            yield f"copies of {count:,} records of {what} by each key", lambda room, count=count, text=text: copy_lies_in_order(room, count, text)
+    yield "a copy by a key that is not there", no_such_key
     yield "a copy where the new file is there", new_file_is_there
     yield "a copy of more pages than it may have", no_page_is_left
     yield "a copy on a device that is full", device_is_full

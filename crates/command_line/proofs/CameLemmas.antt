@@ -15,7 +15,7 @@ use Rattle.command_line.specs.Copied.{AskForCopy, BeginsCopy, ComesOfCopy, EndsI
 use Rattle.command_line.specs.declared.copying.Copying.{Copying}
 use Rattle.file_copying.specs.declared.fault.Copied.{Copied}
 use Rattle.file_copying.specs.declared.fault.CopyingFault.{CopyingFault}
-use Rattle.file_copying.specs.declared.fault.CopyingFault.TheVariants.{NoneToCopy, NotAccepted, IsThere, Reading, Writing}
+use Rattle.file_copying.specs.declared.fault.CopyingFault.TheVariants.{NoneToCopy, NotAccepted, NoKey, IsThere, Reading, Writing}
 use Rattle.io_state.specs.declared.fault.Fault.TheVariants.{Device, Memory as NoMemory, Full, Damage, Broken}
 use Rattle.command_line.specs.LoadForm.{IsFaultOfLoad}
 use Rattle.command_line.specs.Loaded.{BeginsLoadOfDeck, ComesOfLoad, options_of}
@@ -147,7 +147,7 @@ copy_came shelf keeps_open disk words before after beside left contents input ou
   refl,
   (
     record { file = asks.file.now; new = asks.new.now; key = asks.key; pages = asks.limits.pages; frames = asks.limits.frames.value; asked = asked },
-    subst (λ (base : List Call). BeginsCopy base asks.file.now asks.new.now asks.limits.pages disk (calls_beside before after beside) done.outcome) held begins,
+    subst (λ (base : List Call). BeginsCopy base asks.file.now asks.new.now asks.key asks.limits.pages disk (calls_beside before after beside) done.outcome) held begins,
   ),
 )
 
@@ -161,6 +161,7 @@ module _ (words : List Text) (copy : AskForCopy words) where
   did_copy (Ok copied) outcome is = subst (Did words) (sym is) copy
   did_copy (Err NoneToCopy) outcome is = did_unread outcome is
   did_copy (Err NotAccepted) outcome is = subst (Did words) (sym is) copy
+  did_copy (Err NoKey) outcome is = subst (Did words) (sym is) copy
   did_copy (Err IsThere) outcome is = subst (Did words) (sym is) copy
   did_copy (Err (Reading Device)) outcome is = did_unread outcome is
   did_copy (Err (Reading NoMemory)) outcome is = did_unread outcome is

@@ -68,6 +68,7 @@ low_worst worst.Unread = inr refl
 low_copy : (end : CopyEnd) → IsLow (status_of_copy end)
 low_copy (copies.Whole copied) = inl (omega arith)
 low_copy copies.Refused = inl (omega arith)
+low_copy copies.NoKey = inl (omega arith)
 low_copy copies.Damaged = inl (omega arith)
 low_copy copies.IsThere = inl (omega arith)
 low_copy copies.Full = inr refl

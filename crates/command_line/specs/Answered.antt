@@ -59,7 +59,7 @@ LoadedAsAsked words input disk made before behind outcome = (load : AskForLoad w
 -- the words ask for a copy, and this one was begun
 abbrev pub CopiedAsAsked : (words : List Text) → Unseen → CallsMade → Result Outcome Fault → Type 0
 CopiedAsAsked words disk made outcome = (copy : AskForCopy words)
-    × BeginsCopy streams_first copy.file copy.new copy.pages disk made outcome
+    × BeginsCopy streams_first copy.file copy.new copy.key copy.pages disk made outcome
 
 -- for the words the program came to this, by these calls of one system: no folder was entered, and only reads
 -- were made; or the run, the session or the load was begun that the words ask for

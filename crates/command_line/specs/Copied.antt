@@ -10,12 +10,13 @@ use Rattle.io_state.specs.FileName.{is_file_name}
 use Rattle.io_state.specs.declared.fault.Fault.TheVariants.{Damage, Full, Memory as NoMemory}
 use Rattle.file_copying.specs.declared.fault.Copied.{Copied}
 use Rattle.file_copying.specs.declared.fault.CopyingFault.{CopyingFault}
-use Rattle.file_copying.specs.declared.fault.CopyingFault.TheVariants.{NoneToCopy, NotAccepted, IsThere}
+use Rattle.file_copying.specs.declared.fault.CopyingFault.TheVariants.{NoneToCopy, NotAccepted, NoKey, IsThere}
 use Rattle.file_copying.specs.declared.fault.CopyingFault.TheVariants.{Reading, Writing}
 use Rattle.file_copying.specs.NewPlace.{folder_of, last_part}
 use Rattle.file_copying.specs.CopiedPath.{CopiesPath, copy_paths}
 use Rattle.file_copying.specs.declared.end.CopyEnd.TheVariants.{Whole, Refused, Damaged}
 use Rattle.file_copying.specs.declared.end.CopyEnd.TheVariants.{IsThere as NewIsThere, Full as NewIsFull}
+use Rattle.file_copying.specs.declared.end.CopyEnd.TheVariants.{NoKey as HasNoKey}
 use Rattle.command_words.specs.Asks.{AskCopy}
 use Rattle.command_words.specs.declared.request.Request.{Request}
 use Rattle.command_words.specs.declared.request.Request.TheVariants.{Copy}
@@ -54,6 +55,7 @@ abbrev pub IsToldCopy : Result Copied CopyingFault → Result Outcome Fault → 
 IsToldCopy (Ok copied) outcome = outcome ≡ Ok (CopyEnded (Whole copied))
 IsToldCopy (Err NoneToCopy) outcome = IsToldUnread outcome
 IsToldCopy (Err NotAccepted) outcome = outcome ≡ Ok (CopyEnded Refused)
+IsToldCopy (Err NoKey) outcome = outcome ≡ Ok (CopyEnded HasNoKey)
 IsToldCopy (Err IsThere) outcome = outcome ≡ Ok (CopyEnded NewIsThere)
 IsToldCopy (Err (Reading Damage)) outcome = outcome ≡ Ok (CopyEnded Damaged)
 IsToldCopy (Err (Reading fault)) outcome = IsToldUnread outcome
@@ -64,14 +66,14 @@ IsToldCopy (Err (Writing fault)) outcome = outcome ≡ Err Output
 -- A copy was begun, behind what was asked before: it was told that what stands before the last part of the
 -- path of the new file is a folder; since then the system was asked of files of that folder alone, and
 -- another one was asked to read; the file was copied so, and it is told what became of that.
-pub record BeginsCopy (base : List Call) (file new : Text) (pages : ℕ) (disk : Unseen) (made : CallsMade)
+pub record BeginsCopy (base : List Call) (file new : Text) (key pages : ℕ) (disk : Unseen) (made : CallsMade)
     (outcome : Result Outcome Fault) : Type 0 where
   pub is_name : EndsInName new
   pub before : made.before ≡ folder_behind (folder_of new) [] base
   pub reading : AreReading made.beside
   pub within : StaysWithin made.system
   pub result : Result Copied CopyingFault
-  pub copies : CopiesPath disk (copy_paths file (folder_of new) (last_part new) pages) made.beside
+  pub copies : CopiesPath disk (copy_paths file (folder_of new) (last_part new) key pages) made.beside
       made.system result
   pub told : IsToldCopy result outcome
 
@@ -89,4 +91,4 @@ pub record BeginsNoCopy (old : SystemState) (new : Text) (made : CallsMade) (out
 -- one of these
 abbrev pub ComesOfCopy : (old : SystemState) → Unseen → CallsMade → Copying → Result Outcome Fault → Type 0
 ComesOfCopy old disk made asks outcome = BeginsNoCopy old asks.new.now made outcome
-    ⊎ BeginsCopy old.calls asks.file.now asks.new.now asks.limits.pages disk made outcome
+    ⊎ BeginsCopy old.calls asks.file.now asks.new.now asks.key asks.limits.pages disk made outcome

@@ -64,6 +64,7 @@ fn told<S: System>(reader: &S, copied: Result<Copied, CopyingFault>) -> Result<O
         Ok(copied) => Ok(Outcome::Copied(CopyEnd::Whole(copied))),
         Err(CopyingFault::NoneToCopy) => Err(not_read(reader)),
         Err(CopyingFault::NotAccepted) => Ok(Outcome::Copied(CopyEnd::Refused)),
+        Err(CopyingFault::NoKey) => Ok(Outcome::Copied(CopyEnd::NoKey)),
         Err(CopyingFault::IsThere) => Ok(Outcome::Copied(CopyEnd::IsThere)),
         Err(CopyingFault::Reading(fault)) => told_reading(reader, fault),
         Err(CopyingFault::Writing(fault)) => told_writing(fault),
@@ -129,6 +130,7 @@ pub fn copy<S: System + Drop, D: Disk>(
         file,
         folder,
         place.name,
+        asked.key,
         limits.frames,
         limits.pages,
     );
