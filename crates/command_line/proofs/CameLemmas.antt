@@ -84,10 +84,10 @@ module _ {X I W : Type 0} (shelf : Ghosts X) (keeps_open : X → ℕ → Bool) (
   -- a load
   module _ (load : AskForLoad words) where
     abbrev pub IsBegun : List Call → Result Outcome Fault → Type 0
-    IsBegun base outcome = BeginsLoadOfDeck base (left input.reader) load.deck load.folder load.file load.text load.form load.into (options_of load.lines) disk (calls_made before after)
+    IsBegun base outcome = BeginsLoadOfDeck base (left input.reader) load.deck load.folder load.file load.text load.form load.encoding load.into (options_of load.lines) disk (calls_made before after)
         (contents out) (contents out_after) outcome
 
-    pub load_came : (done : Done) → ComesOfLoad (IsBegun old.calls done.outcome) (IsFaultOfLoad load.form load.rejects load.lines.keep_going) old (calls_made before after) out out_after done.outcome → Came done
+    pub load_came : (done : Done) → ComesOfLoad (IsBegun old.calls done.outcome) (IsLoadFault load.form load.encoding) old (calls_made before after) out out_after done.outcome → Came done
     load_came done comes = elim comes.came [
       | inl none ↦ inl (begins_alone disk words (left input.reader) contents out out_after before none.none_aside old after held done.outcome none)
       | inr is ↦ inr (inr (inr (load, subst (λ (base : List Call). IsBegun base done.outcome) held is)))
@@ -109,18 +109,18 @@ module _ {I W : Type 0} (old : SystemState) (left : I → Option (List ℕ)) (in
 
 -- what was done for words that ask for a load
 load_done_by : {W : Type 0} (old : SystemState) (made : CallsMade) (out out_after : W) (before behind : Option (List ℕ)) (outcome : Result Outcome Fault) (base : List Call) (input : Option (List ℕ))
-    (deck folder file text form : Text) (into : Bool) (options : LoadOptions) (disk : Unseen)
-    → BeginsLoadOfDeck base input deck folder file text form into options disk made before behind outcome → IfOk outcome (λ o. (end : ShelfEnd) × (o ≡ LoadEnded end))
-load_done_by old made out out_after before behind outcome base input deck folder file text form into options disk is =
+    (deck folder file text form encoding : Text) (into : Bool) (options : LoadOptions) (disk : Unseen)
+    → BeginsLoadOfDeck base input deck folder file text form encoding into options disk made before behind outcome → IfOk outcome (λ o. (end : ShelfEnd) × (o ≡ LoadEnded end))
+load_done_by old made out out_after before behind outcome base input deck folder file text form encoding into options disk is =
     let loads = is.3.2 in told_end _ _ loads.end loads.calls before behind outcome loads.told
 
 pub load_did : {W : Type 0} (words : List Text) (load : AskForLoad words) {old : SystemState} {made : CallsMade} {out out_after : W} {before behind : Option (List ℕ)} {base : List Call}
     {input : Option (List ℕ)} {disk : Unseen} (outcome : Result Outcome Fault)
-    → ComesOfLoad (BeginsLoadOfDeck base input load.deck load.folder load.file load.text load.form load.into (options_of load.lines) disk made before behind outcome) (IsFaultOfLoad load.form load.rejects load.lines.keep_going) old made out out_after outcome
+    → ComesOfLoad (BeginsLoadOfDeck base input load.deck load.folder load.file load.text load.form load.encoding load.into (options_of load.lines) disk made before behind outcome) (IsLoadFault load.form load.encoding) old made out out_after outcome
     → Did words outcome
 load_did words load {old} {made} {out} {out_after} {before} {behind} {base} {input} {disk} outcome comes =
     did_load words load outcome (load_done old made out out_after outcome _ comes.came
-    (load_done_by old made out out_after before behind outcome base input load.deck load.folder load.file load.text load.form load.into (options_of load.lines) disk)) comes.fault
+    (load_done_by old made out out_after before behind outcome base input load.deck load.folder load.file load.text load.form load.encoding load.into (options_of load.lines) disk)) comes.fault
 
 -- no other system was asked anything
 pub came_alone : {X I W : Type 0} (shelf : Ghosts X) (keeps_open : X → ℕ → Bool) (disk : Unseen) (words : List Text) (before : List Call) (after : SystemState) (beside : List Call) (left : I → Option (List ℕ))

@@ -16,9 +16,7 @@ use Rattle.command_inputs.specs.AskedForm.{IsConditionRefused, IsListRefused}
 use Rattle.command_inputs.specs.Conditions.{texts_of}
 use Rattle.command_inputs.specs.Forms.{IsFormRefused}
 use Rattle.file_commands.specs.Listed.{IsListFault}
-use Rattle.file_commands.specs.ByIndex.{DoesByIndex}
-use Rattle.file_commands.specs.Records.{ListsAsked}
-use Rattle.salvaged_records.specs.Salvaged.{Outputs}
+use Rattle.salvaged_records.specs.Salvaged.{outputs}
 use Rattle.file_commands.specs.Salvaged.{IsSalvageRefused, SalvagesFileAt}
 use Rattle.file_commands.specs.Schema.{IsSchemaDone, IsSchemaFault}
 use Rattle.file_commands.specs.declared.listing.Bounds.{Bounds}
@@ -27,8 +25,9 @@ use Rattle.command_inputs.specs.Front.{DoesBy}
 use Rattle.file_commands.specs.Verdicts.{ChecksFile}
 use Rattle.file_statistics.specs.declared.listing.FileStatisticsEnd.{FileStatisticsEnd}
 use Rattle.record_loading.specs.declared.shelf_end.ShelfEnd.{ShelfEnd}
-use Rattle.command_line.specs.Lists.{ListsEitherWay}
-use Rattle.command_line.specs.LoadForm.{IsFaultOfLoad}
+use Rattle.command_line.specs.Encoding.{WritesIn}
+use Rattle.command_line.specs.Encoded.{DoesList, IsEncodedRefused}
+use Rattle.command_line.specs.LoadForm.{IsLoadFault}
 use Rattle.command_line.specs.Performed.{AskOfDeck, AskForLoad, AskForRecords, AskForRun, AskForSalvage, AskForSchema, Did, IsRunOutcome}
 use Rattle.command_outcomes.specs.Status.{status_of}
 use Rattle.command_outcomes.specs.declared.fault.Fault.{Fault}
@@ -99,30 +98,21 @@ module _ (words : List Text) (list : AskForRecords words) where
   did_not_asked fault (inr (inl refused)) = did_refused fault refused
   did_not_asked fault (inr (inr none)) = did_condition fault none
 
-  did_checked : {W : Type 0} (input : Option (List ℕ)) (path : List ℕ) (bounds : Bounds) (texts : List Text) (contents : W → Option (List ℕ)) (old new : W) (calls : List Call) (result : Result Outcome Fault)
-      → IfOk result (ListsAsked input path bounds texts list.form contents old new calls) → IfErr result (IsListRefused list.form list.conditions) → Did words result
-  did_checked input path bounds texts contents old new calls (Ok (Records end)) done fault = list
-  did_checked input path bounds texts contents old new calls (Ok OtherSchema) done fault = inl list
-  did_checked input path bounds texts contents old new calls (Ok outcome) done fault = absurd done
-  did_checked input path bounds texts contents old new calls (Err f) done refused = did_not_asked f refused
+  -- nothing else was done than to list, in whatever encoding
+  none_else : (encoding form : Text) (old new : Option (List ℕ)) → WritesIn encoding form old new (λ before behind. ⊥) → ⊥
+  none_else encoding form old new (inl (is, so)) = so
+  none_else encoding form old new (inr (is, writes)) = writes.so
 
-  did_pages : (disk : Unseen) (input : Option (List ℕ)) (path : List ℕ) (bounds : Bounds) (texts : List Text) (before behind : Option (List ℕ)) (calls : List Call) (result : Result Outcome Fault)
-      → IfOk result (DoesByIndex disk input path bounds texts list.form before behind calls) → IfErr result (IsListRefused list.form list.conditions) → Did words result
-  did_pages disk input path bounds texts before behind calls (Ok (Records end)) done fault = list
-  did_pages disk input path bounds texts before behind calls (Ok OtherSchema) done fault = inl list
-  did_pages disk input path bounds texts before behind calls (Ok outcome) done fault = absurd done
-  did_pages disk input path bounds texts before behind calls (Err f) done refused = did_not_asked f refused
-
-  pub did_list : {W : Type 0} (checked : Bool) (disk : Unseen) (input : Option (List ℕ)) (path : List ℕ) (bounds : Bounds) (form : FormWords) → form_text form ≡ list.form → texts_of bounds.conditions.now ≡ list.conditions
-      → (contents : W → Option (List ℕ)) (old new : W) (calls : List Call) (result : Result Outcome Fault) → ListsEitherWay checked disk input path bounds form contents old new result calls → Did words result
-  did_list true disk input path bounds form same are contents old new calls result lists =
-      did_checked input path bounds (texts_of bounds.conditions.now) contents old new calls result
-      (subst (λ (f : FormText). IfOk result (ListsAsked input path bounds (texts_of bounds.conditions.now) f contents old new calls)) same lists.records)
-      (subst (λ (texts : List Text). IfErr result (IsListRefused list.form texts)) are (subst (λ (f : FormText). IfErr result (IsListRefused f (texts_of bounds.conditions.now))) same lists.fault))
-  did_list false disk input path bounds form same are contents old new calls result lists =
-      did_pages disk input path bounds (texts_of bounds.conditions.now) (contents old) (contents new) calls result
-      (subst (λ (f : FormText). IfOk result (DoesByIndex disk input path bounds (texts_of bounds.conditions.now) f (contents old) (contents new) calls)) same lists.records)
-      (subst (λ (texts : List Text). IfErr result (IsListRefused list.form texts)) are (subst (λ (f : FormText). IfErr result (IsListRefused f (texts_of bounds.conditions.now))) same lists.fault))
+  pub did_list : (checked : Bool) (disk : Unseen) (input : Option (List ℕ)) (path : List ℕ) (bounds : Bounds) (form : FormWords) → form_text form ≡ list.form → texts_of bounds.conditions.now ≡ list.conditions
+      → (old new : Option (List ℕ)) (calls : List Call) (result : Result Outcome Fault)
+      → IfOk result (λ outcome. WritesIn form.encoding.now form.kind.now old new (λ before behind. DoesList checked disk input path bounds form before behind calls outcome))
+      → IfErr result (IsListRefused (form_text form) (texts_of bounds.conditions.now)) → Did words result
+  did_list checked disk input path bounds form same are old new calls (Ok (Records end)) done refused = list
+  did_list checked disk input path bounds form same are old new calls (Ok OtherSchema) done refused = inl list
+  did_list true disk input path bounds form same are old new calls (Ok outcome) done refused = absurd (none_else form.encoding.now form.kind.now old new done)
+  did_list false disk input path bounds form same are old new calls (Ok outcome) done refused = absurd (none_else form.encoding.now form.kind.now old new done)
+  did_list checked disk input path bounds form same are old new calls (Err f) done refused =
+      did_not_asked f (subst (λ (texts : List Text). IsListRefused list.form texts f) are (subst (λ (t : FormText). IsListRefused t (texts_of bounds.conditions.now) f) same refused))
 
 -- the words ask for a schema
 module _ (words : List Text) (schema : AskForSchema words) where
@@ -148,19 +138,31 @@ module _ (words : List Text) (salvage : AskForSalvage words) where
   did_salvage_refused NoSuchFile (inl (is, h)) = inr (inr (inr (salvage, h)))
   did_salvage_refused NoSuchFile (inr (is, h)) = inr (inr (inr (salvage, h)))
   did_salvage_refused (NoForm fault) (inl (is, h)) = inr (inr (inl (salvage, inl (is, h.0, h.1))))
-  did_salvage_refused (NoForm fault) (inr (is, h)) = inr (inr (inl (salvage, inr (is, h))))
+  did_salvage_refused (NoForm fault) (inr (is, h)) = inr (inr (inl (salvage, inr (inl (is, h)))))
   did_salvage_refused Input h = tt
   did_salvage_refused Output h = tt
   did_salvage_refused Memory h = tt
   did_salvage_refused fault (inl (is, h)) = absurd h
   did_salvage_refused fault (inr (is, h)) = absurd h
 
-  pub did_salvage : (input : Option (List ℕ)) (o : Outputs) (calls : List Call) (result : Result Outcome Fault)
-      → IfOk result (SalvagesFileAt input salvage.file salvage.form salvage.places o calls) → IfErr result (IsSalvageRefused salvage.form) → Did words result
-  did_salvage input o calls (Ok (Salvaged end)) done fault = salvage
-  did_salvage input o calls (Ok OtherSchema) done fault = inr salvage
-  did_salvage input o calls (Ok outcome) (told, first, asked, (bytes, are, so)) fault = absurd so
-  did_salvage input o calls (Err fault) done h = did_salvage_refused fault h
+  did_encoded_refused : (fault : Fault) → IsEncodedRefused salvage.form fault → Did words (Err fault)
+  did_encoded_refused fault (inl h) = did_salvage_refused fault h
+  did_encoded_refused fault (inr (inl h)) = subst (λ (x : Fault). Did words (Err x)) (sym h.0) (inr (inr (inl (salvage, inr (inr (refl, h.1))))))
+  did_encoded_refused fault (inr (inr (inl output))) = subst (λ (x : Fault). Did words (Err x)) (sym output) tt
+  did_encoded_refused fault (inr (inr (inr memory))) = subst (λ (x : Fault). Did words (Err x)) (sym memory) tt
+
+  -- what was salvaged, whatever was written
+  abbrev Salvages : (told told_behind : Option (List ℕ)) → (input : Option (List ℕ)) → List Call → (before behind : Option (List ℕ)) → Outcome → Type 0
+  Salvages told told_behind input calls before behind outcome = SalvagesFileAt input salvage.file salvage.form salvage.places (outputs before behind told told_behind) calls outcome
+
+  pub did_salvage : (input old new told told_behind : Option (List ℕ)) (calls : List Call) (result : Result Outcome Fault)
+      → IfOk result (λ outcome. WritesIn salvage.form.encoding salvage.form.kind old new (λ before behind. Salvages told told_behind input calls before behind outcome))
+      → IfErr result (IsEncodedRefused salvage.form) → Did words result
+  did_salvage input old new told told_behind calls (Ok (Salvaged end)) done fault = salvage
+  did_salvage input old new told told_behind calls (Ok OtherSchema) done fault = inr salvage
+  did_salvage input old new told told_behind calls (Ok outcome) (inl (is, (form, first, asked, (bytes, are, so)))) fault = absurd so
+  did_salvage input old new told told_behind calls (Ok outcome) (inr (is, writes)) fault = absurd writes.so.3.2
+  did_salvage input old new told told_behind calls (Err fault) done h = did_encoded_refused fault h
 
 -- the words ask for a load
 module _ (words : List Text) (load : AskForLoad words) where
@@ -172,11 +174,11 @@ module _ (words : List Text) (load : AskForLoad words) where
   load_refused Memory h = tt
   load_refused fault h = absurd h
 
-  pub did_load : (result : Result Outcome Fault) → IfOk result (λ outcome. (end : ShelfEnd) × (outcome ≡ Loaded end)) → IfErr result (IsFaultOfLoad load.form load.rejects load.lines.keep_going) → Did words result
+  pub did_load : (result : Result Outcome Fault) → IfOk result (λ outcome. (end : ShelfEnd) × (outcome ≡ Loaded end)) → IfErr result (IsLoadFault load.form load.encoding) → Did words result
   did_load (Ok outcome) done fault = subst (λ (o : Outcome). Did words (Ok o)) (sym done.1) load
-  did_load (Err f) done (inl (inl none)) = subst (λ (x : Fault). Did words (Err x)) (sym none.0) (inr (inr (inr (load, refl, none.1))))
-  did_load (Err f) done (inl (inr refused)) = load_refused f refused
-  did_load (Err f) done (inr lone) = subst (λ (x : Fault). Did words (Err x)) (sym lone.0) (load, lone.1, lone.2)
+  did_load (Err f) done (inl none) = subst (λ (x : Fault). Did words (Err x)) (sym none.0) (inr (inr (inr (inl (load, refl, none.1)))))
+  did_load (Err f) done (inr (inl none)) = subst (λ (x : Fault). Did words (Err x)) (sym none.0) (inr (inr (inr (inr (load, refl, none.1)))))
+  did_load (Err f) done (inr (inr refused)) = load_refused f refused
 
 -- the words ask for a run
 module _ (words : List Text) (run : AskForRun words) where

@@ -22,7 +22,8 @@ use Rattle.system_files.specs.Front.{IsTextRead}
 use Rattle.command_inputs.specs.DeckFile.{IsDeckFault}
 use Rattle.command_inputs.specs.Front.{IsDeckNamed, IsTextNamed, longest_line}
 use Rattle.command_inputs.proofs.DeckLemmas.{not_there}
-use Rattle.command_line.specs.LoadForm.{IsFaultOfLoad}
+use Rattle.command_line.specs.Encoding.{IsTextIn}
+use Rattle.command_line.specs.LoadForm.{IsLoadFault}
 use Rattle.command_line.specs.Loaded.{EndsLoadOf, LoadsFolder, LoadsDeck, TellsLoad, ComesOfLoad, BeginsLoad, BeginsLoadOfDeck}
 use Rattle.command_line.proofs.FolderLemmas.{untouched}
 use Rattle.command_outcomes.specs.Status.{status_of}
@@ -75,6 +76,12 @@ text_at_first reads old new deck path text unread other is = record {
       (unread (λ both. other both hyphen)) (is.of_input hyphen);
   of_file = is.of_file;
 }
+
+-- what else is known of the text in an encoding that stands for it
+text_in : {A B : List ℕ → Type 0} (encoding form : List ℕ) → ((text : List ℕ) → A text → B text) → (text : List ℕ) → IsTextIn encoding form A text → IsTextIn encoding form B text
+text_in encoding form so text (inl (is, a)) = inl (is, so text a)
+text_in encoding form so text (inr (is, reads)) =
+    inr (is, record { given = reads.given; backslashes = reads.backslashes; are = reads.are; so = so reads.given reads.so; is = reads.is })
 
 -- what else is known of the text of a load
 pub loads_as : {A B : List ℕ → Type 0} {disk : Unseen} {system : SystemState} {bytes folder name word : List ℕ} {into : Bool} {options : LoadOptions} {before behind : Option (List ℕ)} {outcome : Result Outcome Fault}
@@ -149,15 +156,15 @@ begins_nothing_after old between made out out_after outcome first none = record 
   told = none.told;
 }
 
-module _ {W : Type 0} (old between : SystemState) (made : CallsMade) (at_first behind_deck : Option (List ℕ)) (deck folder file text form : List ℕ) (into : Bool) (options : LoadOptions) (disk : Unseen) (before behind : Option (List ℕ))
+module _ {W : Type 0} (old between : SystemState) (made : CallsMade) (at_first behind_deck : Option (List ℕ)) (deck folder file text form encoding : List ℕ) (into : Bool) (options : LoadOptions) (disk : Unseen) (before behind : Option (List ℕ))
     (out out_after : W) (outcome : Result Outcome Fault) (bytes : List ℕ) (reads : List Call) (is_deck : IsDeckNamed reads at_first deck bytes)
     (noted : between.calls ≡ folder_behind folder reads old.calls) (first : ByReads (λ _. ⊤) old between)
     (unread : (deck ≡ codes "-" → ⊥) → behind_deck ≡ at_first) (not_both : deck ≡ codes "-" → text ≡ codes "-" → ⊥) where
   abbrev IsOfBytes : List Call → Type 0
-  IsOfBytes base = BeginsLoad base behind_deck bytes folder file text form into options disk made before behind outcome
+  IsOfBytes base = BeginsLoad base behind_deck bytes folder file text form encoding into options disk made before behind outcome
 
   abbrev IsOfDeck : Type 0
-  IsOfDeck = BeginsLoadOfDeck old.calls at_first deck folder file text form into options disk made before behind outcome
+  IsOfDeck = BeginsLoadOfDeck old.calls at_first deck folder file text form encoding into options disk made before behind outcome
 
   of_deck : IsOfBytes between.calls → IsOfDeck
   of_deck is = (
@@ -167,7 +174,7 @@ module _ {W : Type 0} (old between : SystemState) (made : CallsMade) (at_first b
     (
       is.0,
       is.1 ∙ ap (λ (base : List Call). is.0 ++ base) noted,
-      loads_as (λ (t : List ℕ). text_at_first is.0 at_first behind_deck deck text t unread not_both) is.2,
+      loads_as (text_in encoding form (λ (t : List ℕ). text_at_first is.0 at_first behind_deck deck text t unread not_both)) is.2,
     ),
   )
 
@@ -175,9 +182,9 @@ module _ {W : Type 0} (old between : SystemState) (made : CallsMade) (at_first b
   came_of_deck (inl none) = inl (begins_nothing_after old between made out out_after outcome first none)
   came_of_deck (inr is) = inr (of_deck is)
 
-  pub load_of_deck : (rejects : Option (List ℕ)) (keep_going : Bool) → ComesOfLoad (IsOfBytes between.calls) IsDeckFault between made out out_after outcome → ComesOfLoad IsOfDeck (IsFaultOfLoad form rejects keep_going) old made out out_after outcome
-  load_of_deck rejects keep_going comes = record {
+  pub load_of_deck : ComesOfLoad (IsOfBytes between.calls) IsDeckFault between made out out_after outcome → ComesOfLoad IsOfDeck (IsLoadFault form encoding) old made out out_after outcome
+  load_of_deck comes = record {
     came = came_of_deck comes.came;
     untouched = comes.untouched;
-    fault = IfErr-weaker outcome IsDeckFault (IsFaultOfLoad form rejects keep_going) (λ fault is. inl (inr is)) comes.fault;
+    fault = IfErr-weaker outcome IsDeckFault (IsLoadFault form encoding) (λ fault is. inr (inr is)) comes.fault;
   }

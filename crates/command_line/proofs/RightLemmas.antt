@@ -11,8 +11,6 @@ use Rattle.command_inputs.specs.Conditions.{texts_of}
 use Rattle.file_commands.specs.Counted.{CountsFileAt}
 use Rattle.command_inputs.specs.Front.{DoesBy, IsDeckNamed}
 use Rattle.file_commands.specs.Listed.{TellsDeck, WritesList, WritesCobol}
-use Rattle.file_commands.specs.ByIndex.{DoesByIndex}
-use Rattle.file_commands.specs.Records.{ListsAsked}
 use Rattle.salvaged_records.specs.Salvaged.{outputs}
 use Rattle.file_commands.specs.Salvaged.{SalvagesFileAt}
 use Rattle.file_commands.specs.Schema.{TellsAsked, ComparesAsked, IsOfSchema, IsSchemaDone}
@@ -20,8 +18,9 @@ use Rattle.file_commands.specs.Verdicts.{ChecksFile, WritesVerdicts}
 use Rattle.file_commands.specs.declared.listing.Bounds.{Bounds}
 use Rattle.command_line.specs.Explained.{WritesExplanation}
 use Rattle.command_line.specs.Performed.{AskForSalvage, AskForSchema}
-use Rattle.command_line.specs.Lists.{ListsEitherWay}
-use Rattle.command_line.specs.Right.{IsRightOf}
+use Rattle.command_line.specs.Encoding.{WritesIn}
+use Rattle.command_line.specs.Encoded.{DoesList}
+use Rattle.command_line.specs.Right.{IsRightOf, SalvagesAsAsked}
 use Rattle.command_line.proofs.DidLemmas.{for_records}
 use Rattle.command_outcomes.specs.declared.fault.Fault.{Fault}
 use Rattle.command_outcomes.specs.declared.outcome.Outcome.{Outcome}
@@ -62,11 +61,20 @@ module _ {W : Type 0} (disk : Unseen) (words : List Text) (calls : List Call) (i
   right_count path asked (Err fault) does = tt
 
   -- the records of a file were salvaged
+  told_by : (salvage : AskForSalvage words) (told told_behind : Option (List ℕ)) (outcome : Outcome) → WritesIn salvage.form.encoding salvage.form.kind (contents old) (contents new)
+      (λ before behind. SalvagesFileAt input salvage.file salvage.form salvage.places (outputs before behind told told_behind) calls outcome)
+      → WritesIn salvage.form.encoding salvage.form.kind (contents old) (contents new) (λ before behind. SalvagesAsAsked input salvage calls before behind outcome)
+  told_by salvage told told_behind outcome (inl (is, so)) = inl (is, (told, told_behind, so))
+  told_by salvage told told_behind outcome (inr (is, writes)) =
+      inr (is, record { text = writes.text; backslashes = writes.backslashes; are = writes.are; so = (told, told_behind, writes.so); written = writes.written })
+
   pub right_salvage : (salvage : AskForSalvage words) (told told_behind : Option (List ℕ)) (result : Result Outcome Fault)
-      → IfOk result (SalvagesFileAt input salvage.file salvage.form salvage.places (outputs (contents old) (contents new) told told_behind) calls) → IfOk result IsRight
-  right_salvage salvage told told_behind (Ok (Salvaged end)) is = (salvage, (told, told_behind, is))
-  right_salvage salvage told told_behind (Ok OtherSchema) is = inr (salvage, (told, told_behind, is))
-  right_salvage salvage told told_behind (Ok outcome) (form, first, asked, (bytes, are, so)) = absurd so
+      → IfOk result (λ outcome. WritesIn salvage.form.encoding salvage.form.kind (contents old) (contents new)
+      (λ before behind. SalvagesFileAt input salvage.file salvage.form salvage.places (outputs before behind told told_behind) calls outcome)) → IfOk result IsRight
+  right_salvage salvage told told_behind (Ok (Salvaged end)) is = (salvage, told_by salvage told told_behind (Salvaged end) is)
+  right_salvage salvage told told_behind (Ok OtherSchema) is = inr (salvage, told_by salvage told told_behind OtherSchema is)
+  right_salvage salvage told told_behind (Ok outcome) (inl (is, (form, first, asked, (bytes, are, so)))) = absurd so
+  right_salvage salvage told told_behind (Ok outcome) (inr (is, writes)) = absurd writes.so.3.2
   right_salvage salvage told told_behind (Err fault) is = tt
 
   -- a deck was listed, or written in COBOL
@@ -99,21 +107,19 @@ module _ {W : Type 0} (disk : Unseen) (words : List Text) (calls : List Call) (i
     abbrev AskSo : Bool → Type 0
     AskSo checked = AskList words file.now key (option_map (λ text. text.now) from) (option_map (λ text. text.now) to) first (texts_of conditions.now) (form_text form) checked quiet
 
-    by_check : AskSo true → (result : Result Outcome Fault)
-        → IfOk result (ListsAsked input file.now bounds (texts_of conditions.now) (form_text form) contents old new calls) → IfOk result IsRight
-    by_check asked (Ok (Records end)) is = (for_records words file key from to first conditions form true quiet asked, is)
-    by_check asked (Ok OtherSchema) is = inl (for_records words file key from to first conditions form true quiet asked, is)
-    by_check asked (Ok outcome) is = absurd is
-    by_check asked (Err fault) is = tt
+    abbrev Lists : Bool → Outcome → Type 0
+    Lists checked outcome = WritesIn form.encoding.now form.kind.now (contents old) (contents new)
+        (λ before behind. DoesList checked disk input file.now bounds form before behind calls outcome)
 
-    by_index : AskSo false → (result : Result Outcome Fault)
-        → IfOk result (DoesByIndex disk input file.now bounds (texts_of conditions.now) (form_text form) (contents old) (contents new) calls) → IfOk result IsRight
-    by_index asked (Ok (Records end)) is = (for_records words file key from to first conditions form false quiet asked, is)
-    by_index asked (Ok OtherSchema) is = inl (for_records words file key from to first conditions form false quiet asked, is)
-    by_index asked (Ok outcome) is = absurd is
-    by_index asked (Err fault) is = tt
+    none_else : WritesIn form.encoding.now form.kind.now (contents old) (contents new) (λ before behind. ⊥) → ⊥
+    none_else (inl (is, so)) = so
+    none_else (inr (is, writes)) = writes.so
 
-    pub right_list : (checked : Bool) → AskSo checked → (result : Result Outcome Fault)
-        → ListsEitherWay checked disk input file.now bounds form contents old new result calls → IfOk result IsRight
-    right_list true asked result lists = by_check asked result lists.records
-    right_list false asked result lists = by_index asked result lists.records
+    pub right_list : (checked : Bool) → AskSo checked → (result : Result Outcome Fault) → IfOk result (Lists checked) → IfOk result IsRight
+    right_list true asked (Ok (Records end)) is = (for_records words file key from to first conditions form true quiet asked, is)
+    right_list true asked (Ok OtherSchema) is = inl (for_records words file key from to first conditions form true quiet asked, is)
+    right_list true asked (Ok outcome) is = absurd (none_else is)
+    right_list false asked (Ok (Records end)) is = (for_records words file key from to first conditions form false quiet asked, is)
+    right_list false asked (Ok OtherSchema) is = inl (for_records words file key from to first conditions form false quiet asked, is)
+    right_list false asked (Ok outcome) is = absurd (none_else is)
+    right_list checked asked (Err fault) is = tt

@@ -53,8 +53,8 @@ is_strict None = false
 abbrev pub LoadedAsAsked : (words : List Text) → (input : Option (List ℕ)) → Unseen → CallsMade
     → (before behind : Option (List ℕ)) → Result Outcome Fault → Type 0
 LoadedAsAsked words input disk made before behind outcome = (load : AskForLoad words)
-    × BeginsLoadOfDeck streams_first input load.deck load.folder load.file load.text load.form load.into
-    (options_of load.lines) disk made before behind outcome
+    × BeginsLoadOfDeck streams_first input load.deck load.folder load.file load.text load.form
+    load.encoding load.into (options_of load.lines) disk made before behind outcome
 
 -- the words ask for a copy, and this one was begun
 abbrev pub CopiedAsAsked : (words : List Text) → Unseen → CallsMade → Result Outcome Fault → Type 0

@@ -7,9 +7,10 @@ use Rattle.record_text.specs.declared.form.Form.{Form}
 use Rattle.record_text.specs.declared.form.Form.TheVariants.{Text, Csv, Json}
 use Rattle.record_text.specs.Parts.{part_of_column, item_parts}
 use Rattle.command_inputs.specs.DeckFile.{IsDeckFault}
-use Rattle.command_outcomes.specs.declared.form_fault.FormFault.TheVariants.{Kind}
+use Rattle.command_outcomes.specs.declared.form_fault.FormFault.TheVariants.{Kind, Encoding as NoEncoding}
 use Rattle.command_outcomes.specs.declared.fault.Fault.{Fault}
-use Rattle.command_outcomes.specs.declared.fault.Fault.TheVariants.{Form as NoForm, LoneRejects}
+use Rattle.command_outcomes.specs.declared.fault.Fault.TheVariants.{Form as NoForm}
+use Rattle.command_line.specs.Encoding.{IsNoEncodingWord}
 use Rattle.command_line.specs.declared.load_form.FormKind.{FormKind}
 use Rattle.command_line.specs.declared.load_form.FormKind.TheVariants as kinds
 
@@ -33,11 +34,8 @@ IsFormOf word file Text = word ≡ codes "text"
 IsFormOf word file (Csv columns) = (word ≡ codes "csv") × AreColumnsOf file columns.items
 IsFormOf word file (Json columns) = (word ≡ codes "json") × AreColumnsOf file columns.items
 
--- why nothing came of a load: the word asks for no form, or it is a fault of a file of a deck
-abbrev pub IsLoadFault : Word → Fault → Type 0
-IsLoadFault word fault = ((fault ≡ NoForm Kind) × IsNoFormWord word) ⊎ IsDeckFault fault
-
--- or a file for rejected lines is asked for, and the first one ends the load
-abbrev pub IsFaultOfLoad : (form : Word) → (rejects : Option Word) → (keep_going : Bool) → Fault → Type 0
-IsFaultOfLoad form rejects keep_going fault =
-    IsLoadFault form fault ⊎ ((fault ≡ LoneRejects) × IsSome rejects × (keep_going ≡ false))
+-- why nothing came of a load: a word asks for no form, another one for no encoding, or it is a fault of a
+-- file of a deck
+abbrev pub IsLoadFault : (form encoding : Word) → Fault → Type 0
+IsLoadFault form encoding fault = ((fault ≡ NoForm Kind) × IsNoFormWord form)
+    ⊎ ((fault ≡ NoForm NoEncoding) × IsNoEncodingWord encoding) ⊎ IsDeckFault fault

@@ -28,11 +28,13 @@ use Rattle.record_loading.specs.declared.shelf_end.ShelfEnd.{ShelfEnd}
 use Rattle.record_loading.specs.declared.shelf_end.ShelfEnd.TheVariants.{IsThere, Loaded}
 use Rattle.command_line.specs.CallsMade.{CallsMade, BeginsNothing, folder_behind}
 use Rattle.command_line.specs.Folder.{OverFolder}
-use Rattle.command_line.specs.LoadForm.{IsFormOf, IsFaultOfLoad, form_word}
+use Rattle.command_line.specs.Encoding.{IsTextIn, encoding_word}
+use Rattle.command_line.specs.LoadForm.{IsFormOf, IsLoadFault, form_word}
 use Rattle.command_inputs.specs.DeckFile.{IsFileOf, IsDeckFault}
 use Rattle.file_commands.specs.Differing.{AreDifferencesOf}
 use Rattle.command_inputs.specs.Front.{IsTextNamed, IsDeckNamed}
 use Rattle.streams.specs.declared.standard_input.StandardInput.{StandardInput}
+use Rattle.command_line.specs.declared.encoding.Encoding.{Encoding}
 use Rattle.command_line.specs.declared.load_form.FormKind.{FormKind}
 use Rattle.command_line.specs.declared.loading.Loading.{Loading}
 use Rattle.command_outcomes.specs.Status.{status_of}
@@ -158,38 +160,38 @@ pub record ComesOfLoad {W : Type 0} (IsBegun : Type 0) (IsSuch : Fault → Type 
   pub fault : IfErr outcome IsSuch
 
 -- a load was begun, behind what was asked before: a text was read of the path, or of the input where the
--- path is a hyphen, and loaded into a file of the deck that the bytes are
+-- path is a hyphen, which is in an encoding, and loaded into a file of the deck that the bytes are
 abbrev pub BeginsLoad : (base : List Call) → (input : Option (List ℕ)) → (bytes folder : List ℕ)
-    → (file text form : List ℕ) → (into : Bool) → LoadOptions → Unseen → CallsMade → (before behind : Option (List ℕ))
+    → (file text form encoding : List ℕ) → (into : Bool) → LoadOptions → Unseen → CallsMade → (before behind : Option (List ℕ))
     → Result Outcome Fault → Type 0
-BeginsLoad base input bytes folder file text form into options disk made before behind outcome =
+BeginsLoad base input bytes folder file text form encoding into options disk made before behind outcome =
     (reads : List Call) × (made.before ≡ reads ++ base)
-    × LoadsDeck disk made.system (IsTextNamed reads input text) bytes folder file form into options before behind
-    outcome
+    × LoadsDeck disk made.system (IsTextIn encoding form (IsTextNamed reads input text)) bytes folder file form
+    into options before behind outcome
 
 abbrev pub LoadsBytes : {I W : Type 0} → (old : SystemState) → (I → Option (List ℕ)) → StandardInput I
-    → Unseen → CallsMade → (bytes : List ℕ) → (path : String Global) → FormKind → Loading
+    → Unseen → CallsMade → (bytes : List ℕ) → (path : String Global) → FormKind → Encoding → Loading
     → (W → Option (List ℕ)) → (out out_after : W) → Result Outcome Fault → Type 0
-LoadsBytes old left input disk made bytes path kind asks contents out out_after outcome = ComesOfLoad
+LoadsBytes old left input disk made bytes path kind encoding asks contents out out_after outcome = ComesOfLoad
     (BeginsLoad old.calls (left input.reader) bytes (string_bytes path) asks.file.now asks.text.now
-    (form_word kind) asks.into asks.lines disk made (contents out) (contents out_after) outcome)
+    (form_word kind) (encoding_word encoding) asks.into asks.lines disk made (contents out) (contents out_after)
+    outcome)
     IsDeckFault old made out out_after outcome
 
 -- so of the bytes of a deck that were read of a path, or of the input where the path is a hyphen, once it
 -- was told that the folder is one
 abbrev pub BeginsLoadOfDeck : (base : List Call) → (input : Option (List ℕ)) → (deck folder : List ℕ)
-    → (file text form : List ℕ) → (into : Bool) → LoadOptions → Unseen → CallsMade → (before behind : Option (List ℕ))
+    → (file text form encoding : List ℕ) → (into : Bool) → LoadOptions → Unseen → CallsMade → (before behind : Option (List ℕ))
     → Result Outcome Fault → Type 0
-BeginsLoadOfDeck base input deck folder file text form into options disk made before behind outcome =
+BeginsLoadOfDeck base input deck folder file text form encoding into options disk made before behind outcome =
     (bytes : List ℕ) × (reads : List Call) × IsDeckNamed reads input deck bytes
-    × BeginsLoad (folder_behind folder reads base) input bytes folder file text form into options disk made
-    before behind outcome
+    × BeginsLoad (folder_behind folder reads base) input bytes folder file text form encoding into options disk
+    made before behind outcome
 
 abbrev pub LoadsAsked : {I W : Type 0} → (old : SystemState) → (I → Option (List ℕ)) → StandardInput I
     → Unseen → CallsMade → (deck folder : List ℕ) → Loading → (W → Option (List ℕ)) → (out out_after : W)
     → Result Outcome Fault → Type 0
 LoadsAsked old left input disk made deck folder asks contents out out_after outcome = ComesOfLoad
     (BeginsLoadOfDeck old.calls (left input.reader) deck folder asks.file.now asks.text.now asks.form.now
-    asks.into asks.lines disk made (contents out) (contents out_after) outcome)
-    (IsFaultOfLoad asks.form.now (option_map (λ text. text.now) asks.rejects) asks.lines.keep_going)
-    old made out out_after outcome
+    asks.encoding.now asks.into asks.lines disk made (contents out) (contents out_after) outcome)
+    (IsLoadFault asks.form.now asks.encoding.now) old made out out_after outcome

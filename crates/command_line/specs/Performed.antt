@@ -25,6 +25,7 @@ use Rattle.command_line.specs.CallsMade.{CallsMade, BeginsNothing, folder_behind
 use Rattle.command_line.specs.Copied.{AskForCopy, EndsInName}
 use Rattle.command_line.specs.Folder.{OverFolder}
 use Rattle.command_line.specs.Transcript.{IsRunFault}
+use Rattle.command_line.specs.Encoding.{IsNoEncodingWord}
 use Rattle.command_line.specs.LoadForm.{IsNoFormWord}
 use Rattle.command_inputs.specs.AskedForm.{IsConditionFaultOf}
 use Rattle.command_inputs.specs.DeckFile.{IsDeckAsked, IsHalf}
@@ -35,6 +36,7 @@ use Rattle.command_line.specs.declared.done.Ran.{Ran}
 use Rattle.command_outcomes.specs.Status.{status_of}
 use Rattle.command_outcomes.specs.declared.form_fault.FormFault.{FormFault}
 use Rattle.command_outcomes.specs.declared.form_fault.FormFault.TheVariants.{Kind, HalfDeck}
+use Rattle.command_outcomes.specs.declared.form_fault.FormFault.TheVariants.{Encoding as NoEncoding}
 use Rattle.command_outcomes.specs.declared.fault.Fault.{Fault}
 use Rattle.command_outcomes.specs.declared.fault.Fault.TheVariants.{Deck, NotListed, NoSuchFile}
 use Rattle.command_outcomes.specs.declared.fault.Fault.TheVariants.{Form as NoForm, Unexplained, LongValue, NoFileName}
@@ -212,12 +214,13 @@ pub record AskForSalvage (words : List Text) : Type 0 where
   pub places : Bool
   pub asked : AskSalvage words file form places
 
--- the words of a salvage have this fault of its form: as text half of a file of a deck is given; or the
--- fault is one of a list
+-- the words of a salvage have this fault of its form: as text half of a file of a deck is given; the fault is
+-- one of a list; or there is no such encoding
 abbrev pub HasSalvageFault : FormText → FormFault → Type 0
 HasSalvageFault form fault =
     ((form.kind ≡ codes "text") × IsHalf form.deck form.name × (fault ≡ HalfDeck))
     ⊎ ((form.kind ≢ codes "text") × HasFormFault form fault)
+    ⊎ ((fault ≡ NoEncoding) × HasFormFault form NoEncoding)
 
 -- the words ask for a file of a deck: to load a text into it, to have the columns of its record, to
 -- hold its schema against that of a file, or to salvage a file by it
@@ -228,13 +231,15 @@ AskOfFile words =
     ⊎ ((salvage : AskForSalvage words) × IsDeckAsked salvage.form.deck salvage.form.name)
 
 -- the words ask for a list in a form that has this fault, for a schema beside half of what is to be
--- held against it, for a salvage in a form that has it, or for a load by a word that asks for no form
+-- held against it, for a salvage in a form that has it, or for a load by a word that asks for no form, or
+-- for no encoding
 abbrev pub AskForNoForm : List Text → FormFault → Type 0
 AskForNoForm words fault =
     ((list : AskForRecords words) × HasFormFault list.form fault)
     ⊎ ((schema : AskForSchema words) × IsHalf schema.deck schema.name × (fault ≡ HalfDeck))
     ⊎ ((salvage : AskForSalvage words) × HasSalvageFault salvage.form fault)
     ⊎ ((load : AskForLoad words) × (fault ≡ Kind) × IsNoFormWord load.form)
+    ⊎ ((load : AskForLoad words) × (fault ≡ NoEncoding) × IsNoEncodingWord load.encoding)
 
 -- what was done for the words: help was written for those that ask for it, files checked for those
 -- that ask for that, records listed for those that ask for records, or the file found to be of another

@@ -20,6 +20,7 @@ use Rattle.file_commands.specs.Schema.{TellsAsked, ComparesAsked}
 use Rattle.file_commands.specs.Verdicts.{ChecksFile, WritesVerdicts}
 use Rattle.explanations.specs.Tables.{explanation}
 use Rattle.command_line.specs.CallsMade.{CallsMade, all_calls, BeginsWithStreams}
+use Rattle.command_line.specs.Encoding.{WritesIn}
 use Rattle.command_line.specs.Explained.{WritesExplanation}
 use Rattle.command_line.specs.Performed.{AskForRecords, AskForSalvage, AskForSchema}
 use Rattle.command_outcomes.specs.declared.fault.Fault.{Fault}
@@ -93,16 +94,18 @@ module _ {W : Type 0} (disk : Unseen) (words : List Text) (calls : List Call) (i
   -- the list of the deck that the words name was written
   IsRightOf Listed = (deck : Text) × AskDeck words deck
       × OfNamedDeck calls input deck (λ bytes. WritesList bytes (contents old) (contents new))
-  -- the records that the words ask for were written, in the form that they name, or it is told why not
+  -- the records that the words ask for were written, in the form and the encoding that they name, or it is
+  -- told why not
   IsRightOf (Records list) = (asked : AskForRecords words)
-      × ListsAsAsked asked.checked disk input asked calls (contents old) (contents new) list
+      × WritesIn asked.form.encoding asked.form.kind (contents old) (contents new)
+      (λ before behind. ListsAsAsked asked.checked disk input asked calls before behind list)
   -- the file is of another schema than the deck whose columns the words ask for, or by which it is to be
   -- salvaged, and the differences were written
   IsRightOf OtherSchema =
-      ((asked : AskForRecords words)
-      × DiffersAsAsked asked.checked input asked calls (contents old) (contents new))
-      ⊎ ((asked : AskForSalvage words)
-      × SalvagesAsAsked input asked calls (contents old) (contents new) OtherSchema)
+      ((asked : AskForRecords words) × WritesIn asked.form.encoding asked.form.kind (contents old) (contents new)
+      (λ before behind. DiffersAsAsked asked.checked input asked calls before behind))
+      ⊎ ((asked : AskForSalvage words) × WritesIn asked.form.encoding asked.form.kind (contents old) (contents new)
+      (λ before behind. SalvagesAsAsked input asked calls before behind OtherSchema))
   -- the deck that the words name was written as a program
   IsRightOf InCobol = (deck : Text) × (fixed : Bool) × AskCobol words deck fixed
       × OfNamedDeck calls input deck (λ bytes. WritesCobol bytes fixed (contents old) (contents new))
@@ -111,7 +114,8 @@ module _ {W : Type 0} (disk : Unseen) (words : List Text) (calls : List Call) (i
       × CountsFileAt path contents old new calls (Counted end)
   -- the records that are left in the file that the words name were written, or it is told why not
   IsRightOf (Salvaged end) = (asked : AskForSalvage words)
-      × SalvagesAsAsked input asked calls (contents old) (contents new) (Salvaged end)
+      × WritesIn asked.form.encoding asked.form.kind (contents old) (contents new)
+      (λ before behind. SalvagesAsAsked input asked calls before behind (Salvaged end))
 
 -- the request is for no run, no session, no load and no copy
 abbrev pub IsToRead : Request → Type 0

@@ -15,8 +15,12 @@
 mod causes;
 mod copying;
 mod done;
+mod encoded_list;
+mod encoded_text;
+mod encoding;
 mod explaining;
-mod kept_rejects;
+mod foreign_lines;
+mod handing_over;
 mod load_form;
 mod loading;
 mod missed;

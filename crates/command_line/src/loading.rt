@@ -4,10 +4,12 @@ ghost use Rattle.record_text.specs.Whole.{IsWholeForm};
 ghost use Rattle.command_line.specs.CallsMade.{calls_made};
 ghost use Rattle.command_line.specs.Loaded.{load_of, options_of, load_source, LoadsDescribed, IsShelfFault, LoadsBytes};
 
-use crate::kept_rejects::{keep_rejects, told_if_kept};
+use crate::encoded_text::read_encoded;
+use crate::encoding::Encoding;
+use crate::foreign_lines::ForeignLog;
 use crate::load_form::{FormKind, form_of};
 use crate::told_load::{room_and_path, tell_end};
-use command_inputs::{deck_of, file_named, read_text};
+use command_inputs::{deck_of, file_named};
 use command_outcomes::{Fault, Outcome};
 use command_words::{Limits, LineOptions};
 use file_control::FileDesc;
@@ -19,14 +21,14 @@ use std::alloc::Global;
 use std::io::{Read, Write};
 use streams::{Progress, StandardInput};
 
-/// What is asked of a load: the name of a file in the deck, the path of a text, the word for its
-/// form, whether the file is there, which lines, the limits of its pages, and the path of a new file
-/// for the lines that are rejected.
+/// What is asked of a load: the name of a file in the deck, the path of a text, the words for its
+/// form and its encoding, whether the file is there, which lines, and the limits of its pages.
 #[derive(Clone, Copy)]
 pub struct Loading<'a> {
     pub file: &'a str,
     pub text: &'a str,
     pub form: &'a str,
+    pub encoding: &'a str,
     pub into: bool,
     pub lines: LoadOptions,
     pub limits: Limits,
@@ -115,25 +117,35 @@ fn load_over_folder<S: System + Drop, D: Disk, R: KeepsLines, P: Progress>(
 }
 
 #[tactic(auto, using(command_inputs::proofs::DeckLemmas::not_there))]
-/// Loads a text of this kind into a file of the deck that the bytes are, over the files of a folder,
-/// and tells how that ended. What was asked before the folder is entered is set aside. `Deck`,
+/// Loads a text of this kind, in this encoding, into a file of the deck that the bytes are, over the files
+/// of a folder, and tells how that ended. What was asked before the folder is entered is set aside. `Deck`,
 /// `NoSuchFile`: nothing was written or changed, and no folder entered.
-pub fn load_deck<S: System + Drop, D: Disk, I: Read, R: KeepsLines, P: Progress, W: Write>(
+pub fn load_deck<
+    S: System + Drop,
+    D: Disk,
+    I: Read,
+    R: RejectLog,
+    P: Progress,
+    E: Write,
+    W: Write,
+>(
     system: S,
     aside: &mut CallRecord,
     alloc: Global,
     bytes: &[u8],
     folder: String,
     kind: FormKind,
+    encoding: Encoding,
     asked: Loading<'_>,
     input: &mut StandardInput<I>,
     rejects: &mut R,
     progress: &mut P,
+    doubts: &mut E,
     out: &mut W,
 ) -> (S, Result<Outcome, Fault>)
     requires none_aside { aside.old.calls ≡ [] }
     ensures { LoadsBytes (S.state system) I.remaining input.old D.Disk.unseen
-        (calls_made aside.new.calls (S.state result.0)) bytes.now folder kind asked.entry
+        (calls_made aside.new.calls (S.state result.0)) bytes.now folder kind encoding asked.entry
         W.contents out.old out.new result.1 }
 {
     let mut system = system;
@@ -150,7 +162,7 @@ pub fn load_deck<S: System + Drop, D: Disk, I: Read, R: KeepsLines, P: Progress,
         Ok(form) => form,
         Err(fault) => return (system, Err(fault)),
     };
-    let text = match read_text(&mut system, alloc, asked.text, input) {
+    let text = match read_encoded(&mut system, alloc, encoding, kind, asked.text, input) {
         Ok(text) => text,
         Err(fault) => return (system, Err(fault)),
     };
@@ -163,7 +175,8 @@ pub fn load_deck<S: System + Drop, D: Disk, I: Read, R: KeepsLines, P: Progress,
         Err(fault) => return (system, Err(fault)),
     }
     system.exchange_record(aside);
-    let (mut system, end) = load_over_folder::<S, D, R, P>(
+    let mut told = ForeignLog::new(rejects, text.given.as_slice(), doubts);
+    let (mut system, end) = load_over_folder::<S, D, _, P>(
         system,
         alloc,
         folder,
@@ -171,13 +184,14 @@ pub fn load_deck<S: System + Drop, D: Disk, I: Read, R: KeepsLines, P: Progress,
         load_of(asked.into),
         &form,
         asked.lines,
-        text.as_slice(),
+        text.list.as_slice(),
         asked.limits,
-        rejects,
+        &mut told,
         progress,
     );
     match end {
         Ok(end) => {
+            told.tell_end(end);
             let told = tell_end(
                 &mut system,
                 alloc,

@@ -34,12 +34,12 @@ returns-in-Ok-end g c =
     let behind = g.W.Write.contents c.tell_end-told.new.out in
     let outcome = c.told_if_kept.result in
     let system = g.S.System.state c.load_over_folder-system.result.0 in
-    let reads = c.in-Ok-read_text.ensures in
+    let reads = c.in-Ok-read_encoded.ensures in
     let named : IsFileOf c.in-Ok.deck.files c.args.asked.file.now file =
     sym (subst (λ (files : List FileDesc). Some file ≡ find (is_named_in_deck c.args.asked.file.now) files) c.as_slice.ensures c.in-Some.ensures) in
     let loads_as : Load → List ℕ → Type 0 = λ load text. LoadsFolder g.D.Disk.unseen (string_bytes c.args.folder) file.file file.schema load (load_source c.in-Ok-form_of.form text c.args.asked.lines) system (Ok end) in
-    let loads : loads_as (load_of c.args.asked.into) c.in-Ok-read_text.text.items =
-    subst (loads_as (load_of c.args.asked.into)) c.as_slice-2.ensures.value (subst (λ (load : Load). loads_as load c.as_slice-2.result.now) c.load_of.ensures (subst (λ (r : Result ShelfEnd Fault). LoadsFolder g.D.Disk.unseen (string_bytes c.args.folder) file.file file.schema c.load_of.result (load_source c.in-Ok-form_of.form c.as_slice-2.result.now c.args.asked.lines) system r) c.in-Ok-end.is c.load_over_folder-system.ensures.loads)) in
+    let loads : loads_as (load_of c.args.asked.into) c.in-Ok-read_encoded.text.list.items =
+    subst (loads_as (load_of c.args.asked.into)) c.as_slice-3.ensures.value (subst (λ (load : Load). loads_as load c.as_slice-3.result.now) c.load_of.ensures (subst (λ (r : Result ShelfEnd Fault). LoadsFolder g.D.Disk.unseen (string_bytes c.args.folder) file.file file.schema c.load_of.result (load_source c.in-Ok-form_of.form c.as_slice-3.result.now c.args.asked.lines) system r) c.in-Ok-end.is c.load_over_folder-system.ensures.loads)) in
     let path = file_path (string_bytes c.args.folder) file.file in
     let calls = c.tell_end-told.ensures.calls in
     let told_at : List ℕ → Schema → Type 0 = λ at schema. TellsLoad at schema (Ok end) calls before behind c.tell_end-told.result in
@@ -57,8 +57,8 @@ returns-in-Ok-end g c =
           named = named;
           form = c.in-Ok-form_of.form;
           is_form = c.in-Ok-form_of.ensures.form;
-          text = c.in-Ok-read_text.text.items;
-          is_text = reads.so.text;
+          text = c.in-Ok-read_encoded.text.list.items;
+          is_text = reads.so;
           end = Ok end;
           left = system;
           loads = loads;
@@ -78,12 +78,12 @@ returns g c =
     let file = c.in-Some.file.now in
     let before = g.W.Write.contents c.args.out.now in
     let system = g.S.System.state c.load_over_folder-system.result.0 in
-    let reads = c.in-Ok-read_text.ensures in
+    let reads = c.in-Ok-read_encoded.ensures in
     let named : IsFileOf c.in-Ok.deck.files c.args.asked.file.now file =
     sym (subst (λ (files : List FileDesc). Some file ≡ find (is_named_in_deck c.args.asked.file.now) files) c.as_slice.ensures c.in-Some.ensures) in
     let loads_as : Load → List ℕ → Type 0 = λ load text. LoadsFolder g.D.Disk.unseen (string_bytes c.args.folder) file.file file.schema load (load_source c.in-Ok-form_of.form text c.args.asked.lines) system (Err fault) in
-    let loads : loads_as (load_of c.args.asked.into) c.in-Ok-read_text.text.items =
-    subst (loads_as (load_of c.args.asked.into)) c.as_slice-2.ensures.value (subst (λ (load : Load). loads_as load c.as_slice-2.result.now) c.load_of.ensures (subst (λ (r : Result ShelfEnd Fault). LoadsFolder g.D.Disk.unseen (string_bytes c.args.folder) file.file file.schema c.load_of.result (load_source c.in-Ok-form_of.form c.as_slice-2.result.now c.args.asked.lines) system r) c.in-Err-end.is c.load_over_folder-system.ensures.loads)) in
+    let loads : loads_as (load_of c.args.asked.into) c.in-Ok-read_encoded.text.list.items =
+    subst (loads_as (load_of c.args.asked.into)) c.as_slice-3.ensures.value (subst (λ (load : Load). loads_as load c.as_slice-3.result.now) c.load_of.ensures (subst (λ (r : Result ShelfEnd Fault). LoadsFolder g.D.Disk.unseen (string_bytes c.args.folder) file.file file.schema c.load_of.result (load_source c.in-Ok-form_of.form c.as_slice-3.result.now c.args.asked.lines) system r) c.in-Err-end.is c.load_over_folder-system.ensures.loads)) in
     let path = file_path (string_bytes c.args.folder) file.file in
     let told : TellsLoad path file.schema (Err fault) [] before before (Err fault) = (refl, IfErr-at_err IsShelfFault c.in-Err-end.is c.load_over_folder-system.ensures.fault, refl, refl) in
     let failed = told_fault path file.schema (Err fault) [] before before (Err fault) told in record {
@@ -97,8 +97,8 @@ returns g c =
           named = named;
           form = c.in-Ok-form_of.form;
           is_form = c.in-Ok-form_of.ensures.form;
-          text = c.in-Ok-read_text.text.items;
-          is_text = reads.so.text;
+          text = c.in-Ok-read_encoded.text.list.items;
+          is_text = reads.so;
           end = Err fault;
           left = system;
           loads = loads;

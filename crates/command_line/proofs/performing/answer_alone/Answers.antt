@@ -11,7 +11,6 @@ use Rattle.command_line.proofs.CameLemmas.{run_did, run_came, serve_came, load_d
 use Rattle.command_outcomes.specs.declared.outcome.Outcome.TheVariants.{Listed, InCobol}
 use Rattle.std.specs.Prelude.{⊤}
 use Rattle.command_line.specs.CallsMade.{calls_made}
-use Rattle.salvaged_records.specs.Salvaged.{outputs}
 use Rattle.command_line.proofs.performing.answer_alone.Goals as goal
 
 pub returns-in-Help-clause-did : goal.returns-in-Help-clause-did
@@ -95,8 +94,9 @@ returns-in-List-clause-did g c words is =
     c.in-List.checked c.in-List.quiet) (sym c.as_slice-words.ensures.value) asked.0 in
     let records = for_records words c.in-List.file c.in-List.key c.in-List.from c.in-List.to c.in-List.first c.as_slice-words.result c.in-List.form c.in-List.checked c.in-List.quiet listed in
     rw c.without_run-in-List.ensures (did_list words records c.in-List.checked g.D.Disk.unseen (g.I.Read.remaining c.args.input.now.reader) c.in-List.file.now
-    (record { key = c.in-List.key; from = c.in-List.from; to = c.in-List.to; first = c.in-List.first; conditions = c.as_slice-words.result }) c.in-List.form refl refl g.W.Write.contents c.args.out.now c.list-system.new.out
-    c.list-system.ensures.so.calls c.list-system.result.1 c.list-system.ensures.so.so)
+    (record { key = c.in-List.key; from = c.in-List.from; to = c.in-List.to; first = c.in-List.first; conditions = c.as_slice-words.result }) c.in-List.form refl refl
+    (g.W.Write.contents c.args.out.now) (g.W.Write.contents c.list_encoded-system.new.out)
+    c.list_encoded-system.ensures.so.calls c.list_encoded-system.result.1 c.list_encoded-system.ensures.so.so.records c.list_encoded-system.ensures.so.so.fault)
 
 pub returns-in-List-clause-came : goal.returns-in-List-clause-came
 returns-in-List-clause-came g c words is =
@@ -104,10 +104,10 @@ returns-in-List-clause-came g c words is =
     let listed = subst (λ (l : List (Bor Text)). AskList words c.in-List.file.now c.in-List.key (option_map (λ text. text.now) c.in-List.from) (option_map (λ text. text.now) c.in-List.to) c.in-List.first (texts_of l) (form_text c.in-List.form)
     c.in-List.checked c.in-List.quiet) (sym c.as_slice-words.ensures.value) asked.0 in
     let input = g.I.Read.remaining c.args.input.now.reader in
-    rw c.without_run-in-List.ensures (inl (reads_aside g.D.Disk.unseen words input g.W.Write.contents c.args.out.now c.list-system.new.out c.list-system.new.aside.calls
-    (g.S.System.state c.args.system).calls (g.S.System.state c.list-system.result.0) c.requires.held c.list-system.result.1 c.list-system.ensures.so (c.args.request, rw c.in-List.is tt, is)
-    (λ calls so. right_list g.D.Disk.unseen words calls input g.W.Write.contents c.args.out.now c.list-system.new.out c.in-List.file c.in-List.key c.in-List.from c.in-List.to c.in-List.first c.as_slice-words.result c.in-List.form
-    c.in-List.quiet c.in-List.checked listed c.list-system.result.1 so)))
+    rw c.without_run-in-List.ensures (inl (reads_aside g.D.Disk.unseen words input g.W.Write.contents c.args.out.now c.list_encoded-system.new.out c.list_encoded-system.new.aside.calls
+    (g.S.System.state c.args.system).calls (g.S.System.state c.list_encoded-system.result.0) c.requires.held c.list_encoded-system.result.1 c.list_encoded-system.ensures.so (c.args.request, rw c.in-List.is tt, is)
+    (λ calls so. right_list g.D.Disk.unseen words calls input g.W.Write.contents c.args.out.now c.list_encoded-system.new.out c.in-List.file c.in-List.key c.in-List.from c.in-List.to c.in-List.first c.as_slice-words.result c.in-List.form
+    c.in-List.quiet c.in-List.checked listed c.list_encoded-system.result.1 so.records)))
 
 pub returns-in-Stat-clause-did : goal.returns-in-Stat-clause-did
 returns-in-Stat-clause-did g c words is =
@@ -127,18 +127,18 @@ pub returns-in-Salvage-clause-did : goal.returns-in-Salvage-clause-did
 returns-in-Salvage-clause-did g c words is =
     let asked = subst (Ask words) c.in-Salvage.is is in
     rw c.without_run-in-Salvage.ensures (did_salvage words (for_salvage words c.in-Salvage.file c.in-Salvage.form c.in-Salvage.places asked) (g.I.Read.remaining c.args.input.now.reader)
-    (outputs (g.W.Write.contents c.args.out.now) (g.W.Write.contents c.salvage_path-salvaged.new.out) (g.E.Write.contents c.args.doubts.now) (g.E.Write.contents c.salvage_path-salvaged.new.told)) c.salvage_path-salvaged.ensures.calls c.salvage_path-salvaged.result
-    c.salvage_path-salvaged.ensures.so.records c.salvage_path-salvaged.ensures.so.fault)
+    (g.W.Write.contents c.args.out.now) (g.W.Write.contents c.salvage_encoded-salvaged.new.out) (g.E.Write.contents c.args.doubts.now) (g.E.Write.contents c.salvage_encoded-salvaged.new.doubts)
+    c.salvage_encoded-salvaged.ensures.calls c.salvage_encoded-salvaged.result c.salvage_encoded-salvaged.ensures.so.records c.salvage_encoded-salvaged.ensures.so.fault)
 
 pub returns-in-Salvage-clause-came : goal.returns-in-Salvage-clause-came
 returns-in-Salvage-clause-came g c words is =
     let asked = subst (Ask words) c.in-Salvage.is is in
     let input = g.I.Read.remaining c.args.input.now.reader in
     let held = g.S.System.state c.args.system in
-    rw c.without_run-in-Salvage.ensures (inl (reads_alone g.D.Disk.unseen words input g.W.Write.contents c.args.out.now c.salvage_path-salvaged.new.out c.args.aside.now.calls c.requires.none_aside held (g.S.System.state c.salvage_path-salvaged.new.system) c.requires.held
-    c.salvage_path-salvaged.result c.salvage_path-salvaged.ensures (c.args.request, rw c.in-Salvage.is tt, is)
-    (λ calls so. right_salvage g.D.Disk.unseen words calls input g.W.Write.contents c.args.out.now c.salvage_path-salvaged.new.out (for_salvage words c.in-Salvage.file c.in-Salvage.form c.in-Salvage.places asked)
-    (g.E.Write.contents c.args.doubts.now) (g.E.Write.contents c.salvage_path-salvaged.new.told) c.salvage_path-salvaged.result so.records)))
+    rw c.without_run-in-Salvage.ensures (inl (reads_alone g.D.Disk.unseen words input g.W.Write.contents c.args.out.now c.salvage_encoded-salvaged.new.out c.args.aside.now.calls c.requires.none_aside held (g.S.System.state c.salvage_encoded-salvaged.new.system) c.requires.held
+    c.salvage_encoded-salvaged.result c.salvage_encoded-salvaged.ensures (c.args.request, rw c.in-Salvage.is tt, is)
+    (λ calls so. right_salvage g.D.Disk.unseen words calls input g.W.Write.contents c.args.out.now c.salvage_encoded-salvaged.new.out (for_salvage words c.in-Salvage.file c.in-Salvage.form c.in-Salvage.places asked)
+    (g.E.Write.contents c.args.doubts.now) (g.E.Write.contents c.salvage_encoded-salvaged.new.doubts) c.salvage_encoded-salvaged.result so.records)))
 
 pub returns-in-Cobol-clause-did : goal.returns-in-Cobol-clause-did
 returns-in-Cobol-clause-did g c words is =

@@ -1,6 +1,6 @@
 use Rattle.std.proofs.Common.{rules, ◌≡◌, true, false}
 use Rattle.file_commands.proofs.ByIndexLemmas.{none_aside}
-use Rattle.command_line.proofs.performing.list.Goals as goal
+use Rattle.command_line.proofs.encoded_list.list.Goals as goal
 
 pub returns-then-checked-clause-so : goal.returns-then-checked-clause-so
 returns-then-checked-clause-so g c =
