@@ -18,7 +18,7 @@ use Rattle.file_copying.specs.declared.copy_fault.CopyFault.TheVariants.{Reading
 use Rattle.file_copying.specs.declared.new_places.NewPlaces.{NewPlaces}
 use Rattle.file_copying.specs.declared.walk.TreeWalk.{TreeWalk}
 use Rattle.file_copying.specs.CopyFault.{IsCopyCause}
-use Rattle.file_copying.specs.NewPlaces.{IsKnown, moved_entry}
+use Rattle.file_copying.specs.NewPlaces.{HasNewPlace, moved_entry}
 use Rattle.file_copying.specs.Leading.{AreKnown, HasLed, IsLeadingCause}
 use Rattle.file_copying.specs.Walk.{HasWalked, BeginsWalk}
 use Rattle.file_copying.proofs.CopiedLemmas.{WalkEnd, primes_long}
@@ -70,7 +70,7 @@ pub record LeadLeft (index : PrimeIndex) (places : NewPlaces) (walk : TreeWalk) 
   pub all : done ++ next ∷ rest ≡ entries
   pub fits : IsPrimeEntry index.width next
   pub each : Each (IsPrimeEntry index.width) rest
-  pub is_known : IsKnown places next.place
+  pub is_known : HasNewPlace places next.place
   pub known : AreKnown places rest
   pub given : List (List ℕ)
   pub own : List ℕ

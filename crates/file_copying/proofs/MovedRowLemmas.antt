@@ -30,7 +30,7 @@ use Rattle.open_file.proofs.OrderLemmas.{either}
 use Rattle.open_file.proofs.RowLemmas.{put_each}
 use Rattle.file_copying.specs.declared.new_places.NewPlaces.{NewPlaces}
 use Rattle.file_copying.specs.declared.records_mover.MovedRecords.{MovedRecords}
-use Rattle.file_copying.specs.NewPlaces.{new_place, IsKnown, moved_entry}
+use Rattle.file_copying.specs.NewPlaces.{new_place, HasNewPlace, moved_entry}
 use Rattle.file_copying.specs.Leading.{AreKnown}
 use Rattle.file_copying.specs.Moving.{LeadsToRecord, IsMovedEntry, IsMoved, HasMovedAll}
 use Rattle.file_copying.specs.Rows.{RowsStandIn}
@@ -126,7 +126,7 @@ rows_known schema slots k primes new (place ∷ places) [] at own moved = absurd
 rows_known schema slots k primes new (place ∷ places) (row ∷ rows) at own moved =
     let it = moved.0 in
     let same : it.at ≡ entry_at (prime_of schema row.bytes) place = from_some _ _ (sym it.found ∙ own.0) in
-    (subst (λ (e : PrimeEntry). IsKnown new e.place) same it.known, rows_known schema slots k primes new places rows at.1 own.1 moved.1)
+    (subst (λ (e : PrimeEntry). HasNewPlace new e.place) same it.known, rows_known schema slots k primes new places rows at.1 own.1 moved.1)
 
 pub entries_known : (schema : Schema) (slots : Slots) (k w : ℕ) (new : NewPlaces) (places : List Place) (rows : List Row) → AreAt schema slots places rows → Each (IsPrimeEntry w) (prime_entries schema places rows)
     → Ascends w (map prime_bytes (prime_entries schema places rows)) → Each (IsMovedEntry (prime_entries schema places rows) new) (alt_entries schema k rows) → AreKnown new (prime_entries schema places rows)
@@ -146,7 +146,7 @@ moved_primes schema slots new (place ∷ places) (row ∷ rows) at =
     ap (λ (rest : List PrimeEntry). entry_at (prime_of schema row.bytes) (new_place new place) ∷ rest) (moved_primes schema slots new places rows at.1)
 
 moved_at : (schema : Schema) (slots now : Slots) (new : NewPlaces) (places : List Place) (rows : List Row) → AreAt schema slots places rows → AreKnown new (prime_entries schema places rows)
-    → ((p : Place) → IsKnown new p → IsMoved slots now p (new_place new p)) → AreAt schema now (map (new_place new) places) rows
+    → ((p : Place) → HasNewPlace new p → IsMoved slots now p (new_place new p)) → AreAt schema now (map (new_place new) places) rows
 moved_at schema slots now new [] [] at known moved = tt
 moved_at schema slots now new [] (row ∷ rows) at known moved = absurd at
 moved_at schema slots now new (place ∷ places) [] at known moved = absurd at

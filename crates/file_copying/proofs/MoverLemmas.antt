@@ -19,8 +19,8 @@ use Rattle.open_file.proofs.PartsLemmas.{some_none}
 use Rattle.tree_building.specs.Fresh.{IsBuildCause}
 use Rattle.file_copying.specs.declared.new_places.NewPlaces.{NewPlaces}
 use Rattle.file_copying.specs.declared.records_mover.RecordsMover.{RecordsMover}
-use Rattle.file_copying.specs.NewPlaces.{new_place, IsKnown, AreNowhere}
-use Rattle.file_copying.specs.Moving.{HasMoved, HasMovedTo, IsMoved, CameFrom, IsToMove}
+use Rattle.file_copying.specs.NewPlaces.{new_place, HasNewPlace, AreNowhere}
+use Rattle.file_copying.specs.Moving.{HasMovedRecords, HasMovedTo, IsMoved, CameFrom, IsToMove}
 
 -- two things that are known of an answer give a third
 pub both_known : (r : Result Unit Fault) (A B C : Type 0) → (A → B → C) → IsAnswer r (λ done. A) → OnOk r B → IsAnswer r (λ done. C)
@@ -43,7 +43,7 @@ memory_cause failed ran_out fault (inr is) = record {
 -- ---- no records yet
 
 pub nothing_moved : (heap : HeapBuilder) (places : NewPlaces) (room : ℕ) (pages : PageMap) (slots : Slots) (primes : List PrimeEntry) → IsFilling heap pages no_slots [] [] → AreNowhere room places
-    → HasMoved slots primes (record { heap = heap; places = places }) pages pages
+    → HasMovedRecords slots primes (record { heap = heap; places = places }) pages pages
 nothing_moved heap places room pages slots primes filling none = record {
   now = no_slots;
   own = [];
@@ -66,7 +66,7 @@ used_page heap pages slots own stands p some = go (slots p) refl some
     go None is never = absurd (cc)
     go (Some bytes) is one = (stands.keeps.used_are p bytes is).0.some
 
-module _ (slots : Slots) (primes : List PrimeEntry) (old new : RecordsMover) (start before after : PageMap) (h : HasMoved slots primes old start before) (place to : Place) (bytes : List ℕ)
+module _ (slots : Slots) (primes : List PrimeEntry) (old new : RecordsMover) (start before after : PageMap) (h : HasMovedRecords slots primes old start before) (place to : Place) (bytes : List ℕ)
     (is : IsToMove slots primes old place bytes) (free : h.now to ≡ None) (own : List ℕ) (order : List Place) (filling : IsFilling new.heap after (put_slot h.now to (Some bytes)) own order)
     (put : new_place new.places place ≡ to) (others : (p : Place) → p ≢ place → new_place new.places p ≡ new_place old.places p) where
   abbrev now : Slots
@@ -75,13 +75,13 @@ module _ (slots : Slots) (primes : List PrimeEntry) (old new : RecordsMover) (st
   page_of_it : 1 ≤ to.page
   page_of_it = (filling.stands.keeps.used_are to bytes (put_here h.now to (Some bytes))).0.some
 
-  known_now : IsKnown new.places place
+  known_now : HasNewPlace new.places place
   known_now = subst (λ (q : Place). 1 ≤ q.page) (sym put) page_of_it
 
   here_now : IsMoved slots now place (new_place new.places place)
   here_now = record { bytes = bytes; was = is.here; is = ap now put ∙ put_here h.now to (Some bytes) }
 
-  moved_now : (p : Place) → IsKnown new.places p → IsMoved slots now p (new_place new.places p)
+  moved_now : (p : Place) → HasNewPlace new.places p → IsMoved slots now p (new_place new.places p)
   moved_now p known = at_place (IsMoved slots now p (new_place new.places p)) place p
       (λ e. subst (λ (q : Place). IsMoved slots now q (new_place new.places q)) (sym e) here_now)
       (λ other. let same = others p other in
@@ -108,8 +108,8 @@ module _ (slots : Slots) (primes : List PrimeEntry) (old new : RecordsMover) (st
       changes = changes_trans start before after [] h.own own h.changes changes;
       moved = record { moved = moved_now; from = from_now };
     };
-    keeps = λ p known. at_place (IsKnown new.places p) place p
-        (λ e. subst (IsKnown new.places) (sym e) known_now)
+    keeps = λ p known. at_place (HasNewPlace new.places p) place p
+        (λ e. subst (HasNewPlace new.places) (sym e) known_now)
         (λ other. subst (λ (q : Place). 1 ≤ q.page) (sym (others p other)) known);
     known = known_now;
   }

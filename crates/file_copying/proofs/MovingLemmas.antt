@@ -18,7 +18,7 @@ use Rattle.file_copying.specs.declared.new_places.NewPlaces.{NewPlaces}
 use Rattle.file_copying.specs.declared.records_mover.RecordsMover.{RecordsMover}
 use Rattle.file_copying.specs.declared.walk.TreeWalk.{TreeWalk}
 use Rattle.file_copying.specs.NewPlaces.{new_place}
-use Rattle.file_copying.specs.Moving.{HasMoved, HasMovedTo, HasMovedEntries, LeadsToRecord, IsMovedEntry, EntriesAhead, KeepsKnown, IsMover}
+use Rattle.file_copying.specs.Moving.{HasMovedRecords, HasMovedTo, HasMovedEntries, LeadsToRecord, IsMovedEntry, EntriesAhead, KeepsKnown, IsMover}
 use Rattle.file_copying.proofs.CopiedLemmas.{WalkEnd}
 
 -- the first that passes a test is one of them
@@ -60,7 +60,7 @@ pub record MoveLeft (index : AltIndex) (walk : TreeWalk) (mover : RecordsMover) 
   pub ahead : EntriesAhead index walk live (next ∷ rest)
   pub leads : LeadsToRecord slots primes next
   pub others : Each (LeadsToRecord slots primes) rest
-  pub holds : HasMoved slots primes mover start pages
+  pub holds : HasMovedRecords slots primes mover start pages
   pub known : Each (IsMovedEntry primes mover.places) done
   pub many : length rest ≡ left
 
@@ -102,7 +102,7 @@ moved_one index walk now mover built live start pages after slots primes entries
 
 -- none is left
 pub record AllMoved (walk : TreeWalk) (mover : RecordsMover) (live start pages : PageMap) (slots : Slots) (primes : List PrimeEntry) (entries : List AltEntry) : Type 0 where
-  pub holds : HasMoved slots primes mover start pages
+  pub holds : HasMovedRecords slots primes mover start pages
   pub known : Each (IsMovedEntry primes mover.places) entries
   pub end : WalkEnd walk live
 

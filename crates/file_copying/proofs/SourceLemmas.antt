@@ -25,7 +25,7 @@ use Rattle.open_file.proofs.EntryLemmas.{alt_at}
 use Rattle.tree_building.proofs.RankLemmas.{primes_rise}
 use Rattle.file_copying.specs.declared.records_mover.RecordsMover.{RecordsMover}
 use Rattle.file_copying.specs.declared.walk.TreeWalk.{TreeWalk}
-use Rattle.file_copying.specs.Moving.{RecordsStand, LeadsToRecord, HasMoved, HasMovedEntries}
+use Rattle.file_copying.specs.Moving.{RecordsStand, LeadsToRecord, HasMovedRecords, HasMovedEntries}
 use Rattle.file_copying.specs.Walk.{BeginsWalk}
 use Rattle.file_copying.proofs.EntryLemmas.{alts_long}
 use Rattle.file_copying.proofs.MovedRowLemmas.{entries_lead}
@@ -67,7 +67,7 @@ damage_caused failed = record {
 
 -- no record is moved yet
 pub move_begun : (source : OpenFile) (live start : PageMap) (file : File) (stands : Stands source live file) (k : ℕ) (index : AltIndex) (walk : TreeWalk) (mover : RecordsMover) (left : ℕ) → IsAlternate source k
-    → index ≡ slice_index_or (alternates_of source) (k - 1) index → BeginsWalk index.tree walk → HasMoved stands.slots (prime_entries (file_schema source) stands.places file.rows) mover start start
+    → index ≡ slice_index_or (alternates_of source) (k - 1) index → BeginsWalk index.tree walk → HasMovedRecords stands.slots (prime_entries (file_schema source) stands.places file.rows) mover start start
     → (count : ℕ) → count ≡ length (alt_entries (file_schema source) k file.rows) → left ≡ count
     → HasMovedEntries index walk mover live start start stands.slots (prime_entries (file_schema source) stands.places file.rows) (alt_entries (file_schema source) k file.rows) left
 move_begun source live start file stands k index walk mover left key is begins none count many all =

@@ -20,12 +20,12 @@ use Rattle.file_copying.specs.declared.new_places.NewPlaces.{NewPlaces}
 use Rattle.file_copying.specs.declared.walk.TreeWalk.{TreeWalk}
 use Rattle.file_copying.specs.CopyFault.{IsCopyAnswer, HasRunOut}
 use Rattle.file_copying.specs.CopiedRows.{WhereBothHonest}
-use Rattle.file_copying.specs.NewPlaces.{IsKnown, moved_entry}
+use Rattle.file_copying.specs.NewPlaces.{HasNewPlace, moved_entry}
 use Rattle.file_copying.specs.Walk.{HasWalked, walk_tree}
 
 -- it is known where the record of each entry lies now
 abbrev pub AreKnown : NewPlaces → List PrimeEntry → Type 0
-AreKnown places = Each (λ e. IsKnown places e.place)
+AreKnown places = Each (λ e. HasNewPlace places e.place)
 
 -- the first of these entries are copied so into pages that were not in use, and so many are left
 pub record HasLed (index : PrimeIndex) (places : NewPlaces) (walk : TreeWalk) (builder : PrimeBuilder)
@@ -47,7 +47,7 @@ pub record IsLeading (index : PrimeIndex) (walk : TreeWalk) (builder : PrimeBuil
   pub width_is : builder.width ≡ index.width
 
 -- pages of the source may be read and those of the copy changed, and walk and builder are for the index
-pub record CanLead {S T : Type 0} (from : ShownPages S) (to : ShownPages T) (index : PrimeIndex)
+pub record CanLeadToRecords {S T : Type 0} (from : ShownPages S) (to : ShownPages T) (index : PrimeIndex)
     (walk : TreeWalk) (builder : PrimeBuilder) (old : S) (before : T) : Type 0 where
   pub ready : from.IsReady old
   pub target : LendsToChange to before
@@ -73,7 +73,7 @@ pub record PutsLeading {S : Type 0} (shown : ShownPages S) (index : PrimeIndex) 
   pub put : IsTrue (shown.state after).is_honest → IsTrue (shown.state before).is_sound
       → (start : PageMap) (done : List PrimeEntry) (e : PrimeEntry)
       → PrimeBuildsOn start (shown.state before).live old [] (map (moved_entry places) done)
-      → IsPrimeEntry index.width e → IsKnown places e.place → bytes ≡ prime_bytes e
+      → IsPrimeEntry index.width e → HasNewPlace places e.place → bytes ≡ prime_bytes e
       → IsCopyAnswer result (λ u. PrimeBuildsOn start (shown.state after).live new []
       (map (moved_entry places) (done ++ e ∷ [])) × IsTrue (shown.state after).is_sound)
   pub width_is : new.width ≡ old.width

@@ -33,7 +33,7 @@ use Rattle.file_copying.specs.declared.records_mover.RecordsMover.{RecordsMover}
 use Rattle.file_copying.specs.declared.walk.TreeWalk.{TreeWalk}
 use Rattle.file_copying.specs.CopyFault.{IsCopyAnswer, HasRunOut}
 use Rattle.file_copying.specs.CopiedRows.{WhereBothHonest, IsWritingCause}
-use Rattle.file_copying.specs.NewPlaces.{new_place, IsKnown}
+use Rattle.file_copying.specs.NewPlaces.{new_place, HasNewPlace}
 use Rattle.file_copying.specs.Walk.{HasWalked, walk_tree}
 
 -- the heap and the prime index of the file stand for these records and entries
@@ -55,7 +55,7 @@ pub record LeadsToRecord (slots : Slots) (primes : List PrimeEntry) (entry : Alt
 pub record IsMovedEntry (primes : List PrimeEntry) (places : NewPlaces) (entry : AltEntry) : Type 0 where
   pub at : PrimeEntry
   pub found : find (has_prime entry.prime.items) primes ≡ Some at
-  pub known : IsKnown places at.place
+  pub known : HasNewPlace places at.place
 
 -- the walk over an index of an alternate key is in front of these entries
 pub record EntriesAhead (index : AltIndex) (walk : TreeWalk) (live : PageMap) (rest : List AltEntry)
@@ -79,11 +79,11 @@ pub record CameFrom (primes : List PrimeEntry) (places : NewPlaces) (to : Place)
 
 -- each record whose new place is known is there, and the new heap has no other
 pub record AreMoved (slots now : Slots) (primes : List PrimeEntry) (places : NewPlaces) : Type 0 where
-  pub moved : (p : Place) → IsKnown places p → IsMoved slots now p (new_place places p)
+  pub moved : (p : Place) → HasNewPlace places p → IsMoved slots now p (new_place places p)
   pub from : (p : Place) → IsSome (now p) → CameFrom primes places p
 
 -- records were moved into a heap that is being built, in pages that were not in use
-pub record HasMoved (slots : Slots) (primes : List PrimeEntry) (mover : RecordsMover)
+pub record HasMovedRecords (slots : Slots) (primes : List PrimeEntry) (mover : RecordsMover)
     (start pages : PageMap) : Type 0 where
   pub now : Slots
   pub own : List ℕ
@@ -101,7 +101,7 @@ pub record HasMovedEntries (index : AltIndex) (walk : TreeWalk) (mover : Records
   pub all : done ++ rest ≡ entries
   pub ahead : EntriesAhead index walk live rest
   pub leads : Each (LeadsToRecord slots primes) rest
-  pub holds : HasMoved slots primes mover start pages
+  pub holds : HasMovedRecords slots primes mover start pages
   pub known : Each (IsMovedEntry primes mover.places) done
   pub many : length rest ≡ left
 
@@ -132,11 +132,11 @@ pub record IsNewMover (shape : Shape) (mover : RecordsMover) : Type 0 where
   pub slots_are : built_shape mover.heap ≡ shape
   pub room_is : mover.places.room ≡ room shape
   pub begun : (pages : PageMap) (slots : Slots) (primes : List PrimeEntry)
-      → HasMoved slots primes mover pages pages
+      → HasMovedRecords slots primes mover pages pages
 
 -- what was known stays known
 abbrev pub KeepsKnown : NewPlaces → NewPlaces → Type 0
-KeepsKnown old new = (p : Place) → IsKnown old p → IsKnown new p
+KeepsKnown old new = (p : Place) → HasNewPlace old p → HasNewPlace new p
 
 -- a call that finds the place of the record to which the next entry leads
 pub record FindsNextPlace {S : Type 0} (shown : ShownPages S) (source : OpenFile) (index : AltIndex)
@@ -154,9 +154,9 @@ pub record FindsNextPlace {S : Type 0} (shown : ShownPages S) (source : OpenFile
 -- the records moved so far, and one more
 pub record HasMovedTo (slots : Slots) (primes : List PrimeEntry) (old new : RecordsMover)
     (start pages : PageMap) (place : Place) : Type 0 where
-  pub holds : HasMoved slots primes new start pages
+  pub holds : HasMovedRecords slots primes new start pages
   pub keeps : KeepsKnown old.places new.places
-  pub known : IsKnown new.places place
+  pub known : HasNewPlace new.places place
 
 -- pages may be changed, and a slot of the new heap takes these stamps and this record
 pub record CanMove {S : Type 0} (shown : ShownPages S) (mover : RecordsMover) (stamps bytes : List ℕ)
@@ -184,7 +184,7 @@ pub record MovesRecord {S : Type 0} (shown : ShownPages S) (before after : S) (o
     (place : Place) (bytes : List ℕ) (result : Result Unit Fault) : Type 0 where
   pub moved : IsTrue (shown.state after).is_honest → IsTrue (shown.state before).is_sound
       → (slots : Slots) (primes : List PrimeEntry) (start : PageMap)
-      → HasMoved slots primes old start (shown.state before).live → IsToMove slots primes old place bytes
+      → HasMovedRecords slots primes old start (shown.state before).live → IsToMove slots primes old place bytes
       → IsAnswer result (λ done. HasMovedTo slots primes old new start (shown.state after).live place
       × IsTrue (shown.state after).is_sound)
   pub same : KeepsMover old new
@@ -194,7 +194,7 @@ pub record FinishesMove {S : Type 0} (shown : ShownPages S) (before after : S) (
     (result : Result MovedRecords Fault) : Type 0 where
   pub finished : IsTrue (shown.state after).is_honest → IsTrue (shown.state before).is_sound
       → (slots : Slots) (primes : List PrimeEntry) (entries : List AltEntry) (start : PageMap)
-      → HasMoved slots primes mover start (shown.state before).live
+      → HasMovedRecords slots primes mover start (shown.state before).live
       → Each (IsMovedEntry primes mover.places) entries
       → IsAnswer result (λ records. HasMovedAll (built_shape mover.heap) slots primes entries start
       (shown.state after).live records × IsTrue (shown.state after).is_sound)
@@ -208,11 +208,11 @@ pub record CanPutRecord {S : Type 0} (shown : ShownPages S) (source : OpenFile) 
   pub greatest : length slot ≤ (slot_shape (heap_of source)).stamps + (slot_shape (heap_of source)).greatest
 
 -- the same call, told as one of a copy
-pub record PutsRecord {S : Type 0} (shown : ShownPages S) (before after : S) (old new : RecordsMover)
+pub record PutsMovedRecord {S : Type 0} (shown : ShownPages S) (before after : S) (old new : RecordsMover)
     (place : Place) (slot : List ℕ) (result : Result Unit CopyFault) : Type 0 where
   pub put : IsTrue (shown.state after).is_honest → IsTrue (shown.state before).is_sound
       → (slots : Slots) (primes : List PrimeEntry) (start : PageMap)
-      → HasMoved slots primes old start (shown.state before).live → IsToMove slots primes old place slot
+      → HasMovedRecords slots primes old start (shown.state before).live → IsToMove slots primes old place slot
       → IsCopyAnswer result (λ done. HasMovedTo slots primes old new start (shown.state after).live place
       × IsTrue (shown.state after).is_sound)
   pub same : KeepsMover old new
@@ -233,7 +233,7 @@ pub record MovesFrom {S T : Type 0} (from : ShownPages S) (to : ShownPages T) (s
   pub moved : WhereBothHonest from to new before after ((slots : Slots) (primes : List PrimeEntry)
       (start : PageMap) → RecordsStand source (from.state old).live slots primes → (entry : AltEntry)
       → (leads : LeadsToRecord slots primes entry) → place ≡ leads.at.place
-      → HasMoved slots primes mover start (to.state before).live
+      → HasMovedRecords slots primes mover start (to.state before).live
       → IsCopyAnswer result (λ done. HasMovedTo slots primes mover mover_now start (to.state after).live place
       × IsTrue (to.state after).is_sound))
   pub is_mover : IsMover source mover_now

@@ -30,8 +30,8 @@ told_at places (Some number) = slice_index_or places number nowhere
 abbrev pub new_place : NewPlaces → Place → Place
 new_place places p = told_at places.places.items (number_within places.room p)
 
-abbrev pub IsKnown : NewPlaces → Place → Type 0
-IsKnown places p = 1 ≤ (new_place places p).page
+abbrev pub HasNewPlace : NewPlaces → Place → Type 0
+HasNewPlace places p = 1 ≤ (new_place places p).page
 
 -- an entry of the prime index, with the place that its record has now
 abbrev pub moved_entry : NewPlaces → PrimeEntry → PrimeEntry
@@ -43,7 +43,7 @@ pub record AreNowhere (room : ℕ) (places : NewPlaces) : Type 0 where
   pub none : (p : Place) → new_place places p ≡ nowhere
 
 -- a call that makes room for what is told of so many slots
-pub record MakesRoom (old new : NewPlaces) (count : ℕ) (result : Result Unit Fault) : Type 0 where
+pub record MakesRoomForPlaces (old new : NewPlaces) (count : ℕ) (result : Result Unit Fault) : Type 0 where
   pub made : OnOk result (count ≤ length new.places.items)
   pub same : (i : ℕ) → told_at new.places.items (Some i) ≡ told_at old.places.items (Some i)
   pub room : new.room ≡ old.room

@@ -3,7 +3,7 @@
 ghost use Rattle.std.specs.Prelude.{false};
 ghost use Rattle.open_file.specs.Lent.{LendsPages, LendsToChange};
 ghost use Rattle.file_copying.specs.CopyFault.{KeepsCopying};
-ghost use Rattle.file_copying.specs.Leading.{LeadsToRecords, EndsLeading, CanLead, LeadsNext};
+ghost use Rattle.file_copying.specs.Leading.{LeadsToRecords, EndsLeading, CanLeadToRecords, LeadsNext};
 ghost use Rattle.file_copying.specs.Leading.{CanPutLeading, PutsLeading};
 
 use crate::copy_fault::CopyFault;
@@ -77,7 +77,7 @@ fn lead_next<P: Pages, Q: Pages>(
     to: &mut Q,
     builder: &mut PrimeBuilder,
 ) -> Result<(), CopyFault>
-    requires { CanLead P.shown Q.shown index.now walk.old builder.old from.old to.old }
+    requires { CanLeadToRecords P.shown Q.shown index.now walk.old builder.old from.old to.old }
     ensures leads { LeadsNext P.shown Q.shown index.now places.now walk.old walk.new
         builder.old builder.new from.old from.new to.old to.new result }
     ensures keeps { KeepsCopying P.shown Q.shown false from.old from.new to.old to.new result }

@@ -6,7 +6,7 @@ ghost use Rattle.file_copying.specs.CopyFault.{KeepsCopying};
 ghost use Rattle.file_copying.specs.Walk.{walk_tree};
 ghost use Rattle.file_copying.specs.Moving.{MovesRecords, EndsMoving, CanMoveNext, MovesNext};
 ghost use Rattle.file_copying.specs.Moving.{FindsNextPlace, CanMoveFrom, MovesFrom, CanPutRecord};
-ghost use Rattle.file_copying.specs.Moving.{PutsRecord};
+ghost use Rattle.file_copying.specs.Moving.{PutsMovedRecord};
 
 use crate::copy_fault::CopyFault;
 use crate::records_mover::{MovedRecords, RecordsMover};
@@ -145,7 +145,7 @@ fn put_record<Q: Pages>(
     slot: &[u8],
 ) -> Result<(), CopyFault>
     requires { CanPutRecord Q.shown source.now mover.old slot.now to.old }
-    ensures { PutsRecord Q.shown to.old to.new mover.old mover.new place slot.now result }
+    ensures { PutsMovedRecord Q.shown to.old to.new mover.old mover.new place slot.now result }
 {
     let stamps = usize::from(source.stamps_length());
     match mover.push(to, place, &slot[..stamps], &slot[stamps..]) {

@@ -22,7 +22,7 @@ pub struct NewPlaces {
 }
 
 impl NewPlaces {
-    ghost use Rattle.file_copying.specs.NewPlaces.{AreNowhere, PutsPlace, MakesRoom, new_place};
+    ghost use Rattle.file_copying.specs.NewPlaces.{AreNowhere, PutsPlace, MakesRoomForPlaces, new_place};
     ghost use Rattle.file_copying.specs.NewPlaces.{number_within};
 
     /// Where nothing was moved yet from pages of so many slots.
@@ -64,7 +64,7 @@ impl NewPlaces {
     ///
     /// Memory.
     fn make_room(&mut self, count: usize) -> Result<(), Fault>
-        ensures { MakesRoom self.old self.new count result }
+        ensures { MakesRoomForPlaces self.old self.new count result }
     {
         if self.places.len() < count {
             self.places
