@@ -39,10 +39,12 @@ impl<'a, R: RejectLog, E: Write> ForeignLog<'a, R, E> {
 
     /// Tells so of the line that ended the load, if it is that of no record.
     pub fn tell_end(&mut self, end: ShelfEnd) {
-        if let ShelfEnd::Loaded(LoadEnd::Opened {
-            lines: LinesEnd::NoRecord { line, .. },
-            ..
-        }) = end
+        if let ShelfEnd::Loaded(
+            LoadEnd::Opened {
+                lines: LinesEnd::NoRecord { line, .. },
+                ..
+            },
+        ) = end
         {
             tell_foreign(&mut self.lines, line, self.err);
         }

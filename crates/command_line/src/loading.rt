@@ -120,15 +120,7 @@ fn load_over_folder<S: System + Drop, D: Disk, R: KeepsLines, P: Progress>(
 /// Loads a text of this kind, in this encoding, into a file of the deck that the bytes are, over the files
 /// of a folder, and tells how that ended. What was asked before the folder is entered is set aside. `Deck`,
 /// `NoSuchFile`: nothing was written or changed, and no folder entered.
-pub fn load_deck<
-    S: System + Drop,
-    D: Disk,
-    I: Read,
-    R: RejectLog,
-    P: Progress,
-    E: Write,
-    W: Write,
->(
+pub fn load_deck<S: System + Drop, D: Disk, I: Read, R: RejectLog, P: Progress, E: Write, W: Write>(
     system: S,
     aside: &mut CallRecord,
     alloc: Global,
