@@ -101,6 +101,23 @@ def kept_lines_are_loaded(room, form):
     wants(listed(room, form), header + line_of(*GOOD[0]) + line_of(*GOOD[1]) + line_of("0003", "CC", "TWIN"), "the records")
 
 
+def rejected_lines_of_utf_8(room):
+    """Of a text in UTF-8 the lines are kept with escapes in the place of characters that are bytes, and all else as it stands. Mended, they are loaded in UTF-8."""
+    rejects = room.place / "rejects"
+    text = HEADER + '"0001","éé","LAMP"\r\n"0002","éé","DéSK"\r\n"0003","CC","5 €é"\r\n'.encode()
+    ended = room.call(words(room, text, "csv", "--encoding", "utf-8", "--keep-going", "--rejects", rejects))
+    wants((ended.returncode, ended.stdout), (1, b"loaded 1, rejected 2\n"), "the load")
+    mistake = b"line 4, column 3 GOODS-NAME: 2 characters, then byte e2, which no list writes"
+    told = [b"cobix: line 3: status 22", b"cobix: line 4: no record of this file", mistake, b"line 4: U+20AC, which is no byte"]
+    wants(ended.stderr.splitlines(), told, "what is told")
+    kept = HEADER + '"0002","\\e9\\e9","D\\e9SK"\r\n"0003","CC","5 €\\e9"\r\n'.encode()
+    wants(rejects.read_bytes(), kept, "the lines that are kept")
+    mended = kept.replace(b'"0002","\\e9\\e9"', b'"0002","BB"').replace("€".encode(), b"E")
+    ended = room.call(words(room, mended, "csv", "--encoding", "utf-8", "--into"))
+    wants((ended.returncode, ended.stdout), (0, b"loaded 2\n"), "the load of what was mended")
+    wants(listed(room, "csv"), HEADER + b'"0001","\\e9\\e9","LAMP"\r\n"0002","BB","D\\e9SK"\r\n"0003","CC","5 E\\e9"\r\n', "the records")
+
+
 def last_line_without_its_end(room):
     """A last line without LF is kept without it, and lines that are skipped are not kept."""
     rejects = room.place / "rejects"
@@ -197,6 +214,7 @@ def trials():
         for count in (0, 1, 2, 3, 6):
             yield f"{count} rejected lines of {form}", lambda room, form=form, count=count: rejected_lines_are_kept(room, form, count)
         yield f"rejected lines of {form} that are mended and loaded", lambda room, form=form: kept_lines_are_loaded(room, form)
+    yield "rejected lines of a text in UTF-8", rejected_lines_of_utf_8
     yield "a last line without its end, and lines that are skipped", last_line_without_its_end
     yield "lines that replace records", replaced_lines_are_not_kept
     yield "a file for rejected lines that is there", what_is_there_is_left
