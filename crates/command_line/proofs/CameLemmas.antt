@@ -87,7 +87,7 @@ module _ {X I W : Type 0} (shelf : Ghosts X) (keeps_open : X → ℕ → Bool) (
     IsBegun base outcome = BeginsLoadOfDeck base (left input.reader) load.deck load.folder load.file load.text load.form load.encoding load.into (options_of load.lines) disk (calls_made before after)
         (contents out) (contents out_after) outcome
 
-    pub load_came : (done : Done) → ComesOfLoad (IsBegun old.calls done.outcome) (IsLoadFault load.form load.encoding) old (calls_made before after) out out_after done.outcome → Came done
+    pub load_came : (done : Done) → ComesOfLoad (IsBegun old.calls done.outcome) (IsFaultOfLoad load.form load.encoding load.rejects load.lines.keep_going) old (calls_made before after) out out_after done.outcome → Came done
     load_came done comes = elim comes.came [
       | inl none ↦ inl (begins_alone disk words (left input.reader) contents out out_after before none.none_aside old after held done.outcome none)
       | inr is ↦ inr (inr (inr (load, subst (λ (base : List Call). IsBegun base done.outcome) held is)))
@@ -116,7 +116,7 @@ load_done_by old made out out_after before behind outcome base input deck folder
 
 pub load_did : {W : Type 0} (words : List Text) (load : AskForLoad words) {old : SystemState} {made : CallsMade} {out out_after : W} {before behind : Option (List ℕ)} {base : List Call}
     {input : Option (List ℕ)} {disk : Unseen} (outcome : Result Outcome Fault)
-    → ComesOfLoad (BeginsLoadOfDeck base input load.deck load.folder load.file load.text load.form load.encoding load.into (options_of load.lines) disk made before behind outcome) (IsLoadFault load.form load.encoding) old made out out_after outcome
+    → ComesOfLoad (BeginsLoadOfDeck base input load.deck load.folder load.file load.text load.form load.encoding load.into (options_of load.lines) disk made before behind outcome) (IsFaultOfLoad load.form load.encoding load.rejects load.lines.keep_going) old made out out_after outcome
     → Did words outcome
 load_did words load {old} {made} {out} {out_after} {before} {behind} {base} {input} {disk} outcome comes =
     did_load words load outcome (load_done old made out out_after outcome _ comes.came

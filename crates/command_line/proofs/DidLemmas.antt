@@ -27,7 +27,7 @@ use Rattle.file_statistics.specs.declared.listing.FileStatisticsEnd.{FileStatist
 use Rattle.record_loading.specs.declared.shelf_end.ShelfEnd.{ShelfEnd}
 use Rattle.command_line.specs.Encoding.{WritesIn}
 use Rattle.command_line.specs.Encoded.{DoesList, IsEncodedRefused}
-use Rattle.command_line.specs.LoadForm.{IsLoadFault}
+use Rattle.command_line.specs.LoadForm.{IsFaultOfLoad}
 use Rattle.command_line.specs.Performed.{AskOfDeck, AskForLoad, AskForRecords, AskForRun, AskForSalvage, AskForSchema, Did, IsRunOutcome}
 use Rattle.command_outcomes.specs.Status.{status_of}
 use Rattle.command_outcomes.specs.declared.fault.Fault.{Fault}
@@ -174,11 +174,12 @@ module _ (words : List Text) (load : AskForLoad words) where
   load_refused Memory h = tt
   load_refused fault h = absurd h
 
-  pub did_load : (result : Result Outcome Fault) → IfOk result (λ outcome. (end : ShelfEnd) × (outcome ≡ Loaded end)) → IfErr result (IsLoadFault load.form load.encoding) → Did words result
+  pub did_load : (result : Result Outcome Fault) → IfOk result (λ outcome. (end : ShelfEnd) × (outcome ≡ Loaded end)) → IfErr result (IsFaultOfLoad load.form load.encoding load.rejects load.lines.keep_going) → Did words result
   did_load (Ok outcome) done fault = subst (λ (o : Outcome). Did words (Ok o)) (sym done.1) load
-  did_load (Err f) done (inl none) = subst (λ (x : Fault). Did words (Err x)) (sym none.0) (inr (inr (inr (inl (load, refl, none.1)))))
-  did_load (Err f) done (inr (inl none)) = subst (λ (x : Fault). Did words (Err x)) (sym none.0) (inr (inr (inr (inr (load, refl, none.1)))))
-  did_load (Err f) done (inr (inr refused)) = load_refused f refused
+  did_load (Err f) done (inl (inl none)) = subst (λ (x : Fault). Did words (Err x)) (sym none.0) (inr (inr (inr (inl (load, refl, none.1)))))
+  did_load (Err f) done (inl (inr (inl none))) = subst (λ (x : Fault). Did words (Err x)) (sym none.0) (inr (inr (inr (inr (load, refl, none.1)))))
+  did_load (Err f) done (inl (inr (inr refused))) = load_refused f refused
+  did_load (Err f) done (inr lone) = subst (λ (x : Fault). Did words (Err x)) (sym lone.0) (load, lone.1, lone.2)
 
 -- the words ask for a run
 module _ (words : List Text) (run : AskForRun words) where

@@ -23,7 +23,7 @@ use Rattle.command_inputs.specs.DeckFile.{IsDeckFault}
 use Rattle.command_inputs.specs.Front.{IsDeckNamed, IsTextNamed, longest_line}
 use Rattle.command_inputs.proofs.DeckLemmas.{not_there}
 use Rattle.command_line.specs.Encoding.{IsTextIn}
-use Rattle.command_line.specs.LoadForm.{IsLoadFault}
+use Rattle.command_line.specs.LoadForm.{IsFaultOfLoad}
 use Rattle.command_line.specs.Loaded.{EndsLoadOf, LoadsFolder, LoadsDeck, TellsLoad, ComesOfLoad, BeginsLoad, BeginsLoadOfDeck}
 use Rattle.command_line.proofs.FolderLemmas.{untouched}
 use Rattle.command_outcomes.specs.Status.{status_of}
@@ -182,9 +182,9 @@ module _ {W : Type 0} (old between : SystemState) (made : CallsMade) (at_first b
   came_of_deck (inl none) = inl (begins_nothing_after old between made out out_after outcome first none)
   came_of_deck (inr is) = inr (of_deck is)
 
-  pub load_of_deck : ComesOfLoad (IsOfBytes between.calls) IsDeckFault between made out out_after outcome → ComesOfLoad IsOfDeck (IsLoadFault form encoding) old made out out_after outcome
-  load_of_deck comes = record {
+  pub load_of_deck : (rejects : Option (List ℕ)) (keep_going : Bool) → ComesOfLoad (IsOfBytes between.calls) IsDeckFault between made out out_after outcome → ComesOfLoad IsOfDeck (IsFaultOfLoad form encoding rejects keep_going) old made out out_after outcome
+  load_of_deck rejects keep_going comes = record {
     came = came_of_deck comes.came;
     untouched = comes.untouched;
-    fault = IfErr-weaker outcome IsDeckFault (IsLoadFault form encoding) (λ fault is. inr (inr is)) comes.fault;
+    fault = IfErr-weaker outcome IsDeckFault (IsFaultOfLoad form encoding rejects keep_going) (λ fault is. inl (inr (inr is))) comes.fault;
   }

@@ -29,7 +29,7 @@ use Rattle.record_loading.specs.declared.shelf_end.ShelfEnd.TheVariants.{IsThere
 use Rattle.command_line.specs.CallsMade.{CallsMade, BeginsNothing, folder_behind}
 use Rattle.command_line.specs.Folder.{OverFolder}
 use Rattle.command_line.specs.Encoding.{IsTextIn, encoding_word}
-use Rattle.command_line.specs.LoadForm.{IsFormOf, IsLoadFault, form_word}
+use Rattle.command_line.specs.LoadForm.{IsFormOf, IsFaultOfLoad, form_word}
 use Rattle.command_inputs.specs.DeckFile.{IsFileOf, IsDeckFault}
 use Rattle.file_commands.specs.Differing.{AreDifferencesOf}
 use Rattle.command_inputs.specs.Front.{IsTextNamed, IsDeckNamed}
@@ -194,4 +194,5 @@ abbrev pub LoadsAsked : {I W : Type 0} → (old : SystemState) → (I → Option
 LoadsAsked old left input disk made deck folder asks contents out out_after outcome = ComesOfLoad
     (BeginsLoadOfDeck old.calls (left input.reader) deck folder asks.file.now asks.text.now asks.form.now
     asks.encoding.now asks.into asks.lines disk made (contents out) (contents out_after) outcome)
-    (IsLoadFault asks.form.now asks.encoding.now) old made out out_after outcome
+    (IsFaultOfLoad asks.form.now asks.encoding.now (option_map (λ text. text.now) asks.rejects) asks.lines.keep_going)
+    old made out out_after outcome

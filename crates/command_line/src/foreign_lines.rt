@@ -1,8 +1,7 @@
 //! What of a line that is no record's is no byte of a record, told after its mistake.
-ghost use Rattle.std.specs.Prelude.{⊤};
-
 use line_encoding::{Foreign, ForeignLines};
 use record_loading::{LinesEnd, LoadEnd, RejectLog, RejectReason, RejectedLine, ShelfEnd};
+use rejected_lines::KeepsLines;
 use std::io::Write;
 
 /// Tells what of the line of this number is no byte of a record, if anything is.
@@ -27,7 +26,7 @@ pub struct ForeignLog<'a, R, E> {
     err: &'a mut E,
 }
 
-impl<'a, R: RejectLog, E: Write> ForeignLog<'a, R, E> {
+impl<'a, R: KeepsLines, E: Write> ForeignLog<'a, R, E> {
     /// The log, before the first line.
     pub fn new(rejects: &'a mut R, text: &'a [u8], err: &'a mut E) -> ForeignLog<'a, R, E> {
         ForeignLog {
@@ -51,16 +50,38 @@ impl<'a, R: RejectLog, E: Write> ForeignLog<'a, R, E> {
     }
 }
 
-impl<'a, R: RejectLog, E: Write> RejectLog for ForeignLog<'a, R, E> {
-    // What the writer took is not promised, since it may fail.
-    ghost tells = { λ _ _ _. ⊤ };
+impl<'a, R: KeepsLines, E: Write> RejectLog for ForeignLog<'a, R, E> {
+    ghost use Rattle.rejected_lines.specs.Kept.{KeepsMore};
 
-    fn tell(&mut self, rejected: RejectedLine) {
+    // What the writer took is not promised, since it may fail.
+    ghost tells = { λ old new _ line.
+        KeepsMore (R.KeepsLines.kept old.rejects.now) line (R.KeepsLines.kept new.rejects.now) };
+
+    fn tell(&mut self, rejected: RejectedLine, line: &[u8]) {
         let is_no_record = matches!(rejected.reason, RejectReason::NoRecord(_));
         let number = rejected.line;
-        self.rejects.tell(rejected);
+        self.rejects.tell(rejected, line);
+        R::keeps_told();
         if is_no_record {
             tell_foreign(&mut self.lines, number, self.err);
         }
+    }
+}
+
+impl<'a, R: KeepsLines, E: Write> KeepsLines for ForeignLog<'a, R, E> {
+    ghost kept = { λ log. R.KeepsLines.kept log.rejects.now };
+
+    fn keeps_told() {}
+
+    fn keep_in(&mut self, path: &str, head: &[u8]) -> bool {
+        self.rejects.keep_in(path, head)
+    }
+
+    fn finish(&mut self) -> bool {
+        self.rejects.finish()
+    }
+
+    fn tell_refusal<X: Write>(&self, err: &mut X) {
+        self.rejects.tell_refusal(err);
     }
 }

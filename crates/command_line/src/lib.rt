@@ -21,6 +21,7 @@ mod encoding;
 mod explaining;
 mod foreign_lines;
 mod handing_over;
+mod kept_rejects;
 mod load_form;
 mod loading;
 mod missed;

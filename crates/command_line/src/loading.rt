@@ -7,6 +7,7 @@ ghost use Rattle.command_line.specs.Loaded.{load_of, options_of, load_source, Lo
 use crate::encoded_text::read_encoded;
 use crate::encoding::Encoding;
 use crate::foreign_lines::ForeignLog;
+use crate::kept_rejects::{keep_rejects, told_if_kept};
 use crate::load_form::{FormKind, form_of};
 use crate::told_load::{room_and_path, tell_end};
 use command_inputs::{deck_of, file_named};
@@ -22,7 +23,8 @@ use std::io::{Read, Write};
 use streams::{Progress, StandardInput};
 
 /// What is asked of a load: the name of a file in the deck, the path of a text, the words for its
-/// form and its encoding, whether the file is there, which lines, and the limits of its pages.
+/// form and its encoding, whether the file is there, which lines, the limits of its pages, and the path
+/// of a new file for the lines that are rejected.
 #[derive(Clone, Copy)]
 pub struct Loading<'a> {
     pub file: &'a str,
@@ -120,7 +122,15 @@ fn load_over_folder<S: System + Drop, D: Disk, R: KeepsLines, P: Progress>(
 /// Loads a text of this kind, in this encoding, into a file of the deck that the bytes are, over the files
 /// of a folder, and tells how that ended. What was asked before the folder is entered is set aside. `Deck`,
 /// `NoSuchFile`: nothing was written or changed, and no folder entered.
-pub fn load_deck<S: System + Drop, D: Disk, I: Read, R: RejectLog, P: Progress, E: Write, W: Write>(
+pub fn load_deck<
+    S: System + Drop,
+    D: Disk,
+    I: Read,
+    R: KeepsLines,
+    P: Progress,
+    E: Write,
+    W: Write,
+>(
     system: S,
     aside: &mut CallRecord,
     alloc: Global,

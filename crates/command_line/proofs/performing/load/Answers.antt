@@ -22,6 +22,7 @@ returns g c =
     load_of_deck (g.S.System.state c.args.system) between made at_first left c.args.deck.now c.args.folder.now c.args.asked.file.now c.args.asked.text.now c.args.asked.form.now c.args.asked.encoding.now c.args.asked.into c.args.asked.lines
     g.D.Disk.unseen before behind c.args.out.now c.load_deck.new.out c.load_deck.result.1 inputs.0.items given.1 given.2 given.3 c.inputs_of.ensures.reads.reads
     (λ other. ap (λ input. g.I.Read.remaining input.reader) (c.inputs_of.ensures.unread other)) (c.are_both_input.ensures.other c.if-are_both_input.false)
+    (option_map (λ (text : Bor (List ℕ)). text.now) c.args.asked.rejects) c.args.asked.lines.keep_going
     (subst (λ (word : List ℕ). comes inputs.0.items c.args.folder.now c.args.asked.form.now word) (sym c.in-Some-encoding_of.ensures.encoding)
     (subst (λ (word : List ℕ). comes inputs.0.items c.args.folder.now word (encoding_word c.in-Some-encoding_of.encoding)) (sym c.in-Some.ensures.kind)
     (subst (λ (folder : List ℕ). comes inputs.0.items folder (form_word c.in-Some.kind) (encoding_word c.in-Some-encoding_of.encoding)) given.0
