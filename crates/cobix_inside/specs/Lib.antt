@@ -1,3 +1,5 @@
+pub mod Questions
+pub mod Answers
 pub mod NewLibrary
 pub mod Lending
 pub mod Sessions

@@ -5,16 +5,16 @@ ghost use types.Logic.{sem};
 ghost use Rattle.cobix_inside.specs.Answered.{AnswersFrame};
 ghost use Rattle.cobix_inside.specs.NewLibrary.{shelf_of, shown_inside, unasked, unasked_within};
 ghost use Rattle.serve.specs.ExactSession.{ExactInRequests};
-ghost use Rattle.shelf_session.specs.SessionOnShelf.{ExactOnShelf};
+ghost use Rattle.shelf_run.specs.SessionOnShelf.{ExactOnShelf};
 ghost use Rattle.cobix_inside.specs.Holding.{HoldsSo};
 ghost use Rattle.cobix_inside.specs.Sessions.{AreExactAtFirst, StartsAs, ClosesAll, NoneFalseAtFirst};
 ghost use Rattle.cobix_inside.specs.declared.open_session.OpenSession.{OpenSession};
 
+use crate::asked_system::AskedSystem;
 use crate::handle::Handle;
 use crate::library::{AskedLibrary, AskedShelf, asked_library};
 use crate::library_limits::LibraryLimits;
 use crate::open_session::OpenSession;
-use asked_system::AskedSystem;
 use folder_shelf::{Disk, EmptyDisk};
 use indexed_file::GrowingLibrary;
 use page_store::Shelf;
@@ -22,7 +22,7 @@ use serve::{
     FreePlaces, LentAnswer, Session, answer_lent, close_all, exact_in_requests,
     no_false_file_in_requests,
 };
-use shelf_session::exact_on_shelf;
+use shelf_run::exact_on_shelf;
 use std::alloc::Global;
 use std::io::{Stdin, Stdout};
 

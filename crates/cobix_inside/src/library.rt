@@ -2,8 +2,8 @@
 ghost use Rattle.std.specs.Prelude.{◌≡◌, [], string_bytes};
 ghost use Rattle.cobix_inside.specs.NewLibrary.{IsNewInside, unasked_within, shown_inside};
 
+use crate::asked_system::AskedSystem;
 use crate::library_limits::LibraryLimits;
-use asked_system::AskedSystem;
 use folder_shelf::{Disk, EmptyDisk, FolderShelf, RecordedSystem};
 use page_store::Shelf;
 use shelf_library::ShelfLibrary;

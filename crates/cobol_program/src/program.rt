@@ -1,6 +1,6 @@
 //! The program of a deck.
 ghost use Rattle.std.specs.Prelude.{◌≢◌, string_bytes, IsOk, IfOk, IfErr};
-ghost use Rattle.deck_words.specs.Fault.{IsTold};
+ghost use Rattle.deck_parser.specs.Fault.{IsTold};
 ghost use Rattle.deck_reader.specs.declared.deck.Deck.{Deck as ReadDeck};
 ghost use Rattle.deck_reader.specs.Deck.{IsDeck};
 ghost use Rattle.cobol_program.specs.Layout.{IsLaidOut};
@@ -12,8 +12,8 @@ use crate::paragraphs::add_paragraphs;
 use crate::procedure::add_procedure;
 use crate::selects::add_selects;
 use crate::storage::add_storage;
+use deck_parser::Refusal;
 use deck_reader::{Deck, read_deck};
-use deck_words::Refusal;
 use file_control::DeckFault;
 use std::alloc::{AllocError, Global};
 

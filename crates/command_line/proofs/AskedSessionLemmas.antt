@@ -11,8 +11,8 @@ use Rattle.serve.specs.declared.fault.ServeFault.TheVariants as served
 use Rattle.command_line.specs.Session.{session_end_as, shown_over, keeps_over, IsNewOver, IsLeftIn, IsExactOver, ServedOver}
 use Rattle.command_line.specs.declared.session.ServedEnd.{ServedEnd}
 use Rattle.shelf_library.specs.declared.library.ShelfLibrary.{ShelfLibrary}
-use Rattle.command_outcomes.specs.declared.fault.Fault.{Fault}
-use Rattle.command_outcomes.specs.declared.fault.Fault.TheVariants as faults
+use Rattle.command_support.specs.declared.fault.Fault.{Fault}
+use Rattle.command_support.specs.declared.fault.Fault.TheVariants as faults
 
 -- a session over a folder came to its end, or memory was wanted before its first request
 module _ {X : Type 0} (shelf : Ghosts X) (keeps_open : X → ℕ → Bool) (disk : Unseen) (folder : List ℕ) (pages frames : ℕ) (s : Streams) (system : SystemState) where

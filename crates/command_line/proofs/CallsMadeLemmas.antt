@@ -11,8 +11,8 @@ use Rattle.record_listing.specs.ByPath.{ByReadsAside}
 use Rattle.command_line.specs.CallsMade.{calls_made, BeginsNothing, streams_first}
 use Rattle.command_line.specs.Loaded.{ComesOfLoad}
 use Rattle.command_line.specs.Right.{AskToRead, IsRightOf, ReadsAlone}
-use Rattle.command_outcomes.specs.declared.fault.Fault.{Fault}
-use Rattle.command_outcomes.specs.declared.outcome.Outcome.{Outcome}
+use Rattle.command_support.specs.declared.fault.Fault.{Fault}
+use Rattle.command_support.specs.declared.outcome.Outcome.{Outcome}
 
 -- where the numbers of closed streams were taken in a system that was asked nothing yet, that is what was asked
 pub streams_alone : (start held : SystemState) → start.calls ≡ [] → held ≡ with_call (streams_held true) start → held.calls ≡ streams_first

@@ -28,11 +28,11 @@ use Rattle.command_line.proofs.CallsMadeLemmas.{begins_alone}
 use Rattle.command_line.proofs.DidLemmas.{did_fail, did_load, did_run}
 use Rattle.command_line.proofs.LoadingLemmas.{load_done, told_end}
 use Rattle.record_loading.specs.declared.shelf_end.ShelfEnd.{ShelfEnd}
-use Rattle.command_outcomes.specs.Status.{status_of}
-use Rattle.command_outcomes.specs.declared.fault.Fault.{Fault}
-use Rattle.command_outcomes.specs.declared.fault.Fault.TheVariants.{NoFileName}
-use Rattle.command_outcomes.specs.declared.outcome.Outcome.{Outcome}
-use Rattle.command_outcomes.specs.declared.outcome.Outcome.TheVariants.{Loaded as LoadEnded}
+use Rattle.command_support.specs.Status.{status_of}
+use Rattle.command_support.specs.declared.fault.Fault.{Fault}
+use Rattle.command_support.specs.declared.fault.Fault.TheVariants.{NoFileName}
+use Rattle.command_support.specs.declared.outcome.Outcome.{Outcome}
+use Rattle.command_support.specs.declared.outcome.Outcome.TheVariants.{Loaded as LoadEnded}
 
 -- a run that was not begun is told as a fault of the input, the output or memory
 did_not : (words : List Text) (outcome : Result Outcome Fault) (fault : Fault) → outcome ≡ Err fault → IfErr outcome (λ fault. status_of fault ≡ 4) → Did words outcome

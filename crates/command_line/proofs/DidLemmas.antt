@@ -12,30 +12,30 @@ use Rattle.command_words.specs.declared.fault.WordsFault.TheVariants.{Usage as N
 use Rattle.command_words.specs.declared.form_words.FormWords.{FormWords}
 use Rattle.command_words.specs.declared.limits.Limits.{Limits}
 use Rattle.command_words.specs.declared.request.Request.TheVariants.{Schema, Load, Salvage}
-use Rattle.command_inputs.specs.AskedForm.{IsConditionRefused, IsListRefused}
-use Rattle.command_inputs.specs.Conditions.{texts_of}
-use Rattle.command_inputs.specs.Forms.{IsFormRefused}
+use Rattle.command_support.specs.AskedForm.{IsConditionRefused, IsListRefused}
+use Rattle.command_support.specs.Conditions.{texts_of}
+use Rattle.command_support.specs.Forms.{IsFormRefused}
 use Rattle.file_commands.specs.Listed.{IsListFault}
 use Rattle.salvaged_records.specs.Salvaged.{outputs}
 use Rattle.file_commands.specs.Salvaged.{IsSalvageRefused, SalvagesFileAt}
 use Rattle.file_commands.specs.Schema.{IsSchemaDone, IsSchemaFault}
 use Rattle.file_commands.specs.declared.listing.Bounds.{Bounds}
-use Rattle.command_inputs.specs.DeckFile.{IsDeckFault}
-use Rattle.command_inputs.specs.Front.{DoesBy}
+use Rattle.command_support.specs.DeckFile.{IsDeckFault}
+use Rattle.command_support.specs.Front.{DoesBy}
 use Rattle.file_commands.specs.Verdicts.{ChecksFile}
-use Rattle.file_statistics.specs.declared.listing.FileStatisticsEnd.{FileStatisticsEnd}
+use Rattle.file_reports.specs.declared.statistics_listing.FileStatisticsEnd.{FileStatisticsEnd}
 use Rattle.record_loading.specs.declared.shelf_end.ShelfEnd.{ShelfEnd}
 use Rattle.command_line.specs.Encoding.{WritesIn}
 use Rattle.command_line.specs.Encoded.{DoesList, IsEncodedRefused}
 use Rattle.command_line.specs.LoadForm.{IsFaultOfLoad}
 use Rattle.command_line.specs.Performed.{AskOfDeck, AskForLoad, AskForRecords, AskForRun, AskForSalvage, AskForSchema, Did, IsRunOutcome}
-use Rattle.command_outcomes.specs.Status.{status_of}
-use Rattle.command_outcomes.specs.declared.fault.Fault.{Fault}
-use Rattle.command_outcomes.specs.declared.fault.Fault.TheVariants.{Deck, NoSuchFile, NotListed, Form as NoForm, Condition as NoCondition, Unexplained, Input, Output, Memory}
-use Rattle.command_outcomes.specs.declared.outcome.Outcome.{Outcome}
-use Rattle.command_outcomes.specs.declared.outcome.Outcome.TheVariants.{Helped, CheckedAll, Counted, Explained, Ended, Served, SchemaTold, SchemaCompared, SchemaRefused, Records, OtherSchema, Loaded, Salvaged}
-use Rattle.command_outcomes.specs.declared.outcome.WorstCheck.{WorstCheck}
-use Rattle.command_outcomes.specs.Told.{words_told_as}
+use Rattle.command_support.specs.Status.{status_of}
+use Rattle.command_support.specs.declared.fault.Fault.{Fault}
+use Rattle.command_support.specs.declared.fault.Fault.TheVariants.{Deck, NoSuchFile, NotListed, Form as NoForm, Condition as NoCondition, Unexplained, Input, Output, Memory}
+use Rattle.command_support.specs.declared.outcome.Outcome.{Outcome}
+use Rattle.command_support.specs.declared.outcome.Outcome.TheVariants.{Helped, CheckedAll, Counted, Explained, Ended, Served, SchemaTold, SchemaCompared, SchemaRefused, Records, OtherSchema, Loaded, Salvaged}
+use Rattle.command_support.specs.declared.outcome.WorstCheck.{WorstCheck}
+use Rattle.command_support.specs.Told.{words_told_as}
 
 -- what a request asks for, by its values
 abbrev pub for_schema : (words : List Text) (file : Bor Text) (deck name : Option (Bor Text)) → Ask words (Schema file deck name) → AskForSchema words

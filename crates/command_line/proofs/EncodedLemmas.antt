@@ -7,19 +7,19 @@ use Rattle.folder_shelf.specs.Calls.{Call}
 use Rattle.record_listing.specs.ByPath.{ByReadsAside}
 use Rattle.command_words.specs.Asks.{FormText, form_text}
 use Rattle.command_words.specs.declared.form_words.FormWords.{FormWords}
-use Rattle.command_inputs.specs.AskedForm.{IsListRefused}
-use Rattle.command_inputs.specs.Conditions.{texts_of}
+use Rattle.command_support.specs.AskedForm.{IsListRefused}
+use Rattle.command_support.specs.Conditions.{texts_of}
 use Rattle.file_commands.specs.Records.{ListsAsked}
 use Rattle.file_commands.specs.Salvaged.{SalvagesFile, SalvagesFileAt, IsSalvageRefused}
 use Rattle.file_commands.specs.declared.listing.Bounds.{Bounds}
 use Rattle.salvaged_records.specs.Salvaged.{outputs}
-use Rattle.line_encoding.specs.declared.backslashes.Backslashes.{Backslashes}
-use Rattle.command_outcomes.specs.Status.{status_of}
-use Rattle.command_outcomes.specs.declared.fault.Fault.{Fault}
-use Rattle.command_outcomes.specs.declared.fault.Fault.TheVariants.{Form as NoForm, Output, Memory}
-use Rattle.command_outcomes.specs.declared.form_fault.FormFault.TheVariants.{Encoding as NoEncoding}
-use Rattle.command_outcomes.specs.declared.outcome.Outcome.{Outcome}
-use Rattle.command_outcomes.specs.declared.outcome.Outcome.TheVariants.{Records, OtherSchema}
+use Rattle.streams.specs.declared.backslashes.Backslashes.{Backslashes}
+use Rattle.command_support.specs.Status.{status_of}
+use Rattle.command_support.specs.declared.fault.Fault.{Fault}
+use Rattle.command_support.specs.declared.fault.Fault.TheVariants.{Form as NoForm, Output, Memory}
+use Rattle.command_support.specs.declared.form_fault.FormFault.TheVariants.{Encoding as NoEncoding}
+use Rattle.command_support.specs.declared.outcome.Outcome.{Outcome}
+use Rattle.command_support.specs.declared.outcome.Outcome.TheVariants.{Records, OtherSchema}
 use Rattle.command_line.specs.Lists.{ListsEitherWay}
 use Rattle.command_line.specs.Encoding.{AreBackslashesOf, WritesIn, IsNoEncodingWord}
 use Rattle.command_line.specs.Encoded.{DoesList, ListsEncoded, SalvagesEncoded, HandsTextOver, IsNoRoom, IsEncodedRefused}

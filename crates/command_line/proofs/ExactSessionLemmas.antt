@@ -8,7 +8,7 @@ use Rattle.shelf_library.specs.State.{LibraryState}
 use Rattle.shelf_library.specs.Units.{world_of}
 use Rattle.shelf_library.specs.declared.library.ShelfLibrary.{ShelfLibrary}
 use Rattle.serve.specs.Serving.{Streams}
-use Rattle.shelf_session.specs.SessionOnShelf.{ExactOnShelf, IsExactSessionOn}
+use Rattle.shelf_run.specs.SessionOnShelf.{ExactOnShelf, IsExactSessionOn}
 use Rattle.command_line.specs.Session.{shown_over, keeps_over, IsNewOver, IsLeftIn, ServedOver, IsExactOver}
 use Rattle.command_line.specs.declared.session.ServedEnd.{ServedEnd}
 

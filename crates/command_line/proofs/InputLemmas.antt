@@ -6,11 +6,11 @@ use Rattle.folder_shelf.specs.Calls.{asked_of_folder}
 use Rattle.folder_shelf.specs.Reading.{ByReads}
 use Rattle.folder_shelf.specs.SystemState.{SystemState, with_call}
 use Rattle.folder_shelf.proofs.ReadingLemmas.{by_both, by_one}
-use Rattle.command_inputs.specs.Front.{ReadsDeckNamed}
+use Rattle.command_support.specs.Front.{ReadsDeckNamed}
 use Rattle.command_line.specs.Performed.{ReadsFolder, ReadsInputs}
 use Rattle.command_line.proofs.CallsMadeLemmas.{only_reads}
-use Rattle.command_outcomes.specs.Status.{status_of}
-use Rattle.command_outcomes.specs.declared.fault.Fault.{Fault}
+use Rattle.command_support.specs.Status.{status_of}
+use Rattle.command_support.specs.declared.fault.Fault.{Fault}
 
 -- ---- the folder
 

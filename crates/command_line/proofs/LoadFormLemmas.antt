@@ -10,7 +10,7 @@ use Rattle.record_text.specs.declared.form.Form.{Form}
 use Rattle.record_text.specs.declared.form.Form.TheVariants.{Text, Csv, Json}
 use Rattle.record_text.specs.Parts.{Part, part_of_column, item_parts}
 use Rattle.record_text.specs.Whole.{AreTiled, IsWholeForm, AreItemsWhole}
-use Rattle.command_inputs.specs.DeckFile.{is_named_in_deck, IsFileOf}
+use Rattle.command_support.specs.DeckFile.{is_named_in_deck, IsFileOf}
 use Rattle.command_line.specs.LoadForm.{IsFormOf}
 
 -- the items of a file are a layout, whose length is the greatest of the file's records

@@ -19,18 +19,18 @@ use Rattle.record_loading.specs.declared.shelf_end.ShelfEnd.{ShelfEnd}
 use Rattle.command_line.specs.CallsMade.{CallsMade, BeginsNothing, folder_behind}
 use Rattle.command_line.specs.Folder.{folder_at_first}
 use Rattle.system_files.specs.Front.{IsTextRead}
-use Rattle.command_inputs.specs.DeckFile.{IsDeckFault}
-use Rattle.command_inputs.specs.Front.{IsDeckNamed, IsTextNamed, longest_line}
-use Rattle.command_inputs.proofs.DeckLemmas.{not_there}
+use Rattle.command_support.specs.DeckFile.{IsDeckFault}
+use Rattle.command_support.specs.Front.{IsDeckNamed, IsTextNamed, longest_line}
+use Rattle.command_support.proofs.DeckLemmas.{not_there}
 use Rattle.command_line.specs.Encoding.{IsTextIn}
 use Rattle.command_line.specs.LoadForm.{IsFaultOfLoad}
 use Rattle.command_line.specs.Loaded.{EndsLoadOf, LoadsFolder, LoadsDeck, TellsLoad, ComesOfLoad, BeginsLoad, BeginsLoadOfDeck}
 use Rattle.command_line.proofs.FolderLemmas.{untouched}
-use Rattle.command_outcomes.specs.Status.{status_of}
-use Rattle.command_outcomes.specs.declared.fault.Fault.{Fault}
-use Rattle.command_outcomes.specs.declared.fault.Fault.TheVariants.{Output}
-use Rattle.command_outcomes.specs.declared.outcome.Outcome.{Outcome}
-use Rattle.command_outcomes.specs.declared.outcome.Outcome.TheVariants.{Loaded as LoadEnded}
+use Rattle.command_support.specs.Status.{status_of}
+use Rattle.command_support.specs.declared.fault.Fault.{Fault}
+use Rattle.command_support.specs.declared.fault.Fault.TheVariants.{Output}
+use Rattle.command_support.specs.declared.outcome.Outcome.{Outcome}
+use Rattle.command_support.specs.declared.outcome.Outcome.TheVariants.{Loaded as LoadEnded}
 
 -- a load over the folder of a path, which was entered in a system that was asked nothing yet
 module _ (disk : Unseen) (path : List ℕ) (calls : List Call) (at_first : SystemState) (enters : at_first ≡ record { folder = path; names = []; calls = entered path ∷ calls }) (no_calls : calls ≡ [])

@@ -3,7 +3,7 @@ use Rattle.std.proofs.Common.{◌≡◌, ◌≢◌, ℕ, true, List, Option, Res
 use Rattle.folder_shelf.specs.SystemState.{SystemState}
 use Rattle.folder_shelf.specs.FailedCalls.{failed_calls}
 use Rattle.folder_shelf.specs.Replay.{Unseen}
-use Rattle.deck_words.specs.declared.fault.DeckFault.{DeckFault}
+use Rattle.deck_parser.specs.declared.fault.DeckFault.{DeckFault}
 use Rattle.deck_runner.specs.DeckRun.{IsNoDeck}
 use Rattle.deck_runner.specs.RunEnd.{TellsLines, ToldInPart}
 use Rattle.deck_runner.specs.declared.fault.RunFault.{RunFault}
@@ -14,11 +14,11 @@ use Rattle.shelf_run.specs.ExactRun.{IsExactRun}
 use Rattle.command_line.specs.Folder.{OverFolder}
 use Rattle.command_line.specs.Performed.{Begun, Written, CameTo, begun, outcome_of, IsRunOutcome}
 use Rattle.command_line.specs.Transcript.{IsRunFault}
-use Rattle.command_outcomes.specs.Status.{status_of}
-use Rattle.command_outcomes.specs.Told.{told_as}
-use Rattle.command_outcomes.specs.declared.fault.Fault.{Fault}
-use Rattle.command_outcomes.specs.declared.fault.Fault.TheVariants.{Deck, Output}
-use Rattle.command_outcomes.specs.declared.outcome.Outcome.{Outcome}
+use Rattle.command_support.specs.Status.{status_of}
+use Rattle.command_support.specs.Told.{told_as}
+use Rattle.command_support.specs.declared.fault.Fault.{Fault}
+use Rattle.command_support.specs.declared.fault.Fault.TheVariants.{Deck, Output}
+use Rattle.command_support.specs.declared.outcome.Outcome.{Outcome}
 
 -- what a run is told as
 pub run_fault : (fault : RunFault) → IsRunFault (told_as fault)

@@ -7,9 +7,9 @@ use Rattle.folder_shelf.specs.Calls.{Call}
 use Rattle.command_words.specs.Asks.{AskCheck, AskCobol, AskDeck, AskExplain, AskList, AskStat, form_text}
 use Rattle.command_words.specs.declared.form_words.FormWords.{FormWords}
 use Rattle.explanations.specs.Tables.{explanation}
-use Rattle.command_inputs.specs.Conditions.{texts_of}
+use Rattle.command_support.specs.Conditions.{texts_of}
 use Rattle.file_commands.specs.Counted.{CountsFileAt}
-use Rattle.command_inputs.specs.Front.{DoesBy, IsDeckNamed}
+use Rattle.command_support.specs.Front.{DoesBy, IsDeckNamed}
 use Rattle.file_commands.specs.Listed.{TellsDeck, WritesList, WritesCobol}
 use Rattle.salvaged_records.specs.Salvaged.{outputs}
 use Rattle.file_commands.specs.Salvaged.{SalvagesFileAt}
@@ -22,10 +22,10 @@ use Rattle.command_line.specs.Encoding.{WritesIn}
 use Rattle.command_line.specs.Encoded.{DoesList}
 use Rattle.command_line.specs.Right.{IsRightOf, SalvagesAsAsked}
 use Rattle.command_line.proofs.DidLemmas.{for_records}
-use Rattle.command_outcomes.specs.declared.fault.Fault.{Fault}
-use Rattle.command_outcomes.specs.declared.outcome.Outcome.{Outcome}
-use Rattle.command_outcomes.specs.declared.outcome.Outcome.TheVariants.{Helped, CheckedAll, SchemaTold, SchemaCompared, SchemaRefused, Explained, Listed, Records, OtherSchema, InCobol, Salvaged}
-use Rattle.command_outcomes.specs.declared.outcome.WorstCheck.{WorstCheck}
+use Rattle.command_support.specs.declared.fault.Fault.{Fault}
+use Rattle.command_support.specs.declared.outcome.Outcome.{Outcome}
+use Rattle.command_support.specs.declared.outcome.Outcome.TheVariants.{Helped, CheckedAll, SchemaTold, SchemaCompared, SchemaRefused, Explained, Listed, Records, OtherSchema, InCobol, Salvaged}
+use Rattle.command_support.specs.declared.outcome.WorstCheck.{WorstCheck}
 
 module _ {W : Type 0} (disk : Unseen) (words : List Text) (calls : List Call) (input : Option (List ℕ)) (contents : W → Option (List ℕ)) (old new : W) where
   abbrev pub IsRight : Outcome → Type 0

@@ -4,10 +4,10 @@ use Rattle.file_checker.specs.declared.verdict.Verdict.{Verdict}
 use Rattle.file_checker.specs.declared.verdict.Verdict.TheVariants.{Sound, Unsound}
 use Rattle.record_listing.specs.declared.file_list.FileList.{FileList}
 use Rattle.record_listing.specs.declared.file_list.FileList.TheVariants as lists
-use Rattle.file_statistics.specs.declared.listing.FileStatisticsEnd.{FileStatisticsEnd}
-use Rattle.file_statistics.specs.declared.listing.FileStatisticsEnd.TheVariants as counts
-use Rattle.schema_listing.specs.declared.comparing.Comparison.{Comparison}
-use Rattle.schema_listing.specs.declared.comparing.Comparison.TheVariants.{Same, Different}
+use Rattle.file_reports.specs.declared.statistics_listing.FileStatisticsEnd.{FileStatisticsEnd}
+use Rattle.file_reports.specs.declared.statistics_listing.FileStatisticsEnd.TheVariants as counts
+use Rattle.file_reports.specs.declared.comparing.Comparison.{Comparison}
+use Rattle.file_reports.specs.declared.comparing.Comparison.TheVariants.{Same, Different}
 use Rattle.record_loading.specs.Answer.{is_loaded}
 use Rattle.record_loading.specs.declared.shelf_end.ShelfEnd.{ShelfEnd}
 use Rattle.record_loading.specs.declared.shelf_end.ShelfEnd.TheVariants as ends
@@ -16,13 +16,13 @@ use Rattle.salvaged_records.specs.declared.salvaging.Salvage.TheVariants as salv
 use Rattle.file_copying.specs.declared.end.CopyEnd.{CopyEnd}
 use Rattle.file_copying.specs.declared.end.CopyEnd.TheVariants as copies
 use Rattle.streams.specs.LineEnds.{has_failed_line}
-use Rattle.command_outcomes.specs.Status.{status_of, status_by, status_of_worst, status_of_list, status_where, status_of_comparison, status_of_load, status_of_count, status_of_salvage, status_of_copy, status_for, exit_status, IsExitStatus}
-use Rattle.command_outcomes.specs.declared.fault.Fault.{Fault}
-use Rattle.command_outcomes.specs.declared.fault.Fault.TheVariants as faults
-use Rattle.command_outcomes.specs.declared.outcome.Outcome.{Outcome}
-use Rattle.command_outcomes.specs.declared.outcome.Outcome.TheVariants as outcomes
-use Rattle.command_outcomes.specs.declared.outcome.WorstCheck.{WorstCheck}
-use Rattle.command_outcomes.specs.declared.outcome.WorstCheck.TheVariants as worst
+use Rattle.command_support.specs.Status.{status_of, status_by, status_of_worst, status_of_list, status_where, status_of_comparison, status_of_load, status_of_count, status_of_salvage, status_of_copy, status_for, exit_status, IsExitStatus}
+use Rattle.command_support.specs.declared.fault.Fault.{Fault}
+use Rattle.command_support.specs.declared.fault.Fault.TheVariants as faults
+use Rattle.command_support.specs.declared.outcome.Outcome.{Outcome}
+use Rattle.command_support.specs.declared.outcome.Outcome.TheVariants as outcomes
+use Rattle.command_support.specs.declared.outcome.WorstCheck.{WorstCheck}
+use Rattle.command_support.specs.declared.outcome.WorstCheck.TheVariants as worst
 use Rattle.command_line.specs.Answered.{is_ended, is_served, status_heeding}
 
 -- what was done has one of the first two exit statuses, part by part

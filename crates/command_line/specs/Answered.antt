@@ -17,10 +17,10 @@ use Rattle.command_line.specs.Right.{ReadsAlone}
 use Rattle.command_line.specs.Session.{streams_of}
 use Rattle.command_line.specs.declared.done.Done.{Done}
 use Rattle.command_line.specs.declared.done.Ran.{Ran}
-use Rattle.command_outcomes.specs.Status.{exit_status}
-use Rattle.command_outcomes.specs.declared.fault.Fault.{Fault}
-use Rattle.command_outcomes.specs.declared.outcome.Outcome.{Outcome}
-use Rattle.command_outcomes.specs.declared.outcome.Outcome.TheVariants.{Ended, Served}
+use Rattle.command_support.specs.Status.{exit_status}
+use Rattle.command_support.specs.declared.fault.Fault.{Fault}
+use Rattle.command_support.specs.declared.outcome.Outcome.{Outcome}
+use Rattle.command_support.specs.declared.outcome.Outcome.TheVariants.{Ended, Served}
 
 -- whether a run ended
 abbrev pub is_ended : Result Outcome Fault → Bool

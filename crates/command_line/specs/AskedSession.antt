@@ -16,10 +16,10 @@ use Rattle.command_line.specs.CallsMade.{CallsMade, BeginsNothing, folder_behind
 use Rattle.command_line.specs.Session.{shown_over, keeps_over, IsNewOver, IsLeftIn, IsExactOver, streams_of}
 use Rattle.command_line.specs.Session.{ServedOver}
 use Rattle.command_line.specs.declared.session.ServedEnd.{ServedEnd}
-use Rattle.command_outcomes.specs.declared.fault.Fault.{Fault}
-use Rattle.command_outcomes.specs.declared.fault.Fault.TheVariants.{Memory}
-use Rattle.command_outcomes.specs.declared.outcome.Outcome.{Outcome}
-use Rattle.command_outcomes.specs.declared.outcome.Outcome.TheVariants.{Served}
+use Rattle.command_support.specs.declared.fault.Fault.{Fault}
+use Rattle.command_support.specs.declared.fault.Fault.TheVariants.{Memory}
+use Rattle.command_support.specs.declared.outcome.Outcome.{Outcome}
+use Rattle.command_support.specs.declared.outcome.Outcome.TheVariants.{Served}
 
 -- how a session ended, as what was done
 abbrev pub outcome_of_end : Result Unit Fault → Result Outcome Fault

@@ -3,8 +3,8 @@ use Rattle.std.specs.Prelude.{◌≡◌, ◌⊎◌, ℕ, true, false, List, [], 
 use Rattle.folder_shelf.specs.Calls.{Call, asked_of_folder, streams_held}
 use Rattle.folder_shelf.specs.Reading.{ByReads}
 use Rattle.folder_shelf.specs.SystemState.{SystemState}
-use Rattle.command_outcomes.specs.declared.fault.Fault.{Fault}
-use Rattle.command_outcomes.specs.declared.outcome.Outcome.{Outcome}
+use Rattle.command_support.specs.declared.fault.Fault.{Fault}
+use Rattle.command_support.specs.declared.outcome.Outcome.{Outcome}
 
 -- the calls that were set aside when a folder was entered, or before a file was read page after page, the
 -- newest in front; the system, with the calls since; and those by which another system read a file that is

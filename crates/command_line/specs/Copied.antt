@@ -22,11 +22,11 @@ use Rattle.command_words.specs.declared.request.Request.{Request}
 use Rattle.command_words.specs.declared.request.Request.TheVariants.{Copy}
 use Rattle.command_line.specs.CallsMade.{CallsMade, folder_behind}
 use Rattle.command_line.specs.declared.copying.Copying.{Copying}
-use Rattle.command_outcomes.specs.Status.{status_of}
-use Rattle.command_outcomes.specs.declared.fault.Fault.{Fault}
-use Rattle.command_outcomes.specs.declared.fault.Fault.TheVariants.{NoFileName, Input, Output, Memory}
-use Rattle.command_outcomes.specs.declared.outcome.Outcome.{Outcome}
-use Rattle.command_outcomes.specs.declared.outcome.Outcome.TheVariants.{Copied as CopyEnded}
+use Rattle.command_support.specs.Status.{status_of}
+use Rattle.command_support.specs.declared.fault.Fault.{Fault}
+use Rattle.command_support.specs.declared.fault.Fault.TheVariants.{NoFileName, Input, Output, Memory}
+use Rattle.command_support.specs.declared.outcome.Outcome.{Outcome}
+use Rattle.command_support.specs.declared.outcome.Outcome.TheVariants.{Copied as CopyEnded}
 
 -- whether a request asks for a copy
 abbrev pub is_copy : Request → Bool

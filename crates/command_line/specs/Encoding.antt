@@ -2,10 +2,10 @@
 use Rattle.std.specs.Prelude.{◌≡◌, ◌≢◌, ◌⊎◌, ℕ, List, [], Option, Some, codes}
 use Rattle.std.specs.Io.KnownBytes.{Appends}
 use Rattle.clap.specs.Words.{Text as Word}
-use Rattle.line_encoding.specs.InUtf8.{in_utf_8}
-use Rattle.line_encoding.specs.InAscii.{in_ascii}
-use Rattle.line_encoding.specs.declared.backslashes.Backslashes.{Backslashes}
-use Rattle.line_encoding.specs.declared.backslashes.Backslashes.TheVariants.{One, Two}
+use Rattle.streams.specs.InUtf8.{in_utf_8}
+use Rattle.streams.specs.InAscii.{in_ascii}
+use Rattle.streams.specs.declared.backslashes.Backslashes.{Backslashes}
+use Rattle.streams.specs.declared.backslashes.Backslashes.TheVariants.{One, Two}
 use Rattle.command_line.specs.declared.encoding.Encoding.{Encoding}
 use Rattle.command_line.specs.declared.encoding.Encoding.TheVariants.{Ascii, Utf8}
 

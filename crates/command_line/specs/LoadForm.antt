@@ -6,10 +6,10 @@ use Rattle.record_text.specs.declared.column.Column.{Column}
 use Rattle.record_text.specs.declared.form.Form.{Form}
 use Rattle.record_text.specs.declared.form.Form.TheVariants.{Text, Csv, Json}
 use Rattle.record_text.specs.Parts.{part_of_column, item_parts}
-use Rattle.command_inputs.specs.DeckFile.{IsDeckFault}
-use Rattle.command_outcomes.specs.declared.form_fault.FormFault.TheVariants.{Kind, Encoding as NoEncoding}
-use Rattle.command_outcomes.specs.declared.fault.Fault.{Fault}
-use Rattle.command_outcomes.specs.declared.fault.Fault.TheVariants.{Form as NoForm, LoneRejects}
+use Rattle.command_support.specs.DeckFile.{IsDeckFault}
+use Rattle.command_support.specs.declared.form_fault.FormFault.TheVariants.{Kind, Encoding as NoEncoding}
+use Rattle.command_support.specs.declared.fault.Fault.{Fault}
+use Rattle.command_support.specs.declared.fault.Fault.TheVariants.{Form as NoForm, LoneRejects}
 use Rattle.command_line.specs.Encoding.{IsNoEncodingWord}
 use Rattle.command_line.specs.declared.load_form.FormKind.{FormKind}
 use Rattle.command_line.specs.declared.load_form.FormKind.TheVariants as kinds

@@ -30,18 +30,18 @@ use Rattle.command_line.specs.CallsMade.{CallsMade, BeginsNothing, folder_behind
 use Rattle.command_line.specs.Folder.{OverFolder}
 use Rattle.command_line.specs.Encoding.{IsTextIn, encoding_word}
 use Rattle.command_line.specs.LoadForm.{IsFormOf, IsFaultOfLoad, form_word}
-use Rattle.command_inputs.specs.DeckFile.{IsFileOf, IsDeckFault}
+use Rattle.command_support.specs.DeckFile.{IsFileOf, IsDeckFault}
 use Rattle.file_commands.specs.Differing.{AreDifferencesOf}
-use Rattle.command_inputs.specs.Front.{IsTextNamed, IsDeckNamed}
+use Rattle.command_support.specs.Front.{IsTextNamed, IsDeckNamed}
 use Rattle.streams.specs.declared.standard_input.StandardInput.{StandardInput}
 use Rattle.command_line.specs.declared.encoding.Encoding.{Encoding}
 use Rattle.command_line.specs.declared.load_form.FormKind.{FormKind}
 use Rattle.command_line.specs.declared.loading.Loading.{Loading}
-use Rattle.command_outcomes.specs.Status.{status_of}
-use Rattle.command_outcomes.specs.declared.outcome.Outcome.{Outcome}
-use Rattle.command_outcomes.specs.declared.outcome.Outcome.TheVariants.{Loaded as LoadEnded}
-use Rattle.command_outcomes.specs.declared.fault.Fault.{Fault}
-use Rattle.command_outcomes.specs.declared.fault.Fault.TheVariants.{Input, Output, Memory}
+use Rattle.command_support.specs.Status.{status_of}
+use Rattle.command_support.specs.declared.outcome.Outcome.{Outcome}
+use Rattle.command_support.specs.declared.outcome.Outcome.TheVariants.{Loaded as LoadEnded}
+use Rattle.command_support.specs.declared.fault.Fault.{Fault}
+use Rattle.command_support.specs.declared.fault.Fault.TheVariants.{Input, Output, Memory}
 
 -- into what a flag says that records are loaded
 abbrev pub load_of : Bool → Load

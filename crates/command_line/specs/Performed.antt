@@ -11,7 +11,7 @@ use Rattle.folder_shelf.specs.SystemState.{SystemState, with_call}
 use Rattle.folder_shelf.specs.FailedCalls.{failed_calls}
 use Rattle.folder_shelf.specs.Replay.{Unseen}
 use Rattle.folder_shelf.specs.Within.{StaysWithin}
-use Rattle.deck_words.specs.declared.fault.DeckFault.{DeckFault}
+use Rattle.deck_parser.specs.declared.fault.DeckFault.{DeckFault}
 use Rattle.deck_runner.specs.DeckRun.{IsNoDeck}
 use Rattle.deck_runner.specs.RunEnd.{TellsLines, ToldInPart}
 use Rattle.deck_runner.specs.declared.run_end.RunEnd.{RunEnd}
@@ -27,27 +27,27 @@ use Rattle.command_line.specs.Folder.{OverFolder}
 use Rattle.command_line.specs.Transcript.{IsRunFault}
 use Rattle.command_line.specs.Encoding.{IsNoEncodingWord}
 use Rattle.command_line.specs.LoadForm.{IsNoFormWord}
-use Rattle.command_inputs.specs.AskedForm.{IsConditionFaultOf}
-use Rattle.command_inputs.specs.DeckFile.{IsDeckAsked, IsHalf}
-use Rattle.command_inputs.specs.Forms.{HasFormFault}
-use Rattle.command_inputs.specs.Front.{IsDeckNamed}
+use Rattle.command_support.specs.AskedForm.{IsConditionFaultOf}
+use Rattle.command_support.specs.DeckFile.{IsDeckAsked, IsHalf}
+use Rattle.command_support.specs.Forms.{HasFormFault}
+use Rattle.command_support.specs.Front.{IsDeckNamed}
 use Rattle.streams.specs.declared.standard_input.StandardInput.{StandardInput}
 use Rattle.command_line.specs.declared.done.Ran.{Ran}
-use Rattle.command_outcomes.specs.Status.{status_of}
-use Rattle.command_outcomes.specs.declared.form_fault.FormFault.{FormFault}
-use Rattle.command_outcomes.specs.declared.form_fault.FormFault.TheVariants.{Kind, HalfDeck}
-use Rattle.command_outcomes.specs.declared.form_fault.FormFault.TheVariants.{Encoding as NoEncoding}
-use Rattle.command_outcomes.specs.declared.fault.Fault.{Fault}
-use Rattle.command_outcomes.specs.declared.fault.Fault.TheVariants.{Deck, NotListed, NoSuchFile}
-use Rattle.command_outcomes.specs.declared.fault.Fault.TheVariants.{Form as NoForm, Unexplained, LongValue, NoFileName}
-use Rattle.command_outcomes.specs.declared.fault.Fault.TheVariants.{Condition as NoCondition, LoneRejects}
-use Rattle.command_outcomes.specs.declared.fault.Fault.TheVariants.{Usage, Input, Output, Memory}
-use Rattle.command_outcomes.specs.declared.outcome.Outcome.{Outcome}
-use Rattle.command_outcomes.specs.declared.outcome.Outcome.TheVariants.{Helped, Checked, Ended, Served}
-use Rattle.command_outcomes.specs.declared.outcome.Outcome.TheVariants.{SchemaTold, SchemaCompared}
-use Rattle.command_outcomes.specs.declared.outcome.Outcome.TheVariants.{SchemaRefused, Explained, Listed}
-use Rattle.command_outcomes.specs.declared.outcome.Outcome.TheVariants.{CheckedAll, Records, InCobol, Loaded}
-use Rattle.command_outcomes.specs.declared.outcome.Outcome.TheVariants.{Counted, OtherSchema, Salvaged, Copied}
+use Rattle.command_support.specs.Status.{status_of}
+use Rattle.command_support.specs.declared.form_fault.FormFault.{FormFault}
+use Rattle.command_support.specs.declared.form_fault.FormFault.TheVariants.{Kind, HalfDeck}
+use Rattle.command_support.specs.declared.form_fault.FormFault.TheVariants.{Encoding as NoEncoding}
+use Rattle.command_support.specs.declared.fault.Fault.{Fault}
+use Rattle.command_support.specs.declared.fault.Fault.TheVariants.{Deck, NotListed, NoSuchFile}
+use Rattle.command_support.specs.declared.fault.Fault.TheVariants.{Form as NoForm, Unexplained, LongValue, NoFileName}
+use Rattle.command_support.specs.declared.fault.Fault.TheVariants.{Condition as NoCondition, LoneRejects}
+use Rattle.command_support.specs.declared.fault.Fault.TheVariants.{Usage, Input, Output, Memory}
+use Rattle.command_support.specs.declared.outcome.Outcome.{Outcome}
+use Rattle.command_support.specs.declared.outcome.Outcome.TheVariants.{Helped, Checked, Ended, Served}
+use Rattle.command_support.specs.declared.outcome.Outcome.TheVariants.{SchemaTold, SchemaCompared}
+use Rattle.command_support.specs.declared.outcome.Outcome.TheVariants.{SchemaRefused, Explained, Listed}
+use Rattle.command_support.specs.declared.outcome.Outcome.TheVariants.{CheckedAll, Records, InCobol, Loaded}
+use Rattle.command_support.specs.declared.outcome.Outcome.TheVariants.{Counted, OtherSchema, Salvaged, Copied}
 
 -- a run over a folder: the bytes of its deck, and the system since the folder was entered
 pub record Begun : Type 0 where

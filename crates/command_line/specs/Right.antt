@@ -8,7 +8,7 @@ use Rattle.command_words.specs.Asks.{Ask, AskCheck, AskCobol, AskDeck, AskExplai
 use Rattle.command_words.specs.declared.request.Request.{Request}
 use Rattle.command_words.specs.declared.request.Request.TheVariants.{Run, Serve, Load, Copy}
 use Rattle.file_commands.specs.Counted.{CountsFileAt}
-use Rattle.command_inputs.specs.Front.{OfNamedDeck}
+use Rattle.command_support.specs.Front.{OfNamedDeck}
 use Rattle.file_commands.specs.Listed.{WritesList, WritesCobol}
 use Rattle.file_commands.specs.ByIndex.{ListsRecordsByIndex, FindsOther}
 use Rattle.record_listing.specs.declared.file_list.FileList.{FileList}
@@ -23,13 +23,13 @@ use Rattle.command_line.specs.CallsMade.{CallsMade, all_calls, BeginsWithStreams
 use Rattle.command_line.specs.Encoding.{WritesIn}
 use Rattle.command_line.specs.Explained.{WritesExplanation}
 use Rattle.command_line.specs.Performed.{AskForRecords, AskForSalvage, AskForSchema}
-use Rattle.command_outcomes.specs.declared.fault.Fault.{Fault}
-use Rattle.command_outcomes.specs.declared.outcome.Outcome.{Outcome}
-use Rattle.command_outcomes.specs.declared.outcome.Outcome.TheVariants.{Helped, Checked, Ended, Served}
-use Rattle.command_outcomes.specs.declared.outcome.Outcome.TheVariants.{SchemaTold, SchemaCompared}
-use Rattle.command_outcomes.specs.declared.outcome.Outcome.TheVariants.{SchemaRefused, Explained, Listed}
-use Rattle.command_outcomes.specs.declared.outcome.Outcome.TheVariants.{CheckedAll, Records, InCobol, Loaded}
-use Rattle.command_outcomes.specs.declared.outcome.Outcome.TheVariants.{Counted, OtherSchema, Salvaged, Copied}
+use Rattle.command_support.specs.declared.fault.Fault.{Fault}
+use Rattle.command_support.specs.declared.outcome.Outcome.{Outcome}
+use Rattle.command_support.specs.declared.outcome.Outcome.TheVariants.{Helped, Checked, Ended, Served}
+use Rattle.command_support.specs.declared.outcome.Outcome.TheVariants.{SchemaTold, SchemaCompared}
+use Rattle.command_support.specs.declared.outcome.Outcome.TheVariants.{SchemaRefused, Explained, Listed}
+use Rattle.command_support.specs.declared.outcome.Outcome.TheVariants.{CheckedAll, Records, InCobol, Loaded}
+use Rattle.command_support.specs.declared.outcome.Outcome.TheVariants.{Counted, OtherSchema, Salvaged, Copied}
 
 -- the records that words ask for were listed: after a check of the bytes that the first page of the file
 -- counts, or page after page

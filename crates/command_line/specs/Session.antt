@@ -12,7 +12,7 @@ use Rattle.shelf_library.specs.declared.library.ShelfLibrary.{ShelfLibrary}
 use Rattle.shelf_run.specs.ShelfRun.{over_shelf}
 use Rattle.streams.specs.Source.{source_of}
 use Rattle.streams.specs.declared.standard_input.StandardInput.{StandardInput}
-use Rattle.shelf_session.specs.SessionOnShelf.{IsExactSessionOn}
+use Rattle.shelf_run.specs.SessionOnShelf.{IsExactSessionOn}
 use Rattle.serve.specs.Serving.{Exchange, Streams, streams, IsServedToEnd}
 use Rattle.serve.specs.declared.end.SessionEnd.{SessionEnd}
 use Rattle.serve.specs.declared.fault.ServeFault.{ServeFault}
@@ -21,8 +21,8 @@ use Rattle.serve.specs.declared.fault.ServeFault.TheVariants.{Memory as NoMemory
 use Rattle.command_words.specs.declared.limits.Limits.{Limits}
 use Rattle.command_line.specs.Folder.{folder_at_first, OverFolder}
 use Rattle.command_line.specs.declared.session.ServedEnd.{ServedEnd}
-use Rattle.command_outcomes.specs.declared.fault.Fault.{Fault}
-use Rattle.command_outcomes.specs.declared.fault.Fault.TheVariants.{Input, Output, Memory}
+use Rattle.command_support.specs.declared.fault.Fault.{Fault}
+use Rattle.command_support.specs.declared.fault.Fault.TheVariants.{Input, Output, Memory}
 
 -- a library, by what its shelf shows
 abbrev pub library_state : {X : Type 0} → (shelf : Ghosts X) → ShelfLibrary X shelf → LibraryState

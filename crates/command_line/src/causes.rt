@@ -2,7 +2,7 @@
 
 use crate::done::Ran;
 use crate::missed::write_path;
-use command_inputs::deck_of;
+use command_support::deck_of;
 use file_control::FileDesc;
 use folder_shelf::System;
 use std::alloc::Global;

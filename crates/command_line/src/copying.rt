@@ -6,7 +6,7 @@ ghost use Rattle.command_line.specs.CallsMade.{calls_beside};
 ghost use Rattle.command_line.specs.Copied.{ComesOfCopy, IsToldCopy, is_copy};
 
 use crate::performing::folder_at;
-use command_outcomes::{Fault, Outcome};
+use command_support::{Fault, Outcome};
 use command_words::{Limits, Request};
 use file_copying::{Copied, CopyEnd, CopyingFault, copy_path, place_of};
 use folder_shelf::{CallRecord, Disk, System};

@@ -1,7 +1,7 @@
 //! What the program came to.
 ghost use Rattle.std.specs.Prelude.{◌≡◌, None};
 
-use command_outcomes::{Fault, Outcome};
+use command_support::{Fault, Outcome};
 
 /// A run that was begun: the bytes of its deck, and whether it is strict.
 #[derive(Drop)]

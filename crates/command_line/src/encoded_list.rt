@@ -4,14 +4,14 @@ ghost use Rattle.std.specs.Prelude.{◌≡◌, ◌≢◌, [], IfErr};
 ghost use Rattle.folder_shelf.specs.Reading.{ByReads};
 ghost use Rattle.record_listing.specs.ByPath.{ByReadsAside};
 ghost use Rattle.command_words.specs.Asks.{form_text};
-ghost use Rattle.command_outcomes.specs.Status.{status_of};
+ghost use Rattle.command_support.specs.Status.{status_of};
 ghost use Rattle.command_line.specs.Encoded.{ListsEncoded, SalvagesEncoded};
 ghost use Rattle.command_line.specs.Lists.{ListsEitherWay};
 ghost use Rattle.std.specs.Prelude.{codes};
 
 use crate::encoding::{Encoding, backslashes_of, encoding_of};
 use crate::handing_over::hand_over;
-use command_outcomes::{Fault, FormFault, Outcome};
+use command_support::{Fault, FormFault, Outcome};
 use command_words::FormWords;
 use file_commands::{Bounds, list_checked, list_records, salvage_path};
 use folder_shelf::{CallRecord, Disk, System};

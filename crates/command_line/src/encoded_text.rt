@@ -1,17 +1,16 @@
 //! The text of a load, in an encoding.
 ghost use Rattle.folder_shelf.specs.Reading.{ByReads};
-ghost use Rattle.command_inputs.specs.Front.{GivesSuch, IsTextNamed};
+ghost use Rattle.command_support.specs.Front.{GivesSuch, IsTextNamed};
 ghost use Rattle.command_line.specs.Encoding.{AreBackslashesOf, IsTextIn, encoding_word};
 ghost use Rattle.command_line.specs.LoadForm.{form_word};
 
 use crate::encoding::Encoding;
 use crate::load_form::FormKind;
-use command_inputs::read_text;
-use command_outcomes::Fault;
+use command_support::{Fault, read_text};
 use folder_shelf::System;
-use line_encoding::{Backslashes, in_ascii};
 use std::alloc::Global;
 use std::io::Read;
+use streams::{Backslashes, in_ascii};
 
 /// How many backslashes begin an escape in a form.
 fn backslashes_by(form: FormKind) -> Backslashes

@@ -2,7 +2,7 @@
 ghost use Rattle.std.specs.Prelude.{◌≡◌, IfSome, None};
 ghost use Rattle.command_line.specs.Encoding.{encoding_word, IsNoEncodingWord, AreBackslashesOf};
 
-use line_encoding::Backslashes;
+use streams::Backslashes;
 
 /// The encodings that a text can have.
 #[derive(Clone, Copy, Debug, PartialEq, Eq)]

@@ -6,7 +6,7 @@ ghost use Rattle.explanations.specs.Explained.{text_in, digit_of};
 ghost use Rattle.explanations.specs.Tables.{explanation, reason_table};
 ghost use Rattle.command_line.specs.Explained.{Explains};
 
-use command_outcomes::{Fault, Outcome};
+use command_support::{Fault, Outcome};
 use explanations::explanation_of;
 use std::io::Write;
 

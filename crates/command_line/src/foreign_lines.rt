@@ -1,8 +1,9 @@
 //! What of a line that is no record's is no byte of a record, told after its mistake.
-use line_encoding::{Foreign, ForeignLines};
-use record_loading::{LinesEnd, LoadEnd, RejectLog, RejectReason, RejectedLine, ShelfEnd};
-use rejected_lines::KeepsLines;
+use record_loading::{
+    KeepsLines, LinesEnd, LoadEnd, RejectLog, RejectReason, RejectedLine, ShelfEnd,
+};
 use std::io::Write;
+use streams::{Foreign, ForeignLines};
 
 /// Tells what of the line of this number is no byte of a record, if anything is.
 fn tell_foreign<E: Write>(lines: &mut ForeignLines<'_>, number: u64, err: &mut E) {
@@ -51,7 +52,7 @@ impl<'a, R: KeepsLines, E: Write> ForeignLog<'a, R, E> {
 }
 
 impl<'a, R: KeepsLines, E: Write> RejectLog for ForeignLog<'a, R, E> {
-    ghost use Rattle.rejected_lines.specs.Kept.{KeepsMore};
+    ghost use Rattle.record_loading.specs.Kept.{KeepsMore};
 
     // What the writer took is not promised, since it may fail.
     ghost tells = { λ old new _ line.

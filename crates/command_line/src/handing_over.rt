@@ -1,13 +1,13 @@
 //! A text that was listed is written in UTF-8.
 ghost use Rattle.std.specs.Prelude.{◌≡◌, ◌⊎◌, Ok, Err, IfOk, IfErr, OnOk};
 ghost use Rattle.std.specs.Io.KnownBytes.{Appends};
-ghost use Rattle.line_encoding.specs.InUtf8.{in_utf_8};
+ghost use Rattle.streams.specs.InUtf8.{in_utf_8};
 ghost use Rattle.command_line.specs.Encoded.{HandsTextOver, IsNoRoom};
 
-use command_outcomes::{Fault, Outcome};
-use line_encoding::{Backslashes, in_utf_8};
+use command_support::{Fault, Outcome};
 use std::alloc::Global;
 use std::io::Write;
+use streams::{Backslashes, in_utf_8};
 
 /// What was done where a text was listed into memory, which alone may have failed then.
 fn of_memory(made: Result<Outcome, Fault>) -> Result<Outcome, Fault>

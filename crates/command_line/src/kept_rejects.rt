@@ -2,13 +2,12 @@
 ghost use Rattle.std.specs.Prelude.{◌≡◌, ◌⊎◌, true, false, IsSome, option_map, OnOk, IfErr, Err};
 ghost use Rattle.std.specs.Option.{IfSome};
 ghost use Rattle.record_text.specs.Lines.{form_header};
-ghost use Rattle.rejected_lines.specs.Kept.{All, IsAllKept};
-ghost use Rattle.command_outcomes.specs.Status.{status_of};
+ghost use Rattle.record_loading.specs.Kept.{All, IsAllKept};
+ghost use Rattle.command_support.specs.Status.{status_of};
 
-use command_outcomes::{Fault, Outcome};
-use record_loading::LoadOptions;
+use command_support::{Fault, Outcome};
+use record_loading::{KeepsLines, LoadOptions};
 use record_text::{Form, append_header};
-use rejected_lines::KeepsLines;
 use std::alloc::Global;
 
 /// Whether a file for rejected lines is asked for, and the first one ends the load.

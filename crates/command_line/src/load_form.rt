@@ -2,7 +2,7 @@
 ghost use Rattle.std.specs.Prelude.{◌≡◌, codes, IfOk, IfErr, IfSome, None};
 ghost use Rattle.command_line.specs.LoadForm.{form_word, IsNoFormWord, IsFormOf, AreColumnsOf};
 
-use command_outcomes::Fault;
+use command_support::Fault;
 use file_control::FileDesc;
 use record_text::{Column, Form, item_columns};
 use std::alloc::Global;

@@ -10,14 +10,12 @@ use crate::foreign_lines::ForeignLog;
 use crate::kept_rejects::{keep_rejects, told_if_kept};
 use crate::load_form::{FormKind, form_of};
 use crate::told_load::{room_and_path, tell_end};
-use command_inputs::{deck_of, file_named};
-use command_outcomes::{Fault, Outcome};
+use command_support::{Fault, Outcome, deck_of, file_named};
 use command_words::{Limits, LineOptions};
 use file_control::FileDesc;
 use folder_shelf::{CallRecord, Disk, FolderShelf, System};
-use record_loading::{Load, LoadOptions, ShelfEnd, ShelfFault};
+use record_loading::{KeepsLines, Load, LoadOptions, ShelfEnd, ShelfFault, load_keeping};
 use record_text::{Form, items_are_whole};
-use rejected_lines::{KeepsLines, load_keeping};
 use std::alloc::Global;
 use std::io::{Read, Write};
 use streams::{Progress, StandardInput};
@@ -118,7 +116,7 @@ fn load_over_folder<S: System + Drop, D: Disk, R: KeepsLines, P: Progress>(
     }
 }
 
-#[tactic(auto, using(command_inputs::proofs::DeckLemmas::not_there))]
+#[tactic(auto, using(command_support::proofs::DeckLemmas::not_there))]
 /// Loads a text of this kind, in this encoding, into a file of the deck that the bytes are, over the files
 /// of a folder, and tells how that ended. What was asked before the folder is entered is set aside. `Deck`,
 /// `NoSuchFile`: nothing was written or changed, and no folder entered.

@@ -1,6 +1,6 @@
 //! What could not be read or written, and why: the second line of `cobix: input` and `cobix: output`.
 
-use command_outcomes::{Fault, Outcome};
+use command_support::{Fault, Outcome};
 use folder_shelf::{System, Unread};
 use std::io::{self, ErrorKind, Write};
 use streams::StandardOutput;

@@ -2,16 +2,16 @@
 ghost use Rattle.std.specs.Prelude.{◌≡◌, [], ◌∷◌, Err, string_bytes, IfErr};
 ghost use Rattle.folder_shelf.specs.Calls.{entered};
 ghost use Rattle.folder_shelf.specs.Within.{StaysWithin};
-ghost use Rattle.command_outcomes.specs.Status.{status_of};
+ghost use Rattle.command_support.specs.Status.{status_of};
 ghost use Rattle.command_line.specs.Session.{ServedAt, session_told_as, session_end_as};
 
-use command_outcomes::Fault;
+use command_support::Fault;
 use command_words::Limits;
 use folder_shelf::{Disk, FolderShelf, System};
 use page_store::{GrowingShelf, Shelf};
 use serve::{ServeFault, serve};
 use shelf_library::ShelfLibrary;
-use shelf_session::exact_on_shelf;
+use shelf_run::exact_on_shelf;
 use std::alloc::Global;
 use std::io::{Read, Write};
 use streams::{ReadsAhead, StandardInput};

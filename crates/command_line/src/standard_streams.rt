@@ -2,9 +2,9 @@
 ghost use Rattle.std.specs.Prelude.{◌≡◌, IfErr};
 ghost use Rattle.folder_shelf.specs.Calls.{streams_held};
 ghost use Rattle.folder_shelf.specs.SystemState.{with_call, is_done};
-ghost use Rattle.command_outcomes.specs.Status.{status_of};
+ghost use Rattle.command_support.specs.Status.{status_of};
 
-use command_outcomes::Fault;
+use command_support::Fault;
 use folder_shelf::{HoldsStreams, StreamFault};
 
 /// Why the numbers of closed streams were not taken, as the program tells it.

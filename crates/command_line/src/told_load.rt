@@ -4,7 +4,7 @@ ghost use Rattle.folder_shelf.specs.Reading.{ByReads};
 ghost use Rattle.folder_shelf.specs.SystemState.{file_path};
 ghost use Rattle.command_line.specs.Loaded.{TellsLoad, WritesEnd};
 
-use command_outcomes::{Fault, Outcome};
+use command_support::{Fault, Outcome};
 use file_commands::{differences_at, path_in};
 use file_control::FileDesc;
 use folder_shelf::System;

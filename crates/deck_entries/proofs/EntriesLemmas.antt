@@ -7,10 +7,10 @@ use Rattle.std.proofs.lemmas.List.{length-append, map-append}
 use Rattle.std.proofs.lemmas.Map.Keys.{IsDistinct-push}
 use Rattle.std.proofs.lemmas.Option.{same_Some}
 use Rattle.deck_entries.specs.FileControlEntry.{FileControlEntry}
-use Rattle.deck_words.specs.Word.{Word}
+use Rattle.deck_parser.specs.Word.{Word}
 use Rattle.deck_parser.specs.Rule.{each_behind}
 use Rattle.deck_entries.specs.FileControlEntry.{is_assigned}
-use Rattle.deck_words.proofs.TestLemmas.{neither_true}
+use Rattle.deck_parser.proofs.TestLemmas.{neither_true}
 use Rattle.deck_entries.proofs.BehindLemmas.{is_behind}
 use Rattle.deck_parser.proofs.TurnLemmas.{kept_by_turns}
 use Rattle.deck_entries.specs.Divisions.{more_entry, file_control_paragraph}

@@ -6,7 +6,7 @@ use Rattle.deck_parser.specs.Rule.{Rule, optional, any_behind, where_it_gives, e
 use Rattle.deck_parser.specs.Notation.{the, name, period, ◌▸◌, ◌⊗◌, ◌<$>◌}
 use Rattle.deck_entries.specs.FileControlEntry.{select_behind}
 use Rattle.deck_entries.specs.FileControlEntry.{FileControlEntry}
-use Rattle.deck_words.specs.Word.{Word}
+use Rattle.deck_parser.specs.Word.{Word}
 use Rattle.deck_entries.specs.declared.divisions.Divisions.{Divisions}
 use Rattle.deck_entries.specs.FileDescription.{FileDescription, StorageEntry, description_behind}
 use Rattle.deck_entries.specs.FileDescription.{more_storage, with_one}

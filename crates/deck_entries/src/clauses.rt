@@ -9,8 +9,7 @@ ghost use Rattle.deck_entries.specs.declared.clauses.Clauses.{Clauses as Said};
 
 use crate::record_length::{RecordLength, count, length_clause};
 use crate::words::{eat_one, expect_one};
-use deck_parser::Parser;
-use deck_words::{Cause, Refusal, Twice};
+use deck_parser::{Cause, Parser, Refusal, Twice};
 
 /// What the clauses of a file description say together.
 #[derive(Drop)]

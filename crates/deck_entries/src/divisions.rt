@@ -12,8 +12,7 @@ use crate::entry::Selected;
 use crate::select::select;
 use crate::storage::{StorageItems, storage_section};
 use crate::words::heading;
-use deck_parser::Parser;
-use deck_words::{NameOf, Refusal};
+use deck_parser::{NameOf, Parser, Refusal};
 use std::alloc::{AllocError, Global};
 use std::marker::Model;
 

@@ -1,5 +1,5 @@
 //! A file control entry: SELECT, ASSIGN, and the clauses of an indexed file.
-use deck_words::WordPlace;
+use deck_parser::WordPlace;
 use io_state::{Access, FileName, Name};
 use std::alloc::{AllocError, Global};
 use std::marker::Model;

@@ -9,8 +9,7 @@ ghost use Rattle.deck_entries.specs.FileDescription.{item, more_item};
 
 use crate::record_length::number_of;
 use crate::words::expect_one;
-use deck_parser::Parser;
-use deck_words::{Cause, Expected, NameOf, Refusal, WantedClass};
+use deck_parser::{Cause, Expected, NameOf, Parser, Refusal, WantedClass};
 use io_state::Name;
 use record_layout::Item;
 use std::alloc::{AllocError, Global};

@@ -5,8 +5,7 @@ ghost use Rattle.record_layout.specs.Reading.{capped_size};
 ghost use Rattle.deck_parser.specs.Reading.{ReadsRule};
 ghost use Rattle.deck_entries.specs.FileDescription.{count, length_clause};
 
-use deck_parser::Parser;
-use deck_words::{NameOf, Refusal};
+use deck_parser::{NameOf, Parser, Refusal};
 use io_state::Name;
 use std::marker::Model;
 

@@ -10,8 +10,7 @@ ghost use Rattle.deck_entries.specs.FileControlEntry.{select_word, new_name, new
 ghost use Rattle.deck_entries.specs.FileControlEntry.{is_selected, is_assigned};
 
 use crate::entry::{Clauses, EntryKeys, Selected};
-use deck_parser::Parser;
-use deck_words::{Cause, Expected, Limit, NameOf, NotAllowed, Refusal, Twice};
+use deck_parser::{Cause, Expected, Limit, NameOf, NotAllowed, Parser, Refusal, Twice};
 use io_state::{Access, FileName, Name, file_name_of};
 use std::alloc::Global;
 

@@ -8,8 +8,7 @@ ghost use Rattle.deck_entries.specs.Divisions.{storage_section};
 
 use crate::item::picture_clause;
 use crate::words::heading;
-use deck_parser::Parser;
-use deck_words::{NameOf, Refusal, WordPlace};
+use deck_parser::{NameOf, Parser, Refusal, WordPlace};
 use io_state::Name;
 use std::alloc::{AllocError, Global};
 use std::marker::Model;

@@ -4,8 +4,7 @@ ghost use Rattle.deck_parser.specs.Notation.{the, ◌∣◌, eaten};
 ghost use Rattle.deck_parser.specs.Reading.{ReadsAs, ReadsRule, Stops};
 ghost use Rattle.deck_entries.specs.Divisions.{division_heading};
 
-use deck_parser::Parser;
-use deck_words::Refusal;
+use deck_parser::{Parser, Refusal};
 
 /// Takes one of two words.
 #[tactic(auto, unfolding(deck_parser::specs::Notation::the))]

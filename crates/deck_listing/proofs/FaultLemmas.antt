@@ -2,8 +2,8 @@
 use Rattle.std.proofs.Common.{◌≡◌, ◌≤◌, ◌<◌, ◌+◌, ℕ, List, [], ◌∷◌, ◌++◌, length, All, nat_eq, true, ◌&&◌, refl, arith, length-append}
 use Rattle.std.proofs.lemmas.Bool.{and_parts}
 use Rattle.std.proofs.lemmas.Bool.Decides.{nat_tests}
-use Rattle.deck_words.specs.Fault.{fault_of}
-use Rattle.deck_words.specs.declared.fault.DeckFault.{DeckFault}
+use Rattle.deck_parser.specs.Fault.{fault_of}
+use Rattle.deck_parser.specs.declared.fault.DeckFault.{DeckFault}
 use Rattle.std.proofs.lemmas.List.Elements.{All-push}
 use Rattle.deck_listing.specs.Told.{TellsOf, AreFurther}
 use Rattle.deck_listing.specs.declared.diagnosis.Diagnosis.{Diagnosis}

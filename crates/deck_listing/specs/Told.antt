@@ -1,9 +1,9 @@
 -- What is told of a deck. All of this is ours.
 use Rattle.std.specs.Prelude.{◌≡◌, ◌≢◌, ◌≤◌, ℕ, List, [], length, All}
 use Rattle.std.specs.List.Sorted.{IsNonDecreasingBy}
-use Rattle.deck_words.specs.Fault.{told}
-use Rattle.deck_words.specs.declared.fault.DeckFault.{DeckFault}
-use Rattle.deck_words.specs.declared.fault.Refusal.{Refusal}
+use Rattle.deck_parser.specs.Fault.{told}
+use Rattle.deck_parser.specs.declared.fault.DeckFault.{DeckFault}
+use Rattle.deck_parser.specs.declared.fault.Refusal.{Refusal}
 use Rattle.deck_messages.specs.Texts.{SaysWhy}
 use Rattle.deck_listing.specs.Place.{IsTextAtLine}
 use Rattle.deck_listing.specs.declared.diagnosis.Diagnosis.{Diagnosis}

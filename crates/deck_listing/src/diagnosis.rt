@@ -6,7 +6,7 @@ ghost use Rattle.deck_listing.specs.Told.{TellsOf};
 use crate::place::{Place, place_of};
 use crate::text::{Hint, Reason, fitted, told_reason};
 use arrayvec::ArrayVec;
-use deck_words::WordPlace;
+use deck_parser::WordPlace;
 use refused_deck::{Message, Shown};
 use std::fmt;
 

@@ -1,6 +1,6 @@
 //! The entry or the sentence in which a word stands.
 
-use deck_words::{Word, WordPlace, WordText, words};
+use deck_parser::{Word, WordPlace, WordText, words};
 use refused_deck::word_places;
 use std::alloc::{AllocError, Global};
 

@@ -6,8 +6,8 @@ ghost use Rattle.deck_listing.specs.Told.{TellsOf, SaysOf, AreTold, AreFurther};
 use crate::diagnosis::{Diagnosis, diagnosis_of};
 use crate::later::later_faults;
 use deck_messages::message_of;
+use deck_parser::DeckFault;
 use deck_reader::read_deck_told;
-use deck_words::DeckFault;
 use refused_deck::Message;
 use std::alloc::{AllocError, Global};
 

@@ -2,7 +2,7 @@
 
 use crate::entry::{description_end, has_word};
 use crate::mended::{Mend, MendedDeck};
-use deck_words::{Cause, LayoutCause, NotAllowed, WordPlace};
+use deck_parser::{Cause, LayoutCause, NotAllowed, WordPlace};
 use record_layout::LayoutFault;
 use refused_deck::{Reading, capitals};
 use std::alloc::AllocError;

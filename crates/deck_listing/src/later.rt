@@ -3,8 +3,8 @@
 use crate::entry::entry_at;
 use crate::mended::MendedDeck;
 use deck_messages::message_of;
+use deck_parser::{Cause, Refusal, Unknown, WordPlace};
 use deck_reader::{DeckRefusal, read_deck_told};
-use deck_words::{Cause, Refusal, Unknown, WordPlace};
 use refused_deck::{Message, capitals, is_number, says_one_of};
 use std::alloc::{AllocError, Global};
 

@@ -1,7 +1,7 @@
 //! The list of a deck.
 ghost use Rattle.std.specs.Prelude.{◌≡◌, ◌≢◌, ◌++◌, map, flat_map, string_bytes, OnOk, IfOk, IfErr};
 ghost use Rattle.record_layout.specs.Layout.{item_of};
-ghost use Rattle.deck_words.specs.Fault.{IsTold};
+ghost use Rattle.deck_parser.specs.Fault.{IsTold};
 ghost use Rattle.deck_reader.specs.declared.deck.Deck.{Deck as ReadDeck};
 ghost use Rattle.deck_reader.specs.Deck.{IsDeck};
 ghost use Rattle.deck_listing.specs.Lines.{item_line};
@@ -10,8 +10,8 @@ ghost use Rattle.deck_listing.specs.Listing.{key_lines, file_lines, deck_listing
 use crate::key_name::key_name;
 use crate::lines::{add_heading, add_item, add_key};
 use crate::procedure::add_procedure;
+use deck_parser::Refusal;
 use deck_reader::{Deck, read_deck};
-use deck_words::Refusal;
 use file_control::{DeckFault, FileDesc};
 use record_layout::{KeyPart, Placed};
 use std::alloc::{AllocError, Global};

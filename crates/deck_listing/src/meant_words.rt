@@ -1,9 +1,9 @@
 //! Words that may be meant where a deck goes wrong.
 
-use deck_reader::DeckRefusal;
-use deck_words::{
+use deck_parser::{
     Cause, Expected, LayoutCause, NotAllowed, Refusal, Twice, Unknown, Wanted, WordPlace,
 };
+use deck_reader::DeckRefusal;
 use io_state::Name;
 use record_layout::LayoutFault;
 use refused_deck::{Among, Reading, capitals, is_near};

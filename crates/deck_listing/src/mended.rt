@@ -2,7 +2,7 @@
 
 use crate::blank::blank;
 use crate::entry::{description_end, procedure_start};
-use deck_words::{DECK_LIMIT, WordPlace};
+use deck_parser::{DECK_LIMIT, WordPlace};
 use io_state::Name;
 use refused_deck::says;
 use std::alloc::{AllocError, Global};

@@ -1,12 +1,12 @@
 -- The texts of the causes that have the same one in each deck. All of this is ours.
 use Rattle.std.specs.Prelude.{◌≡◌, ℕ, List, Option, Some, None, codes, ⊤}
-use Rattle.deck_words.specs.declared.fault.Cause.{Cause}
-use Rattle.deck_words.specs.declared.fault.Cause.TheVariants.{Expected, NotAllowed, Limit}
-use Rattle.deck_words.specs.declared.fault.Expected.TheVariants.{Indexed, RecordKey}
-use Rattle.deck_words.specs.declared.fault.NotAllowed.TheVariants.{KeyWithNext}
-use Rattle.deck_words.specs.declared.fault.Limit.TheVariants.{Bytes, Files, AlternateKeys}
-use Rattle.deck_words.specs.declared.fault.Refusal.{Refusal}
-use Rattle.deck_words.specs.declared.fault.Refusal.TheVariants.{Memory, Fault}
+use Rattle.deck_parser.specs.declared.fault.Cause.{Cause}
+use Rattle.deck_parser.specs.declared.fault.Cause.TheVariants.{Expected, NotAllowed, Limit}
+use Rattle.deck_parser.specs.declared.fault.Expected.TheVariants.{Indexed, RecordKey}
+use Rattle.deck_parser.specs.declared.fault.NotAllowed.TheVariants.{KeyWithNext}
+use Rattle.deck_parser.specs.declared.fault.Limit.TheVariants.{Bytes, Files, AlternateKeys}
+use Rattle.deck_parser.specs.declared.fault.Refusal.{Refusal}
+use Rattle.deck_parser.specs.declared.fault.Refusal.TheVariants.{Memory, Fault}
 
 -- the text of a cause, where it has the same one in each deck
 abbrev pub text_of_cause : Cause → Option (List ℕ)

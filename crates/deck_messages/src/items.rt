@@ -1,7 +1,7 @@
 //! Items that are no record, and the words by which they are told.
 
 use crate::bad_word::has_none_but;
-use deck_words::WordPlace;
+use deck_parser::WordPlace;
 use record_layout::{Item, Layout, LayoutFault};
 use refused_deck::{Reading, Told};
 use std::alloc::AllocError;

@@ -1,7 +1,7 @@
 //! Keys that the records of a file do not have.
 
 use deck_entries::{Described, RecordLength};
-use deck_words::WordPlace;
+use deck_parser::WordPlace;
 use record_layout::{Field, Layout};
 use refused_deck::{Among, Reading, Told};
 use std::alloc::{AllocError, Global};

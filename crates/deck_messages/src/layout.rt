@@ -3,7 +3,7 @@
 use crate::items::bad_items;
 use crate::keys::bad_keys;
 use deck_entries::{Described, RecordLength};
-use deck_words::{LayoutCause, WordPlace};
+use deck_parser::{LayoutCause, WordPlace};
 use record_layout::Picture;
 use refused_deck::{Reading, Told, is_number, says, says_one_of};
 

@@ -1,6 +1,6 @@
 //! What is not allowed where it stands.
 
-use deck_words::{NotAllowed, WordPlace};
+use deck_parser::{NotAllowed, WordPlace};
 use io_state::Access;
 use refused_deck::{Among, Reading, Told, capitals};
 

@@ -2,7 +2,7 @@
 ghost use Rattle.std.specs.Prelude.{◌≡◌, option_map};
 ghost use Rattle.deck_messages.specs.Texts.{text_of_cause};
 
-use deck_words::{Cause, Expected, Limit, NotAllowed};
+use deck_parser::{Cause, Expected, Limit, NotAllowed};
 
 fn text_of_limit(limit: Limit) -> Option<&'static str>
     ensures { option_map (λ text. text.now) result ≡ text_of_cause (Cause.Limit limit) }

@@ -10,8 +10,8 @@ use crate::twice::twice;
 use crate::unexpected::unexpected;
 use crate::unknown::unknown;
 use crate::wanted::WantedWords;
+use deck_parser::{Cause, Refusal, WordPlace};
 use deck_reader::DeckRefusal;
-use deck_words::{Cause, Refusal, WordPlace};
 use refused_deck::{Message, Reading, Told};
 use std::alloc::{AllocError, Global};
 

@@ -1,6 +1,6 @@
 //! What stands a second time.
 
-use deck_words::{FirstNamed, ItemPlace, Twice, WordPlace};
+use deck_parser::{FirstNamed, ItemPlace, Twice, WordPlace};
 use refused_deck::{Reading, Told};
 
 fn already(deck: &Reading<'_>, place: WordPlace, what: &str, line: u64) -> Told {

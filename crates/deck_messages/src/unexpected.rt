@@ -2,8 +2,8 @@
 
 use crate::lacking::{without, without_here};
 use crate::wanted::WantedWords;
+use deck_parser::{Cause, Expected, NameOf, Refusal, Wanted, WordPlace};
 use deck_reader::{DeckRefusal, read_deck_told};
-use deck_words::{Cause, Expected, NameOf, Refusal, Wanted, WordPlace};
 use refused_deck::{Message, Reading, Shown, Told, is_name, is_number, says, says_one_of};
 use std::alloc::AllocError;
 

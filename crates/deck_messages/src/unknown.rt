@@ -1,7 +1,7 @@
 //! Names that nothing has, or something else.
 
 use crate::lacking::without;
-use deck_words::{Named, Unknown, WordPlace};
+use deck_parser::{Named, Unknown, WordPlace};
 use refused_deck::{Among, Message, Reading, Told};
 use std::alloc::AllocError;
 

@@ -1,6 +1,6 @@
 //! What was wanted where a deck goes wrong.
 
-use deck_words::{NameOf, Wanted};
+use deck_parser::{NameOf, Wanted};
 use refused_deck::{Shown, is_near, says};
 use std::alloc::{AllocError, Global};
 use std::fmt;

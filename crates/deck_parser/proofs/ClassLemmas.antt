@@ -12,9 +12,9 @@ use Rattle.std.proofs.lemmas.Bool.Decides.{nat_tests}
 use Rattle.io_state.specs.FileName.{is_capital}
 use Rattle.deck_parser.specs.Name.{is_name, is_number}
 use Rattle.deck_parser.specs.Class.{Class, this, names, numbers, levels, pictures, literals, signs, periods, is_in, begins, kind_of, has_text, only_text, has_capitals, lacks_text, differ, are_texts_apart, are_classes_apart, all_apart}
-use Rattle.deck_words.specs.Word.{Word, WordKind, is_same_kind}
-use Rattle.deck_words.specs.Word as kind
-use Rattle.deck_words.proofs.TestLemmas.{both_true, either_true, neither_true, not_is}
+use Rattle.deck_parser.specs.Word.{Word, WordKind, is_same_kind}
+use Rattle.deck_parser.specs.Word as kind
+use Rattle.deck_parser.proofs.TestLemmas.{both_true, either_true, neither_true, not_is}
 
 -- a test of mapped values is a test of the values
 pub any_of_map : {A B : Type 0} (p : B → Bool) (f : A → B) (xs : List A) → list_any p (map f xs) ≡ list_any (λ x. p (f x)) xs

@@ -5,8 +5,8 @@ use Rattle.deck_parser.specs.Class.{begins}
 use Rattle.deck_parser.specs.Rule.{Rule, Stop}
 use Rattle.deck_parser.specs.Notation.{◌∣◌}
 use Rattle.deck_parser.specs.Reading.{Reads, ReadsRule, TellsStop}
-use Rattle.deck_words.specs.Word.{Word}
-use Rattle.deck_words.specs.declared.fault.Refusal.{Refusal}
+use Rattle.deck_parser.specs.Word.{Word}
+use Rattle.deck_parser.specs.declared.fault.Refusal.{Refusal}
 
 -- both rules read the words in the same way
 abbrev pub Alike : {A : Type 0} → Rule A → Rule A → List Word → Type 0

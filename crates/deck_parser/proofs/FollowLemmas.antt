@@ -1,9 +1,9 @@
 -- What a rule reads that depends on the value of the rule before it is what it spells.
 use Rattle.std.proofs.Common.{◌≡◌, ◌<◌, Bool, true, false, ◌&&◌, ◌||◌, ◌⊎◌, cond, List, ◌++◌, length, Some, sym, ap, ◌∙◌, inl, inr, subst, arith}
-use Rattle.deck_words.specs.Word.{Word}
+use Rattle.deck_parser.specs.Word.{Word}
 use Rattle.deck_parser.specs.Class.{Class, begins, all_apart}
 use Rattle.deck_parser.specs.Rule.{Rule}
-use Rattle.deck_words.proofs.TestLemmas.{both_true, or_true, bind_some}
+use Rattle.deck_parser.proofs.TestLemmas.{both_true, or_true, bind_some}
 use Rattle.deck_parser.proofs.ClassLemmas.{begins_apart, begins-append, neither_begins}
 use Rattle.deck_parser.proofs.RuleLemmas.{Lawful}
 use Rattle.deck_parser.specs.Following.{followed}

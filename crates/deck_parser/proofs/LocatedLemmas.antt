@@ -1,11 +1,11 @@
 -- A rule that gives its line is read as it is spelled.
 use Rattle.std.proofs.Common.{◌≡◌, ℕ, List, Some, sym, ap, ◌∙◌, subst}
 use Rattle.deck_parser.specs.Rule.{Rule}
-use Rattle.deck_words.specs.Word.{first_line}
-use Rattle.deck_words.specs.Word.{Word}
+use Rattle.deck_parser.specs.Word.{first_line}
+use Rattle.deck_parser.specs.Word.{Word}
 use Rattle.deck_parser.proofs.RuleLemmas.{Lawful}
 use Rattle.deck_parser.proofs.RestLemmas.{LeavesRest}
-use Rattle.deck_words.proofs.TestLemmas.{map_some}
+use Rattle.deck_parser.proofs.TestLemmas.{map_some}
 use Rattle.deck_parser.specs.Located.{with_line}
 
 module _ {A : Type 0} (p : Rule A) (lawful_p : Lawful p) where

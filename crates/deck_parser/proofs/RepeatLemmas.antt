@@ -4,10 +4,10 @@ use Rattle.std.specs.Prelude.{option_and_then}
 use Rattle.std.proofs.lemmas.Option.{some_pair_parts, same_Some}
 use Rattle.std.specs.Option.{option_map}
 use Rattle.std.proofs.lemmas.Bool.{false≢true}
-use Rattle.deck_words.specs.Word.{Word}
+use Rattle.deck_parser.specs.Word.{Word}
 use Rattle.deck_parser.specs.Class.{begins, all_apart}
 use Rattle.deck_parser.specs.Rule.{Rule, where_it_gives, SpellsTurns, onto, some_onto, reads_onto_from, many, reads_many_from, SpellsMany, stop_behind, stops_again_from, stops_again}
-use Rattle.deck_words.proofs.TestLemmas.{both_true, not_is, bind_some, bind_is, bind_same, map_some, none_mapped}
+use Rattle.deck_parser.proofs.TestLemmas.{both_true, not_is, bind_some, bind_is, bind_same, map_some, none_mapped}
 use Rattle.deck_parser.proofs.ClassLemmas.{begins_apart, neither_begins}
 use Rattle.deck_parser.proofs.RuleLemmas.{Lawful}
 

@@ -1,6 +1,6 @@
 -- What a rule spells ends with the rest that it leaves.
 use Rattle.std.proofs.Common.{◌≡◌, ℕ, Bool, List, [], ◌∷◌, ◌++◌, Option, Some, None, sym, ap, ◌∙◌, inl, inr, append_assoc}
-use Rattle.deck_words.specs.Word.{Word}
+use Rattle.deck_parser.specs.Word.{Word}
 use Rattle.deck_parser.specs.Class.{Class, this, names, literals, periods}
 use Rattle.deck_parser.specs.Rule.{Rule, one, in_turn, optional, onto, some_onto, SpellsTurns, each_behind, any_behind, unless_barred, where_it_gives, where_it_gives_or}
 use Rattle.deck_parser.specs.Following.{followed}

@@ -3,11 +3,11 @@ use Rattle.std.proofs.Common.{◌≡◌, ℕ, ◌<◌, Bool, true, false, not, �
 use Rattle.std.proofs.lemmas.Option.{cond_some, some_pair_parts}
 use Rattle.std.specs.Option.{option_map}
 use Rattle.std.proofs.lemmas.Bool.{false≢true}
-use Rattle.deck_words.specs.Word.{Word}
+use Rattle.deck_parser.specs.Word.{Word}
 use Rattle.deck_parser.specs.Class.{Class, is_in, begins, all_apart}
 use Rattle.deck_parser.specs.Rule.{Rule, one, in_turn, optional, unless_barred, where_it_gives_or}
 use Rattle.deck_parser.specs.Notation.{◌∣◌}
-use Rattle.deck_words.proofs.TestLemmas.{both_true, not_is, or_true, bind_some, map_some}
+use Rattle.deck_parser.proofs.TestLemmas.{both_true, not_is, or_true, bind_some, map_some}
 use Rattle.deck_parser.proofs.ClassLemmas.{begins_apart, begins-append, neither_begins, nothing_begins}
 
 -- ---- what holds of each rule

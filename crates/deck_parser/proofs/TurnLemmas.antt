@@ -3,14 +3,14 @@ use Rattle.std.proofs.Common.{◌≡◌, ℕ, zero, suc, ◌<◌, ◌≤◌, Boo
 use Rattle.std.specs.Prelude.{option_and_then}
 use Rattle.std.proofs.lemmas.Option.{some_pair_parts}
 use Rattle.std.proofs.lemmas.Bool.{false≢true}
-use Rattle.deck_words.specs.Word.{Word}
+use Rattle.deck_parser.specs.Word.{Word}
 use Rattle.deck_parser.specs.Class.{Class, begins, all_apart}
 use Rattle.deck_parser.specs.Rule.{Rule, SpellsTurns, reads_further_from, each_behind, any_behind, Stop, stop_behind, stops_further_from}
-use Rattle.deck_words.proofs.TestLemmas.{bind_some, bind_is}
+use Rattle.deck_parser.proofs.TestLemmas.{bind_some, bind_is}
 use Rattle.deck_parser.proofs.ClassLemmas.{begins_apart, neither_begins}
 use Rattle.deck_parser.specs.Reading.{Refuses, TellsStop}
-use Rattle.deck_words.specs.declared.fault.Refusal.{Refusal}
-use Rattle.deck_words.specs.declared.fault.Refusal.TheVariants.{Memory, Fault}
+use Rattle.deck_parser.specs.declared.fault.Refusal.{Refusal}
+use Rattle.deck_parser.specs.declared.fault.Refusal.TheVariants.{Memory, Fault}
 use Rattle.deck_parser.proofs.RuleLemmas.{Lawful}
 
 -- the words spell values up to a last one, in any number of turns

@@ -4,8 +4,8 @@ use Rattle.std.specs.Prelude.{Some, None, codes}
 use Rattle.std.specs.List.{list_all, list_any}
 use Rattle.std.specs.Str.{bytes_eq}
 use Rattle.deck_parser.specs.Name.{is_name, is_number}
-use Rattle.deck_words.specs.Word.{Word, WordKind, word_of, is_same_kind}
-use Rattle.deck_words.specs.Word as kind
+use Rattle.deck_parser.specs.Word.{Word, WordKind, word_of, is_same_kind}
+use Rattle.deck_parser.specs.Word as kind
 
 -- ---- words
 

@@ -2,7 +2,7 @@
 use Rattle.std.specs.Prelude.{Bool, ◌&&◌, if◌then◌else◌, List, ◌++◌, Some, None, option_and_then}
 use Rattle.deck_parser.specs.Class.{all_apart}
 use Rattle.deck_parser.specs.Rule.{Rule, where_it_gives, stop_behind}
-use Rattle.deck_words.specs.Word.{Word}
+use Rattle.deck_parser.specs.Word.{Word}
 
 -- the first rule, and then the one that its value gives, whose value counts; that one looks ahead
 -- as the sample's does

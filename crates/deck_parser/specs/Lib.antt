@@ -1,3 +1,13 @@
+pub mod ByteClass
+pub mod Fault
+pub mod Literal
+pub mod Word
+pub mod Words
+pub mod Spelling
+pub mod Front
+pub mod Remaining
+pub mod OneReading
+pub mod Wanted
 pub mod Name
 pub mod Class
 pub mod Rule

@@ -1,7 +1,7 @@
 -- The line in which the words of a rule begin.
 use Rattle.std.specs.Prelude.{◌≡◌, ℕ, option_map}
 use Rattle.deck_parser.specs.Rule.{Rule}
-use Rattle.deck_words.specs.Word.{first_line}
+use Rattle.deck_parser.specs.Word.{first_line}
 
 -- a rule's value, behind the line of the first of its words
 abbrev pub with_line : {A : Type 0} → Rule A → Rule (ℕ × A)

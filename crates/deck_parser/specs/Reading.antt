@@ -2,13 +2,13 @@
 use Rattle.std.specs.Prelude.{◌≡◌, Bool, List, [], ◌∷◌, Option, Some, None, Result, Ok, Err, IfErr}
 use Rattle.std.specs.Bool.{OnTrue, OnFalse}
 use Rattle.deck_parser.specs.Class.{Class, begins}
-use Rattle.deck_words.specs.declared.fault.Refusal.{Refusal}
-use Rattle.deck_words.specs.declared.fault.Refusal.TheVariants.{Memory, Fault}
+use Rattle.deck_parser.specs.declared.fault.Refusal.{Refusal}
+use Rattle.deck_parser.specs.declared.fault.Refusal.TheVariants.{Memory, Fault}
 use Rattle.deck_parser.specs.Rule.{Rule, Stop}
 use Rattle.deck_parser.specs.Scanning.{map_result}
 use Rattle.deck_parser.specs.Unfit.{IsFirstLine}
-use Rattle.deck_words.specs.Fault.{cause_code}
-use Rattle.deck_words.specs.Word.{Word}
+use Rattle.deck_parser.specs.Fault.{cause_code}
+use Rattle.deck_parser.specs.Word.{Word}
 
 -- memory ran out, or there is nothing
 abbrev pub Refuses : {A : Type 0} → Option A → Refusal → Type 0

@@ -5,7 +5,7 @@ use Rattle.std.specs.Prelude.{◌≡◌, ℕ, zero, suc, Bool, true, false, not,
 use Rattle.std.specs.Prelude.{◌∷◌, ◌++◌, length, Option, Some, None, option_and_then, option_map, IsTrue}
 use Rattle.std.specs.Prelude.{MatchOption}
 use Rattle.deck_parser.specs.Class.{Class, is_in, begins, all_apart}
-use Rattle.deck_words.specs.Word.{Word}
+use Rattle.deck_parser.specs.Word.{Word}
 
 -- where the reading of words stops: at the first of these words, and with this code
 pub record Stop : Type 0 where

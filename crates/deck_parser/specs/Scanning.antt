@@ -1,6 +1,6 @@
 -- What a function makes of an answer.
 use Rattle.std.specs.Prelude.{Result, Ok, Err}
-use Rattle.deck_words.specs.declared.fault.Refusal.{Refusal}
+use Rattle.deck_parser.specs.declared.fault.Refusal.{Refusal}
 
 abbrev pub map_result : {A B : Type 0} → (A → B) → Result A Refusal → Result B Refusal
 map_result f (Ok x) = Ok (f x)

@@ -1,13 +1,13 @@
 -- Where a refusal stands, and what is wanted there.
 use Rattle.std.specs.Prelude.{◌≡◌, ℕ, List, [], ◌∷◌}
-use Rattle.deck_words.specs.Word.{Word as Seen}
-use Rattle.deck_words.specs.declared.fault.Cause.{Cause}
-use Rattle.deck_words.specs.declared.fault.Cause.TheVariants.{BadWord, Expected, Unknown, Twice, NotAllowed}
-use Rattle.deck_words.specs.declared.fault.Cause.TheVariants.{Limit, Layout}
-use Rattle.deck_words.specs.declared.fault.Expected.TheVariants.{Words, Paragraph, Indexed, RecordKey}
-use Rattle.deck_words.specs.declared.fault.Refusal.{Refusal}
-use Rattle.deck_words.specs.declared.fault.Refusal.TheVariants.{Memory, Fault}
-use Rattle.deck_words.specs.declared.wanted.WantedClass.{WantedClass}
+use Rattle.deck_parser.specs.Word.{Word as Seen}
+use Rattle.deck_parser.specs.declared.fault.Cause.{Cause}
+use Rattle.deck_parser.specs.declared.fault.Cause.TheVariants.{BadWord, Expected, Unknown, Twice, NotAllowed}
+use Rattle.deck_parser.specs.declared.fault.Cause.TheVariants.{Limit, Layout}
+use Rattle.deck_parser.specs.declared.fault.Expected.TheVariants.{Words, Paragraph, Indexed, RecordKey}
+use Rattle.deck_parser.specs.declared.fault.Refusal.{Refusal}
+use Rattle.deck_parser.specs.declared.fault.Refusal.TheVariants.{Memory, Fault}
+use Rattle.deck_parser.specs.declared.wanted.WantedClass.{WantedClass}
 
 -- the line of the first word, or any line where no word is left
 abbrev pub IsFirstLine : List Seen → ℕ → Type 0

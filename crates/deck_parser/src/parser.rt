@@ -4,19 +4,20 @@ ghost use Rattle.std.specs.List.{list_any};
 ghost use Rattle.deck_parser.specs.Class.{begins, is_in, this, names, numbers, levels, pictures, signs};
 ghost use Rattle.deck_parser.specs.Class.{periods};
 ghost use Rattle.deck_parser.specs.Unfit.{IsFirstLine, IsRefusedThere, IsUnfit};
-ghost use Rattle.deck_words.specs.Word.{first_line};
-ghost use Rattle.deck_words.specs.Wanted.{class_wanted};
+ghost use Rattle.deck_parser.specs.Word.{first_line};
+ghost use Rattle.deck_parser.specs.Wanted.{class_wanted};
 ghost use Rattle.deck_parser.specs.Rule.{one, stop_at};
 ghost use Rattle.deck_parser.specs.Notation.{the, may, eaten, name, literal, period};
 ghost use Rattle.deck_parser.specs.Operand.{sign, digits};
 ghost use Rattle.deck_parser.specs.Reading.{Reads, ReadsAs, Eats, Stops, TellsStop};
-ghost use Rattle.deck_words.specs.Fault.{IsFault, cause_code};
+ghost use Rattle.deck_parser.specs.Fault.{IsFault, cause_code};
 
+use crate::fault::{Cause, Expected, Limit, Refusal};
 use crate::name::{is_name_text, is_number_text};
-use deck_words::{
-    Cause, Expected, Limit, NameOf, Note, Refusal, Wanted, WantedClass, WantedList, Word,
-    WordPlace, WordText, Words,
-};
+use crate::place::WordPlace;
+use crate::remaining::Words;
+use crate::wanted::{NameOf, Note, Wanted, WantedClass, WantedList};
+use crate::word::{Word, WordText};
 use io_state::Name;
 use record_layout::Bytes;
 use std::alloc::Global;
@@ -37,8 +38,8 @@ pub struct Parser<'a> {
 
 impl<'a> Model for Parser<'a> {
     ghost use Rattle.std.specs.Prelude.{List};
-    ghost use Rattle.deck_words.specs.Word.{Word};
-    ghost use Rattle.deck_words.specs.Remaining.{from_next};
+    ghost use Rattle.deck_parser.specs.Word.{Word};
+    ghost use Rattle.deck_parser.specs.Remaining.{from_next};
 
     ghost Value = { List Word };
 

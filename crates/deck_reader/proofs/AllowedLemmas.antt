@@ -7,7 +7,7 @@ use Rattle.std.proofs.lemmas.Bool.{false≢true}
 use Rattle.std.proofs.lemmas.Option.{get_or_from_slice_get, slice_get_within, same_Some}
 use Rattle.deck_parser.specs.Rule.{Rule, optional, onto, where_it_gives}
 use Rattle.deck_parser.specs.Notation.{the, name, period, may, is_word_there, ◌▸◌, ◌◂◌, ◌⊗◌, ◌∣◌, ◌<$>◌}
-use Rattle.deck_words.proofs.TestLemmas.{both_true, bind_some, map_some, then_some, not_is}
+use Rattle.deck_parser.proofs.TestLemmas.{both_true, bind_some, map_some, then_some, not_is}
 use Rattle.io_state.specs.declared.modes.Access.{Access}
 use Rattle.io_state.specs.declared.modes.Access.TheVariants.{Sequential, Random, Dynamic}
 use Rattle.io_state.specs.declared.modes.OpenMode.{OpenMode}

@@ -1,8 +1,8 @@
 -- What words that spell a deck determine.
 use Rattle.std.proofs.Common.{◌≡◌, ℕ, List, [], sym, ◌∙◌, ap, subst}
 use Rattle.std.specs.Prelude.{drop}
-use Rattle.deck_words.specs.OneReading.{Determines}
-use Rattle.deck_words.specs.Word.{Word}
+use Rattle.deck_parser.specs.OneReading.{Determines}
+use Rattle.deck_parser.specs.Word.{Word}
 use Rattle.file_control.specs.declared.description.Description.{Description}
 use Rattle.file_control.specs.Description.{FileDesc, LengthItem}
 use Rattle.file_control.specs.Whole.{IsDescription}

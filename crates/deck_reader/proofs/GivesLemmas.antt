@@ -4,7 +4,7 @@ use Rattle.std.specs.Prelude.{position, slice_get, All}
 use Rattle.std.proofs.Math.ListN.{get_or}
 use Rattle.std.proofs.lemmas.List.Quantifiers.{position-Some}
 use Rattle.std.proofs.lemmas.Option.{slice_get-get_or, get_or_from_slice_get, slice_get_within, same_Some}
-use Rattle.deck_words.specs.Word.{Word}
+use Rattle.deck_parser.specs.Word.{Word}
 use Rattle.deck_parser.specs.Rule.{Rule, optional, where_it_gives, SpellsTurns}
 use Rattle.deck_parser.specs.Notation.{◌▸◌, ◌◂◌, ◌⊗◌, ◌∣◌}
 use Rattle.record_layout.specs.declared.item.Field.{Field}

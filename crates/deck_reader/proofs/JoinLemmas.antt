@@ -3,20 +3,20 @@ use Rattle.std.proofs.Common.{◌≡◌, ℕ, ◌<◌, zero, suc, Bool, true, fa
 use Rattle.std.specs.Prelude.{option_and_then}
 use Rattle.std.specs.Option.{option_map}
 use Rattle.std.proofs.lemmas.Option.{some_pair_parts}
-use Rattle.deck_words.specs.Word.{Word}
+use Rattle.deck_parser.specs.Word.{Word}
 use Rattle.deck_parser.specs.Class.{begins}
 use Rattle.deck_parser.specs.Rule.{Rule, many, onto, some_onto, reads_onto_from, Stop, stop_at, stops_again}
 use Rattle.deck_parser.specs.Notation.{◌▸◌}
 use Rattle.deck_parser.specs.Reading.{Refuses, TellsStop}
 use Rattle.deck_parser.specs.Unfit.{IsFirstLine}
-use Rattle.deck_words.specs.Fault.{cause_code}
-use Rattle.deck_words.specs.declared.fault.Cause.{Cause}
-use Rattle.deck_words.specs.declared.place.WordPlace.{WordPlace}
-use Rattle.deck_words.specs.declared.fault.Refusal.{Refusal}
-use Rattle.deck_words.specs.declared.fault.Refusal.TheVariants.{Memory, Fault}
+use Rattle.deck_parser.specs.Fault.{cause_code}
+use Rattle.deck_parser.specs.declared.fault.Cause.{Cause}
+use Rattle.deck_parser.specs.declared.place.WordPlace.{WordPlace}
+use Rattle.deck_parser.specs.declared.fault.Refusal.{Refusal}
+use Rattle.deck_parser.specs.declared.fault.Refusal.TheVariants.{Memory, Fault}
 use Rattle.deck_parser.proofs.RuleLemmas.{Lawful}
 use Rattle.deck_parser.proofs.RepeatLemmas.{first_turn, next_turn, turn_takes_a_word, refused_turn, no_turn, next_stop, stops_here}
-use Rattle.deck_words.proofs.TestLemmas.{bind_some}
+use Rattle.deck_parser.proofs.TestLemmas.{bind_some}
 use Rattle.deck_reader.specs.declared.placed.PlacedStatements.{PlacedStatements}
 use Rattle.deck_parser.specs.Following.{followed}
 use Rattle.deck_reader.specs.Placed.{nothing_placed, placed_behind}

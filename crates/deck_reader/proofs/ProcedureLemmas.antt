@@ -17,7 +17,7 @@ use Rattle.record_layout.specs.declared.area.Figure.TheVariants.{Zero}
 use Rattle.deck_parser.specs.Name.{is_reserved}
 use Rattle.deck_parser.specs.Class as class
 use Rattle.deck_parser.specs.Class.{begins}
-use Rattle.deck_words.specs.Word.{Word}
+use Rattle.deck_parser.specs.Word.{Word}
 use Rattle.deck_parser.specs.Rule.{Rule, many, optional, where_it_gives}
 use Rattle.deck_parser.specs.Notation.{the, name, literal, period, may, is_word_there, ◌▸◌, ◌◂◌, ◌⊗◌, ◌<$>◌}
 use Rattle.deck_parser.specs.Operand.{sign, digits}

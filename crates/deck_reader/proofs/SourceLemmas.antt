@@ -10,9 +10,9 @@ use Rattle.deck_parser.specs.Name.{is_number as is_number_text}
 use Rattle.deck_parser.specs.Notation.{literal, ◌∣◌, ◌<$>◌}
 use Rattle.deck_parser.specs.Operand.{digits}
 use Rattle.deck_parser.specs.Rule.{one}
-use Rattle.deck_words.specs.Word.{Word, is_same_kind}
-use Rattle.deck_words.specs.Word as kind
-use Rattle.deck_words.proofs.TestLemmas.{both_true, then_some}
+use Rattle.deck_parser.specs.Word.{Word, is_same_kind}
+use Rattle.deck_parser.specs.Word as kind
+use Rattle.deck_parser.proofs.TestLemmas.{both_true, then_some}
 use Rattle.record_layout.specs.Area.{is_taken_by}
 use Rattle.record_layout.specs.declared.area.Source.{Source}
 use Rattle.record_layout.specs.declared.area.Source.TheVariants.{Text, Digits, Fill}

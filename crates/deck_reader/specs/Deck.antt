@@ -2,8 +2,8 @@
 -- ANSI X3.23-1985, Nucleus module: the divisions of a source program. Its free form, and which
 -- divisions there are, is ours.
 use Rattle.std.specs.Prelude.{◌≡◌, ℕ, List, [], drop}
-use Rattle.deck_words.specs.Word.{Word}
-use Rattle.deck_words.specs.Words.{HasWords}
+use Rattle.deck_parser.specs.Word.{Word}
+use Rattle.deck_parser.specs.Words.{HasWords}
 use Rattle.file_control.specs.declared.description.Description.{Description}
 use Rattle.file_control.specs.Whole.{IsDescription}
 use Rattle.deck_reader.specs.Procedure.{procedure}

@@ -1,6 +1,6 @@
 -- That each statement of a procedure has a line.
 use Rattle.std.specs.Prelude.{◌≡◌, List, length}
-use Rattle.deck_words.specs.Word.{Word}
+use Rattle.deck_parser.specs.Word.{Word}
 use Rattle.deck_reader.specs.declared.placed.PlacedStatements.{PlacedStatements}
 use Rattle.deck_reader.specs.Names.{Names}
 use Rattle.deck_reader.specs.Procedure.{IsProcedure}

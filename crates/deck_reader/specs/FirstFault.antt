@@ -1,10 +1,10 @@
 -- The fault that is told of bytes that are no deck: by which pass, and what is known of it there.
 -- The passes, and their order, are ours.
 use Rattle.std.specs.Prelude.{◌≡◌, ◌⊎◌, ℕ, List, drop}
-use Rattle.deck_words.specs.Fault.{HasFault}
-use Rattle.deck_words.specs.Word.{Word}
-use Rattle.deck_words.specs.Words.{HasWords}
-use Rattle.deck_words.specs.declared.fault.DeckFault.{DeckFault}
+use Rattle.deck_parser.specs.Fault.{HasFault}
+use Rattle.deck_parser.specs.Word.{Word}
+use Rattle.deck_parser.specs.Words.{HasWords}
+use Rattle.deck_parser.specs.declared.fault.DeckFault.{DeckFault}
 use Rattle.deck_parser.specs.Rule.{Stop, stop_at, stop_behind}
 use Rattle.deck_parser.specs.Unfit.{IsFirstLine}
 use Rattle.file_control.specs.FirstFault.{IsDescriptionFault}

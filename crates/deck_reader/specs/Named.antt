@@ -1,8 +1,8 @@
 -- What has a name, of what the procedure knows.
 use Rattle.std.specs.Prelude.{◌≡◌, ℕ, List, Some, None, position, is_some, true, bytes_eq}
 use Rattle.record_layout.specs.Layout.{is_named, field_of}
-use Rattle.deck_words.specs.declared.fault.Named.{Named}
-use Rattle.deck_words.specs.declared.fault.Named.TheVariants.{Nothing, File, Record, Item, LengthItem}
+use Rattle.deck_parser.specs.declared.fault.Named.{Named}
+use Rattle.deck_parser.specs.declared.fault.Named.TheVariants.{Nothing, File, Record, Item, LengthItem}
 use Rattle.deck_reader.specs.Names.{Names}
 
 -- the name is that of no file, no item and no 77-level item; or of a file; of its record; of an item of

@@ -1,6 +1,6 @@
 -- That all statements of a procedure are allowed.
 use Rattle.std.specs.Prelude.{List, All}
-use Rattle.deck_words.specs.Word.{Word}
+use Rattle.deck_parser.specs.Word.{Word}
 use Rattle.file_control.specs.Described.{AreDescribed}
 use Rattle.deck_reader.specs.declared.placed.PlacedStatements.{PlacedStatements}
 use Rattle.deck_reader.specs.Allowed.{IsAllowed}

@@ -3,7 +3,7 @@
 -- statement; Indexed I-O module, those of the DELETE, REWRITE and WRITE statements. Names of
 -- paragraphs have no effect, which is ours.
 use Rattle.std.specs.Prelude.{List, [], codes, position}
-use Rattle.deck_words.specs.Word.{Word}
+use Rattle.deck_parser.specs.Word.{Word}
 use Rattle.deck_parser.specs.Rule.{Rule, onto, where_it_gives_or}
 use Rattle.deck_parser.specs.Notation.{the, name, period, ◌▸◌, ◌◂◌, ◌∣◌, ◌<$>◌, may}
 use Rattle.record_layout.specs.Layout.{is_named}

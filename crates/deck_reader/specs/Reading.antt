@@ -2,8 +2,8 @@
 use Rattle.std.specs.Prelude.{List, Result}
 use Rattle.deck_parser.specs.Rule.{Rule, where_it_gives}
 use Rattle.deck_parser.specs.Reading.{Reads, Stops}
-use Rattle.deck_words.specs.declared.fault.Refusal.{Refusal}
-use Rattle.deck_words.specs.Word.{Word}
+use Rattle.deck_parser.specs.declared.fault.Refusal.{Refusal}
+use Rattle.deck_parser.specs.Word.{Word}
 use Rattle.deck_reader.specs.declared.placed.PlacedStatements.{PlacedStatements}
 use Rattle.deck_reader.specs.StatementRules.{joined_statements}
 

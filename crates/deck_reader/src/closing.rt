@@ -11,8 +11,7 @@ use crate::file_name::file;
 use crate::names::Names;
 use crate::placed::PlacedStatements;
 use crate::statement::Statement;
-use deck_parser::Parser;
-use deck_words::{NameOf, Refusal};
+use deck_parser::{NameOf, Parser, Refusal};
 use io_state::FileStatement;
 
 /// Whether a file is closed WITH LOCK.

@@ -1,8 +1,8 @@
 //! A deck, read whole.
 ghost use Rattle.std.specs.Prelude.{◌≢◌, List, IfOk, IfErr};
-ghost use Rattle.deck_words.specs.Fault.{told, IsFault, IsTold, HasNoneIfTold, GivesOrRefuses};
-ghost use Rattle.deck_words.specs.OneReading.{Determines};
-ghost use Rattle.deck_words.specs.Word.{Word};
+ghost use Rattle.deck_parser.specs.Fault.{told, IsFault, IsTold, HasNoneIfTold, GivesOrRefuses};
+ghost use Rattle.deck_parser.specs.OneReading.{Determines};
+ghost use Rattle.deck_parser.specs.Word.{Word};
 ghost use Rattle.file_control.specs.FirstFault.{TellsFault};
 ghost use Rattle.deck_reader.specs.Names.{names_of};
 ghost use Rattle.deck_reader.specs.Procedure.{IsProcedure};
@@ -17,7 +17,7 @@ use crate::placed::PlacedStatements;
 use crate::places::StatementPlaces;
 use crate::refusal::{DeckRefusal, wanted_of};
 use crate::statement_list::StatementList;
-use deck_words::{Refusal, scan};
+use deck_parser::{Refusal, scan};
 use file_control::{
     DeckFault, Description, FileDesc, FileList, ItemList, LengthItem, Words, are_described,
     describe, one_description, one_reading,

@@ -1,7 +1,7 @@
 //! The procedure division.
 ghost use Rattle.std.specs.Prelude.{◌≢◌, IfErr};
-ghost use Rattle.deck_words.specs.Fault.{GivesOrRefuses, GivesOrTells};
-ghost use Rattle.deck_words.specs.OneReading.{Determines};
+ghost use Rattle.deck_parser.specs.Fault.{GivesOrRefuses, GivesOrTells};
+ghost use Rattle.deck_parser.specs.OneReading.{Determines};
 ghost use Rattle.deck_parser.specs.Reading.{ReadsRule};
 ghost use Rattle.deck_parser.specs.Rule.{onto};
 ghost use Rattle.deck_reader.specs.Names.{Names};
@@ -17,8 +17,7 @@ ghost use Rattle.deck_reader.specs.FirstFault.{IsProcedureFault};
 use crate::names::Names;
 use crate::placed::PlacedStatements;
 use crate::sentence::{paragraph_or_sentence, sees_sentence};
-use deck_parser::Parser;
-use deck_words::{DeckFault, NameOf, Refusal, Wanted, WantedList, WordPlace, Words};
+use deck_parser::{DeckFault, NameOf, Parser, Refusal, Wanted, WantedList, WordPlace, Words};
 use std::alloc::Global;
 
 /// How many words a statement has, or more, in most procedures. A period is one.

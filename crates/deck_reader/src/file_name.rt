@@ -4,8 +4,7 @@ ghost use Rattle.deck_reader.specs.StatementRules.{file};
 ghost use Rattle.deck_reader.specs.Parts.{record_named};
 
 use crate::names::Names;
-use deck_parser::Parser;
-use deck_words::{Cause, NameOf, Refusal, Unknown};
+use deck_parser::{Cause, NameOf, Parser, Refusal, Unknown};
 
 /// The name of a file.
 #[tactic(auto, unfolding(crate::specs::StatementRules::file))]

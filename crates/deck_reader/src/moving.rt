@@ -13,8 +13,7 @@ ghost use Rattle.deck_reader.specs.StatementRules.{receiver, move_statement};
 use crate::names::Names;
 use crate::placed::PlacedStatements;
 use crate::statement::Statement;
-use deck_parser::Parser;
-use deck_words::{Cause, NameOf, NotAllowed, Refusal, Unknown, WordPlace};
+use deck_parser::{Cause, NameOf, NotAllowed, Parser, Refusal, Unknown, WordPlace};
 use record_layout::{Bytes, Figure, Source, takes};
 use std::alloc::{AllocError, Global};
 

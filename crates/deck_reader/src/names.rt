@@ -9,7 +9,7 @@ ghost use Rattle.deck_reader.specs.Places.{place_of_name, AddsPlace, ArePlaces};
 ghost use Rattle.deck_reader.specs.Named.{IsNamed};
 ghost use Rattle.std.specs.Prelude.{bytes_eq};
 
-use deck_words::Named;
+use deck_parser::Named;
 use file_control::{FileDesc, LengthItem};
 use io_state::{Access, Name};
 use record_layout::Field;

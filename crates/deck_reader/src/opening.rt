@@ -10,8 +10,7 @@ use crate::file_name::file;
 use crate::names::Names;
 use crate::placed::PlacedStatements;
 use crate::statement::Statement;
-use deck_parser::Parser;
-use deck_words::{Cause, NameOf, NotAllowed, Refusal};
+use deck_parser::{Cause, NameOf, NotAllowed, Parser, Refusal};
 use io_state::{FileStatement, OpenMode, Verb, permits};
 
 /// A file that is opened in a mode.

@@ -13,8 +13,7 @@ ghost use Rattle.deck_reader.specs.StatementRules.{read_statement};
 use crate::file_name::file;
 use crate::names::Names;
 use crate::statement::Statement;
-use deck_parser::Parser;
-use deck_words::{Cause, NameOf, NotAllowed, Refusal, Unknown};
+use deck_parser::{Cause, NameOf, NotAllowed, Parser, Refusal, Unknown};
 use io_state::{Access, FileStatement};
 
 /// Whether the READ is sequential: NEXT says so, and in sequential access it always is.

@@ -2,7 +2,7 @@
 
 use crate::division::wanted_in_procedure;
 use crate::names::Names;
-use deck_words::{Cause, Expected, Refusal, WantedList, WordPlace, scan};
+use deck_parser::{Cause, Expected, Refusal, WantedList, WordPlace, scan};
 use file_control::{Description, Words, describe, wanted_in_description};
 use std::alloc::{AllocError, Global};
 

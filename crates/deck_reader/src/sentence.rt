@@ -20,8 +20,7 @@ use crate::reading::read_statement;
 use crate::starting::start_statement;
 use crate::statement::Statement;
 use crate::writing::{delete_statement, rewrite_statement, write_statement};
-use deck_parser::Parser;
-use deck_words::{Cause, Expected, NameOf, Refusal};
+use deck_parser::{Cause, Expected, NameOf, Parser, Refusal};
 use io_state::Name;
 use std::alloc::Global;
 

@@ -15,8 +15,7 @@ ghost use Rattle.deck_reader.specs.declared.statement.Statement.TheVariants.{Per
 use crate::file_name::file;
 use crate::names::Names;
 use crate::statement::Statement;
-use deck_parser::Parser;
-use deck_words::{Cause, NameOf, NotAllowed, Refusal, Unknown};
+use deck_parser::{Cause, NameOf, NotAllowed, Parser, Refusal, Unknown};
 use io_state::{Access, FileStatement, Relation};
 
 /// The name of a file that START is for: its access is not random.

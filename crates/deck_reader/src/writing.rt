@@ -11,8 +11,7 @@ ghost use Rattle.deck_reader.specs.Parts.{record_named};
 use crate::file_name::{file, record_name};
 use crate::names::Names;
 use crate::statement::Statement;
-use deck_parser::Parser;
-use deck_words::Refusal;
+use deck_parser::{Parser, Refusal};
 use io_state::FileStatement;
 
 pub fn write_statement(parser: &mut Parser<'_>, names: &Names<'_>) -> Result<Statement, Refusal>

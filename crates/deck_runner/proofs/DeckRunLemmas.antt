@@ -1,11 +1,11 @@
 -- What a run of the bytes of a deck tells.
 use Rattle.std.proofs.Common.{◌≡◌, ◌≢◌, ◌≤◌, ℕ, true, List, Option, sym, ap, ◌∙◌, subst, arith}
-use Rattle.deck_words.specs.declared.fault.Cause.{Cause}
-use Rattle.deck_words.specs.declared.fault.Cause.TheVariants.{BadWord, Expected, Unknown, Twice, NotAllowed, Limit, Layout}
-use Rattle.deck_words.specs.declared.fault.DeckFault.{DeckFault}
-use Rattle.deck_words.specs.declared.fault.Refusal.{Refusal}
-use Rattle.deck_words.specs.declared.fault.Refusal.TheVariants.{Memory as NoMemory, Fault}
-use Rattle.deck_words.specs.Fault.{cause_code, told, IsTold}
+use Rattle.deck_parser.specs.declared.fault.Cause.{Cause}
+use Rattle.deck_parser.specs.declared.fault.Cause.TheVariants.{BadWord, Expected, Unknown, Twice, NotAllowed, Limit, Layout}
+use Rattle.deck_parser.specs.declared.fault.DeckFault.{DeckFault}
+use Rattle.deck_parser.specs.declared.fault.Refusal.{Refusal}
+use Rattle.deck_parser.specs.declared.fault.Refusal.TheVariants.{Memory as NoMemory, Fault}
+use Rattle.deck_parser.specs.Fault.{cause_code, told, IsTold}
 use Rattle.indexed_file.specs.Shown.{Shown}
 use Rattle.deck_reader.specs.declared.deck.Deck.{Deck}
 use Rattle.deck_reader.specs.Deck.{IsDeck}

@@ -2,8 +2,8 @@
 ghost use Rattle.std.specs.Prelude.{◌≡◌, option_map, IsSome};
 ghost use Rattle.io_state.specs.declared.status.Status.{Status};
 ghost use Rattle.io_state.specs.Status.{digits_of};
-ghost use Rattle.deck_words.specs.declared.fault.Cause.{Cause};
-ghost use Rattle.deck_words.specs.Fault.{cause_code};
+ghost use Rattle.deck_parser.specs.declared.fault.Cause.{Cause};
+ghost use Rattle.deck_parser.specs.Fault.{cause_code};
 ghost use Rattle.explanations.specs.Explained.{text_in_table, text_in, digit_of};
 ghost use Rattle.explanations.specs.Tables.{table_of, status_table, fault_table, explanation};
 

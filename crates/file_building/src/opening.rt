@@ -2,15 +2,14 @@
 
 ghost use Rattle.std.specs.Prelude.{◌≡◌, ◌+◌, ◌↔◌, IsTrue, All, length};
 ghost use Rattle.record_layout.specs.Schema.{IsSchema};
-ghost use Rattle.file_header.specs.Bounds.{AreTreeNumbers, AreLinksWithin};
+ghost use Rattle.open_file.specs.Bounds.{AreTreeNumbers, AreLinksWithin};
 ghost use Rattle.open_file.specs.Headers.{AreTrees};
 ghost use Rattle.file_building.specs.Opening.{OpensBuilt, IsHeaderOfParts};
 
 use arrayvec::ArrayVec;
-use file_header::{Header, TreeNumbers};
 use io_state::Fault;
 use key_index::{AltIndex, PrimeIndex};
-use open_file::OpenFile;
+use open_file::{Header, OpenFile, TreeNumbers};
 use record_heap::Heap;
 use record_layout::Schema;
 

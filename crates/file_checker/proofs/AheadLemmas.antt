@@ -41,8 +41,8 @@ use Rattle.key_index.specs.declared.alt_index.AltIndex.{AltIndex}
 use Rattle.key_index.specs.Standing.{AltStands}
 use Rattle.key_index.specs.Stored.{IsPrimeEntry, prime_bytes}
 use Rattle.key_index.proofs.LawLemmas.{alt_kept, alt_live, prime_live}
-use Rattle.file_header.specs.Bounds.{IsHeader}
-use Rattle.file_header.specs.declared.header.Header.{Header}
+use Rattle.open_file.specs.Bounds.{IsHeader}
+use Rattle.open_file.specs.declared.first_page.Header.{Header}
 use Rattle.open_file.specs.declared.open_file.OpenFile.{OpenFile}
 use Rattle.open_file.specs.Fields.{alternates_of, file_schema, heap_of, next_stamp_of, prime_index_of}
 use Rattle.open_file.specs.Headers.{IsOpenedBy}

@@ -22,7 +22,7 @@ use Rattle.file_checker.specs.declared.row_fault.RowFault.{RowFault}
 use Rattle.file_checker.specs.declared.row_fault.RowFault.TheVariants.{Memory as NoRoom, Index}
 use Rattle.file_checker.specs.RowsAhead.{AlternateAhead, RefusesRows}
 use Rattle.file_checker.specs.Rows.{rows_in}
-use Rattle.file_header.specs.declared.header.Header.{Header}
+use Rattle.open_file.specs.declared.first_page.Header.{Header}
 use Rattle.file_checker.specs.declared.parts_fault.PartsFault.{PartsFault}
 use Rattle.file_checker.specs.declared.parts_fault.PartsFault.TheVariants.{Memory, Unsound}
 use Rattle.file_checker.specs.Ahead.{AlternatesAhead, StopsRightly}

@@ -5,8 +5,8 @@ use Rattle.std.specs.Simd.{first_chunks}
 use Rattle.std.proofs.lemmas.List.{drop-drop, get_or-take, length-take-le}
 use Rattle.std.proofs.lemmas.Option.{get_or_from_slice_get, slice_get_within}
 use Rattle.page_store.specs.DeviceFile.{page_of_bytes}
-use Rattle.file_header.specs.declared.header.Header.{Header}
-use Rattle.file_header.specs.FirstPage.{IsFirstPage}
+use Rattle.open_file.specs.declared.first_page.Header.{Header}
+use Rattle.open_file.specs.FirstPage.{IsFirstPage}
 use Rattle.file_checker.specs.Bytes.{AreAllPages, AreFrontOf}
 use Rattle.file_checker.specs.Sound.{HasPages}
 

@@ -12,15 +12,15 @@ use Rattle.pages.specs.declared.fault_place.FaultPlace.{FaultPlace}
 use Rattle.pages.specs.declared.fault_place.FaultPlace.TheVariants.{File as TheFile}
 use Rattle.page_walks.specs.FreeWalk.{page_in}
 use Rattle.page_walks.specs.WholeFile.{pages_used_in}
-use Rattle.file_header.specs.declared.header.Header.{Header}
-use Rattle.file_header.specs.Reading.{number_in, numbers_in, header_in}
-use Rattle.file_header.specs.FirstPage.{IsFirstPage}
-use Rattle.file_header.proofs.ReadLemmas.{first_numbers, first_read}
+use Rattle.open_file.specs.declared.first_page.Header.{Header}
+use Rattle.open_file.specs.FirstPageReading.{number_in, numbers_in, header_in}
+use Rattle.open_file.specs.FirstPage.{IsFirstPage}
+use Rattle.open_file.proofs.PageReadLemmas.{first_numbers, first_read}
 use Rattle.open_file.specs.Closed.{StandsClosed}
 use Rattle.open_file.proofs.ClosedLemmas.{is_opened, opened_by, opened_stands, stands_by}
 use Rattle.open_file.specs.Stands.{Stands}
-use Rattle.shelf_file.specs.ClosedFile.{IsAcceptedBy, StandsIn, live_in, free_in}
-use Rattle.shelf_file.proofs.PagesLemmas.{AreAlike, same_chain, same_live}
+use Rattle.shelf_library.specs.ClosedFile.{IsAcceptedBy, StandsIn, live_in, free_in}
+use Rattle.shelf_library.proofs.PagesLemmas.{AreAlike, same_chain, same_live}
 use Rattle.file_checker.specs.declared.verdict.Reason.{Reason}
 use Rattle.file_checker.specs.declared.verdict.Reason.TheVariants.{Short, Gate, Header as NoHeader, Shared, Node, Order, Heap, Index, Lost}
 use Rattle.file_checker.specs.declared.finding.Finding.{Finding}

@@ -20,8 +20,8 @@ use Rattle.record_heap.specs.Walk.{slots_of}
 use Rattle.record_heap.proofs.StandLemmas.{heap_kept}
 use Rattle.key_index.specs.declared.alt_index.AltIndex.{AltIndex}
 use Rattle.key_index.specs.Standing.{PrimeStands, AltStands, alt_key}
-use Rattle.file_header.specs.declared.header.Header.{Header}
-use Rattle.file_header.specs.Bounds.{IsHeader}
+use Rattle.open_file.specs.declared.first_page.Header.{Header}
+use Rattle.open_file.specs.Bounds.{IsHeader}
 use Rattle.open_file.specs.Fields.{alternates_of, heap_of, next_stamp_of, prime_index_of, file_schema}
 use Rattle.open_file.specs.declared.open_file.OpenFile.{OpenFile}
 use Rattle.open_file.specs.declared.path.Path.{Path}

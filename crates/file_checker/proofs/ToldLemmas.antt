@@ -1,6 +1,6 @@
 -- The verdict that is right of a sound file.
 use Rattle.std.proofs.Common.{◌≡◌, ℕ, List, length, Some, refl, ap, sym, ◌∙◌}
-use Rattle.file_header.specs.declared.header.Header.{Header}
+use Rattle.open_file.specs.declared.first_page.Header.{Header}
 use Rattle.file_checker.specs.declared.verdict.Verdict.TheVariants.{Sound, Unsound}
 use Rattle.file_checker.specs.Laws.{ClosedIsToldSound, SoundIsTold}
 use Rattle.file_checker.specs.Sound.{IsSound}

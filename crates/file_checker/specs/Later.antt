@@ -13,7 +13,7 @@ use Rattle.pages.specs.declared.walk_fault.WalkFault.{WalkFault}
 use Rattle.pages.specs.declared.walk_fault.WalkFault.TheVariants.{Memory as NoMemory, At}
 use Rattle.file_checker.specs.declared.row_fault.RowFault.{RowFault}
 use Rattle.file_checker.specs.declared.row_fault.RowFault.TheVariants.{Memory as NoRoom, Index as WrongIndex}
-use Rattle.file_header.specs.declared.header.Header.{Header}
+use Rattle.open_file.specs.declared.first_page.Header.{Header}
 use Rattle.file_checker.specs.declared.verdict.Reason.{Reason}
 use Rattle.file_checker.specs.declared.verdict.Reason.TheVariants.{Short, Gate, Header as NoHeader}
 use Rattle.file_checker.specs.declared.verdict.Reason.TheVariants.{Shared, Node, Order, Heap, Index}

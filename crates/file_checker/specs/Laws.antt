@@ -2,7 +2,7 @@
 use Rattle.std.specs.Prelude.{◌≡◌, ℕ, List, length}
 use Rattle.record_layout.specs.Schema.{Schema}
 use Rattle.indexed_file.specs.File.{File}
-use Rattle.shelf_file.specs.ClosedFile.{AreClosed}
+use Rattle.shelf_library.specs.ClosedFile.{AreClosed}
 use Rattle.file_checker.specs.declared.verdict.Verdict.{Verdict}
 use Rattle.file_checker.specs.declared.verdict.Verdict.TheVariants.{Sound}
 use Rattle.file_checker.specs.Sound.{IsSound, IsRight}

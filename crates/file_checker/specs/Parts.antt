@@ -12,8 +12,8 @@ use Rattle.page_walks.specs.WholeFile.{pages_used_in}
 use Rattle.bplus_tree.specs.Standing.{TreeStands}
 use Rattle.bplus_tree.specs.Fields.{tree_shape, tree_count}
 use Rattle.key_index.specs.declared.alt_index.AltIndex.{AltIndex}
-use Rattle.file_header.specs.declared.header.Header.{Header}
-use Rattle.file_header.specs.Bounds.{IsHeader}
+use Rattle.open_file.specs.declared.first_page.Header.{Header}
+use Rattle.open_file.specs.Bounds.{IsHeader}
 use Rattle.open_file.specs.Fields.{alternates_of}
 use Rattle.open_file.specs.declared.open_file.OpenFile.{OpenFile}
 use Rattle.open_file.specs.Headers.{IsOpenedBy}

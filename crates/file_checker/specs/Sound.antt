@@ -7,9 +7,9 @@ use Rattle.indexed_file.specs.File.{File}
 use Rattle.page_store.specs.DeviceFile.{page_of_bytes}
 use Rattle.pages.specs.declared.fault_place.FaultPlace.{FaultPlace}
 use Rattle.pages.specs.declared.fault_place.FaultPlace.TheVariants.{File as TheFile}
-use Rattle.file_header.specs.declared.header.Header.{Header}
-use Rattle.file_header.specs.Reading.{header_in, number_in}
-use Rattle.shelf_file.specs.ClosedFile.{IsAcceptedBy, StandsIn}
+use Rattle.open_file.specs.declared.first_page.Header.{Header}
+use Rattle.open_file.specs.FirstPageReading.{header_in, number_in}
+use Rattle.shelf_library.specs.ClosedFile.{IsAcceptedBy, StandsIn}
 use Rattle.file_checker.specs.declared.verdict.Reason.{Reason}
 use Rattle.file_checker.specs.declared.verdict.Reason.TheVariants.{Short, Gate, Header as NoHeader}
 use Rattle.file_checker.specs.declared.verdict.Reason.TheVariants.{Shared, Node, Order, Heap, Index}

@@ -1,8 +1,8 @@
 //! The check of a file.
 
 ghost use Rattle.std.specs.Prelude.{◌≡◌, None};
-ghost use Rattle.file_header.specs.Reading.{header_in};
-ghost use Rattle.file_header.specs.FirstPage.{IsFirstPage};
+ghost use Rattle.open_file.specs.FirstPageReading.{header_in};
+ghost use Rattle.open_file.specs.FirstPage.{IsFirstPage};
 ghost use Rattle.file_checker.specs.Findings.{verdict_of};
 ghost use Rattle.file_checker.specs.Sound.{Examines, ExaminesBehind, IsRight, IsRightFinding};
 ghost use Rattle.file_checker.specs.Sound.{RefusesBehind};
@@ -13,7 +13,7 @@ use crate::parts_fault::PartsFault;
 use crate::reading::{push_page, read_page, read_pages, skip_pages};
 use crate::verdict::{CheckFault, Reason, Verdict};
 use byteorder::{BigEndian, ByteOrder};
-use file_header::Header;
+use open_file::Header;
 use pages::{FaultPlace, PAGE_SIZE};
 use std::alloc::Global;
 use std::io::Read;

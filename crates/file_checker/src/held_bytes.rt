@@ -2,8 +2,8 @@
 
 ghost use Rattle.std.specs.Prelude.{◌≡◌, ◌≤◌, ◌<◌, None, length, IfOk};
 ghost use Rattle.std.specs.Option.{IfSome};
-ghost use Rattle.file_header.specs.Reading.{header_in};
-ghost use Rattle.file_header.specs.Bounds.{IsHeader};
+ghost use Rattle.open_file.specs.FirstPageReading.{header_in};
+ghost use Rattle.open_file.specs.Bounds.{IsHeader};
 ghost use Rattle.page_store.specs.DeviceFile.{page_of_bytes};
 ghost use Rattle.pages.specs.declared.fault_place.FaultPlace.TheVariants.{File as TheFile};
 ghost use Rattle.file_checker.specs.Sound.{IsRight, IsRightFinding, IsRightOfPages, IsUnsoundAt};
@@ -14,7 +14,7 @@ use crate::parts::check_pages;
 use crate::parts_fault::PartsFault;
 use crate::verdict::{Reason, Verdict};
 use byteorder::{BigEndian, ByteOrder};
-use file_header::Header;
+use open_file::Header;
 use pages::{FaultPlace, PAGE_SIZE};
 use std::alloc::{AllocError, Global};
 

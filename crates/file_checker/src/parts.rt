@@ -2,7 +2,7 @@
 
 ghost use Rattle.std.specs.Prelude.{◌≡◌, IfErr, OnOk, length};
 ghost use Rattle.page_walks.specs.Spots.{spots_in};
-ghost use Rattle.file_header.specs.Bounds.{IsHeader};
+ghost use Rattle.open_file.specs.Bounds.{IsHeader};
 ghost use Rattle.open_file.specs.Stands.{IsShaped};
 ghost use Rattle.file_checker.specs.Ahead.{AlternatesAhead, StopsRightly};
 ghost use Rattle.file_checker.specs.Later.{ChecksPages, StopsWalk, TellsOfIndexes};
@@ -14,8 +14,7 @@ use crate::alternate::check_alternate;
 use crate::parts_fault::PartsFault;
 use crate::prime_rows::check_rows;
 use crate::verdict::Reason;
-use file_header::Header;
-use open_file::OpenFile;
+use open_file::{Header, OpenFile};
 use page_walks::{Leaf, walk_free, walk_tree};
 use pages::{FaultPlace, PAGE_SIZE, mark};
 use record_heap::walk_heap;

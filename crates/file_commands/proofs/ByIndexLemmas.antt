@@ -15,17 +15,17 @@ use Rattle.folder_shelf.specs.Reading.{ByReads}
 use Rattle.folder_shelf.proofs.ReadingLemmas.{both_reading}
 use Rattle.command_words.specs.Asks.{form_text}
 use Rattle.command_words.specs.declared.form_words.FormWords.{FormWords}
-use Rattle.command_outcomes.specs.Status.{status_of}
-use Rattle.command_outcomes.specs.declared.fault.Fault.{Fault}
-use Rattle.command_outcomes.specs.declared.outcome.Outcome.{Outcome}
-use Rattle.command_outcomes.specs.declared.outcome.Outcome.TheVariants.{Records, OtherSchema}
+use Rattle.command_support.specs.Status.{status_of}
+use Rattle.command_support.specs.declared.fault.Fault.{Fault}
+use Rattle.command_support.specs.declared.outcome.Outcome.{Outcome}
+use Rattle.command_support.specs.declared.outcome.Outcome.TheVariants.{Records, OtherSchema}
 use Rattle.file_commands.specs.ByIndex.{TellsReasonBy, TellsEnd, ToldOfPages, EndsByIndex, IsStart, ListsPages, ListsByIndex, DoesByIndex}
-use Rattle.command_inputs.specs.AskedForm.{IsListRefused}
-use Rattle.command_inputs.specs.Conditions.{texts_of}
+use Rattle.command_support.specs.AskedForm.{IsListRefused}
+use Rattle.command_support.specs.Conditions.{texts_of}
 use Rattle.file_commands.specs.Records.{AgreesWith, WritesOther}
 use Rattle.file_commands.specs.declared.by_index.ListStart.{ListStart}
 use Rattle.file_commands.specs.declared.listing.Bounds.{Bounds}
-use Rattle.command_inputs.proofs.FormLemmas.{form_not_read}
+use Rattle.command_support.proofs.FormLemmas.{form_not_read}
 
 -- none was set aside
 pub none_aside : {IsFirst IsSo : List Call → Type 0} (old new : SystemState) (aside : List Call) → aside ≡ [] → ByReads IsFirst old new

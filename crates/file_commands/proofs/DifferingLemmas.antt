@@ -2,11 +2,11 @@
 use Rattle.std.proofs.Common.{◌≡◌, ℕ, List, [], ◌∷◌, Some, Result, Ok, Err, IfOk, IfErr, refl}
 use Rattle.std.specs.Global.{Vec}
 use Rattle.record_layout.specs.Schema.{Schema}
-use Rattle.schema_listing.specs.Listing.{read_of_file}
+use Rattle.file_reports.specs.SchemaListing.{read_of_file}
 use Rattle.folder_shelf.specs.Calls.{taken_shared}
 use Rattle.file_commands.specs.Differing.{differences_of_page, GivesDifferences}
-use Rattle.command_outcomes.specs.declared.fault.Fault.{Fault}
-use Rattle.command_outcomes.specs.declared.fault.Fault.TheVariants.{Memory}
+use Rattle.command_support.specs.declared.fault.Fault.{Fault}
+use Rattle.command_support.specs.declared.fault.Fault.TheVariants.{Memory}
 
 -- lines of the first page that a call gave
 pub given : (path : List ℕ) (deck : Schema) (bytes : List ℕ) (result : Result (Vec ℕ) Fault) → IfOk result (λ lines. lines.items ≡ differences_of_page deck (read_of_file bytes))

@@ -1,11 +1,11 @@
 -- Why a deck is not listed, and what follows where it is.
 use Rattle.std.proofs.Common.{◌≡◌, ℕ, List, Result, Ok, Err, IfOk, IfErr, refl, ap, subst}
-use Rattle.command_outcomes.specs.Status.{status_of}
+use Rattle.command_support.specs.Status.{status_of}
 use Rattle.file_commands.specs.Listed.{IsListFault, TellsDeck, IsDeckRefused}
-use Rattle.command_outcomes.specs.declared.outcome.Outcome.{Outcome}
-use Rattle.command_outcomes.specs.declared.fault.Fault.{Fault}
-use Rattle.command_outcomes.specs.declared.fault.RefusedDeck.{RefusedDeck}
-use Rattle.command_outcomes.specs.declared.fault.Fault.TheVariants.{NotListed, Input, Output, Memory}
+use Rattle.command_support.specs.declared.outcome.Outcome.{Outcome}
+use Rattle.command_support.specs.declared.fault.Fault.{Fault}
+use Rattle.command_support.specs.declared.fault.RefusedDeck.{RefusedDeck}
+use Rattle.command_support.specs.declared.fault.Fault.TheVariants.{NotListed, Input, Output, Memory}
 
 -- the input, the output or memory failed
 pub not_read : (fault : Fault) → status_of fault ≡ 4 → IsListFault fault

@@ -10,18 +10,18 @@ use Rattle.record_listing.specs.declared.file_list.FileList.{FileList}
 use Rattle.command_words.specs.Asks.{form_text}
 use Rattle.command_words.specs.declared.form_words.FormWords.{FormWords}
 use Rattle.folder_shelf.specs.Calls.{Call}
-use Rattle.command_inputs.specs.Front.{counted_calls}
+use Rattle.command_support.specs.Front.{counted_calls}
 use Rattle.record_listing.specs.declared.condition.Condition.{Condition}
-use Rattle.command_inputs.specs.AskedForm.{IsAskedFormBy, IsAskedFormRefused}
-use Rattle.command_inputs.specs.Conditions.{texts_of}
+use Rattle.command_support.specs.AskedForm.{IsAskedFormBy, IsAskedFormRefused}
+use Rattle.command_support.specs.Conditions.{texts_of}
 use Rattle.file_commands.specs.Records.{AgreesWith, WritesOther, IsAskedBy, ListsAsked, ListsFile, ToldOfList}
 use Rattle.file_commands.specs.declared.listing.Bounds.{Bounds}
-use Rattle.command_inputs.proofs.FormLemmas.{form_not_read}
-use Rattle.command_outcomes.specs.Status.{status_of}
-use Rattle.command_outcomes.specs.declared.outcome.Outcome.{Outcome}
-use Rattle.command_outcomes.specs.declared.outcome.Outcome.TheVariants.{OtherSchema}
-use Rattle.command_outcomes.specs.declared.fault.Fault.{Fault}
-use Rattle.command_outcomes.specs.declared.fault.Fault.TheVariants.{LongValue}
+use Rattle.command_support.proofs.FormLemmas.{form_not_read}
+use Rattle.command_support.specs.Status.{status_of}
+use Rattle.command_support.specs.declared.outcome.Outcome.{Outcome}
+use Rattle.command_support.specs.declared.outcome.Outcome.TheVariants.{OtherSchema}
+use Rattle.command_support.specs.declared.fault.Fault.{Fault}
+use Rattle.command_support.specs.declared.fault.Fault.TheVariants.{LongValue}
 
 -- the same is asked for, with conditions
 pub with_these : (bounds : Bounds) (asked : Asked) (conditions : Vec Condition) (new : Asked) → IsAskedBy bounds [] asked → new ≡ record asked { conditions = conditions } → IsAskedBy bounds conditions.items new

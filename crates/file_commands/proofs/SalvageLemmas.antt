@@ -7,17 +7,17 @@ use Rattle.record_text.specs.declared.form.Form.TheVariants.{Text}
 use Rattle.salvaged_records.specs.Salvaged.{outputs, with_gate_closed}
 use Rattle.command_words.specs.Asks.{FormText, form_text}
 use Rattle.command_words.specs.declared.form_words.FormWords.{FormWords}
-use Rattle.command_inputs.specs.Forms.{ComesOfForm, IsFormToldBy}
-use Rattle.command_inputs.specs.declared.forms.ListForm.{ListForm}
+use Rattle.command_support.specs.Forms.{ComesOfForm, IsFormToldBy}
+use Rattle.command_support.specs.declared.forms.ListForm.{ListForm}
 use Rattle.folder_shelf.specs.Calls.{Call, taken_shared}
-use Rattle.command_inputs.specs.DeckFile.{IsDeckFault}
-use Rattle.command_inputs.specs.Front.{GivesSuch}
+use Rattle.command_support.specs.DeckFile.{IsDeckFault}
+use Rattle.command_support.specs.Front.{GivesSuch}
 use Rattle.file_commands.specs.Salvaged.{IsSchemaIn, IsSchemaAsked, GivesSchemaAsked, GivesSalvageForm, IsSalvageFormBy, IsSalvageRefused, SalvagesBytes, SalvagesFile}
 use Rattle.file_commands.specs.Schema.{IsSchemaFault}
-use Rattle.command_outcomes.specs.Status.{status_of}
-use Rattle.command_outcomes.specs.declared.fault.Fault.{Fault}
-use Rattle.command_outcomes.specs.declared.fault.Fault.TheVariants.{Deck as DeckRefused, NoSuchFile, Input, Output, Memory}
-use Rattle.command_outcomes.specs.declared.outcome.Outcome.{Outcome}
+use Rattle.command_support.specs.Status.{status_of}
+use Rattle.command_support.specs.declared.fault.Fault.{Fault}
+use Rattle.command_support.specs.declared.fault.Fault.TheVariants.{Deck as DeckRefused, NoSuchFile, Input, Output, Memory}
+use Rattle.command_support.specs.declared.outcome.Outcome.{Outcome}
 
 -- a gate that is closed is closed again
 closed_twice : (bytes : List ℕ) → with_gate_closed (with_gate_closed bytes) ≡ with_gate_closed bytes

@@ -1,21 +1,21 @@
 -- What is told of a schema that was held against that of a deck.
 use Rattle.std.proofs.Common.{rules, ◌≡◌, ℕ, List, [], ◌++◌, Option, Some, None, Result, Ok, Err, Bor, refl, sym, ap, ◌∙◌}
 use Rattle.record_layout.specs.Schema.{Schema}
-use Rattle.file_header.specs.declared.header.Header.{Header}
-use Rattle.schema_listing.specs.Comparing.{TellsDifferences}
-use Rattle.schema_listing.specs.Listing.{TellsHeader, read_of_file}
-use Rattle.schema_listing.specs.declared.first_page.Refusal.{Refusal}
+use Rattle.open_file.specs.declared.first_page.Header.{Header}
+use Rattle.file_reports.specs.Comparing.{TellsDifferences}
+use Rattle.file_reports.specs.SchemaListing.{TellsHeader, read_of_file}
+use Rattle.file_reports.specs.declared.first_page.Refusal.{Refusal}
 use Rattle.file_control.specs.Description.{FileDesc}
 use Rattle.folder_shelf.specs.Calls.{Call}
-use Rattle.command_inputs.specs.DeckFile.{IsDeckFault, IsOfDeck}
-use Rattle.command_inputs.specs.Front.{IsDeckNamed, word_in}
+use Rattle.command_support.specs.DeckFile.{IsDeckFault, IsOfDeck}
+use Rattle.command_support.specs.Front.{IsDeckNamed, word_in}
 use Rattle.file_commands.specs.Schema.{ComparesFile, TellsFile, ComparesPaths, AnswersSchema, IsSchemaFault, ComesOfFile, IsOfSchema, IsOfComparison}
-use Rattle.command_inputs.proofs.DeckLemmas.{not_there}
-use Rattle.command_outcomes.specs.Status.{status_of}
-use Rattle.command_outcomes.specs.declared.fault.Fault.{Fault}
-use Rattle.command_outcomes.specs.declared.fault.Fault.TheVariants.{Deck as DeckRefused, NoSuchFile, Input, Output, Memory}
-use Rattle.command_outcomes.specs.declared.outcome.Outcome.{Outcome}
-use Rattle.command_outcomes.specs.declared.outcome.Outcome.TheVariants.{SchemaTold, SchemaCompared, SchemaRefused}
+use Rattle.command_support.proofs.DeckLemmas.{not_there}
+use Rattle.command_support.specs.Status.{status_of}
+use Rattle.command_support.specs.declared.fault.Fault.{Fault}
+use Rattle.command_support.specs.declared.fault.Fault.TheVariants.{Deck as DeckRefused, NoSuchFile, Input, Output, Memory}
+use Rattle.command_support.specs.declared.outcome.Outcome.{Outcome}
+use Rattle.command_support.specs.declared.outcome.Outcome.TheVariants.{SchemaTold, SchemaCompared, SchemaRefused}
 
 -- why a page is none is told alike, with a deck or without
 same_refusal : (deck : Schema) (before after : Option (List ℕ)) (read : Result Header Refusal) (refusal : Refusal) → TellsDifferences deck before after read (Err refusal)

@@ -3,12 +3,12 @@ use Rattle.std.proofs.Common.{◌≡◌, ℕ, List, [], ◌∷◌, ◌++◌, len
 use Rattle.std.specs.Io.KnownBytes.{Appends}
 use Rattle.clap.specs.Words.{Text}
 use Rattle.file_checker.specs.declared.verdict.Verdict.{Verdict}
-use Rattle.command_outcomes.specs.declared.outcome.WorstCheck.{WorstCheck}
-use Rattle.command_outcomes.specs.declared.outcome.WorstCheck.TheVariants.{AllSound}
+use Rattle.command_support.specs.declared.outcome.WorstCheck.{WorstCheck}
+use Rattle.command_support.specs.declared.outcome.WorstCheck.TheVariants.{AllSound}
 use Rattle.folder_shelf.specs.Calls.{Call}
 use Rattle.file_checker.specs.Sound.{IsRight}
-use Rattle.command_outcomes.specs.declared.fault.Fault.{Fault}
-use Rattle.command_inputs.specs.Front.{GivesSuch, counted_calls}
+use Rattle.command_support.specs.declared.fault.Fault.{Fault}
+use Rattle.command_support.specs.Front.{GivesSuch, counted_calls}
 use Rattle.file_commands.specs.declared.verdict.NoVerdict.{NoVerdict}
 use Rattle.file_commands.specs.declared.verdict.NoVerdict.TheVariants.{Unread, Memory}
 use Rattle.file_commands.specs.Verdicts.{worse_of, IsFoundBy, FindsVerdict, WritesFound, WritesLine, WritesLineOf, WritesVerdicts}

@@ -19,16 +19,16 @@ use Rattle.folder_shelf.specs.Replay.{Unseen}
 use Rattle.record_listing.specs.ByPath.{ListsAtPath}
 use Rattle.folder_shelf.specs.Answers.{are_answers_of}
 use Rattle.folder_shelf.specs.Calls.{Call, taken_shared}
-use Rattle.command_outcomes.specs.Status.{status_of}
-use Rattle.command_outcomes.specs.declared.fault.Fault.{Fault}
-use Rattle.command_outcomes.specs.declared.outcome.Outcome.{Outcome}
-use Rattle.command_outcomes.specs.declared.outcome.Outcome.TheVariants.{Records, OtherSchema}
+use Rattle.command_support.specs.Status.{status_of}
+use Rattle.command_support.specs.declared.fault.Fault.{Fault}
+use Rattle.command_support.specs.declared.outcome.Outcome.{Outcome}
+use Rattle.command_support.specs.declared.outcome.Outcome.TheVariants.{Records, OtherSchema}
 use Rattle.command_words.specs.Asks.{FormText, form_text}
 use Rattle.command_words.specs.declared.form_words.FormWords.{FormWords}
-use Rattle.command_inputs.specs.Front.{OfFirstPage, counted_calls, word_in}
+use Rattle.command_support.specs.Front.{OfFirstPage, counted_calls, word_in}
 use Rattle.record_listing.specs.declared.condition.Condition.{Condition}
-use Rattle.command_inputs.specs.AskedForm.{IsAskedFormBy, IsListRefused}
-use Rattle.command_inputs.specs.Conditions.{texts_of}
+use Rattle.command_support.specs.AskedForm.{IsAskedFormBy, IsListRefused}
+use Rattle.command_support.specs.Conditions.{texts_of}
 use Rattle.file_commands.specs.Records.{IsAskedFor, IsAskedBy, AgreesWith, WritesOther}
 use Rattle.file_commands.specs.declared.by_index.ListStart.{ListStart}
 use Rattle.file_commands.specs.declared.listing.Bounds.{Bounds}

@@ -2,13 +2,13 @@
 use Rattle.std.specs.Prelude.{◌≡◌, ℕ, List, [], ◌∷◌, Option, Some, None, Result, Ok, Err, IfOk, IfErr}
 use Rattle.std.specs.Global.{Vec}
 use Rattle.record_layout.specs.Schema.{Schema}
-use Rattle.file_header.specs.declared.header.Header.{Header}
-use Rattle.schema_listing.specs.declared.first_page.Refusal.{Refusal}
-use Rattle.schema_listing.specs.Differences.{differences}
-use Rattle.schema_listing.specs.Listing.{read_of_file}
+use Rattle.open_file.specs.declared.first_page.Header.{Header}
+use Rattle.file_reports.specs.declared.first_page.Refusal.{Refusal}
+use Rattle.file_reports.specs.Differences.{differences}
+use Rattle.file_reports.specs.SchemaListing.{read_of_file}
 use Rattle.folder_shelf.specs.Calls.{Call, taken_shared}
-use Rattle.command_outcomes.specs.declared.fault.Fault.{Fault}
-use Rattle.command_outcomes.specs.declared.fault.Fault.TheVariants.{Memory}
+use Rattle.command_support.specs.declared.fault.Fault.{Fault}
+use Rattle.command_support.specs.declared.fault.Fault.TheVariants.{Memory}
 
 -- a line for each difference of a first page from a deck; none, where the page is none
 abbrev pub differences_of_page : Schema → Result Header Refusal → List ℕ

@@ -11,13 +11,13 @@ use Rattle.cobol_program.specs.Layout.{IsLaidOut}
 use Rattle.cobol_program.specs.declared.form.Form.{Form}
 use Rattle.cobol_program.specs.declared.form.Form.TheVariants.{Free, Fixed}
 use Rattle.folder_shelf.specs.Calls.{Call}
-use Rattle.command_inputs.specs.Front.{IsDeckNamed}
-use Rattle.command_outcomes.specs.Status.{status_of}
-use Rattle.command_outcomes.specs.declared.outcome.Outcome.{Outcome}
-use Rattle.command_outcomes.specs.declared.outcome.Outcome.TheVariants.{Listed, InCobol}
-use Rattle.command_outcomes.specs.declared.fault.Fault.{Fault}
-use Rattle.command_outcomes.specs.declared.fault.RefusedDeck.{RefusedDeck}
-use Rattle.command_outcomes.specs.declared.fault.Fault.TheVariants.{NotListed, Input, Output, Memory}
+use Rattle.command_support.specs.Front.{IsDeckNamed}
+use Rattle.command_support.specs.Status.{status_of}
+use Rattle.command_support.specs.declared.outcome.Outcome.{Outcome}
+use Rattle.command_support.specs.declared.outcome.Outcome.TheVariants.{Listed, InCobol}
+use Rattle.command_support.specs.declared.fault.Fault.{Fault}
+use Rattle.command_support.specs.declared.fault.RefusedDeck.{RefusedDeck}
+use Rattle.command_support.specs.declared.fault.Fault.TheVariants.{NotListed, Input, Output, Memory}
 
 -- the list of the deck that the bytes are was written
 abbrev pub WritesList : List ℕ → (before behind : Option (List ℕ)) → Type 0

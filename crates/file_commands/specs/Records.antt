@@ -3,28 +3,28 @@ use Rattle.std.specs.Prelude.{◌≡◌, ◌≢◌, ℕ, Bool, true, false, List
 use Rattle.std.specs.Prelude.{Result, Ok, IfOk, IfErr, ⊤}
 use Rattle.std.specs.Option.{unwrap_or}
 use Rattle.record_layout.specs.Schema.{Schema}
-use Rattle.file_header.specs.declared.header.Header.{Header}
-use Rattle.schema_listing.specs.Listing.{read_of_file}
-use Rattle.schema_listing.specs.Comparing.{comparison_of, TellsDifferences}
-use Rattle.schema_listing.specs.declared.comparing.Comparison.TheVariants.{Same, Different}
+use Rattle.open_file.specs.declared.first_page.Header.{Header}
+use Rattle.file_reports.specs.SchemaListing.{read_of_file}
+use Rattle.file_reports.specs.Comparing.{comparison_of, TellsDifferences}
+use Rattle.file_reports.specs.declared.comparing.Comparison.TheVariants.{Same, Different}
 use Rattle.record_listing.specs.declared.asked.Asked.{Asked}
 use Rattle.record_listing.specs.declared.condition.Condition.{Condition}
 use Rattle.record_text.specs.declared.form.Form.{Form}
 use Rattle.record_listing.specs.FileList.{EndsWithIn}
 use Rattle.record_listing.specs.declared.file_list.FileList.{FileList}
 use Rattle.record_listing.specs.declared.end.ListFault.{ListFault}
-use Rattle.command_outcomes.specs.Status.{status_of}
-use Rattle.command_outcomes.specs.declared.fault.Fault.{Fault}
+use Rattle.command_support.specs.Status.{status_of}
+use Rattle.command_support.specs.declared.fault.Fault.{Fault}
 use Rattle.command_words.specs.Asks.{FormText, form_text}
 use Rattle.command_words.specs.declared.form_words.FormWords.{FormWords}
 use Rattle.folder_shelf.specs.Calls.{Call}
-use Rattle.command_inputs.specs.Bound.{unescaped}
-use Rattle.command_inputs.specs.Front.{OfCountedFile, word_in}
-use Rattle.command_inputs.specs.AskedForm.{IsAskedFormBy, IsListRefused}
-use Rattle.command_inputs.specs.Conditions.{texts_of}
+use Rattle.command_support.specs.Bound.{unescaped}
+use Rattle.command_support.specs.Front.{OfCountedFile, word_in}
+use Rattle.command_support.specs.AskedForm.{IsAskedFormBy, IsListRefused}
+use Rattle.command_support.specs.Conditions.{texts_of}
 use Rattle.file_commands.specs.declared.listing.Bounds.{Bounds}
-use Rattle.command_outcomes.specs.declared.outcome.Outcome.{Outcome}
-use Rattle.command_outcomes.specs.declared.outcome.Outcome.TheVariants.{Records, OtherSchema}
+use Rattle.command_support.specs.declared.outcome.Outcome.{Outcome}
+use Rattle.command_support.specs.declared.outcome.Outcome.TheVariants.{Records, OtherSchema}
 
 -- this is asked for by the number of a key, the first and the last value, how many records at most,
 -- and what has to hold of each

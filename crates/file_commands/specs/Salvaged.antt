@@ -9,17 +9,17 @@ use Rattle.record_text.specs.declared.form.Form.{Form}
 use Rattle.record_text.specs.declared.form.Form.TheVariants.{Text}
 use Rattle.salvaged_records.specs.Salvaged.{EndsWith, Outputs, outputs, with_gate_closed}
 use Rattle.command_words.specs.Asks.{FormText}
-use Rattle.command_inputs.specs.Forms.{IsFormBy, IsFormRefused}
-use Rattle.command_inputs.specs.declared.forms.ListForm.{ListForm}
+use Rattle.command_support.specs.Forms.{IsFormBy, IsFormRefused}
+use Rattle.command_support.specs.declared.forms.ListForm.{ListForm}
 use Rattle.folder_shelf.specs.Calls.{Call, taken_shared}
-use Rattle.command_inputs.specs.DeckFile.{IsOfDeck}
-use Rattle.command_inputs.specs.Front.{IsDeckNamed, word_in}
+use Rattle.command_support.specs.DeckFile.{IsOfDeck}
+use Rattle.command_support.specs.Front.{IsDeckNamed, word_in}
 use Rattle.file_commands.specs.Records.{AgreesWith, WritesOther}
 use Rattle.file_commands.specs.Schema.{IsSchemaFault}
-use Rattle.command_outcomes.specs.Status.{status_of}
-use Rattle.command_outcomes.specs.declared.fault.Fault.{Fault}
-use Rattle.command_outcomes.specs.declared.outcome.Outcome.{Outcome}
-use Rattle.command_outcomes.specs.declared.outcome.Outcome.TheVariants.{OtherSchema, Salvaged}
+use Rattle.command_support.specs.Status.{status_of}
+use Rattle.command_support.specs.declared.fault.Fault.{Fault}
+use Rattle.command_support.specs.declared.outcome.Outcome.{Outcome}
+use Rattle.command_support.specs.declared.outcome.Outcome.TheVariants.{OtherSchema, Salvaged}
 
 -- the schema is that of the file of a name in the deck of a path, or of the input where the path is a hyphen
 abbrev pub IsSchemaIn : List Call → (input : Option (List ℕ)) → (deck name : Word) → Schema → Type 0

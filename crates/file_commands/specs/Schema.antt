@@ -3,27 +3,27 @@ use Rattle.std.specs.Prelude.{◌≡◌, ◌≢◌, ℕ, List, Option, None, Res
 use denote.Ref.{Bor}
 use Rattle.clap.specs.Words.{Text}
 use Rattle.record_layout.specs.Schema.{Schema}
-use Rattle.file_header.specs.declared.header.Header.{Header}
-use Rattle.schema_listing.specs.declared.first_page.Refusal.{Refusal}
-use Rattle.schema_listing.specs.declared.listing.ListingFault.{ListingFault}
-use Rattle.schema_listing.specs.declared.listing.ListingFault.TheVariants.{Input as Unread}
-use Rattle.schema_listing.specs.declared.listing.ListingFault.TheVariants.{Output as Unwritten}
-use Rattle.schema_listing.specs.declared.listing.ListingFault.TheVariants.{Memory as NoMemory}
-use Rattle.schema_listing.specs.Listing.{TellsHeader, read_of_file}
-use Rattle.schema_listing.specs.declared.comparing.Comparison.{Comparison}
+use Rattle.open_file.specs.declared.first_page.Header.{Header}
+use Rattle.file_reports.specs.declared.first_page.Refusal.{Refusal}
+use Rattle.file_reports.specs.declared.schema_listing.ListingFault.{ListingFault}
+use Rattle.file_reports.specs.declared.schema_listing.ListingFault.TheVariants.{Input as Unread}
+use Rattle.file_reports.specs.declared.schema_listing.ListingFault.TheVariants.{Output as Unwritten}
+use Rattle.file_reports.specs.declared.schema_listing.ListingFault.TheVariants.{Memory as NoMemory}
+use Rattle.file_reports.specs.SchemaListing.{TellsHeader, read_of_file}
+use Rattle.file_reports.specs.declared.comparing.Comparison.{Comparison}
 use Rattle.file_control.specs.Description.{FileDesc}
-use Rattle.schema_listing.specs.Comparing.{TellsDifferences}
-use Rattle.command_inputs.specs.DeckFile.{IsOfDeck, IsDeckAsked, IsDeckFile, IsHalf, IsDeckFault}
+use Rattle.file_reports.specs.Comparing.{TellsDifferences}
+use Rattle.command_support.specs.DeckFile.{IsOfDeck, IsDeckAsked, IsDeckFile, IsHalf, IsDeckFault}
 use Rattle.folder_shelf.specs.Calls.{Call}
-use Rattle.command_inputs.specs.Front.{IsDeckNamed, IsDeckReadBy, OfFirstPage, GivesSuch, word_in}
-use Rattle.command_outcomes.specs.Status.{status_of}
-use Rattle.command_outcomes.specs.declared.form_fault.FormFault.TheVariants.{HalfDeck}
-use Rattle.command_outcomes.specs.declared.fault.Fault.{Fault}
-use Rattle.command_outcomes.specs.declared.fault.Fault.TheVariants.{Deck as DeckRefused, NoSuchFile}
-use Rattle.command_outcomes.specs.declared.fault.Fault.TheVariants.{Form as NoForm, Input, Output, Memory}
-use Rattle.command_outcomes.specs.declared.outcome.Outcome.{Outcome}
-use Rattle.command_outcomes.specs.declared.outcome.Outcome.TheVariants.{SchemaTold, SchemaCompared}
-use Rattle.command_outcomes.specs.declared.outcome.Outcome.TheVariants.{SchemaRefused}
+use Rattle.command_support.specs.Front.{IsDeckNamed, IsDeckReadBy, OfFirstPage, GivesSuch, word_in}
+use Rattle.command_support.specs.Status.{status_of}
+use Rattle.command_support.specs.declared.form_fault.FormFault.TheVariants.{HalfDeck}
+use Rattle.command_support.specs.declared.fault.Fault.{Fault}
+use Rattle.command_support.specs.declared.fault.Fault.TheVariants.{Deck as DeckRefused, NoSuchFile}
+use Rattle.command_support.specs.declared.fault.Fault.TheVariants.{Form as NoForm, Input, Output, Memory}
+use Rattle.command_support.specs.declared.outcome.Outcome.{Outcome}
+use Rattle.command_support.specs.declared.outcome.Outcome.TheVariants.{SchemaTold, SchemaCompared}
+use Rattle.command_support.specs.declared.outcome.Outcome.TheVariants.{SchemaRefused}
 
 -- why nothing is told, or not all
 abbrev pub listing_told_as : ListingFault → Fault

@@ -11,15 +11,15 @@ use Rattle.file_checker.specs.declared.verdict.Verdict.TheVariants.{Sound, Unsou
 use Rattle.record_text.specs.Columns.{text_of}
 use Rattle.system_files.specs.declared.cause.Cause.{Cause}
 use Rattle.folder_shelf.specs.Calls.{Call}
-use Rattle.command_inputs.specs.Front.{OfCountedFile, IsUnreadBy}
+use Rattle.command_support.specs.Front.{OfCountedFile, IsUnreadBy}
 use Rattle.file_commands.specs.declared.verdict.NoVerdict.{NoVerdict}
 use Rattle.file_commands.specs.declared.verdict.NoVerdict.TheVariants.{Unread, Memory}
-use Rattle.command_outcomes.specs.declared.outcome.Outcome.{Outcome}
-use Rattle.command_outcomes.specs.declared.outcome.Outcome.TheVariants.{Checked, CheckedAll}
-use Rattle.command_outcomes.specs.declared.outcome.WorstCheck.{WorstCheck}
-use Rattle.command_outcomes.specs.declared.outcome.WorstCheck.TheVariants.{AllSound}
-use Rattle.command_outcomes.specs.declared.outcome.WorstCheck.TheVariants.{Unsound as OneUnsound}
-use Rattle.command_outcomes.specs.declared.outcome.WorstCheck.TheVariants.{Unread as OneUnread}
+use Rattle.command_support.specs.declared.outcome.Outcome.{Outcome}
+use Rattle.command_support.specs.declared.outcome.Outcome.TheVariants.{Checked, CheckedAll}
+use Rattle.command_support.specs.declared.outcome.WorstCheck.{WorstCheck}
+use Rattle.command_support.specs.declared.outcome.WorstCheck.TheVariants.{AllSound}
+use Rattle.command_support.specs.declared.outcome.WorstCheck.TheVariants.{Unsound as OneUnsound}
+use Rattle.command_support.specs.declared.outcome.WorstCheck.TheVariants.{Unread as OneUnread}
 
 -- the line of a verdict: how many records and pages a sound file has, or the number of the reason
 abbrev pub verdict_line : Verdict → List ℕ

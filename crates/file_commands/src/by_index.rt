@@ -1,15 +1,15 @@
 //! The list of the records of the file of a path, read page after page.
 ghost use Rattle.std.specs.Prelude.{◌≡◌, []};
-ghost use Rattle.command_outcomes.specs.Status.{status_of};
+ghost use Rattle.command_support.specs.Status.{status_of};
 ghost use Rattle.folder_shelf.specs.Reading.{ByReads};
 ghost use Rattle.record_listing.specs.ByPath.{ByReadsAside};
 ghost use Rattle.file_commands.specs.ByIndex.{TellsReason, ToldOfPages, ReadsStart, ListsPages, ListsByIndex};
 
 use crate::listing::{Bounds, asked_by, is_other, with_conditions};
-use command_inputs::{
-    AskedForm, ListForm, fault_of as not_read, form_and_conditions, read_counted, read_first_page,
+use command_support::{
+    AskedForm, Fault, ListForm, Outcome, fault_of as not_read, form_and_conditions, read_counted,
+    read_first_page,
 };
-use command_outcomes::{Fault, Outcome};
 use command_words::FormWords;
 use file_checker::{Verdict, check_bytes};
 use folder_shelf::{CallRecord, Disk, System};

@@ -6,8 +6,7 @@ ghost use Rattle.file_commands.specs.Listed.{form_of, IsInCobol, GivesText, Writ
 use crate::deck_list::refused;
 use crate::text::write_text;
 use cobol_program::{Form, write_program};
-use command_inputs::read_deck_bytes;
-use command_outcomes::{Fault, Outcome};
+use command_support::{Fault, Outcome, read_deck_bytes};
 use folder_shelf::System;
 use std::alloc::Global;
 use std::io::{Read, Write};

@@ -1,16 +1,15 @@
 //! The schema of a file, held against that of a file of a deck.
 ghost use Rattle.std.specs.Prelude.{[]};
-ghost use Rattle.schema_listing.specs.Listing.{read_of_file};
+ghost use Rattle.file_reports.specs.SchemaListing.{read_of_file};
 ghost use Rattle.folder_shelf.specs.Reading.{ByReads};
 ghost use Rattle.file_commands.specs.Schema.{ComparesAs, ComparesFile, IsOfComparison, ComesOfFile};
 ghost use Rattle.file_commands.specs.Schema.{ComparesPaths};
 
 use crate::first_page::fault_of;
-use command_inputs::{deck_at, file_in, read_first_page};
-use command_outcomes::{Fault, Outcome};
+use command_support::{Fault, Outcome, deck_at, file_in, read_first_page};
+use file_reports::compare_schema;
 use folder_shelf::System;
 use record_layout::Schema;
-use schema_listing::compare_schema;
 use std::alloc::Global;
 use std::io::{Read, Write};
 

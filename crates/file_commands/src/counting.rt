@@ -2,12 +2,11 @@
 ghost use Rattle.std.specs.Prelude.{◌≡◌};
 ghost use Rattle.folder_shelf.specs.Reading.{ByReads};
 ghost use Rattle.file_commands.specs.Counted.{CountsFileAt};
-ghost use Rattle.command_inputs.specs.Front.{DoesBy};
-ghost use Rattle.command_outcomes.specs.Status.{status_of};
+ghost use Rattle.command_support.specs.Front.{DoesBy};
+ghost use Rattle.command_support.specs.Status.{status_of};
 
-use command_inputs::{fault_of as not_read, read_counted};
-use command_outcomes::{Fault, Outcome};
-use file_statistics::{FileStatisticsEnd, StatisticsFault, list_statistics};
+use command_support::{Fault, Outcome, fault_of as not_read, read_counted};
+use file_reports::{FileStatisticsEnd, StatisticsFault, list_statistics};
 use folder_shelf::System;
 use std::alloc::Global;
 use std::io::Write;

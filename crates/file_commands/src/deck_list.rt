@@ -7,8 +7,7 @@ ghost use Rattle.folder_shelf.specs.Reading.{ByReads};
 ghost use Rattle.file_commands.specs.Listed.{IsRefusalOf, IsListFault, GivesText, ListsDeckAt};
 
 use crate::text::write_text;
-use command_inputs::read_deck_bytes;
-use command_outcomes::{Fault, Outcome, RefusedDeck};
+use command_support::{Fault, Outcome, RefusedDeck, read_deck_bytes};
 use deck_listing::{diagnose, list_deck};
 use file_control::DeckFault;
 use folder_shelf::System;

@@ -1,16 +1,16 @@
 //! The lines that tell how the schema of a file differs from that of a deck.
 ghost use Rattle.std.specs.Prelude.{◌≡◌, string_bytes, IfOk, IfErr};
-ghost use Rattle.schema_listing.specs.Listing.{read_of_file};
+ghost use Rattle.file_reports.specs.SchemaListing.{read_of_file};
 ghost use Rattle.folder_shelf.specs.Reading.{ByReads};
 ghost use Rattle.folder_shelf.specs.SystemState.{file_path};
 ghost use Rattle.file_commands.specs.Differing.{differences_of_page, GivesDifferences};
 
-use command_outcomes::Fault;
+use command_support::Fault;
+use file_reports::compare_schema;
 use folder_shelf::System;
 use io_state::FileName;
 use pages::PAGE_SIZE;
 use record_layout::Schema;
-use schema_listing::compare_schema;
 use std::alloc::Global;
 use streams::Silent;
 

@@ -1,16 +1,15 @@
 //! The schema of a file, by its first page, told or held against that of a file of a deck.
 ghost use Rattle.std.specs.Prelude.{◌≡◌, []};
-ghost use Rattle.schema_listing.specs.Listing.{read_of_file};
+ghost use Rattle.file_reports.specs.SchemaListing.{read_of_file};
 ghost use Rattle.folder_shelf.specs.Reading.{ByReads};
 ghost use Rattle.file_commands.specs.Schema.{TellsAs, TellsFile, IsOfSchema, ComesOfFile, AnswersSchema};
 ghost use Rattle.file_commands.specs.Schema.{listing_told_as};
-ghost use Rattle.command_outcomes.specs.Status.{status_of};
+ghost use Rattle.command_support.specs.Status.{status_of};
 
 use crate::comparing::compare_path;
-use command_inputs::read_first_page;
-use command_outcomes::{Fault, FormFault, Outcome};
+use command_support::{Fault, FormFault, Outcome, read_first_page};
+use file_reports::{ListingFault, list_schema};
 use folder_shelf::System;
-use schema_listing::{ListingFault, list_schema};
 use std::alloc::Global;
 use std::io::{Read, Write};
 

@@ -1,20 +1,20 @@
 //! The list of the records of the file of a path.
 ghost use Rattle.std.specs.Prelude.{◌≡◌, option_map, []};
 ghost use Rattle.folder_shelf.specs.Reading.{ByReads};
-ghost use Rattle.command_inputs.specs.Front.{word_in, GivesSuch};
-ghost use Rattle.command_inputs.specs.Bound.{FitsValue};
+ghost use Rattle.command_support.specs.Front.{word_in, GivesSuch};
+ghost use Rattle.command_support.specs.Bound.{FitsValue};
 ghost use Rattle.file_commands.specs.Records.{IsAskedBy, ToldOfList, ListsFile, TellsOther};
 
 use crate::first_page::fault_of;
-use command_inputs::{
-    AskedForm, fault_of as not_read, form_and_conditions, last_of, read_counted, value_of,
+use command_support::{
+    AskedForm, Fault, Outcome, fault_of as not_read, form_and_conditions, last_of, read_counted,
+    value_of,
 };
-use command_outcomes::{Fault, Outcome};
 use command_words::FormWords;
+use file_reports::{Comparison, compare_schema};
 use folder_shelf::System;
 use record_layout::Schema;
 use record_listing::{Asked, Condition, FileList, ListFault, list_file_as};
-use schema_listing::{Comparison, compare_schema};
 use std::alloc::Global;
 use std::io::{Read, Write};
 use streams::Progress;

@@ -3,15 +3,16 @@ ghost use Rattle.std.specs.Prelude.{◌≡◌};
 ghost use Rattle.folder_shelf.specs.Reading.{ByReads};
 ghost use Rattle.salvaged_records.specs.Salvaged.{outputs, with_gate_closed};
 ghost use Rattle.command_words.specs.Asks.{form_text};
-ghost use Rattle.command_inputs.specs.DeckFile.{ComesOfDeck};
-ghost use Rattle.command_inputs.specs.Front.{GivesSuch};
+ghost use Rattle.command_support.specs.DeckFile.{ComesOfDeck};
+ghost use Rattle.command_support.specs.Front.{GivesSuch};
 ghost use Rattle.file_commands.specs.Salvaged.{IsSchemaIn, GivesSchemaAsked, GivesSalvageForm};
 ghost use Rattle.file_commands.specs.Salvaged.{SalvagesBytes, SalvagesFile};
-ghost use Rattle.command_outcomes.specs.Status.{status_of};
+ghost use Rattle.command_support.specs.Status.{status_of};
 
 use crate::listing::is_other;
-use command_inputs::{ListForm, deck_at, fault_of as not_read, file_in, form_of};
-use command_outcomes::{Fault, FormFault, Outcome};
+use command_support::{
+    Fault, FormFault, ListForm, Outcome, deck_at, fault_of as not_read, file_in, form_of,
+};
 use command_words::FormWords;
 use folder_shelf::System;
 use record_layout::Schema;

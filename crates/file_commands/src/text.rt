@@ -1,7 +1,7 @@
 //! A text that is written whole.
-ghost use Rattle.command_inputs.specs.Front.{WritesWhole};
+ghost use Rattle.command_support.specs.Front.{WritesWhole};
 
-use command_outcomes::{Fault, Outcome};
+use command_support::{Fault, Outcome};
 use std::io::Write;
 
 /// Writes a text, and answers what was done by that.

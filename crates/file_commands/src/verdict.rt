@@ -2,16 +2,15 @@
 ghost use Rattle.std.specs.Prelude.{◌≡◌, Some, None, IfOk, IfErr};
 ghost use Rattle.std.specs.Io.KnownBytes.{Appends};
 ghost use Rattle.file_checker.specs.Sound.{IsRight};
-ghost use Rattle.command_outcomes.specs.Status.{status_of};
+ghost use Rattle.command_support.specs.Status.{status_of};
 ghost use Rattle.folder_shelf.specs.Reading.{ByReads};
-ghost use Rattle.command_inputs.specs.Front.{GivesSuch, DoesBy};
+ghost use Rattle.command_support.specs.Front.{GivesSuch, DoesBy};
 ghost use Rattle.file_commands.specs.Verdicts.{verdict_line, worse_of, paths_of, ChecksFile, ChecksFiles};
 ghost use Rattle.file_commands.specs.Verdicts.{WritesLine, WritesLineOf, WritesVerdicts, FindsVerdict};
 ghost use Rattle.file_commands.specs.Verdicts.{WritesFound};
 
 use crate::verdict_lines::{named_line, unread_line, verdict_line};
-use command_inputs::{fault_of, read_counted};
-use command_outcomes::{Fault, Outcome, WorstCheck};
+use command_support::{Fault, Outcome, WorstCheck, fault_of, read_counted};
 use file_checker::{Verdict, check_bytes};
 use folder_shelf::System;
 use std::alloc::Global;

@@ -5,7 +5,7 @@ use Rattle.std.specs.List.{All, IsDistinct}
 use Rattle.std.proofs.lemmas.List.Elements.{All-cons, All-nil}
 use Rattle.record_layout.proofs.RecordLemmas.{is_record}
 use Rattle.deck_entries.specs.FileControlEntry.{FileControlEntry}
-use Rattle.deck_words.specs.Word.{Word}
+use Rattle.deck_parser.specs.Word.{Word}
 use Rattle.file_control.specs.declared.description.Description.{Description}
 use Rattle.deck_entries.specs.FileDescription.{FileDescription, StorageEntry}
 use Rattle.file_control.specs.Description.{FileDesc, IsFile, AreFiles, with_names}

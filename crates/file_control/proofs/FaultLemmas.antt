@@ -1,8 +1,8 @@
 -- Where the first fault of a file is, by what was found of the file before.
 use Rattle.std.proofs.Common.{◌≡◌, ℕ, Bool, true, false, not, cond, List, [], ◌∷◌, Option, Some, None, refl, sym, ap, ◌∙◌, inl, inr, subst}
 use Rattle.std.specs.Prelude.{is_some, position, bytes_eq}
-use Rattle.deck_words.specs.Fault.{fault_of}
-use Rattle.deck_words.specs.declared.fault.DeckFault.{DeckFault}
+use Rattle.deck_parser.specs.Fault.{fault_of}
+use Rattle.deck_parser.specs.declared.fault.DeckFault.{DeckFault}
 use Rattle.record_layout.specs.Layout.{Placed, IsLayout, length_of}
 use Rattle.record_layout.specs.Schema.{Schema}
 use Rattle.deck_entries.specs.FileControlEntry.{FileControlEntry}

@@ -10,7 +10,7 @@ use Rattle.record_layout.specs.declared.schema.KeyPart.{KeyPart}
 use Rattle.record_layout.specs.Layout.{Entry, Placed, IsLayout, is_name_of, field_of}
 use Rattle.record_layout.specs.SchemaFault.{KeyClause, key_of_item, key_of_clause, where_a_key, keys_behind, GivesSchema}
 use Rattle.record_layout.specs.Schema.{Schema, alternate_kind}
-use Rattle.deck_words.proofs.TestLemmas.{both_are}
+use Rattle.deck_parser.proofs.TestLemmas.{both_are}
 use Rattle.deck_entries.specs.FileControlEntry.{FileControlEntry}
 use Rattle.file_control.specs.Checks.{are_keys_named}
 use Rattle.file_control.proofs.LayoutLemmas.{no_field}

@@ -7,7 +7,7 @@ use Rattle.std.specs.Str.{bytes_eq}
 use Rattle.deck_entries.specs.FileControlEntry.{FileControlEntry}
 use Rattle.deck_entries.specs.FileDescription.{FileDescription, StorageEntry}
 use Rattle.file_control.specs.Description.{FileDesc, LengthItem, HasDigits, IsFile, AreFiles, AreItems, has_name, with_names}
-use Rattle.deck_words.specs.declared.fault.DeckFault.{DeckFault}
+use Rattle.deck_parser.specs.declared.fault.DeckFault.{DeckFault}
 use Rattle.file_control.specs.FirstFault.{IsFilesFault, IsItemFault}
 
 -- ---- files

@@ -10,7 +10,7 @@ use Rattle.record_layout.specs.Picture.{Means, IsPicture}
 use Rattle.record_layout.specs.Layout.{Entry, Placed, Structure, written_items, width, placed, places, is_nothing, IsWellFormed, is_named, is_name_of, IsLayout, field_of}
 use Rattle.record_layout.specs.Layout.Structure.{Nothing, Elementary, Group}
 use Rattle.record_layout.proofs.PictureLemmas.{kind_of, one_size}
-use Rattle.deck_words.proofs.TestLemmas.{neither_true}
+use Rattle.deck_parser.proofs.TestLemmas.{neither_true}
 
 -- ---- one structure
 

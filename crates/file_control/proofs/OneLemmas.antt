@@ -11,7 +11,7 @@ use Rattle.record_layout.specs.Schema.{Schema, IsSchema, AreKeys}
 use Rattle.record_layout.specs.SchemaFault.{KeyClause, HasKeys, GivesSchema, keys_given}
 use Rattle.record_layout.proofs.NamedKeysLemmas.{gives_keys}
 use Rattle.deck_entries.specs.FileControlEntry.{FileControlEntry}
-use Rattle.deck_words.specs.Word.{Word}
+use Rattle.deck_parser.specs.Word.{Word}
 use Rattle.file_control.specs.declared.description.Description.{Description}
 use Rattle.deck_entries.specs.declared.divisions.Divisions.{Divisions}
 use Rattle.deck_entries.specs.declared.record_length.RecordLength.{RecordLength}

@@ -9,9 +9,9 @@ use Rattle.deck_parser.specs.Class.{this, begins, all_apart}
 use Rattle.deck_parser.specs.Operand.{digits}
 use Rattle.deck_parser.specs.Notation.{the, name, literal, period}
 use Rattle.deck_entries.specs.FileControlEntry.{FileControlEntry}
-use Rattle.deck_words.specs.Word.{Word}
+use Rattle.deck_parser.specs.Word.{Word}
 use Rattle.deck_entries.specs.FileControlEntry.{mode, indexed, access, record_key, duplicates, alternate, status, clause, entry_end, entry_keys, select_word, new_name, new_file_name, select_behind}
-use Rattle.deck_words.proofs.TestLemmas.{bind_some, bind_is, map_some}
+use Rattle.deck_parser.proofs.TestLemmas.{bind_some, bind_is, map_some}
 use Rattle.deck_parser.proofs.ClassLemmas.{begins_apart}
 use Rattle.deck_entries.specs.declared.divisions.Divisions.{Divisions}
 use Rattle.deck_entries.specs.FileDescription.{count, length_clause, label, block, record_clause, description_clause, picture_clause, level, item_name, may_item_name, item, more_item, FileDescription, StorageEntry, described_name, description_behind, storage_item, more_storage}

@@ -5,10 +5,10 @@ use Rattle.std.specs.Prelude.{Option, Some, None, is_some, position, bytes_eq, I
 use Rattle.deck_parser.specs.Class.{this, begins}
 use Rattle.deck_parser.specs.Rule.{Stop, stop_at, stop_behind}
 use Rattle.deck_parser.specs.Unfit.{IsFirstLine}
-use Rattle.deck_words.specs.Fault.{IsFault, told, fault_of}
-use Rattle.deck_words.specs.Word.{Word}
-use Rattle.deck_words.specs.declared.fault.DeckFault.{DeckFault}
-use Rattle.deck_words.specs.declared.fault.Refusal.{Refusal}
+use Rattle.deck_parser.specs.Fault.{IsFault, told, fault_of}
+use Rattle.deck_parser.specs.Word.{Word}
+use Rattle.deck_parser.specs.declared.fault.DeckFault.{DeckFault}
+use Rattle.deck_parser.specs.declared.fault.Refusal.{Refusal}
 use Rattle.record_layout.specs.Layout.{IsLayout, length_of}
 use Rattle.deck_entries.specs.FileControlEntry.{FileControlEntry}
 use Rattle.deck_entries.specs.FileDescription.{FileDescription, StorageEntry}

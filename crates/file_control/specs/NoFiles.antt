@@ -1,7 +1,7 @@
 -- Descriptions that give no files, and so are refused.
 use Rattle.std.specs.Prelude.{ℕ, List}
-use Rattle.deck_words.specs.Fault.{IsFault}
-use Rattle.deck_words.specs.declared.fault.Refusal.{Refusal}
+use Rattle.deck_parser.specs.Fault.{IsFault}
+use Rattle.deck_parser.specs.declared.fault.Refusal.{Refusal}
 use Rattle.deck_entries.specs.FileControlEntry.{FileControlEntry}
 use Rattle.deck_entries.specs.FileDescription.{FileDescription, StorageEntry}
 use Rattle.file_control.specs.Description.{AreFiles, FileDesc, LengthItem}

@@ -3,7 +3,7 @@
 -- the word PROCEDURE is ours.
 use Rattle.std.specs.Prelude.{◌≡◌, ◌≤◌, ℕ, true, List, [], ◌∷◌, length, drop, codes}
 use Rattle.deck_parser.specs.Class.{this, begins}
-use Rattle.deck_words.specs.Word.{Word}
+use Rattle.deck_parser.specs.Word.{Word}
 use Rattle.file_control.specs.declared.description.Description.{Description}
 use Rattle.deck_entries.specs.declared.divisions.Divisions.{Divisions}
 use Rattle.deck_entries.specs.Divisions.{SpellsDivisions}

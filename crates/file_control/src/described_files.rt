@@ -1,7 +1,7 @@
 //! What has a name in the description of a deck, which is looked for where a deck is refused.
 
 use deck_entries::{Described, Selected, StorageItem};
-use deck_words::{FirstNamed, ItemPlace, Named, Twice};
+use deck_parser::{FirstNamed, ItemPlace, Named, Twice};
 
 /// The files of a deck, as they are selected and described.
 #[derive(Clone, Copy)]

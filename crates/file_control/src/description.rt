@@ -1,8 +1,8 @@
 //! The description of a deck, read whole.
 ghost use Rattle.std.specs.Prelude.{◌≡◌, List, IfOk, IfErr};
-ghost use Rattle.deck_words.specs.Fault.{GivesOrRefuses, GivesOrTells};
-ghost use Rattle.deck_words.specs.OneReading.{Determines};
-ghost use Rattle.deck_words.specs.Word.{Word};
+ghost use Rattle.deck_parser.specs.Fault.{GivesOrRefuses, GivesOrTells};
+ghost use Rattle.deck_parser.specs.OneReading.{Determines};
+ghost use Rattle.deck_parser.specs.Word.{Word};
 ghost use Rattle.file_control.specs.declared.description.Description.{Description};
 ghost use Rattle.file_control.specs.Description.{FileDesc as File, LengthItem as Digits};
 ghost use Rattle.file_control.specs.Whole.{Describe, IsDescription};
@@ -14,8 +14,9 @@ use crate::data_names::DataNames;
 use crate::described_files::DescribedFiles;
 use crate::files::{FileList, ItemList, check_items, files_of, items_of};
 use deck_entries::{Divisions, read_divisions};
-use deck_parser::Parser;
-use deck_words::{Cause, DeckFault, Expected, Refusal, WantedClass, WantedList, WordPlace, Words};
+use deck_parser::{
+    Cause, DeckFault, Expected, Parser, Refusal, WantedClass, WantedList, WordPlace, Words,
+};
 use std::alloc::Global;
 
 /// The files of a deck in the order of their SELECT entries, its 77-level items, and how many words

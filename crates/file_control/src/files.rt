@@ -1,7 +1,7 @@
 //! The files of a deck, and its 77-level items.
 ghost use Rattle.std.specs.Prelude.{◌≡◌, ℕ, List, [], ◌∷◌, option_map, find, OnOk, IfOk, IfErr};
 ghost use Rattle.std.specs.Str.{bytes_eq};
-ghost use Rattle.deck_words.specs.Fault.{HasNoneIfRefused, GivesOrRefuses};
+ghost use Rattle.deck_parser.specs.Fault.{HasNoneIfRefused, GivesOrRefuses};
 ghost use Rattle.file_control.specs.Description.{FileDesc as File, LengthItem as Digits};
 ghost use Rattle.file_control.specs.Description.{AreFiles, AreItems, HaveDigits};
 ghost use Rattle.file_control.specs.NoFiles.{AreNoFiles};
@@ -12,7 +12,7 @@ use crate::described_files::DescribedFiles;
 use crate::file::{FileDesc, file};
 use crate::length_item::digits_of_item;
 use deck_entries::{Described, Selected, StorageItem};
-use deck_words::{Cause, LayoutCause, Refusal, Twice, Unknown};
+use deck_parser::{Cause, LayoutCause, Refusal, Twice, Unknown};
 use io_state::Name;
 use std::alloc::{AllocError, Global};
 use std::marker::Model;

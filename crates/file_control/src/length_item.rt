@@ -2,13 +2,13 @@
 ghost use Rattle.std.specs.Prelude.{◌≡◌, ℕ, IfSome, IfNone, IfOk, IfErr, IsTrue, IsFalse, position, is_some};
 ghost use Rattle.std.specs.Prelude.{if◌then◌else◌};
 ghost use Rattle.std.specs.Str.{bytes_eq};
-ghost use Rattle.deck_words.specs.Fault.{cause_code};
+ghost use Rattle.deck_parser.specs.Fault.{cause_code};
 ghost use Rattle.file_control.specs.Checks.{HasDigitsFor};
 ghost use Rattle.file_control.specs.Description.{HasDigits, digit_count, IsLengthItem};
 
 use crate::described_files::DescribedFiles;
 use deck_entries::StorageItem;
-use deck_words::{Cause, LayoutCause, Unknown};
+use deck_parser::{Cause, LayoutCause, Unknown};
 use io_state::Name;
 use record_layout::{Picture, one_picture};
 

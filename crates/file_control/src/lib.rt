@@ -19,7 +19,7 @@ mod files;
 mod keys;
 mod length_item;
 
-pub use deck_words::{DECK_LIMIT, DeckFault, Words, one_reading, words};
+pub use deck_parser::{DECK_LIMIT, DeckFault, Words, one_reading, words};
 pub use description::{
     Description, are_described, describe, one_description, read_description, wanted_in_description,
 };

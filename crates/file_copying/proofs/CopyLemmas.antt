@@ -13,7 +13,7 @@ use Rattle.page_cache.specs.HeaderCalls.{MayRefuse}
 use Rattle.page_alloc.specs.declared.paged_file.PagedFile.{PagedFile}
 use Rattle.page_alloc.specs.PagedFile.{IsOpenOver, is_begun, unit_of_pages}
 use Rattle.page_alloc.proofs.OpenLemmas.{made_quietly}
-use Rattle.file_header.specs.declared.header.Header.{Header}
+use Rattle.open_file.specs.declared.first_page.Header.{Header}
 use Rattle.pages.specs.PageMap.{PageMap}
 use Rattle.key_index.specs.declared.prime_index.PrimeIndex.{PrimeIndex}
 use Rattle.key_index.specs.Standing.{CountsPrime}
@@ -23,11 +23,11 @@ use Rattle.open_file.specs.Parts.{prime_pages}
 use Rattle.open_file.specs.Stands.{Stands}
 use Rattle.open_file.specs.declared.open_file.OpenFile.{OpenFile}
 use Rattle.open_file.proofs.HeaderLemmas.{prime_entries_many}
-use Rattle.shelf_file.specs.ClosedFile.{AreClosed, StandsIn}
-use Rattle.shelf_file.specs.Named.{look_of}
-use Rattle.shelf_file.specs.Shelves.{ClosedFileOrRefused}
-use Rattle.shelf_file.specs.declared.look.Look.TheVariants.{Accepted}
-use Rattle.shelf_file.proofs.AcceptedLemmas.{looks_accepted, accepted_there}
+use Rattle.shelf_library.specs.ClosedFile.{AreClosed, StandsIn}
+use Rattle.shelf_library.specs.Named.{look_of}
+use Rattle.shelf_library.specs.Shelves.{ClosedFileOrRefused}
+use Rattle.shelf_library.specs.declared.look.Look.TheVariants.{Accepted}
+use Rattle.shelf_library.proofs.FileAcceptedLemmas.{looks_accepted, accepted_there}
 use Rattle.file_copying.specs.declared.fault.Copied.{Copied}
 use Rattle.file_copying.specs.declared.fault.CopyingFault.{CopyingFault}
 use Rattle.file_copying.specs.Closing.{EndsCopy, IsCopyDone}

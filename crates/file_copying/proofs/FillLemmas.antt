@@ -15,7 +15,7 @@ use Rattle.open_file.specs.Faults.{IsCausedIn}
 use Rattle.open_file.specs.Fields.{has_broken}
 use Rattle.open_file.specs.Stands.{Stands}
 use Rattle.open_file.specs.declared.open_file.OpenFile.{OpenFile}
-use Rattle.shelf_file.specs.Opening.{counted_shelf}
+use Rattle.shelf_library.specs.FileOpening.{counted_shelf}
 use Rattle.tree_building.specs.Fresh.{IsBuildCause}
 use Rattle.file_copying.specs.CopyFault.{IsCopyCause, IsCopyAnswer, IsNoDamage as IsNoCopyDamage}
 use Rattle.file_copying.specs.Opening.{IsOpenedLike}

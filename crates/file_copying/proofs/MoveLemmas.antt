@@ -14,10 +14,10 @@ use Rattle.page_alloc.specs.Chain.{is_page}
 use Rattle.page_alloc.specs.Joining.{FaultsRose, page_limit}
 use Rattle.page_alloc.specs.PagedFile.{IsOpenOver, IsNewPagedFile, MakesPagedFile, counts_of, unit_of_pages}
 use Rattle.page_alloc.specs.StepLaws.{failed_after}
-use Rattle.file_header.specs.declared.header.Header.{Header}
+use Rattle.open_file.specs.declared.first_page.Header.{Header}
 use Rattle.open_file.specs.Fields.{file_schema}
-use Rattle.shelf_file.specs.Opening.{counted_shelf}
-use Rattle.shelf_file.specs.Shelves.{IsOpened}
+use Rattle.shelf_library.specs.FileOpening.{counted_shelf}
+use Rattle.shelf_library.specs.Shelves.{IsOpened}
 use Rattle.file_copying.specs.declared.file_parts.FileParts.{FileParts}
 use Rattle.file_copying.specs.Parts.{joined_file}
 use Rattle.file_copying.specs.declared.fault.Copied.{Copied}

@@ -8,9 +8,9 @@ use Rattle.pages.specs.Each.{Each}
 use Rattle.pages.specs.PageMap.{PageMap}
 use Rattle.record_layout.specs.Schema.{Schema, IsSchema}
 use Rattle.indexed_file.specs.File.{File}
-use Rattle.file_header.specs.declared.header.Header.{Header}
-use Rattle.file_header.specs.declared.header.TreeNumbers.{TreeNumbers}
-use Rattle.file_header.specs.Bounds.{AreTreeNumbers, AreLinksWithin, FitsItsBytes, IsHeader}
+use Rattle.open_file.specs.declared.first_page.Header.{Header}
+use Rattle.open_file.specs.declared.first_page.TreeNumbers.{TreeNumbers}
+use Rattle.open_file.specs.Bounds.{AreTreeNumbers, AreLinksWithin, FitsItsBytes, IsHeader}
 use Rattle.tree_search.proofs.DescentLemmas.{root_there}
 use Rattle.bplus_tree.specs.declared.tree.Tree.{Tree}
 use Rattle.bplus_tree.specs.Standing.{TreeStands}

@@ -5,13 +5,13 @@ use Rattle.page_store.specs.ShelfState.{ShelfState}
 use Rattle.page_cache.specs.Cached.{cached_pages_of}
 use Rattle.page_alloc.specs.PagedFile.{IsClosedWith, cache_of, counts_of}
 use Rattle.page_alloc.specs.Joining.{first_free_page, pages_counted, pages_free}
-use Rattle.file_header.specs.declared.header.Header.{Header}
-use Rattle.file_header.specs.Bounds.{FitsItsBytes}
-use Rattle.file_header.specs.FirstPage.{header_bytes}
+use Rattle.open_file.specs.declared.first_page.Header.{Header}
+use Rattle.open_file.specs.Bounds.{FitsItsBytes}
+use Rattle.open_file.specs.FirstPage.{header_bytes}
 use Rattle.open_file.specs.Headers.{IsHeaderOf, Counts}
-use Rattle.shelf_file.specs.declared.shelf_file.ShelfFile.{ShelfFile}
-use Rattle.shelf_file.specs.Standing.{IsReady, StandsFor}
-use Rattle.shelf_file.proofs.ClosingLemmas.{closed_header}
+use Rattle.shelf_library.specs.declared.shelf_file.ShelfFile.{ShelfFile}
+use Rattle.shelf_library.specs.Standing.{IsReady, StandsFor}
+use Rattle.shelf_library.proofs.FileClosingLemmas.{closed_header}
 use Rattle.file_copying.specs.Parts.{HavePages}
 
 -- its first page tells of those that it counts, and all are there

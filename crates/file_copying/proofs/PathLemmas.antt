@@ -10,7 +10,7 @@ use Rattle.folder_shelf.specs.FailedCalls.{failed_calls}
 use Rattle.folder_shelf.specs.Replay.{Unseen, folder_after, folder_state}
 use Rattle.folder_shelf.specs.Shelf.{shelf_after}
 use Rattle.folder_shelf.specs.SystemState.{SystemState, entered_at}
-use Rattle.shelf_file.specs.Opening.{counted_shelf}
+use Rattle.shelf_library.specs.FileOpening.{counted_shelf}
 use Rattle.file_copying.specs.declared.fault.Copied.{Copied}
 use Rattle.file_copying.specs.declared.fault.CopyingFault.{CopyingFault}
 use Rattle.file_copying.specs.declared.fault.CopyingFault.TheVariants.{NoneToCopy, NotAccepted, NoKey, IsThere, Reading, Writing}

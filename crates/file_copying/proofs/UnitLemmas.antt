@@ -9,12 +9,12 @@ use Rattle.page_store.specs.Gate.{WasOrRefused}
 use Rattle.page_store.proofs.MomentLemmas.{throughout_none}
 use Rattle.page_store.proofs.ShelfLemmas.{others_then}
 use Rattle.page_alloc.specs.StepLaws.{failed_after}
-use Rattle.file_header.specs.declared.header.Header.{Header}
-use Rattle.shelf_file.specs.ClosedFile.{StandsIn}
-use Rattle.shelf_file.specs.Named.{look_of}
-use Rattle.shelf_file.specs.declared.look.Look.TheVariants.{Accepted}
-use Rattle.shelf_file.specs.Opening.{counted_shelf}
-use Rattle.shelf_file.proofs.LookLemmas.{same_file}
+use Rattle.open_file.specs.declared.first_page.Header.{Header}
+use Rattle.shelf_library.specs.ClosedFile.{StandsIn}
+use Rattle.shelf_library.specs.Named.{look_of}
+use Rattle.shelf_library.specs.declared.look.Look.TheVariants.{Accepted}
+use Rattle.shelf_library.specs.FileOpening.{counted_shelf}
+use Rattle.shelf_library.proofs.LookLemmas.{same_file}
 use Rattle.file_copying.specs.declared.fault.Copied.{Copied}
 use Rattle.file_copying.specs.declared.fault.CopyingFault.{CopyingFault}
 use Rattle.file_copying.specs.declared.fault.CopyingFault.TheVariants.{NoneToCopy, NotAccepted, NoKey, IsThere, Reading, Writing}

@@ -2,7 +2,7 @@
 use Rattle.std.specs.Prelude.{◌≡◌, ◌⊎◌, ℕ, List, [], ◌∷◌, Result, Err}
 use Rattle.io_state.specs.declared.fault.Fault.TheVariants.{Memory}
 use Rattle.page_store.specs.ShelfState.{ShelfState, attached_as}
-use Rattle.shelf_file.specs.Opening.{CountedShelf, counted_shelf}
+use Rattle.shelf_library.specs.FileOpening.{CountedShelf, counted_shelf}
 use Rattle.file_copying.specs.declared.fault.Copied.{Copied}
 use Rattle.file_copying.specs.declared.fault.CopyingFault.{CopyingFault}
 use Rattle.file_copying.specs.declared.fault.CopyingFault.TheVariants.{Writing}

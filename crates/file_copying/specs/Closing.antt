@@ -9,10 +9,10 @@ use Rattle.page_store.specs.ShelfState.{ShelfState, KeepsOthers, unit_file}
 use Rattle.page_alloc.specs.Joining.{FaultsRose}
 use Rattle.page_alloc.specs.PagedFile.{is_begun, unit_of_pages}
 use Rattle.open_file.specs.Fields.{has_broken, file_schema}
-use Rattle.shelf_file.specs.ClosedFile.{AreClosed}
-use Rattle.shelf_file.specs.Opening.{CountedShelf, counted_shelf}
-use Rattle.shelf_file.specs.Shelves.{ClosedFileOrRefused}
-use Rattle.shelf_file.specs.Standing.{IsReady, StandsFor}
+use Rattle.shelf_library.specs.ClosedFile.{AreClosed}
+use Rattle.shelf_library.specs.FileOpening.{CountedShelf, counted_shelf}
+use Rattle.shelf_library.specs.Shelves.{ClosedFileOrRefused}
+use Rattle.shelf_library.specs.Standing.{IsReady, StandsFor}
 use Rattle.file_copying.specs.declared.file_parts.FileParts.{FileParts}
 use Rattle.file_copying.specs.Parts.{joined_file, HavePages}
 use Rattle.file_copying.specs.declared.fault.Copied.{Copied}

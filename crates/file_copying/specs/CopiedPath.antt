@@ -12,7 +12,7 @@ use Rattle.folder_shelf.specs.Calls.{Call}
 use Rattle.folder_shelf.specs.FailedCalls.{failed_calls}
 use Rattle.folder_shelf.specs.Replay.{Unseen, folder_after, folder_state}
 use Rattle.folder_shelf.specs.SystemState.{SystemState}
-use Rattle.shelf_file.specs.ClosedFile.{AreClosed}
+use Rattle.shelf_library.specs.ClosedFile.{AreClosed}
 use Rattle.file_copying.specs.declared.fault.Copied.{Copied}
 use Rattle.file_copying.specs.declared.fault.CopyingFault.{CopyingFault}
 use Rattle.file_copying.specs.Copying.{IsCopyTold, IsCopyUntouched, BecomesCopy, CopyGivesUp}

@@ -9,13 +9,13 @@ use Rattle.page_store.specs.Moments.{Throughout}
 use Rattle.page_store.specs.ShelfState.{ShelfState, HasUnit, KeepsOthers, OnlyAnswers, unit_file}
 use Rattle.page_alloc.specs.Joining.{FaultsRose}
 use Rattle.page_alloc.specs.PagedFile.{IsKeptOrRefused}
-use Rattle.file_header.specs.declared.header.Header.{Header}
-use Rattle.file_header.specs.Bounds.{IsHeader}
-use Rattle.shelf_file.specs.declared.look.Look.TheVariants.{NoFile, Refused}
-use Rattle.shelf_file.specs.ClosedFile.{AreClosed, StandsIn}
-use Rattle.shelf_file.specs.Named.{look_of}
-use Rattle.shelf_file.specs.Opening.{CountedShelf, counted_shelf}
-use Rattle.shelf_file.specs.Shelves.{HasAccepted}
+use Rattle.open_file.specs.declared.first_page.Header.{Header}
+use Rattle.open_file.specs.Bounds.{IsHeader}
+use Rattle.shelf_library.specs.declared.look.Look.TheVariants.{NoFile, Refused}
+use Rattle.shelf_library.specs.ClosedFile.{AreClosed, StandsIn}
+use Rattle.shelf_library.specs.Named.{look_of}
+use Rattle.shelf_library.specs.FileOpening.{CountedShelf, counted_shelf}
+use Rattle.shelf_library.specs.Shelves.{HasAccepted}
 use Rattle.file_copying.specs.declared.fault.Copied.{Copied}
 use Rattle.file_copying.specs.declared.fault.CopyingFault.{CopyingFault}
 use Rattle.file_copying.specs.declared.fault.CopyingFault.TheVariants.{NoneToCopy, NotAccepted, NoKey, IsThere, Reading, Writing}

@@ -11,8 +11,8 @@ use Rattle.page_alloc.specs.Steps.{pages_state_of}
 use Rattle.open_file.specs.declared.open_file.OpenFile.{OpenFile}
 use Rattle.open_file.specs.Fields.{has_broken, file_schema}
 use Rattle.open_file.specs.Stands.{Stands, IsShaped}
-use Rattle.shelf_file.specs.Opening.{CountedShelf, counted_shelf}
-use Rattle.shelf_file.specs.Standing.{IsReady, StandsFor}
+use Rattle.shelf_library.specs.FileOpening.{CountedShelf, counted_shelf}
+use Rattle.shelf_library.specs.Standing.{IsReady, StandsFor}
 use Rattle.file_copying.specs.declared.file_parts.FileParts.{FileParts}
 use Rattle.file_copying.specs.Parts.{joined_file}
 use Rattle.file_copying.specs.declared.fault.CopyingFault.{CopyingFault}

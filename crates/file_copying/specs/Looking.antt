@@ -4,11 +4,11 @@ use Rattle.io_state.specs.declared.fault.Fault.TheVariants.{Device}
 use Rattle.page_store.specs.DeviceFile.{DeviceFile}
 use Rattle.page_store.specs.ShelfState.{ShelfState, OnlyAnswers, unit_file}
 use Rattle.page_alloc.specs.Joining.{FaultsRose}
-use Rattle.file_header.specs.declared.header.Header.{Header}
-use Rattle.file_header.specs.Bounds.{IsHeader}
-use Rattle.shelf_file.specs.declared.look.Look.TheVariants.{NoFile, Refused, Accepted}
-use Rattle.shelf_file.specs.Named.{look_of}
-use Rattle.shelf_file.specs.Opening.{CountedShelf, counted_shelf}
+use Rattle.open_file.specs.declared.first_page.Header.{Header}
+use Rattle.open_file.specs.Bounds.{IsHeader}
+use Rattle.shelf_library.specs.declared.look.Look.TheVariants.{NoFile, Refused, Accepted}
+use Rattle.shelf_library.specs.Named.{look_of}
+use Rattle.shelf_library.specs.FileOpening.{CountedShelf, counted_shelf}
 use Rattle.file_copying.specs.declared.fault.CopyingFault.{CopyingFault}
 use Rattle.file_copying.specs.declared.fault.CopyingFault.TheVariants.{NoneToCopy, NotAccepted, NoKey, IsThere, Reading, Writing}
 

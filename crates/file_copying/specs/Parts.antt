@@ -5,12 +5,12 @@ use Rattle.page_store.specs.DeviceFile.{content}
 use Rattle.page_store.specs.ShelfState.{ShelfState, unit_file}
 use Rattle.page_alloc.specs.Joining.{pages_counted}
 use Rattle.page_alloc.specs.PagedFile.{counts_of, is_begun, unit_of_pages}
-use Rattle.file_header.specs.declared.header.Header.{Header}
+use Rattle.open_file.specs.declared.first_page.Header.{Header}
 use Rattle.open_file.specs.Fields.{has_broken}
-use Rattle.shelf_file.specs.ClosedFile.{IsAcceptedBy}
-use Rattle.shelf_file.specs.Standing.{StandsFor}
+use Rattle.shelf_library.specs.ClosedFile.{IsAcceptedBy}
+use Rattle.shelf_library.specs.Standing.{StandsFor}
 use Rattle.io_state.specs.declared.fault.Fault.{Fault}
-use Rattle.shelf_file.specs.declared.shelf_file.ShelfFile.{ShelfFile}
+use Rattle.shelf_library.specs.declared.shelf_file.ShelfFile.{ShelfFile}
 use Rattle.file_copying.specs.declared.file_parts.FileParts.{FileParts}
 
 -- the file that has these parts

@@ -9,7 +9,7 @@ use crate::fault::{Copied, CopyingFault};
 use crate::file_parts::FileParts;
 use crate::filling::fill;
 use crate::looking::{find_no_target, source_header};
-use file_header::Header;
+use open_file::Header;
 use page_alloc::PagedFile;
 use page_store::Shelf;
 use pages::PAGE_SIZE;

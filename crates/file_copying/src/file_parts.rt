@@ -1,16 +1,15 @@
 //! The parts of a file: it is opened and closed.
 
 ghost use Rattle.std.specs.NonZero.{non_zero_usize_get};
-ghost use Rattle.file_header.specs.Bounds.{FitsItsBytes, IsHeader};
+ghost use Rattle.open_file.specs.Bounds.{FitsItsBytes, IsHeader};
 ghost use Rattle.open_file.specs.Headers.{IsHeaderOf};
 ghost use Rattle.open_file.specs.Stands.{IsShaped};
-ghost use Rattle.shelf_file.specs.Standing.{IsReady};
-ghost use Rattle.shelf_file.specs.Opening.{CountsPages, OpensByHeader, ClosesHeld};
+ghost use Rattle.shelf_library.specs.Standing.{IsReady};
+ghost use Rattle.shelf_library.specs.FileOpening.{CountsPages, OpensByHeader, ClosesHeld};
 ghost use Rattle.file_copying.specs.Parts.{joined_file, joined_answer, ClosesCounted};
 
-use file_header::Header;
 use io_state::Fault;
-use open_file::OpenFile;
+use open_file::{Header, OpenFile};
 use page_alloc::{PagedFile, Pager};
 use page_store::{Shelf, Store};
 use pages::PAGE_SIZE;

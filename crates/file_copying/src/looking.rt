@@ -5,9 +5,9 @@ ghost use Rattle.page_store.specs.ShelfState.{HasUnit};
 ghost use Rattle.file_copying.specs.Looking.{FindsSource, FindsNoTarget, IsHeaderWith};
 
 use crate::fault::CopyingFault;
-use file_header::Header;
+use open_file::Header;
 use page_store::Shelf;
-use shelf_file::{Look, look_at};
+use shelf_library::{Look, look_at};
 
 /// The header of the file that is to be copied, which has the key of this number.
 pub fn source_header<S: Shelf>(shelf: &mut S, unit: usize, key: u8) -> Result<Header, CopyingFault>

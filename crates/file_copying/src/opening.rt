@@ -1,17 +1,16 @@
 //! The file that has parts which were built.
 
 ghost use Rattle.std.specs.Prelude.{◌≡◌, ◌↔◌, IsTrue, All, length};
-ghost use Rattle.file_header.specs.Bounds.{AreTreeNumbers, AreLinksWithin};
+ghost use Rattle.open_file.specs.Bounds.{AreTreeNumbers, AreLinksWithin};
 ghost use Rattle.open_file.specs.Stands.{IsShaped};
 ghost use Rattle.open_file.specs.Fields.{alternates_of};
 ghost use Rattle.open_file.specs.Headers.{AreTrees};
 ghost use Rattle.file_copying.specs.Opening.{OpensParts, IsHeaderFor};
 
 use arrayvec::ArrayVec;
-use file_header::{Header, TreeNumbers};
 use io_state::Fault;
 use key_index::{AltIndex, PrimeIndex};
-use open_file::OpenFile;
+use open_file::{Header, OpenFile, TreeNumbers};
 use record_heap::Heap;
 
 /// The greatest stamp that can come next, which no record has.

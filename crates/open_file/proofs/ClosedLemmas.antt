@@ -11,9 +11,9 @@ use Rattle.record_layout.specs.declared.schema.KeyPart.{KeyPart}
 use Rattle.record_layout.specs.Schema.{Schema, IsSchema, IsKey, AreKeys, key_at, no_key, has_duplicates, value_of, prime_of}
 use Rattle.indexed_file.specs.File.{Row, File, stamp_of}
 use Rattle.indexed_file.specs.Sound.{is_file}
-use Rattle.file_header.specs.declared.header.Header.{Header}
-use Rattle.file_header.specs.declared.header.TreeNumbers.{TreeNumbers}
-use Rattle.file_header.specs.Bounds.{AreTreeNumbers, IsHeader}
+use Rattle.open_file.specs.declared.first_page.Header.{Header}
+use Rattle.open_file.specs.declared.first_page.TreeNumbers.{TreeNumbers}
+use Rattle.open_file.specs.Bounds.{AreTreeNumbers, IsHeader}
 use Rattle.pages.specs.PageMap.{PageMap}
 use Rattle.pages.specs.Owners.{AreApart}
 use Rattle.tree_node.specs.declared.shape.Shape.{Shape}

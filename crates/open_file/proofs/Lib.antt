@@ -1,3 +1,10 @@
+pub mod WriteLemmas
+pub mod KeyRowLemmas
+pub mod PageLemmas
+pub mod BoundsLemmas
+pub mod BackLemmas
+pub mod PageReadLemmas
+pub mod PageLengthLemmas
 pub mod OrderLemmas
 pub mod RowLemmas
 pub mod RepeatLemmas

@@ -6,7 +6,7 @@ use Rattle.byteorder.specs.Endian.{big_bytes}
 use Rattle.record_layout.specs.Schema.{key_at, value_of, prime_of}
 use Rattle.indexed_file.specs.File.{Row, File, stamp_of}
 use Rattle.indexed_file.specs.Sound.{is_file}
-use Rattle.file_header.specs.declared.header.Header.{Header}
+use Rattle.open_file.specs.declared.first_page.Header.{Header}
 use Rattle.pages.specs.PageMap.{PageMap}
 use Rattle.record_heap.specs.declared.shape.Place.{Place}
 use Rattle.open_file.specs.InOrder.{in_order}

@@ -5,7 +5,7 @@ use Rattle.std.specs.Prelude.{slice_range, Option, Some, None, IfSome}
 use Rattle.std.specs.List.{All, AllPairs}
 use Rattle.std.specs.Simd.{first_chunks}
 use Rattle.byteorder.specs.Endian.{big_number}
-use Rattle.file_header.specs.declared.header.Header.{Header}
+use Rattle.open_file.specs.declared.first_page.Header.{Header}
 use Rattle.pages.specs.PageMap.{PageMap}
 use Rattle.tree_node.specs.Order.{less}
 

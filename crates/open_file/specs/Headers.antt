@@ -2,8 +2,8 @@
 use Rattle.std.specs.Prelude.{◌≡◌, ℕ, ◌+◌, ◌<◌, List, ◌∷◌, map, length, slice_index_or, IsFalse, None}
 use Rattle.record_layout.specs.Schema.{key_at}
 use Rattle.indexed_file.specs.File.{File}
-use Rattle.file_header.specs.declared.header.Header.{Header}
-use Rattle.file_header.specs.declared.header.TreeNumbers.{TreeNumbers}
+use Rattle.open_file.specs.declared.first_page.Header.{Header}
+use Rattle.open_file.specs.declared.first_page.TreeNumbers.{TreeNumbers}
 use Rattle.pages.specs.PageMap.{PageMap}
 use Rattle.bplus_tree.specs.declared.tree.Tree.{Tree}
 use Rattle.bplus_tree.specs.Fields.{tree_root, tree_levels, tree_count}

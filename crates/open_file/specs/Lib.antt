@@ -1,3 +1,8 @@
+pub mod FirstPage
+pub mod Bounds
+pub mod BoundTests
+pub mod FirstPageReading
+pub mod FirstPageLaws
 pub mod Fields
 pub mod InOrder
 pub mod Stored

@@ -1,14 +1,14 @@
 //! An open file from its header, and its header.
 
 ghost use Rattle.std.specs.Prelude.{◌≡◌, ◌+◌, length};
-ghost use Rattle.file_header.specs.Bounds.{IsHeader};
+ghost use Rattle.open_file.specs.Bounds.{IsHeader};
 ghost use Rattle.open_file.specs.Stands.{IsShaped};
 ghost use Rattle.open_file.specs.Headers.{IsHeaderOf, Counts, IsOpenedBy, AreStored, AreTrees, is_read_back};
 
 use crate::creating::heap_shape;
+use crate::first_page::{Header, TreeNumbers};
 use crate::open_file::OpenFile;
 use arrayvec::ArrayVec;
-use file_header::{Header, TreeNumbers};
 use key_index::{AltIndex, PrimeIndex};
 use record_heap::{Heap, Place};
 

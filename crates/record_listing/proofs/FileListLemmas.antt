@@ -3,7 +3,7 @@ use Rattle.std.proofs.Common.{◌≡◌, ℕ, List, [], Option, Some, Result, Ok
 use Rattle.record_layout.specs.Schema.{Schema}
 use Rattle.indexed_file.specs.File.{File}
 use Rattle.indexed_file.specs.World.{World, Named, Closed, named_in}
-use Rattle.shelf_file.specs.ClosedFile.{AreClosed}
+use Rattle.shelf_library.specs.ClosedFile.{AreClosed}
 use Rattle.shelf_library.specs.Truth.{IsShownTruly}
 use Rattle.shelf_library.specs.Units.{world_of}
 use Rattle.shelf_library.specs.declared.held.Held.{Held}

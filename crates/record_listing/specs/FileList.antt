@@ -5,7 +5,7 @@ use Rattle.indexed_file.specs.File.{File}
 use Rattle.indexed_file.specs.World.{Closed}
 use Rattle.page_store.specs.DeviceFile.{DeviceFile}
 use Rattle.page_store.specs.ShelfState.{ShelfState}
-use Rattle.shelf_file.specs.ClosedFile.{AreClosed}
+use Rattle.shelf_library.specs.ClosedFile.{AreClosed}
 use Rattle.shelf_run.specs.Files.{Represents}
 use Rattle.file_checker.specs.Sound.{IsRight}
 use Rattle.file_checker.specs.declared.verdict.Verdict.TheVariants.{Unsound as IsRefused}

@@ -12,3 +12,5 @@ mod PlaceLemmas
 mod UsualLemmas
 mod MistakeLemmas
 mod ReadingLemmas
+mod LineWrittenLemmas
+pub mod KeptLemmas

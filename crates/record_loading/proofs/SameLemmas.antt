@@ -7,7 +7,7 @@ use Rattle.page_store.specs.DeviceFile.{DeviceFile}
 use Rattle.page_store.specs.Moments.{Throughout}
 use Rattle.page_store.specs.ShelfState.{ShelfState}
 use Rattle.page_store.proofs.MomentLemmas.{throughout_none}
-use Rattle.shelf_file.specs.Named.{named_of}
+use Rattle.shelf_library.specs.Named.{named_of}
 use Rattle.shelf_library.specs.Crashes.{IsSoundImage, MayReadAs}
 use Rattle.shelf_library.specs.MomentLaws.{EachRead}
 use Rattle.shelf_run.specs.Soundness.{AllSound}

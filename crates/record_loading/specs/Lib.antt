@@ -8,3 +8,5 @@ pub mod Replacing
 pub mod Told
 pub mod MistakeLine
 pub mod LineForm
+pub mod Kept
+pub mod KeptLoad

@@ -1,7 +1,7 @@
 //! The words of an entry, each of which ends with its period.
 
 use crate::reading::{Reading, says, says_one_of};
-use deck_words::{ItemPlace, WordPlace};
+use deck_parser::{ItemPlace, WordPlace};
 
 impl<'a> Reading<'a> {
     /// Whether a word is this one, in capitals or small letters.

@@ -4,8 +4,7 @@ use deck_entries::{
     Described, Divisions, Entries, RecordLength, Selected, StorageItem, read_divisions,
     read_file_control,
 };
-use deck_parser::Parser;
-use deck_words::{WordPlace, words};
+use deck_parser::{Parser, WordPlace, words};
 use std::alloc::{AllocError, Global};
 
 /// What stands before the procedure of a deck: all of it, where that was read; or the SELECT

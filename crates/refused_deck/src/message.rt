@@ -1,7 +1,7 @@
 //! What is told of a refused deck.
 ghost use Rattle.std.specs.Prelude.{◌≡◌, IfOk, string_bytes};
 
-use deck_words::WordPlace;
+use deck_parser::WordPlace;
 use std::alloc::{AllocError, Global};
 
 /// What is told: of which bytes of the deck, why, and further lines.

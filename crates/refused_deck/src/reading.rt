@@ -4,8 +4,7 @@ use crate::known::{Among, Known};
 use crate::message::{Message, Told};
 use crate::near::is_near;
 use crate::shown::Shown;
-use deck_parser::Parser;
-use deck_words::{NameOf, WordPlace, words};
+use deck_parser::{NameOf, Parser, WordPlace, words};
 use io_state::Name;
 use std::alloc::{AllocError, Global};
 

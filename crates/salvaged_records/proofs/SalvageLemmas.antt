@@ -6,8 +6,8 @@ use Rattle.record_text.specs.declared.form.Form.{Form}
 use Rattle.record_listing.specs.declared.asked.Asked.{Asked}
 use Rattle.file_checker.specs.Sound.{IsSound}
 use Rattle.file_checker.proofs.HeldLemmas.{first_of_pages}
-use Rattle.file_header.specs.declared.header.Header.{Header}
-use Rattle.file_header.specs.FirstPage.{IsFirstPage}
+use Rattle.open_file.specs.declared.first_page.Header.{Header}
+use Rattle.open_file.specs.FirstPage.{IsFirstPage}
 use Rattle.page_store.specs.DeviceFile.{page_of_bytes}
 use Rattle.file_checker.specs.Bytes.{AreAllPages}
 use Rattle.record_listing.specs.FileList.{EndsWithIn}

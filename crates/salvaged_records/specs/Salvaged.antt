@@ -4,8 +4,8 @@ use Rattle.std.specs.Prelude.{Option, Some, None, Result, Ok, Err, ⊤}
 use Rattle.page_store.specs.DeviceFile.{page_of_bytes}
 use Rattle.record_heap.specs.declared.shape.Shape.{Shape}
 use Rattle.record_layout.specs.Schema.{Schema}
-use Rattle.file_header.specs.declared.header.Header.{Header}
-use Rattle.file_header.specs.FirstPage.{IsFirstPage}
+use Rattle.open_file.specs.declared.first_page.Header.{Header}
+use Rattle.open_file.specs.FirstPage.{IsFirstPage}
 use Rattle.file_checker.specs.Bytes.{AreAllPages}
 use Rattle.file_checker.specs.Sound.{IsRight, IsSound, IsUnsound}
 use Rattle.file_checker.specs.declared.verdict.Verdict.TheVariants.{Unsound as IsRefused}

@@ -2,7 +2,7 @@
 ghost use Rattle.std.specs.Prelude.{◌≡◌, ℕ, List, true, false, IfOk, IfSome, IsNone, OnOk};
 ghost use Rattle.file_checker.specs.Bytes.{AreAllPages};
 ghost use Rattle.file_checker.specs.Sound.{IsRight, IsSound};
-ghost use Rattle.file_header.specs.FirstPage.{IsFirstPage};
+ghost use Rattle.open_file.specs.FirstPage.{IsFirstPage};
 ghost use Rattle.page_store.specs.DeviceFile.{page_of_bytes};
 ghost use Rattle.salvaged_records.specs.Salvaged.{with_gate_closed, AreAllAsked, both_outputs, EndsWith};
 ghost use Rattle.salvaged_records.specs.Salvaged.{HasNoHeader, IsSalvageOf, IsSchemaFor, lead_by};
@@ -13,8 +13,8 @@ use crate::shape::shape_of;
 use crate::slot_lines::write_slots;
 use crate::sorting::{SortedOut, sort_out};
 use file_checker::{Reason, Verdict, check_bytes};
-use file_header::Header;
 use io_state::Key;
+use open_file::Header;
 use pages::PAGE_SIZE;
 use record_layout::Schema;
 use record_listing::{Asked, ListFault, list_sound};

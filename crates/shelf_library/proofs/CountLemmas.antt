@@ -9,7 +9,7 @@ use Rattle.shelf_library.proofs.StateLemmas.{is_within}
 use Rattle.shelf_library.proofs.LimitLemmas.{limits_set}
 use Rattle.std.proofs.lemmas.List.{get_or_default}
 use Rattle.indexed_file.specs.UnitCalls.{RestartsCount}
-use Rattle.shelf_file.specs.Standing.{recounted}
+use Rattle.shelf_library.specs.Standing.{recounted}
 use Rattle.shelf_library.proofs.WorldLemmas.{same_open}
 use Rattle.shelf_library.proofs.AsideLemmas.{rests, are_after, held_here, held_aside, world_same, truth_after, held_truly, images_aside}
 

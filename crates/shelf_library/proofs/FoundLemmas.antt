@@ -10,7 +10,7 @@ use Rattle.indexed_file.specs.Answers.{found_of, key_of_row, area_after}
 use Rattle.indexed_file.specs.UnitAnswers.{first_at, found_at, key_of_row_at, row_sought, highest_at}
 use Rattle.pages.specs.Answer.{IsAnswer}
 use Rattle.open_file.specs.Reading.{Delivers, FindsFirst, Seeks}
-use Rattle.shelf_file.specs.Calls.{ReadsOnShelf, on_shelf}
+use Rattle.shelf_library.specs.Calls.{ReadsOnShelf, on_shelf}
 use Rattle.indexed_file.specs.UnitCalls.{FindsRow}
 use Rattle.shelf_library.proofs.Terms.{Fault, BrokenUnit, Damage, Schema, File, empty_file, most_to_read, Holding, name_at, schema_at}
 use Rattle.shelf_library.proofs.Terms.{schema_in, Stands, is_broken_file, live_of, parts_of, room_in, schema_behind, ShelfFile, shown_by}

@@ -1,7 +1,7 @@
 -- A unit that was looked at.
 use Rattle.std.proofs.Common.{◌≡◌, ◌≢◌, inl, inr, ℕ, Bool, true, false, List, Option, Some, None, IsTrue, IsFalse, IfOk, IfErr, OnOk, OnErr, Result, Ok, Err, refl, sym, ap, subst, ◌∙◌}
 use Rattle.page_store.specs.ShelfState.{FaultHasCause}
-use Rattle.shelf_file.specs.Shelves.{HasHeader}
+use Rattle.shelf_library.specs.Shelves.{HasHeader}
 use Rattle.shelf_library.specs.Told.{held_by, seen_by, seen_after}
 use Rattle.shelf_library.proofs.Terms.{Fault, Damage, Device, Memory, looked_at, seen_of, MayFail, untouched, OpensUnit, Shut, holding_at}
 use Rattle.shelf_library.proofs.Terms.{is_broken, named_at, Seen, DeviceFile, ShelfState, unit_file, unit_name, Header, look_of, named_by}

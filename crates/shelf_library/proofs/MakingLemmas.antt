@@ -1,8 +1,8 @@
 -- A file that was made in the place of what a unit's name stood for.
 use Rattle.std.proofs.Common.{◌≡◌, ◌⊎◌, inl, inr, ℕ, true, false, List, IsTrue, IsFalse, IfOk, OnOk, OnErr, Result, Ok, Err, refl, sym, ap, subst, ◌∙◌}
 use Rattle.indexed_file.specs.UnitCalls.{IsNew}
-use Rattle.shelf_file.specs.Opening.{CountedShelf}
-use Rattle.shelf_file.specs.Shelves.{IsMade}
+use Rattle.shelf_library.specs.FileOpening.{CountedShelf}
+use Rattle.shelf_library.specs.Shelves.{IsMade}
 use Rattle.shelf_library.proofs.Terms.{Fault, Schema, empty_file, unfinished, OpensUnit, Named, HasOpened, Unsound, holding_at, is_open}
 use Rattle.shelf_library.proofs.Terms.{name_at, named_at, schema_at, refused_open, AllOpen, SameOrRefused, WasOrRefused, Throughout}
 use Rattle.shelf_library.proofs.Terms.{ShelfState, unit_file, unit_name, IsKeptOrRefused, reads_as, named_of, file_read_off, is_broken_file}

@@ -4,7 +4,7 @@ use Rattle.std.proofs.Common.{if◌then◌else◌}
 use Rattle.std.specs.Prelude.{slice_set}
 use Rattle.std.proofs.lemmas.List.{get_or_read}
 use Rattle.page_alloc.specs.Steps.{MayOpenGate}
-use Rattle.shelf_file.specs.Calls.{IsReadyToRead, IsReadyToSeek, IsReadyToWrite}
+use Rattle.shelf_library.specs.Calls.{IsReadyToRead, IsReadyToSeek, IsReadyToWrite}
 use Rattle.shelf_library.proofs.Terms.{Schema, File, Broken, HasOpened, holding_at, is_broken, is_open, schema_at, schema_in, Leaves}
 use Rattle.shelf_library.proofs.Terms.{ShelfState, unit_name, Ghosts, OnlyReadsFile, IsReady, file_read_off, is_broken_file, pages_behind}
 use Rattle.shelf_library.proofs.Terms.{schema_behind, ShelfFile, MovesAt, ReadsAt, held_at, holding_of, world_of, Held, Looked, Nothing}

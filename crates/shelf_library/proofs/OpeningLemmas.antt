@@ -4,7 +4,7 @@ use Rattle.std.proofs.Common.{◌∙◌, arith}
 use Rattle.std.specs.Prelude.{Option}
 use Rattle.indexed_file.specs.Room.{PageCounts}
 use Rattle.page_store.specs.ShelfState.{HasUnit}
-use Rattle.shelf_file.specs.Shelves.{IsOpened, HasAccepted}
+use Rattle.shelf_library.specs.Shelves.{IsOpened, HasAccepted}
 use Rattle.shelf_library.specs.Units.{counts_by}
 use Rattle.shelf_library.proofs.Terms.{Fault, Damage, Memory, Schema, MayFail, untouched, OpensUnit, Holding, Named, HasOpened, holding_at, is_open, content}
 use Rattle.shelf_library.proofs.Terms.{name_at, named_at, opened_from, schema_at, schema_in, DeviceFile, KeepsOthers, ShelfState, unit_file}
@@ -16,7 +16,7 @@ use Rattle.shelf_library.proofs.WorldLemmas.{same_open}
 use Rattle.shelf_library.proofs.AsideLemmas.{rests, are_after, held_here, holding_before, holding_after, named_before, named_after}
 use Rattle.shelf_library.proofs.AsideLemmas.{images_aside}
 use Rattle.shelf_library.proofs.UnitLemmas.{keeps_at, images_at}
-use Rattle.shelf_file.proofs.AcceptedLemmas.{accepted_looks, accepted_there, accepted_named}
+use Rattle.shelf_library.proofs.FileAcceptedLemmas.{accepted_looks, accepted_there, accepted_named}
 use Rattle.shelf_library.proofs.OpensLemmas.{nothing_fits, open_fits, open_holding, is_opened, opens_unit}
 
 -- only want of memory keeps a file from being opened

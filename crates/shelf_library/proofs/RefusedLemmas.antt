@@ -4,12 +4,12 @@ use Rattle.std.proofs.lemmas.Bool.{lt-ltb}
 use Rattle.shelf_library.proofs.Terms.{either, Unsound, throughout_none, throughout_weaker, refused_open, DeviceFile, AllOpen, Leaves}
 use Rattle.shelf_library.proofs.Terms.{page_of_bytes, look_of, named_by, named_of, Accepted, Refused, IsSoundImage, MayReadAs, EachRead}
 use Rattle.shelf_library.proofs.Terms.{each_read, found_now}
-use Rattle.file_header.specs.Reading.{header_in}
-use Rattle.file_header.proofs.ReadLemmas.{header_in_none}
+use Rattle.open_file.specs.FirstPageReading.{header_in}
+use Rattle.open_file.proofs.PageReadLemmas.{header_in_none}
 use Rattle.page_store.specs.Moments.{Quiet}
 use Rattle.page_store.proofs.OpenLemmas.{quiet_open}
 use Rattle.page_store.specs.Gate.{IsClosed, IsOpen, IsRefused}
-use Rattle.shelf_file.specs.Named.{look_by}
+use Rattle.shelf_library.specs.Named.{look_by}
 
 first_closed : (bytes : List ℕ) → IsClosed (page_of_bytes bytes 0) → IsClosed bytes
 first_closed [] closed = absurd closed

@@ -2,7 +2,7 @@
 use Rattle.std.proofs.Common.{◌≡◌, ℕ, ◌<◌, List, length, bytes_eq, IsTrue, Result, refl, ap, ◌∙◌, arith}
 use Rattle.std.specs.Prelude.{slice_set, replicate, vec_len}
 use Rattle.std.specs.List.{IsDistinct}
-use Rattle.shelf_file.specs.Opening.{LooksOnShelf, MakesOnShelf, OpensByHeader, ClosesOnShelf, CountedShelf, counted_shelf}
+use Rattle.shelf_library.specs.FileOpening.{LooksOnShelf, MakesOnShelf, OpensByHeader, ClosesOnShelf, CountedShelf, counted_shelf}
 use Rattle.shelf_library.proofs.Terms.{non_zero_usize_get, Fault, Schema, Leaves, unit_name, Ghosts, Header, Look, ShelfFile, Attaches}
 use Rattle.shelf_library.proofs.Terms.{ClosesUnitAt, LooksAt, MakesAt, OpensAt, LibraryState, held_at, held_after, held_open, world_of}
 use Rattle.shelf_library.proofs.Terms.{Held, Looked, Nothing, Opened, ShelfLibrary}

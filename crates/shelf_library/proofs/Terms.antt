@@ -31,23 +31,23 @@ pub use Rattle.page_store.specs.ShelfState.{KeepsOthers, ShelfState, unit_file, 
 pub use Rattle.page_store.specs.declared.shelf.Shelf.{Ghosts}
 pub use Rattle.page_alloc.specs.Joining.{FaultsRose, pages_counted, pages_free}
 pub use Rattle.page_alloc.specs.PagedFile.{IsKeptOrRefused, counts_of, is_begun, times_asked, unit_of_pages}
-pub use Rattle.file_header.specs.declared.header.Header.{Header}
+pub use Rattle.open_file.specs.declared.first_page.Header.{Header}
 pub use Rattle.open_file.proofs.ReadOffLemmas.{reads_as}
 pub use Rattle.open_file.specs.Faults.{IsCausedIn}
 pub use Rattle.open_file.specs.ReadOff.{file_off}
 pub use Rattle.open_file.specs.Stands.{Stands}
 pub use Rattle.open_file.specs.declared.open_file.OpenFile.{OpenFile}
-pub use Rattle.shelf_file.proofs.AcceptedLemmas.{reads_back}
-pub use Rattle.shelf_file.specs.Calls.{OnlyReadsFile}
-pub use Rattle.shelf_file.specs.ClosedFile.{StandsIn, AreClosed}
-pub use Rattle.shelf_file.specs.Named.{look_of, named_by, named_of}
-pub use Rattle.shelf_file.specs.Opening.{MayFailToMake}
-pub use Rattle.shelf_file.specs.Shelves.{ClosedFileOrRefused, Closes}
-pub use Rattle.shelf_file.specs.Standing.{HasLimits, IsReady, StandsFor, file_read_off, is_broken_file}
-pub use Rattle.shelf_file.specs.Standing.{live_of, pages_behind, parts_of, room_in, schema_behind}
-pub use Rattle.shelf_file.specs.declared.look.Look.{Look}
-pub use Rattle.shelf_file.specs.declared.look.Look.TheVariants.{Accepted, NoFile, Refused}
-pub use Rattle.shelf_file.specs.declared.shelf_file.ShelfFile.{ShelfFile}
+pub use Rattle.shelf_library.proofs.FileAcceptedLemmas.{reads_back}
+pub use Rattle.shelf_library.specs.Calls.{OnlyReadsFile}
+pub use Rattle.shelf_library.specs.ClosedFile.{StandsIn, AreClosed}
+pub use Rattle.shelf_library.specs.Named.{look_of, named_by, named_of}
+pub use Rattle.shelf_library.specs.FileOpening.{MayFailToMake}
+pub use Rattle.shelf_library.specs.Shelves.{ClosedFileOrRefused, Closes}
+pub use Rattle.shelf_library.specs.Standing.{HasLimits, IsReady, StandsFor, file_read_off, is_broken_file}
+pub use Rattle.shelf_library.specs.Standing.{live_of, pages_behind, parts_of, room_in, schema_behind}
+pub use Rattle.shelf_library.specs.declared.look.Look.{Look}
+pub use Rattle.shelf_library.specs.declared.look.Look.TheVariants.{Accepted, NoFile, Refused}
+pub use Rattle.shelf_library.specs.declared.shelf_file.ShelfFile.{ShelfFile}
 pub use Rattle.shelf_library.specs.Attaching.{Attaches}
 pub use Rattle.shelf_library.specs.Changing.{ChangesFile, MovesAt}
 pub use Rattle.shelf_library.specs.Closing.{ClosesUnitAt}

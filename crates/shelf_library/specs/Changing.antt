@@ -6,9 +6,9 @@ use Rattle.page_store.specs.Images.{Leaves}
 use Rattle.page_store.specs.ShelfState.{unit_file}
 use Rattle.page_alloc.specs.Steps.{MayOpenGate}
 use Rattle.indexed_file.specs.FileChange.{FileChange}
-use Rattle.shelf_file.specs.declared.shelf_file.ShelfFile.{ShelfFile}
-use Rattle.shelf_file.specs.Calls.{ChangesOnShelf, on_shelf}
-use Rattle.shelf_file.specs.Standing.{IsReady, pages_behind}
+use Rattle.shelf_library.specs.declared.shelf_file.ShelfFile.{ShelfFile}
+use Rattle.shelf_library.specs.Calls.{ChangesOnShelf, on_shelf}
+use Rattle.shelf_library.specs.Standing.{IsReady, pages_behind}
 use Rattle.shelf_library.specs.State.{LibraryState, held_at}
 use Rattle.shelf_library.specs.OneUnit.{AreUnits}
 use Rattle.shelf_library.specs.declared.held.Held.TheVariants.{Opened}

@@ -3,8 +3,8 @@ use Rattle.std.specs.Prelude.{◌≡◌, ℕ, ◌<◌, length, slice_set, Result
 use Rattle.io_state.specs.declared.fault.Fault.{Fault}
 use Rattle.page_store.specs.Images.{Leaves}
 use Rattle.page_store.specs.ShelfState.{unit_file}
-use Rattle.shelf_file.specs.declared.shelf_file.ShelfFile.{ShelfFile}
-use Rattle.shelf_file.specs.Opening.{ClosesOnShelf, counted_shelf}
+use Rattle.shelf_library.specs.declared.shelf_file.ShelfFile.{ShelfFile}
+use Rattle.shelf_library.specs.FileOpening.{ClosesOnShelf, counted_shelf}
 use Rattle.shelf_library.specs.State.{LibraryState, held_at}
 use Rattle.shelf_library.specs.OneUnit.{AreUnits}
 use Rattle.shelf_library.specs.declared.held.Held.TheVariants.{Nothing, Opened}

@@ -7,10 +7,10 @@ use Rattle.page_store.specs.DeviceFile.{DeviceFile, bytes_or_none}
 use Rattle.page_store.specs.Images.{durable, MayLeave}
 use Rattle.page_store.specs.Moments.{Throughout}
 use Rattle.page_store.specs.ShelfState.{ShelfState}
-use Rattle.file_header.specs.declared.header.Header.{Header}
-use Rattle.shelf_file.specs.declared.look.Look.TheVariants.{Accepted}
-use Rattle.shelf_file.specs.ClosedFile.{StandsIn}
-use Rattle.shelf_file.specs.Named.{look_of, named_of}
+use Rattle.open_file.specs.declared.first_page.Header.{Header}
+use Rattle.shelf_library.specs.declared.look.Look.TheVariants.{Accepted}
+use Rattle.shelf_library.specs.ClosedFile.{StandsIn}
+use Rattle.shelf_library.specs.Named.{look_of, named_of}
 
 -- there is no file, or its first page is refused, as that of a file whose gate is open; or its gate
 -- is closed, and it stands for rows

@@ -15,13 +15,13 @@ use Rattle.page_store.specs.DeviceFile.{DeviceFile, content}
 use Rattle.page_store.specs.ShelfState.{ShelfState, unit_name, unit_file}
 use Rattle.page_alloc.specs.Joining.{available_of, pages_counted, pages_free}
 use Rattle.page_alloc.specs.PagedFile.{counts_of}
-use Rattle.file_header.specs.declared.header.Header.{Header}
-use Rattle.shelf_file.specs.declared.look.Look.{Look}
-use Rattle.shelf_file.specs.declared.look.Look.TheVariants.{NoFile, Refused, Accepted}
-use Rattle.shelf_file.specs.declared.shelf_file.ShelfFile.{ShelfFile}
-use Rattle.shelf_file.specs.Named.{look_of, named_of, named_by}
-use Rattle.shelf_file.specs.Standing.{file_read_off, live_of, room_in}
-use Rattle.shelf_file.specs.Standing.{is_broken_file, pages_behind, parts_of, schema_behind}
+use Rattle.open_file.specs.declared.first_page.Header.{Header}
+use Rattle.shelf_library.specs.declared.look.Look.{Look}
+use Rattle.shelf_library.specs.declared.look.Look.TheVariants.{NoFile, Refused, Accepted}
+use Rattle.shelf_library.specs.declared.shelf_file.ShelfFile.{ShelfFile}
+use Rattle.shelf_library.specs.Named.{look_of, named_of, named_by}
+use Rattle.shelf_library.specs.Standing.{file_read_off, live_of, room_in}
+use Rattle.shelf_library.specs.Standing.{is_broken_file, pages_behind, parts_of, schema_behind}
 use Rattle.shelf_library.specs.State.{held_at, AreReady, AreLimited}
 use Rattle.shelf_library.specs.Units.{world_of, units_of, holding_of, room_of_held, counts_of_held}
 use Rattle.shelf_library.specs.Units.{frames_of_held, pages_asked_of}
@@ -29,7 +29,7 @@ use Rattle.shelf_library.specs.Truth.{IsShownTruly, IsTrulyClosed}
 use Rattle.shelf_library.specs.WorldLaws.{named_anywhere, name_now, holding_now, named_now, units_long}
 use Rattle.open_file.proofs.ReadOffLemmas.{reads_as}
 use Rattle.open_file.proofs.FilledLemmas.{filled}
-use Rattle.shelf_file.proofs.AcceptedLemmas.{reads_back, accepted_there, accepted_named}
+use Rattle.shelf_library.proofs.FileAcceptedLemmas.{reads_back, accepted_there, accepted_named}
 use Rattle.shelf_library.specs.declared.held.Held.{Held}
 use Rattle.shelf_library.specs.declared.held.Held.TheVariants.{Nothing, Looked, Opened}
 

@@ -1,3 +1,10 @@
+pub mod Standing
+pub mod Calls
+pub mod ReadOff
+pub mod ClosedFile
+pub mod Named
+pub mod Shelves
+pub mod FileOpening
 pub mod State
 pub mod Units
 pub mod Truth

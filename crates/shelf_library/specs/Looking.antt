@@ -1,8 +1,8 @@
 -- What a look leaves of a library.
 use Rattle.std.specs.Prelude.{◌≡◌, ℕ, ◌<◌, length, slice_set, Result}
 use Rattle.io_state.specs.declared.fault.Fault.{Fault}
-use Rattle.shelf_file.specs.declared.look.Look.{Look}
-use Rattle.shelf_file.specs.Opening.{LooksOnShelf, counted_shelf}
+use Rattle.shelf_library.specs.declared.look.Look.{Look}
+use Rattle.shelf_library.specs.FileOpening.{LooksOnShelf, counted_shelf}
 use Rattle.shelf_library.specs.State.{LibraryState}
 use Rattle.shelf_library.specs.Told.{held_after}
 use Rattle.shelf_library.specs.OneUnit.{AreUnits}

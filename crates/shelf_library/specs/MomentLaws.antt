@@ -11,7 +11,7 @@ use Rattle.page_store.specs.Moments.{AtEachMoment, Throughout}
 use Rattle.page_store.proofs.ImageLemmas.{durable_from-append}
 use Rattle.page_store.proofs.MomentLemmas.{throughout_then, throughout_last, throughout_none}
 use Rattle.page_store.proofs.MomentLemmas.{throughout_weaker}
-use Rattle.shelf_file.specs.Named.{named_of}
+use Rattle.shelf_library.specs.Named.{named_of}
 use Rattle.shelf_library.specs.Crashes.{IsSoundImage, MayBeFound, MayReadAs, moments_on}
 
 -- ---- what may be found at some moment

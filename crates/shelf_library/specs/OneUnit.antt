@@ -3,11 +3,11 @@
 use Rattle.std.specs.Prelude.{◌≡◌, ℕ, ◌<◌, List, length, slice_set, bytes_eq, IsFalse}
 use Rattle.std.specs.List.{IsDistinct}
 use Rattle.page_store.specs.ShelfState.{ShelfState, KeepsOthers, unit_file}
-use Rattle.file_header.specs.declared.header.Header.{Header}
-use Rattle.shelf_file.specs.declared.look.Look.TheVariants.{Accepted}
-use Rattle.shelf_file.specs.declared.shelf_file.ShelfFile.{ShelfFile}
-use Rattle.shelf_file.specs.Named.{look_of}
-use Rattle.shelf_file.specs.Standing.{is_broken_file}
+use Rattle.open_file.specs.declared.first_page.Header.{Header}
+use Rattle.shelf_library.specs.declared.look.Look.TheVariants.{Accepted}
+use Rattle.shelf_library.specs.declared.shelf_file.ShelfFile.{ShelfFile}
+use Rattle.shelf_library.specs.Named.{look_of}
+use Rattle.shelf_library.specs.Standing.{is_broken_file}
 use Rattle.shelf_library.specs.State.{AreLooked, AreReady, IsLooked, IsReadyAt}
 use Rattle.shelf_library.specs.Truth.{IsTrulyClosed, IsTrulyOpen}
 use Rattle.shelf_library.specs.declared.held.Held.{Held}

@@ -7,9 +7,9 @@ use Rattle.page_store.specs.Images.{Leaves}
 use Rattle.page_store.specs.Moments.{Quiet}
 use Rattle.page_store.specs.Gate.{AllOpen}
 use Rattle.page_store.specs.ShelfState.{unit_file}
-use Rattle.shelf_file.specs.declared.shelf_file.ShelfFile.{ShelfFile}
-use Rattle.shelf_file.specs.Calls.{OnlyReadsFile}
-use Rattle.shelf_file.specs.Standing.{StandsFor, schema_behind}
+use Rattle.shelf_library.specs.declared.shelf_file.ShelfFile.{ShelfFile}
+use Rattle.shelf_library.specs.Calls.{OnlyReadsFile}
+use Rattle.shelf_library.specs.Standing.{StandsFor, schema_behind}
 use Rattle.shelf_library.specs.State.{LibraryState, held_at}
 use Rattle.shelf_library.specs.Units.{world_of}
 use Rattle.shelf_library.specs.OneUnit.{AreUnits}

@@ -1,11 +1,11 @@
 -- A library over a shelf: its shelf, and what each unit holds.
 use Rattle.std.specs.Prelude.{◌≡◌, ℕ, List, slice_index_or, IsTrue}
 use Rattle.page_store.specs.ShelfState.{ShelfState}
-use Rattle.file_header.specs.declared.header.Header.{Header}
-use Rattle.file_header.specs.Bounds.{IsHeader}
-use Rattle.shelf_file.specs.declared.shelf_file.ShelfFile.{ShelfFile}
-use Rattle.shelf_file.specs.Standing.{IsReady, HasLimits, pages_behind}
-use Rattle.shelf_file.specs.Shelves.{HasAccepted}
+use Rattle.open_file.specs.declared.first_page.Header.{Header}
+use Rattle.open_file.specs.Bounds.{IsHeader}
+use Rattle.shelf_library.specs.declared.shelf_file.ShelfFile.{ShelfFile}
+use Rattle.shelf_library.specs.Standing.{IsReady, HasLimits, pages_behind}
+use Rattle.shelf_library.specs.Shelves.{HasAccepted}
 use Rattle.shelf_library.specs.declared.held.Held.{Held}
 use Rattle.shelf_library.specs.declared.held.Held.TheVariants.{Nothing, Looked, Opened}
 use Rattle.page_alloc.specs.PagedFile.{unit_of_pages}

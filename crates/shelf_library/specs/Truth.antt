@@ -3,12 +3,12 @@ use Rattle.std.specs.Prelude.{◌≡◌, ℕ, ◌<◌, List, length, false, IsFa
 use Rattle.indexed_file.specs.File.{File}
 use Rattle.page_store.specs.DeviceFile.{DeviceFile, content}
 use Rattle.page_store.specs.ShelfState.{ShelfState, unit_name}
-use Rattle.file_header.specs.declared.header.Header.{Header}
-use Rattle.shelf_file.specs.declared.look.Look.TheVariants.{Accepted}
-use Rattle.shelf_file.specs.declared.shelf_file.ShelfFile.{ShelfFile}
-use Rattle.shelf_file.specs.ClosedFile.{StandsIn, AreClosed}
-use Rattle.shelf_file.specs.Named.{look_of}
-use Rattle.shelf_file.specs.Standing.{StandsFor, is_broken_file, pages_behind, schema_behind}
+use Rattle.open_file.specs.declared.first_page.Header.{Header}
+use Rattle.shelf_library.specs.declared.look.Look.TheVariants.{Accepted}
+use Rattle.shelf_library.specs.declared.shelf_file.ShelfFile.{ShelfFile}
+use Rattle.shelf_library.specs.ClosedFile.{StandsIn, AreClosed}
+use Rattle.shelf_library.specs.Named.{look_of}
+use Rattle.shelf_library.specs.Standing.{StandsFor, is_broken_file, pages_behind, schema_behind}
 use Rattle.shelf_library.specs.State.{held_at}
 use Rattle.shelf_library.specs.declared.held.Held.{Held}
 use Rattle.shelf_library.specs.declared.held.Held.TheVariants.{Opened}

@@ -9,10 +9,10 @@ use Rattle.page_store.specs.ShelfState.{ShelfState}
 use Rattle.page_alloc.specs.declared.pager.Pager.{Pager}
 use Rattle.page_alloc.specs.PagedFile.{counts_of, most_held, times_asked}
 use Rattle.page_alloc.specs.Joining.{pages_counted, pages_free}
-use Rattle.shelf_file.specs.declared.look.Look.{Look}
-use Rattle.shelf_file.specs.declared.look.Look.TheVariants.{NoFile, Refused, Accepted}
-use Rattle.shelf_file.specs.Named.{look_of, named_of}
-use Rattle.shelf_file.specs.Standing.{file_read_off, room_in, is_broken_file, pages_behind, schema_behind}
+use Rattle.shelf_library.specs.declared.look.Look.{Look}
+use Rattle.shelf_library.specs.declared.look.Look.TheVariants.{NoFile, Refused, Accepted}
+use Rattle.shelf_library.specs.Named.{look_of, named_of}
+use Rattle.shelf_library.specs.Standing.{file_read_off, room_in, is_broken_file, pages_behind, schema_behind}
 use Rattle.shelf_library.specs.declared.held.Held.{Held}
 use Rattle.shelf_library.specs.declared.held.Held.TheVariants.{Nothing, Looked, Opened}
 

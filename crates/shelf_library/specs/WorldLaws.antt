@@ -8,7 +8,7 @@ use Rattle.indexed_file.proofs.TestLemmas.{either}
 use Rattle.indexed_file.specs.World.{FileUnit, Named, Absent, Shut, name_in, named_in, unit_at}
 use Rattle.indexed_file.specs.World.{holding_at, named_at, name_at}
 use Rattle.page_store.specs.ShelfState.{ShelfState, unit_name, unit_file}
-use Rattle.shelf_file.specs.Named.{named_of}
+use Rattle.shelf_library.specs.Named.{named_of}
 use Rattle.shelf_library.specs.State.{held_at}
 use Rattle.shelf_library.specs.Units.{unit_of, units_of, holding_of, elsewhere_of, world_of}
 use Rattle.shelf_library.specs.declared.held.Held.{Held}

@@ -1,7 +1,7 @@
 //! What a unit holds.
 
-use file_header::Header;
-use shelf_file::ShelfFile;
+use crate::shelf_file::ShelfFile;
+use open_file::Header;
 
 /// Nothing; the header that a look has accepted; or a file that is open.
 #[derive(Drop)]

@@ -14,12 +14,13 @@ ghost use Rattle.shelf_library.specs.Units.{room_of_held};
 ghost use Rattle.shelf_library.specs.Told.{held_after, seen_after, held_open, answer_open};
 
 use crate::held::Held;
+use crate::look::{Look, look_at};
+use crate::shelf_file::ShelfFile;
 use indexed_file::{Added, Found, GrowingLibrary, Library, Replaced, Seen};
 use io_state::{Fault, FileName, Key, Position, Relation};
 use open_file::OpenFile;
 use page_store::{GrowingShelf, Shelf};
 use record_layout::Schema;
-use shelf_file::{Look, ShelfFile, look_at};
 use std::alloc::Global;
 use std::mem;
 use std::num::NonZeroUsize;

@@ -7,7 +7,7 @@ use Rattle.page_store.proofs.MomentLemmas.{throughout_none}
 use Rattle.file_control.specs.Description.{file_names}
 use Rattle.deck_reader.specs.declared.deck.Deck.{Deck}
 use Rattle.deck_reader.specs.Deck.{IsDeck}
-use Rattle.shelf_file.specs.Named.{named_of}
+use Rattle.shelf_library.specs.Named.{named_of}
 use Rattle.shelf_library.specs.MomentLaws.{found_such}
 use Rattle.shelf_library.specs.Crashes.{IsSoundImage}
 use Rattle.shelf_run.specs.Files.{reads_of}

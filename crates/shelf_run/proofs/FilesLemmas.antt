@@ -5,17 +5,17 @@ use Rattle.indexed_file.specs.File.{File}
 use Rattle.indexed_file.specs.World.{Named, Absent, Closed, Unsound, named_in}
 use Rattle.indexed_file.proofs.TestLemmas.{either}
 use Rattle.record_layout.specs.Schema.{Schema}
-use Rattle.file_header.specs.Reading.{header_in}
+use Rattle.open_file.specs.FirstPageReading.{header_in}
 use Rattle.page_store.specs.DeviceFile.{page_of_bytes, DeviceFile, bytes_or_none}
 use Rattle.page_store.specs.ShelfState.{ShelfState}
 use Rattle.file_control.specs.Description.{file_names}
 use Rattle.deck_reader.specs.declared.deck.Deck.{Deck}
-use Rattle.file_header.specs.declared.header.Header.{Header}
-use Rattle.shelf_file.specs.declared.look.Look.{Look}
-use Rattle.shelf_file.specs.declared.look.Look.TheVariants.{NoFile, Refused, Accepted}
-use Rattle.shelf_file.specs.ClosedFile.{IsAcceptedBy, StandsIn}
-use Rattle.shelf_file.specs.Named.{look_of, look_by, named_of, named_by}
-use Rattle.shelf_file.proofs.AcceptedLemmas.{looks_accepted, accepted_looks, reads_back, named_by_header}
+use Rattle.open_file.specs.declared.first_page.Header.{Header}
+use Rattle.shelf_library.specs.declared.look.Look.{Look}
+use Rattle.shelf_library.specs.declared.look.Look.TheVariants.{NoFile, Refused, Accepted}
+use Rattle.shelf_library.specs.ClosedFile.{IsAcceptedBy, StandsIn}
+use Rattle.shelf_library.specs.Named.{look_of, look_by, named_of, named_by}
+use Rattle.shelf_library.proofs.FileAcceptedLemmas.{looks_accepted, accepted_looks, reads_back, named_by_header}
 use Rattle.shelf_library.specs.Truth.{IsShownTruly, IsTrulyClosed}
 use Rattle.shelf_library.specs.Units.{world_of}
 use Rattle.shelf_library.specs.WorldLaws.{named_anywhere}

@@ -9,3 +9,5 @@ pub mod NightCases
 pub mod NightRowLemmas
 pub mod NightsByRowsLemmas
 pub mod PointLemmas
+pub mod NamedElsewhere
+pub mod SessionLemmas

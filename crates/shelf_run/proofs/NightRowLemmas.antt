@@ -20,7 +20,7 @@ use Rattle.deck_runner.specs.NoFalseFile.{Ledger, first_ledger, AreWithinLedgers
 use Rattle.deck_runner.specs.Steps.{AreStepsOf, AreStepsInPart, IsRunOf, IsRunInPart, until_stop, closes_from}
 use Rattle.deck_runner.specs.Stretches.{name_by, trace_by}
 use Rattle.deck_runner.proofs.FalseFileLaws.{behind_stretch}
-use Rattle.shelf_file.specs.Named.{named_of}
+use Rattle.shelf_library.specs.Named.{named_of}
 use Rattle.shelf_library.specs.Crashes.{IsSoundImage, MayBeFound, moments_on}
 use Rattle.shelf_library.specs.MomentLaws.{found_such, each_read, joins, ends}
 use Rattle.shelf_library.specs.State.{LibraryState}

@@ -4,8 +4,8 @@ use Rattle.indexed_file.specs.World.{World, Named, Absent, Closed, Unsound, name
 use Rattle.page_store.specs.ShelfState.{ShelfState}
 use Rattle.file_control.specs.Description.{file_names}
 use Rattle.deck_reader.specs.declared.deck.Deck.{Deck}
-use Rattle.file_header.specs.declared.header.Header.{Header}
-use Rattle.shelf_file.specs.ClosedFile.{IsAcceptedBy, AreClosed}
+use Rattle.open_file.specs.declared.first_page.Header.{Header}
+use Rattle.shelf_library.specs.ClosedFile.{IsAcceptedBy, AreClosed}
 
 -- what a read gives of the file of each name
 abbrev pub FileReads : Type 0

@@ -6,3 +6,4 @@ pub mod NightPoints
 pub mod NightRows
 pub mod Soundness
 pub mod ExactRun
+pub mod SessionOnShelf

@@ -7,7 +7,7 @@ use Rattle.page_store.specs.Moments.{Throughout}
 use Rattle.page_store.specs.ShelfState.{ShelfState}
 use Rattle.file_control.specs.Description.{file_names}
 use Rattle.deck_reader.specs.declared.deck.Deck.{Deck}
-use Rattle.shelf_file.specs.Named.{named_of}
+use Rattle.shelf_library.specs.Named.{named_of}
 use Rattle.shelf_library.specs.Crashes.{IsSoundImage}
 
 -- what each name reads as, whether or not its file represents it

@@ -5,3 +5,8 @@ pub mod Writes
 pub mod LinesIn
 pub mod LineEnds
 pub mod FaultLines
+pub mod Characters
+pub mod Escapes
+pub mod InUtf8
+pub mod InAscii
+pub mod Laws

@@ -2,9 +2,9 @@
 
 use crate::checks::{assert_equal, assert_equal_for, assert_that};
 use command_line::program;
-use command_outcomes::Fault;
+use command_support::Fault;
 use folder_shelf::{CallRecord, EmptyDisk, RecordedSystem};
-use rejected_lines::RejectedLines;
+use record_loading::RejectedLines;
 use std::fs;
 use std::io::{self, BufReader, Empty, ErrorKind, Write};
 use std::os::fd::AsRawFd;

@@ -1,7 +1,7 @@
 //! Files of numbered records, and their bytes.
 
 ghost use Rattle.memory_shelf.specs.MemShelves.{mem_state_of};
-ghost use Rattle.shelf_file.specs.Standing.{IsReady};
+ghost use Rattle.shelf_library.specs.Standing.{IsReady};
 
 use crate::checks::assert_equal_for;
 use byteorder::{BigEndian, ByteOrder};
@@ -10,7 +10,7 @@ use io_state::{FileName, Key};
 use memory_shelf::MemShelf;
 use page_store::Shelf;
 use record_layout::{KeyKind, KeyPart, Schema};
-use shelf_file::ShelfFile;
+use shelf_library::ShelfFile;
 use std::alloc::Global;
 use std::num::NonZeroUsize;
 use std::process::Abort;

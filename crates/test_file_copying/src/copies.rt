@@ -1,6 +1,6 @@
 //! Files that are copied from one shelf to another.
 
-ghost use Rattle.shelf_file.specs.Standing.{IsReady};
+ghost use Rattle.shelf_library.specs.Standing.{IsReady};
 
 use crate::checks::{assert_equal, assert_equal_for};
 use file_copying::{Copied, CopyingFault, copy_closed};
@@ -9,7 +9,7 @@ use io_state::{Fault, FileName};
 use memory_shelf::MemShelf;
 use page_store::Shelf;
 use record_layout::{KeyKind, KeyPart, Schema};
-use shelf_file::{Look, ShelfFile, look_at};
+use shelf_library::{Look, ShelfFile, look_at};
 use std::alloc::Global;
 use std::num::NonZeroUsize;
 use std::process::Abort;

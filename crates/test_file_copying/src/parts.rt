@@ -6,7 +6,7 @@ use io_state::FileName;
 use memory_shelf::MemShelf;
 use page_store::Shelf;
 use record_layout::{KeyKind, KeyPart, Schema};
-use shelf_file::{Look, ShelfFile, look_at};
+use shelf_library::{Look, ShelfFile, look_at};
 use std::alloc::Global;
 use std::num::NonZeroUsize;
 use std::process::Abort;

@@ -1,7 +1,7 @@
 //! The first pages of two files, byte for byte, and what one changed byte does.
 
 use crate::checks::{assert_equal, assert_equal_for};
-use file_header::{Header, TreeNumbers};
+use open_file::{Header, TreeNumbers};
 use pages::PAGE_SIZE;
 use record_layout::{KeyKind, KeyPart, Schema};
 use std::process::Abort;

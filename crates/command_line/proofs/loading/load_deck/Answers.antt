@@ -2,12 +2,12 @@ use Rattle.std.proofs.Common.{◌≡◌, ℕ, List, [], find, Some, Ok, Err, str
 use Rattle.std.proofs.Common.{Result}
 use Rattle.std.proofs.lemmas.Result.{IfErr-at_err}
 use Rattle.record_loading.specs.declared.shelf_end.ShelfEnd.{ShelfEnd}
-use Rattle.command_outcomes.specs.declared.fault.Fault.{Fault}
+use Rattle.command_support.specs.declared.fault.Fault.{Fault}
 use Rattle.file_control.specs.Description.{FileDesc}
 use Rattle.record_layout.specs.Schema.{Schema}
 use Rattle.folder_shelf.specs.SystemState.{file_path}
 use Rattle.record_loading.specs.declared.end.Load.{Load}
-use Rattle.command_inputs.specs.DeckFile.{is_named_in_deck, IsFileOf}
+use Rattle.command_support.specs.DeckFile.{is_named_in_deck, IsFileOf}
 use Rattle.command_line.specs.LoadForm.{form_word}
 use Rattle.command_line.proofs.LoadFormLemmas.{laid_in, form_is_whole}
 use Rattle.command_line.proofs.LoadingLemmas.{told_fault, told_or_output, deck_fault, untouched_unless}

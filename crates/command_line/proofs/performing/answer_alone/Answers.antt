@@ -2,13 +2,13 @@ use Rattle.std.proofs.Common.{List, Bor, option_map, refl, subst, sym, inl, inr}
 use Rattle.clap.specs.Words.{Text}
 use Rattle.command_words.specs.Asks.{Ask, AskCheck, AskList, form_text}
 use Rattle.folder_shelf.proofs.ReadingLemmas.{by_none}
-use Rattle.command_inputs.specs.Conditions.{texts_of}
+use Rattle.command_support.specs.Conditions.{texts_of}
 use Rattle.file_commands.specs.Verdicts.{paths_of}
 use Rattle.command_line.proofs.CallsMadeLemmas.{reads_alone, reads_aside}
 use Rattle.command_line.proofs.DidLemmas.{for_schema, for_salvage, for_records, for_load, did_list, did_schema, did_help, did_explain, did_check, did_count, did_salvage, did_deck, served_did}
 use Rattle.command_line.proofs.RightLemmas.{right_help, right_explained, right_check, right_count, right_salvage, right_listed, right_cobol, right_schema, right_list}
 use Rattle.command_line.proofs.CameLemmas.{run_did, run_came, serve_came, load_did, load_came}
-use Rattle.command_outcomes.specs.declared.outcome.Outcome.TheVariants.{Listed, InCobol}
+use Rattle.command_support.specs.declared.outcome.Outcome.TheVariants.{Listed, InCobol}
 use Rattle.std.specs.Prelude.{⊤}
 use Rattle.command_line.specs.CallsMade.{calls_made}
 use Rattle.command_line.proofs.performing.answer_alone.Goals as goal

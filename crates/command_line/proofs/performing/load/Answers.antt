@@ -3,7 +3,7 @@ use Rattle.command_line.specs.CallsMade.{calls_made}
 use Rattle.command_line.specs.Encoding.{encoding_word}
 use Rattle.command_line.specs.LoadForm.{form_word}
 use Rattle.command_line.specs.Loaded.{ComesOfLoad, BeginsLoad}
-use Rattle.command_inputs.specs.DeckFile.{IsDeckFault}
+use Rattle.command_support.specs.DeckFile.{IsDeckFault}
 use Rattle.command_line.proofs.LoadingLemmas.{load_of_deck}
 use Rattle.command_line.proofs.performing.load.Goals as goal
 

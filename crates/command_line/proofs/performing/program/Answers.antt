@@ -1,6 +1,6 @@
 use Rattle.std.proofs.Common.{◌≡◌, Bool, subst, sym}
 use Rattle.streams.specs.Writes.{taken_by}
-use Rattle.command_outcomes.specs.Status.{IsExitStatus}
+use Rattle.command_support.specs.Status.{IsExitStatus}
 use Rattle.command_line.specs.Answered.{status_heeding}
 use Rattle.command_line.proofs.StatusLemmas.{heeding_is, untouched_by}
 use Rattle.command_line.proofs.performing.program.Goals as goal

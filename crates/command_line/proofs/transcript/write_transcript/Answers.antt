@@ -8,8 +8,8 @@ use Rattle.shelf_run.specs.ShelfRun.{OnShelf, Runs, BreaksOff}
 use Rattle.shelf_run.specs.ExactRun.{IsExactRun}
 use Rattle.command_line.specs.Folder.{folder_at_first}
 use Rattle.command_line.proofs.PerformedLemmas.{run_fault}
-use Rattle.command_outcomes.specs.Told.{told_as}
-use Rattle.command_outcomes.proofs.ToldLemmas.{line_refused, no_deck}
+use Rattle.command_support.specs.Told.{told_as}
+use Rattle.command_support.proofs.ToldLemmas.{line_refused, no_deck}
 use Rattle.command_line.proofs.FolderLemmas.{untouched, left_from_first, sound_from_first}
 use Rattle.command_line.proofs.transcript.write_transcript.Goals as goal
 

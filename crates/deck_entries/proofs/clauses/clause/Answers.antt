@@ -2,7 +2,7 @@ use Rattle.std.proofs.Common.{◌≡◌, false, List, ◌∷◌, [], refl, sym, 
 use Rattle.std.specs.Prelude.{codes}
 use Rattle.deck_parser.specs.Class.{begins, this}
 use Rattle.deck_parser.specs.Notation.{the, ◌∣◌}
-use Rattle.deck_words.specs.Word.{Word}
+use Rattle.deck_parser.specs.Word.{Word}
 use Rattle.deck_entries.specs.declared.clauses.Clauses.{Clauses}
 use Rattle.deck_entries.specs.FileDescription.{label, block, record_clause, description_clause}
 use Rattle.deck_parser.proofs.EitherLemmas.{Alike, first, other, chained, alike}

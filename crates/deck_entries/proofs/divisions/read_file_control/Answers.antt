@@ -4,9 +4,9 @@ use Rattle.std.proofs.lemmas.Result.{err_from_is_err_and}
 use Rattle.deck_parser.specs.Rule.{Rule, optional, each_behind}
 use Rattle.deck_parser.specs.Notation.{the, name, period, ◌▸◌}
 use Rattle.deck_parser.specs.Reading.{Refuses, TellsStop}
-use Rattle.deck_words.specs.Word.{Word}
-use Rattle.deck_words.specs.declared.fault.Refusal.{Refusal}
-use Rattle.deck_words.specs.declared.fault.Refusal.TheVariants.{Memory, Fault}
+use Rattle.deck_parser.specs.Word.{Word}
+use Rattle.deck_parser.specs.declared.fault.Refusal.{Refusal}
+use Rattle.deck_parser.specs.declared.fault.Refusal.TheVariants.{Memory, Fault}
 use Rattle.deck_entries.specs.FileControlEntry.{FileControlEntry}
 use Rattle.deck_entries.specs.Divisions.{division_heading, more_entry, file_control_paragraph}
 use Rattle.deck_entries.proofs.divisions.read_file_control.Goals as goal

@@ -3,7 +3,7 @@ use Rattle.std.specs.Prelude.{codes}
 use Rattle.deck_parser.specs.Class.{begins, this}
 use Rattle.deck_parser.specs.Rule.{Rule}
 use Rattle.deck_parser.specs.Notation.{the, ◌∣◌}
-use Rattle.deck_words.specs.Word.{Word}
+use Rattle.deck_parser.specs.Word.{Word}
 use Rattle.deck_entries.specs.FileControlEntry.{Clauses, indexed, access, record_key, alternate, status, clause}
 use Rattle.deck_parser.proofs.EitherLemmas.{Alike, first, other, chained, alike}
 use Rattle.deck_entries.proofs.select.clause.Goals as goal

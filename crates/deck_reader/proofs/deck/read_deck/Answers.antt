@@ -1,9 +1,9 @@
 use Rattle.std.proofs.Common.{◌≡◌, ap, sym, subst}
 use Rattle.std.proofs.lemmas.Result.{err_from_is_err_and}
-use Rattle.deck_words.specs.Fault.{IsFault, told}
-use Rattle.deck_words.specs.declared.fault.DeckFault.{DeckFault}
-use Rattle.deck_words.specs.declared.fault.Refusal.{Refusal}
-use Rattle.deck_words.specs.declared.fault.Refusal.TheVariants.{Memory, Fault}
+use Rattle.deck_parser.specs.Fault.{IsFault, told}
+use Rattle.deck_parser.specs.declared.fault.DeckFault.{DeckFault}
+use Rattle.deck_parser.specs.declared.fault.Refusal.{Refusal}
+use Rattle.deck_parser.specs.declared.fault.Refusal.TheVariants.{Memory, Fault}
 use Rattle.deck_reader.specs.FirstFault.{IsFaultOfDeck}
 use Rattle.deck_reader.proofs.deck.read_deck.Goals as goal
 

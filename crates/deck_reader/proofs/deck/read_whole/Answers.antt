@@ -1,7 +1,7 @@
 use Rattle.std.proofs.Common.{refl, subst, inl, inr}
 use Rattle.std.proofs.lemmas.Result.{err_from_is_err_and, IfOk-weaker, IfErr-weaker}
-use Rattle.deck_words.specs.Fault.{IsFault}
-use Rattle.deck_words.proofs.CutLemmas.{words_have_no_fault}
+use Rattle.deck_parser.specs.Fault.{IsFault}
+use Rattle.deck_parser.proofs.CutLemmas.{words_have_no_fault}
 use Rattle.deck_reader.specs.Deck.{Spells, IsDeck}
 use Rattle.deck_reader.specs.CanBeRun.{CanBeRun}
 use Rattle.deck_reader.proofs.deck.read_whole.Goals as goal

@@ -1,12 +1,12 @@
 use Rattle.std.proofs.Common.{◌≡◌, [], subst, sym, ap, List, Option, Some, None}
 use Rattle.std.proofs.lemmas.Result.{err_from_is_err_and}
 use Rattle.deck_parser.proofs.RuleLemmas.{nothing_spelled, not_all_spelled}
-use Rattle.deck_words.specs.Fault.{IsFault, told}
+use Rattle.deck_parser.specs.Fault.{IsFault, told}
 use Rattle.deck_parser.specs.Rule.{Stop, stop_at, stop_behind}
 use Rattle.deck_parser.specs.Reading.{Refuses, TellsStop}
-use Rattle.deck_words.specs.declared.fault.Refusal.{Refusal}
-use Rattle.deck_words.specs.declared.fault.Refusal.TheVariants.{Memory, Fault}
-use Rattle.deck_words.specs.Word.{Word}
+use Rattle.deck_parser.specs.declared.fault.Refusal.{Refusal}
+use Rattle.deck_parser.specs.declared.fault.Refusal.TheVariants.{Memory, Fault}
+use Rattle.deck_parser.specs.Word.{Word}
 use Rattle.deck_reader.specs.Names.{Names}
 use Rattle.deck_reader.specs.FirstFault.{procedure_stop, IsProcedureFault}
 use Rattle.deck_reader.specs.Procedure.{procedure, IsProcedure}

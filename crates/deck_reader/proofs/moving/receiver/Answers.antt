@@ -2,7 +2,7 @@ use Rattle.std.proofs.Common.{◌≡◌, ℕ, true, false, List, Option, Some, N
 use Rattle.std.specs.Prelude.{bytes_eq, position, option_and_then}
 use Rattle.std.specs.Option.{option_map}
 use Rattle.deck_parser.specs.Notation.{name}
-use Rattle.deck_words.specs.Word.{Word}
+use Rattle.deck_parser.specs.Word.{Word}
 use Rattle.record_layout.specs.Area.{sent, is_taken_by}
 use Rattle.record_layout.specs.declared.area.Source.{Source}
 use Rattle.deck_reader.specs.declared.statement.Statement.{Statement}
@@ -13,8 +13,8 @@ use Rattle.deck_reader.specs.Names.{Names, item_named}
 use Rattle.deck_reader.specs.StatementRules.{receiver}
 use Rattle.deck_reader.proofs.ProcedureLemmas.{moved_to}
 use Rattle.deck_parser.specs.Rule.{stop_at}
-use Rattle.deck_words.specs.declared.fault.Cause.TheVariants.{NotAllowed}
-use Rattle.deck_words.specs.declared.fault.NotAllowed.TheVariants.{Source as SourceRefused}
+use Rattle.deck_parser.specs.declared.fault.Cause.TheVariants.{NotAllowed}
+use Rattle.deck_parser.specs.declared.fault.NotAllowed.TheVariants.{Source as SourceRefused}
 use Rattle.deck_reader.proofs.JoinLemmas.{refused, told_there}
 use Rattle.deck_reader.proofs.moving.receiver.Goals as goal
 

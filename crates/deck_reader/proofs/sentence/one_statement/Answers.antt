@@ -3,7 +3,7 @@ use Rattle.std.specs.Prelude.{codes}
 use Rattle.deck_parser.specs.Class.{begins, this}
 use Rattle.deck_parser.specs.Rule.{Rule}
 use Rattle.deck_parser.specs.Notation.{◌∣◌}
-use Rattle.deck_words.specs.Word.{Word}
+use Rattle.deck_parser.specs.Word.{Word}
 use Rattle.deck_reader.specs.declared.statement.Statement.{Statement}
 use Rattle.deck_reader.specs.Names.{Names}
 use Rattle.deck_reader.specs.StatementRules.{read_statement, start_statement}

@@ -5,8 +5,8 @@ use Rattle.deck_parser.specs.Class.{begins, this}
 use Rattle.deck_parser.specs.Rule.{Rule, Stop}
 use Rattle.deck_parser.specs.Notation.{◌∣◌}
 use Rattle.deck_parser.specs.Reading.{Reads, TellsStop}
-use Rattle.deck_words.specs.Word.{Word}
-use Rattle.deck_words.specs.declared.fault.Refusal.{Refusal}
+use Rattle.deck_parser.specs.Word.{Word}
+use Rattle.deck_parser.specs.declared.fault.Refusal.{Refusal}
 use Rattle.deck_reader.specs.declared.placed.PlacedStatements.{PlacedStatements}
 use Rattle.deck_reader.specs.Names.{Names}
 use Rattle.deck_reader.specs.Reading.{AddsStatements}

@@ -2,7 +2,7 @@ use Rattle.std.proofs.Common.{◌*◌, ℕ, refl, ap, sym, subst, ◌∙◌}
 use Rattle.file_checker.specs.Bytes.{HasLess, HasGiven, HasGivenLess}
 use Rattle.file_checker.specs.Sound.{CheckGivesUp}
 use Rattle.file_checker.proofs.SoundLemmas.{no_verdict, is_short, is_long, no_header, first_byte, first_is, read_whole, read_less}
-use Rattle.file_header.specs.Reading.{header_in}
+use Rattle.open_file.specs.FirstPageReading.{header_in}
 use Rattle.file_checker.proofs.check.refusal.Goals as goal
 
 pub returns-then-not-branch : goal.returns-then-not-branch

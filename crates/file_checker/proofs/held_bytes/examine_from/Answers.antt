@@ -1,6 +1,6 @@
 use Rattle.std.proofs.Common.{◌<◌, ◌*◌, ℕ, length, inr, refl, sym, subst, arith}
 use Rattle.std.proofs.lemmas.Result.{IfOk-weaker}
-use Rattle.file_header.specs.FirstPage.{IsFirstPage}
+use Rattle.open_file.specs.FirstPage.{IsFirstPage}
 use Rattle.file_checker.specs.Sound.{IsRightFinding, IsRightOfPages, IsShort}
 use Rattle.file_checker.proofs.SoundLemmas.{unsound_by_length, counted_is}
 use Rattle.file_checker.proofs.HeldLemmas.{has_counted}

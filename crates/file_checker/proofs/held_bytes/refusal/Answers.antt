@@ -1,5 +1,5 @@
 use Rattle.std.proofs.Common.{◌≡◌, ◌≤◌, ◌<◌, ◌*◌, ℕ, List, length, inr, refl, sym, ap, subst, ◌∙◌, arith}
-use Rattle.file_header.specs.Reading.{header_in, number_in}
+use Rattle.open_file.specs.FirstPageReading.{header_in, number_in}
 use Rattle.file_checker.specs.Sound.{IsLong, IsShort, counted_in}
 use Rattle.file_checker.proofs.SoundLemmas.{unsound_by_header, unsound_by_length}
 use Rattle.file_checker.proofs.HeldLemmas.{first_of_page}

@@ -2,7 +2,7 @@ use Rattle.std.proofs.Common.{List, ◌++◌, ap, inl, inr}
 use Rattle.folder_shelf.specs.Calls.{Call}
 use Rattle.folder_shelf.proofs.ReadingLemmas.{by_none, by_same, by_both}
 use Rattle.command_words.specs.Asks.{form_text}
-use Rattle.command_inputs.proofs.FormLemmas.{form_not_read}
+use Rattle.command_support.proofs.FormLemmas.{form_not_read}
 use Rattle.file_commands.proofs.RecordsLemmas.{with_these}
 use Rattle.file_commands.proofs.by_index.read_start.Goals as goal
 

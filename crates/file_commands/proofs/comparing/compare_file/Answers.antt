@@ -1,6 +1,6 @@
 use Rattle.std.proofs.Common.{subst}
 use Rattle.folder_shelf.proofs.ReadingLemmas.{by_same}
-use Rattle.schema_listing.specs.Listing.{read_of_file}
+use Rattle.file_reports.specs.SchemaListing.{read_of_file}
 use Rattle.file_commands.specs.Schema.{ComparesAs}
 use Rattle.file_commands.proofs.SchemaLemmas.{file_told, file_not_read}
 use Rattle.file_commands.proofs.comparing.compare_file.Goals as goal

@@ -1,6 +1,6 @@
 use Rattle.std.proofs.Common.{[], refl, sym, subst}
 use Rattle.file_control.specs.Description.{FileDesc}
-use Rattle.command_inputs.specs.DeckFile.{IsDeckFault}
+use Rattle.command_support.specs.DeckFile.{IsDeckFault}
 use Rattle.folder_shelf.proofs.ReadingLemmas.{by_same, by_both}
 use Rattle.file_commands.specs.Schema.{ComesOfFile, IsOfComparison, ComparesFile}
 use Rattle.file_commands.proofs.SchemaLemmas.{compared_by, not_found}

@@ -1,6 +1,6 @@
 use Rattle.std.proofs.Common.{refl, subst}
 use Rattle.folder_shelf.proofs.ReadingLemmas.{by_same}
-use Rattle.file_statistics.specs.Listing.{EndsStatisticsWith}
+use Rattle.file_reports.specs.StatisticsListing.{EndsStatisticsWith}
 use Rattle.file_commands.proofs.counting.count_path.Goals as goal
 
 pub returns-in-Err : goal.returns-in-Err

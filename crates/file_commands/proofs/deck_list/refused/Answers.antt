@@ -1,6 +1,6 @@
 use Rattle.std.proofs.Common.{◌≡◌, subst}
 use Rattle.file_commands.specs.Listed.{IsDeckRefused}
-use Rattle.command_outcomes.specs.declared.fault.RefusedDeck.{RefusedDeck}
+use Rattle.command_support.specs.declared.fault.RefusedDeck.{RefusedDeck}
 use Rattle.file_commands.proofs.deck_list.refused.Goals as goal
 
 pub returns-in-Ok-clause-refused : goal.returns-in-Ok-clause-refused

@@ -1,7 +1,7 @@
 use Rattle.std.proofs.Common.{◌≡◌, List, ℕ, Some, None, IfOk, refl, subst}
 use Rattle.folder_shelf.specs.Calls.{taken_shared}
 use Rattle.folder_shelf.proofs.ReadingLemmas.{by_one}
-use Rattle.schema_listing.specs.Listing.{read_of_file}
+use Rattle.file_reports.specs.SchemaListing.{read_of_file}
 use Rattle.file_commands.specs.Differing.{differences_of_page}
 use Rattle.file_commands.proofs.DifferingLemmas.{given}
 use Rattle.file_commands.proofs.differing.differences_at.Goals as goal

@@ -1,7 +1,7 @@
 use Rattle.std.proofs.Common.{ap, sym, subst, ◌∙◌}
 use Rattle.file_control.specs.Description.{FileDesc}
 use Rattle.folder_shelf.proofs.ReadingLemmas.{by_same}
-use Rattle.command_inputs.specs.DeckFile.{IsDeckFault}
+use Rattle.command_support.specs.DeckFile.{IsDeckFault}
 use Rattle.file_commands.proofs.salvaging.schema_in.Goals as goal
 
 pub returns-in-Err : goal.returns-in-Err

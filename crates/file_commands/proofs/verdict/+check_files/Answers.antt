@@ -1,7 +1,7 @@
 use Rattle.std.proofs.Common.{rules, ◌≡◌, ℕ, List, [], ◌∷◌, ◌++◌, Bor, sym, subst}
 use Rattle.folder_shelf.proofs.ReadingLemmas.{by_none, by_same, by_both}
-use Rattle.command_outcomes.specs.declared.outcome.WorstCheck.{WorstCheck}
-use Rattle.command_outcomes.specs.declared.outcome.WorstCheck.TheVariants.{AllSound}
+use Rattle.command_support.specs.declared.outcome.WorstCheck.{WorstCheck}
+use Rattle.command_support.specs.declared.outcome.WorstCheck.TheVariants.{AllSound}
 use Rattle.file_commands.specs.Verdicts.{worse_of, paths_of, WritesVerdicts}
 use Rattle.file_commands.proofs.VerdictLemmas.{no_paths, none_checked, one_more}
 use Rattle.file_commands.proofs.verdict.+check_files.Goals as goal

@@ -2,7 +2,7 @@ use Rattle.std.proofs.Common.{◌∙◌, sym, subst, List, []}
 use Rattle.std.proofs.lemmas.Result.{err_from_is_err_and}
 use Rattle.deck_entries.specs.FileDescription.{StorageEntry}
 use Rattle.file_control.specs.Description.{AreItems, HaveDigits}
-use Rattle.deck_words.specs.Fault.{told}
+use Rattle.deck_parser.specs.Fault.{told}
 use Rattle.file_control.specs.FirstFault.{IsItemFault}
 use Rattle.file_control.proofs.FaultLemmas.{behind_files}
 use Rattle.file_control.proofs.FilesLemmas.{one_after}

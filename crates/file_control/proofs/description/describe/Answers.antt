@@ -1,11 +1,11 @@
 use Rattle.std.proofs.Common.{◌≡◌, ◌-◌, ◌∙◌, ◌∷◌, length, drop, ap, arith, sym, subst, List, [], Option, Some, None, inl, inr}
 use Rattle.std.proofs.lemmas.Result.{err_from_is_err_and}
-use Rattle.deck_words.specs.Word.{Word}
-use Rattle.deck_words.specs.Fault.{IsFault, told}
+use Rattle.deck_parser.specs.Word.{Word}
+use Rattle.deck_parser.specs.Fault.{IsFault, told}
 use Rattle.deck_parser.specs.Rule.{Stop, stop_at, stop_behind}
 use Rattle.deck_parser.specs.Reading.{Refuses, TellsStop}
-use Rattle.deck_words.specs.declared.fault.Refusal.{Refusal}
-use Rattle.deck_words.specs.declared.fault.Refusal.TheVariants.{Memory, Fault}
+use Rattle.deck_parser.specs.declared.fault.Refusal.{Refusal}
+use Rattle.deck_parser.specs.declared.fault.Refusal.TheVariants.{Memory, Fault}
 use Rattle.file_control.specs.declared.description.Description.{Description}
 use Rattle.deck_entries.specs.Divisions.{SpellsDivisions, reads_divisions, divisions_stop}
 use Rattle.deck_entries.specs.declared.divisions.Divisions.{Divisions}

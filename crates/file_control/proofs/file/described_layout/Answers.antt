@@ -1,6 +1,6 @@
 use Rattle.std.proofs.Common.{subst}
 use Rattle.record_layout.specs.Layout.{IsLayout}
-use Rattle.deck_words.specs.Fault.{GivesOrRefuses}
+use Rattle.deck_parser.specs.Fault.{GivesOrRefuses}
 use Rattle.file_control.proofs.file.described_layout.Goals as goal
 
 pub returns-clause-layout : goal.returns-clause-layout

@@ -8,7 +8,7 @@ use Rattle.record_layout.proofs.NamedKeysLemmas.{gives_keys, names_keys}
 use Rattle.file_control.specs.Description.{least_length}
 use Rattle.file_control.proofs.LayoutLemmas.{one_layout}
 use Rattle.file_control.proofs.FileLemmas.{keys_are_named}
-use Rattle.deck_words.specs.Fault.{cause_code, fault_of, told}
+use Rattle.deck_parser.specs.Fault.{cause_code, fault_of, told}
 use Rattle.deck_entries.specs.FileDescription.{FileDescription}
 use Rattle.file_control.proofs.FaultLemmas.{keys_unnamed, no_layout, no_length_item, no_keys}
 use Rattle.file_control.proofs.file.file.Goals as goal

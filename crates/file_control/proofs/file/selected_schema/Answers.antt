@@ -2,7 +2,7 @@ use Rattle.std.proofs.Common.{subst}
 use Rattle.std.specs.Result.{IfErr}
 use Rattle.record_layout.specs.Schema.{Schema}
 use Rattle.record_layout.specs.SchemaFault.{GivesSchema}
-use Rattle.deck_words.specs.Fault.{IsFault}
+use Rattle.deck_parser.specs.Fault.{IsFault}
 use Rattle.file_control.proofs.file.selected_schema.Goals as goal
 
 pub returns-clause-none : goal.returns-clause-none

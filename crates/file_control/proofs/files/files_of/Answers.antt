@@ -2,7 +2,7 @@ use Rattle.std.proofs.Common.{◌≡◌, ◌∙◌, sym, subst, ap, inl, inr, Op
 use Rattle.std.proofs.lemmas.Option.{same_Some}
 use Rattle.std.proofs.lemmas.Result.{err_from_is_err_and}
 use Rattle.deck_entries.specs.FileDescription.{FileDescription}
-use Rattle.deck_words.specs.Fault.{told}
+use Rattle.deck_parser.specs.Fault.{told}
 use Rattle.file_control.specs.Description.{FileDesc, IsFile, with_names}
 use Rattle.file_control.proofs.FilesLemmas.{FilesSoFar, description_of_file, step, refused, first_fault, all_files}
 use Rattle.file_control.proofs.files.files_of.Goals as goal

@@ -3,7 +3,7 @@ use Rattle.page_store.specs.DeviceFile.{content}
 use Rattle.page_store.specs.ShelfState.{unit_file}
 use Rattle.page_alloc.specs.Joining.{pages_counted}
 use Rattle.page_alloc.specs.PagedFile.{unit_of_pages}
-use Rattle.shelf_file.specs.Standing.{live_of}
+use Rattle.shelf_library.specs.Standing.{live_of}
 use Rattle.file_copying.specs.Parts.{joined_file, HavePages}
 use Rattle.file_copying.proofs.CopyLemmas.{many}
 use Rattle.file_copying.proofs.closing.close_copy.Goals as goal

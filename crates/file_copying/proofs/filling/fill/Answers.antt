@@ -1,5 +1,5 @@
 use Rattle.std.proofs.Common.{Ok, Err, sym, subst}
-use Rattle.shelf_file.proofs.StepLemmas.{at_end, at_ends}
+use Rattle.shelf_library.proofs.StepLemmas.{at_end, at_ends}
 use Rattle.file_copying.specs.declared.fault.CopyingFault.{CopyingFault}
 use Rattle.file_copying.specs.Filling.{FillsPages}
 use Rattle.file_copying.proofs.FillLemmas.{filled, not_filled, full_file}

@@ -1,4 +1,4 @@
-use Rattle.shelf_file.specs.Standing.{IsReady}
+use Rattle.shelf_library.specs.Standing.{IsReady}
 use Rattle.test_file_checker.proofs.files.fills.Given as goal
 
 abbrev pub invariant-loop-i : goal.invariant-loop-i

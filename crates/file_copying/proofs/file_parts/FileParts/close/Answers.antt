@@ -2,7 +2,7 @@ use Rattle.std.proofs.Common.{rules, arith}
 use Rattle.std.proofs.lemmas.Grind.{common_steps}
 use Rattle.page_store.specs.DeviceFile.{content}
 use Rattle.page_store.specs.ShelfState.{unit_file}
-use Rattle.shelf_file.proofs.ClosedLemmas.{closes, on_ok_at}
+use Rattle.shelf_library.proofs.ClosedLemmas.{closes, on_ok_at}
 use Rattle.file_copying.specs.Parts.{joined_file}
 use Rattle.page_alloc.specs.PagedFile.{unit_of_pages}
 use Rattle.file_copying.proofs.PagesLemmas.{have_pages}

@@ -1,0 +1,10 @@
+use Rattle.std.proofs.Common.{Some, None, refl}
+use Rattle.folder_shelf.specs.Calls.{taken_shared}
+use Rattle.folder_shelf.proofs.ReadingLemmas.{by_one}
+use Rattle.command_support.proofs.file_bytes.read_first_page.Goals as goal
+
+pub returns-in-Ok : goal.returns-in-Ok
+returns-in-Ok g c = by_one _ _ (taken_shared c.args.path.now 4096 (Some c.in-Ok.first.items)) c.in-Ok.ensures.came tt refl
+
+pub returns-in-Err : goal.returns-in-Err
+returns-in-Err g c = by_one _ _ (taken_shared c.args.path.now 4096 None) c.in-Err.ensures.failed tt c.fault_of.ensures

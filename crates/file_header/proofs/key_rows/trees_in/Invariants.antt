@@ -1,6 +1,0 @@
-use Rattle.std.proofs.Common.{◌≡◌, length, map}
-use Rattle.file_header.specs.Reading.{tree_in, key_rows_in}
-use Rattle.file_header.proofs.key_rows.trees_in.Given as goal
-
-abbrev pub invariant-loop-k : goal.invariant-loop-k
-invariant-loop-k l = (l.trees.items ≡ map tree_in (key_rows_in l.page l.k)) × (length l.trees.items ≡ l.k)

@@ -1,0 +1,10 @@
+pub mod LineLemmas
+pub mod PartLemmas
+pub mod CountLemmas
+pub mod RowLemmas
+pub mod FileLemmas
+pub mod KeyLemmas
+pub mod WholeLemmas
+pub mod BytesLemmas
+pub mod FirstLemmas
+pub mod DifferencesLemmas

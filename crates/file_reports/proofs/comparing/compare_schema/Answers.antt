@@ -1,0 +1,9 @@
+use Rattle.std.proofs.Common.{ap, ◌∙◌}
+use Rattle.file_reports.specs.SchemaListing.{read_front}
+use Rattle.file_reports.proofs.FirstLemmas.{not_compared}
+use Rattle.file_reports.proofs.comparing.compare_schema.Goals as goal
+
+pub returns-clause-told : goal.returns-clause-told
+returns-clause-told g c =
+    not_compared (g.R.Read.remaining c.args.reader) (g.W.Write.contents c.args.out.now) c.args.deck.now c.in_ok-bytes.bytes.items c.in-Err.refusal c.in_ok-bytes.ensures.bytes
+    (c.in-Err.ensures.header ∙ ap read_front c.deref.ensures.value)

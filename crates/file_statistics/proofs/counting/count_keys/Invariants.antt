@@ -1,5 +1,0 @@
-use Rattle.file_statistics.specs.Statistics.{KeysCounted}
-use Rattle.file_statistics.proofs.counting.count_keys.Given as goal
-
-abbrev pub invariant-loop-index : goal.invariant-loop-index
-invariant-loop-index l = KeysCounted l.fn.file l.pages l.index-index l.keys.items

@@ -1,5 +1,0 @@
-use Rattle.std.proofs.Common.{length}
-use Rattle.file_statistics.proofs.lines.+add_levels.Given as goal
-
-abbrev pub decreases-add_levels : goal.decreases-add_levels
-decreases-add_levels l = length l.levels.now

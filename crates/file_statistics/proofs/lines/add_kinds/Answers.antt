@@ -1,9 +1,0 @@
-use Rattle.std.proofs.Common.{codes}
-use Rattle.file_statistics.specs.Lines.{count_text, other_pages}
-use Rattle.file_statistics.proofs.LineLemmas.{text_behind}
-use Rattle.file_statistics.proofs.lines.add_kinds.Goals as goal
-
-pub returns : goal.returns
-returns c =
-    text_behind c.add_other_pages.result c.args.lines.now.items (count_text (codes ": header 1, heap ") c.args.counts.now.heap) (other_pages c.args.counts.now)
-    c.add_count.new.lines.items c.add_other_pages.new.lines.items c.in_ok-add_count.ensures c.add_other_pages.ensures

@@ -1,3 +1,0 @@
-pub mod Lines
-pub mod Statistics
-pub mod Listing

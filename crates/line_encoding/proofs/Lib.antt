@@ -1,4 +1,0 @@
-pub mod ByteLemmas
-pub mod FirstLemmas
-pub mod BackLemmas
-pub mod TakenLemmas

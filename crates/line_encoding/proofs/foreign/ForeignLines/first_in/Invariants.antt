@@ -1,5 +1,0 @@
-use Rattle.std.proofs.Common.{◌-◌}
-use Rattle.line_encoding.proofs.foreign.ForeignLines.first_in.Given as goal
-
-abbrev pub decreases-lines : goal.decreases-lines
-decreases-lines l = l.number - l.self.number

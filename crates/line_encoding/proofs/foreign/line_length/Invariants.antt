@@ -1,8 +1,0 @@
-use Rattle.std.proofs.Common.{◌≤◌, ◌-◌, length}
-use Rattle.line_encoding.proofs.foreign.line_length.Given as goal
-
-abbrev pub invariant-more : goal.invariant-more
-invariant-more l = l.at ≤ length l.text
-
-abbrev pub decreases-more : goal.decreases-more
-decreases-more l = length l.text - l.at

@@ -1,2 +1,0 @@
-mod WrittenLemmas
-pub mod KeptLemmas

@@ -1,6 +1,0 @@
-use Rattle.std.proofs.Common.{inl, inr, subst}
-use Rattle.rejected_lines.specs.Kept.{IsAllKept}
-use Rattle.rejected_lines.proofs.rejected_lines.RejectedLinesKeepsLines.keep_in.Goals as goal
-
-pub returns : goal.returns
-returns g c = λ whole. elim c.begin.ensures [ inl all ↦ all | inr not ↦ absurd (subst IsAllKept not (c.is_whole.ensures whole)) ]

@@ -1,9 +1,0 @@
-use Rattle.std.proofs.Common.{ap, ◌∙◌}
-use Rattle.schema_listing.specs.Listing.{read_front}
-use Rattle.schema_listing.proofs.FirstLemmas.{refused}
-use Rattle.schema_listing.proofs.listing.list_schema.Goals as goal
-
-pub returns-clause-told : goal.returns-clause-told
-returns-clause-told g c =
-    refused (g.R.Read.remaining c.args.reader) (g.W.Write.contents c.args.out.now) c.in_ok-bytes.bytes.items c.in-Err.refusal c.in_ok-bytes.ensures.bytes
-    (c.in-Err.ensures.header ∙ ap read_front c.deref.ensures.value)

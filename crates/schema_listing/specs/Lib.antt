@@ -1,4 +1,0 @@
-pub mod Lines
-pub mod Listing
-pub mod Differences
-pub mod Comparing

@@ -1,0 +1,39 @@
+use Rattle.open_file.proofs.ExitLemmas.{if_ok}
+use Rattle.shelf_library.specs.declared.shelf_file.ShelfFile.{ShelfFile}
+use Rattle.shelf_library.specs.Calls.{RemovesHeld}
+use Rattle.shelf_library.proofs.StepLemmas.{reads_same, at_end}
+use Rattle.shelf_library.proofs.shelf_file.ShelfFile.remove.Goals as goal
+
+pub remove-requires : goal.remove-requires
+remove-requires g c = record { pages = c.requires.ready.over; shaped = c.requires.ready.shaped }
+
+pub returns : goal.returns
+returns g c =
+    let old = c.args.self.now in
+    let new : ShelfFile = record { file = c.remove.new.opened; pages = c.remove.new.pages.file.now } in
+    let made = c.remove.ensures.removes in
+    let breaks = c.remove.ensures.breaks in
+    at_end (λ s. RemovesHeld g.S.Shelf.state g.S.Shelf.fault_count c.args.key.now.items old new c.args.shelf.now s c.remove.result)
+    _ _ c.shelf-1.given.1 made.keeps.begins.1
+    (record {
+      changes = record {
+        done = made.done;
+        unmade = if_ok c.remove.result _ _ (λ x reads none. let r = reads none in reads_same old new _ _ _ _ r.0 r.1.2) made.unmade;
+        begun = made.begun;
+        room = made.room;
+        full = λ is. let r = made.full is in reads_same old new _ _ _ _ r.0 r.1.2;
+        lacks = made.lacks;
+        keeps = record {
+          schema = made.keeps.schema;
+          ready = record { over = made.keeps.ready.pages; shaped = made.keeps.ready.shaped };
+          begins = made.keeps.begins.2;
+          asked = made.keeps.asked;
+        };
+      };
+      breaks = record {
+        broken = λ is. let b = breaks.broken is in (b.0, reads_same old new _ _ _ _ b.1.0 b.1.1.2);
+        breaks = breaks.breaks;
+        unbroken = breaks.unbroken;
+        cause = breaks.cause;
+      };
+    })

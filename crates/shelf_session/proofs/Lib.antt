@@ -1,2 +1,0 @@
-pub mod NamedElsewhere
-pub mod SessionLemmas

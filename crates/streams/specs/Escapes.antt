@@ -1,0 +1,29 @@
+-- The escapes of those bytes in the lines of records.
+use Rattle.std.specs.Prelude.{ℕ, ◌+◌, ◌-◌, ◌*◌, ◌/◌, ◌%◌, ◌==◌, ◌&&◌, ◌||◌, Bool, nat_lt, List, [], ◌∷◌, if◌then◌else◌}
+use Rattle.streams.specs.declared.backslashes.Backslashes.{Backslashes}
+use Rattle.streams.specs.declared.backslashes.Backslashes.TheVariants.{One, Two}
+
+-- a hexadecimal digit, in lower case
+abbrev pub digit_char : ℕ → ℕ
+digit_char n = if nat_lt n 10 then 48 + n else 87 + n
+
+-- a backslash, or two in JSON, and the two digits of a byte
+abbrev pub escape_of : Backslashes → ℕ → List ℕ
+escape_of One byte = 92 ∷ digit_char (byte / 16) ∷ digit_char (byte % 16) ∷ []
+escape_of Two byte = 92 ∷ 92 ∷ digit_char (byte / 16) ∷ digit_char (byte % 16) ∷ []
+
+-- the number of a hexadecimal digit in lower case
+abbrev pub digit_number : ℕ → ℕ
+digit_number char = if nat_lt char 58 then char - 48 else char - 87
+
+-- a hexadecimal digit in lower case
+abbrev pub is_digit : ℕ → Bool
+is_digit char = (nat_lt 47 char && nat_lt char 58) || (nat_lt 96 char && nat_lt char 103)
+
+-- a backslash and two digits, of which the first is one from a to f: a byte from a0 to ff
+abbrev pub is_escape : (backslash high low : ℕ) → Bool
+is_escape backslash high low = backslash == 92 && nat_lt 96 high && nat_lt high 103 && is_digit low
+
+-- the byte of such digits
+abbrev pub byte_of : (high low : ℕ) → ℕ
+byte_of high low = (high - 87) * 16 + digit_number low
