@@ -27,7 +27,7 @@ use Rattle.shelf_library.specs.ClosedFile.{AreClosed, StandsIn}
 use Rattle.shelf_library.specs.Named.{look_of}
 use Rattle.shelf_library.specs.Shelves.{ClosedFileOrRefused}
 use Rattle.shelf_library.specs.declared.look.Look.TheVariants.{Accepted}
-use Rattle.shelf_library.proofs.FileAcceptedLemmas.{looks_accepted, accepted_there}
+use Rattle.shelf_library.specs.FileAcceptedLemmas.{looks_accepted, accepted_there}
 use Rattle.file_copying.specs.declared.fault.Copied.{Copied}
 use Rattle.file_copying.specs.declared.fault.CopyingFault.{CopyingFault}
 use Rattle.file_copying.specs.Closing.{EndsCopy, IsCopyDone}

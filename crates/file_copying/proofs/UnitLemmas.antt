@@ -14,7 +14,7 @@ use Rattle.shelf_library.specs.ClosedFile.{StandsIn}
 use Rattle.shelf_library.specs.Named.{look_of}
 use Rattle.shelf_library.specs.declared.look.Look.TheVariants.{Accepted}
 use Rattle.shelf_library.specs.FileOpening.{counted_shelf}
-use Rattle.shelf_library.proofs.LookLemmas.{same_file}
+use Rattle.shelf_library.specs.LookLemmas.{same_file}
 use Rattle.file_copying.specs.declared.fault.Copied.{Copied}
 use Rattle.file_copying.specs.declared.fault.CopyingFault.{CopyingFault}
 use Rattle.file_copying.specs.declared.fault.CopyingFault.TheVariants.{NoneToCopy, NotAccepted, NoKey, IsThere, Reading, Writing}

@@ -2,7 +2,7 @@
 use Rattle.std.proofs.Common.{◌≡◌, ℕ, List, [], Option, None, Some, ◌∙◌, refl}
 use Rattle.shelf_library.proofs.Terms.{Schema, File, Closed, DeviceFile, bytes_or_none, content, reads_back, named_of, AreClosed, Accepted}
 use Rattle.shelf_library.proofs.Terms.{Refused}
-use Rattle.shelf_library.proofs.FileAcceptedLemmas.{looks_accepted, named_by_header}
+use Rattle.shelf_library.specs.FileAcceptedLemmas.{looks_accepted, named_by_header}
 
 -- bytes that are closed stand for their rows
 pub closed_named : (bytes : List ℕ) (schema : Schema) (rows : File) → AreClosed schema rows bytes → named_of (Some bytes) ≡ Closed schema rows

@@ -8,7 +8,7 @@ use Rattle.shelf_library.proofs.Terms.{is_begun, Header, StandsIn, look_of, name
 use Rattle.shelf_library.proofs.Terms.{is_broken_file, pages_behind, schema_behind, Accepted, Refused, ShelfFile, ClosesUnitAt}
 use Rattle.shelf_library.proofs.Terms.{IsSoundImage, MayReadAs, EachRead, each_read, ChangesAt, IsTrulyHeld, IsReadyAt, LibraryState}
 use Rattle.shelf_library.proofs.Terms.{held_at, IsTrulyClosed, IsTrulyOpen, Nothing}
-use Rattle.shelf_library.proofs.FileAcceptedLemmas.{looks_accepted}
+use Rattle.shelf_library.specs.FileAcceptedLemmas.{looks_accepted}
 use Rattle.shelf_library.proofs.RefusedLemmas.{refused_look, refused_named}
 use Rattle.shelf_library.proofs.AcceptedLemmas.{closed_named, closed_there}
 

@@ -1,13 +1,10 @@
 pub mod StepLemmas
-pub mod LookLemmas
 pub mod PagesLemmas
-pub mod ReadOffLemmas
 pub mod FileOpeningLemmas
 pub mod RootLemmas
 pub mod FileClosingLemmas
 pub mod ClosedLemmas
 pub mod MadeLemmas
-pub mod FileAcceptedLemmas
 pub mod Terms
 pub mod WorldLemmas
 pub mod StateLemmas

@@ -16,7 +16,7 @@ use Rattle.shelf_library.proofs.WorldLemmas.{same_open}
 use Rattle.shelf_library.proofs.AsideLemmas.{rests, are_after, held_here, holding_before, holding_after, named_before, named_after}
 use Rattle.shelf_library.proofs.AsideLemmas.{images_aside}
 use Rattle.shelf_library.proofs.UnitLemmas.{keeps_at, images_at}
-use Rattle.shelf_library.proofs.FileAcceptedLemmas.{accepted_looks, accepted_there, accepted_named}
+use Rattle.shelf_library.specs.FileAcceptedLemmas.{accepted_looks, accepted_there, accepted_named}
 use Rattle.shelf_library.proofs.OpensLemmas.{nothing_fits, open_fits, open_holding, is_opened, opens_unit}
 
 -- only want of memory keeps a file from being opened

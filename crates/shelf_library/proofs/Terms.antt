@@ -37,7 +37,7 @@ pub use Rattle.open_file.specs.Faults.{IsCausedIn}
 pub use Rattle.open_file.specs.ReadOff.{file_off}
 pub use Rattle.open_file.specs.Stands.{Stands}
 pub use Rattle.open_file.specs.declared.open_file.OpenFile.{OpenFile}
-pub use Rattle.shelf_library.proofs.FileAcceptedLemmas.{reads_back}
+pub use Rattle.shelf_library.specs.FileAcceptedLemmas.{reads_back}
 pub use Rattle.shelf_library.specs.Calls.{OnlyReadsFile}
 pub use Rattle.shelf_library.specs.ClosedFile.{StandsIn, AreClosed}
 pub use Rattle.shelf_library.specs.Named.{look_of, named_by, named_of}

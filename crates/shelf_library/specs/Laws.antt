@@ -29,7 +29,7 @@ use Rattle.shelf_library.specs.Truth.{IsShownTruly, IsTrulyClosed}
 use Rattle.shelf_library.specs.WorldLaws.{named_anywhere, name_now, holding_now, named_now, units_long}
 use Rattle.open_file.proofs.ReadOffLemmas.{reads_as}
 use Rattle.open_file.proofs.FilledLemmas.{filled}
-use Rattle.shelf_library.proofs.FileAcceptedLemmas.{reads_back, accepted_there, accepted_named}
+use Rattle.shelf_library.specs.FileAcceptedLemmas.{reads_back, accepted_there, accepted_named}
 use Rattle.shelf_library.specs.declared.held.Held.{Held}
 use Rattle.shelf_library.specs.declared.held.Held.TheVariants.{Nothing, Looked, Opened}
 

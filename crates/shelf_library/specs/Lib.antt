@@ -21,4 +21,7 @@ pub mod Reading
 pub mod Changing
 pub mod Told
 pub mod MomentLaws
+pub mod LookLemmas
+pub mod ReadOffLemmas
+pub mod FileAcceptedLemmas
 pub mod Laws

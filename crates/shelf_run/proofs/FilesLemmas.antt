@@ -15,7 +15,7 @@ use Rattle.shelf_library.specs.declared.look.Look.{Look}
 use Rattle.shelf_library.specs.declared.look.Look.TheVariants.{NoFile, Refused, Accepted}
 use Rattle.shelf_library.specs.ClosedFile.{IsAcceptedBy, StandsIn}
 use Rattle.shelf_library.specs.Named.{look_of, look_by, named_of, named_by}
-use Rattle.shelf_library.proofs.FileAcceptedLemmas.{looks_accepted, accepted_looks, reads_back, named_by_header}
+use Rattle.shelf_library.specs.FileAcceptedLemmas.{looks_accepted, accepted_looks, reads_back, named_by_header}
 use Rattle.shelf_library.specs.Truth.{IsShownTruly, IsTrulyClosed}
 use Rattle.shelf_library.specs.Units.{world_of}
 use Rattle.shelf_library.specs.WorldLaws.{named_anywhere}

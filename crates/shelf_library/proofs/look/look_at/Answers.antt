@@ -3,7 +3,7 @@ use Rattle.std.proofs.lemmas.Grind.{common_steps}
 use Rattle.page_store.specs.DeviceFile.{DeviceFile, content}
 use Rattle.page_store.specs.Calls.{ReadsBytes}
 use Rattle.page_store.specs.ShelfState.{unit_file}
-use Rattle.shelf_library.proofs.LookLemmas.{same_file, read_look}
+use Rattle.shelf_library.specs.LookLemmas.{same_file, read_look}
 use Rattle.shelf_library.proofs.look.look_at.Goals as goal
 
 pub returns : goal.returns

@@ -7,9 +7,9 @@ use Rattle.open_file.specs.ReadOff.{file_off}
 use Rattle.open_file.proofs.HeaderLemmas.{read_back}
 use Rattle.open_file.proofs.ClosedLemmas.{opened_by, is_opened, opened_stands}
 use Rattle.shelf_library.specs.ClosedFile.{live_in}
-use Rattle.shelf_library.proofs.LookLemmas.{accepted_pages}
+use Rattle.shelf_library.specs.LookLemmas.{accepted_pages}
 use Rattle.shelf_library.proofs.FileOpeningLemmas.{opened_free, opened_live}
-use Rattle.shelf_library.proofs.ReadOffLemmas.{reads_by_header}
+use Rattle.shelf_library.specs.ReadOffLemmas.{reads_by_header}
 use Rattle.file_copying.proofs.file_parts.FileParts.open.Goals as goal
 
 pub returns : goal.returns

@@ -14,8 +14,8 @@ use Rattle.shelf_library.specs.Named.{look_of, look_by, named_of, named_by}
 use Rattle.shelf_library.specs.ReadOff.{file_by}
 use Rattle.open_file.proofs.ClosedLemmas.{opened_by, is_opened, opened_stands}
 use Rattle.open_file.proofs.ReadOffLemmas.{reads_as}
-use Rattle.shelf_library.proofs.LookLemmas.{accepted_pages}
-use Rattle.shelf_library.proofs.ReadOffLemmas.{reads_by_header}
+use Rattle.shelf_library.specs.LookLemmas.{accepted_pages}
+use Rattle.shelf_library.specs.ReadOffLemmas.{reads_by_header}
 
 accepted_by : (bytes : List ℕ) (there : Option Header) (header : Header) → look_by bytes there ≡ Accepted header → there ≡ Some header
 accepted_by bytes None header is = absurd (cc)
