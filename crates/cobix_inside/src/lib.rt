@@ -19,6 +19,7 @@
 #![tactic(auto)]
 
 mod asked_file;
+mod asked_streams;
 mod asked_system;
 mod asking;
 mod exports;
@@ -29,7 +30,6 @@ mod no_folder;
 mod open_session;
 mod question;
 mod raw_box;
-mod streams;
 mod told;
 
 pub use asked_file::AskedFile;

@@ -5,7 +5,7 @@ ghost use Rattle.file_reports.specs.Differences.{record_difference, number_diffe
 ghost use Rattle.file_reports.specs.Differences.{kind_difference, key_difference, key_text, key_of_file};
 ghost use Rattle.file_reports.specs.Differences.{key_of_deck, key_differences, differences, is_none};
 
-use crate::schema_lines::{add, add_lengths, add_number, kind_word};
+use crate::schema_text::{add, add_lengths, add_number, kind_word};
 use record_layout::{KeyKind, KeyPart, Schema};
 use std::alloc::{AllocError, Global};
 

@@ -6,7 +6,7 @@ ghost use Rattle.file_reports.specs.SchemaLines.{all_header_lines};
 ghost use Rattle.file_reports.specs.SchemaListing.{read_front, WritesSchemaLines, TellsOfReader};
 
 use crate::first_page::{Refusal, header_of};
-use crate::schema_lines::schema_lines;
+use crate::schema_text::schema_lines;
 use open_file::Header;
 use pages::PAGE_SIZE;
 use std::alloc::Global;

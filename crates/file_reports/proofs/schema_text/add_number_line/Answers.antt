@@ -1,5 +1,5 @@
 use Rattle.file_reports.specs.SchemaLines.{number_line}
-use Rattle.file_reports.proofs.schema_lines.add_number_line.Goals as goal
+use Rattle.file_reports.proofs.schema_text.add_number_line.Goals as goal
 
 pub returns : goal.returns
 unfolding number_line
