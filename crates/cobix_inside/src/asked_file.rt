@@ -1,8 +1,8 @@
 //! An open file.
 
+use crate::asked_streams::Streams;
 use crate::asking::{ask, ask_for_lock, ask_for_name, ask_to_read, ask_to_write};
 use crate::question::Question;
-use crate::asked_streams::Streams;
 use std::fs::{Metadata, OpenFile, TryLockError};
 use std::io::{self, ErrorKind, Read, Seek, SeekFrom, Write};
 use std::os::unix::fs::FileExt;

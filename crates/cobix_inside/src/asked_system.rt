@@ -1,10 +1,10 @@
 //! The system.
 
 use crate::asked_file::AskedFile;
+use crate::asked_streams::Streams;
 use crate::asking::ask;
 use crate::no_folder::NoFolder;
 use crate::question::{Opening, Question};
-use crate::asked_streams::Streams;
 use std::alloc::Allocator;
 use std::fs::{Metadata, OpenOptions};
 use std::io::{self, ErrorKind, Stdin, Stdout};

@@ -27,7 +27,7 @@ mod statistics_listing;
 pub use comparing::{Comparison, compare_schema};
 pub use differences::difference_lines;
 pub use first_page::Refusal;
-pub use schema_text::schema_lines;
 pub use schema_listing::{ListingFault, list_schema};
+pub use schema_text::schema_lines;
 pub use statistics::{FileStatistics, KeyStatistics};
 pub use statistics_listing::{FileStatisticsEnd, StatisticsFault, list_statistics};

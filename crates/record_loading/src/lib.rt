@@ -24,14 +24,14 @@
 //!
 //! Read `record_text` for a line, `specs/Passing.antt` for what comes of a line, `specs/Loading.antt`
 //! for what is promised, and then `loading`; `specs/Loaded.antt`, `specs/Answer.antt` and `shelf_load`
-//! for files of a shelf; `specs/Kept.antt`, then `keeping`, `rejected_lines` and `load_keeping`.
+//! for files of a shelf; `specs/Kept.antt`, then `keeping`, `rejected_lines` and `kept_load`.
 #![tactic(auto)]
 
 mod answer;
 mod end;
 mod keeping;
+mod kept_load;
 mod line_file;
-mod load_keeping;
 mod loading;
 mod mistake_line;
 mod new_file;
@@ -48,7 +48,7 @@ mod writing;
 pub use answer::{add_answer, add_rejected_line, is_loaded};
 pub use end::{LinesEnd, Load, LoadEnd, LoadFault};
 pub use keeping::KeepsLines;
-pub use load_keeping::load_keeping;
+pub use kept_load::load_keeping;
 pub use loading::load_records;
 pub use mistake_line::{write_end_mistake, write_mistake};
 pub use options::LoadOptions;

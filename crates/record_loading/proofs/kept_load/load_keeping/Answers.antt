@@ -3,7 +3,7 @@ use Rattle.record_loading.specs.Loading.{text_source, listing_by}
 use Rattle.record_loading.specs.Loaded.{EndsLoad, TellsLoadEnd}
 use Rattle.record_loading.specs.KeptLoad.{EndsKeeping}
 use Rattle.record_loading.proofs.KeptLemmas.{told_kept}
-use Rattle.record_loading.proofs.load_keeping.load_keeping.Goals as goal
+use Rattle.record_loading.proofs.kept_load.load_keeping.Goals as goal
 
 pub returns-clause-loads : goal.returns-clause-loads
 returns-clause-loads g c =
