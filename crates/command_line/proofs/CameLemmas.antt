@@ -13,9 +13,9 @@ use Rattle.command_line.specs.AskedSession.{BeginsSession, ComesOfSession}
 use Rattle.command_line.specs.CallsMade.{CallsMade, calls_beside, calls_made, streams_first}
 use Rattle.command_line.specs.Copied.{AskForCopy, BeginsCopy, ComesOfCopy, EndsInName, IsToldCopy, IsToldUnread}
 use Rattle.command_line.specs.declared.copying.Copying.{Copying}
-use Rattle.file_copying.specs.declared.fault.Copied.{Copied}
-use Rattle.file_copying.specs.declared.fault.CopyingFault.{CopyingFault}
-use Rattle.file_copying.specs.declared.fault.CopyingFault.TheVariants.{NoneToCopy, NotAccepted, NoKey, IsThere, Reading, Writing}
+use Rattle.file_building.specs.declared.fault.Copied.{Copied}
+use Rattle.file_building.specs.declared.fault.CopyingFault.{CopyingFault}
+use Rattle.file_building.specs.declared.fault.CopyingFault.TheVariants.{NoneToCopy, NotAccepted, NoKey, IsThere, Reading, Writing}
 use Rattle.io_state.specs.declared.fault.Fault.TheVariants.{Device, Memory as NoMemory, Full, Damage, Broken}
 use Rattle.command_line.specs.LoadForm.{IsFaultOfLoad}
 use Rattle.command_line.specs.Loaded.{BeginsLoadOfDeck, ComesOfLoad, options_of}

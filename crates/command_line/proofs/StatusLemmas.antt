@@ -13,8 +13,8 @@ use Rattle.record_loading.specs.declared.shelf_end.ShelfEnd.{ShelfEnd}
 use Rattle.record_loading.specs.declared.shelf_end.ShelfEnd.TheVariants as ends
 use Rattle.salvaged_records.specs.declared.salvaging.Salvage.{Salvage}
 use Rattle.salvaged_records.specs.declared.salvaging.Salvage.TheVariants as salvages
-use Rattle.file_copying.specs.declared.end.CopyEnd.{CopyEnd}
-use Rattle.file_copying.specs.declared.end.CopyEnd.TheVariants as copies
+use Rattle.file_building.specs.declared.end.CopyEnd.{CopyEnd}
+use Rattle.file_building.specs.declared.end.CopyEnd.TheVariants as copies
 use Rattle.streams.specs.LineEnds.{has_failed_line}
 use Rattle.command_support.specs.Status.{status_of, status_by, status_of_worst, status_of_list, status_where, status_of_comparison, status_of_load, status_of_count, status_of_salvage, status_of_copy, status_for, exit_status, IsExitStatus}
 use Rattle.command_support.specs.declared.fault.Fault.{Fault}

@@ -8,15 +8,15 @@ use Rattle.folder_shelf.specs.SystemState.{SystemState}
 use Rattle.folder_shelf.specs.Within.{StaysWithin}
 use Rattle.io_state.specs.FileName.{is_file_name}
 use Rattle.io_state.specs.declared.fault.Fault.TheVariants.{Damage, Full, Memory as NoMemory}
-use Rattle.file_copying.specs.declared.fault.Copied.{Copied}
-use Rattle.file_copying.specs.declared.fault.CopyingFault.{CopyingFault}
-use Rattle.file_copying.specs.declared.fault.CopyingFault.TheVariants.{NoneToCopy, NotAccepted, NoKey, IsThere}
-use Rattle.file_copying.specs.declared.fault.CopyingFault.TheVariants.{Reading, Writing}
-use Rattle.file_copying.specs.NewPlace.{folder_of, last_part}
-use Rattle.file_copying.specs.CopiedPath.{CopiesPath, copy_paths}
-use Rattle.file_copying.specs.declared.end.CopyEnd.TheVariants.{Whole, Refused, Damaged}
-use Rattle.file_copying.specs.declared.end.CopyEnd.TheVariants.{IsThere as NewIsThere, Full as NewIsFull}
-use Rattle.file_copying.specs.declared.end.CopyEnd.TheVariants.{NoKey as HasNoKey}
+use Rattle.file_building.specs.declared.fault.Copied.{Copied}
+use Rattle.file_building.specs.declared.fault.CopyingFault.{CopyingFault}
+use Rattle.file_building.specs.declared.fault.CopyingFault.TheVariants.{NoneToCopy, NotAccepted, NoKey, IsThere}
+use Rattle.file_building.specs.declared.fault.CopyingFault.TheVariants.{Reading, Writing}
+use Rattle.file_building.specs.NewPlace.{folder_of, last_part}
+use Rattle.file_building.specs.CopiedPath.{CopiesPath, copy_paths}
+use Rattle.file_building.specs.declared.end.CopyEnd.TheVariants.{Whole, Refused, Damaged}
+use Rattle.file_building.specs.declared.end.CopyEnd.TheVariants.{IsThere as NewIsThere, Full as NewIsFull}
+use Rattle.file_building.specs.declared.end.CopyEnd.TheVariants.{NoKey as HasNoKey}
 use Rattle.command_words.specs.Asks.{AskCopy}
 use Rattle.command_words.specs.declared.request.Request.{Request}
 use Rattle.command_words.specs.declared.request.Request.TheVariants.{Copy}

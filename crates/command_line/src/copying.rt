@@ -1,14 +1,14 @@
 //! The copy of the file of a path into the new file of another.
 ghost use Rattle.std.specs.Prelude.{◌≡◌, ◌⊎◌, [], false, None, Err, IfSome};
 ghost use Rattle.command_words.specs.declared.request.Request.TheVariants.{Copy};
-ghost use Rattle.file_copying.specs.declared.fault.CopyingFault.TheVariants.{Reading, Writing};
+ghost use Rattle.file_building.specs.declared.fault.CopyingFault.TheVariants.{Reading, Writing};
 ghost use Rattle.command_line.specs.CallsMade.{calls_beside};
 ghost use Rattle.command_line.specs.Copied.{ComesOfCopy, IsToldCopy, is_copy};
 
 use crate::performing::folder_at;
 use command_support::{Fault, Outcome};
 use command_words::{Limits, Request};
-use file_copying::{Copied, CopyEnd, CopyingFault, copy_path, place_of};
+use file_building::{Copied, CopyEnd, CopyingFault, copy_path, place_of};
 use folder_shelf::{CallRecord, Disk, System};
 use io_state::Fault as FileFault;
 use std::alloc::Global;

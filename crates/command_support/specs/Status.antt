@@ -28,9 +28,9 @@ use Rattle.command_support.specs.declared.outcome.Outcome.TheVariants.{SchemaTol
 use Rattle.command_support.specs.declared.outcome.Outcome.TheVariants.{SchemaRefused, Explained, Listed}
 use Rattle.command_support.specs.declared.outcome.Outcome.TheVariants.{CheckedAll, Records, InCobol, Loaded}
 use Rattle.command_support.specs.declared.outcome.Outcome.TheVariants.{Counted, OtherSchema, Salvaged, Copied}
-use Rattle.file_copying.specs.declared.end.CopyEnd.{CopyEnd}
-use Rattle.file_copying.specs.declared.end.CopyEnd.TheVariants.{Whole, Refused, Damaged, Full}
-use Rattle.file_copying.specs.declared.end.CopyEnd.TheVariants.{IsThere as NewIsThere, NoKey as LacksKey}
+use Rattle.file_building.specs.declared.end.CopyEnd.{CopyEnd}
+use Rattle.file_building.specs.declared.end.CopyEnd.TheVariants.{Whole, Refused, Damaged, Full}
+use Rattle.file_building.specs.declared.end.CopyEnd.TheVariants.{IsThere as NewIsThere, NoKey as LacksKey}
 use Rattle.salvaged_records.specs.declared.salvaging.Salvage.{Salvage}
 use Rattle.salvaged_records.specs.declared.salvaging.Salvage.TheVariants.{All as AllSalvaged, Slots}
 use Rattle.salvaged_records.specs.declared.salvaging.Salvage.TheVariants.{Unsound as NotSalvaged}

@@ -8,7 +8,7 @@ use crate::fault::Fault;
 use deck_runner::RunEnd;
 use explanations::REASON_LINES;
 use file_checker::{Reason, Verdict};
-use file_copying::CopyEnd;
+use file_building::CopyEnd;
 use file_reports::{Comparison, FileStatisticsEnd, Refusal};
 use pages::FaultPlace;
 use record_listing::FileList;

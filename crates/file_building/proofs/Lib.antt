@@ -13,3 +13,26 @@ pub mod RecordLemmas
 pub mod AlternateLemmas
 pub mod DifferLemmas
 pub mod UntiedLemmas
+pub mod WalkLemmas
+pub mod CopiedPartLemmas
+pub mod CopiedStepLemmas
+pub mod CopiedRowLemmas
+pub mod CopiedBuilderLemmas
+pub mod CopiedLemmas
+pub mod CopiedEntryLemmas
+pub mod CopiedAlternateLemmas
+pub mod CopiedOpeningLemmas
+pub mod FaultLemmas
+mod FillLemmas
+mod CopyLemmas
+mod MoveLemmas
+mod UnitLemmas
+pub mod PlaceLemmas
+pub mod PathLemmas
+pub mod NewPlaceLemmas
+pub mod MoverLemmas
+pub mod MovingLemmas
+pub mod LeadLemmas
+pub mod MovedRowLemmas
+pub mod SourceLemmas
+pub mod PagesLemmas

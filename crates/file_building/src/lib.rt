@@ -1,22 +1,50 @@
-//! A new file built from records whose prime values rise, as the first stage of a load.
+//! Files that are written whole: a new one built from records, and the copy of a closed one.
 //!
-//! `FileBuilder` takes records one after another. The heap and the prime index are written as they
-//! come; at the end the entries of each alternate key are sorted in memory, and its index is built
-//! from the leaves up. The file that comes out is the one that adding the records one after another
-//! makes of a file without rows, with the same stamps. A record whose prime value does not come after
-//! the one before it is told, and so is a value that is there twice in a key that is to be unique:
-//! then there is no file, and who wants the records adds them.
-//!
-//! Where records come from is not known here. Read `specs/Written.antt`, `specs/Building.antt` and
-//! `file_builder`.
+//! XX
 #![tactic(auto)]
 
 mod alternates;
+mod attaching;
+mod building;
+mod built_end;
+mod built_pages;
+mod closing;
+mod copied_alternates;
+mod copied_entries;
+mod copied_opening;
+mod copied_pages;
+mod copied_path;
+mod copied_rows_builder;
+mod copy_fault;
+mod copying;
+mod end;
 mod entries;
+mod fault;
 mod file_builder;
+mod file_parts;
+mod filling;
+mod leading;
+mod looking;
+mod moving;
+mod new_place;
+mod new_places;
 mod opening;
 mod ranked;
+mod record_source;
+mod records_mover;
+mod rows;
 mod rows_builder;
+mod rows_by_key;
 mod stamps;
+mod walk;
 
+pub use building::build_closed;
+pub use built_end::FileBuilt;
+pub use copied_path::copy_path;
+pub use copying::copy_closed;
+pub use end::CopyEnd;
+pub use fault::{Copied, CopyingFault};
 pub use file_builder::{Built, FileBuilder, Pushed};
+pub use file_parts::FileParts;
+pub use new_place::{NewPlace, place_of};
+pub use record_source::RecordSource;

@@ -3,7 +3,7 @@
 ghost use Rattle.shelf_library.specs.Standing.{IsReady};
 
 use crate::checks::{assert_equal, assert_equal_for};
-use file_copying::{Copied, CopyingFault, copy_closed};
+use file_building::{Copied, CopyingFault, copy_closed};
 use indexed_file::Added;
 use io_state::{Fault, FileName};
 use memory_shelf::MemShelf;

@@ -1,7 +1,7 @@
 //! A file that is opened by its parts.
 
 use crate::checks::assert_equal;
-use file_copying::FileParts;
+use file_building::FileParts;
 use io_state::FileName;
 use memory_shelf::MemShelf;
 use page_store::Shelf;

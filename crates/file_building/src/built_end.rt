@@ -1,0 +1,14 @@
+//! How the building of a new file ended.
+
+/// What became of records of which a new file was to be made.
+#[derive(Clone, Copy, Debug, PartialEq, Eq)]
+pub enum FileBuilt {
+    /// The file has them all, so many, and is closed.
+    Closed { records: u64 },
+    /// The prime value of the last one does not come after that of the one before it. The file is
+    /// refused.
+    OutOfOrder,
+    /// One of them has the value of another in an alternate key that is to be unique. The file is
+    /// refused.
+    Clash,
+}
