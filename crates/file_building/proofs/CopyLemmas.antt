@@ -47,7 +47,7 @@ module _ (unit : ℕ) (a : PagedFile) (s0 s1 s2 : ShelfState) (here : unit_of_pa
   pub filled_images : Throughout (WasOrRefused (unit_file s0 unit)) (unit_file s0 unit) (unit_file s2 unit)
   filled_images = made_quietly (unit_file s0 unit) (unit_file s1 unit) (unit_file s2 unit) (images (others.honest honest)) all_open quiet_here
 
-  filled_refused : AllRefused (unit_file s2 unit)
+  pub filled_refused : AllRefused (unit_file s2 unit)
   filled_refused = all_refused (unit_file s2 unit) (open_kept (unit_file s1 unit) (unit_file s2 unit) all_open quiet_here)
 
   pub filled_stays : GoesRefused (unit_file s0 unit) (unit_file s2 unit)

@@ -28,6 +28,9 @@ mod CopyLemmas
 mod MoveLemmas
 mod UnitLemmas
 pub mod PlaceLemmas
+pub mod SourceGivenLemmas
+mod BuiltPartsLemmas
+mod BuiltUnitLemmas
 pub mod PathLemmas
 pub mod NewPlaceLemmas
 pub mod MoverLemmas

@@ -31,7 +31,7 @@ use Rattle.file_building.specs.NewFile.{GoesRefused}
 use Rattle.file_building.proofs.CopyLemmas.{filled_images, filled_stays, gave_up, ended}
 
 -- no page but the header is counted
-none_counted : (n : ℕ) → is_page 1 n ≡ false
+pub none_counted : (n : ℕ) → is_page 1 n ≡ false
 none_counted zero = refl
 none_counted (suc n) = rw (lt-ltb 0 (suc n) (omega arith), le-ltb (suc n) 1 (omega arith)) refl
 
@@ -190,7 +190,7 @@ not_made source unit limit header from to0 to1 i k0 k1 fault images others count
     no_broken (inr is) e = let same : Memory ≡ Broken = sym is ∙ e in absurd (cc)
 
 -- so, as the making of the pages tells it
-made_fault : {X : Type 0} {after_is : Type 0} (k0 k1 : ℕ) (fault : Fault) → FaultHasCause {T = X} k0 k1 (Err fault) ⊎ ((◌≡◌ {A = Result X Fault} (Err fault) (Err Memory)) × after_is)
+pub made_fault : {X : Type 0} {after_is : Type 0} (k0 k1 : ℕ) (fault : Fault) → FaultHasCause {T = X} k0 k1 (Err fault) ⊎ ((◌≡◌ {A = Result X Fault} (Err fault) (Err Memory)) × after_is)
     → (fault ≡ Device → FaultsRose k0 k1) × ((fault ≡ Device) ⊎ (fault ≡ Memory))
 made_fault k0 k1 fault (inl has) = (λ e. has.counted, inl has.device)
 made_fault k0 k1 fault (inr wants) =

@@ -28,4 +28,6 @@ pub mod NewPlaces
 pub mod Moving
 pub mod Leading
 pub mod Sources
+pub mod BuiltFile
+pub mod BuiltParts
 pub mod BuiltUnit

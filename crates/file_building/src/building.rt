@@ -5,8 +5,8 @@ ghost use Rattle.page_store.specs.ShelfState.{HasUnit};
 ghost use Rattle.file_building.specs.BuiltUnit.{BuildsUnit, WhereAllTaken};
 
 use crate::built_end::FileBuilt;
-use crate::built_pages::{BuiltParts, build_parts};
-use crate::closing::close_built;
+use crate::built_parts::{BuiltParts, build_parts};
+use crate::closing::close_counted;
 use crate::record_source::RecordSource;
 use io_state::Fault;
 use page_alloc::PagedFile;
@@ -42,10 +42,17 @@ pub fn build_closed<S: Shelf, R: RecordSource>(
     ensures all { IfOk result (WhereAllTaken (R.has_ended records.new)) }
     ensures reads { R.reads_on records.old records.new }
 {
-    let pages = PagedFile::create(alloc, shelf, unit, frames, limit, &[0; PAGE_SIZE])?;
-    match build_parts(alloc, shelf, pages, schema, records, memory)? {
-        BuiltParts::File(parts) => close_built(shelf, parts),
-        BuiltParts::OutOfOrder => Ok(FileBuilt::OutOfOrder),
-        BuiltParts::Clash => Ok(FileBuilt::Clash),
+    let pages = match PagedFile::create(alloc, shelf, unit, frames, limit, &[0; PAGE_SIZE]) {
+        Ok(pages) => pages,
+        Err(fault) => return Err(fault),
+    };
+    match build_parts(alloc, shelf, pages, schema, records, memory) {
+        Ok(BuiltParts::File(parts)) => match close_counted(shelf, parts) {
+            Ok(records) => Ok(FileBuilt::Closed { records }),
+            Err(fault) => Err(fault),
+        },
+        Ok(BuiltParts::OutOfOrder) => Ok(FileBuilt::OutOfOrder),
+        Ok(BuiltParts::Clash) => Ok(FileBuilt::Clash),
+        Err(fault) => Err(fault),
     }
 }

@@ -1,8 +1,7 @@
 //! The new file, closed.
 
-ghost use Rattle.file_building.specs.Closing.{IsReadyParts, ClosesCopy};
+ghost use Rattle.file_building.specs.Closing.{IsReadyParts, ClosesCopy, ClosesToCount};
 
-use crate::built_end::FileBuilt;
 use crate::fault::{Copied, CopyingFault};
 use crate::file_parts::FileParts;
 use io_state::Fault;
@@ -25,11 +24,14 @@ pub fn close_copy<T: Shelf>(shelf: &mut T, parts: FileParts) -> Result<Copied, C
 }
 
 /// Closes the new file, and tells how many records it has.
-pub fn close_built<T: Shelf>(shelf: &mut T, parts: FileParts) -> Result<FileBuilt, Fault>
+pub fn close_counted<T: Shelf>(shelf: &mut T, parts: FileParts) -> Result<u64, Fault>
     requires { IsReadyParts parts (T.state shelf.old) }
+    ensures { ClosesToCount T.state T.fault_count parts shelf.old shelf.new result }
 {
     let mut parts = parts;
     let records = parts.file.prime().count();
-    parts.close(shelf)?;
-    Ok(FileBuilt::Closed { records })
+    match parts.close(shelf) {
+        Ok(()) => Ok(records),
+        Err(fault) => Err(fault),
+    }
 }
