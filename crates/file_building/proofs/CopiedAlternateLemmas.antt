@@ -17,9 +17,9 @@ use Rattle.open_file.specs.declared.open_file.OpenFile.{OpenFile}
 use Rattle.open_file.proofs.OrderLemmas.{either}
 use Rattle.open_file.proofs.PartsLemmas.{from_eq, from_ne}
 use Rattle.open_file.proofs.HeaderLemmas.{prime_entries_many, alt_entries_many}
-use Rattle.file_building.specs.CopyRows.{RowsStandIn}
+use Rattle.file_building.specs.Rows.{RowsStandBuilt}
 use Rattle.file_building.specs.CopiedEntries.{IsAlike, AreAlikeIndexes}
-use Rattle.file_building.proofs.CopiedPartLemmas.{parts_more, before_last, last_here}
+use Rattle.file_building.proofs.PartLemmas.{parts_more, before_last, last_here}
 
 -- each index has as many entries as the prime index counts
 pub counted_alike : (source : OpenFile) (live : PageMap) (file : File) (count k : ℕ) → Stands source live file → CountsPrime (prime_index_of source) count → count ≡ length (alt_entries (file_schema source) k file.rows)
@@ -30,7 +30,7 @@ counted_alike source live file count k stands counts =
 
 -- one index more stands
 pub index_more : (schema : Schema) (heap : Heap) (prime : PrimeIndex) (alternates : List AltIndex) (before after : PageMap) (rows : List Row) (index : AltIndex) (j : ℕ) → length alternates ≡ j
-    → RowsStandIn schema heap prime alternates before rows → AltChanged before after index [] (alt_entries schema (j + 1) rows) → RowsStandIn schema heap prime (alternates ++ index ∷ []) after rows
+    → RowsStandBuilt schema heap prime alternates before rows → AltChanged before after index [] (alt_entries schema (j + 1) rows) → RowsStandBuilt schema heap prime (alternates ++ index ∷ []) after rows
 index_more schema heap prime alternates before after rows index j many s changed = record {
   places = s.places;
   slots = s.slots;

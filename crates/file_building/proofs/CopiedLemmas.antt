@@ -18,14 +18,14 @@ use Rattle.open_file.specs.Stored.{AreAt, stored}
 use Rattle.open_file.specs.Fields.{file_schema, heap_of, prime_index_of}
 use Rattle.open_file.specs.declared.open_file.OpenFile.{OpenFile}
 use Rattle.file_building.specs.declared.walk.TreeWalk.{TreeWalk}
-use Rattle.file_building.specs.declared.copied_rows_builder.RowsBuilder.{RowsBuilder}
+use Rattle.file_building.specs.declared.rows_builder.RowsBuilder.{RowsBuilder}
 use Rattle.open_file.specs.Stands.{Stands}
 use Rattle.open_file.specs.Parts.{heap_pages, prime_pages}
 use Rattle.open_file.proofs.HeaderLemmas.{prime_entries_many}
 use Rattle.key_index.specs.Standing.{CountsPrime}
 use Rattle.byteorder.specs.Numbers.{length-bytes_high_first}
 use Rattle.file_building.specs.Walk.{HasWalked, BeginsWalk}
-use Rattle.file_building.specs.CopyRows.{HoldsRows}
+use Rattle.file_building.specs.Rows.{HasRowsSoFar}
 use Rattle.file_building.specs.CopiedRows.{RowsToCopy, HasCopiedRows, HasReadRow}
 
 -- the place of the next row, and those behind it
@@ -102,7 +102,7 @@ pub record OneLeft (source : OpenFile) (walk : TreeWalk) (builder : RowsBuilder)
   pub rest : List Row
   pub all : done ++ row ∷ rest ≡ rows
   pub ahead : RowsToCopy source walk live (row ∷ rest)
-  pub holds : HoldsRows (file_schema source) builder pages done
+  pub holds : HasRowsSoFar (file_schema source) builder pages done
   pub many : length rest ≡ left
 
 pub one_left : (source : OpenFile) (walk : TreeWalk) (builder : RowsBuilder) (live pages : PageMap) (rows : List Row) (left : ℕ) → HasCopiedRows source walk builder live pages rows (suc left) → OneLeft source walk builder live pages rows left
@@ -114,7 +114,7 @@ one_left source walk builder live pages rows left h = go h.rest h.all h.ahead h.
 
 -- it is copied
 pub copied_more : (source : OpenFile) (walk now : TreeWalk) (builder built : RowsBuilder) (live pages after : PageMap) (rows : List Row) (left : ℕ) (one : OneLeft source walk builder live pages rows left)
-    → RowsToCopy source now live one.rest → HoldsRows (file_schema source) built after (one.done ++ one.row ∷ []) → HasCopiedRows source now built live after rows left
+    → RowsToCopy source now live one.rest → HasRowsSoFar (file_schema source) built after (one.done ++ one.row ∷ []) → HasCopiedRows source now built live after rows left
 copied_more source walk now builder built live pages after rows left one ahead holds = record {
   done = one.done ++ one.row ∷ [];
   rest = one.rest;
@@ -125,11 +125,11 @@ copied_more source walk now builder built live pages after rows left one ahead h
 }
 
 -- none is left
-pub all_copied : (source : OpenFile) (walk : TreeWalk) (builder : RowsBuilder) (live pages : PageMap) (rows : List Row) (h : HasCopiedRows source walk builder live pages rows 0) → HoldsRows (file_schema source) builder pages rows
+pub all_copied : (source : OpenFile) (walk : TreeWalk) (builder : RowsBuilder) (live pages : PageMap) (rows : List Row) (h : HasCopiedRows source walk builder live pages rows 0) → HasRowsSoFar (file_schema source) builder pages rows
 all_copied source walk builder live pages rows h = go h.rest h.all h.many
   where
-    go : (rest : List Row) → h.done ++ rest ≡ rows → length rest ≡ 0 → HoldsRows (file_schema source) builder pages rows
-    go [] all none = subst (HoldsRows (file_schema source) builder pages) (sym (append-nil h.done) ∙ all) h.holds
+    go : (rest : List Row) → h.done ++ rest ≡ rows → length rest ≡ 0 → HasRowsSoFar (file_schema source) builder pages rows
+    go [] all none = subst (HasRowsSoFar (file_schema source) builder pages) (sym (append-nil h.done) ∙ all) h.holds
     go (row ∷ rest) all none = absurd (omega (arith, none))
 
 -- the walk is behind all entries
@@ -165,7 +165,7 @@ primes_long w [] each = tt
 primes_long w (e ∷ es) each = (prime_long w e each.0, primes_long w es each.1)
 
 pub rows_begun : (source : OpenFile) (walk : TreeWalk) (builder : RowsBuilder) (live pages : PageMap) (file : File) (left count : ℕ) → Stands source live file → BeginsWalk (prime_index_of source).tree walk
-    → CountsPrime (prime_index_of source) count → HoldsRows (file_schema source) builder pages [] → left ≡ count → HasCopiedRows source walk builder live pages file.rows left
+    → CountsPrime (prime_index_of source) count → HasRowsSoFar (file_schema source) builder pages [] → left ≡ count → HasCopiedRows source walk builder live pages file.rows left
 rows_begun source walk builder live pages file left count stands begins counts holds all =
     let index = prime_index_of source in
     let entries = prime_entries (file_schema source) stands.places file.rows in

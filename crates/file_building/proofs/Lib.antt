@@ -14,10 +14,8 @@ pub mod AlternateLemmas
 pub mod DifferLemmas
 pub mod UntiedLemmas
 pub mod WalkLemmas
-pub mod CopiedPartLemmas
+pub mod RisingLemmas
 pub mod CopiedStepLemmas
-pub mod CopiedRowLemmas
-pub mod CopiedBuilderLemmas
 pub mod CopiedLemmas
 pub mod CopiedEntryLemmas
 pub mod CopiedAlternateLemmas

@@ -33,8 +33,8 @@ use Rattle.file_building.specs.declared.records_mover.MovedRecords.{MovedRecords
 use Rattle.file_building.specs.NewPlaces.{new_place, HasNewPlace, moved_entry}
 use Rattle.file_building.specs.Leading.{AreKnown}
 use Rattle.file_building.specs.Moving.{LeadsToRecord, IsMovedEntry, IsMoved, HasMovedAll}
-use Rattle.file_building.specs.CopyRows.{RowsStandIn}
-use Rattle.file_building.proofs.CopiedPartLemmas.{none_parted, first_changed, second_changed, first_apart, left_alone, same_pages}
+use Rattle.file_building.specs.Rows.{RowsStandBuilt}
+use Rattle.file_building.proofs.PartLemmas.{none_parted, first_changed, second_changed, first_apart, left_alone, same_pages}
 
 -- ---- an entry is the first that has its value
 
@@ -177,7 +177,7 @@ found_place schema slots new p e (place ∷ places) (row ∷ rows) at one is =
 
 pub rows_moved : (schema : Schema) (shape : Shape) (slots : Slots) (places : List Place) (rows : List Row) (entries : List AltEntry) (start mid after : PageMap) (records : MovedRecords) (index : PrimeIndex)
     → AreAt schema slots places rows → HasMovedAll shape slots (prime_entries schema places rows) entries start mid records → AreKnown records.places (prime_entries schema places rows) → ((n : ℕ) → start n ≡ None)
-    → PrimeChanged mid after index [] (map (moved_entry records.places) (prime_entries schema places rows)) → RowsStandIn schema records.heap index [] after rows
+    → PrimeChanged mid after index [] (map (moved_entry records.places) (prime_entries schema places rows)) → RowsStandBuilt schema records.heap index [] after rows
 rows_moved schema shape slots places rows entries start mid after records index at all known free changed =
     let new = records.places in
     let parted = first_changed start mid [] all.own [] all.changes tt (none_parted start free) in

@@ -20,9 +20,10 @@ use Rattle.open_file.specs.Lent.{LendsToChange}
 use Rattle.open_file.specs.declared.open_file.OpenFile.{OpenFile}
 use Rattle.file_building.specs.declared.copy_fault.CopyFault.{CopyFault}
 use Rattle.file_building.specs.declared.walk.TreeWalk.{TreeWalk}
-use Rattle.file_building.specs.CopyFault.{IsCopyAnswer, HasRunOut}
+use Rattle.file_building.specs.Steps.{RanOutOfPages}
+use Rattle.file_building.specs.CopyFault.{IsCopyAnswer}
 use Rattle.file_building.specs.Walk.{HasWalked, walk_tree}
-use Rattle.file_building.specs.CopyRows.{RowsStandIn}
+use Rattle.file_building.specs.Rows.{RowsStandBuilt}
 use Rattle.file_building.specs.CopiedRows.{WhereBothHonest, IsWritingCause}
 
 -- the first of these entries are copied into pages that were not in use, and so many are left
@@ -67,7 +68,7 @@ pub record PutsEntry {S : Type 0} (shown : ShownPages S) (index : AltIndex) (bef
       → IsCopyAnswer result (λ u. AltBuildsOn start (shown.state after).live new [] (done ++ e ∷ [])
       × IsTrue (shown.state after).is_sound)
   pub builder_is : IsAltBuilderOf (alt_key index) index.width index.prime new
-  pub cause : IfErr result (IsWritingCause (shown.HasFailed before after) (HasRunOut shown before after))
+  pub cause : IfErr result (IsWritingCause (shown.HasFailed before after) (RanOutOfPages shown before after))
   pub step : shown.Writes before after
 
 -- a call that copies the next entry
@@ -119,8 +120,8 @@ pub record CopiesIndexes {S T : Type 0} (from : ShownPages S) (to : ShownPages T
     (old new : S) (before after : T) (result : Result (ArrayVec AltIndex) CopyFault) : Type 0 where
   pub copied : WhereBothHonest from to new before after ((file : File)
       → Stands source (from.state old).live file → (heap : Heap) (prime : PrimeIndex)
-      → RowsStandIn (file_schema source) heap prime [] (to.state before).live file.rows
-      → IsCopyAnswer result (λ alternates. RowsStandIn (file_schema source) heap prime alternates.items
+      → RowsStandBuilt (file_schema source) heap prime [] (to.state before).live file.rows
+      → IsCopyAnswer result (λ alternates. RowsStandBuilt (file_schema source) heap prime alternates.items
       (to.state after).live file.rows × IsTrue (to.state after).is_sound))
   pub alike : IfOk result (λ alternates. AreAlikeIndexes (alternates_of source) alternates.items)
   pub many : IfOk result (λ alternates. length alternates.items ≡ length (alternates_of source))

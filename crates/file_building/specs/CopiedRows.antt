@@ -22,13 +22,14 @@ use Rattle.open_file.specs.Fields.{file_schema, heap_of, prime_index_of}
 use Rattle.open_file.specs.declared.open_file.OpenFile.{OpenFile}
 use Rattle.file_building.specs.declared.copy_fault.CopyFault.{CopyFault}
 use Rattle.file_building.specs.declared.walk.TreeWalk.{TreeWalk}
-use Rattle.file_building.specs.declared.copied_rows_builder.RowsBuilder.{RowsBuilder}
-use Rattle.file_building.specs.declared.copied_rows_builder.RowParts.{RowParts}
+use Rattle.file_building.specs.declared.rows_builder.RowsBuilder.{RowsBuilder}
+use Rattle.file_building.specs.declared.rows_builder.RowParts.{RowParts}
 use Rattle.file_building.specs.declared.copy_fault.CopyFault.TheVariants.{Reading, Writing}
 use Rattle.tree_building.specs.Fresh.{IsBuildCause}
-use Rattle.file_building.specs.CopyFault.{IsCopyAnswer, HasRunOut}
+use Rattle.file_building.specs.Steps.{RanOutOfPages}
+use Rattle.file_building.specs.CopyFault.{IsCopyAnswer}
 use Rattle.file_building.specs.Walk.{HasWalked, walk_tree}
-use Rattle.file_building.specs.CopyRows.{HoldsRows, RowsStandIn, KeepsShapes, builder_slots, builder_width}
+use Rattle.file_building.specs.Rows.{HasRowsSoFar, RowsStandBuilt, KeepsRowShapes, slots_built, width_built}
 
 -- these rows lie at places of the source's heap to which the walk over its prime index leads next
 pub record RowsToCopy (source : OpenFile) (walk : TreeWalk) (live : PageMap) (rest : List Row)
@@ -52,14 +53,14 @@ pub record HasCopiedRows (source : OpenFile) (walk : TreeWalk) (builder : RowsBu
   pub rest : List Row
   pub all : done ++ rest ≡ rows
   pub ahead : RowsToCopy source walk live rest
-  pub holds : HoldsRows (file_schema source) builder pages done
+  pub holds : HasRowsSoFar (file_schema source) builder pages done
   pub many : length rest ≡ left
 
 -- pages may be read, the walk is over the source's prime index, and the builder is for its rows
 pub record IsCopying (source : OpenFile) (walk : TreeWalk) (builder : RowsBuilder) : Type 0 where
   pub tree_is : walk_tree walk ≡ (prime_index_of source).tree
-  pub slots_are : builder_slots builder ≡ slot_shape (heap_of source)
-  pub width_is : builder_width builder ≡ (prime_index_of source).width
+  pub slots_are : slots_built builder ≡ slot_shape (heap_of source)
+  pub width_is : width_built builder ≡ (prime_index_of source).width
 
 -- the entry leads to the row by its value, and the front of the area is what a slot has of the row
 pub record HasReadRow (source : OpenFile) (row : Row) (entry area : List ℕ) (n : ℕ) : Type 0 where
@@ -97,8 +98,8 @@ pub record CanCopyRow {S T : Type 0} (from : ShownPages S) (to : ShownPages T) (
 pub record CanPutRow {S : Type 0} (shown : ShownPages S) (source : OpenFile) (builder : RowsBuilder)
     (entry slot : List ℕ) (before : S) : Type 0 where
   pub target : LendsToChange shown before
-  pub slots_are : builder_slots builder ≡ slot_shape (heap_of source)
-  pub width_is : builder_width builder ≡ (prime_index_of source).width
+  pub slots_are : slots_built builder ≡ slot_shape (heap_of source)
+  pub width_is : width_built builder ≡ (prime_index_of source).width
   pub entry_long : length entry ≡ (prime_index_of source).width + 6
   pub least : (slot_shape (heap_of source)).stamps + (slot_shape (heap_of source)).least ≤ length slot
   pub greatest : length slot ≤ (slot_shape (heap_of source)).stamps + (slot_shape (heap_of source)).greatest
@@ -113,13 +114,13 @@ pub record PutsReadRow {S : Type 0} (shown : ShownPages S) (source : OpenFile) (
     (old new : RowsBuilder) (entry slot : List ℕ) (result : Result Unit CopyFault) : Type 0 where
   pub put : IsTrue (shown.state after).is_honest → IsTrue (shown.state before).is_sound
       → (rows : List Row) (row : Row)
-      → HoldsRows (file_schema source) old (shown.state before).live rows
+      → HasRowsSoFar (file_schema source) old (shown.state before).live rows
       → prime_of (file_schema source) row.bytes ≡ take (prime_index_of source).width entry
       → stored (file_schema source) row ≡ slot
-      → IsCopyAnswer result (λ done. HoldsRows (file_schema source) new (shown.state after).live
+      → IsCopyAnswer result (λ done. HasRowsSoFar (file_schema source) new (shown.state after).live
       (rows ++ row ∷ []) × IsTrue (shown.state after).is_sound)
-  pub same : KeepsShapes old new
-  pub cause : IfErr result (IsWritingCause (shown.HasFailed before after) (HasRunOut shown before after))
+  pub same : KeepsRowShapes old new
+  pub cause : IfErr result (IsWritingCause (shown.HasFailed before after) (RanOutOfPages shown before after))
   pub step : shown.Writes before after
 
 -- what is so where both files told the truth, and the pages of the copy were sound
@@ -145,17 +146,17 @@ pub record EndsRows {S T : Type 0} (from : ShownPages S) (to : ShownPages T) (wa
   pub ended : WhereBothHonest from to new before after ((source : OpenFile) (file : File)
       → IsTrue (is_file (file_schema source) file)
       → HasCopiedRows source walk builder (from.state old).live (to.state before).live file.rows 0
-      → IsCopyAnswer result (λ parts. RowsStandIn (file_schema source) parts.heap parts.prime []
+      → IsCopyAnswer result (λ parts. RowsStandBuilt (file_schema source) parts.heap parts.prime []
       (to.state after).live file.rows
-      × (slot_shape parts.heap ≡ builder_slots builder) × IsTrue (to.state after).is_sound))
-  pub width : IfOk result (λ parts. parts.prime.width ≡ builder_width builder)
+      × (slot_shape parts.heap ≡ slots_built builder) × IsTrue (to.state after).is_sound))
+  pub width : IfOk result (λ parts. parts.prime.width ≡ width_built builder)
 
 -- a call that copies all rows of a file, into pages of which none is in use
 pub record CopiesRows {S T : Type 0} (from : ShownPages S) (to : ShownPages T) (source : OpenFile)
     (old new : S) (before after : T) (result : Result RowParts CopyFault) : Type 0 where
   pub copied : WhereBothHonest from to new before after ((file : File)
       → Stands source (from.state old).live file → ((n : ℕ) → (to.state before).live n ≡ None)
-      → IsCopyAnswer result (λ parts. RowsStandIn (file_schema source) parts.heap parts.prime []
+      → IsCopyAnswer result (λ parts. RowsStandBuilt (file_schema source) parts.heap parts.prime []
       (to.state after).live file.rows
       × (slot_shape parts.heap ≡ slot_shape (heap_of source)) × IsTrue (to.state after).is_sound))
   pub width : IfOk result (λ parts. parts.prime.width ≡ (prime_index_of source).width)

@@ -5,15 +5,9 @@ use Rattle.io_state.specs.declared.fault.Fault.{Fault}
 use Rattle.pages.specs.ShownPages.{ShownPages}
 use Rattle.open_file.specs.Faults.{IsCausedIn}
 use Rattle.tree_building.specs.Fresh.{IsBuildCause}
+use Rattle.file_building.specs.Steps.{RanOutOfPages}
 use Rattle.file_building.specs.declared.copy_fault.CopyFault.{CopyFault}
 use Rattle.file_building.specs.declared.copy_fault.CopyFault.TheVariants.{Reading, Writing}
-
--- between two states there was one in which no page could be taken
-pub record HasRunOut {S : Type 0} (shown : ShownPages S) (before after : S) : Type 0 where
-  pub at : S
-  pub since : shown.Writes before at
-  pub until : shown.Writes at after
-  pub none : (shown.state at).available ≡ 0
 
 -- why a copy gave up: reading failed only where the device of the file has failed or the file is
 -- damaged or broken; writing only where that of the new file has, where no page of it was left, or
@@ -24,17 +18,11 @@ IsCopyCause is_broken reading_failed writing_failed ran_out (Reading fault) =
 IsCopyCause is_broken reading_failed writing_failed ran_out (Writing fault) =
     IsBuildCause writing_failed ran_out fault
 
--- what each call keeps that builds, at a fault too
-pub record KeepsBuilding {S X : Type 0} (shown : ShownPages S) (before after : S)
-    (result : Result X Fault) : Type 0 where
-  pub cause : IfErr result (IsBuildCause (shown.HasFailed before after) (HasRunOut shown before after))
-  pub step : shown.Writes before after
-
 -- what each call keeps that copies, at a fault too: one file is only read, and the other written
 pub record KeepsCopying {S T X : Type 0} (from : ShownPages S) (to : ShownPages T) (is_broken : Bool)
     (old new : S) (before after : T) (result : Result X CopyFault) : Type 0 where
   pub cause : IfErr result (IsCopyCause is_broken (from.HasFailed old new) (to.HasFailed before after)
-      (HasRunOut to before after))
+      (RanOutOfPages to before after))
   pub reads : from.Reads old new
   pub writes : to.Writes before after
 

@@ -18,7 +18,8 @@ use Rattle.file_building.specs.declared.copy_fault.CopyFault.{CopyFault}
 use Rattle.file_building.specs.declared.copy_fault.CopyFault.TheVariants.{Reading, Writing}
 use Rattle.file_building.specs.declared.new_places.NewPlaces.{NewPlaces}
 use Rattle.file_building.specs.declared.walk.TreeWalk.{TreeWalk}
-use Rattle.file_building.specs.CopyFault.{IsCopyAnswer, HasRunOut}
+use Rattle.file_building.specs.Steps.{RanOutOfPages}
+use Rattle.file_building.specs.CopyFault.{IsCopyAnswer}
 use Rattle.file_building.specs.CopiedRows.{WhereBothHonest}
 use Rattle.file_building.specs.NewPlaces.{HasNewPlace, moved_entry}
 use Rattle.file_building.specs.Walk.{HasWalked, walk_tree}
@@ -77,7 +78,7 @@ pub record PutsLeading {S : Type 0} (shown : ShownPages S) (index : PrimeIndex) 
       → IsCopyAnswer result (λ u. PrimeBuildsOn start (shown.state after).live new []
       (map (moved_entry places) (done ++ e ∷ [])) × IsTrue (shown.state after).is_sound)
   pub width_is : new.width ≡ old.width
-  pub cause : IfErr result (IsLeadingCause (shown.HasFailed before after) (HasRunOut shown before after))
+  pub cause : IfErr result (IsLeadingCause (shown.HasFailed before after) (RanOutOfPages shown before after))
   pub step : shown.Writes before after
 
 -- a call that copies the next entry so

@@ -10,7 +10,6 @@ pub mod Building
 pub mod Parts
 pub mod CopyFault
 pub mod Walk
-pub mod CopyRows
 pub mod CopiedRows
 pub mod CopiedEntries
 pub mod CopiedOpening

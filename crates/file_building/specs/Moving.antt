@@ -31,7 +31,8 @@ use Rattle.file_building.specs.declared.new_places.NewPlaces.{NewPlaces}
 use Rattle.file_building.specs.declared.records_mover.MovedRecords.{MovedRecords}
 use Rattle.file_building.specs.declared.records_mover.RecordsMover.{RecordsMover}
 use Rattle.file_building.specs.declared.walk.TreeWalk.{TreeWalk}
-use Rattle.file_building.specs.CopyFault.{IsCopyAnswer, HasRunOut}
+use Rattle.file_building.specs.Steps.{RanOutOfPages}
+use Rattle.file_building.specs.CopyFault.{IsCopyAnswer}
 use Rattle.file_building.specs.CopiedRows.{WhereBothHonest, IsWritingCause}
 use Rattle.file_building.specs.NewPlaces.{new_place, HasNewPlace}
 use Rattle.file_building.specs.Walk.{HasWalked, walk_tree}
@@ -216,7 +217,7 @@ pub record PutsMovedRecord {S : Type 0} (shown : ShownPages S) (before after : S
       → IsCopyAnswer result (λ done. HasMovedTo slots primes old new start (shown.state after).live place
       × IsTrue (shown.state after).is_sound)
   pub same : KeepsMover old new
-  pub cause : IfErr result (IsWritingCause (shown.HasFailed before after) (HasRunOut shown before after))
+  pub cause : IfErr result (IsWritingCause (shown.HasFailed before after) (RanOutOfPages shown before after))
   pub step : shown.Writes before after
 
 -- pages of the source may be read and those of the copy changed, and the mover is for its records

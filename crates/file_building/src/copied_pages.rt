@@ -7,7 +7,7 @@ ghost use Rattle.file_building.specs.Copies.{CopiesFile};
 
 use crate::copied_alternates::copy_alternates;
 use crate::copy_fault::CopyFault;
-use crate::copied_opening::open_parts;
+use crate::copied_opening::open_copy;
 use crate::rows_by_key::copy_rows_by;
 use io_state::Fault;
 use open_file::OpenFile;
@@ -40,7 +40,7 @@ pub fn copy_file<P: Pages, Q: Pages>(
     let alternates = copy_alternates(alloc, source, from, to)?;
     // Each page in use has a number below the count, which a header can tell.
     let _pages = to.count();
-    match open_parts(source, &rows.heap, &rows.prime, &alternates) {
+    match open_copy(source, &rows.heap, &rows.prime, &alternates) {
         Ok(copy) => Ok(copy),
         Err(fault) => Err(CopyFault::Writing(fault)),
     }

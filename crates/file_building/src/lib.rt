@@ -15,7 +15,6 @@ mod copied_entries;
 mod copied_opening;
 mod copied_pages;
 mod copied_path;
-mod copied_rows_builder;
 mod copy_fault;
 mod copying;
 mod end;

@@ -1,7 +1,7 @@
 //! A heap that is built from the records of another, and where each of them lies now.
 
 ghost use Rattle.std.specs.Prelude.{◌++◌};
-ghost use Rattle.file_building.specs.CopyFault.{KeepsBuilding};
+ghost use Rattle.file_building.specs.Steps.{KeepsWhileBuilding};
 ghost use Rattle.file_building.specs.Moving.{CanMove, MovesRecord, FinishesMove, IsNewMover};
 ghost use Rattle.open_file.specs.Lent.{LendsToChange};
 
@@ -51,7 +51,7 @@ impl RecordsMover {
         requires { CanMove P.shown self.old stamps.now bytes.now pages.old }
         ensures moves { MovesRecord P.shown pages.old pages.new self.old self.new old
             (stamps.now ++ bytes.now) result }
-        ensures keeps { KeepsBuilding P.shown pages.old pages.new result }
+        ensures keeps { KeepsWhileBuilding P.shown pages.old pages.new result }
     {
         let place = self.heap.push(pages, stamps, bytes)?;
         self.places.put(old, place)
@@ -63,7 +63,7 @@ impl RecordsMover {
     pub fn finish<P: Pages>(self, pages: &mut P) -> Result<MovedRecords, Fault>
         requires { LendsToChange P.shown pages.old }
         ensures finishes { FinishesMove P.shown pages.old pages.new self result }
-        ensures keeps { KeepsBuilding P.shown pages.old pages.new result }
+        ensures keeps { KeepsWhileBuilding P.shown pages.old pages.new result }
     {
         let RecordsMover { heap, places } = self;
         let heap = heap.finish(pages)?;

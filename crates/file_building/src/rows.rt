@@ -9,7 +9,7 @@ ghost use Rattle.file_building.specs.CopiedRows.{CanCopyRow, ReadsNextRow, Copie
 ghost use Rattle.file_building.specs.CopiedRows.{CanPutRow, PutsReadRow, EndsRows};
 
 use crate::copy_fault::CopyFault;
-use crate::copied_rows_builder::{RowParts, RowsBuilder};
+use crate::rows_builder::{RowParts, RowsBuilder};
 use crate::walk::TreeWalk;
 use io_state::Fault;
 use key_index::PrimeEntry;

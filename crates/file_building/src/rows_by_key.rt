@@ -10,7 +10,7 @@ use crate::copy_fault::CopyFault;
 use crate::leading::lead_to_records;
 use crate::moving::move_records;
 use crate::rows::copy_rows;
-use crate::copied_rows_builder::RowParts;
+use crate::rows_builder::RowParts;
 use open_file::OpenFile;
 use pages::Pages;
 use std::alloc::Global;

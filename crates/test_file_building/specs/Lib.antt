@@ -1,1 +1,2 @@
 pub mod MemoryPages
+pub mod Records

@@ -6,7 +6,8 @@ use Rattle.key_index.specs.Standing.{AltStands, CountsPrime}
 use Rattle.open_file.specs.InOrder.{alt_entries}
 use Rattle.open_file.specs.Parts.{alternate_pages}
 use Rattle.open_file.specs.Fields.{file_schema, alternates_of}
-use Rattle.file_building.proofs.CopiedStepLemmas.{StepLaws, copy_handed, copy_fails, copy_no_answer, copy_cause}
+use Rattle.file_building.proofs.StepLemmas.{StepLaws}
+use Rattle.file_building.proofs.CopiedStepLemmas.{copy_handed, copy_fails, copy_no_answer, copy_cause}
 use Rattle.file_building.proofs.CopiedAlternateLemmas.{counted_alike, index_more, alike_more}
 use Rattle.file_building.proofs.copied_alternates.copy_alternates.Goals as goal
 

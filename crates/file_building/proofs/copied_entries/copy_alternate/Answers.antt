@@ -4,7 +4,8 @@ use Rattle.tree_node.specs.declared.shape.Shape.{Shape}
 use Rattle.file_building.specs.CopiedEntries.{HasCopiedEntries}
 use Rattle.tree_building.specs.IndexBuilding.{AltEntriesRise}
 use Rattle.tree_building.proofs.RankLemmas.{alts_rise}
-use Rattle.file_building.proofs.CopiedStepLemmas.{StepLaws, copy_handed, copy_fails, copy_no_answer, copy_if_err, copy_if_ok, copy_cause}
+use Rattle.file_building.proofs.StepLemmas.{StepLaws}
+use Rattle.file_building.proofs.CopiedStepLemmas.{copy_handed, copy_fails, copy_no_answer, copy_if_err, copy_if_ok, copy_cause}
 use Rattle.file_building.proofs.CopiedEntryLemmas.{entries_begun}
 use Rattle.file_building.proofs.copied_entries.copy_alternate.Goals as goal
 

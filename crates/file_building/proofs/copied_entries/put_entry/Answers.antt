@@ -3,7 +3,7 @@ use Rattle.key_index.specs.declared.entry.AltEntry.{AltEntry}
 use Rattle.key_index.specs.Stored.{alt_entry_in}
 use Rattle.key_index.proofs.StoredLemmas.{alt_back}
 use Rattle.tree_building.specs.IndexBuilding.{AltBuildsOn}
-use Rattle.file_building.proofs.CopiedStepLemmas.{StepLaws, index_cause}
+use Rattle.file_building.proofs.StepLemmas.{StepLaws, index_cause}
 use Rattle.file_building.proofs.CopiedEntryLemmas.{built_since, value_long, prime_long}
 use Rattle.file_building.proofs.copied_entries.put_entry.Goals as goal
 

@@ -2,8 +2,10 @@ use Rattle.std.proofs.Common.{sym, subst, ◌∙◌, false, arith}
 use Rattle.pages.specs.PageMap.{PageMap}
 use Rattle.open_file.specs.Stands.{Stands}
 use Rattle.open_file.specs.Fields.{has_broken}
-use Rattle.file_building.specs.CopiedOpening.{AreBehindHeader, ArePartsLike}
-use Rattle.file_building.proofs.CopiedStepLemmas.{StepLaws, copy_handed, copy_fails, copy_no_answer, copy_cause, nothing_true}
+use Rattle.file_building.specs.CopiedOpening.{ArePartsLike}
+use Rattle.file_building.specs.Opening.{StandBehindHeader}
+use Rattle.file_building.proofs.StepLemmas.{StepLaws}
+use Rattle.file_building.proofs.CopiedStepLemmas.{copy_handed, copy_fails, copy_no_answer, copy_cause, nothing_true}
 use Rattle.file_building.proofs.FaultLemmas.{damage_cause, whole}
 use Rattle.file_building.proofs.copied_pages.copy_file.Goals as goal
 
@@ -69,7 +71,7 @@ returns-in-Ok g c =
           let there = subst (λ (m : PageMap). Stands source m file) (sym same) stands in
           let rest = (c.in_ok-alternates.ensures.copies.copied hf ht made.2 file there rows.heap rows.prime made.0).answer in
           let like : ArePartsLike source rows.heap rows.prime c.in_ok-alternates.alternates.items = record { slots_are = made.1; width_is = c.in_ok-rows.ensures.copies.width; alike = c.in_ok-alternates.ensures.copies.alike } in
-          let behind : AreBehindHeader (g.Q.Pages.shown.state z).live = record { within = λ n some. let low = c.count-pages.ensures.low n some in let top = c.count-pages.type_inv in omega (arith, low, top); no_header = no_header } in
+          let behind : StandBehindHeader (g.Q.Pages.shown.state z).live = record { within = λ n some. let low = c.count-pages.ensures.low n some in let top = c.count-pages.type_inv in omega (arith, low, top); no_header = no_header } in
           record { answer = ((c.in-Ok.ensures.stands (g.P.Pages.shown.state start).live (g.Q.Pages.shown.state z).live file stands rest.0 like behind).answer, rest.1); no_damage = tt };
       made = c.in-Ok.ensures.made;
       broken = whole _ (sym c.is_broken.ensures ∙ c.if-is_broken.false);
@@ -101,7 +103,7 @@ returns-in-Err g c =
           let there = subst (λ (m : PageMap). Stands source m file) (sym same) stands in
           let rest = (c.in_ok-alternates.ensures.copies.copied hf ht made.2 file there rows.heap rows.prime made.0).answer in
           let like : ArePartsLike source rows.heap rows.prime c.in_ok-alternates.alternates.items = record { slots_are = made.1; width_is = c.in_ok-rows.ensures.copies.width; alike = c.in_ok-alternates.ensures.copies.alike } in
-          let behind : AreBehindHeader (g.Q.Pages.shown.state z).live = record { within = λ n some. let low = c.count-pages.ensures.low n some in let top = c.count-pages.type_inv in omega (arith, low, top); no_header = no_header } in
+          let behind : StandBehindHeader (g.Q.Pages.shown.state z).live = record { within = λ n some. let low = c.count-pages.ensures.low n some in let top = c.count-pages.type_inv in omega (arith, low, top); no_header = no_header } in
           record { answer = tt; no_damage = (c.in-Err.ensures.stands (g.P.Pages.shown.state start).live (g.Q.Pages.shown.state z).live file stands rest.0 like behind).no_damage };
       made = tt;
       broken = whole _ (sym c.is_broken.ensures ∙ c.if-is_broken.false);

@@ -1,6 +1,7 @@
 use Rattle.std.proofs.Common.{false}
-use Rattle.file_building.specs.CopyFault.{HasRunOut}
-use Rattle.file_building.proofs.CopiedStepLemmas.{StepLaws, reading_cause, index_cause}
+use Rattle.file_building.specs.Steps.{RanOutOfPages}
+use Rattle.file_building.proofs.StepLemmas.{StepLaws, index_cause}
+use Rattle.file_building.proofs.CopiedStepLemmas.{reading_cause}
 use Rattle.file_building.proofs.LeadLemmas.{all_led, index_since, rise_led}
 use Rattle.file_building.proofs.leading.end_leading.Goals as goal
 
@@ -15,7 +16,7 @@ returns-in-Err-clause-ends g c = record {
 pub returns-in-Err-clause-keeps : goal.returns-in-Err-clause-keeps
 returns-in-Err-clause-keeps g c = record {
   cause = reading_cause false (g.P.Pages.shown.HasFailed c.args.from.now c.end.new.pages) (g.Q.Pages.shown.HasFailed c.args.to.now c.args.to.now)
-      (HasRunOut g.Q.Pages.shown c.args.to.now c.args.to.now) c.in-Err.fault c.in-Err.ensures.reads.cause;
+      (RanOutOfPages g.Q.Pages.shown c.args.to.now c.args.to.now) c.in-Err.fault c.in-Err.ensures.reads.cause;
   reads = c.in-Err.ensures.reads.step;
   writes = g.met.Q.Pages.writes_nothing c.args.to.now;
 }

@@ -7,7 +7,8 @@ use Rattle.open_file.specs.Fields.{prime_index_of}
 use Rattle.tree_building.proofs.RankLemmas.{primes_rise}
 use Rattle.file_building.specs.Leading.{HasLed, IsLeading, LeadsNext}
 use Rattle.file_building.specs.Walk.{BeginsWalk}
-use Rattle.file_building.proofs.CopiedStepLemmas.{StepLaws, copy_handed, copy_fails, copy_no_answer, copy_if_err, copy_if_ok, copy_cause}
+use Rattle.file_building.proofs.StepLemmas.{StepLaws}
+use Rattle.file_building.proofs.CopiedStepLemmas.{copy_handed, copy_fails, copy_no_answer, copy_if_err, copy_if_ok, copy_cause}
 use Rattle.file_building.proofs.LeadLemmas.{lead_begun}
 use Rattle.file_building.proofs.leading.lead_to_records.Goals as goal
 

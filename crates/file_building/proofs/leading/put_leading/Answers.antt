@@ -5,7 +5,7 @@ use Rattle.key_index.proofs.StoredLemmas.{prime_back}
 use Rattle.key_index.proofs.KeyLemmas.{prime_key}
 use Rattle.tree_building.specs.IndexBuilding.{PrimeBuildsOn}
 use Rattle.file_building.specs.NewPlaces.{new_place, moved_entry}
-use Rattle.file_building.proofs.CopiedStepLemmas.{StepLaws, index_cause}
+use Rattle.file_building.proofs.StepLemmas.{StepLaws, index_cause}
 use Rattle.file_building.proofs.LeadLemmas.{led_since, moved_more}
 use Rattle.file_building.proofs.leading.put_leading.Goals as goal
 

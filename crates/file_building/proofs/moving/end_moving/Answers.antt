@@ -1,5 +1,5 @@
 use Rattle.std.proofs.Common.{false}
-use Rattle.file_building.specs.CopyFault.{HasRunOut}
+use Rattle.file_building.specs.Steps.{RanOutOfPages}
 use Rattle.file_building.proofs.CopiedStepLemmas.{reading_cause}
 use Rattle.file_building.proofs.MovingLemmas.{all_moved}
 use Rattle.file_building.proofs.moving.end_moving.Goals as goal
@@ -14,7 +14,7 @@ returns-in-Err-clause-ends g c = record {
 pub returns-in-Err-clause-keeps : goal.returns-in-Err-clause-keeps
 returns-in-Err-clause-keeps g c = record {
   cause = reading_cause false (g.P.Pages.shown.HasFailed c.args.from.now c.end.new.pages) (g.Q.Pages.shown.HasFailed c.args.to.now c.args.to.now)
-      (HasRunOut g.Q.Pages.shown c.args.to.now c.args.to.now) c.in-Err.fault c.in-Err.ensures.reads.cause;
+      (RanOutOfPages g.Q.Pages.shown c.args.to.now c.args.to.now) c.in-Err.fault c.in-Err.ensures.reads.cause;
   reads = c.in-Err.ensures.reads.step;
   writes = g.met.Q.Pages.writes_nothing c.args.to.now;
 }

@@ -1,7 +1,8 @@
 use Rattle.std.proofs.Common.{false, sym, subst, ◌∙◌}
 use Rattle.pages.specs.PageMap.{PageMap}
 use Rattle.file_building.specs.Moving.{RecordsStand}
-use Rattle.file_building.proofs.CopiedStepLemmas.{StepLaws, copy_ok, copy_if_err, copy_cause}
+use Rattle.file_building.proofs.StepLemmas.{StepLaws}
+use Rattle.file_building.proofs.CopiedStepLemmas.{copy_ok, copy_if_err, copy_cause}
 use Rattle.file_building.proofs.MovingLemmas.{move_left, moved_one}
 use Rattle.file_building.proofs.moving.move_next.Goals as goal
 

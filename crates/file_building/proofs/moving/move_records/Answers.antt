@@ -8,7 +8,8 @@ use Rattle.key_index.specs.Standing.{CountsPrime}
 use Rattle.open_file.specs.Fields.{file_schema, heap_of}
 use Rattle.open_file.specs.InOrder.{prime_entries, alt_entries}
 use Rattle.file_building.specs.Moving.{HasMovedEntries, HasMovedAll, RecordsStand}
-use Rattle.file_building.proofs.CopiedStepLemmas.{StepLaws, copy_handed, copy_fails, copy_if_err, copy_ok, copy_cause}
+use Rattle.file_building.proofs.StepLemmas.{StepLaws}
+use Rattle.file_building.proofs.CopiedStepLemmas.{copy_handed, copy_fails, copy_if_err, copy_ok, copy_cause}
 use Rattle.file_building.proofs.CopiedAlternateLemmas.{counted_alike}
 use Rattle.file_building.proofs.SourceLemmas.{move_begun, records_stand}
 use Rattle.file_building.proofs.moving.move_records.Goals as goal

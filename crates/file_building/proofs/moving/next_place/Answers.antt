@@ -3,7 +3,7 @@ use Rattle.tree_search.proofs.AnswerLemmas.{fails}
 use Rattle.key_index.specs.declared.entry.AltEntry.{AltEntry}
 use Rattle.key_index.specs.Stored.{alt_bytes, alt_entry_in}
 use Rattle.key_index.proofs.StoredLemmas.{alt_back}
-use Rattle.file_building.proofs.CopiedStepLemmas.{handed_on}
+use Rattle.file_building.proofs.StepLemmas.{handed_on}
 use Rattle.file_building.proofs.SourceLemmas.{prime_there, place_leads, same_place, never_none, damage_caused}
 use Rattle.file_building.proofs.moving.next_place.Goals as goal
 

@@ -7,7 +7,8 @@ use Rattle.key_index.specs.Standing.{CountsPrime}
 use Rattle.open_file.specs.Fields.{file_schema, has_broken}
 use Rattle.file_building.specs.Walk.{BeginsWalk}
 use Rattle.file_building.specs.CopiedRows.{HasCopiedRows}
-use Rattle.file_building.proofs.CopiedStepLemmas.{StepLaws, copy_handed, copy_fails, copy_no_answer, copy_if_err, copy_if_ok, copy_ok, copy_cause, nothing_true}
+use Rattle.file_building.proofs.StepLemmas.{StepLaws}
+use Rattle.file_building.proofs.CopiedStepLemmas.{copy_handed, copy_fails, copy_no_answer, copy_if_err, copy_if_ok, copy_ok, copy_cause, nothing_true}
 use Rattle.file_building.proofs.CopiedLemmas.{rows_begun}
 use Rattle.file_building.proofs.rows.copy_rows.Goals as goal
 

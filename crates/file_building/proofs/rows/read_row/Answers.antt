@@ -12,7 +12,7 @@ use Rattle.key_index.specs.Stored.{prime_entry_in}
 use Rattle.record_layout.specs.Schema.{prime_of}
 use Rattle.open_file.specs.Stored.{stored}
 use Rattle.open_file.specs.Fields.{file_schema, heap_of, prime_index_of}
-use Rattle.file_building.proofs.CopiedStepLemmas.{handed_on, no_answer, if_both}
+use Rattle.file_building.proofs.StepLemmas.{handed_on, no_answer, if_both}
 use Rattle.file_building.proofs.CopiedLemmas.{next_row, place_told, row_read, rows_behind}
 use Rattle.file_building.proofs.rows.read_row.Goals as goal
 

@@ -5,7 +5,8 @@ use Rattle.open_file.specs.Fields.{file_schema, prime_index_of}
 use Rattle.open_file.specs.Parts.{prime_pages}
 use Rattle.key_index.specs.Standing.{PrimeStands}
 use Rattle.tree_building.proofs.RankLemmas.{primes_rise}
-use Rattle.file_building.proofs.CopiedStepLemmas.{StepLaws, copy_handed, copy_fails, copy_no_answer, copy_cause}
+use Rattle.file_building.proofs.StepLemmas.{StepLaws}
+use Rattle.file_building.proofs.CopiedStepLemmas.{copy_handed, copy_fails, copy_no_answer, copy_cause}
 use Rattle.file_building.proofs.MovedRowLemmas.{entries_known, rows_moved}
 use Rattle.file_building.proofs.rows_by_key.copy_rows_by_alternate.Goals as goal
 

@@ -1,7 +1,7 @@
 use Rattle.std.proofs.Common.{[]}
 use Rattle.tree_search.proofs.AnswerLemmas.{fails}
 use Rattle.bplus_tree.proofs.RemoveLemmas.{changes_trans}
-use Rattle.file_building.proofs.CopiedStepLemmas.{StepLaws, heap_cause, handed_on}
+use Rattle.file_building.proofs.StepLemmas.{StepLaws, heap_cause, handed_on}
 use Rattle.file_building.proofs.records_mover.RecordsMover.finish.Goals as goal
 
 pub returns-in_err-heap-clause-finishes : goal.returns-in_err-heap-clause-finishes

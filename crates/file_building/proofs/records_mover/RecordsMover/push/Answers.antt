@@ -3,7 +3,7 @@ use Rattle.tree_search.proofs.AnswerLemmas.{fails}
 use Rattle.record_heap.specs.declared.shape.Place.{Place}
 use Rattle.file_building.specs.declared.records_mover.RecordsMover.{RecordsMover}
 use Rattle.file_building.specs.NewPlaces.{new_place}
-use Rattle.file_building.proofs.CopiedStepLemmas.{StepLaws, heap_cause, handed_on, if_err}
+use Rattle.file_building.proofs.StepLemmas.{StepLaws, heap_cause, handed_on, if_err}
 use Rattle.file_building.proofs.MoverLemmas.{both_known, memory_cause, moved_more}
 use Rattle.file_building.proofs.records_mover.RecordsMover.push.Goals as goal
 
