@@ -30,23 +30,23 @@ module _ (a m : PagedFile) (s t : ShelfState) (i k : ℕ) (can : CanBuildParts a
   parts_built file found found_is built made =
       let of = subst (IsBuiltFileFor schema) found_is made in
       record {
-    built = λ honest blank.
-        let is = subst (EndsBuiltFile schema given (pages_state_of m t).live (IsTrue (pages_state_of m t).is_sound)) found_is (built honest blank.sound blank.none (no_header m t)).answer in
-        record { answer = (is.0, is.1, record { stands = is.2; sound = is.3 }); no_damage = tt };
-    made = record {
-      ready = record {
-        ready = record { over = writes.ready can.writable; shaped = of.shaped };
-        unbroken = of.unbroken;
-        changed = writes.gate ∙ can.begun;
-      };
-      unit_is = writes.parts.unit;
-      schema_is = of.schema_is;
-    };
-    others = writes.parts.quietly.others;
-    quiet = writes.parts.quietly.quiet;
-    count = writes.parts.faults;
-    cause = tt;
-  }
+        built = λ honest blank.
+            let is = subst (EndsBuiltFile schema given (pages_state_of m t).live (IsTrue (pages_state_of m t).is_sound)) found_is (built honest blank.sound blank.none (no_header m t)).answer in
+            record { answer = (is.0, is.1, record { stands = is.2; sound = is.3 }); no_damage = tt };
+        made = record {
+          ready = record {
+            ready = record { over = writes.ready can.writable; shaped = of.shaped };
+            unbroken = of.unbroken;
+            changed = writes.gate ∙ can.begun;
+          };
+          unit_is = writes.parts.unit;
+          schema_is = of.schema_is;
+        };
+        others = writes.parts.quietly.others;
+        quiet = writes.parts.quietly.quiet;
+        count = writes.parts.faults;
+        cause = tt;
+      }
 
   pub parts_stopped : (found : BuiltFile) → found ≡ AllStopped → Built (Ok found) → BuildsOnPages a schema given (counted_shelf s i) (counted_shelf t k) (Ok PartsStopped)
   parts_stopped found found_is built = record {

@@ -1,11 +1,11 @@
 -- What the building of a new file leaves, from what each of its steps leaves.
-use Rattle.std.proofs.Common.{◌≡◌, ◌≢◌, ◌≤◌, ◌+◌, ◌⊎◌, ℕ, suc, length, inl, inr, List, [], ◌∷◌, Option, Some, Result, Ok, Err, IsTrue, refl, sym, ◌∙◌, ap, subst, arith}
+use Rattle.std.proofs.Common.{◌≡◌, ◌≤◌, ◌+◌, ◌⊎◌, ℕ, suc, length, inl, inr, List, [], ◌∷◌, Option, Result, Ok, Err, IsTrue, refl, sym, ◌∙◌, ap, subst, arith}
 use Rattle.io_state.specs.declared.fault.Fault.{Fault}
 use Rattle.io_state.specs.declared.fault.Fault.TheVariants.{Memory, Device, Full, Damage, Broken}
 use Rattle.record_layout.specs.Schema.{Schema}
-use Rattle.indexed_file.specs.File.{File, Row, empty_file}
+use Rattle.indexed_file.specs.File.{File}
 use Rattle.page_store.specs.DeviceFile.{DeviceFile, content}
-use Rattle.page_store.specs.Gate.{AllRefused, IsRefused, WasOrRefused}
+use Rattle.page_store.specs.Gate.{AllRefused, WasOrRefused}
 use Rattle.page_store.specs.Images.{Leaves}
 use Rattle.page_store.specs.Moments.{Throughout}
 use Rattle.page_store.specs.ShelfState.{ShelfState, KeepsOthers, unit_file}
@@ -13,7 +13,7 @@ use Rattle.page_store.proofs.MomentLemmas.{throughout_then, throughout_weaker, t
 use Rattle.page_store.proofs.ShelfLemmas.{others_then}
 use Rattle.page_cache.specs.HeaderCalls.{MayRefuse}
 use Rattle.page_alloc.specs.declared.paged_file.PagedFile.{PagedFile}
-use Rattle.page_alloc.specs.Joining.{FaultsRose, page_limit}
+use Rattle.page_alloc.specs.Joining.{page_limit}
 use Rattle.page_alloc.specs.PagedFile.{IsOpenOver, IsNewPagedFile, MakesPagedFile, IsKeptOrRefused, counts_of, unit_of_pages}
 use Rattle.page_alloc.specs.StepLaws.{failed_after}
 use Rattle.open_file.specs.Fields.{file_schema}
@@ -27,10 +27,10 @@ use Rattle.file_building.specs.declared.built_parts.BuiltParts.TheVariants.{File
 use Rattle.file_building.specs.declared.file_parts.FileParts.{FileParts}
 use Rattle.file_building.specs.BuiltParts.{CanBuildParts, BuildsOnPages, EndsParts, ArePartsOf, AreBuiltPartsOf}
 use Rattle.file_building.specs.BuiltUnit.{file_of_records, IsBuiltRefused, EndsBuilt, BuildsOnShelf}
-use Rattle.file_building.specs.Closing.{ClosesWithCount, EndsCounted, IsReadyParts}
+use Rattle.file_building.specs.Closing.{ClosesWithCount, EndsCounted}
 use Rattle.file_building.specs.Filling.{IsBlank, IsFullFile}
 use Rattle.file_building.specs.NewFile.{IsOldOrWhole, ReadsOldOrWhole}
-use Rattle.file_building.specs.Written.{AreAccepted, RecordsRise, rows_with_stamps, rows_of}
+use Rattle.file_building.specs.Written.{RecordsRise, rows_with_stamps}
 use Rattle.file_building.proofs.CopyLemmas.{filled_images, filled_refused}
 use Rattle.file_building.proofs.MoveLemmas.{none_counted, made_fault}
 use Rattle.file_building.proofs.WrittenLemmas.{file_of}

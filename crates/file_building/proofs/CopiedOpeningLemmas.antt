@@ -1,12 +1,8 @@
 -- The file that is made of parts which were copied from another.
 use Rattle.std.proofs.Common.{◌≡◌, ◌+◌, ◌<◌, ℕ, List, length, Result, IsTrue, sym, ap, subst, ◌∙◌, arith}
-use Rattle.std.specs.Prelude.{IfOk}
 use Rattle.io_state.specs.declared.fault.Fault.{Fault}
-use Rattle.indexed_file.specs.File.{File}
 use Rattle.indexed_file.specs.Sound.{is_file}
-use Rattle.pages.specs.PageMap.{PageMap}
 use Rattle.pages.specs.Answer.{IsAnswer}
-use Rattle.record_layout.specs.Schema.{Schema, key_at}
 use Rattle.record_heap.specs.declared.heap.Heap.{Heap}
 use Rattle.record_heap.specs.declared.shape.Shape.{Shape}
 use Rattle.key_index.specs.declared.prime_index.PrimeIndex.{PrimeIndex}

@@ -1,5 +1,5 @@
 -- A new file of a shelf that is built from records, and what a call leaves that builds it.
-use Rattle.std.specs.Prelude.{◌≡◌, ◌≢◌, ◌⊎◌, ◌≤◌, ℕ, List, length, Option, Some, IsTrue, Result, IfOk, IfErr, ⊤}
+use Rattle.std.specs.Prelude.{◌≡◌, ◌≢◌, ◌≤◌, ℕ, List, length, IsTrue, Result, IfOk, IfErr, ⊤}
 use Rattle.io_state.specs.declared.fault.Fault.{Fault}
 use Rattle.io_state.specs.declared.fault.Fault.TheVariants.{Damage}
 use Rattle.record_layout.specs.Schema.{Schema}
@@ -10,7 +10,6 @@ use Rattle.page_store.specs.Images.{IsSettled}
 use Rattle.page_store.specs.Moments.{Throughout}
 use Rattle.page_store.specs.ShelfState.{ShelfState, KeepsOthers, unit_file}
 use Rattle.page_alloc.specs.Joining.{FaultsRose}
-use Rattle.shelf_library.specs.ClosedFile.{AreClosed}
 use Rattle.shelf_library.specs.FileOpening.{CountedShelf, counted_shelf}
 use Rattle.tree_building.specs.Fresh.{IsBuildCause}
 use Rattle.file_building.specs.declared.built_end.FileBuilt.{FileBuilt}

@@ -1,20 +1,16 @@
 -- The file that has parts which were built.
-use Rattle.std.specs.Prelude.{◌≡◌, ◌+◌, ◌<◌, ◌^◌, ℕ, List, None, IsSome, IsFalse, Result, IfOk, IfErr}
+use Rattle.std.specs.Prelude.{◌≡◌, List, Result, IfOk, IfErr}
 use Rattle.io_state.specs.declared.fault.Fault.{Fault}
 use Rattle.io_state.specs.declared.fault.Fault.TheVariants.{Damage}
 use Rattle.indexed_file.specs.File.{File}
 use Rattle.pages.specs.PageMap.{PageMap}
 use Rattle.pages.specs.Answer.{IsAnswer}
 use Rattle.record_heap.specs.declared.heap.Heap.{Heap}
-use Rattle.record_heap.specs.Standing.{slot_shape, first_heap_page, first_free_slot}
-use Rattle.open_file.specs.declared.first_page.Header.{Header}
-use Rattle.bplus_tree.specs.Fields.{tree_count}
-use Rattle.open_file.specs.Headers.{AreTrees}
+use Rattle.record_heap.specs.Standing.{slot_shape}
 use Rattle.key_index.specs.declared.prime_index.PrimeIndex.{PrimeIndex}
 use Rattle.key_index.specs.declared.alt_index.AltIndex.{AltIndex}
-use Rattle.open_file.specs.Stands.{Stands, IsShaped}
+use Rattle.open_file.specs.Stands.{Stands}
 use Rattle.open_file.specs.Fields.{file_schema, next_stamp_of, heap_of, prime_index_of, alternates_of}
-use Rattle.open_file.specs.Fields.{path_of, has_broken}
 use Rattle.open_file.specs.declared.open_file.OpenFile.{OpenFile}
 use Rattle.file_building.specs.Opening.{IsOpenedWith, StandBehindHeader}
 use Rattle.file_building.specs.Rows.{RowsStandBuilt}

@@ -1,7 +1,6 @@
 -- Why a copy gave up, and what each step of one keeps.
-use Rattle.std.specs.Prelude.{◌≡◌, ◌≢◌, Bool, Result, IfOk, IfErr}
+use Rattle.std.specs.Prelude.{◌≢◌, Bool, Result, IfOk, IfErr}
 use Rattle.io_state.specs.declared.fault.Fault.TheVariants.{Damage}
-use Rattle.io_state.specs.declared.fault.Fault.{Fault}
 use Rattle.pages.specs.ShownPages.{ShownPages}
 use Rattle.open_file.specs.Faults.{IsCausedIn}
 use Rattle.tree_building.specs.Fresh.{IsBuildCause}

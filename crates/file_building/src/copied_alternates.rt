@@ -5,8 +5,8 @@ ghost use Rattle.open_file.specs.Lent.{LendsPages, LendsToChange};
 ghost use Rattle.file_building.specs.CopyFault.{KeepsCopying};
 ghost use Rattle.file_building.specs.CopiedEntries.{CopiesIndexes};
 
-use crate::copy_fault::CopyFault;
 use crate::copied_entries::copy_alternate;
+use crate::copy_fault::CopyFault;
 use arrayvec::ArrayVec;
 use key_index::AltIndex;
 use open_file::OpenFile;

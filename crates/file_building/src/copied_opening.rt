@@ -25,5 +25,11 @@ pub fn open_copy(
     requires many { length alternates.now.items ≡ length (alternates_of source.now) }
     ensures { OpensParts source.now heap.now prime.now alternates.now.items result }
 {
-    open_parts(source.schema(), source.next_stamp(), heap, prime, alternates)
+    open_parts(
+        source.schema(),
+        source.next_stamp(),
+        heap,
+        prime,
+        alternates,
+    )
 }

@@ -6,8 +6,8 @@ ghost use Rattle.open_file.specs.Lent.{LendsPages, LendsToChange};
 ghost use Rattle.file_building.specs.Copies.{CopiesFile};
 
 use crate::copied_alternates::copy_alternates;
-use crate::copy_fault::CopyFault;
 use crate::copied_opening::open_copy;
+use crate::copy_fault::CopyFault;
 use crate::rows_by_key::copy_rows_by;
 use io_state::Fault;
 use open_file::OpenFile;

@@ -41,9 +41,15 @@ const CHANGES: u64 = 16;
 fn numbered(rt: &impl Abort, alloc: Global, count: u32) -> Vec<u8> {
     let mut bytes = Vec::new(alloc);
     for n in 0..count {
-        bytes.extend_from_slice(&n.to_be_bytes()).expect(rt, "memory");
-        bytes.extend_from_slice(&(n % 7).to_be_bytes()).expect(rt, "memory");
-        bytes.extend_from_slice(&n.wrapping_mul(2_654_435_761).to_be_bytes()).expect(rt, "memory");
+        bytes
+            .extend_from_slice(&n.to_be_bytes())
+            .expect(rt, "memory");
+        bytes
+            .extend_from_slice(&(n % 7).to_be_bytes())
+            .expect(rt, "memory");
+        bytes
+            .extend_from_slice(&n.wrapping_mul(2_654_435_761).to_be_bytes())
+            .expect(rt, "memory");
     }
     bytes
 }
@@ -68,7 +74,16 @@ fn builds<S: Shelf>(
         latest: [0; 12],
     };
     let frames = NonZeroUsize::MIN;
-    build_closed(alloc, shelf, 0, &schema, &mut records, frames, 10_000, memory)
+    build_closed(
+        alloc,
+        shelf,
+        0,
+        &schema,
+        &mut records,
+        frames,
+        10_000,
+        memory,
+    )
 }
 
 /// What is found of the file.
@@ -95,7 +110,12 @@ fn a_file_has_the_records_of_which_it_was_built(rt: HostRuntime) {
 }
 
 /// What becomes of these records; the file is refused.
-fn refused(rt: &impl Abort, alloc: Global, bytes: &[u8], memory: usize) -> Result<FileBuilt, Fault> {
+fn refused(
+    rt: &impl Abort,
+    alloc: Global,
+    bytes: &[u8],
+    memory: usize,
+) -> Result<FileBuilt, Fault> {
     let mut shelf = MemShelf::new(alloc);
     let built = builds(rt, alloc, &mut shelf, bytes, memory);
     assert_equal(rt, matches!(look(rt, &mut shelf), Look::Refused), true);
@@ -108,9 +128,21 @@ fn records_that_make_no_file_leave_a_refused_one(rt: HostRuntime) {
     let same = b"0001AAAA11110001BBBB2222";
     let twice = b"0001AAAA11110002BBBB22220003CCCC1111";
     let falling = b"0001AAAA11110003BBBB22220002CCCC3333";
-    assert_equal(&rt, refused(&rt, alloc, same, ENOUGH), Ok(FileBuilt::OutOfOrder));
-    assert_equal(&rt, refused(&rt, alloc, twice, ENOUGH), Ok(FileBuilt::Clash));
-    assert_equal(&rt, refused(&rt, alloc, falling, ENOUGH), Ok(FileBuilt::OutOfOrder));
+    assert_equal(
+        &rt,
+        refused(&rt, alloc, same, ENOUGH),
+        Ok(FileBuilt::OutOfOrder),
+    );
+    assert_equal(
+        &rt,
+        refused(&rt, alloc, twice, ENOUGH),
+        Ok(FileBuilt::Clash),
+    );
+    assert_equal(
+        &rt,
+        refused(&rt, alloc, falling, ENOUGH),
+        Ok(FileBuilt::OutOfOrder),
+    );
 }
 
 #[test]
@@ -147,7 +179,13 @@ fn a_file_of_which_a_change_failed_is_no_other_file(rt: HostRuntime) {
     for at in 1..=CHANGES {
         fails_at(&rt, alloc, bytes.as_slice(), at);
     }
-    let mut shelf = FuseShelf::new(MemShelf::new(alloc), Kind::Changes, CHANGES + 1, false, true);
+    let mut shelf = FuseShelf::new(
+        MemShelf::new(alloc),
+        Kind::Changes,
+        CHANGES + 1,
+        false,
+        true,
+    );
     let built = builds(&rt, alloc, &mut shelf, bytes.as_slice(), ENOUGH);
     assert_equal(&rt, built, Ok(FileBuilt::Closed { records: 40 }));
 }

@@ -1,4 +1,4 @@
-use Rattle.std.proofs.Common.{◌≡◌, List, ℕ, IsTrue, sym, subst, ◌∙◌}
+use Rattle.std.proofs.Common.{IsTrue, sym, subst, ◌∙◌}
 use Rattle.record_layout.specs.Schema.{Schema}
 use Rattle.indexed_file.specs.File.{empty_file}
 use Rattle.file_building.specs.Building.{IsBuildingFile, EndsBuilding, IsBuiltFor}

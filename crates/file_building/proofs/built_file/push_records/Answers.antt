@@ -1,5 +1,4 @@
-use Rattle.std.proofs.Common.{◌≡◌, ◌≤◌, ◌++◌, ◌∷◌, [], ℕ, List, length, sym, ap, subst, ◌∙◌}
-use Rattle.record_layout.specs.Schema.{Schema}
+use Rattle.std.proofs.Common.{◌≤◌, ℕ, List, length, sym, subst, ◌∙◌}
 use Rattle.file_building.specs.Building.{IsBuildingFile, EndsPush}
 use Rattle.file_building.specs.Written.{RecordsRise}
 use Rattle.file_building.proofs.StepLemmas.{StepLaws, cause_since}
