@@ -7,8 +7,8 @@ ghost use Rattle.command_support.specs.Status.{status_of_worst, status_of_salvag
 use crate::fault::Fault;
 use deck_runner::RunEnd;
 use explanations::REASON_LINES;
-use file_checker::{Reason, Verdict};
 use file_building::CopyEnd;
+use file_checker::{Reason, Verdict};
 use file_reports::{Comparison, FileStatisticsEnd, Refusal};
 use pages::FaultPlace;
 use record_listing::FileList;

@@ -1,6 +1,14 @@
-//! Files that are written whole: a new one built from records, and the copy of a closed one.
+//! New files that are written whole: built from records, or as the copy of a closed file.
 //!
-//! XX
+//! `FileBuilder` takes records whose prime values rise, and makes the file that adding them one after
+//! another makes: heap and prime index as they come, the alternate keys sorted at the end.
+//! `build_closed` does so with the records of a source and a new file of a shelf. `copy_closed` copies
+//! a closed file of one shelf into a new one of another, in the order of a key, and `copy_path` by
+//! paths. The gate of a new file is open until all is written, so a crash leaves what was there, a
+//! refused file, or the whole one.
+//!
+//! Where records come from, and which words ask for a copy, is not known here. Read `Written.antt` and
+//! `file_builder`; `BuiltUnit.antt` and `building`; `Copies.antt`, `Copying.antt` and `copying`.
 #![tactic(auto)]
 
 mod alternates;
