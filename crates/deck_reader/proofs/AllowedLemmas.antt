@@ -34,11 +34,11 @@ use Rattle.deck_parser.specs.Following.{followed, where_allowed}
 use Rattle.deck_parser.specs.Located.{with_line}
 use Rattle.deck_reader.specs.Placed.{nothing_placed, placed_statement, placed_paragraph, placed_behind}
 use Rattle.deck_reader.specs.declared.placed.PlacedStatements.{PlacedStatements}
-use Rattle.deck_reader.specs.Names.{Names, item_in, item_named, access_at}
+use Rattle.deck_reader.specs.Names.{Names, item_in, item_named, access_at, prime_length, key_by_item, led_key_by_item}
 use Rattle.deck_reader.specs.Procedure.{one_statement, statement, paragraph, procedure}
-use Rattle.deck_reader.specs.StatementRules.{joined_statements, some_of, in_its_line, file, open_statement, close_statement, key, read_operand, read_statement, relation, led_key, start_by, start_statement, source, receiver, moved_source, move_statement}
-use Rattle.deck_reader.specs.Parts.{record_named, name_to_open, opening, file_to_close, paragraph_or_sentence}
-use Rattle.deck_reader.proofs.ProcedureLemmas.{next, read_phrases, file_to_start, start_operand, moved_to, receivers, write_statement, rewrite_statement, delete_statement, stop_statement, sentence}
+use Rattle.deck_reader.specs.StatementRules.{joined_statements, some_of, in_its_line, file, open_statement, close_statement, key, next_phrase, read_operand, read_statement, relation, led_key, start_by, file_to_start, start_phrase, start_operand, start_statement, source, receiver, moved_source, move_statement}
+use Rattle.deck_reader.specs.Parts.{record_named, write_statement, rewrite_statement, delete_statement, name_to_open, opening, file_to_close, paragraph_or_sentence}
+use Rattle.deck_reader.proofs.ProcedureLemmas.{read_phrases, moved_to, receivers, stop_statement, sentence}
 use Rattle.deck_reader.proofs.GivesLemmas.{Gives, gives_with_line, gives_second, gives_first, gives_pair, gives_either, gives_as, gives_one, gives_followed, IfThere, gives_optional, joined_all, gives_some, found, all_at, one_all, field_found, keys_there}
 use Rattle.deck_reader.proofs.SourceLemmas.{HasDigits, gives_source, taken_is_number}
 
@@ -50,19 +50,6 @@ read_by sequential k = option_map_or (λ k. Read k) k (cond sequential ReadNext 
 abbrev length_item_of : Names → List ℕ → Option ℕ
 length_item_of names name = position (λ item. bytes_eq item.name name) names.items
 
--- the length of the file's prime key
-abbrev prime_length : Names → ℕ → ℕ
-prime_length names u = option_map_or (λ file. (key_at file.schema 0).length) (slice_get names.files u) 0
-
--- the key of the file that the item is
-abbrev key_by_item : Names → ℕ → Field → Option ℕ
-key_by_item names u field = option_and_then (λ file. key_of_field file.schema field) (slice_get names.files u)
-
--- the key of the file that begins with the item, and the item's length
-abbrev led_key_of : Names → ℕ → Field → Option (ℕ × ℕ)
-led_key_of names u field =
-    option_and_then (λ file. option_map {U = ℕ × ℕ} (λ k. (k, field.length)) (key_led_by file.schema field)) (slice_get names.files u)
-
 -- [[WITH] LOCK]
 abbrev lock : Rule Bool
 lock = is_word_there <$> optional (may (codes "WITH") ▸ the (codes "LOCK"))
@@ -73,7 +60,7 @@ key_named names u name = option_and_then (key_by_item names u) (item_in names u 
 
 -- the key that the file's item of this name leads, and the item's length
 abbrev led_key_named : Names → ℕ → List ℕ → Option (ℕ × ℕ)
-led_key_named names u name = option_and_then (led_key_of names u) (item_in names u name)
+led_key_named names u name = option_and_then (led_key_by_item names u) (item_in names u name)
 
 -- the MOVE to the item of this name
 abbrev pub moved_to_named : Names → Source (List ℕ) → List ℕ → Option Statement
@@ -195,7 +182,7 @@ way_of Random (Some _) h = absurd (false≢true h)
 way_of Dynamic None h = refl
 way_of Dynamic (Some _) h = refl
 
-pub gives_next : (access : Access) → Gives (IsWay access) (next access)
+pub gives_next : (access : Access) → Gives (IsWay access) (next_phrase access)
 gives_next access =
     let word = where_allowed (not (is_random access)) (the (codes "NEXT")) in
     gives_as (IfThere (λ _. not (is_random access) ≡ true)) (IsWay access) (λ n. Some (is_sequential access || is_word_there n)) (optional word)
@@ -248,7 +235,7 @@ module _ (names : Names) (u : ℕ) (known : FileDesc) (at : slice_get names.file
 
   pub gives_read_phrases : AreKeys known.schema.keys → Gives (IsAllowed names) (read_phrases names u)
   gives_read_phrases keys =
-      gives_followed (IsWay (access_at names u)) (IsAllowed names) false (next (access_at names u)) (read_operand names u) (gives_next (access_at names u))
+      gives_followed (IsWay (access_at names u)) (IsAllowed names) false (next_phrase (access_at names u)) (read_operand names u) (gives_next (access_at names u))
       (λ sequential way. gives_read_operand keys sequential (subst (λ access. IsWay access sequential) (access_is names u known at) way))
 
 keys_of : (names : Names) → AreDescribed names.files names.items → (u : ℕ) (known : FileDesc) → slice_get names.files u ≡ Some known → IsSchema known.schema
@@ -287,12 +274,12 @@ abbrev pub IsLed : FileDesc → ℕ → ℕ → Type 0
 IsLed known k n = (k < length known.schema.keys) × (1 ≤ n) × (n ≤ (key_at known.schema k).length)
 
 module _ (names : Names) (u : ℕ) (known : FileDesc) (at : slice_get names.files u ≡ Some known) where
-  led_key_is : (field : Field) → led_key_of names u field ≡ option_map {U = ℕ × ℕ} (λ k. (k, field.length)) (key_led_by known.schema field)
+  led_key_is : (field : Field) → led_key_by_item names u field ≡ option_map {U = ℕ × ℕ} (λ k. (k, field.length)) (key_led_by known.schema field)
   led_key_is field = ap (λ o. option_and_then (λ file. option_map {U = ℕ × ℕ} (λ k. (k, field.length)) (key_led_by file.schema field)) o) at
 
   led_of : IsRecord known.layout → (text : List ℕ) (led : ℕ × ℕ) → led_key_named names u text ≡ Some led → IsLed known led.0 led.1
   led_of described text led e =
-      let a = bind_some (led_key_of names u) (item_in names u text) led e in
+      let a = bind_some (led_key_by_item names u) (item_in names u text) led e in
       let b = map_some (λ k. (k, a.0.length)) (key_led_by known.schema a.0) led (sym (led_key_is a.0) ∙ a.2) in
       let f = found (λ part. (part.offset == a.0.offset) && nat_le a.0.length part.length) known.schema.keys b.0 b.1 in
       let test = (both_true (f.0.offset == a.0.offset) (nat_le a.0.length f.0.length) f.2).1 in
@@ -304,11 +291,7 @@ module _ (names : Names) (u : ℕ) (known : FileDesc) (at : slice_get names.file
   unfolding led_key
   gives_led_key described = gives_as (λ _. Unit {0}) (λ led. IsLed known led.0 led.1) (led_key_named names u) name (λ _ _ _ _. tt) (λ text led _ e. led_of described text led e)
 
-  -- [KEY [IS] relation name]
-  abbrev start_phrase : Rule (Option (Relation × (ℕ × ℕ)))
-  start_phrase = optional (the (codes "KEY") ▸ may (codes "IS") ▸ relation ⊗ led_key names u)
-
-  pub gives_start_phrase : IsRecord known.layout → Gives (IfThere (λ operand. IsLed known operand.1.0 operand.1.1)) start_phrase
+  pub gives_start_phrase : IsRecord known.layout → Gives (IfThere (λ operand. IsLed known operand.1.0 operand.1.1)) (start_phrase names u)
   gives_start_phrase described =
       let Q = λ (operand : Relation × (ℕ × ℕ)). IsLed known operand.1.0 operand.1.1 in
       let pair = relation ⊗ led_key names u in
@@ -328,7 +311,7 @@ module _ (names : Names) (u : ℕ) (known : FileDesc) (at : slice_get names.file
 
   pub gives_start_operand : IsRecord known.layout → IsSchema known.schema → IsFalse (is_random known.access) → Gives (IsAllowed names) (start_operand names u)
   gives_start_operand record_is schema_is way =
-      gives_one (IfThere (λ operand. IsLed known operand.1.0 operand.1.1)) (IsAllowed names) (λ operand. Perform u (start_by names u operand)) start_phrase (gives_start_phrase record_is)
+      gives_one (IfThere (λ operand. IsLed known operand.1.0 operand.1.1)) (IsAllowed names) (λ operand. Perform u (start_by names u operand)) (start_phrase names u) (gives_start_phrase record_is)
       (λ operand h. (known, at, start_allowed schema_is way operand h))
 
 pub gives_start : (names : Names) → AreDescribed names.files names.items → Gives (IsAllowed names) (start_statement names)

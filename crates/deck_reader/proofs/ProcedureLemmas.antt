@@ -29,8 +29,8 @@ use Rattle.deck_parser.proofs.OperandLemmas.{lawful_sign, lawful_digits}
 use Rattle.deck_reader.specs.Names.{Names, access_at}
 use Rattle.deck_parser.specs.Following.{followed, where_allowed}
 use Rattle.deck_parser.specs.Located.{with_line}
-use Rattle.deck_reader.specs.StatementRules.{some_of, file, open_statement, close_statement, key, read_operand, read_statement, relation, led_key, start_by, start_statement, figure, source, receiver, moved_source, move_statement}
-use Rattle.deck_reader.specs.Parts.{record_named, name_to_open, opening, file_to_close, paragraph_or_sentence}
+use Rattle.deck_reader.specs.StatementRules.{some_of, file, open_statement, close_statement, key, next_phrase, read_operand, read_statement, relation, led_key, file_to_start, start_operand, start_statement, figure, source, receiver, moved_source, move_statement}
+use Rattle.deck_reader.specs.Parts.{record_named, write_statement, rewrite_statement, delete_statement, name_to_open, opening, file_to_close, paragraph_or_sentence}
 use Rattle.deck_reader.specs.Procedure.{one_statement, statement, paragraph, procedure}
 use Rattle.deck_parser.proofs.FollowLemmas.{AreAlike, lawful_followed}
 use Rattle.deck_parser.proofs.LocatedLemmas.{lawful_with_line}
@@ -39,21 +39,9 @@ pub ruleset steps = (lawful_with_line, lawful_the, lawful_name, lawful_literal, 
 
 -- ---- parts of rules
 
--- [NEXT]
-abbrev pub next : Access → Rule Bool
-next access = (λ n. is_sequential access || is_word_there n) <$> optional (where_allowed (not (is_random access)) (the (codes "NEXT")))
-
 -- [NEXT] [RECORD] [KEY [IS] name]
 abbrev pub read_phrases : Names → ℕ → Rule Statement
-read_phrases names u = followed false (next (access_at names u)) (read_operand names u)
-
--- the name of a file that START is for
-abbrev pub file_to_start : Names → Rule ℕ
-file_to_start names = where_it_gives (λ u. cond (is_random (access_at names u)) None (Some u)) (file names)
-
--- [KEY [IS] relation name]
-abbrev pub start_operand : Names → ℕ → Rule Statement
-start_operand names u = (λ operand. Perform u (start_by names u operand)) <$> optional (the (codes "KEY") ▸ may (codes "IS") ▸ relation ⊗ led_key names u)
+read_phrases names u = followed false (next_phrase (access_at names u)) (read_operand names u)
 
 -- the MOVE to an item of a file, or else to a length item
 abbrev pub moved_to : Source (List ℕ) → Option (ℕ × Field) → Option ℕ → Option Statement
@@ -64,15 +52,6 @@ moved_to sent item place =
 -- TO {name}..
 abbrev pub receivers : Names → ℕ × Source (List ℕ) → Rule PlacedStatements
 receivers names move = the (codes "TO") ▸ some_of (receiver names move.0 move.1)
-
-abbrev pub write_statement : Names → Rule Statement
-write_statement names = (λ u. Perform u Write) <$> the (codes "WRITE") ▸ record_named names
-
-abbrev pub rewrite_statement : Names → Rule Statement
-rewrite_statement names = (λ u. Perform u Rewrite) <$> the (codes "REWRITE") ▸ record_named names
-
-abbrev pub delete_statement : Names → Rule Statement
-delete_statement names = (λ u. Perform u Delete) <$> the (codes "DELETE") ▸ file names ◂ may (codes "RECORD")
 
 abbrev pub stop_statement : Rule Statement
 stop_statement = (λ _. StopRun) <$> the (codes "STOP") ▸ the (codes "RUN")
@@ -111,7 +90,7 @@ lawful_close names = search (steps, lawful_file) depth 20
 
 -- ---- READ
 
-pub lawful_next : (access : Access) → Lawful (next access)
+pub lawful_next : (access : Access) → Lawful (next_phrase access)
 lawful_next access = search steps depth 12
 
 pub lawful_key : (names : Names) (u : ℕ) → Lawful (key names u)
@@ -128,7 +107,7 @@ read_operands_alike names u sequential = record { starts = refl; goes_on = refl;
 
 pub lawful_read_phrases : (names : Names) (u : ℕ) → Lawful (read_phrases names u)
 lawful_read_phrases names u =
-    lawful_followed false (next (access_at names u)) (read_operand names u) (lawful_next (access_at names u)) (lawful_read_operand names u) (read_operands_alike names u)
+    lawful_followed false (next_phrase (access_at names u)) (read_operand names u) (lawful_next (access_at names u)) (lawful_read_operand names u) (read_operands_alike names u)
 
 pub read_phrases_alike : (names : Names) (u : ℕ) → AreAlike (read_phrases names u) (read_phrases names 0)
 unfolding read_operand key

@@ -7,6 +7,7 @@ use Rattle.io_state.specs.declared.modes.Access.{Access}
 use Rattle.io_state.specs.declared.modes.Access.TheVariants.{Sequential}
 use Rattle.record_layout.specs.declared.item.Field.{Field}
 use Rattle.record_layout.specs.Layout.{field_of}
+use Rattle.record_layout.specs.Schema.{key_at, key_of_field, key_led_by}
 use Rattle.file_control.specs.Description.{FileDesc, LengthItem}
 
 -- the files in the order of their SELECT entries, and the 77-level items in the order of theirs
@@ -33,3 +34,17 @@ item_named names name =
 
 abbrev pub access_at : Names → ℕ → Access
 access_at names u = option_map_or (λ file. file.access) (slice_get names.files u) Sequential
+
+-- the length of its prime key
+abbrev pub prime_length : Names → ℕ → ℕ
+prime_length names u = option_map_or (λ file. (key_at file.schema 0).length) (slice_get names.files u) 0
+
+-- its key that the item is
+abbrev pub key_by_item : Names → ℕ → Field → Option ℕ
+key_by_item names u field = option_and_then (λ file. key_of_field file.schema field) (slice_get names.files u)
+
+-- its key that begins with the item, and the item's length
+abbrev pub led_key_by_item : Names → ℕ → Field → Option (ℕ × ℕ)
+led_key_by_item names u field = option_and_then {U = ℕ × ℕ}
+    (λ file. option_map {U = ℕ × ℕ} (λ k. (k, field.length)) (key_led_by file.schema field))
+    (slice_get names.files u)

@@ -6,8 +6,9 @@ use Rattle.io_state.specs.Permission.{may_open}
 use Rattle.record_layout.specs.Layout.{is_named}
 use Rattle.deck_parser.specs.Rule.{Rule, optional, where_it_gives, where_it_gives_or}
 use Rattle.deck_parser.specs.Notation.{the, name, period, ◌▸◌, ◌◂◌, ◌⊗◌, ◌∣◌, ◌<$>◌, is_word_there, may}
-use Rattle.io_state.specs.declared.statement.FileStatement.TheVariants.{Open, Close}
+use Rattle.io_state.specs.declared.statement.FileStatement.TheVariants.{Open, Close, Write, Rewrite, Delete}
 use Rattle.deck_reader.specs.declared.placed.PlacedStatements.{PlacedStatements}
+use Rattle.deck_reader.specs.declared.statement.Statement.{Statement}
 use Rattle.deck_reader.specs.declared.statement.Statement.TheVariants.{Perform}
 use Rattle.deck_reader.specs.Names.{Names, access_at}
 use Rattle.deck_reader.specs.StatementRules.{some_of, in_its_line, file}
@@ -16,6 +17,18 @@ use Rattle.deck_reader.specs.Procedure.{one_statement, statement, paragraph}
 -- the name of a file's record; code 3 for another name
 unfoldable pub record_named : Names → Rule ℕ
 record_named names = where_it_gives_or (λ _. 3) (λ text. position (λ file. is_named text file.entry) names.files) name
+
+-- WRITE name
+abbrev pub write_statement : Names → Rule Statement
+write_statement names = (λ u. Perform u Write) <$> the (codes "WRITE") ▸ record_named names
+
+-- REWRITE name
+abbrev pub rewrite_statement : Names → Rule Statement
+rewrite_statement names = (λ u. Perform u Rewrite) <$> the (codes "REWRITE") ▸ record_named names
+
+-- DELETE name [RECORD]
+abbrev pub delete_statement : Names → Rule Statement
+delete_statement names = (λ u. Perform u Delete) <$> the (codes "DELETE") ▸ file names ◂ may (codes "RECORD")
 
 -- the OPEN of a file, where its access mode permits the open mode
 unfoldable pub name_to_open : Names → OpenMode → Rule PlacedStatements

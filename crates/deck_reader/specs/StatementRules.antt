@@ -18,7 +18,6 @@ use Rattle.record_layout.specs.declared.area.Source.TheVariants.{Text, Digits, F
 use Rattle.record_layout.specs.declared.area.Figure.{Figure}
 use Rattle.record_layout.specs.declared.area.Figure.TheVariants.{Space, Zero, Low, High}
 use Rattle.record_layout.specs.Area.{is_taken_by}
-use Rattle.record_layout.specs.Schema.{key_at, key_of_field, key_led_by}
 use Rattle.deck_parser.specs.Rule.{Rule, optional, some_onto, where_it_gives, where_it_gives_or}
 use Rattle.deck_parser.specs.Notation.{the, name, literal, ◌▸◌, ◌◂◌, ◌⊗◌, ◌∣◌, ◌<$>◌, is_word_there, may}
 use Rattle.deck_parser.specs.Operand.{sign, digits}
@@ -29,6 +28,7 @@ use Rattle.deck_reader.specs.declared.statement.Statement.TheVariants.{Perform, 
 use Rattle.deck_parser.specs.Following.{followed, where_allowed}
 use Rattle.deck_parser.specs.Located.{with_line}
 use Rattle.deck_reader.specs.Names.{Names, item_in, item_named, access_at}
+use Rattle.deck_reader.specs.Names.{prime_length, key_by_item, led_key_by_item}
 use Rattle.deck_reader.specs.Placed.{nothing_placed, placed_statement, placed_behind}
 use Rattle.deck_reader.specs.declared.placed.PlacedStatements.{PlacedStatements}
 
@@ -82,9 +82,8 @@ item_code names u text = if is_some (item_in names u text) then 5 else 3
 
 -- the name of an item of the file that is a key
 unfoldable pub key : Names → ℕ → Rule ℕ
-key names u = where_it_gives_or (item_code names u) (λ text. option_and_then
-    (λ field. option_and_then (λ file. key_of_field file.schema field) (slice_get names.files u))
-    (item_in names u text)) name
+key names u = where_it_gives_or (item_code names u)
+    (λ text. option_and_then (key_by_item names u) (item_in names u text)) name
 
 -- [RECORD] [KEY [IS] name], where KEY stands in no sequential READ. ANSI X3.23-1985, Indexed I-O
 -- module, READ statement, general rules: by this key, or by the prime key where no KEY phrase stands
@@ -94,25 +93,31 @@ read_operand names u sequential =
     <$> may (codes "RECORD")
     ▸ optional (where_allowed (not sequential) (the (codes "KEY")) ▸ may (codes "IS") ▸ key names u)
 
--- READ name [NEXT] [RECORD] [KEY [IS] name]: sequential by NEXT, which random access has not, and
--- always in sequential access
+-- [NEXT], which random access has not: whether the READ is sequential, which it always is in
+-- sequential access
+abbrev pub next_phrase : Access → Rule Bool
+next_phrase access = (λ n. is_sequential access || is_word_there n)
+    <$> optional (where_allowed (not (is_random access)) (the (codes "NEXT")))
+
+-- READ name [NEXT] [RECORD] [KEY [IS] name]
 unfoldable pub read_statement : Names → Rule Statement
-read_statement names =
-    let next : Access → Rule Bool = λ access. (λ n. is_sequential access || is_word_there n)
-    <$> optional (where_allowed (not (is_random access)) (the (codes "NEXT"))) in
-    the (codes "READ") ▸ followed 0 (file names)
-    (λ u. followed false (next (access_at names u)) (read_operand names u))
+read_statement names = the (codes "READ") ▸ followed 0 (file names)
+    (λ u. followed false (next_phrase (access_at names u)) (read_operand names u))
 
 -- ---- START
+
+-- GREATER [THAN] [OR EQUAL [TO]]
+abbrev pub greater_relation : Rule Relation
+greater_relation = (λ or_equal. if is_some or_equal then NotLess else Greater)
+    <$> the (codes "GREATER") ▸ may (codes "THAN")
+    ▸ optional (the (codes "OR") ▸ the (codes "EQUAL") ▸ may (codes "TO"))
 
 -- EQUAL [TO] | = | GREATER [THAN] [OR EQUAL [TO]] | > | NOT (LESS [THAN] | <) | >=
 unfoldable pub relation : Rule Relation
 relation =
     ((λ _. Equal) <$> the (codes "EQUAL") ▸ may (codes "TO"))
     ∣ ((λ _. Equal) <$> sign (codes "="))
-    ∣ ((λ or_equal. if is_some or_equal then NotLess else Greater)
-    <$> the (codes "GREATER") ▸ may (codes "THAN")
-    ▸ optional (the (codes "OR") ▸ the (codes "EQUAL") ▸ may (codes "TO")))
+    ∣ greater_relation
     ∣ ((λ _. Greater) <$> sign (codes ">"))
     ∣ ((λ _. NotLess)
     <$> the (codes "NOT") ▸ ((the (codes "LESS") ◂ may (codes "THAN")) ∣ sign (codes "<")))
@@ -120,26 +125,31 @@ relation =
 
 -- the name of an item of the file that is a key, or the leading part of one: the key, and the item's length
 unfoldable pub led_key : Names → ℕ → Rule (ℕ × ℕ)
-led_key names u = where_it_gives_or (item_code names u) (λ text. option_and_then {U = ℕ × ℕ}
-    (λ field. option_and_then {U = ℕ × ℕ} (λ file. option_map {U = ℕ × ℕ} (λ k. (k, field.length))
-    (key_led_by file.schema field)) (slice_get names.files u)) (item_in names u text)) name
+led_key names u = where_it_gives_or (item_code names u)
+    (λ text. option_and_then {U = ℕ × ℕ} (led_key_by_item names u) (item_in names u text)) name
 
 -- ANSI X3.23-1985, Indexed I-O module, START statement, general rules: EQUAL by the prime key where
 -- no KEY phrase stands
 abbrev pub start_by : Names → ℕ → Option (Relation × (ℕ × ℕ)) → FileStatement
-start_by names u None =
-    Start 0 (option_map_or (λ file. (key_at file.schema 0).length) (slice_get names.files u) 0) Equal
+start_by names u None = Start 0 (prime_length names u) Equal
 start_by names u (Some operand) = Start operand.1.0 operand.1.1 operand.0
 
--- START name [KEY [IS] relation name], where the access of the file is not random; code 5 for the
--- name of a file whose access is
+-- the name of a file whose access is not random; code 5 for the name of a file whose access is
+abbrev pub file_to_start : Names → Rule ℕ
+file_to_start names =
+    where_it_gives (λ u. if is_random (access_at names u) then None else Some u) (file names)
+
+-- [KEY [IS] relation name]: the relation, the key, and the item's length
+abbrev pub start_phrase : Names → ℕ → Rule (Option (Relation × (ℕ × ℕ)))
+start_phrase names u = optional (the (codes "KEY") ▸ may (codes "IS") ▸ relation ⊗ led_key names u)
+
+-- the START of a file by its phrase
+abbrev pub start_operand : Names → ℕ → Rule Statement
+start_operand names u = (λ operand. Perform u (start_by names u operand)) <$> start_phrase names u
+
+-- START name [KEY [IS] relation name]
 unfoldable pub start_statement : Names → Rule Statement
-start_statement names =
-    let file_to_start = where_it_gives
-    (λ u. if is_random (access_at names u) then None else Some u) (file names) in
-    the (codes "START") ▸ followed 0 file_to_start
-    (λ u. (λ operand. Perform u (start_by names u operand))
-    <$> optional (the (codes "KEY") ▸ may (codes "IS") ▸ relation ⊗ led_key names u))
+start_statement names = the (codes "START") ▸ followed 0 (file_to_start names) (start_operand names)
 
 -- ---- MOVE: a statement for each receiver, in order
 

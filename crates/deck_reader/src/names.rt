@@ -4,6 +4,7 @@ ghost use Rattle.std.specs.Prelude.{option_and_then, Some, None, if◌then◌els
 ghost use Rattle.record_layout.specs.Layout.{is_named, field_of};
 ghost use Rattle.record_layout.specs.Schema.{key_at, key_of_field, key_led_by};
 ghost use Rattle.deck_reader.specs.Names.{names_of, item_in, item_named, access_at};
+ghost use Rattle.deck_reader.specs.Names.{prime_length, key_by_item, led_key_by_item};
 ghost use Rattle.std.specs.Option.{option_map_or, option_or};
 ghost use Rattle.deck_reader.specs.Places.{place_of_name, AddsPlace, ArePlaces};
 ghost use Rattle.deck_reader.specs.Named.{IsNamed};
@@ -197,8 +198,7 @@ impl<'a> Names<'a> {
 
     /// The length of a file's prime key.
     pub fn prime_length(&self, file: usize) -> u16
-        ensures { result ≡ option_map_or (λ file. (key_at file.schema 0).length) (slice_get self.now.files
-            file) 0 }
+        ensures { result ≡ prime_length self.now file }
     {
         match self.files.get(file) {
             Some(file) => prime_length_of(file),
@@ -208,18 +208,14 @@ impl<'a> Names<'a> {
 
     /// The key of a file that an item is.
     pub fn key(&self, file: usize, field: Field) -> Option<u8>
-        ensures { result ≡ option_and_then (λ file. key_of_field file.schema field) (slice_get self.now.files
-            file) }
+        ensures { result ≡ key_by_item self.now file field }
     {
         self.files.get(file)?.schema.key_of(field)
     }
 
     /// The key of a file that begins with an item, and the item's length.
     pub fn led_key(&self, file: usize, field: Field) -> Option<(u8, u16)>
-        ensures { result ≡ option_and_then {U = ℕ × ℕ} (λ file. option_map {U = ℕ × ℕ} (λ k. (
-          k,
-          field.length,
-        )) (key_led_by file.schema field)) (slice_get self.now.files file) }
+        ensures { result ≡ led_key_by_item self.now file field }
     {
         self.files.get(file)?.schema.partial(field)
     }

@@ -7,7 +7,7 @@ ghost use Rattle.deck_parser.specs.Notation.{the, may, is_word_there, ◌▸◌}
 ghost use Rattle.deck_parser.specs.Reading.{ReadsRule};
 ghost use Rattle.deck_parser.specs.Rule.{optional, where_it_gives};
 ghost use Rattle.deck_parser.specs.Following.{where_allowed};
-ghost use Rattle.deck_reader.specs.StatementRules.{key, read_operand};
+ghost use Rattle.deck_reader.specs.StatementRules.{key, next_phrase, read_operand};
 ghost use Rattle.deck_reader.specs.StatementRules.{read_statement};
 
 use crate::file_name::file;
@@ -18,8 +18,7 @@ use io_state::{Access, FileStatement};
 
 /// Whether the READ is sequential: NEXT says so, and in sequential access it always is.
 fn next(parser: &mut Parser<'_>, file: usize, access: Access) -> Result<bool, Refusal>
-    ensures { ReadsRule (where_it_gives (λ n. Some (is_sequential access || is_word_there n)) (optional
-        (where_allowed (not (is_random access)) (the (codes "NEXT"))))) parser.old result parser.new }
+    ensures { ReadsRule (next_phrase access) parser.old result parser.new }
 {
     let place = parser.place();
     if !parser.eat(b"NEXT") {

@@ -8,7 +8,8 @@ ghost use Rattle.deck_parser.specs.Reading.{ReadsRule};
 ghost use Rattle.deck_parser.specs.Rule.{optional, where_it_gives};
 ghost use Rattle.deck_reader.specs.Names.{access_at};
 ghost use Rattle.deck_reader.specs.StatementRules.{file};
-ghost use Rattle.deck_reader.specs.StatementRules.{relation, led_key, start_by};
+ghost use Rattle.deck_reader.specs.StatementRules.{relation, greater_relation, led_key, start_by};
+ghost use Rattle.deck_reader.specs.StatementRules.{file_to_start, start_phrase, start_operand};
 ghost use Rattle.deck_reader.specs.StatementRules.{start_statement};
 ghost use Rattle.deck_reader.specs.declared.statement.Statement.TheVariants.{Perform};
 
@@ -20,8 +21,7 @@ use io_state::{Access, FileStatement, Relation};
 
 /// The name of a file that START is for: its access is not random.
 fn file_to_start(parser: &mut Parser<'_>, names: &Names<'_>) -> Result<usize, Refusal>
-    ensures { ReadsRule (where_it_gives (λ u. if is_random (access_at names.now u) then None else Some u) (file
-        names.now)) parser.old result parser.new }
+    ensures { ReadsRule (file_to_start names.now) parser.old result parser.new }
 {
     let place = parser.place();
     let file = file(parser, names)?;
@@ -51,9 +51,7 @@ fn led_key(parser: &mut Parser<'_>, names: &Names<'_>, file: usize) -> Result<(u
 /// GREATER, or GREATER OR EQUAL.
 #[tactic(auto, unfolding(deck_parser::specs::Notation::the))]
 fn greater(parser: &mut Parser<'_>) -> Result<Relation, Refusal>
-    ensures { ReadsRule (where_it_gives (λ or_equal. Some (if is_some or_equal then NotLess else Greater))
-        (the (codes "GREATER") ▸ may (codes "THAN") ▸ optional (the (codes "OR") ▸ the (codes "EQUAL")
-        ▸ may (codes "TO")))) parser.old result parser.new }
+    ensures { ReadsRule greater_relation parser.old result parser.new }
 {
     parser.expect(b"GREATER")?;
     parser.eat(b"THAN");
@@ -112,8 +110,7 @@ fn start_phrase(
     names: &Names<'_>,
     file: usize,
 ) -> Result<Option<(Relation, (u8, u16))>, Refusal>
-    ensures { ReadsRule (optional (the (codes "KEY") ▸ may (codes "IS") ▸ relation ⊗ led_key names.now
-        file)) parser.old result parser.new }
+    ensures { ReadsRule (start_phrase names.now file) parser.old result parser.new }
 {
     if !parser.eat(b"KEY") {
         return Ok(None);
@@ -147,9 +144,7 @@ fn start_operand(
     names: &Names<'_>,
     file: usize,
 ) -> Result<Statement, Refusal>
-    ensures { ReadsRule (where_it_gives (λ operand. Some (Perform file (start_by names.now file operand)))
-        (optional (the (codes "KEY") ▸ may (codes "IS") ▸ relation ⊗ led_key names.now file)))
-        parser.old result parser.new }
+    ensures { ReadsRule (start_operand names.now file) parser.old result parser.new }
 {
     let operand = start_phrase(parser, names, file)?;
     let statement = start_by(names, file, operand);

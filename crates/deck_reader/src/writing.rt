@@ -6,7 +6,7 @@ ghost use Rattle.deck_parser.specs.Rule.{where_it_gives};
 ghost use Rattle.deck_parser.specs.Reading.{ReadsRule};
 ghost use Rattle.deck_reader.specs.StatementRules.{file};
 ghost use Rattle.deck_reader.specs.declared.statement.Statement.TheVariants.{Perform};
-ghost use Rattle.deck_reader.specs.Parts.{record_named};
+ghost use Rattle.deck_reader.specs.Parts.{write_statement, rewrite_statement, delete_statement};
 
 use crate::file_name::{file, record_name};
 use crate::names::Names;
@@ -15,8 +15,7 @@ use deck_parser::{Parser, Refusal};
 use io_state::FileStatement;
 
 pub fn write_statement(parser: &mut Parser<'_>, names: &Names<'_>) -> Result<Statement, Refusal>
-    ensures { ReadsRule (where_it_gives (λ u. Some (Perform u Write)) (the (codes "WRITE")
-        ▸ record_named names.now)) parser.old result parser.new }
+    ensures { ReadsRule (write_statement names.now) parser.old result parser.new }
 {
     parser.expect(b"WRITE")?;
     let file = record_name(parser, names)?;
@@ -25,8 +24,7 @@ pub fn write_statement(parser: &mut Parser<'_>, names: &Names<'_>) -> Result<Sta
 }
 
 pub fn rewrite_statement(parser: &mut Parser<'_>, names: &Names<'_>) -> Result<Statement, Refusal>
-    ensures { ReadsRule (where_it_gives (λ u. Some (Perform u Rewrite)) (the (codes "REWRITE")
-        ▸ record_named names.now)) parser.old result parser.new }
+    ensures { ReadsRule (rewrite_statement names.now) parser.old result parser.new }
 {
     parser.expect(b"REWRITE")?;
     let file = record_name(parser, names)?;
@@ -35,8 +33,7 @@ pub fn rewrite_statement(parser: &mut Parser<'_>, names: &Names<'_>) -> Result<S
 }
 
 pub fn delete_statement(parser: &mut Parser<'_>, names: &Names<'_>) -> Result<Statement, Refusal>
-    ensures { ReadsRule (where_it_gives (λ u. Some (Perform u Delete)) (the (codes "DELETE") ▸ file
-        names.now ◂ may (codes "RECORD"))) parser.old result parser.new }
+    ensures { ReadsRule (delete_statement names.now) parser.old result parser.new }
 {
     parser.expect(b"DELETE")?;
     let file = file(parser, names)?;

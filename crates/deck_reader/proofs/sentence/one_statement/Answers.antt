@@ -7,10 +7,10 @@ use Rattle.deck_parser.specs.Word.{Word}
 use Rattle.deck_reader.specs.declared.statement.Statement.{Statement}
 use Rattle.deck_reader.specs.Names.{Names}
 use Rattle.deck_reader.specs.StatementRules.{read_statement, start_statement}
-use Rattle.deck_reader.specs.Parts.{record_named}
+use Rattle.deck_reader.specs.Parts.{record_named, write_statement, rewrite_statement, delete_statement}
 use Rattle.deck_reader.specs.Procedure.{one_statement}
 use Rattle.deck_parser.proofs.EitherLemmas.{Alike, first, other, chained, alike}
-use Rattle.deck_reader.proofs.ProcedureLemmas.{write_statement, rewrite_statement, delete_statement, stop_statement, read_starts, start_starts, write_starts, rewrite_starts, delete_starts}
+use Rattle.deck_reader.proofs.ProcedureLemmas.{stop_statement, read_starts, start_starts, write_starts, rewrite_starts, delete_starts}
 use Rattle.deck_reader.proofs.sentence.one_statement.Goals as goal
 
 -- the rules from each one on
