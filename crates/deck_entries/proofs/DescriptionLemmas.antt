@@ -14,7 +14,7 @@ use Rattle.deck_entries.specs.FileDescription.{count, length_clause, label, bloc
 use Rattle.deck_entries.specs.FileDescription.{picture_clause, level, item_name, may_item_name, item, more_item}
 use Rattle.deck_entries.specs.FileDescription.{FileDescription, described_name, description_behind, StorageEntry, storage_item, more_storage}
 use Rattle.deck_entries.specs.FileControlEntry.{FileControlEntry}
-use Rattle.deck_entries.specs.declared.clauses.Clauses.{Clauses}
+use Rattle.deck_entries.specs.declared.clauses.DescriptionClauses.{DescriptionClauses}
 
 -- ---- clauses
 
@@ -26,7 +26,7 @@ lawful_length_clause : Lawful length_clause
 unfolding length_clause
 lawful_length_clause = search (steps, lawful_count) depth 24
 
-lawful_description_clause : (said : Clauses) → Lawful (description_clause said)
+lawful_description_clause : (said : DescriptionClauses) → Lawful (description_clause said)
 unfolding description_clause label block record_clause
 lawful_description_clause said = search (steps, lawful_count, lawful_length_clause) depth 24
 

@@ -10,7 +10,7 @@ use Rattle.deck_parser.proofs.RestLemmas.{LeavesRest, EndsWith, end_of_end, rest
 use Rattle.deck_parser.proofs.LocatedLemmas.{rest_with_line}
 use Rattle.deck_entries.specs.FileControlEntry.{FileControlEntry}
 use Rattle.deck_entries.specs.declared.divisions.Divisions.{Divisions}
-use Rattle.deck_entries.specs.declared.clauses.Clauses.{Clauses}
+use Rattle.deck_entries.specs.declared.clauses.DescriptionClauses.{DescriptionClauses}
 use Rattle.deck_entries.specs.FileDescription.{count, length_clause, label, block, record_clause, description_clause, no_clauses}
 use Rattle.deck_entries.specs.FileDescription.{picture_clause, level, item_name, may_item_name, item, more_item}
 use Rattle.deck_entries.specs.FileDescription.{FileDescription, described_name, description_behind, StorageEntry, storage_item, more_storage}
@@ -32,7 +32,7 @@ rest_file_control = search (steps, rest_entries) depth 24
 
 -- ---- file descriptions
 
-rest_description_clause : (said : Clauses) → LeavesRest (description_clause said)
+rest_description_clause : (said : DescriptionClauses) → LeavesRest (description_clause said)
 unfolding description_clause label block record_clause length_clause count digits
 rest_description_clause said = search steps depth 24
 

@@ -3,7 +3,7 @@ use Rattle.std.proofs.Common.{◌≡◌, true, refl, List}
 use Rattle.deck_parser.specs.Name.{is_reserved}
 use Rattle.deck_parser.specs.Rule.{each_behind}
 use Rattle.deck_parser.specs.Notation.{the, name, literal, period}
-use Rattle.deck_entries.specs.FileControlEntry.{Clauses, mode, indexed, access, record_key, duplicates, alternate, status, clause, no_clauses, entry_end, entry_keys}
+use Rattle.deck_entries.specs.FileControlEntry.{EntryClauses, mode, indexed, access, record_key, duplicates, alternate, status, clause, no_clauses, entry_end, entry_keys}
 use Rattle.deck_entries.specs.FileControlEntry.{FileControlEntry, select_word, new_name, new_file_name, select_behind}
 use Rattle.deck_parser.proofs.RuleLemmas.{Lawful}
 use Rattle.deck_parser.proofs.NotationLemmas.{steps}
@@ -15,7 +15,7 @@ lawful_mode : Lawful mode
 unfolding mode
 lawful_mode = search steps depth 12
 
-pub lawful_clause : (said : Clauses) → Lawful (clause said)
+pub lawful_clause : (said : EntryClauses) → Lawful (clause said)
 unfolding clause indexed access record_key duplicates alternate status
 lawful_clause said = search (steps, lawful_mode) depth 24
 
@@ -26,11 +26,11 @@ alike_clauses = record { lawful = lawful_clause; fit = λ _. refl; some = λ _. 
 lawful_clauses : Lawful (each_behind clause no_clauses)
 lawful_clauses = lawful_each clause _ _ alike_clauses no_clauses
 
-lawful_entry_end : (said : Clauses) → Lawful (entry_end said)
+lawful_entry_end : (said : EntryClauses) → Lawful (entry_end said)
 unfolding entry_end
 lawful_entry_end said = search steps depth 12
 
-ends_alike : (said : Clauses) → LookAlike (entry_end said) (entry_end no_clauses)
+ends_alike : (said : EntryClauses) → LookAlike (entry_end said) (entry_end no_clauses)
 unfolding entry_end
 ends_alike said = record { starts = refl; goes_on = refl; may_be_empty = refl; is_fit = refl }
 

@@ -17,16 +17,19 @@ division_heading first second = the first ▸ the second ▸ period
 
 -- ---- file control
 
+-- [IDENTIFICATION DIVISION . PROGRAM-ID . name .]
+abbrev pub identification_division : Rule (Option (Unit {0}))
+identification_division = optional (division_heading (codes "IDENTIFICATION") (codes "DIVISION")
+    ▸ the (codes "PROGRAM-ID") ▸ period ▸ name ▸ period)
+
 -- the earlier entries, and one more
 unfoldable pub more_entry : List FileControlEntry → Rule (List FileControlEntry)
 more_entry earlier = where_it_gives (with_one earlier) (select_behind earlier)
 
--- [IDENTIFICATION DIVISION . PROGRAM-ID . name .]
--- ENVIRONMENT DIVISION . INPUT-OUTPUT SECTION . FILE-CONTROL . {select}..
+-- [identification division] ENVIRONMENT DIVISION . INPUT-OUTPUT SECTION . FILE-CONTROL . {select}..
 unfoldable pub file_control_paragraph : Rule (List FileControlEntry)
 file_control_paragraph =
-    optional (division_heading (codes "IDENTIFICATION") (codes "DIVISION")
-    ▸ the (codes "PROGRAM-ID") ▸ period ▸ name ▸ period)
+    identification_division
     ▸ division_heading (codes "ENVIRONMENT") (codes "DIVISION")
     ▸ division_heading (codes "INPUT-OUTPUT") (codes "SECTION")
     ▸ the (codes "FILE-CONTROL") ▸ period ▸ each_behind more_entry []

@@ -29,18 +29,18 @@ pub record FileControlEntry : Type 0 where
 -- ---- clauses
 
 -- what the clauses of an entry say so far
-pub record Clauses : Type 0 where
+pub record EntryClauses : Type 0 where
   pub indexed : Bool
   pub access : Option Access
   pub record_key : Option (List ℕ)
   pub alternate_keys : List KeyClause
   pub status : Bool
 
-abbrev pub no_clauses : Clauses
+abbrev pub no_clauses : EntryClauses
 no_clauses = record { indexed = false; access = None; record_key = None; alternate_keys = []; status = false }
 
 -- [ORGANIZATION [IS]] INDEXED
-unfoldable pub indexed : Clauses → Rule Clauses
+unfoldable pub indexed : EntryClauses → Rule EntryClauses
 indexed said = unless_barred said.indexed 4 ((λ _. record said { indexed = true })
     <$> optional (the (codes "ORGANIZATION") ▸ may (codes "IS")) ▸ the (codes "INDEXED"))
 
@@ -52,12 +52,12 @@ mode =
     ∣ ((λ _. Dynamic) <$> the (codes "DYNAMIC"))
 
 -- ACCESS [MODE] [IS] (SEQUENTIAL | RANDOM | DYNAMIC)
-unfoldable pub access : Clauses → Rule Clauses
+unfoldable pub access : EntryClauses → Rule EntryClauses
 access said = unless_barred (is_some said.access) 4 ((λ mode. record said { access = Some mode })
     <$> the (codes "ACCESS") ▸ may (codes "MODE") ▸ may (codes "IS") ▸ mode)
 
 -- RECORD [KEY] [IS] name
-unfoldable pub record_key : Clauses → Rule Clauses
+unfoldable pub record_key : EntryClauses → Rule EntryClauses
 record_key said = unless_barred (is_some said.record_key) 4 ((λ key. record said { record_key = Some key })
     <$> the (codes "RECORD") ▸ may (codes "KEY") ▸ may (codes "IS") ▸ name)
 
@@ -66,19 +66,19 @@ unfoldable pub duplicates : Rule Bool
 duplicates = is_some <$> optional (may (codes "WITH") ▸ the (codes "DUPLICATES"))
 
 -- ALTERNATE RECORD [KEY] [IS] name [[WITH] DUPLICATES], eight times at most
-unfoldable pub alternate : Clauses → Rule Clauses
+unfoldable pub alternate : EntryClauses → Rule EntryClauses
 alternate said = unless_barred (nat_le 8 (length said.alternate_keys)) 6 ((λ (key : List ℕ × Bool).
     record said { alternate_keys = said.alternate_keys ++ record { name = key.0; duplicates = key.1 } ∷ [] })
     <$> the (codes "ALTERNATE") ▸ the (codes "RECORD") ▸ may (codes "KEY") ▸ may (codes "IS")
     ▸ name ⊗ duplicates)
 
 -- [FILE] STATUS [IS] name
-unfoldable pub status : Clauses → Rule Clauses
+unfoldable pub status : EntryClauses → Rule EntryClauses
 status said = unless_barred said.status 4 ((λ _. record said { status = true })
     <$> may (codes "FILE") ▸ the (codes "STATUS") ▸ may (codes "IS") ▸ name)
 
 -- one of these, beside those that there are; each but ALTERNATE stands once at most
-unfoldable pub clause : Clauses → Rule Clauses
+unfoldable pub clause : EntryClauses → Rule EntryClauses
 clause said = indexed said ∣ access said ∣ record_key said ∣ alternate said ∣ status said
 
 -- ---- what the clauses of a whole entry say
@@ -89,8 +89,20 @@ pub record EntryKeys : Type 0 where
   pub record_key : List ℕ
   pub alternate_keys : List KeyClause
 
+-- the entry of a file of this line and these names, with the access mode and the keys
+abbrev pub keyed_entry : EntryKeys → (line : ℕ) → (optional : Bool) → (name file_name : List ℕ) → FileControlEntry
+keyed_entry keys line optional name file_name = record {
+  line = line;
+  name = name;
+  file_name = file_name;
+  optional = optional;
+  access = keys.access;
+  record_key = keys.record_key;
+  alternate_keys = keys.alternate_keys;
+}
+
 -- INDEXED and RECORD KEY have to stand; access is sequential where no clause says otherwise
-abbrev pub entry_keys_of : Clauses → Option EntryKeys
+abbrev pub entry_keys_of : EntryClauses → Option EntryKeys
 entry_keys_of said = if said.indexed then option_map (λ key. record {
   access = unwrap_or said.access Sequential;
   record_key = key;
@@ -98,7 +110,7 @@ entry_keys_of said = if said.indexed then option_map (λ key. record {
 }) said.record_key else None
 
 -- the period behind the clauses, with code 2 where one of them is missing
-unfoldable pub entry_end : Clauses → Rule EntryKeys
+unfoldable pub entry_end : EntryClauses → Rule EntryKeys
 entry_end said = where_it_gives_or (λ _. 2) (λ _. entry_keys_of said) period
 
 -- {clause}.. .
@@ -133,14 +145,6 @@ new_file_name earlier =
 unfoldable pub select_behind : List FileControlEntry → Rule FileControlEntry
 select_behind earlier =
     (λ (said : ℕ × (Bool × (List ℕ × (List ℕ × EntryKeys)))).
-    record {
-      line = said.0;
-      name = said.1.1.0;
-      file_name = said.1.1.1.0;
-      optional = said.1.0;
-      access = said.1.1.1.1.access;
-      record_key = said.1.1.1.1.record_key;
-      alternate_keys = said.1.1.1.1.alternate_keys;
-    })
+    keyed_entry said.1.1.1.1 said.0 said.1.0 said.1.1.0 said.1.1.1.0)
     <$> with_line (select_word earlier ▸ (is_some <$> may (codes "OPTIONAL"))
     ⊗ new_name earlier ⊗ (the (codes "ASSIGN") ▸ may (codes "TO") ▸ new_file_name earlier) ⊗ entry_keys)

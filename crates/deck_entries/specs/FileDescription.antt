@@ -18,7 +18,7 @@ use Rattle.deck_parser.specs.Notation.{the, name, period, ◌▸◌, ◌◂◌, 
 use Rattle.deck_entries.specs.FileControlEntry.{FileControlEntry, is_selected}
 use Rattle.deck_entries.specs.declared.record_length.RecordLength.{RecordLength}
 use Rattle.deck_entries.specs.declared.record_length.RecordLength.TheVariants.{Fixed, Varying}
-use Rattle.deck_entries.specs.declared.clauses.Clauses.{Clauses}
+use Rattle.deck_entries.specs.declared.clauses.DescriptionClauses.{DescriptionClauses}
 
 -- ---- words
 
@@ -38,28 +38,28 @@ length_clause =
     ⊗ (may (codes "CHARACTERS") ▸ the (codes "DEPENDING") ▸ may (codes "ON") ▸ name))
     ∣ (Fixed <$> may (codes "CONTAINS") ▸ count ◂ may (codes "CHARACTERS"))
 
-abbrev pub no_clauses : Clauses
+abbrev pub no_clauses : DescriptionClauses
 no_clauses = record { label = false; block = false; lengths = None }
 
 -- LABEL (RECORD | RECORDS) [IS | ARE] (STANDARD | OMITTED)
-unfoldable pub label : Clauses → Rule Clauses
+unfoldable pub label : DescriptionClauses → Rule DescriptionClauses
 label said = unless_barred said.label 4 ((λ _. record said { label = true })
     <$> the (codes "LABEL") ▸ (the (codes "RECORD") ∣ the (codes "RECORDS"))
     ▸ optional (the (codes "IS") ∣ the (codes "ARE")) ▸ (the (codes "STANDARD") ∣ the (codes "OMITTED")))
 
 -- BLOCK [CONTAINS] number [TO number] [RECORDS | CHARACTERS]
-unfoldable pub block : Clauses → Rule Clauses
+unfoldable pub block : DescriptionClauses → Rule DescriptionClauses
 block said = unless_barred said.block 4 ((λ _. record said { block = true })
     <$> the (codes "BLOCK") ▸ may (codes "CONTAINS") ▸ count
     ▸ optional (the (codes "TO") ▸ count) ▸ optional (the (codes "RECORDS") ∣ the (codes "CHARACTERS")))
 
 -- RECORD ([IS] VARYING .. | [CONTAINS] ..)
-unfoldable pub record_clause : Clauses → Rule Clauses
+unfoldable pub record_clause : DescriptionClauses → Rule DescriptionClauses
 record_clause said = unless_barred (is_some said.lengths) 4 ((λ lengths. record said { lengths = Some lengths })
     <$> the (codes "RECORD") ▸ length_clause)
 
 -- one of these, beside those that there are; each stands once at most
-unfoldable pub description_clause : Clauses → Rule Clauses
+unfoldable pub description_clause : DescriptionClauses → Rule DescriptionClauses
 description_clause said = label said ∣ block said ∣ record_clause said
 
 -- ---- items
@@ -117,7 +117,7 @@ described_name entries earlier =
 -- FD name {clause}..? . {item}..
 unfoldable pub description_behind : List FileControlEntry → List FileDescription → Rule FileDescription
 description_behind entries earlier =
-    (λ (said : ℕ × (List ℕ × (Clauses × List Entry))).
+    (λ (said : ℕ × (List ℕ × (DescriptionClauses × List Entry))).
     record { line = said.0; name = said.1.0; lengths = said.1.1.0.lengths; items = said.1.1.1 })
     <$> with_line (the (codes "FD") ▸ described_name entries earlier
     ⊗ any_behind description_clause no_clauses ⊗ (period ▸ each_behind more_item []))

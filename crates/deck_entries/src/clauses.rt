@@ -5,7 +5,7 @@ ghost use Rattle.deck_parser.specs.Rule.{any_behind};
 ghost use Rattle.deck_parser.specs.Reading.{ReadsRule};
 ghost use Rattle.deck_entries.specs.FileDescription.{label as label_clause, block as block_clause};
 ghost use Rattle.deck_entries.specs.FileDescription.{record_clause, description_clause, no_clauses};
-ghost use Rattle.deck_entries.specs.declared.clauses.Clauses.{Clauses as Said};
+ghost use Rattle.deck_entries.specs.declared.clauses.DescriptionClauses.{DescriptionClauses as Said};
 
 use crate::record_length::{RecordLength, count, length_clause};
 use crate::words::{eat_one, expect_one};
@@ -13,7 +13,7 @@ use deck_parser::{Cause, Parser, Refusal, Twice};
 
 /// What the clauses of a file description say together.
 #[derive(Drop)]
-pub struct Clauses {
+pub struct DescriptionClauses {
     pub label: bool,
     pub block: bool,
     pub lengths: Option<RecordLength>,
@@ -30,9 +30,9 @@ struct ClauseLines {
 #[tactic(auto, unfolding(crate::specs::FileDescription::label))]
 fn label(
     parser: &mut Parser<'_>,
-    clauses: Clauses,
+    clauses: DescriptionClauses,
     lines: &mut ClauseLines,
-) -> Result<Clauses, Refusal>
+) -> Result<DescriptionClauses, Refusal>
     ensures { ReadsRule (label_clause clauses) parser.old result parser.new }
 {
     if clauses.label {
@@ -51,9 +51,9 @@ fn label(
 #[tactic(auto, unfolding(crate::specs::FileDescription::block, deck_parser::specs::Notation::the))]
 fn block(
     parser: &mut Parser<'_>,
-    clauses: Clauses,
+    clauses: DescriptionClauses,
     lines: &mut ClauseLines,
-) -> Result<Clauses, Refusal>
+) -> Result<DescriptionClauses, Refusal>
     ensures { ReadsRule (block_clause clauses) parser.old result parser.new }
 {
     if clauses.block {
@@ -75,9 +75,9 @@ fn block(
 #[tactic(auto, unfolding(crate::specs::FileDescription::record_clause))]
 fn record_clause(
     parser: &mut Parser<'_>,
-    clauses: Clauses,
+    clauses: DescriptionClauses,
     lines: &mut ClauseLines,
-) -> Result<Clauses, Refusal>
+) -> Result<DescriptionClauses, Refusal>
     ensures { ReadsRule (record_clause clauses) parser.old result parser.new }
 {
     if clauses.lengths.is_some() {
@@ -100,9 +100,9 @@ fn sees_clause(parser: &Parser<'_>) -> bool
 
 fn clause(
     parser: &mut Parser<'_>,
-    clauses: Clauses,
+    clauses: DescriptionClauses,
     lines: &mut ClauseLines,
-) -> Result<Clauses, Refusal>
+) -> Result<DescriptionClauses, Refusal>
     ensures { ReadsRule (description_clause clauses) parser.old result parser.new }
 {
     if parser.sees(b"LABEL") {
@@ -115,10 +115,10 @@ fn clause(
 }
 
 /// The clauses that come next, if any.
-pub fn read_clauses(parser: &mut Parser<'_>) -> Result<Clauses, Refusal>
+pub fn read_clauses(parser: &mut Parser<'_>) -> Result<DescriptionClauses, Refusal>
     ensures { ReadsRule (any_behind description_clause no_clauses) parser.old result parser.new }
 {
-    let mut clauses = Clauses {
+    let mut clauses = DescriptionClauses {
         label: false,
         block: false,
         lengths: None,

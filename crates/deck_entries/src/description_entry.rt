@@ -6,7 +6,7 @@ ghost use Rattle.deck_parser.specs.Reading.{ReadsAs, ReadsRule, Stops};
 ghost use Rattle.deck_entries.specs.FileDescription.{is_described, described_name, description_behind};
 ghost use Rattle.deck_entries.specs.Divisions.{more_description};
 
-use crate::clauses::{Clauses, read_clauses};
+use crate::clauses::{DescriptionClauses, read_clauses};
 use crate::entry::Selected;
 use crate::item::{Items, read_items};
 use crate::record_length::RecordLength;
@@ -152,7 +152,7 @@ fn description(
     let name_line = parser.line();
     let name = described_name(parser, entries, earlier)?;
     let clauses = read_clauses(parser)?;
-    let Clauses {
+    let DescriptionClauses {
         label: _,
         block: _,
         lengths,

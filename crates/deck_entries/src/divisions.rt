@@ -1,10 +1,10 @@
 //! The divisions before the procedure.
-ghost use Rattle.std.specs.Prelude.{◌≡◌, [], codes, IfErr};
+ghost use Rattle.std.specs.Prelude.{◌≡◌, [], IfErr};
 ghost use Rattle.deck_parser.specs.Class.{begins};
-ghost use Rattle.deck_parser.specs.Rule.{optional, each_behind};
-ghost use Rattle.deck_parser.specs.Notation.{the, name, period, ◌▸◌, eaten};
+ghost use Rattle.deck_parser.specs.Rule.{each_behind};
+ghost use Rattle.deck_parser.specs.Notation.{eaten};
 ghost use Rattle.deck_parser.specs.Reading.{Reads, ReadsAs, ReadsRule, Stops, TellsStop};
-ghost use Rattle.deck_entries.specs.Divisions.{division_heading, more_entry};
+ghost use Rattle.deck_entries.specs.Divisions.{identification_division, more_entry};
 ghost use Rattle.deck_entries.specs.Divisions.{file_control_paragraph, reads_divisions, divisions_stop};
 
 use crate::description_entry::{Descriptions, read_descriptions};
@@ -68,10 +68,8 @@ impl Entries {
 /// The identification division, if it comes next: whether it did.
 #[tactic(auto, unfolding(deck_parser::specs::Notation::the, deck_parser::specs::Notation::name))]
 fn may_identification(parser: &mut Parser<'_>) -> Result<bool, Refusal>
-    ensures reads { ReadsAs eaten (optional (division_heading (codes "IDENTIFICATION") (codes "DIVISION")
-        ▸ the (codes "PROGRAM-ID") ▸ period ▸ name ▸ period)) parser.old result parser.new }
-    ensures stops { Stops (optional (division_heading (codes "IDENTIFICATION") (codes "DIVISION")
-        ▸ the (codes "PROGRAM-ID") ▸ period ▸ name ▸ period)) parser.old result }
+    ensures reads { ReadsAs eaten identification_division parser.old result parser.new }
+    ensures stops { Stops identification_division parser.old result }
 {
     if parser.sees(b"IDENTIFICATION") {
         heading(parser, b"IDENTIFICATION", b"DIVISION")?;

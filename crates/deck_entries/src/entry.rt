@@ -128,7 +128,7 @@ pub struct ClauseLines {
 
 /// What the clauses of an entry say together, and their lines. Contracts see what they say.
 #[derive(Drop)]
-pub struct Clauses {
+pub struct EntryClauses {
     pub indexed: bool,
     pub access: Option<Access>,
     pub record_key: Option<Name>,
@@ -137,9 +137,9 @@ pub struct Clauses {
     pub lines: ClauseLines,
 }
 
-impl Model for Clauses {
+impl Model for EntryClauses {
     ghost use Rattle.std.specs.Prelude.{option_map};
-    ghost use Rattle.deck_entries.specs.FileControlEntry.{Clauses as Said};
+    ghost use Rattle.deck_entries.specs.FileControlEntry.{EntryClauses as Said};
 
     ghost Value = { Said };
 
@@ -152,14 +152,14 @@ impl Model for Clauses {
     } };
 }
 
-impl Clauses {
+impl EntryClauses {
     ghost use Rattle.std.specs.Prelude.{◌≡◌, true};
     ghost use Rattle.deck_entries.specs.FileControlEntry.{no_clauses, entry_keys_of};
 
     pub fn new(alloc: Global) -> Self
         ensures { result ≡ no_clauses }
     {
-        Clauses {
+        EntryClauses {
             indexed: false,
             access: None,
             record_key: None,
@@ -179,7 +179,7 @@ impl Clauses {
         requires { self.indexed ≡ true }
         ensures { result ≡ entry_keys_of self }
     {
-        let Clauses {
+        let EntryClauses {
             indexed: _,
             access,
             record_key,
@@ -221,6 +221,7 @@ impl Model for EntryKeys {
 
 impl EntryKeys {
     ghost use Rattle.std.specs.Prelude.{◌≡◌};
+    ghost use Rattle.deck_entries.specs.FileControlEntry.{keyed_entry};
 
     /// The entry of a file with these keys.
     pub fn entry(
@@ -230,15 +231,7 @@ impl EntryKeys {
         name: Name,
         file_name: FileName,
     ) -> FileControlEntry
-        ensures { result ≡ record {
-          line = place.line;
-          name = name.bytes;
-          file_name = file_name.bytes;
-          optional = optional;
-          access = self.access;
-          record_key = self.record_key;
-          alternate_keys = self.alternate_keys;
-        } }
+        ensures { result ≡ keyed_entry self place.line optional name.bytes file_name.bytes }
     {
         let EntryKeys {
             access,

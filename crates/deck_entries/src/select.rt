@@ -5,11 +5,11 @@ ghost use Rattle.deck_parser.specs.Rule.{each_behind};
 ghost use Rattle.deck_parser.specs.Reading.{ReadsAs, ReadsRule, Stops};
 ghost use Rattle.deck_entries.specs.FileControlEntry.{indexed, mode, access, record_key};
 ghost use Rattle.deck_entries.specs.FileControlEntry.{duplicates, alternate, status, clause};
-ghost use Rattle.deck_entries.specs.FileControlEntry.{Clauses, no_clauses, entry_end, entry_keys, select_behind};
+ghost use Rattle.deck_entries.specs.FileControlEntry.{EntryClauses, no_clauses, entry_end, entry_keys, select_behind};
 ghost use Rattle.deck_entries.specs.FileControlEntry.{select_word, new_name, new_file_name};
 ghost use Rattle.deck_entries.specs.FileControlEntry.{is_selected, is_assigned};
 
-use crate::entry::{Clauses, EntryKeys, Selected};
+use crate::entry::{EntryClauses, EntryKeys, Selected};
 use deck_parser::{Cause, Expected, Limit, NameOf, NotAllowed, Parser, Refusal, Twice};
 use io_state::{Access, FileName, Name, file_name_of};
 use std::alloc::Global;
@@ -21,7 +21,7 @@ const ALTERNATE_LIMIT: usize = 8;
 const FILE_LIMIT: usize = 8;
 
 #[tactic(auto, unfolding(crate::specs::FileControlEntry::indexed, deck_parser::specs::Notation::the))]
-fn indexed(parser: &mut Parser<'_>, clauses: Clauses) -> Result<Clauses, Refusal>
+fn indexed(parser: &mut Parser<'_>, clauses: EntryClauses) -> Result<EntryClauses, Refusal>
     ensures { ReadsRule (indexed clauses) parser.old result parser.new }
 {
     if clauses.indexed {
@@ -53,7 +53,7 @@ fn mode(parser: &mut Parser<'_>) -> Result<Access, Refusal>
 }
 
 #[tactic(auto, unfolding(crate::specs::FileControlEntry::access))]
-fn access(parser: &mut Parser<'_>, clauses: Clauses) -> Result<Clauses, Refusal>
+fn access(parser: &mut Parser<'_>, clauses: EntryClauses) -> Result<EntryClauses, Refusal>
     ensures { ReadsRule (access clauses) parser.old result parser.new }
 {
     if clauses.access.is_some() {
@@ -70,7 +70,7 @@ fn access(parser: &mut Parser<'_>, clauses: Clauses) -> Result<Clauses, Refusal>
 }
 
 #[tactic(auto, unfolding(crate::specs::FileControlEntry::record_key))]
-fn record_key(parser: &mut Parser<'_>, clauses: Clauses) -> Result<Clauses, Refusal>
+fn record_key(parser: &mut Parser<'_>, clauses: EntryClauses) -> Result<EntryClauses, Refusal>
     ensures { ReadsRule (record_key clauses) parser.old result parser.new }
 {
     if clauses.record_key.is_some() {
@@ -100,7 +100,7 @@ fn duplicates(parser: &mut Parser<'_>) -> Result<bool, Refusal>
 }
 
 #[tactic(auto, unfolding(crate::specs::FileControlEntry::alternate))]
-fn alternate(parser: &mut Parser<'_>, clauses: Clauses) -> Result<Clauses, Refusal>
+fn alternate(parser: &mut Parser<'_>, clauses: EntryClauses) -> Result<EntryClauses, Refusal>
     ensures { ReadsRule (alternate clauses) parser.old result parser.new }
 {
     if clauses.alternate_keys.len() >= ALTERNATE_LIMIT {
@@ -118,7 +118,7 @@ fn alternate(parser: &mut Parser<'_>, clauses: Clauses) -> Result<Clauses, Refus
 }
 
 #[tactic(auto, unfolding(crate::specs::FileControlEntry::status))]
-fn status(parser: &mut Parser<'_>, clauses: Clauses) -> Result<Clauses, Refusal>
+fn status(parser: &mut Parser<'_>, clauses: EntryClauses) -> Result<EntryClauses, Refusal>
     ensures { ReadsRule (status clauses) parser.old result parser.new }
 {
     if clauses.status {
@@ -138,7 +138,7 @@ fn status(parser: &mut Parser<'_>, clauses: Clauses) -> Result<Clauses, Refusal>
 /// Whether a clause comes next.
 #[tactic(auto, unfolding(crate::specs::FileControlEntry::clause, crate::specs::FileControlEntry::indexed, crate::specs::FileControlEntry::access, crate::specs::FileControlEntry::record_key, crate::specs::FileControlEntry::alternate, crate::specs::FileControlEntry::status, deck_parser::specs::Notation::the))]
 fn sees_clause(parser: &Parser<'_>) -> bool
-    ensures { (said : Clauses) → result ≡ begins (clause said).starts parser.now }
+    ensures { (said : EntryClauses) → result ≡ begins (clause said).starts parser.now }
 {
     parser.sees_one_of(&[
         b"ORGANIZATION",
@@ -151,7 +151,7 @@ fn sees_clause(parser: &Parser<'_>) -> bool
     ])
 }
 
-fn clause(parser: &mut Parser<'_>, clauses: Clauses) -> Result<Clauses, Refusal>
+fn clause(parser: &mut Parser<'_>, clauses: EntryClauses) -> Result<EntryClauses, Refusal>
     ensures { ReadsRule (clause clauses) parser.old result parser.new }
 {
     if parser.sees_one_of(&[b"ORGANIZATION", b"INDEXED"]) {
@@ -170,10 +170,10 @@ fn clause(parser: &mut Parser<'_>, clauses: Clauses) -> Result<Clauses, Refusal>
 }
 
 /// One clause or more.
-fn all_clauses(parser: &mut Parser<'_>, alloc: Global) -> Result<Clauses, Refusal>
+fn all_clauses(parser: &mut Parser<'_>, alloc: Global) -> Result<EntryClauses, Refusal>
     ensures { ReadsRule (each_behind clause no_clauses) parser.old result parser.new }
 {
-    let mut clauses = clause(parser, Clauses::new(alloc))?;
+    let mut clauses = clause(parser, EntryClauses::new(alloc))?;
     'more: while sees_clause(parser) {
         clauses = clause(parser, clauses)?;
     }
@@ -182,7 +182,7 @@ fn all_clauses(parser: &mut Parser<'_>, alloc: Global) -> Result<Clauses, Refusa
 
 /// The period, and what the clauses say together, unless INDEXED or RECORD KEY is missing.
 #[tactic(auto, unfolding(crate::specs::FileControlEntry::entry_end))]
-fn entry_end(parser: &mut Parser<'_>, clauses: Clauses) -> Result<EntryKeys, Refusal>
+fn entry_end(parser: &mut Parser<'_>, clauses: EntryClauses) -> Result<EntryKeys, Refusal>
     ensures { ReadsRule (entry_end clauses) parser.old result parser.new }
 {
     let end = parser.place();

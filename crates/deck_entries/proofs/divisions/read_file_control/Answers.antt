@@ -1,14 +1,14 @@
 use Rattle.std.proofs.Common.{◌≡◌, List, [], Some, refl}
 use Rattle.std.specs.Prelude.{codes, Option}
 use Rattle.std.proofs.lemmas.Result.{err_from_is_err_and}
-use Rattle.deck_parser.specs.Rule.{Rule, optional, each_behind}
-use Rattle.deck_parser.specs.Notation.{the, name, period, ◌▸◌}
+use Rattle.deck_parser.specs.Rule.{Rule, each_behind}
+use Rattle.deck_parser.specs.Notation.{the, period, ◌▸◌}
 use Rattle.deck_parser.specs.Reading.{Refuses, TellsStop}
 use Rattle.deck_parser.specs.Word.{Word}
 use Rattle.deck_parser.specs.declared.fault.Refusal.{Refusal}
 use Rattle.deck_parser.specs.declared.fault.Refusal.TheVariants.{Memory, Fault}
 use Rattle.deck_entries.specs.FileControlEntry.{FileControlEntry}
-use Rattle.deck_entries.specs.Divisions.{division_heading, more_entry, file_control_paragraph}
+use Rattle.deck_entries.specs.Divisions.{division_heading, identification_division, more_entry, file_control_paragraph}
 use Rattle.deck_entries.proofs.divisions.read_file_control.Goals as goal
 
 -- ---- one rule after another
@@ -48,12 +48,9 @@ environment = division_heading (codes "ENVIRONMENT") (codes "DIVISION")
 abbrev from_environment : Rule (List FileControlEntry)
 from_environment = environment ▸ from_input_output
 
-abbrev identification : Rule (Option (Unit {0}))
-identification = optional (division_heading (codes "IDENTIFICATION") (codes "DIVISION") ▸ the (codes "PROGRAM-ID") ▸ period ▸ name ▸ period)
-
-refused_behind : (words : List Word) (there : Option (Unit {0})) (middle : List Word) (refusal : Refusal) → identification.reads words ≡ Some (there, middle) → AreRefused from_environment middle refusal → AreRefused file_control_paragraph words refusal
+refused_behind : (words : List Word) (there : Option (Unit {0})) (middle : List Word) (refusal : Refusal) → identification_division.reads words ≡ Some (there, middle) → AreRefused from_environment middle refusal → AreRefused file_control_paragraph words refusal
 unfolding file_control_paragraph
-refused_behind words there middle refusal e r = second_refused identification from_environment words there middle refusal e r
+refused_behind words there middle refusal e r = second_refused identification_division from_environment words there middle refusal e r
 
 pub returns-in_err-heading : goal.returns-in_err-heading
 returns-in_err-heading c =

@@ -4,52 +4,52 @@ use Rattle.deck_parser.specs.Class.{begins, this}
 use Rattle.deck_parser.specs.Rule.{Rule}
 use Rattle.deck_parser.specs.Notation.{the, ◌∣◌}
 use Rattle.deck_parser.specs.Word.{Word}
-use Rattle.deck_entries.specs.FileControlEntry.{Clauses, indexed, access, record_key, alternate, status, clause}
+use Rattle.deck_entries.specs.FileControlEntry.{EntryClauses, indexed, access, record_key, alternate, status, clause}
 use Rattle.deck_parser.proofs.EitherLemmas.{Alike, first, other, chained, alike}
 use Rattle.deck_entries.proofs.select.clause.Goals as goal
 
 -- ---- how the clauses begin
 
-indexed_starts : (said : Clauses) (words : List Word) → begins (indexed said).starts words ≡ begins (this (codes "ORGANIZATION") ∷ this (codes "INDEXED") ∷ []) words
+indexed_starts : (said : EntryClauses) (words : List Word) → begins (indexed said).starts words ≡ begins (this (codes "ORGANIZATION") ∷ this (codes "INDEXED") ∷ []) words
 unfolding indexed the
 indexed_starts said words = refl
 
-access_starts : (said : Clauses) (words : List Word) → begins (access said).starts words ≡ begins (this (codes "ACCESS") ∷ []) words
+access_starts : (said : EntryClauses) (words : List Word) → begins (access said).starts words ≡ begins (this (codes "ACCESS") ∷ []) words
 unfolding access the
 access_starts said words = refl
 
-record_key_starts : (said : Clauses) (words : List Word) → begins (record_key said).starts words ≡ begins (this (codes "RECORD") ∷ []) words
+record_key_starts : (said : EntryClauses) (words : List Word) → begins (record_key said).starts words ≡ begins (this (codes "RECORD") ∷ []) words
 unfolding record_key the
 record_key_starts said words = refl
 
-alternate_starts : (said : Clauses) (words : List Word) → begins (alternate said).starts words ≡ begins (this (codes "ALTERNATE") ∷ []) words
+alternate_starts : (said : EntryClauses) (words : List Word) → begins (alternate said).starts words ≡ begins (this (codes "ALTERNATE") ∷ []) words
 unfolding alternate the
 alternate_starts said words = refl
 
 -- ---- which clause is read
 
 -- the rules from each one on
-abbrev from_alternate : Clauses → Rule Clauses
+abbrev from_alternate : EntryClauses → Rule EntryClauses
 from_alternate said = alternate said ∣ status said
 
-abbrev from_record_key : Clauses → Rule Clauses
+abbrev from_record_key : EntryClauses → Rule EntryClauses
 from_record_key said = record_key said ∣ from_alternate said
 
-abbrev from_access : Clauses → Rule Clauses
+abbrev from_access : EntryClauses → Rule EntryClauses
 from_access said = access said ∣ from_record_key said
 
 -- the words do not begin the clauses before
-past_indexed : (said : Clauses) (words : List Word) → begins (this (codes "ORGANIZATION") ∷ this (codes "INDEXED") ∷ []) words ≡ false → Alike (clause said) (from_access said) words
+past_indexed : (said : EntryClauses) (words : List Word) → begins (this (codes "ORGANIZATION") ∷ this (codes "INDEXED") ∷ []) words ≡ false → Alike (clause said) (from_access said) words
 unfolding clause
 past_indexed said words e1 = other (indexed said) (from_access said) words (indexed_starts said words ∙ e1)
 
-past_access : (said : Clauses) (words : List Word) → begins (this (codes "ORGANIZATION") ∷ this (codes "INDEXED") ∷ []) words ≡ false → begins (this (codes "ACCESS") ∷ []) words ≡ false → Alike (clause said) (from_record_key said) words
+past_access : (said : EntryClauses) (words : List Word) → begins (this (codes "ORGANIZATION") ∷ this (codes "INDEXED") ∷ []) words ≡ false → begins (this (codes "ACCESS") ∷ []) words ≡ false → Alike (clause said) (from_record_key said) words
 past_access said words e1 e2 = chained (past_indexed said words e1) (other (access said) (from_record_key said) words (access_starts said words ∙ e2))
 
-past_record_key : (said : Clauses) (words : List Word) → begins (this (codes "ORGANIZATION") ∷ this (codes "INDEXED") ∷ []) words ≡ false → begins (this (codes "ACCESS") ∷ []) words ≡ false → begins (this (codes "RECORD") ∷ []) words ≡ false → Alike (clause said) (from_alternate said) words
+past_record_key : (said : EntryClauses) (words : List Word) → begins (this (codes "ORGANIZATION") ∷ this (codes "INDEXED") ∷ []) words ≡ false → begins (this (codes "ACCESS") ∷ []) words ≡ false → begins (this (codes "RECORD") ∷ []) words ≡ false → Alike (clause said) (from_alternate said) words
 past_record_key said words e1 e2 e3 = chained (past_access said words e1 e2) (other (record_key said) (from_alternate said) words (record_key_starts said words ∙ e3))
 
-past_alternate : (said : Clauses) (words : List Word) → begins (this (codes "ORGANIZATION") ∷ this (codes "INDEXED") ∷ []) words ≡ false → begins (this (codes "ACCESS") ∷ []) words ≡ false → begins (this (codes "RECORD") ∷ []) words ≡ false → begins (this (codes "ALTERNATE") ∷ []) words ≡ false → Alike (clause said) (status said) words
+past_alternate : (said : EntryClauses) (words : List Word) → begins (this (codes "ORGANIZATION") ∷ this (codes "INDEXED") ∷ []) words ≡ false → begins (this (codes "ACCESS") ∷ []) words ≡ false → begins (this (codes "RECORD") ∷ []) words ≡ false → begins (this (codes "ALTERNATE") ∷ []) words ≡ false → Alike (clause said) (status said) words
 past_alternate said words e1 e2 e3 e4 = chained (past_record_key said words e1 e2 e3) (other (alternate said) (status said) words (alternate_starts said words ∙ e4))
 
 pub returns-then-sees_one_of : goal.returns-then-sees_one_of
