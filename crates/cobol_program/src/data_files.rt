@@ -1,11 +1,11 @@
 //! The FILE SECTION.
 
-use crate::lines::Lines;
+use crate::lines::ProgramLines;
 use crate::records::add_key_record;
 use file_control::FileDesc;
 
 /// Adds the clause of the lengths of records.
-fn add_lengths(lines: &mut Lines, file: &FileDesc) {
+fn add_lengths(lines: &mut ProgramLines, file: &FileDesc) {
     let least = usize::from(file.schema.least());
     let greatest = usize::from(file.schema.greatest());
     let Some(item) = file.depends_on else {
@@ -20,7 +20,7 @@ fn add_lengths(lines: &mut Lines, file: &FileDesc) {
 
 /// Adds the description of a file, with the record that WRITE and REWRITE name, and a record for
 /// each key: keys may overlap.
-fn add_file(lines: &mut Lines, u: usize, file: &FileDesc) {
+fn add_file(lines: &mut ProgramLines, u: usize, file: &FileDesc) {
     lines.add("FD FILE-#", &[u]);
     add_lengths(lines, file);
     let greatest = file.schema.greatest();
@@ -31,7 +31,7 @@ fn add_file(lines: &mut Lines, u: usize, file: &FileDesc) {
 }
 
 /// Adds the descriptions of all files.
-pub fn add_files(lines: &mut Lines, files: &[FileDesc]) {
+pub fn add_files(lines: &mut ProgramLines, files: &[FileDesc]) {
     lines.add_all(&["DATA DIVISION.", "FILE SECTION."], &[]);
     for (u, file) in files.iter().enumerate() {
         add_file(lines, u, file);

@@ -4,12 +4,12 @@ ghost use Rattle.cobol_program.specs.Layout.{margin};
 
 /// Free form, or fixed form: columns 8 to 72 of each line.
 #[derive(Clone, Copy, Debug, PartialEq, Eq)]
-pub enum Form {
+pub enum SourceForm {
     Free,
     Fixed,
 }
 
-impl Form {
+impl SourceForm {
     ghost use Rattle.std.specs.Prelude.{◌≡◌};
     ghost use Rattle.cobol_program.specs.Layout.{margin};
 
@@ -18,8 +18,8 @@ impl Form {
         ensures { result.now ≡ margin self }
     {
         match self {
-            Form::Free => "",
-            Form::Fixed => "       ",
+            SourceForm::Free => "",
+            SourceForm::Fixed => "       ",
         }
     }
 }

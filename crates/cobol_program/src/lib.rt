@@ -24,5 +24,5 @@ mod selects;
 mod storage;
 mod verbs;
 
-pub use form::Form;
+pub use form::SourceForm;
 pub use program::write_program;

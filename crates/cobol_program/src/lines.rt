@@ -3,8 +3,8 @@ ghost use Rattle.std.specs.Prelude.{◌≡◌, ◌≤◌, ◌+◌, ◌++◌, [],
 ghost use Rattle.std.specs.Prelude.{IfOk};
 ghost use Rattle.cobol_program.specs.Layout.{laid, FitsLine, IsLaidOut};
 
-use crate::form::Form;
-use crate::literal::Word;
+use crate::form::SourceForm;
+use crate::literal::ProgramWord;
 use arrayvec::ArrayString;
 use std::alloc::{AllocError, Global};
 use std::fmt::Write;
@@ -39,7 +39,7 @@ impl<'a> Gaps<'a> {
     }
 
     /// Adds a byte of a pattern to a word, or what stands there for it.
-    fn add_byte(&mut self, word: &mut Word, byte: u8) {
+    fn add_byte(&mut self, word: &mut ProgramWord, byte: u8) {
         match byte {
             b'#' => {
                 let n = self.number().saturating_add(1);
@@ -62,8 +62,8 @@ impl<'a> Gaps<'a> {
     }
 
     /// A word of a pattern with its gaps filled.
-    fn filled(&mut self, pattern: &str) -> Word {
-        let mut word = Word::new();
+    fn filled(&mut self, pattern: &str) -> ProgramWord {
+        let mut word = ProgramWord::new();
         for byte in pattern.as_bytes() {
             self.add_byte(&mut word, *byte);
         }
@@ -75,7 +75,7 @@ impl<'a> Gaps<'a> {
 /// and a period behind the last one of a sentence. In a word `~` is a space, `@` the word that is
 /// given, `#` the next number of a place, which counts from 1, and `%` the next number as it is.
 #[derive(Drop)]
-pub struct Lines {
+pub struct ProgramLines {
     ended: Vec<Line>,
     last: Begun,
     /// Whether memory was refused for a line: no line is added from then on, and there is no text.
@@ -83,7 +83,7 @@ pub struct Lines {
 }
 
 /// Adds a line to a text.
-fn lay(text: &mut String, form: Form, line: &Line) -> Result<(), AllocError>
+fn lay(text: &mut String, form: SourceForm, line: &Line) -> Result<(), AllocError>
     ensures text { OnOk result (string_bytes text.new ≡ string_bytes text.old ++ laid form line.now.bytes) }
     ensures fits { FitsLine line.now.bytes }
 {
@@ -94,7 +94,7 @@ fn lay(text: &mut String, form: Form, line: &Line) -> Result<(), AllocError>
 }
 
 /// The text of lines.
-fn laid_out(alloc: Global, form: Form, lines: &[Line]) -> Result<String, AllocError>
+fn laid_out(alloc: Global, form: SourceForm, lines: &[Line]) -> Result<String, AllocError>
     ensures { IfOk result (λ text. IsLaidOut form (string_bytes text)) }
 {
     let mut text = String::new(alloc);
@@ -104,12 +104,12 @@ fn laid_out(alloc: Global, form: Form, lines: &[Line]) -> Result<String, AllocEr
     Ok(text)
 }
 
-impl Lines {
+impl ProgramLines {
     ghost use Rattle.std.specs.Prelude.{◌≡◌, ◌≤◌, ◌++◌, ◌∷◌, [], length, string_bytes, IsOk, IfOk, false};
     ghost use Rattle.cobol_program.specs.Layout.{IsLaidOut};
 
     pub fn new(alloc: Global) -> Self {
-        Lines {
+        ProgramLines {
             ended: Vec::new(alloc),
             last: Begun::new(),
             lacks_memory: false,
@@ -117,7 +117,7 @@ impl Lines {
     }
 
     /// The text, in a form, of the lines that are ended.
-    pub fn text(&self, alloc: Global, form: Form) -> Result<String, AllocError>
+    pub fn text(&self, alloc: Global, form: SourceForm) -> Result<String, AllocError>
         ensures layout { IfOk result (λ text. IsLaidOut form (string_bytes text)) }
         ensures whole { IsOk result → self.now.lacks_memory ≡ false }
     {

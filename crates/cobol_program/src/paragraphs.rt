@@ -1,6 +1,6 @@
 //! The paragraphs that the verbs perform.
 
-use crate::lines::Lines;
+use crate::lines::ProgramLines;
 use crate::verbs::add_line;
 use file_control::FileDesc;
 
@@ -64,7 +64,7 @@ const SHOWING: [&str; 26] = [
 ];
 
 /// Moves the length of the record that was read.
-fn add_length_read(lines: &mut Lines, desc: &FileDesc) {
+fn add_length_read(lines: &mut ProgramLines, desc: &FileDesc) {
     let greatest = usize::from(desc.schema.greatest());
     match desc.depends_on {
         Some(item) => lines.add("        MOVE ITEM-# TO READ-LENGTH", &[item]),
@@ -73,7 +73,7 @@ fn add_length_read(lines: &mut Lines, desc: &FileDesc) {
 }
 
 /// Adds the paragraphs of all files, and those that show a record.
-pub fn add_paragraphs(lines: &mut Lines, files: &[FileDesc]) {
+pub fn add_paragraphs(lines: &mut ProgramLines, files: &[FileDesc]) {
     lines.add("PERFORMED SECTION.", &[]);
     for (file, desc) in files.iter().enumerate() {
         lines.add_all(&BEFORE_LENGTH, &[file]);

@@ -1,6 +1,6 @@
 //! The PROCEDURE DIVISION.
 
-use crate::lines::Lines;
+use crate::lines::ProgramLines;
 use crate::moves::{add_fill, add_move, add_move_to_item};
 use crate::verbs::add_verb;
 use deck_reader::Statement;
@@ -16,7 +16,7 @@ const ERROR: [&str; 4] = [
 ];
 
 /// Fills an item with zeros, if it is numeric.
-fn add_zeros(lines: &mut Lines, file: usize, item: &Placed) {
+fn add_zeros(lines: &mut ProgramLines, file: usize, item: &Placed) {
     if item.field.numeric {
         let place = usize::from(item.field.offset);
         let length = usize::from(item.field.length);
@@ -26,7 +26,7 @@ fn add_zeros(lines: &mut Lines, file: usize, item: &Placed) {
 
 /// Adds what stands before the first statement: the declaratives, and each record area filled as it
 /// is at the beginning.
-fn add_beginning(lines: &mut Lines, files: &[FileDesc]) {
+fn add_beginning(lines: &mut ProgramLines, files: &[FileDesc]) {
     lines.add_all(&["PROCEDURE DIVISION.", "DECLARATIVES."], &[]);
     for (file, _) in files.iter().enumerate() {
         lines.add_all(&ERROR, &[file]);
@@ -43,7 +43,7 @@ fn add_beginning(lines: &mut Lines, files: &[FileDesc]) {
 /// Adds a statement; a verb in a paragraph of its own, with its number in the transcript, which
 /// counts from 0 here.
 fn add_statement(
-    lines: &mut Lines,
+    lines: &mut ProgramLines,
     number: usize,
     files: &[FileDesc],
     items: &[LengthItem],
@@ -77,7 +77,7 @@ fn digits_of(items: &[LengthItem], place: usize) -> usize {
 }
 
 fn add_statements(
-    lines: &mut Lines,
+    lines: &mut ProgramLines,
     files: &[FileDesc],
     items: &[LengthItem],
     statements: &[Statement],
@@ -99,7 +99,7 @@ fn add_statements(
 
 /// Adds the division up to its end, but for the paragraphs that the verbs perform.
 pub fn add_procedure(
-    lines: &mut Lines,
+    lines: &mut ProgramLines,
     files: &[FileDesc],
     items: &[LengthItem],
     statements: &[Statement],

@@ -6,23 +6,23 @@ ghost use Rattle.deck_reader.specs.Deck.{IsDeck};
 ghost use Rattle.cobol_program.specs.Layout.{IsLaidOut};
 
 use crate::data_files::add_files;
-use crate::form::Form;
-use crate::lines::Lines;
+use crate::form::SourceForm;
+use crate::lines::ProgramLines;
 use crate::paragraphs::add_paragraphs;
 use crate::procedure::add_procedure;
 use crate::selects::add_selects;
 use crate::storage::add_storage;
-use deck_parser::Refusal;
+use deck_parser::ParseRefusal;
 use deck_reader::{Deck, read_deck};
 use file_control::DeckFault;
 use std::alloc::{AllocError, Global};
 
-fn program(alloc: Global, deck: &Deck, form: Form) -> Result<String, AllocError>
+fn program(alloc: Global, deck: &Deck, form: SourceForm) -> Result<String, AllocError>
     ensures { IfOk result (λ text. IsLaidOut form (string_bytes text)) }
 {
     let files = deck.files.as_slice();
     let items = deck.items.as_slice();
-    let mut lines = Lines::new(alloc);
+    let mut lines = ProgramLines::new(alloc);
     add_selects(&mut lines, files);
     add_files(&mut lines, files);
     add_storage(&mut lines, files, items);
@@ -33,12 +33,12 @@ fn program(alloc: Global, deck: &Deck, form: Form) -> Result<String, AllocError>
 
 /// The COBOL program of the deck that the bytes are, or the first fault, as `read_deck` tells it:
 /// code 8 on line 0 for want of memory, for the deck or for its program.
-pub fn write_program(alloc: Global, bytes: &[u8], form: Form) -> Result<String, DeckFault>
+pub fn write_program(alloc: Global, bytes: &[u8], form: SourceForm) -> Result<String, DeckFault>
     ensures deck { IsOk result → (deck : ReadDeck) × IsDeck bytes.now deck }
     ensures layout { IfOk result (λ text. IsLaidOut form (string_bytes text)) }
     ensures none { IfErr result (λ fault. fault.code ≢ 8 → (deck : ReadDeck) → IsDeck bytes.now deck → ⊥) }
     ensures told { IfErr result IsTold }
 {
     let deck = read_deck(alloc, bytes)?;
-    Ok(program(alloc, &deck, form).map_err(Refusal::from)?)
+    Ok(program(alloc, &deck, form).map_err(ParseRefusal::from)?)
 }

@@ -1,10 +1,10 @@
 //! A record in which a key is an item.
 
-use crate::lines::Lines;
+use crate::lines::ProgramLines;
 use record_layout::{KeyPart, Placed};
 
 /// Adds so many bytes without a name.
-fn add_filler(lines: &mut Lines, length: u16) {
+fn add_filler(lines: &mut ProgramLines, length: u16) {
     if length > 0 {
         lines.add("    02~FILLER PIC~X(%).", &[usize::from(length)]);
     }
@@ -23,7 +23,7 @@ fn is_among(items: &[Placed], item: &Placed) -> bool {
 }
 
 /// Adds the leading parts of a key, one for each length that an item has.
-fn add_parts(lines: &mut Lines, u: usize, k: usize, items: &[Placed], key: &KeyPart) {
+fn add_parts(lines: &mut ProgramLines, u: usize, k: usize, items: &[Placed], key: &KeyPart) {
     let whole = usize::from(key.length);
     for (i, item) in items.iter().enumerate() {
         if leads(item, key) && !is_among(&items[..i], item) {
@@ -39,7 +39,7 @@ fn add_parts(lines: &mut Lines, u: usize, k: usize, items: &[Placed], key: &KeyP
 /// Adds the record of so many bytes that a key is an item of, with each leading part of the key
 /// that is an item, too.
 pub fn add_key_record(
-    lines: &mut Lines,
+    lines: &mut ProgramLines,
     u: usize,
     k: usize,
     items: &[Placed],

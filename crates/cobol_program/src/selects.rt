@@ -1,6 +1,6 @@
 //! The entries of FILE-CONTROL.
 
-use crate::lines::Lines;
+use crate::lines::ProgramLines;
 use crate::literal::short_literal;
 use file_control::FileDesc;
 use io_state::Access;
@@ -26,7 +26,7 @@ fn access_word(access: Access) -> &'static str {
     }
 }
 
-fn add_key(lines: &mut Lines, u: usize, k: usize, key: &KeyPart) {
+fn add_key(lines: &mut ProgramLines, u: usize, k: usize, key: &KeyPart) {
     lines.add(
         if k == 0 {
             "        RECORD KEY IS KEY-#-%"
@@ -42,7 +42,7 @@ fn add_key(lines: &mut Lines, u: usize, k: usize, key: &KeyPart) {
 
 /// Adds the entry of a file: the name of the file in its folder stands there, or the item that has
 /// it where it is long.
-fn add_select(lines: &mut Lines, u: usize, file: &FileDesc) {
+fn add_select(lines: &mut ProgramLines, u: usize, file: &FileDesc) {
     let optional = if file.optional {
         "SELECT OPTIONAL"
     } else {
@@ -66,7 +66,7 @@ fn add_select(lines: &mut Lines, u: usize, file: &FileDesc) {
 }
 
 /// Adds the divisions up to the entries of all files.
-pub fn add_selects(lines: &mut Lines, files: &[FileDesc]) {
+pub fn add_selects(lines: &mut ProgramLines, files: &[FileDesc]) {
     lines.add_all(&HEADINGS, &[]);
     for (u, file) in files.iter().enumerate() {
         add_select(lines, u, file);

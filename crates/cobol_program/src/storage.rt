@@ -1,6 +1,6 @@
 //! The WORKING-STORAGE SECTION.
 
-use crate::lines::Lines;
+use crate::lines::ProgramLines;
 use crate::literal::{literal, short_literal};
 use file_control::{FileDesc, LengthItem};
 
@@ -26,7 +26,7 @@ const SHOWN: [&str; 10] = [
 ];
 
 /// Adds the items of a file, and its name in the folder if that is long.
-fn add_file(lines: &mut Lines, u: usize, file: &FileDesc) {
+fn add_file(lines: &mut ProgramLines, u: usize, file: &FileDesc) {
     lines.add_all(&OF_FILE, &[u, usize::from(file.schema.greatest())]);
     let name = file.file.as_str();
     if short_literal(name).is_none() {
@@ -43,7 +43,7 @@ fn add_file(lines: &mut Lines, u: usize, file: &FileDesc) {
 }
 
 /// Adds the section.
-pub fn add_storage(lines: &mut Lines, files: &[FileDesc], items: &[LengthItem]) {
+pub fn add_storage(lines: &mut ProgramLines, files: &[FileDesc], items: &[LengthItem]) {
     lines.add("WORKING-STORAGE SECTION.", &[]);
     for (i, item) in items.iter().enumerate() {
         lines.add(

@@ -1,17 +1,17 @@
 //! The verbs.
 
-use crate::lines::Lines;
+use crate::lines::ProgramLines;
 use crate::literal::spaced;
 use io_state::{FileStatement, OpenMode, Relation};
 
 /// Displays the line of a verb that delivers no record.
-pub fn add_line(lines: &mut Lines, does: &str, file: usize, name: &str) {
+pub fn add_line(lines: &mut ProgramLines, does: &str, file: usize, name: &str) {
     let text = spaced(does, name);
     lines.add_with("    DISPLAY @ STATUS-#.", text.as_str(), &[file]);
 }
 
 /// Takes what a READ delivered, and displays its line.
-fn add_line_of_read(lines: &mut Lines, does: &str, file: usize, name: &str) {
+fn add_line_of_read(lines: &mut ProgramLines, does: &str, file: usize, name: &str) {
     lines.add("    PERFORM TAKE-#.", &[file]);
     let text = spaced(does, name);
     lines.add_with("    DISPLAY @ SHOWN(1:SHOWN-LENGTH).", text.as_str(), &[]);
@@ -26,14 +26,14 @@ fn mode_word(mode: OpenMode) -> &'static str {
     }
 }
 
-fn add_open(lines: &mut Lines, file: usize, name: &str, mode: OpenMode) {
+fn add_open(lines: &mut ProgramLines, file: usize, name: &str, mode: OpenMode) {
     let does = mode_word(mode);
     lines.add_with("    @ FILE-#.", does, &[file]);
     lines.add("    PERFORM OPENED-#.", &[file]);
     add_line(lines, does, file, name);
 }
 
-fn add_close(lines: &mut Lines, file: usize, name: &str, lock: bool) {
+fn add_close(lines: &mut ProgramLines, file: usize, name: &str, lock: bool) {
     let does = if lock {
         "    CLOSE FILE-# WITH LOCK."
     } else {
@@ -43,12 +43,12 @@ fn add_close(lines: &mut Lines, file: usize, name: &str, lock: bool) {
     add_line(lines, "CLOSE", file, name);
 }
 
-fn add_read_next(lines: &mut Lines, file: usize, name: &str) {
+fn add_read_next(lines: &mut ProgramLines, file: usize, name: &str) {
     lines.add("    READ FILE-# NEXT RECORD.", &[file]);
     add_line_of_read(lines, "READ NEXT", file, name);
 }
 
-fn add_read(lines: &mut Lines, file: usize, name: &str, key: u8) {
+fn add_read(lines: &mut ProgramLines, file: usize, name: &str, key: u8) {
     let read = [
         "    PERFORM GIVE-#.",
         "    READ FILE-# RECORD KEY IS KEY-#-%.",
@@ -66,7 +66,13 @@ fn relation_word(relation: Relation) -> &'static str {
 }
 
 /// Adds START by the first bytes of a key, so many of them.
-fn add_start(lines: &mut Lines, file: usize, name: &str, key: (u8, u16), relation: Relation) {
+fn add_start(
+    lines: &mut ProgramLines,
+    file: usize,
+    name: &str,
+    key: (u8, u16),
+    relation: Relation,
+) {
     lines.add("    PERFORM GIVE-#.", &[file]);
     let part = [file, file, usize::from(key.0), usize::from(key.1)];
     lines.add_with(
@@ -78,13 +84,13 @@ fn add_start(lines: &mut Lines, file: usize, name: &str, key: (u8, u16), relatio
 }
 
 /// Adds a verb that stores or removes a record.
-fn add_change(lines: &mut Lines, does: &str, sentence: &str, file: usize, name: &str) {
+fn add_change(lines: &mut ProgramLines, does: &str, sentence: &str, file: usize, name: &str) {
     lines.add_all(&["    PERFORM GIVE-#.", sentence], &[file]);
     add_line(lines, does, file, name);
 }
 
 /// Adds a statement on a file.
-pub fn add_verb(lines: &mut Lines, file: usize, name: &str, statement: &FileStatement) {
+pub fn add_verb(lines: &mut ProgramLines, file: usize, name: &str, statement: &FileStatement) {
     match statement {
         FileStatement::Open(mode) => add_open(lines, file, name, *mode),
         FileStatement::Close { lock } => add_close(lines, file, name, *lock),

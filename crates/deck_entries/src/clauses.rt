@@ -9,7 +9,7 @@ ghost use Rattle.deck_entries.specs.declared.clauses.DescriptionClauses.{Descrip
 
 use crate::record_length::{RecordLength, count, length_clause};
 use crate::words::{eat_one, expect_one};
-use deck_parser::{Cause, Parser, Refusal, Twice};
+use deck_parser::{FaultCause, ParseRefusal, Parser, Twice};
 
 /// What the clauses of a file description say together.
 #[derive(Drop)]
@@ -32,11 +32,11 @@ fn label(
     parser: &mut Parser<'_>,
     clauses: DescriptionClauses,
     lines: &mut ClauseLines,
-) -> Result<DescriptionClauses, Refusal>
+) -> Result<DescriptionClauses, ParseRefusal>
     ensures { ReadsRule (label_clause clauses) parser.old result parser.new }
 {
     if clauses.label {
-        return Err(parser.fault(Cause::Twice(Twice::Clause(lines.label))));
+        return Err(parser.fault(FaultCause::Twice(Twice::Clause(lines.label))));
     }
     lines.label = parser.line();
     parser.expect(b"LABEL")?;
@@ -53,11 +53,11 @@ fn block(
     parser: &mut Parser<'_>,
     clauses: DescriptionClauses,
     lines: &mut ClauseLines,
-) -> Result<DescriptionClauses, Refusal>
+) -> Result<DescriptionClauses, ParseRefusal>
     ensures { ReadsRule (block_clause clauses) parser.old result parser.new }
 {
     if clauses.block {
-        return Err(parser.fault(Cause::Twice(Twice::Clause(lines.block))));
+        return Err(parser.fault(FaultCause::Twice(Twice::Clause(lines.block))));
     }
     lines.block = parser.line();
     parser.expect(b"BLOCK")?;
@@ -77,11 +77,11 @@ fn record_clause(
     parser: &mut Parser<'_>,
     clauses: DescriptionClauses,
     lines: &mut ClauseLines,
-) -> Result<DescriptionClauses, Refusal>
+) -> Result<DescriptionClauses, ParseRefusal>
     ensures { ReadsRule (record_clause clauses) parser.old result parser.new }
 {
     if clauses.lengths.is_some() {
-        return Err(parser.fault(Cause::Twice(Twice::Clause(lines.lengths))));
+        return Err(parser.fault(FaultCause::Twice(Twice::Clause(lines.lengths))));
     }
     lines.lengths = parser.line();
     parser.expect(b"RECORD")?;
@@ -102,7 +102,7 @@ fn clause(
     parser: &mut Parser<'_>,
     clauses: DescriptionClauses,
     lines: &mut ClauseLines,
-) -> Result<DescriptionClauses, Refusal>
+) -> Result<DescriptionClauses, ParseRefusal>
     ensures { ReadsRule (description_clause clauses) parser.old result parser.new }
 {
     if parser.sees(b"LABEL") {
@@ -115,7 +115,7 @@ fn clause(
 }
 
 /// The clauses that come next, if any.
-pub fn read_clauses(parser: &mut Parser<'_>) -> Result<DescriptionClauses, Refusal>
+pub fn read_clauses(parser: &mut Parser<'_>) -> Result<DescriptionClauses, ParseRefusal>
     ensures { ReadsRule (any_behind description_clause no_clauses) parser.old result parser.new }
 {
     let mut clauses = DescriptionClauses {

@@ -11,7 +11,7 @@ use crate::entry::Selected;
 use crate::item::{Items, read_items};
 use crate::record_length::RecordLength;
 use crate::select::is_selected_name;
-use deck_parser::{Cause, NameOf, Parser, Refusal, Twice, Unknown, WordPlace};
+use deck_parser::{FaultCause, NameOf, ParseRefusal, Parser, Twice, Unknown, WordPlace};
 use io_state::Name;
 use record_layout::Item;
 use std::alloc::{AllocError, Global};
@@ -121,7 +121,7 @@ fn described_name(
     parser: &mut Parser<'_>,
     entries: &[Selected],
     earlier: &[Described],
-) -> Result<Name, Refusal>
+) -> Result<Name, ParseRefusal>
     ensures reads { ReadsAs (λ name. name.bytes) (described_name entries.now earlier.now) parser.old result
         parser.new }
     ensures stops { Stops (described_name entries.now earlier.now) parser.old result }
@@ -129,11 +129,11 @@ fn described_name(
     let place = parser.place();
     let name = parser.name(NameOf::File)?;
     if !is_selected_name(entries, name.as_str().as_bytes()) {
-        return Err(place.fault(Cause::Unknown(Unknown::Selected)));
+        return Err(place.fault(FaultCause::Unknown(Unknown::Selected)));
     }
     if is_described_name(earlier, name.as_str().as_bytes()) {
         let line = line_of_name(earlier, name.as_str().as_bytes());
-        return Err(place.fault(Cause::Twice(Twice::Described(line))));
+        return Err(place.fault(FaultCause::Twice(Twice::Described(line))));
     }
     Ok(name)
 }
@@ -144,7 +144,7 @@ fn description(
     alloc: Global,
     entries: &[Selected],
     earlier: &[Described],
-) -> Result<Described, Refusal>
+) -> Result<Described, ParseRefusal>
     ensures { ReadsRule (description_behind entries.now earlier.now) parser.old result parser.new }
 {
     let place = parser.word_place();
@@ -175,7 +175,7 @@ fn one_more(
     alloc: Global,
     entries: &[Selected],
     earlier: Descriptions,
-) -> Result<Descriptions, Refusal>
+) -> Result<Descriptions, ParseRefusal>
     ensures { ReadsRule (more_description entries.now earlier) parser.old result parser.new }
 {
     let description = description(parser, alloc, entries, earlier.as_slice())?;
@@ -197,7 +197,7 @@ pub fn read_descriptions(
     parser: &mut Parser<'_>,
     alloc: Global,
     entries: &[Selected],
-) -> Result<Descriptions, Refusal>
+) -> Result<Descriptions, ParseRefusal>
     ensures { ReadsRule (each_behind (more_description entries.now) []) parser.old result parser.new }
 {
     let mut read = one_more(parser, alloc, entries, Descriptions::new(alloc))?;

@@ -12,7 +12,7 @@ use crate::entry::Selected;
 use crate::select::select;
 use crate::storage::{StorageItems, storage_section};
 use crate::words::heading;
-use deck_parser::{NameOf, Parser, Refusal};
+use deck_parser::{NameOf, ParseRefusal, Parser};
 use std::alloc::{AllocError, Global};
 use std::marker::Model;
 
@@ -67,7 +67,7 @@ impl Entries {
 
 /// The identification division, if it comes next: whether it did.
 #[tactic(auto, unfolding(deck_parser::specs::Notation::the, deck_parser::specs::Notation::name))]
-fn may_identification(parser: &mut Parser<'_>) -> Result<bool, Refusal>
+fn may_identification(parser: &mut Parser<'_>) -> Result<bool, ParseRefusal>
     ensures reads { ReadsAs eaten identification_division parser.old result parser.new }
     ensures stops { Stops identification_division parser.old result }
 {
@@ -84,7 +84,11 @@ fn may_identification(parser: &mut Parser<'_>) -> Result<bool, Refusal>
 
 /// The entries with the next one.
 #[tactic(auto, unfolding(crate::specs::Divisions::more_entry))]
-fn one_more(parser: &mut Parser<'_>, alloc: Global, earlier: Entries) -> Result<Entries, Refusal>
+fn one_more(
+    parser: &mut Parser<'_>,
+    alloc: Global,
+    earlier: Entries,
+) -> Result<Entries, ParseRefusal>
     ensures { ReadsRule (more_entry earlier) parser.old result parser.new }
 {
     let selected = select(parser, alloc, earlier.as_slice())?;
@@ -102,7 +106,7 @@ fn sees_entry(parser: &Parser<'_>, earlier: &Entries) -> bool
 }
 
 /// One entry or more.
-fn read_entries(parser: &mut Parser<'_>, alloc: Global) -> Result<Entries, Refusal>
+fn read_entries(parser: &mut Parser<'_>, alloc: Global) -> Result<Entries, ParseRefusal>
     ensures { ReadsRule (each_behind more_entry []) parser.old result parser.new }
 {
     let mut read = one_more(parser, alloc, Entries::new(alloc))?;
@@ -114,7 +118,7 @@ fn read_entries(parser: &mut Parser<'_>, alloc: Global) -> Result<Entries, Refus
 
 /// The divisions up to the file control entries.
 #[tactic(auto, unfolding(crate::specs::Divisions::file_control_paragraph))]
-pub fn read_file_control(parser: &mut Parser<'_>, alloc: Global) -> Result<Entries, Refusal>
+pub fn read_file_control(parser: &mut Parser<'_>, alloc: Global) -> Result<Entries, ParseRefusal>
     ensures { ReadsRule file_control_paragraph parser.old result parser.new }
 {
     may_identification(parser)?;
@@ -128,7 +132,7 @@ pub fn read_file_control(parser: &mut Parser<'_>, alloc: Global) -> Result<Entri
 
 /// The divisions before the procedure.
 #[tactic(auto, unfolding(crate::specs::Divisions::data_division))]
-pub fn read_divisions(parser: &mut Parser<'_>, alloc: Global) -> Result<Divisions, Refusal>
+pub fn read_divisions(parser: &mut Parser<'_>, alloc: Global) -> Result<Divisions, ParseRefusal>
     ensures reads { Reads (reads_divisions parser.old) result parser.new }
     ensures stops { IfErr result (TellsStop (divisions_stop parser.old)) }
 {

@@ -9,7 +9,7 @@ ghost use Rattle.deck_entries.specs.FileDescription.{item, more_item};
 
 use crate::record_length::number_of;
 use crate::words::expect_one;
-use deck_parser::{Cause, Expected, NameOf, Parser, Refusal, WantedClass};
+use deck_parser::{Expected, FaultCause, NameOf, ParseRefusal, Parser, WantedClass};
 use io_state::Name;
 use record_layout::Item;
 use std::alloc::{AllocError, Global};
@@ -68,20 +68,20 @@ impl Items {
 }
 
 #[tactic(auto, unfolding(crate::specs::FileDescription::level))]
-fn level(parser: &mut Parser<'_>) -> Result<u8, Refusal>
+fn level(parser: &mut Parser<'_>) -> Result<u8, ParseRefusal>
     ensures { ReadsRule level parser.old result parser.new }
 {
     let place = parser.place();
     let digits = parser.level()?;
     let level = number_of(digits.as_str().as_bytes());
     if level > 99 {
-        return Err(place.fault(Cause::Expected(Expected::Words(WantedClass::Level))));
+        return Err(place.fault(FaultCause::Expected(Expected::Words(WantedClass::Level))));
     }
     Ok(level as u8)
 }
 
 #[tactic(auto, unfolding(crate::specs::FileDescription::item_name, deck_parser::specs::Notation::the, deck_parser::specs::Notation::name))]
-fn item_name(parser: &mut Parser<'_>) -> Result<Option<Name>, Refusal>
+fn item_name(parser: &mut Parser<'_>) -> Result<Option<Name>, ParseRefusal>
     ensures reads { ReadsAs (option_map (λ name. name.bytes)) item_name parser.old result parser.new }
     ensures stops { Stops item_name parser.old result }
 {
@@ -94,7 +94,7 @@ fn item_name(parser: &mut Parser<'_>) -> Result<Option<Name>, Refusal>
 }
 
 #[tactic(auto, unfolding(crate::specs::FileDescription::may_item_name, crate::specs::FileDescription::item_name, deck_parser::specs::Notation::the, deck_parser::specs::Notation::name))]
-fn may_item_name(parser: &mut Parser<'_>) -> Result<Option<Name>, Refusal>
+fn may_item_name(parser: &mut Parser<'_>) -> Result<Option<Name>, ParseRefusal>
     ensures reads { ReadsAs (option_map (λ name. name.bytes)) may_item_name parser.old result parser.new }
     ensures stops { Stops may_item_name parser.old result }
 {
@@ -105,7 +105,7 @@ fn may_item_name(parser: &mut Parser<'_>) -> Result<Option<Name>, Refusal>
 }
 
 #[tactic(auto, unfolding(crate::specs::FileDescription::picture_clause))]
-pub fn picture_clause(parser: &mut Parser<'_>) -> Result<Name, Refusal>
+pub fn picture_clause(parser: &mut Parser<'_>) -> Result<Name, ParseRefusal>
     ensures reads { ReadsAs (λ name. name.bytes) picture_clause parser.old result parser.new }
     ensures stops { Stops picture_clause parser.old result }
 {
@@ -115,7 +115,7 @@ pub fn picture_clause(parser: &mut Parser<'_>) -> Result<Name, Refusal>
 }
 
 #[tactic(auto, unfolding(crate::specs::FileDescription::picture_clause, deck_parser::specs::Notation::the))]
-fn may_picture_clause(parser: &mut Parser<'_>) -> Result<Option<Name>, Refusal>
+fn may_picture_clause(parser: &mut Parser<'_>) -> Result<Option<Name>, ParseRefusal>
     ensures reads { ReadsAs (option_map (λ name. name.bytes)) (optional picture_clause) parser.old result
         parser.new }
     ensures stops { Stops (optional picture_clause) parser.old result }
@@ -128,7 +128,7 @@ fn may_picture_clause(parser: &mut Parser<'_>) -> Result<Option<Name>, Refusal>
 }
 
 #[tactic(auto, unfolding(crate::specs::FileDescription::item, crate::specs::FileDescription::level, crate::specs::FileDescription::may_item_name, crate::specs::FileDescription::item_name))]
-fn item(parser: &mut Parser<'_>) -> Result<Item, Refusal>
+fn item(parser: &mut Parser<'_>) -> Result<Item, ParseRefusal>
     ensures reads { ReadsAs entry_of_item item parser.old result parser.new }
     ensures stops { Stops item parser.old result }
 {
@@ -153,7 +153,7 @@ fn sees_item(parser: &Parser<'_>) -> bool
 
 /// The items with the next one.
 #[tactic(auto, unfolding(crate::specs::FileDescription::more_item))]
-fn one_more(parser: &mut Parser<'_>, items: Items) -> Result<Items, Refusal>
+fn one_more(parser: &mut Parser<'_>, items: Items) -> Result<Items, ParseRefusal>
     ensures { ReadsRule (more_item items) parser.old result parser.new }
 {
     let item = item(parser)?;
@@ -163,7 +163,7 @@ fn one_more(parser: &mut Parser<'_>, items: Items) -> Result<Items, Refusal>
 }
 
 /// One item or more.
-pub fn read_items(parser: &mut Parser<'_>, alloc: Global) -> Result<Items, Refusal>
+pub fn read_items(parser: &mut Parser<'_>, alloc: Global) -> Result<Items, ParseRefusal>
     ensures { ReadsRule (each_behind more_item []) parser.old result parser.new }
 {
     let mut items = one_more(parser, Items::new(alloc))?;

@@ -5,7 +5,7 @@ ghost use Rattle.record_layout.specs.Reading.{capped_size};
 ghost use Rattle.deck_parser.specs.Reading.{ReadsRule};
 ghost use Rattle.deck_entries.specs.FileDescription.{count, length_clause};
 
-use deck_parser::{NameOf, Parser, Refusal};
+use deck_parser::{NameOf, ParseRefusal, Parser};
 use io_state::Name;
 use std::marker::Model;
 
@@ -60,7 +60,7 @@ pub fn number_of(digits: &[u8]) -> u64
 
 /// A number of at most 18 digits, counted up to one past the greatest length of a record.
 #[tactic(auto, unfolding(crate::specs::FileDescription::count))]
-pub fn count(parser: &mut Parser<'_>) -> Result<u64, Refusal>
+pub fn count(parser: &mut Parser<'_>) -> Result<u64, ParseRefusal>
     ensures { ReadsRule count parser.old result parser.new }
 {
     let digits = parser.digits()?;
@@ -69,7 +69,7 @@ pub fn count(parser: &mut Parser<'_>) -> Result<u64, Refusal>
 
 /// What stands behind RECORD.
 #[tactic(auto, unfolding(crate::specs::FileDescription::length_clause, deck_parser::specs::Notation::the))]
-pub fn length_clause(parser: &mut Parser<'_>) -> Result<RecordLength, Refusal>
+pub fn length_clause(parser: &mut Parser<'_>) -> Result<RecordLength, ParseRefusal>
     ensures { ReadsRule length_clause parser.old result parser.new }
 {
     if !parser.sees_one_of(&[b"IS", b"VARYING"]) {

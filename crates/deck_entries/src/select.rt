@@ -10,7 +10,7 @@ ghost use Rattle.deck_entries.specs.FileControlEntry.{select_word, new_name, new
 ghost use Rattle.deck_entries.specs.FileControlEntry.{is_selected, is_assigned};
 
 use crate::entry::{EntryClauses, EntryKeys, Selected};
-use deck_parser::{Cause, Expected, Limit, NameOf, NotAllowed, Parser, Refusal, Twice};
+use deck_parser::{Expected, FaultCause, Limit, NameOf, NotAllowed, ParseRefusal, Parser, Twice};
 use io_state::{Access, FileName, Name, file_name_of};
 use std::alloc::Global;
 
@@ -21,11 +21,11 @@ const ALTERNATE_LIMIT: usize = 8;
 const FILE_LIMIT: usize = 8;
 
 #[tactic(auto, unfolding(crate::specs::FileControlEntry::indexed, deck_parser::specs::Notation::the))]
-fn indexed(parser: &mut Parser<'_>, clauses: EntryClauses) -> Result<EntryClauses, Refusal>
+fn indexed(parser: &mut Parser<'_>, clauses: EntryClauses) -> Result<EntryClauses, ParseRefusal>
     ensures { ReadsRule (indexed clauses) parser.old result parser.new }
 {
     if clauses.indexed {
-        return Err(parser.fault(Cause::Twice(Twice::Clause(clauses.lines.indexed))));
+        return Err(parser.fault(FaultCause::Twice(Twice::Clause(clauses.lines.indexed))));
     }
     let line = parser.line();
     if parser.eat(b"ORGANIZATION") {
@@ -39,7 +39,7 @@ fn indexed(parser: &mut Parser<'_>, clauses: EntryClauses) -> Result<EntryClause
 }
 
 #[tactic(auto, unfolding(crate::specs::FileControlEntry::mode, deck_parser::specs::Notation::the))]
-fn mode(parser: &mut Parser<'_>) -> Result<Access, Refusal>
+fn mode(parser: &mut Parser<'_>) -> Result<Access, ParseRefusal>
     ensures { ReadsRule mode parser.old result parser.new }
 {
     if parser.eat(b"SEQUENTIAL") {
@@ -53,11 +53,11 @@ fn mode(parser: &mut Parser<'_>) -> Result<Access, Refusal>
 }
 
 #[tactic(auto, unfolding(crate::specs::FileControlEntry::access))]
-fn access(parser: &mut Parser<'_>, clauses: EntryClauses) -> Result<EntryClauses, Refusal>
+fn access(parser: &mut Parser<'_>, clauses: EntryClauses) -> Result<EntryClauses, ParseRefusal>
     ensures { ReadsRule (access clauses) parser.old result parser.new }
 {
     if clauses.access.is_some() {
-        return Err(parser.fault(Cause::Twice(Twice::Clause(clauses.lines.access))));
+        return Err(parser.fault(FaultCause::Twice(Twice::Clause(clauses.lines.access))));
     }
     let line = parser.line();
     parser.expect(b"ACCESS")?;
@@ -70,11 +70,11 @@ fn access(parser: &mut Parser<'_>, clauses: EntryClauses) -> Result<EntryClauses
 }
 
 #[tactic(auto, unfolding(crate::specs::FileControlEntry::record_key))]
-fn record_key(parser: &mut Parser<'_>, clauses: EntryClauses) -> Result<EntryClauses, Refusal>
+fn record_key(parser: &mut Parser<'_>, clauses: EntryClauses) -> Result<EntryClauses, ParseRefusal>
     ensures { ReadsRule (record_key clauses) parser.old result parser.new }
 {
     if clauses.record_key.is_some() {
-        return Err(parser.fault(Cause::Twice(Twice::Clause(clauses.lines.record_key))));
+        return Err(parser.fault(FaultCause::Twice(Twice::Clause(clauses.lines.record_key))));
     }
     let line = parser.line();
     parser.expect(b"RECORD")?;
@@ -87,7 +87,7 @@ fn record_key(parser: &mut Parser<'_>, clauses: EntryClauses) -> Result<EntryCla
 }
 
 #[tactic(auto, unfolding(crate::specs::FileControlEntry::duplicates, deck_parser::specs::Notation::the))]
-fn duplicates(parser: &mut Parser<'_>) -> Result<bool, Refusal>
+fn duplicates(parser: &mut Parser<'_>) -> Result<bool, ParseRefusal>
     ensures { ReadsRule duplicates parser.old result parser.new }
 {
     if parser.sees_one_of(&[b"WITH", b"DUPLICATES"]) {
@@ -100,11 +100,11 @@ fn duplicates(parser: &mut Parser<'_>) -> Result<bool, Refusal>
 }
 
 #[tactic(auto, unfolding(crate::specs::FileControlEntry::alternate))]
-fn alternate(parser: &mut Parser<'_>, clauses: EntryClauses) -> Result<EntryClauses, Refusal>
+fn alternate(parser: &mut Parser<'_>, clauses: EntryClauses) -> Result<EntryClauses, ParseRefusal>
     ensures { ReadsRule (alternate clauses) parser.old result parser.new }
 {
     if clauses.alternate_keys.len() >= ALTERNATE_LIMIT {
-        return Err(parser.fault(Cause::Limit(Limit::AlternateKeys)));
+        return Err(parser.fault(FaultCause::Limit(Limit::AlternateKeys)));
     }
     parser.expect(b"ALTERNATE")?;
     parser.expect(b"RECORD")?;
@@ -118,11 +118,11 @@ fn alternate(parser: &mut Parser<'_>, clauses: EntryClauses) -> Result<EntryClau
 }
 
 #[tactic(auto, unfolding(crate::specs::FileControlEntry::status))]
-fn status(parser: &mut Parser<'_>, clauses: EntryClauses) -> Result<EntryClauses, Refusal>
+fn status(parser: &mut Parser<'_>, clauses: EntryClauses) -> Result<EntryClauses, ParseRefusal>
     ensures { ReadsRule (status clauses) parser.old result parser.new }
 {
     if clauses.status {
-        return Err(parser.fault(Cause::Twice(Twice::Clause(clauses.lines.status))));
+        return Err(parser.fault(FaultCause::Twice(Twice::Clause(clauses.lines.status))));
     }
     let line = parser.line();
     parser.eat(b"FILE");
@@ -151,7 +151,7 @@ fn sees_clause(parser: &Parser<'_>) -> bool
     ])
 }
 
-fn clause(parser: &mut Parser<'_>, clauses: EntryClauses) -> Result<EntryClauses, Refusal>
+fn clause(parser: &mut Parser<'_>, clauses: EntryClauses) -> Result<EntryClauses, ParseRefusal>
     ensures { ReadsRule (clause clauses) parser.old result parser.new }
 {
     if parser.sees_one_of(&[b"ORGANIZATION", b"INDEXED"]) {
@@ -170,7 +170,7 @@ fn clause(parser: &mut Parser<'_>, clauses: EntryClauses) -> Result<EntryClauses
 }
 
 /// One clause or more.
-fn all_clauses(parser: &mut Parser<'_>, alloc: Global) -> Result<EntryClauses, Refusal>
+fn all_clauses(parser: &mut Parser<'_>, alloc: Global) -> Result<EntryClauses, ParseRefusal>
     ensures { ReadsRule (each_behind clause no_clauses) parser.old result parser.new }
 {
     let mut clauses = clause(parser, EntryClauses::new(alloc))?;
@@ -182,23 +182,23 @@ fn all_clauses(parser: &mut Parser<'_>, alloc: Global) -> Result<EntryClauses, R
 
 /// The period, and what the clauses say together, unless INDEXED or RECORD KEY is missing.
 #[tactic(auto, unfolding(crate::specs::FileControlEntry::entry_end))]
-fn entry_end(parser: &mut Parser<'_>, clauses: EntryClauses) -> Result<EntryKeys, Refusal>
+fn entry_end(parser: &mut Parser<'_>, clauses: EntryClauses) -> Result<EntryKeys, ParseRefusal>
     ensures { ReadsRule (entry_end clauses) parser.old result parser.new }
 {
     let end = parser.place();
     parser.period()?;
     if !clauses.indexed {
-        return Err(end.fault(Cause::Expected(Expected::Indexed)));
+        return Err(end.fault(FaultCause::Expected(Expected::Indexed)));
     }
     match clauses.keys() {
         Some(keys) => Ok(keys),
-        None => Err(end.fault(Cause::Expected(Expected::RecordKey))),
+        None => Err(end.fault(FaultCause::Expected(Expected::RecordKey))),
     }
 }
 
 /// The clauses, up to the period.
 #[tactic(auto, unfolding(crate::specs::FileControlEntry::entry_keys))]
-fn entry_keys(parser: &mut Parser<'_>, alloc: Global) -> Result<EntryKeys, Refusal>
+fn entry_keys(parser: &mut Parser<'_>, alloc: Global) -> Result<EntryKeys, ParseRefusal>
     ensures { ReadsRule entry_keys parser.old result parser.new }
 {
     let clauses = all_clauses(parser, alloc)?;
@@ -206,7 +206,7 @@ fn entry_keys(parser: &mut Parser<'_>, alloc: Global) -> Result<EntryKeys, Refus
 }
 
 #[tactic(auto, unfolding(crate::specs::FileControlEntry::select_word, deck_parser::specs::Notation::the))]
-fn select_word(parser: &mut Parser<'_>, earlier: &[Selected]) -> Result<(), Refusal>
+fn select_word(parser: &mut Parser<'_>, earlier: &[Selected]) -> Result<(), ParseRefusal>
     ensures { ReadsRule (select_word earlier.now) parser.old result parser.new }
 {
     let place = parser.place();
@@ -214,12 +214,12 @@ fn select_word(parser: &mut Parser<'_>, earlier: &[Selected]) -> Result<(), Refu
     if earlier.len() < FILE_LIMIT {
         Ok(())
     } else {
-        Err(place.fault(Cause::Limit(Limit::Files)))
+        Err(place.fault(FaultCause::Limit(Limit::Files)))
     }
 }
 
 #[tactic(auto, unfolding(crate::specs::FileControlEntry::new_name))]
-fn new_name(parser: &mut Parser<'_>, earlier: &[Selected]) -> Result<Name, Refusal>
+fn new_name(parser: &mut Parser<'_>, earlier: &[Selected]) -> Result<Name, ParseRefusal>
     ensures reads { ReadsAs (λ name. name.bytes) (new_name earlier.now) parser.old result parser.new }
     ensures stops { Stops (new_name earlier.now) parser.old result }
 {
@@ -227,7 +227,7 @@ fn new_name(parser: &mut Parser<'_>, earlier: &[Selected]) -> Result<Name, Refus
     let name = parser.name(NameOf::File)?;
     if is_selected_name(earlier, name.as_str().as_bytes()) {
         let line = line_of_name(earlier, name.as_str().as_bytes());
-        Err(place.fault(Cause::Twice(Twice::Selected(line))))
+        Err(place.fault(FaultCause::Twice(Twice::Selected(line))))
     } else {
         Ok(name)
     }
@@ -239,17 +239,17 @@ fn new_file_name(
     parser: &mut Parser<'_>,
     alloc: Global,
     earlier: &[Selected],
-) -> Result<FileName, Refusal>
+) -> Result<FileName, ParseRefusal>
     ensures reads { ReadsAs (λ name. name.bytes) (new_file_name earlier.now) parser.old result parser.new }
     ensures stops { Stops (new_file_name earlier.now) parser.old result }
 {
     let place = parser.place();
     let text = parser.literal(alloc)?;
-    let not_allowed = place.fault(Cause::NotAllowed(NotAllowed::FileName));
+    let not_allowed = place.fault(FaultCause::NotAllowed(NotAllowed::FileName));
     let name = file_name_of(text.as_slice()).ok_or(not_allowed)?;
     if is_assigned_name(earlier, name.as_str().as_bytes()) {
         let line = line_of_literal(earlier, name.as_str().as_bytes());
-        Err(place.fault(Cause::Twice(Twice::Assigned(line))))
+        Err(place.fault(FaultCause::Twice(Twice::Assigned(line))))
     } else {
         Ok(name)
     }
@@ -261,7 +261,7 @@ pub fn select(
     parser: &mut Parser<'_>,
     alloc: Global,
     earlier: &[Selected],
-) -> Result<Selected, Refusal>
+) -> Result<Selected, ParseRefusal>
     ensures { ReadsRule (select_behind earlier.now) parser.old result parser.new }
 {
     let place = parser.word_place();

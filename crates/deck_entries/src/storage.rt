@@ -8,7 +8,7 @@ ghost use Rattle.deck_entries.specs.Divisions.{storage_section};
 
 use crate::item::picture_clause;
 use crate::words::heading;
-use deck_parser::{NameOf, Parser, Refusal, WordPlace};
+use deck_parser::{NameOf, ParseRefusal, Parser, WordPlace};
 use io_state::Name;
 use std::alloc::{AllocError, Global};
 use std::marker::Model;
@@ -86,7 +86,7 @@ impl StorageItems {
 }
 
 #[tactic(auto, unfolding(crate::specs::FileDescription::storage_item))]
-fn storage_item(parser: &mut Parser<'_>) -> Result<StorageItem, Refusal>
+fn storage_item(parser: &mut Parser<'_>) -> Result<StorageItem, ParseRefusal>
     ensures { ReadsRule storage_item parser.old result parser.new }
 {
     let place = parser.word_place();
@@ -103,7 +103,7 @@ fn storage_item(parser: &mut Parser<'_>) -> Result<StorageItem, Refusal>
 
 /// The items with the next one.
 #[tactic(auto, unfolding(crate::specs::FileDescription::more_storage))]
-fn one_more(parser: &mut Parser<'_>, items: StorageItems) -> Result<StorageItems, Refusal>
+fn one_more(parser: &mut Parser<'_>, items: StorageItems) -> Result<StorageItems, ParseRefusal>
     ensures { ReadsRule (more_storage items) parser.old result parser.new }
 {
     let item = storage_item(parser)?;
@@ -121,7 +121,7 @@ fn sees_item(parser: &Parser<'_>) -> bool
 }
 
 /// The items that come next, if any.
-fn items(parser: &mut Parser<'_>, alloc: Global) -> Result<StorageItems, Refusal>
+fn items(parser: &mut Parser<'_>, alloc: Global) -> Result<StorageItems, ParseRefusal>
     ensures { ReadsRule (any_behind more_storage []) parser.old result parser.new }
 {
     let mut items = StorageItems::new(alloc);
@@ -133,7 +133,7 @@ fn items(parser: &mut Parser<'_>, alloc: Global) -> Result<StorageItems, Refusal
 
 /// The working storage, if it comes next.
 #[tactic(auto, unfolding(crate::specs::Divisions::storage_section, deck_parser::specs::Notation::the))]
-pub fn storage_section(parser: &mut Parser<'_>, alloc: Global) -> Result<StorageItems, Refusal>
+pub fn storage_section(parser: &mut Parser<'_>, alloc: Global) -> Result<StorageItems, ParseRefusal>
     ensures { ReadsRule storage_section parser.old result parser.new }
 {
     if parser.sees(b"WORKING-STORAGE") {

@@ -4,7 +4,7 @@ ghost use Rattle.deck_parser.specs.Notation.{the, ◌∣◌, eaten};
 ghost use Rattle.deck_parser.specs.Reading.{ReadsAs, ReadsRule, Stops};
 ghost use Rattle.deck_entries.specs.Divisions.{division_heading};
 
-use deck_parser::{Parser, Refusal};
+use deck_parser::{ParseRefusal, Parser};
 
 /// Takes one of two words.
 #[tactic(auto, unfolding(deck_parser::specs::Notation::the))]
@@ -12,7 +12,7 @@ pub fn expect_one(
     parser: &mut Parser<'_>,
     first: &'static [u8],
     second: &'static [u8],
-) -> Result<(), Refusal>
+) -> Result<(), ParseRefusal>
     ensures { ReadsRule (the first.now ∣ the second.now) parser.old result parser.new }
 {
     if parser.eat(first) {
@@ -27,7 +27,7 @@ pub fn eat_one(
     parser: &mut Parser<'_>,
     first: &'static [u8],
     second: &'static [u8],
-) -> Result<bool, Refusal>
+) -> Result<bool, ParseRefusal>
     ensures reads { ReadsAs eaten (optional (the first.now ∣ the second.now)) parser.old result parser.new }
     ensures stops { Stops (optional (the first.now ∣ the second.now)) parser.old result }
 {
@@ -44,7 +44,7 @@ pub fn heading(
     parser: &mut Parser<'_>,
     first: &'static [u8],
     second: &'static [u8],
-) -> Result<(), Refusal>
+) -> Result<(), ParseRefusal>
     ensures { ReadsRule (division_heading first.now second.now) parser.old result parser.new }
 {
     parser.expect(first)?;

@@ -11,7 +11,7 @@ use Rattle.record_layout.specs.Layout.{Placed}
 use Rattle.record_layout.specs.declared.schema.KeyKind.{KeyKind}
 use Rattle.record_layout.specs.declared.schema.KeyKind.TheVariants.{Prime, Unique, Duplicates}
 use Rattle.record_layout.specs.declared.schema.KeyPart.{KeyPart}
-use Rattle.deck_listing.specs.Verbs.{Verb}
+use Rattle.deck_listing.specs.Verbs.{NumberedVerb}
 
 -- ---- items
 
@@ -98,7 +98,7 @@ listed_verb_text Rewrite = codes "REWRITE"
 listed_verb_text Delete = codes "DELETE"
 
 -- a verb: its number, the line of the deck, and what it does to which file
-abbrev pub verb_line : ℕ → Verb → List ℕ
+abbrev pub verb_line : ℕ → NumberedVerb → List ℕ
 verb_line line verb =
     codes "verb " ++ (decimal verb.number ++ (codes " line "
     ++ (decimal line ++ (codes " " ++ (listed_verb_text verb.statement

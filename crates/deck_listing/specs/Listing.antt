@@ -11,7 +11,7 @@ use Rattle.deck_reader.specs.declared.statement.Statement.{Statement}
 use Rattle.deck_reader.specs.StatementPlaces.{Paragraph}
 use Rattle.deck_reader.specs.declared.deck.Deck.{Deck}
 use Rattle.deck_reader.specs.Deck.{IsDeck}
-use Rattle.deck_listing.specs.Verbs.{Verb, verb_of}
+use Rattle.deck_listing.specs.Verbs.{NumberedVerb, verb_of}
 use Rattle.deck_listing.specs.Lines.{item_line, key_name, key_line, heading, lengths_text, access_word}
 use Rattle.deck_listing.specs.Lines.{optional_word, verb_line, paragraph_line}
 
@@ -41,10 +41,10 @@ abbrev pub paragraph_lines : List Paragraph → List ℕ
 paragraph_lines paragraphs = flat_map (λ paragraph. paragraph_line paragraph.line paragraph.name) paragraphs
 
 -- the line of a verb, if there is one, and how many verbs there are with it
-abbrev pub line_of_verb : (line : ℕ) → Option Verb → List ℕ
+abbrev pub line_of_verb : (line : ℕ) → Option NumberedVerb → List ℕ
 line_of_verb line verb = option_map_or (verb_line line) verb []
 
-abbrev pub verbs_with : ℕ → Option Verb → ℕ
+abbrev pub verbs_with : ℕ → Option NumberedVerb → ℕ
 verbs_with before verb = if is_some verb then before + 1 else before
 
 -- the statements from one on, behind so many statements and verbs: before each the paragraphs that

@@ -1,7 +1,7 @@
 -- A place of a deck: a line, and bytes that begin there.
 use Rattle.std.specs.Prelude.{◌≡◌, ◌+◌, ◌==◌, ℕ, List, ◌++◌, length}
 use Rattle.std.specs.List.{count_by}
-use Rattle.deck_listing.specs.declared.place.Place.{Place}
+use Rattle.deck_listing.specs.declared.place.DeckPlace.{DeckPlace}
 
 -- how many line feeds there are
 abbrev pub line_feeds : List ℕ → ℕ
@@ -13,7 +13,7 @@ IsTextAtLine deck line text =
     (before behind : List ℕ) × (deck ≡ before ++ (text ++ behind)) × (line ≡ line_feeds before + 1)
 
 -- the line is one of the deck, and the bytes stand there
-abbrev pub IsPlaceInDeck : List ℕ → Place → Type 0
+abbrev pub IsPlaceInDeck : List ℕ → DeckPlace → Type 0
 IsPlaceInDeck deck place = IsTextAtLine deck place.line place.text.now
 
 -- the bytes stand in the deck behind so many others

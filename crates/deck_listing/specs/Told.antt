@@ -3,7 +3,7 @@ use Rattle.std.specs.Prelude.{◌≡◌, ◌≢◌, ◌≤◌, ℕ, List, [], le
 use Rattle.std.specs.List.Sorted.{IsNonDecreasingBy}
 use Rattle.deck_parser.specs.Fault.{told}
 use Rattle.deck_parser.specs.declared.fault.DeckFault.{DeckFault}
-use Rattle.deck_parser.specs.declared.fault.Refusal.{Refusal}
+use Rattle.deck_parser.specs.declared.fault.ParseRefusal.{ParseRefusal}
 use Rattle.deck_messages.specs.Texts.{SaysWhy}
 use Rattle.deck_listing.specs.Place.{IsTextAtLine}
 use Rattle.deck_listing.specs.declared.diagnosis.Diagnosis.{Diagnosis}
@@ -20,7 +20,7 @@ IsToldWhole text said = text ≢ [] → length text ≤ 110 → said ≡ text
 -- the fault is told of a refusal, and a text is told of its cause: the text of this cause, where it
 -- has the same one in each deck
 abbrev pub SaysOf : DeckFault → Diagnosis → Type 0
-SaysOf fault diagnosis = (refusal : Refusal) × (text : List ℕ) × (fault ≡ told refusal) × SaysWhy refusal text
+SaysOf fault diagnosis = (refusal : ParseRefusal) × (text : List ℕ) × (fault ≡ told refusal) × SaysWhy refusal text
     × IsToldWhole text diagnosis.why.bytes
 
 -- at most nineteen faults of a deck are told, and no line of one is less than that of one before it

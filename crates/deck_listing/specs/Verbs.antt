@@ -8,7 +8,7 @@ use Rattle.deck_reader.specs.declared.statement.Statement.TheVariants.{Perform, 
 use Rattle.deck_reader.specs.declared.statement.Statement.TheVariants.{StopRun}
 
 -- a verb: its number, from 1, the name of its file, and what it does there
-pub record Verb : Type 0 where
+pub record NumberedVerb : Type 0 where
   pub number : ℕ
   pub file : List ℕ
   pub statement : FileStatement
@@ -18,7 +18,7 @@ abbrev pub file_name_at : List FileDesc → ℕ → List ℕ
 file_name_at files u = option_map_or (λ file. file.name) (slice_get files u) []
 
 -- the verb that a statement is, behind so many verbs; MOVE and STOP RUN are none
-abbrev pub verb_of : List FileDesc → ℕ → Statement → Option Verb
+abbrev pub verb_of : List FileDesc → ℕ → Statement → Option NumberedVerb
 verb_of files before (Perform u statement) =
     Some (record { number = before + 1; file = file_name_at files u; statement = statement })
 verb_of files before (Move u field source) = None

@@ -3,8 +3,8 @@ ghost use Rattle.std.specs.Prelude.{◌≡◌, ◌≢◌, ◌≤◌, [], List, �
 ghost use Rattle.deck_listing.specs.Place.{IsPlaceInDeck, StandsAt};
 ghost use Rattle.deck_listing.specs.Told.{TellsOf};
 
-use crate::place::{Place, place_of};
-use crate::text::{Hint, Reason, fitted, told_reason};
+use crate::place::{DeckPlace, place_of};
+use crate::text::{Hint, ReasonText, fitted, told_reason};
 use arrayvec::ArrayVec;
 use deck_parser::WordPlace;
 use refused_deck::{Message, Shown};
@@ -21,7 +21,7 @@ const TOLD_LIMIT: usize = 31;
 pub struct Diagnosis {
     pub line: u64,
     pub word: ArrayVec<u8, 31>,
-    pub why: Reason,
+    pub why: ReasonText,
     pub hints: ArrayVec<Hint, 2>,
 }
 
@@ -68,7 +68,7 @@ fn hints_of(hints: &[String]) -> ArrayVec<Hint, 2> {
 }
 
 /// The place of a deck that a message tells.
-fn told_place(bytes: &[u8], place: WordPlace) -> Place<'_>
+fn told_place(bytes: &[u8], place: WordPlace) -> DeckPlace<'_>
     ensures place { IsPlaceInDeck bytes.now result }
     ensures at { place.start ≤ length bytes.now → StandsAt bytes.now place.start result.text.now }
     ensures short { length result.text.now ≤ 31 }

@@ -2,7 +2,7 @@
 
 use crate::entry::{description_end, has_word};
 use crate::mended::{Mend, MendedDeck};
-use deck_parser::{Cause, LayoutCause, NotAllowed, WordPlace};
+use deck_parser::{FaultCause, LayoutCause, NotAllowed, WordPlace};
 use record_layout::LayoutFault;
 use refused_deck::{Reading, capitals};
 use std::alloc::AllocError;
@@ -119,7 +119,7 @@ impl MendedDeck {
     /// Whether a fault, which is told at a word, follows only from one that was told before.
     pub fn follows(
         &self,
-        cause: Cause,
+        cause: FaultCause,
         place: WordPlace,
         told: WordPlace,
     ) -> Result<bool, AllocError> {
@@ -130,11 +130,11 @@ impl MendedDeck {
             return Ok(self.is_cut_behind(told));
         }
         match cause {
-            Cause::Layout(what) => self.follows_in_layout(what),
-            Cause::NotAllowed(what) => self.follows_in_statement(what, told),
-            Cause::Unknown(_) => Ok(self.is_noted(told) || self.is_told(told)),
-            Cause::Expected(_) => Ok(self.is_behind_awaited(told)),
-            Cause::BadWord | Cause::Twice(_) | Cause::Limit(_) => Ok(false),
+            FaultCause::Layout(what) => self.follows_in_layout(what),
+            FaultCause::NotAllowed(what) => self.follows_in_statement(what, told),
+            FaultCause::Unknown(_) => Ok(self.is_noted(told) || self.is_told(told)),
+            FaultCause::Expected(_) => Ok(self.is_behind_awaited(told)),
+            FaultCause::BadWord | FaultCause::Twice(_) | FaultCause::Limit(_) => Ok(false),
         }
     }
 }

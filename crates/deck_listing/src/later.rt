@@ -3,7 +3,7 @@
 use crate::entry::entry_at;
 use crate::mended::MendedDeck;
 use deck_messages::message_of;
-use deck_parser::{Cause, Refusal, Unknown, WordPlace};
+use deck_parser::{FaultCause, ParseRefusal, Unknown, WordPlace};
 use deck_reader::{DeckRefusal, read_deck_told};
 use refused_deck::{Message, capitals, is_number, says_one_of};
 use std::alloc::{AllocError, Global};
@@ -28,8 +28,8 @@ enum Passed {
 
 /// Whether nothing behind a fault can be known: its words are none, there are too many, or the deck
 /// ends.
-fn ends_reading(place: WordPlace, cause: Cause) -> bool {
-    place.start == place.end || matches!(cause, Cause::BadWord | Cause::Limit(_))
+fn ends_reading(place: WordPlace, cause: FaultCause) -> bool {
+    place.start == place.end || matches!(cause, FaultCause::BadWord | FaultCause::Limit(_))
 }
 
 /// Whether a word stands for a text that is not there, or is a sequence number.
@@ -41,14 +41,18 @@ fn is_of_another_form(text: &[u8]) -> bool {
 fn is_of_file(refusal: &DeckRefusal) -> bool {
     matches!(
         refusal.refusal,
-        Refusal::Fault(_, _, Cause::Layout(_) | Cause::Unknown(Unknown::Key(..)))
+        ParseRefusal::Fault(
+            _,
+            _,
+            FaultCause::Layout(_) | FaultCause::Unknown(Unknown::Key(..))
+        )
     )
 }
 
 impl MendedDeck {
     /// Notes a name that is told.
-    fn note_told(&mut self, cause: Cause, told: WordPlace) -> Result<(), AllocError> {
-        if matches!(cause, Cause::Unknown(_)) {
+    fn note_told(&mut self, cause: FaultCause, told: WordPlace) -> Result<(), AllocError> {
+        if matches!(cause, FaultCause::Unknown(_)) {
             let name = capitals(self.text(told));
             self.unknown.push(name)?;
         }
@@ -80,7 +84,7 @@ impl MendedDeck {
         &mut self,
         refusal: &DeckRefusal,
         place: WordPlace,
-        cause: Cause,
+        cause: FaultCause,
     ) -> Result<Passed, AllocError> {
         let message = message_of(self.alloc, &self.bytes, refusal)?;
         let told = message.place;
@@ -106,8 +110,8 @@ impl MendedDeck {
         let read = read_deck_told(self.alloc, &self.bytes);
         if let Err(refusal) = &read {
             return match refusal.refusal {
-                Refusal::Fault(_, place, cause) => self.pass_fault(refusal, place, cause),
-                Refusal::Memory => Err(AllocError),
+                ParseRefusal::Fault(_, place, cause) => self.pass_fault(refusal, place, cause),
+                ParseRefusal::Memory => Err(AllocError),
             };
         }
         Ok(Passed::End)

@@ -6,7 +6,7 @@ ghost use Rattle.deck_listing.specs.Lines.{access_word, optional_word, lengths_t
 ghost use Rattle.deck_listing.specs.Lines.{listed_verb_text};
 ghost use Rattle.deck_listing.specs.Lines.{verb_line, paragraph_note, paragraph_line};
 
-use crate::verbs::Verb;
+use crate::verbs::NumberedVerb;
 use io_state::{Access, FileStatement, Name, OpenMode};
 use record_layout::{KeyKind, KeyPart, Placed};
 use std::alloc::AllocError;
@@ -134,7 +134,7 @@ fn verb_text(statement: &FileStatement) -> &'static str
 }
 
 /// Adds the line of a verb that stands in this line of the deck.
-pub fn add_verb(text: &mut String, line: u64, verb: &Verb) -> Result<(), AllocError>
+pub fn add_verb(text: &mut String, line: u64, verb: &NumberedVerb) -> Result<(), AllocError>
     ensures { OnOk result (string_bytes text.new ≡ string_bytes text.old ++ verb_line line verb.now) }
 {
     let number = verb.number;

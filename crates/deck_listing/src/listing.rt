@@ -10,7 +10,7 @@ ghost use Rattle.deck_listing.specs.Listing.{key_lines, file_lines, deck_listing
 use crate::key_name::key_name;
 use crate::lines::{add_heading, add_item, add_key};
 use crate::procedure::add_procedure;
-use deck_parser::Refusal;
+use deck_parser::ParseRefusal;
 use deck_reader::{Deck, read_deck};
 use file_control::{DeckFault, FileDesc};
 use record_layout::{KeyPart, Placed};
@@ -88,5 +88,5 @@ pub fn list_deck(alloc: Global, bytes: &[u8]) -> Result<String, DeckFault>
     ensures told { IfErr result IsTold }
 {
     let deck = read_deck(alloc, bytes)?;
-    Ok(listing(alloc, &deck).map_err(Refusal::from)?)
+    Ok(listing(alloc, &deck).map_err(ParseRefusal::from)?)
 }

@@ -1,7 +1,8 @@
 //! Words that may be meant where a deck goes wrong.
 
 use deck_parser::{
-    Cause, Expected, LayoutCause, NotAllowed, Refusal, Twice, Unknown, Wanted, WordPlace,
+    Expected, FaultCause, LayoutCause, NotAllowed, ParseRefusal, Twice, Unknown, WantedWord,
+    WordPlace,
 };
 use deck_reader::DeckRefusal;
 use io_state::Name;
@@ -15,17 +16,17 @@ const FILE_NAMES: [&str; 9] = [
 ];
 
 /// A word that is wanted.
-fn wanted_text(wanted: &Wanted) -> Option<&'static [u8]> {
+fn wanted_text(wanted: &WantedWord) -> Option<&'static [u8]> {
     match wanted {
-        Wanted::Word(text) | Wanted::Sign(text) => Some(*text),
-        Wanted::Period => Some(b".".as_slice()),
-        Wanted::Picture => Some(b"X".as_slice()),
-        Wanted::Name(_) | Wanted::Number | Wanted::Level | Wanted::Literal => None,
+        WantedWord::Word(text) | WantedWord::Sign(text) => Some(*text),
+        WantedWord::Period => Some(b".".as_slice()),
+        WantedWord::Picture => Some(b"X".as_slice()),
+        WantedWord::Name(_) | WantedWord::Number | WantedWord::Level | WantedWord::Literal => None,
     }
 }
 
 /// The words that are wanted.
-fn all_wanted(alloc: Global, wanted: &[Wanted]) -> Result<Vec<Name>, AllocError> {
+fn all_wanted(alloc: Global, wanted: &[WantedWord]) -> Result<Vec<Name>, AllocError> {
     let mut texts = Vec::new(alloc);
     for own in wanted {
         if let Some(text) = wanted_text(own) {
@@ -67,24 +68,24 @@ pub fn texts_of(
     bytes: &[u8],
     refusal: &DeckRefusal,
 ) -> Result<Vec<Name>, AllocError> {
-    let Refusal::Fault(_, place, cause) = refusal.refusal else {
+    let ParseRefusal::Fault(_, place, cause) = refusal.refusal else {
         return Ok(Vec::new(alloc));
     };
     let deck = Reading::of(alloc, bytes)?;
     match cause {
-        Cause::Expected(Expected::Indexed) => these(alloc, &["INDEXED"]),
-        Cause::Expected(_) => all_wanted(alloc, &refusal.wanted),
-        Cause::Unknown(Unknown::Selected) => near_files(&deck, place),
-        Cause::Unknown(Unknown::Key(file, _)) => {
+        FaultCause::Expected(Expected::Indexed) => these(alloc, &["INDEXED"]),
+        FaultCause::Expected(_) => all_wanted(alloc, &refusal.wanted),
+        FaultCause::Unknown(Unknown::Selected) => near_files(&deck, place),
+        FaultCause::Unknown(Unknown::Key(file, _)) => {
             names(&deck, &Among::ItemsOf(deck.known.file_name(file)))
         }
-        Cause::Unknown(Unknown::LengthItem(..)) => names(&deck, &Among::Storage),
-        Cause::NotAllowed(NotAllowed::FileName) | Cause::Twice(Twice::Assigned(_)) => {
+        FaultCause::Unknown(Unknown::LengthItem(..)) => names(&deck, &Among::Storage),
+        FaultCause::NotAllowed(NotAllowed::FileName) | FaultCause::Twice(Twice::Assigned(_)) => {
             these(alloc, &FILE_NAMES)
         }
-        Cause::Layout(LayoutCause::Items(_, LayoutFault::BadPicture)) => these(alloc, &["X"]),
-        Cause::Layout(LayoutCause::Digits) => these(alloc, &["9"]),
-        Cause::Layout(LayoutCause::LengthItem(_, _)) => these(alloc, &["9(4)", "PIC 9(4)"]),
+        FaultCause::Layout(LayoutCause::Items(_, LayoutFault::BadPicture)) => these(alloc, &["X"]),
+        FaultCause::Layout(LayoutCause::Digits) => these(alloc, &["9"]),
+        FaultCause::Layout(LayoutCause::LengthItem(_, _)) => these(alloc, &["9(4)", "PIC 9(4)"]),
         _ => Ok(Vec::new(alloc)),
     }
 }

@@ -4,7 +4,7 @@ ghost use Rattle.deck_listing.specs.Place.{line_feeds, IsPlaceInDeck, StandsAt};
 
 /// A line of a deck, from 1, and bytes of the deck that begin there.
 #[derive(Clone, Copy)]
-pub struct Place<'a> {
+pub struct DeckPlace<'a> {
     pub line: u64,
     pub text: &'a [u8],
 }
@@ -26,14 +26,14 @@ fn parted(bytes: &[u8], at: usize) -> (&[u8], &[u8])
 }
 
 /// The bytes of a deck from a place on, at most so many of them, and their line.
-pub fn place_of(bytes: &[u8], start: usize, most: usize) -> Place<'_>
+pub fn place_of(bytes: &[u8], start: usize, most: usize) -> DeckPlace<'_>
     ensures place { IsPlaceInDeck bytes.now result }
     ensures at { start ≤ length bytes.now → StandsAt bytes.now start result.text.now }
     ensures short { length result.text.now ≤ most }
 {
     let (before, behind) = parted(bytes, start);
     let (text, _rest) = parted(behind, most);
-    Place {
+    DeckPlace {
         line: line_feeds(before) as u64 + 1,
         text,
     }

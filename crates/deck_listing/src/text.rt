@@ -5,7 +5,7 @@ ghost use Rattle.deck_listing.specs.Text.{IsCutTo, IsFrontOf};
 use arrayvec::ArrayString;
 
 /// Why a word is told, in the line of the word.
-pub type Reason = ArrayString<110>;
+pub type ReasonText = ArrayString<110>;
 
 /// A further line.
 pub type Hint = ArrayString<158>;
@@ -48,7 +48,7 @@ pub fn fitted<const N: usize>(text: &str) -> ArrayString<N>
 }
 
 /// The text that is told of a word, whole or cut; where there is none, what is true of each refusal.
-pub fn told_reason(why: &str) -> Reason
+pub fn told_reason(why: &str) -> ReasonText
     ensures said { result.bytes ≢ [] }
     ensures whole { why.now ≢ [] → length why.now ≤ 110 → result.bytes ≡ why.now }
 {

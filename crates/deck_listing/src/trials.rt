@@ -4,7 +4,7 @@ use crate::blank::{blank, put};
 use crate::meant_words::texts_of;
 use crate::mended::MendedDeck;
 use deck_messages::{message_of, without};
-use deck_parser::{Cause, Refusal, WordPlace};
+use deck_parser::{FaultCause, ParseRefusal, WordPlace};
 use deck_reader::{DeckRefusal, read_deck_told};
 use io_state::Name;
 use refused_deck::{capitals, is_near, is_number};
@@ -27,7 +27,7 @@ fn is_refused_within(
     refusal: &DeckRefusal,
     entry: &[WordPlace],
 ) -> Result<bool, AllocError> {
-    if let Refusal::Fault(_, place, Cause::Expected(_)) = refusal.refusal {
+    if let ParseRefusal::Fault(_, place, FaultCause::Expected(_)) = refusal.refusal {
         if is_within(entry, place) {
             return Ok(true);
         }

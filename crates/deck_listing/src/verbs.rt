@@ -9,14 +9,14 @@ use std::marker::Model;
 
 /// A verb: its number in the transcript, from 1, the name of its file, and what it does there.
 #[derive(Drop)]
-pub struct Verb {
+pub struct NumberedVerb {
     pub number: usize,
     pub file: Name,
     pub statement: FileStatement,
 }
 
-impl Model for Verb {
-    ghost use Rattle.deck_listing.specs.Verbs.{Verb as Seen};
+impl Model for NumberedVerb {
+    ghost use Rattle.deck_listing.specs.Verbs.{NumberedVerb as Seen};
 
     ghost Value = { Seen };
 
@@ -34,12 +34,12 @@ fn name_at(files: &[FileDesc], place: usize) -> Name
 }
 
 /// The verb that a statement is, if it is one, behind so many verbs.
-pub fn verb_of(files: &[FileDesc], before: usize, statement: &Statement) -> Option<Verb>
+pub fn verb_of(files: &[FileDesc], before: usize, statement: &Statement) -> Option<NumberedVerb>
     requires { before < 2 ^ 63 }
     ensures { result ≡ verb_of files.now before statement.now }
 {
     match statement {
-        Statement::Perform { file, statement } => Some(Verb {
+        Statement::Perform { file, statement } => Some(NumberedVerb {
             number: before + 1,
             file: name_at(files, *file),
             statement: *statement,

@@ -1,15 +1,15 @@
 -- The texts of the causes that have the same one in each deck. All of this is ours.
 use Rattle.std.specs.Prelude.{◌≡◌, ℕ, List, Option, Some, None, codes, ⊤}
-use Rattle.deck_parser.specs.declared.fault.Cause.{Cause}
-use Rattle.deck_parser.specs.declared.fault.Cause.TheVariants.{Expected, NotAllowed, Limit}
+use Rattle.deck_parser.specs.declared.fault.FaultCause.{FaultCause}
+use Rattle.deck_parser.specs.declared.fault.FaultCause.TheVariants.{Expected, NotAllowed, Limit}
 use Rattle.deck_parser.specs.declared.fault.Expected.TheVariants.{Indexed, RecordKey}
 use Rattle.deck_parser.specs.declared.fault.NotAllowed.TheVariants.{KeyWithNext}
 use Rattle.deck_parser.specs.declared.fault.Limit.TheVariants.{Bytes, Files, AlternateKeys}
-use Rattle.deck_parser.specs.declared.fault.Refusal.{Refusal}
-use Rattle.deck_parser.specs.declared.fault.Refusal.TheVariants.{Memory, Fault}
+use Rattle.deck_parser.specs.declared.fault.ParseRefusal.{ParseRefusal}
+use Rattle.deck_parser.specs.declared.fault.ParseRefusal.TheVariants.{Memory, Fault}
 
 -- the text of a cause, where it has the same one in each deck
-abbrev pub text_of_cause : Cause → Option (List ℕ)
+abbrev pub text_of_cause : FaultCause → Option (List ℕ)
 text_of_cause (Expected Indexed) = Some (codes "this SELECT entry ends without ORGANIZATION IS INDEXED")
 text_of_cause (Expected RecordKey) =
     Some (codes "this SELECT entry ends without RECORD KEY IS and the name of an item")
@@ -20,10 +20,10 @@ text_of_cause (Limit AlternateKeys) = Some (codes "a ninth ALTERNATE RECORD KEY;
 text_of_cause cause = None
 
 -- what is said of a cause is its text, where it has the same one in each deck
-abbrev pub SaysCause : Cause → (said : List ℕ) → Type 0
+abbrev pub SaysCause : FaultCause → (said : List ℕ) → Type 0
 SaysCause cause said = (text : List ℕ) → text_of_cause cause ≡ Some text → said ≡ text
 
 -- the same of a refusal; want of memory has no text
-abbrev pub SaysWhy : Refusal → (said : List ℕ) → Type 0
+abbrev pub SaysWhy : ParseRefusal → (said : List ℕ) → Type 0
 SaysWhy Memory said = ⊤
 SaysWhy (Fault line place cause) said = SaysCause cause said

@@ -3,7 +3,7 @@
 use crate::bad_word::has_none_but;
 use deck_parser::WordPlace;
 use record_layout::{Item, Layout, LayoutFault};
-use refused_deck::{Reading, Told};
+use refused_deck::{Reading, ToldMessage};
 use std::alloc::AllocError;
 
 /// Whether a picture has this letter or digit, the letter in capitals or small.
@@ -109,7 +109,7 @@ fn unfit_level(
     String::from_str(deck.alloc, why)
 }
 
-fn bad_level(deck: &Reading<'_>, from: WordPlace, items: &[Item], at: usize) -> Told {
+fn bad_level(deck: &Reading<'_>, from: WordPlace, items: &[Item], at: usize) -> ToldMessage {
     let level_word = deck.entry_words(from, at.saturating_add(1)).first();
     let place = level_word.copied().unwrap_or(from);
     let level = items.get(at).map_or(0, |item| item.level);
@@ -120,7 +120,7 @@ fn bad_level(deck: &Reading<'_>, from: WordPlace, items: &[Item], at: usize) -> 
     }
 }
 
-fn bad_picture(deck: &Reading<'_>, from: WordPlace, at: usize) -> Told {
+fn bad_picture(deck: &Reading<'_>, from: WordPlace, at: usize) -> ToldMessage {
     let place = deck.last_word(from, at.saturating_add(1));
     deck.tell_text(place, picture_reason(deck.text(place)))
 }
@@ -134,7 +134,7 @@ fn first_of_name(items: &[Item], at: usize) -> usize {
         .unwrap_or(at)
 }
 
-fn named_twice(deck: &Reading<'_>, from: WordPlace, items: &[Item], at: usize) -> Told {
+fn named_twice(deck: &Reading<'_>, from: WordPlace, items: &[Item], at: usize) -> ToldMessage {
     let line = deck.item_word(from, first_of_name(items, at)).line;
     let why = format!(in deck.alloc;
         "an item of this name is in the record already, in line {line}"
@@ -143,7 +143,12 @@ fn named_twice(deck: &Reading<'_>, from: WordPlace, items: &[Item], at: usize) -
 }
 
 /// What is told of the items of an FD that stands there, which are no record.
-pub fn bad_items(deck: &Reading<'_>, from: WordPlace, items: &[Item], fault: LayoutFault) -> Told {
+pub fn bad_items(
+    deck: &Reading<'_>,
+    from: WordPlace,
+    items: &[Item],
+    fault: LayoutFault,
+) -> ToldMessage {
     let at = match fault {
         LayoutFault::Empty => empty_group(items),
         _ => first_faulty(deck, items)?,

@@ -3,7 +3,7 @@
 use deck_entries::{Described, RecordLength};
 use deck_parser::WordPlace;
 use record_layout::{Field, Layout};
-use refused_deck::{Among, Reading, Told};
+use refused_deck::{Among, Reading, ToldMessage};
 use std::alloc::{AllocError, Global};
 
 /// The most characters of a key.
@@ -74,7 +74,7 @@ fn key_reason(
 
 /// What is told of the keys of a SELECT entry that stands there, of the file of an FD: of the first
 /// one that has a fault.
-pub fn bad_keys(deck: &Reading<'_>, from: WordPlace, described: &Described) -> Told {
+pub fn bad_keys(deck: &Reading<'_>, from: WordPlace, described: &Described) -> ToldMessage {
     let keys = deck
         .known
         .names(deck.alloc, &Among::KeysOf(described.name.as_str()))?;

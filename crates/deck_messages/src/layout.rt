@@ -5,7 +5,7 @@ use crate::keys::bad_keys;
 use deck_entries::{Described, RecordLength};
 use deck_parser::{LayoutCause, WordPlace};
 use record_layout::Picture;
-use refused_deck::{Reading, Told, is_number, says, says_one_of};
+use refused_deck::{Reading, ToldMessage, is_number, says, says_one_of};
 
 /// How many digits a number has.
 fn digits_of(number: u64) -> u64 {
@@ -49,7 +49,12 @@ fn lengths_among(
 }
 
 /// What is told of the lengths of an FD that stands there, whose record has this one.
-fn bad_lengths(deck: &Reading<'_>, from: WordPlace, described: &Described, length: u16) -> Told {
+fn bad_lengths(
+    deck: &Reading<'_>,
+    from: WordPlace,
+    described: &Described,
+    length: u16,
+) -> ToldMessage {
     let (first, second) = lengths_among(deck, deck.entry_words(from, 0));
     let first = first.unwrap_or(from);
     let place = match &described.lengths {
@@ -74,7 +79,7 @@ fn bad_length_item(
     from: WordPlace,
     described: &Described,
     greatest: u64,
-) -> Told {
+) -> ToldMessage {
     let name = deck.known.length_item(described.name.as_str());
     let item = deck.known.storage_place(name).unwrap_or(from);
     let picture = deck.last_word(item, 0);
@@ -87,7 +92,7 @@ fn bad_length_item(
 }
 
 /// What is told of a 77 item that is not of digits.
-fn bad_storage(deck: &Reading<'_>, from: WordPlace) -> Told {
+fn bad_storage(deck: &Reading<'_>, from: WordPlace) -> ToldMessage {
     let why = "a 77 item is of digits alone; its picture is 9(n), of 1 to 18 digits";
     deck.tell_text(deck.last_word(from, 0), why)
 }
@@ -104,7 +109,7 @@ pub fn file_of(cause: LayoutCause) -> Option<usize> {
 }
 
 /// What is told of items, lengths or keys that are none.
-pub fn bad_layout(deck: &Reading<'_>, place: WordPlace, cause: LayoutCause) -> Told {
+pub fn bad_layout(deck: &Reading<'_>, place: WordPlace, cause: LayoutCause) -> ToldMessage {
     let Some(file) = file_of(cause) else {
         return bad_storage(deck, place);
     };

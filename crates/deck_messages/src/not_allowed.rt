@@ -2,7 +2,7 @@
 
 use deck_parser::{NotAllowed, WordPlace};
 use io_state::Access;
-use refused_deck::{Among, Reading, Told, capitals};
+use refused_deck::{Among, Reading, ToldMessage, capitals};
 
 /// The most characters of the name of a file.
 const NAME_LIMIT: usize = 64;
@@ -41,7 +41,13 @@ fn access_word(access: Access) -> &'static str {
 }
 
 /// What is told of a word that the access of its file does not allow.
-fn of_access(deck: &Reading<'_>, place: WordPlace, file: usize, what: &str, wants: &str) -> Told {
+fn of_access(
+    deck: &Reading<'_>,
+    place: WordPlace,
+    file: usize,
+    what: &str,
+    wants: &str,
+) -> ToldMessage {
     let name = deck.known.file_name(file);
     let access = match deck.known.entry(file) {
         Some(selected) => access_word(selected.entry.access),
@@ -52,7 +58,7 @@ fn of_access(deck: &Reading<'_>, place: WordPlace, file: usize, what: &str, want
 }
 
 /// What is told of an item that is no key of a file, nor begins one where that would do.
-fn no_key_of(deck: &Reading<'_>, place: WordPlace, file: usize, may_begin: bool) -> Told {
+fn no_key_of(deck: &Reading<'_>, place: WordPlace, file: usize, may_begin: bool) -> ToldMessage {
     let name = deck.known.file_name(file);
     let why = if may_begin {
         format!(in deck.alloc; "neither a key of {name} nor an item at the beginning of one")
@@ -64,7 +70,7 @@ fn no_key_of(deck: &Reading<'_>, place: WordPlace, file: usize, may_begin: bool)
 }
 
 /// What is told of an item of digits that does not take the source of a MOVE.
-fn not_taken(deck: &Reading<'_>, place: WordPlace, source: WordPlace) -> Told {
+fn not_taken(deck: &Reading<'_>, place: WordPlace, source: WordPlace) -> ToldMessage {
     let name = capitals(deck.text(place));
     let picture = deck.known.picture(name.as_str()).unwrap_or("9(n)");
     let why = format!(in deck.alloc; "PIC {picture}, which takes digits alone");
@@ -76,7 +82,7 @@ fn not_taken(deck: &Reading<'_>, place: WordPlace, source: WordPlace) -> Told {
 }
 
 /// What is told of something that is not allowed where it stands.
-pub fn not_allowed(deck: &Reading<'_>, place: WordPlace, what: NotAllowed) -> Told {
+pub fn not_allowed(deck: &Reading<'_>, place: WordPlace, what: NotAllowed) -> ToldMessage {
     let (file, does, wants) = match what {
         NotAllowed::FileName => {
             return deck.tell_text(place, file_name_reason(inner(deck.text(place))));

@@ -2,10 +2,10 @@
 ghost use Rattle.std.specs.Prelude.{◌≡◌, option_map};
 ghost use Rattle.deck_messages.specs.Texts.{text_of_cause};
 
-use deck_parser::{Cause, Expected, Limit, NotAllowed};
+use deck_parser::{Expected, FaultCause, Limit, NotAllowed};
 
 fn text_of_limit(limit: Limit) -> Option<&'static str>
-    ensures { option_map (λ text. text.now) result ≡ text_of_cause (Cause.Limit limit) }
+    ensures { option_map (λ text. text.now) result ≡ text_of_cause (FaultCause.Limit limit) }
 {
     match limit {
         Limit::Bytes => Some("the deck has more than 1,048,576 bytes"),
@@ -16,7 +16,7 @@ fn text_of_limit(limit: Limit) -> Option<&'static str>
 }
 
 fn text_of_lack(expected: Expected) -> Option<&'static str>
-    ensures { option_map (λ text. text.now) result ≡ text_of_cause (Cause.Expected expected) }
+    ensures { option_map (λ text. text.now) result ≡ text_of_cause (FaultCause.Expected expected) }
 {
     match expected {
         Expected::Indexed => Some("this SELECT entry ends without ORGANIZATION IS INDEXED"),
@@ -28,13 +28,15 @@ fn text_of_lack(expected: Expected) -> Option<&'static str>
 }
 
 /// The text of a cause, where it has the same one in each deck.
-pub fn text_of_cause(cause: Cause) -> Option<&'static str>
+pub fn text_of_cause(cause: FaultCause) -> Option<&'static str>
     ensures { option_map (λ text. text.now) result ≡ text_of_cause cause }
 {
     match cause {
-        Cause::Limit(limit) => text_of_limit(limit),
-        Cause::Expected(expected) => text_of_lack(expected),
-        Cause::NotAllowed(NotAllowed::KeyWithNext) => Some("a READ has NEXT or KEY, and not both"),
+        FaultCause::Limit(limit) => text_of_limit(limit),
+        FaultCause::Expected(expected) => text_of_lack(expected),
+        FaultCause::NotAllowed(NotAllowed::KeyWithNext) => Some(
+            "a READ has NEXT or KEY, and not both",
+        ),
         _ => None,
     }
 }

@@ -10,13 +10,13 @@ use crate::twice::twice;
 use crate::unexpected::unexpected;
 use crate::unknown::unknown;
 use crate::wanted::WantedWords;
-use deck_parser::{Cause, Refusal, WordPlace};
+use deck_parser::{FaultCause, ParseRefusal, WordPlace};
 use deck_reader::DeckRefusal;
-use refused_deck::{Message, Reading, Told};
+use refused_deck::{Message, Reading, ToldMessage};
 use std::alloc::{AllocError, Global};
 
 /// What is told of bytes that are no word.
-fn bad_word(deck: &Reading<'_>, place: WordPlace) -> Told {
+fn bad_word(deck: &Reading<'_>, place: WordPlace) -> ToldMessage {
     let start = place.start as usize;
     let (_, text) = deck.bytes.split_at(start.min(deck.bytes.len()));
     let (length, why) = no_word(text);
@@ -25,7 +25,7 @@ fn bad_word(deck: &Reading<'_>, place: WordPlace) -> Told {
 }
 
 /// What is told of a number with too many digits.
-fn too_many_digits(deck: &Reading<'_>, place: WordPlace) -> Told {
+fn too_many_digits(deck: &Reading<'_>, place: WordPlace) -> ToldMessage {
     let digits = deck.text(place).len();
     let why = format!(in deck.alloc; "a number of {digits} digits; a number has at most 18");
     deck.tell(place, why)
@@ -35,22 +35,27 @@ fn too_many_digits(deck: &Reading<'_>, place: WordPlace) -> Told {
 fn message_by_deck(
     deck: &Reading<'_>,
     place: WordPlace,
-    cause: Cause,
+    cause: FaultCause,
     wanted: &WantedWords<'_>,
-) -> Told {
+) -> ToldMessage {
     match cause {
-        Cause::BadWord => bad_word(deck, place),
-        Cause::Expected(expected) => unexpected(deck, place, expected, wanted),
-        Cause::Unknown(what) => unknown(deck, place, what),
-        Cause::Twice(what) => twice(deck, place, what),
-        Cause::NotAllowed(what) => not_allowed(deck, place, what),
-        Cause::Limit(_) => too_many_digits(deck, place),
-        Cause::Layout(what) => bad_layout(deck, place, what),
+        FaultCause::BadWord => bad_word(deck, place),
+        FaultCause::Expected(expected) => unexpected(deck, place, expected, wanted),
+        FaultCause::Unknown(what) => unknown(deck, place, what),
+        FaultCause::Twice(what) => twice(deck, place, what),
+        FaultCause::NotAllowed(what) => not_allowed(deck, place, what),
+        FaultCause::Limit(_) => too_many_digits(deck, place),
+        FaultCause::Layout(what) => bad_layout(deck, place, what),
     }
 }
 
 /// What is told of a fault.
-fn message(deck: &Reading<'_>, place: WordPlace, cause: Cause, wanted: &WantedWords<'_>) -> Told
+fn message(
+    deck: &Reading<'_>,
+    place: WordPlace,
+    cause: FaultCause,
+    wanted: &WantedWords<'_>,
+) -> ToldMessage
     ensures { IfOk result (λ message. SaysCause cause (string_bytes message.why)) }
 {
     match text_of_cause(cause) {
@@ -60,16 +65,16 @@ fn message(deck: &Reading<'_>, place: WordPlace, cause: Cause, wanted: &WantedWo
 }
 
 /// What is told of these bytes, which the reader refuses so.
-pub fn message_of(alloc: Global, bytes: &[u8], refusal: &DeckRefusal) -> Told
+pub fn message_of(alloc: Global, bytes: &[u8], refusal: &DeckRefusal) -> ToldMessage
     ensures { IfOk result (λ message. SaysWhy refusal.now.refusal (string_bytes message.why)) }
 {
     match refusal.refusal {
-        Refusal::Fault(_, place, cause) => {
+        ParseRefusal::Fault(_, place, cause) => {
             let wanted = WantedWords {
                 wanted: &refusal.wanted,
             };
             message(&Reading::of(alloc, bytes)?, place, cause, &wanted)
         }
-        Refusal::Memory => Err(AllocError),
+        ParseRefusal::Memory => Err(AllocError),
     }
 }

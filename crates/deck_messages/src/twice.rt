@@ -1,9 +1,9 @@
 //! What stands a second time.
 
 use deck_parser::{FirstNamed, ItemPlace, Twice, WordPlace};
-use refused_deck::{Reading, Told};
+use refused_deck::{Reading, ToldMessage};
 
-fn already(deck: &Reading<'_>, place: WordPlace, what: &str, line: u64) -> Told {
+fn already(deck: &Reading<'_>, place: WordPlace, what: &str, line: u64) -> ToldMessage {
     deck.tell(
         place,
         format!(in deck.alloc; "{what} already, in line {line}"),
@@ -11,7 +11,7 @@ fn already(deck: &Reading<'_>, place: WordPlace, what: &str, line: u64) -> Told 
 }
 
 /// What is told of an FD with an item whose name an item of an earlier file has.
-fn item_twice(deck: &Reading<'_>, fd: WordPlace, first: ItemPlace, item: ItemPlace) -> Told {
+fn item_twice(deck: &Reading<'_>, fd: WordPlace, first: ItemPlace, item: ItemPlace) -> ToldMessage {
     let place = deck.word_of_item(item).unwrap_or(fd);
     let file = deck.known.file_name(first.file);
     let line = deck.word_of_item(first).unwrap_or(fd).line;
@@ -23,7 +23,7 @@ fn item_twice(deck: &Reading<'_>, fd: WordPlace, first: ItemPlace, item: ItemPla
 }
 
 /// What is told of a 77 item whose name is there already.
-fn storage_twice(deck: &Reading<'_>, level: WordPlace, first: FirstNamed) -> Told {
+fn storage_twice(deck: &Reading<'_>, level: WordPlace, first: FirstNamed) -> ToldMessage {
     let line = match first {
         FirstNamed::Item(item) => deck.word_of_item(item).unwrap_or(level).line,
         FirstNamed::LengthItem(line) => line,
@@ -32,7 +32,7 @@ fn storage_twice(deck: &Reading<'_>, level: WordPlace, first: FirstNamed) -> Tol
 }
 
 /// What is told of a name, or of a clause, that is there already.
-pub fn twice(deck: &Reading<'_>, place: WordPlace, twice: Twice) -> Told {
+pub fn twice(deck: &Reading<'_>, place: WordPlace, twice: Twice) -> ToldMessage {
     match twice {
         Twice::Clause(line) => already(deck, place, "a clause that this entry has", line),
         Twice::Selected(line) => already(deck, place, "this file is selected", line),

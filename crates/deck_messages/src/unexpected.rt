@@ -2,9 +2,9 @@
 
 use crate::lacking::{without, without_here};
 use crate::wanted::WantedWords;
-use deck_parser::{Cause, Expected, NameOf, Refusal, Wanted, WordPlace};
+use deck_parser::{Expected, FaultCause, NameOf, ParseRefusal, WantedWord, WordPlace};
 use deck_reader::{DeckRefusal, read_deck_told};
-use refused_deck::{Message, Reading, Shown, Told, is_name, is_number, says, says_one_of};
+use refused_deck::{Message, Reading, Shown, ToldMessage, is_name, is_number, says, says_one_of};
 use std::alloc::AllocError;
 
 /// How many digits a sequence number has.
@@ -20,8 +20,11 @@ const START: WordPlace = WordPlace {
 /// Whether the reader goes on behind a place of a deck, as far as it says.
 fn goes_on_behind(refusal: &DeckRefusal, start: u32) -> bool {
     match refusal.refusal {
-        Refusal::Fault(_, place, Cause::Expected(Expected::Words(_) | Expected::Paragraph(_))) =>
-            place.start > start,
+        ParseRefusal::Fault(
+            _,
+            place,
+            FaultCause::Expected(Expected::Words(_) | Expected::Paragraph(_)),
+        ) => place.start > start,
         _ => true,
     }
 }
@@ -39,7 +42,7 @@ fn is_like_name(text: &[u8]) -> bool {
 fn why_unexpected(wanted: &WantedWords<'_>, text: &[u8]) -> &'static str {
     if wanted.has_word("77") && is_number(text) {
         "WORKING-STORAGE has 77 levels alone"
-    } else if wanted.has(Wanted::Name(NameOf::Paragraph)) && text == b".".as_slice() {
+    } else if wanted.has(WantedWord::Name(NameOf::Paragraph)) && text == b".".as_slice() {
         "a period without a statement before it"
     } else {
         "no deck goes on with this word"
@@ -96,7 +99,7 @@ fn why_not_here(
     wanted: &WantedWords<'_>,
 ) -> Result<String, AllocError> {
     let text = deck.text(place);
-    let is_unended = wanted.has(Wanted::Period) && lacks_period(deck, place)?;
+    let is_unended = wanted.has(WantedWord::Period) && lacks_period(deck, place)?;
     let may_be_item = wanted.has_word("FILLER") && !is_unended;
     if is_like_name(text) && (wanted.is_for_name() || may_be_item) {
         return String::from_str(deck.alloc, "a reserved word, which can be no name");
@@ -115,7 +118,7 @@ fn why_not_here(
 }
 
 /// What is told where the deck ends too early.
-fn of_end(deck: &Reading<'_>, wanted: &WantedWords<'_>) -> Told {
+fn of_end(deck: &Reading<'_>, wanted: &WantedWords<'_>) -> ToldMessage {
     let message = match deck.words.last() {
         Some(last) => deck.tell_text(*last, "the deck ends behind this word, too early")?,
         None => deck.tell_text(START, "the deck has no word")?,
@@ -124,7 +127,7 @@ fn of_end(deck: &Reading<'_>, wanted: &WantedWords<'_>) -> Told {
 }
 
 /// What is told of a word that does not fit.
-fn of_word(deck: &Reading<'_>, place: WordPlace, wanted: &WantedWords<'_>) -> Told {
+fn of_word(deck: &Reading<'_>, place: WordPlace, wanted: &WantedWords<'_>) -> ToldMessage {
     if let Some(level) = level_of_condition(deck, place) {
         let why = "there are no condition names, of level 88; leave the entry out";
         return deck.tell_text(level, why);
@@ -150,7 +153,7 @@ fn of_no_verb(
     place: WordPlace,
     name: WordPlace,
     wanted: &WantedWords<'_>,
-) -> Told {
+) -> ToldMessage {
     let message = if let Some(verb) = wanted.misspelt(deck.text(name)) {
         let verb = Shown(verb);
         deck.tell(name, format!(in deck.alloc; "perhaps {verb}, misspelt"))?
@@ -169,7 +172,7 @@ fn of_paragraph(
     place: WordPlace,
     name: WordPlace,
     wanted: &WantedWords<'_>,
-) -> Told {
+) -> ToldMessage {
     if deck.text(place).is_empty() {
         let why = "the deck ends behind this word, too early";
         return deck
@@ -195,7 +198,7 @@ pub fn unexpected(
     place: WordPlace,
     expected: Expected,
     wanted: &WantedWords<'_>,
-) -> Told {
+) -> ToldMessage {
     match expected {
         Expected::Paragraph(name) => of_paragraph(deck, place, name, wanted),
         _ if deck.text(place).is_empty() => of_end(deck, wanted),

@@ -2,11 +2,17 @@
 
 use crate::lacking::without;
 use deck_parser::{Named, Unknown, WordPlace};
-use refused_deck::{Among, Message, Reading, Told};
+use refused_deck::{Among, Message, Reading, ToldMessage};
 use std::alloc::AllocError;
 
 /// What has a name where something else is wanted, or that nothing has it.
-fn of_name(deck: &Reading<'_>, place: WordPlace, named: Named, wants: &str, nothing: &str) -> Told {
+fn of_name(
+    deck: &Reading<'_>,
+    place: WordPlace,
+    named: Named,
+    wants: &str,
+    nothing: &str,
+) -> ToldMessage {
     let alloc = deck.alloc;
     let why = match named {
         Named::File(_) => format!(in alloc; "a file; {wants}"),
@@ -32,25 +38,25 @@ fn of_name_among(
     told: (&str, &str),
     meant: String,
     names: (&str, Among<'_>),
-) -> Told {
+) -> ToldMessage {
     of_name(deck, place, named, told.0, told.1)?
         .with_hint(meant)?
         .with_hint(deck.listed(names.0, &names.1)?)
 }
 
-fn no_select(deck: &Reading<'_>, place: WordPlace) -> Told {
+fn no_select(deck: &Reading<'_>, place: WordPlace) -> ToldMessage {
     deck.tell_text(place, "no SELECT entry selects a file of this name")?
         .with_hint(deck.perhaps(&Among::Files, deck.text(place))?)?
         .with_hint(deck.listed("files: ", &Among::Files)?)
 }
 
-fn no_description(deck: &Reading<'_>, select: WordPlace) -> Told {
+fn no_description(deck: &Reading<'_>, select: WordPlace) -> ToldMessage {
     let place = deck.subject(select);
     deck.tell_text(place, "this file has a SELECT entry and no FD")?
         .with_hint(deck.perhaps(&Among::Descriptions, deck.text(place))?)
 }
 
-fn no_key(deck: &Reading<'_>, select: WordPlace, file: usize, key: usize) -> Told {
+fn no_key(deck: &Reading<'_>, select: WordPlace, file: usize, key: usize) -> ToldMessage {
     let place = match deck.known.key_name(file, key) {
         Some(name) => deck.named_in(select, name),
         None => select,
@@ -64,7 +70,7 @@ fn no_key(deck: &Reading<'_>, select: WordPlace, file: usize, key: usize) -> Tol
         .with_hint(deck.listed("its items: ", &Among::ItemsOf(file))?)
 }
 
-fn no_length_item(deck: &Reading<'_>, fd: WordPlace, file: usize, named: Named) -> Told {
+fn no_length_item(deck: &Reading<'_>, fd: WordPlace, file: usize, named: Named) -> ToldMessage {
     let name = deck.known.length_item(deck.known.file_name(file));
     let place = deck.named_in(fd, name);
     let nothing = "no 77 item of WORKING-STORAGE has this name";
@@ -85,7 +91,7 @@ fn file_meant(deck: &Reading<'_>, place: WordPlace, named: Named) -> Result<Stri
     }
 }
 
-fn no_file(deck: &Reading<'_>, place: WordPlace, named: Named) -> Told {
+fn no_file(deck: &Reading<'_>, place: WordPlace, named: Named) -> ToldMessage {
     let verb = deck.verb(place);
     let wants = format!(in deck.alloc; "{verb} wants a file")?;
     let told = (
@@ -123,7 +129,7 @@ fn record_meant(
     }
 }
 
-fn no_record(deck: &Reading<'_>, place: WordPlace, named: Named) -> Told {
+fn no_record(deck: &Reading<'_>, place: WordPlace, named: Named) -> ToldMessage {
     let verb = deck.verb(place);
     let wants = format!(in deck.alloc; "{verb} wants a record")?;
     let told = (wants.as_str(), "no file has a record of this name");
@@ -132,7 +138,7 @@ fn no_record(deck: &Reading<'_>, place: WordPlace, named: Named) -> Told {
     of_name_among(deck, place, named, told, meant, names)
 }
 
-fn no_key_item(deck: &Reading<'_>, place: WordPlace, file: usize, named: Named) -> Told {
+fn no_key_item(deck: &Reading<'_>, place: WordPlace, file: usize, named: Named) -> ToldMessage {
     let file = deck.known.file_name(file);
     let wants = format!(in deck.alloc; "KEY IS wants an item of {file}")?;
     let none = String::new(deck.alloc);
@@ -141,7 +147,7 @@ fn no_key_item(deck: &Reading<'_>, place: WordPlace, file: usize, named: Named) 
     of_name_among(deck, place, named, told, none, names)
 }
 
-fn no_receiver(deck: &Reading<'_>, place: WordPlace, named: Named) -> Told {
+fn no_receiver(deck: &Reading<'_>, place: WordPlace, named: Named) -> ToldMessage {
     let told = of_name(
         deck,
         place,
@@ -170,7 +176,7 @@ fn lacking(text: &[u8], unknown: Unknown) -> Option<&'static str> {
 }
 
 /// What is told of a name that nothing has, or something else.
-pub fn unknown(deck: &Reading<'_>, place: WordPlace, unknown: Unknown) -> Told {
+pub fn unknown(deck: &Reading<'_>, place: WordPlace, unknown: Unknown) -> ToldMessage {
     if let Some(text) = lacking(deck.text(place), unknown) {
         return Message::not_read(deck.alloc, place, text);
     }

@@ -1,6 +1,6 @@
 //! What was wanted where a deck goes wrong.
 
-use deck_parser::{NameOf, Wanted};
+use deck_parser::{NameOf, WantedWord};
 use refused_deck::{Shown, is_near, says};
 use std::alloc::{AllocError, Global};
 use std::fmt;
@@ -9,13 +9,13 @@ use std::fmt;
 /// they were looked for.
 #[derive(Clone, Copy)]
 pub struct WantedWords<'w> {
-    pub wanted: &'w [Wanted],
+    pub wanted: &'w [WantedWord],
 }
 
 /// One of them, as it is told. A literal is told as a source of a MOVE or as the name of a file.
 #[derive(Clone, Copy)]
 struct WantedText<'a> {
-    wanted: &'a Wanted,
+    wanted: &'a WantedWord,
     is_source: bool,
 }
 
@@ -36,44 +36,44 @@ fn name_text(name: NameOf) -> &'static str {
 impl<'a> fmt::Display for WantedText<'a> {
     fn fmt<W: fmt::Write>(&self, f: &mut fmt::Formatter<W>) -> fmt::Result {
         match self.wanted {
-            Wanted::Word(text) | Wanted::Sign(text) => {
+            WantedWord::Word(text) | WantedWord::Sign(text) => {
                 let text = Shown(text);
                 write!(f, "{text}")
             }
-            Wanted::Name(name) => f.write_str(name_text(*name)),
-            Wanted::Number => f.write_str("a number"),
-            Wanted::Level => f.write_str("a level number"),
-            Wanted::Picture => f.write_str("a picture, as X(10) or 9(6)"),
-            Wanted::Literal if self.is_source => f.write_str("a literal"),
-            Wanted::Literal => f.write_str("the name of a file in marks, as 'cust.dat'"),
-            Wanted::Period => f.write_str("a period"),
+            WantedWord::Name(name) => f.write_str(name_text(*name)),
+            WantedWord::Number => f.write_str("a number"),
+            WantedWord::Level => f.write_str("a level number"),
+            WantedWord::Picture => f.write_str("a picture, as X(10) or 9(6)"),
+            WantedWord::Literal if self.is_source => f.write_str("a literal"),
+            WantedWord::Literal => f.write_str("the name of a file in marks, as 'cust.dat'"),
+            WantedWord::Period => f.write_str("a period"),
         }
     }
 }
 
 /// Whether it is another spelling of a word that is told as well.
-fn is_other_spelling(wanted: &Wanted) -> bool {
+fn is_other_spelling(wanted: &WantedWord) -> bool {
     match wanted {
-        Wanted::Word(text) => SPELLINGS.iter().any(|spelling| says(text, spelling)),
+        WantedWord::Word(text) => SPELLINGS.iter().any(|spelling| says(text, spelling)),
         _ => false,
     }
 }
 
 impl<'w> WantedWords<'w> {
-    pub fn has(&self, wanted: Wanted) -> bool {
+    pub fn has(&self, wanted: WantedWord) -> bool {
         self.wanted.iter().any(|own| *own == wanted)
     }
 
     pub fn has_word(&self, word: &str) -> bool {
-        self.wanted.iter().any(|own| matches!(own, Wanted::Word(text) if says(text, word)))
+        self.wanted.iter().any(|own| matches!(own, WantedWord::Word(text) if says(text, word)))
     }
 
     /// Whether the name of something else than a paragraph has to come.
     pub fn is_for_name(&self) -> bool {
         let has_name = self.wanted.iter().any(
-            |own| matches!(own, Wanted::Name(name) if *name != NameOf::Paragraph),
+            |own| matches!(own, WantedWord::Name(name) if *name != NameOf::Paragraph),
         );
-        has_name && !self.has(Wanted::Period)
+        has_name && !self.has(WantedWord::Period)
     }
 
     /// Whether the source of a MOVE has to come.
@@ -84,7 +84,7 @@ impl<'w> WantedWords<'w> {
     /// The first of the words of which a text may be a misspelling.
     pub fn misspelt(&self, text: &[u8]) -> Option<&'static [u8]> {
         for own in self.wanted {
-            if let Wanted::Word(word) = own {
+            if let WantedWord::Word(word) = own {
                 if is_near(text, word) {
                     return Some(*word);
                 }

@@ -2,12 +2,12 @@
 use Rattle.std.proofs.Common.{◌≡◌, ◌≤◌, ◌<◌, ◌+◌, ◌⊎◌, inl, inr, ◌++◌, ◌∷◌, [], length, List, ℕ, Option, Some, None, subst, sym, ap, ◌∙◌, refl, arith, append_assoc, append-nil}
 use Rattle.std.proofs.lemmas.Option.{same_Some}
 use Rattle.deck_parser.specs.Word.{Word}
-use Rattle.deck_parser.specs.declared.fault.Cause.{Cause}
-use Rattle.deck_parser.specs.declared.fault.Cause.TheVariants.{BadWord, Expected, Unknown, Twice, NotAllowed, Limit, Layout}
-use Rattle.deck_parser.specs.declared.fault.Refusal.{Refusal}
+use Rattle.deck_parser.specs.declared.fault.FaultCause.{FaultCause}
+use Rattle.deck_parser.specs.declared.fault.FaultCause.TheVariants.{BadWord, Expected, Unknown, Twice, NotAllowed, Limit, Layout}
+use Rattle.deck_parser.specs.declared.fault.ParseRefusal.{ParseRefusal}
 use Rattle.deck_parser.specs.declared.place.WordPlace.{WordPlace}
 use Rattle.deck_parser.specs.Fault.{cause_code, told, fault_of}
-use Rattle.deck_parser.specs.declared.fault.Refusal.TheVariants.{Memory, Fault}
+use Rattle.deck_parser.specs.declared.fault.ParseRefusal.TheVariants.{Memory, Fault}
 use Rattle.deck_parser.specs.Words.{Piece, written_piece, GivesWords, IsCutIntoWords, HasWordsUpTo, HasWords, IsStuck, RefusesWords}
 use Rattle.deck_parser.specs.Front.{Next, piece_at, Rest, rest_of}
 use Rattle.deck_parser.proofs.FrontLemmas.{feeds, piece_sound, piece_complete, none_at_end}
@@ -82,7 +82,7 @@ no_more [] e h = omega (arith, h)
 no_more (b ∷ bytes) e h = cc
 
 -- words and a fault exclude each other
-pub words_have_no_fault : (bytes : List ℕ) (words : List Word) (refusal : Refusal) → HasWords bytes words → RefusesWords bytes refusal → refusal ≡ Memory
+pub words_have_no_fault : (bytes : List ℕ) (words : List Word) (refusal : ParseRefusal) → HasWords bytes words → RefusesWords bytes refusal → refusal ≡ Memory
 words_have_no_fault bytes words Memory h f = refl
 words_have_no_fault bytes words (Fault line place (Limit which)) h f = absurd (omega (arith, f.1, h.0))
 words_have_no_fault bytes words (Fault line place BadWord) h f =
@@ -126,13 +126,13 @@ done bytes words line rest so e = (so.upto.0, so.upto.1, line, subst (λ r. IsCu
 -- ---- faults
 
 -- a fault of words: the deck is too long, or bytes at a line are no word
-abbrev IsTooLong : List ℕ → ℕ → Cause → Type 0
+abbrev IsTooLong : List ℕ → ℕ → FaultCause → Type 0
 IsTooLong bytes line cause = (cause_code cause ≡ 6) × (line ≡ 1) × (1048576 < length bytes)
 
-abbrev IsBad : List ℕ → ℕ → WordPlace → Cause → Type 0
+abbrev IsBad : List ℕ → ℕ → WordPlace → FaultCause → Type 0
 IsBad bytes line place cause = (cause_code cause ≡ 1) × RefusesWords bytes (Fault line place BadWord)
 
-one_or_other : (bytes : List ℕ) (line : ℕ) (place : WordPlace) (cause : Cause) → RefusesWords bytes (Fault line place cause) → IsTooLong bytes line cause ⊎ IsBad bytes line place cause
+one_or_other : (bytes : List ℕ) (line : ℕ) (place : WordPlace) (cause : FaultCause) → RefusesWords bytes (Fault line place cause) → IsTooLong bytes line cause ⊎ IsBad bytes line place cause
 one_or_other bytes line place (Limit which) f = inl (refl, f.0, f.1)
 one_or_other bytes line place BadWord f = inr (refl, f)
 one_or_other bytes line place (Expected what) f = absurd f
@@ -145,12 +145,12 @@ bad_is_one : (bytes : List ℕ) (line other : ℕ) (place there : WordPlace) →
 bad_is_one bytes line other place there f g =
     ap (λ (r : Rest). r.line) (one_end_of bytes f.0 g.0 (rest_of line f.1) (rest_of other g.1) f.2 (stuck_is_last _ f.3) g.2 (stuck_is_last _ g.3)).1
 
-same_told : (line other : ℕ) (place there : WordPlace) (cause another : Cause) → line ≡ other → cause_code cause ≡ cause_code another → told (Fault line place cause) ≡ told (Fault other there another)
+same_told : (line other : ℕ) (place there : WordPlace) (cause another : FaultCause) → line ≡ other → cause_code cause ≡ cause_code another → told (Fault line place cause) ≡ told (Fault other there another)
 same_told line other place there cause another e f =
     ap (λ (l : ℕ). fault_of l (cause_code cause)) e ∙ ap (λ (c : ℕ). fault_of other c) f
 
 -- two faults are told alike
-pub faults_are_one : (bytes : List ℕ) (a b : Refusal) → RefusesWords bytes a → RefusesWords bytes b → (a ≡ Memory → ⊥) → (b ≡ Memory → ⊥) → told a ≡ told b
+pub faults_are_one : (bytes : List ℕ) (a b : ParseRefusal) → RefusesWords bytes a → RefusesWords bytes b → (a ≡ Memory → ⊥) → (b ≡ Memory → ⊥) → told a ≡ told b
 faults_are_one bytes Memory b f g p q = absurd (p refl)
 faults_are_one bytes (Fault line place cause) Memory f g p q = absurd (q refl)
 faults_are_one bytes (Fault line place cause) (Fault other there another) f g p q =

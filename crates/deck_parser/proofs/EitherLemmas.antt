@@ -6,7 +6,7 @@ use Rattle.deck_parser.specs.Rule.{Rule, Stop}
 use Rattle.deck_parser.specs.Notation.{◌∣◌}
 use Rattle.deck_parser.specs.Reading.{Reads, ReadsRule, TellsStop}
 use Rattle.deck_parser.specs.Word.{Word}
-use Rattle.deck_parser.specs.declared.fault.Refusal.{Refusal}
+use Rattle.deck_parser.specs.declared.fault.ParseRefusal.{ParseRefusal}
 
 -- both rules read the words in the same way
 abbrev pub Alike : {A : Type 0} → Rule A → Rule A → List Word → Type 0
@@ -25,6 +25,6 @@ pub chained : {R S : Type 0} {x y z : R} {s t u : S} → (x ≡ y) × (s ≡ t) 
 chained a b = (a.0 ∙ b.0, a.1 ∙ b.1)
 
 -- what is read by a rule is what is read by one that is alike
-pub alike : {A : Type 0} (p q : Rule A) (words : List Word) (result : Result A Refusal) (rest : List Word) → Alike p q words → ReadsRule q words result rest → ReadsRule p words result rest
+pub alike : {A : Type 0} (p q : Rule A) (words : List Word) (result : Result A ParseRefusal) (rest : List Word) → Alike p q words → ReadsRule q words result rest → ReadsRule p words result rest
 alike p q words result rest same reads =
     (subst (λ read. Reads read result rest) (sym same.0) reads.0, subst (λ (stop : Stop). IfErr result (TellsStop stop)) (sym same.1) reads.1)

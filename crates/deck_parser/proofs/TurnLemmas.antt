@@ -9,8 +9,8 @@ use Rattle.deck_parser.specs.Rule.{Rule, SpellsTurns, reads_further_from, each_b
 use Rattle.deck_parser.proofs.TestLemmas.{bind_some, bind_is}
 use Rattle.deck_parser.proofs.ClassLemmas.{begins_apart, neither_begins}
 use Rattle.deck_parser.specs.Reading.{Refuses, TellsStop}
-use Rattle.deck_parser.specs.declared.fault.Refusal.{Refusal}
-use Rattle.deck_parser.specs.declared.fault.Refusal.TheVariants.{Memory, Fault}
+use Rattle.deck_parser.specs.declared.fault.ParseRefusal.{ParseRefusal}
+use Rattle.deck_parser.specs.declared.fault.ParseRefusal.TheVariants.{Memory, Fault}
 use Rattle.deck_parser.proofs.RuleLemmas.{Lawful}
 
 -- the words spell values up to a last one, in any number of turns
@@ -220,7 +220,7 @@ module _ {S : Type 0} (next : S → Rule S) (starts goes_on : List Class) (alike
   further read stop s u words middle so_far i e =
       (so_far.0 ∙ next_further s u words middle i e, so_far.1 ∙ next_stop s u words middle e)
 
-  pub not_further : (read : Option (S × List Word)) (stop : Stop) (s : S) (words : List Word) (refusal : Refusal) → GoesOn next read stop s words → begins (next s).starts words ≡ true → Refuses ((next s).reads words) refusal × TellsStop ((next s).stops words) refusal → Refuses read refusal × TellsStop stop refusal
+  pub not_further : (read : Option (S × List Word)) (stop : Stop) (s : S) (words : List Word) (refusal : ParseRefusal) → GoesOn next read stop s words → begins (next s).starts words ≡ true → Refuses ((next s).reads words) refusal × TellsStop ((next s).stops words) refusal → Refuses read refusal × TellsStop stop refusal
   not_further read stop s words Memory so_far i r = (tt, tt)
   not_further read stop s words (Fault line place cause) so_far i r = (
     so_far.0 ∙ no_further s words i r.0,

@@ -7,7 +7,7 @@ pub mod Spelling
 pub mod Front
 pub mod Remaining
 pub mod OneReading
-pub mod Wanted
+pub mod WantedWord
 pub mod Name
 pub mod Class
 pub mod Rule

@@ -8,10 +8,10 @@ use Rattle.std.specs.List.{list_all, list_any}
 use Rattle.std.specs.Str.{bytes_eq}
 use Rattle.io_state.specs.FileName.{is_small, is_letter_or_digit}
 use Rattle.deck_parser.specs.ByteClass.{is_space, is_mark}
-use Rattle.deck_parser.specs.declared.fault.Cause.TheVariants.{BadWord, Expected, Unknown, Twice, NotAllowed}
-use Rattle.deck_parser.specs.declared.fault.Cause.TheVariants.{Limit, Layout}
-use Rattle.deck_parser.specs.declared.fault.Refusal.{Refusal}
-use Rattle.deck_parser.specs.declared.fault.Refusal.TheVariants.{Memory, Fault}
+use Rattle.deck_parser.specs.declared.fault.FaultCause.TheVariants.{BadWord, Expected, Unknown, Twice, NotAllowed}
+use Rattle.deck_parser.specs.declared.fault.FaultCause.TheVariants.{Limit, Layout}
+use Rattle.deck_parser.specs.declared.fault.ParseRefusal.{ParseRefusal}
+use Rattle.deck_parser.specs.declared.fault.ParseRefusal.TheVariants.{Memory, Fault}
 use Rattle.deck_parser.specs.Word.{Word, word_of, Plain, Literal, Sign, Period}
 
 -- ---- runs
@@ -98,7 +98,7 @@ IsStuck line bytes =
 
 -- why a deck has no words: it is too long, or what is left behind some pieces begins with none; or
 -- there was no memory
-abbrev pub RefusesWords : List ℕ → Refusal → Type 0
+abbrev pub RefusesWords : List ℕ → ParseRefusal → Type 0
 RefusesWords bytes Memory = Unit {0}
 RefusesWords bytes (Fault line place (Limit which)) = (line ≡ 1) × (1048576 < length bytes)
 RefusesWords bytes (Fault line place BadWord) =

@@ -30,7 +30,7 @@ pub struct DeckFault {
 
 /// What is wrong at a word.
 #[derive(Clone, Copy, Debug, PartialEq, Eq)]
-pub enum Cause {
+pub enum FaultCause {
     BadWord,
     Expected(Expected),
     Unknown(Unknown),
@@ -163,60 +163,60 @@ pub enum LayoutCause {
 /// Why nothing is read: want of memory, or a fault, which is told at a line. The word that has the
 /// fault may stand in another line.
 #[derive(Clone, Copy, Debug, PartialEq, Eq)]
-pub enum Refusal {
+pub enum ParseRefusal {
     Memory,
-    Fault(u64, WordPlace, Cause),
+    Fault(u64, WordPlace, FaultCause),
 }
 
-impl Cause {
+impl FaultCause {
     /// Its code in a `DeckFault`.
     fn code(self) -> u8
         ensures { result ≡ cause_code self }
     {
         match self {
-            Cause::BadWord => 1,
-            Cause::Expected(_) => 2,
-            Cause::Unknown(_) => 3,
-            Cause::Twice(_) => 4,
-            Cause::NotAllowed(_) => 5,
-            Cause::Limit(_) => 6,
-            Cause::Layout(_) => 7,
+            FaultCause::BadWord => 1,
+            FaultCause::Expected(_) => 2,
+            FaultCause::Unknown(_) => 3,
+            FaultCause::Twice(_) => 4,
+            FaultCause::NotAllowed(_) => 5,
+            FaultCause::Limit(_) => 6,
+            FaultCause::Layout(_) => 7,
         }
     }
 }
 
-impl From<AllocError> for Refusal {
+impl From<AllocError> for ParseRefusal {
     ghost use Rattle.std.specs.Prelude.{◌≡◌};
-    ghost use Rattle.deck_parser.specs.declared.fault.Refusal.TheVariants.{Memory};
+    ghost use Rattle.deck_parser.specs.declared.fault.ParseRefusal.TheVariants.{Memory};
 
     ghost from_gives = { λ _ e. e ≡ Memory };
 
-    fn from(_error: AllocError) -> Refusal {
-        Refusal::Memory
+    fn from(_error: AllocError) -> ParseRefusal {
+        ParseRefusal::Memory
     }
 }
 
-impl<T: Drop> From<AllocFailed<T>> for Refusal {
+impl<T: Drop> From<AllocFailed<T>> for ParseRefusal {
     ghost use Rattle.std.specs.Prelude.{◌≡◌};
-    ghost use Rattle.deck_parser.specs.declared.fault.Refusal.TheVariants.{Memory};
+    ghost use Rattle.deck_parser.specs.declared.fault.ParseRefusal.TheVariants.{Memory};
 
     ghost from_gives = { λ _ e. e ≡ Memory };
 
-    fn from(_error: AllocFailed<T>) -> Refusal {
-        Refusal::Memory
+    fn from(_error: AllocFailed<T>) -> ParseRefusal {
+        ParseRefusal::Memory
     }
 }
 
-impl From<Refusal> for DeckFault {
+impl From<ParseRefusal> for DeckFault {
     ghost use Rattle.std.specs.Prelude.{◌≡◌};
     ghost use Rattle.deck_parser.specs.Fault.{told};
 
     ghost from_gives = { λ refusal fault. fault ≡ told refusal };
 
-    fn from(refusal: Refusal) -> DeckFault {
+    fn from(refusal: ParseRefusal) -> DeckFault {
         match refusal {
-            Refusal::Memory => DeckFault { line: 0, code: 8 },
-            Refusal::Fault(line, _place, cause) => DeckFault {
+            ParseRefusal::Memory => DeckFault { line: 0, code: 8 },
+            ParseRefusal::Fault(line, _place, cause) => DeckFault {
                 line,
                 code: cause.code(),
             },

@@ -27,13 +27,13 @@ mod wanted;
 mod word;
 
 pub use fault::{
-    Cause, DeckFault, Expected, FirstNamed, ItemPlace, LayoutCause, Limit, Named, NotAllowed,
-    Refusal, Twice, Unknown,
+    DeckFault, Expected, FaultCause, FirstNamed, ItemPlace, LayoutCause, Limit, Named, NotAllowed,
+    ParseRefusal, Twice, Unknown,
 };
 pub use literal::Quoted;
 pub use parser::Parser;
 pub use place::WordPlace;
 pub use remaining::Words;
 pub use scanner::{DECK_LIMIT, one_reading, scan, words};
-pub use wanted::{NameOf, Note, Wanted, WantedClass, WantedList};
+pub use wanted::{NameOf, Note, WantedClass, WantedList, WantedWord};
 pub use word::{Sign, Word, WordText};

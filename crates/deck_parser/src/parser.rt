@@ -5,18 +5,18 @@ ghost use Rattle.deck_parser.specs.Class.{begins, is_in, this, names, numbers, l
 ghost use Rattle.deck_parser.specs.Class.{periods};
 ghost use Rattle.deck_parser.specs.Unfit.{IsFirstLine, IsRefusedThere, IsUnfit};
 ghost use Rattle.deck_parser.specs.Word.{first_line};
-ghost use Rattle.deck_parser.specs.Wanted.{class_wanted};
+ghost use Rattle.deck_parser.specs.WantedWord.{class_wanted};
 ghost use Rattle.deck_parser.specs.Rule.{one, stop_at};
 ghost use Rattle.deck_parser.specs.Notation.{the, may, eaten, name, literal, period};
 ghost use Rattle.deck_parser.specs.Operand.{sign, digits};
 ghost use Rattle.deck_parser.specs.Reading.{Reads, ReadsAs, Eats, Stops, TellsStop};
 ghost use Rattle.deck_parser.specs.Fault.{IsFault, cause_code};
 
-use crate::fault::{Cause, Expected, Limit, Refusal};
+use crate::fault::{Expected, FaultCause, Limit, ParseRefusal};
 use crate::name::{is_name_text, is_number_text};
 use crate::place::WordPlace;
 use crate::remaining::Words;
-use crate::wanted::{NameOf, Note, Wanted, WantedClass, WantedList};
+use crate::wanted::{NameOf, Note, WantedClass, WantedList, WantedWord};
 use crate::word::{Word, WordText};
 use io_state::Name;
 use record_layout::Bytes;
@@ -194,7 +194,7 @@ impl<'a> Parser<'a> {
     }
 
     /// Notes what does not fit at the next word.
-    fn tried(&self, wanted: Wanted) {
+    fn tried(&self, wanted: WantedWord) {
         if self.is_noted() {
             self.note.add(wanted);
         }
@@ -204,13 +204,13 @@ impl<'a> Parser<'a> {
     fn tried_each(&self, texts: &[&'static [u8]]) {
         if self.is_noted() {
             for text in texts {
-                self.note.add(Wanted::Word(*text));
+                self.note.add(WantedWord::Word(*text));
             }
         }
     }
 
     /// A fault at the next word, or at the end.
-    pub fn fault(&self, cause: Cause) -> Refusal
+    pub fn fault(&self, cause: FaultCause) -> ParseRefusal
         ensures fault { IsFault result }
         ensures at { IsRefusedThere self.now result }
         ensures stops { TellsStop (stop_at self.now (cause_code cause)) result }
@@ -219,13 +219,13 @@ impl<'a> Parser<'a> {
     }
 
     /// The next word does not fit, nor does what is wanted there.
-    fn unfit(&self, wanted: Wanted) -> Refusal
+    fn unfit(&self, wanted: WantedWord) -> ParseRefusal
         ensures fault { IsFault result }
         ensures unfit { IsUnfit (class_wanted wanted) self.now result }
     {
         self.tried(wanted);
         self.place()
-            .fault(Cause::Expected(Expected::Words(wanted.class())))
+            .fault(FaultCause::Expected(Expected::Words(wanted.class())))
     }
 
     /// Whether this word is next.
@@ -235,7 +235,7 @@ impl<'a> Parser<'a> {
         match &self.next {
             Some(word) if is_this(word, text) => true,
             _ => {
-                self.tried(Wanted::Word(text));
+                self.tried(WantedWord::Word(text));
                 false
             }
         }
@@ -262,7 +262,7 @@ impl<'a> Parser<'a> {
         match &self.next {
             Some(word) if is_name(word) => true,
             _ => {
-                self.tried(Wanted::Name(of));
+                self.tried(WantedWord::Name(of));
                 false
             }
         }
@@ -275,8 +275,8 @@ impl<'a> Parser<'a> {
         match &self.next {
             Some(word) if is_name(word) || is_this(word, text) => true,
             _ => {
-                self.tried(Wanted::Name(of));
-                self.tried(Wanted::Word(text));
+                self.tried(WantedWord::Name(of));
+                self.tried(WantedWord::Word(text));
                 false
             }
         }
@@ -289,7 +289,7 @@ impl<'a> Parser<'a> {
         match &self.next {
             Some(word) if is_level(word) => true,
             _ => {
-                self.tried(Wanted::Level);
+                self.tried(WantedWord::Level);
                 false
             }
         }
@@ -307,7 +307,7 @@ impl<'a> Parser<'a> {
 
     /// Takes this word.
     #[tactic(auto, unfolding(crate::specs::Notation::the))]
-    pub fn expect(&mut self, text: &'static [u8]) -> Result<(), Refusal>
+    pub fn expect(&mut self, text: &'static [u8]) -> Result<(), ParseRefusal>
         ensures reads { Reads ((the text.now).reads self.old) result self.new }
         ensures unfit { IfErr result (IsUnfit WantedClass.Word self.old) }
         ensures stops { Stops (the text.now) self.old result }
@@ -317,7 +317,7 @@ impl<'a> Parser<'a> {
                 self.advance();
                 Ok(())
             }
-            _ => Err(self.unfit(Wanted::Word(text))),
+            _ => Err(self.unfit(WantedWord::Word(text))),
         }
     }
 
@@ -333,7 +333,7 @@ impl<'a> Parser<'a> {
                 true
             }
             _ => {
-                self.tried(Wanted::Word(text));
+                self.tried(WantedWord::Word(text));
                 false
             }
         }
@@ -341,13 +341,13 @@ impl<'a> Parser<'a> {
 
     /// A name.
     #[tactic(auto, unfolding(crate::specs::Notation::name))]
-    pub fn name(&mut self, of: NameOf) -> Result<Name, Refusal>
+    pub fn name(&mut self, of: NameOf) -> Result<Name, ParseRefusal>
         ensures reads { ReadsAs (λ name. name.bytes) name self.old result self.new }
         ensures unfit { IfErr result (IsUnfit WantedClass.Name self.old) }
         ensures stops { Stops name self.old result }
     {
         let Some(word) = &self.next else {
-            return Err(self.unfit(Wanted::Name(of)));
+            return Err(self.unfit(WantedWord::Name(of)));
         };
         match word.plain() {
             Some(text) if is_name(word) => {
@@ -355,18 +355,18 @@ impl<'a> Parser<'a> {
                 self.advance();
                 Ok(text)
             }
-            _ => Err(self.unfit(Wanted::Name(of))),
+            _ => Err(self.unfit(WantedWord::Name(of))),
         }
     }
 
     /// The one or two digits of a level number.
-    pub fn level(&mut self) -> Result<Name, Refusal>
+    pub fn level(&mut self) -> Result<Name, ParseRefusal>
         ensures reads { ReadsAs (λ level. level.bytes) (one levels) self.old result self.new }
         ensures unfit { IfErr result (IsUnfit WantedClass.Level self.old) }
         ensures stops { Stops (one levels) self.old result }
     {
         let Some(word) = &self.next else {
-            return Err(self.unfit(Wanted::Level));
+            return Err(self.unfit(WantedWord::Level));
         };
         match word.plain() {
             Some(text) if is_level(word) => {
@@ -374,18 +374,18 @@ impl<'a> Parser<'a> {
                 self.advance();
                 Ok(text)
             }
-            _ => Err(self.unfit(Wanted::Level)),
+            _ => Err(self.unfit(WantedWord::Level)),
         }
     }
 
     /// Any plain word but IS.
-    pub fn picture(&mut self) -> Result<Name, Refusal>
+    pub fn picture(&mut self) -> Result<Name, ParseRefusal>
         ensures reads { ReadsAs (λ text. text.bytes) (one pictures) self.old result self.new }
         ensures unfit { IfErr result (IsUnfit WantedClass.Picture self.old) }
         ensures stops { Stops (one pictures) self.old result }
     {
         let Some(word) = &self.next else {
-            return Err(self.unfit(Wanted::Picture));
+            return Err(self.unfit(WantedWord::Picture));
         };
         match word.plain() {
             Some(text) if is_picture(word) => {
@@ -393,45 +393,45 @@ impl<'a> Parser<'a> {
                 self.advance();
                 Ok(text)
             }
-            _ => Err(self.unfit(Wanted::Picture)),
+            _ => Err(self.unfit(WantedWord::Picture)),
         }
     }
 
     /// The digits of a number. A number of more than 18 of them is past the limit.
     #[tactic(auto, unfolding(crate::specs::Operand::digits))]
-    pub fn digits(&mut self) -> Result<Name, Refusal>
+    pub fn digits(&mut self) -> Result<Name, ParseRefusal>
         ensures reads { ReadsAs (λ text. text.bytes) digits self.old result self.new }
         ensures at { IfErr result (IsRefusedThere self.old) }
         ensures stops { Stops digits self.old result }
     {
         let Some(word) = &self.next else {
-            return Err(self.unfit(Wanted::Number));
+            return Err(self.unfit(WantedWord::Number));
         };
         match word.plain() {
             Some(text) if is_number(word) => {
                 let digits = *text;
                 if digits.as_str().len() > DIGIT_LIMIT {
-                    return Err(self.fault(Cause::Limit(Limit::Digits)));
+                    return Err(self.fault(FaultCause::Limit(Limit::Digits)));
                 }
                 self.advance();
                 Ok(digits)
             }
-            _ => Err(self.unfit(Wanted::Number)),
+            _ => Err(self.unfit(WantedWord::Number)),
         }
     }
 
     /// What stands between the marks of a literal, in memory of its own.
     #[tactic(auto, unfolding(crate::specs::Notation::literal))]
-    pub fn literal(&mut self, alloc: Global) -> Result<Bytes, Refusal>
+    pub fn literal(&mut self, alloc: Global) -> Result<Bytes, ParseRefusal>
         ensures reads { Reads (literal.reads self.old) result self.new }
         ensures unfit { IfErr result (IsUnfit WantedClass.Literal self.old) }
         ensures stops { Stops literal self.old result }
     {
         let Some(word) = &self.next else {
-            return Err(self.unfit(Wanted::Literal));
+            return Err(self.unfit(WantedWord::Literal));
         };
         let Some(quoted) = word.literal() else {
-            return Err(self.unfit(Wanted::Literal));
+            return Err(self.unfit(WantedWord::Literal));
         };
         let text = quoted.text(alloc)?;
         self.advance();
@@ -440,7 +440,7 @@ impl<'a> Parser<'a> {
 
     /// Takes a period.
     #[tactic(auto, unfolding(crate::specs::Notation::period))]
-    pub fn period(&mut self) -> Result<(), Refusal>
+    pub fn period(&mut self) -> Result<(), ParseRefusal>
         ensures reads { Reads (period.reads self.old) result self.new }
         ensures unfit { IfErr result (IsUnfit WantedClass.Period self.old) }
         ensures stops { Stops period self.old result }
@@ -450,7 +450,7 @@ impl<'a> Parser<'a> {
                 self.advance();
                 Ok(())
             }
-            _ => Err(self.unfit(Wanted::Period)),
+            _ => Err(self.unfit(WantedWord::Period)),
         }
     }
 
@@ -462,7 +462,7 @@ impl<'a> Parser<'a> {
         match &self.next {
             Some(word) if matches!(&word.text, WordText::Literal(_)) => true,
             _ => {
-                self.tried(Wanted::Literal);
+                self.tried(WantedWord::Literal);
                 false
             }
         }
@@ -476,7 +476,7 @@ impl<'a> Parser<'a> {
         match &self.next {
             Some(word) if is_number(word) => true,
             _ => {
-                self.tried(Wanted::Number);
+                self.tried(WantedWord::Number);
                 false
             }
         }
@@ -484,7 +484,7 @@ impl<'a> Parser<'a> {
 
     /// Takes this sign.
     #[tactic(auto, unfolding(crate::specs::Operand::sign))]
-    pub fn expect_sign(&mut self, text: &'static [u8]) -> Result<(), Refusal>
+    pub fn expect_sign(&mut self, text: &'static [u8]) -> Result<(), ParseRefusal>
         ensures reads { Reads ((sign text.now).reads self.old) result self.new }
         ensures unfit { IfErr result (IsUnfit WantedClass.Sign self.old) }
         ensures stops { Stops (sign text.now) self.old result }
@@ -494,7 +494,7 @@ impl<'a> Parser<'a> {
                 self.advance();
                 Ok(())
             }
-            _ => Err(self.unfit(Wanted::Sign(text))),
+            _ => Err(self.unfit(WantedWord::Sign(text))),
         }
     }
 
@@ -509,14 +509,14 @@ impl<'a> Parser<'a> {
                 true
             }
             _ => {
-                self.tried(Wanted::Sign(text));
+                self.tried(WantedWord::Sign(text));
                 false
             }
         }
     }
 
     /// All words have been read: none is left, and what is wanted is not next.
-    pub fn end(&self, wanted: Wanted) -> Result<(), Refusal>
+    pub fn end(&self, wanted: WantedWord) -> Result<(), ParseRefusal>
         ensures end { MatchResult result (λ _. self.now ≡ []) (λ _. self.now ≢ []) }
         ensures unfit { IfErr result (IsUnfit (class_wanted wanted) self.now) }
         ensures stops { IfErr result (TellsStop (stop_at self.now 2)) }

@@ -4,7 +4,7 @@ ghost use Rattle.deck_parser.specs.Words.{HasWords, RefusesWords};
 ghost use Rattle.deck_parser.specs.Fault.{HasFault};
 ghost use Rattle.deck_parser.specs.OneReading.{HaveOneReading};
 
-use crate::fault::{Cause, DeckFault, Limit, Refusal};
+use crate::fault::{DeckFault, FaultCause, Limit, ParseRefusal};
 use crate::piece::{bad_piece_len, front_piece};
 use crate::place::WordPlace;
 use crate::remaining::Words;
@@ -33,11 +33,11 @@ fn bad_place(bytes: &[u8], line: u64, rest: &[u8]) -> WordPlace
 }
 
 /// The words of a deck, or the first fault of them, as `words` has it.
-pub fn scan(bytes: &[u8]) -> Result<Words<'_>, Refusal>
+pub fn scan(bytes: &[u8]) -> Result<Words<'_>, ParseRefusal>
     ensures { MatchResult result (HasWords bytes.now) (RefusesWords bytes.now) }
 {
     if bytes.len() > DECK_LIMIT {
-        return Err(Refusal::Fault(1, NOWHERE, Cause::Limit(Limit::Bytes)));
+        return Err(ParseRefusal::Fault(1, NOWHERE, FaultCause::Limit(Limit::Bytes)));
     }
     let mut line = 1;
     let mut last_line = 1;
@@ -45,7 +45,11 @@ pub fn scan(bytes: &[u8]) -> Result<Words<'_>, Refusal>
     let mut rest = bytes;
     'more: while !rest.is_empty() {
         let Some(piece) = front_piece(line, rest) else {
-            return Err(Refusal::Fault(line, bad_place(bytes, line, rest), Cause::BadWord));
+            return Err(ParseRefusal::Fault(
+                line,
+                bad_place(bytes, line, rest),
+                FaultCause::BadWord,
+            ));
         };
         let new = piece.count();
         if new > 0 {

@@ -5,7 +5,7 @@ use std::cell::RefCell;
 
 /// A word, or a class of words, that would have fitted.
 #[derive(Clone, Copy, Debug, PartialEq, Eq, Default)]
-pub enum Wanted {
+pub enum WantedWord {
     Word(&'static [u8]),
     Sign(&'static [u8]),
     Name(NameOf),
@@ -30,23 +30,23 @@ pub enum WantedClass {
     Period,
 }
 
-impl Wanted {
+impl WantedWord {
     ghost use Rattle.std.specs.Prelude.{◌≡◌};
-    ghost use Rattle.deck_parser.specs.Wanted.{class_wanted};
+    ghost use Rattle.deck_parser.specs.WantedWord.{class_wanted};
 
     /// The class of the words that would have fitted.
     pub fn class(self) -> WantedClass
         ensures { result ≡ class_wanted self }
     {
         match self {
-            Wanted::Word(_) => WantedClass::Word,
-            Wanted::Sign(_) => WantedClass::Sign,
-            Wanted::Name(_) => WantedClass::Name,
-            Wanted::Number => WantedClass::Number,
-            Wanted::Level => WantedClass::Level,
-            Wanted::Picture => WantedClass::Picture,
-            Wanted::Literal => WantedClass::Literal,
-            Wanted::Period => WantedClass::Period,
+            WantedWord::Word(_) => WantedClass::Word,
+            WantedWord::Sign(_) => WantedClass::Sign,
+            WantedWord::Name(_) => WantedClass::Name,
+            WantedWord::Number => WantedClass::Number,
+            WantedWord::Level => WantedClass::Level,
+            WantedWord::Picture => WantedClass::Picture,
+            WantedWord::Literal => WantedClass::Literal,
+            WantedWord::Period => WantedClass::Period,
         }
     }
 }
@@ -64,7 +64,7 @@ pub enum NameOf {
 }
 
 /// Words and classes in the order in which they were tried, none twice.
-pub type WantedList = ArrayVec<Wanted, 32>;
+pub type WantedList = ArrayVec<WantedWord, 32>;
 
 /// What was tried at a word and did not fit. It is written while words are only seen, so it stands
 /// in a cell, and contracts know nothing of it.
@@ -81,7 +81,7 @@ impl Note {
         }
     }
 
-    pub fn add(&self, wanted: Wanted) {
+    pub fn add(&self, wanted: WantedWord) {
         if let Ok(mut tried) = self.tried.try_borrow_mut() {
             if !tried.contains(&wanted) {
                 let _ = tried.try_push(wanted);

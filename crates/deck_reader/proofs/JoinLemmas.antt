@@ -10,10 +10,10 @@ use Rattle.deck_parser.specs.Notation.{◌▸◌}
 use Rattle.deck_parser.specs.Reading.{Refuses, TellsStop}
 use Rattle.deck_parser.specs.Unfit.{IsFirstLine}
 use Rattle.deck_parser.specs.Fault.{cause_code}
-use Rattle.deck_parser.specs.declared.fault.Cause.{Cause}
+use Rattle.deck_parser.specs.declared.fault.FaultCause.{FaultCause}
 use Rattle.deck_parser.specs.declared.place.WordPlace.{WordPlace}
-use Rattle.deck_parser.specs.declared.fault.Refusal.{Refusal}
-use Rattle.deck_parser.specs.declared.fault.Refusal.TheVariants.{Memory, Fault}
+use Rattle.deck_parser.specs.declared.fault.ParseRefusal.{ParseRefusal}
+use Rattle.deck_parser.specs.declared.fault.ParseRefusal.TheVariants.{Memory, Fault}
 use Rattle.deck_parser.proofs.RuleLemmas.{Lawful}
 use Rattle.deck_parser.proofs.RepeatLemmas.{first_turn, next_turn, turn_takes_a_word, refused_turn, no_turn, next_stop, stops_here}
 use Rattle.deck_parser.proofs.TestLemmas.{bind_some}
@@ -59,12 +59,12 @@ module _ (p : Rule PlacedStatements) where
   some_behind before words = some_behind_by before (p.reads words)
 
 -- what is not there is refused
-pub refused : {A : Type 0} (read : Option A) (refusal : Refusal) → read ≡ None → Refuses read refusal
+pub refused : {A : Type 0} (read : Option A) (refusal : ParseRefusal) → read ≡ None → Refuses read refusal
 refused read Memory e = tt
 refused read (Fault line place cause) e = e
 
 -- a fault of the word at the front of these is told there
-pub told_there : (words : List Word) (place : WordPlace) (cause : Cause) (refusal : Refusal) → refusal ≡ Fault place.line place cause → IsFirstLine words place.line → TellsStop (stop_at words (cause_code cause)) refusal
+pub told_there : (words : List Word) (place : WordPlace) (cause : FaultCause) (refusal : ParseRefusal) → refusal ≡ Fault place.line place cause → IsFirstLine words place.line → TellsStop (stop_at words (cause_code cause)) refusal
 told_there words place cause refusal e at = subst (TellsStop (stop_at words (cause_code cause))) (sym e) (at, refl)
 
 -- ---- a rule behind a first one
@@ -110,7 +110,7 @@ module _ (p : Rule PlacedStatements) (lawful : Lawful p) (fit : (many p).is_fit 
   pub shorter : (before after : PlacedStatements) (words rest : List Word) → (behind_statements before p).reads words ≡ Some (after, rest) → length rest < length words
   shorter before after words rest e = turn_takes_a_word joined_statements p lawful fit before after words rest e
 
-  pub not_further : (read : Option (PlacedStatements × List Word)) (stop : Stop) (before : PlacedStatements) (words : List Word) (refusal : Refusal) → GoesOn p read stop before words → begins p.starts words ≡ true → Refuses ((behind_statements before p).reads words) refusal × TellsStop (p.stops words) refusal → Refuses read refusal × TellsStop stop refusal
+  pub not_further : (read : Option (PlacedStatements × List Word)) (stop : Stop) (before : PlacedStatements) (words : List Word) (refusal : ParseRefusal) → GoesOn p read stop before words → begins p.starts words ≡ true → Refuses ((behind_statements before p).reads words) refusal × TellsStop (p.stops words) refusal → Refuses read refusal × TellsStop stop refusal
   not_further read stop before words Memory so_far i r = (tt, tt)
   not_further read stop before words (Fault line place cause) so_far i r =
       let none = nothing_behind_read before (p.reads words) r.0 in (

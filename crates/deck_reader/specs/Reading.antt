@@ -2,7 +2,7 @@
 use Rattle.std.specs.Prelude.{List, Result}
 use Rattle.deck_parser.specs.Rule.{Rule, where_it_gives}
 use Rattle.deck_parser.specs.Reading.{Reads, Stops}
-use Rattle.deck_parser.specs.declared.fault.Refusal.{Refusal}
+use Rattle.deck_parser.specs.declared.fault.ParseRefusal.{ParseRefusal}
 use Rattle.deck_parser.specs.Word.{Word}
 use Rattle.deck_reader.specs.declared.placed.PlacedStatements.{PlacedStatements}
 use Rattle.deck_reader.specs.StatementRules.{joined_statements}
@@ -14,6 +14,6 @@ behind_statements before rule = where_it_gives (joined_statements before) rule
 -- the statements that are read are added to those before, and where words are refused, it is where
 -- the rule stops
 abbrev pub AddsStatements : Rule PlacedStatements → PlacedStatements → List Word
-    → Result PlacedStatements Refusal → List Word → Type 0
+    → Result PlacedStatements ParseRefusal → List Word → Type 0
 AddsStatements rule before words result rest =
     Reads ((behind_statements before rule).reads words) result rest × Stops rule words result

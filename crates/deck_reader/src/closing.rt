@@ -11,12 +11,12 @@ use crate::file_name::file;
 use crate::names::Names;
 use crate::placed::PlacedStatements;
 use crate::statement::Statement;
-use deck_parser::{NameOf, Parser, Refusal};
+use deck_parser::{NameOf, ParseRefusal, Parser};
 use io_state::FileStatement;
 
 /// Whether a file is closed WITH LOCK.
 #[tactic(auto, unfolding(deck_parser::specs::Notation::the))]
-fn lock(parser: &mut Parser<'_>) -> Result<bool, Refusal>
+fn lock(parser: &mut Parser<'_>) -> Result<bool, ParseRefusal>
     ensures { ReadsRule (where_it_gives (λ there. Some (is_word_there there)) (optional (may (codes "WITH")
         ▸ the (codes "LOCK")))) parser.old result parser.new }
 {
@@ -35,7 +35,7 @@ fn closed(
     parser: &mut Parser<'_>,
     names: &Names<'_>,
     statements: PlacedStatements,
-) -> Result<PlacedStatements, Refusal>
+) -> Result<PlacedStatements, ParseRefusal>
     ensures { AddsStatements (file_to_close names.now) statements parser.old result parser.new }
 {
     let line = parser.line();
@@ -50,7 +50,7 @@ fn all_closed(
     parser: &mut Parser<'_>,
     names: &Names<'_>,
     statements: PlacedStatements,
-) -> Result<PlacedStatements, Refusal>
+) -> Result<PlacedStatements, ParseRefusal>
     ensures { AddsStatements (some_of (file_to_close names.now)) statements parser.old result parser.new }
 {
     let mut statements = closed(parser, names, statements)?;
@@ -65,7 +65,7 @@ pub fn close_statement(
     parser: &mut Parser<'_>,
     names: &Names<'_>,
     statements: PlacedStatements,
-) -> Result<PlacedStatements, Refusal>
+) -> Result<PlacedStatements, ParseRefusal>
     ensures { AddsStatements (close_statement names.now) statements parser.old result parser.new }
 {
     parser.expect(b"CLOSE")?;

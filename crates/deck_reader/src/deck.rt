@@ -17,9 +17,9 @@ use crate::placed::PlacedStatements;
 use crate::places::StatementPlaces;
 use crate::refusal::{DeckRefusal, wanted_of};
 use crate::statement_list::StatementList;
-use deck_parser::{Refusal, scan};
+use deck_parser::{ParseRefusal, scan};
 use file_control::{
-    DeckFault, Description, FileDesc, FileList, ItemList, LengthItem, Words, are_described,
+    DeckFault, DeckFiles, Description, FileDesc, ItemList, LengthItem, Words, are_described,
     describe, one_description, one_reading,
 };
 use std::alloc::Global;
@@ -28,7 +28,7 @@ use std::alloc::Global;
 /// their entries, and its statements in their order and where they stand.
 #[derive(Drop)]
 pub struct Deck {
-    pub files: FileList,
+    pub files: DeckFiles,
     pub items: ItemList,
     pub statements: StatementList,
     pub places: StatementPlaces,
@@ -40,7 +40,7 @@ fn statements_of(
     files: &[FileDesc],
     items: &[LengthItem],
     words: &Words<'_>,
-) -> Result<PlacedStatements, Refusal>
+) -> Result<PlacedStatements, ParseRefusal>
     ensures statements { GivesOrRefuses (IsProcedure (names_of files.now items.now) words.now) result }
     ensures fault { TellsFault (IsProcedureFault (names_of files.now items.now) words.now) result }
 {
@@ -49,7 +49,7 @@ fn statements_of(
 }
 
 /// The deck that the words spell.
-fn read(alloc: Global, words: &Words<'_>) -> Result<Deck, Refusal>
+fn read(alloc: Global, words: &Words<'_>) -> Result<Deck, ParseRefusal>
     ensures deck { GivesOrRefuses (Spells words.now) result }
     ensures fault { TellsFault (IsWordsFault words.now) result }
 {
@@ -80,7 +80,7 @@ fn every_deck_can_be_run()
 }
 
 /// The deck that the bytes are, or why they are none.
-fn read_whole(alloc: Global, bytes: &[u8]) -> Result<Deck, Refusal>
+fn read_whole(alloc: Global, bytes: &[u8]) -> Result<Deck, ParseRefusal>
     ensures deck { GivesOrRefuses (IsDeck bytes.now) result }
     ensures runnable { IfOk result CanBeRun }
     ensures fault { TellsFault (IsFaultOfDeck bytes.now) result }

@@ -17,7 +17,9 @@ ghost use Rattle.deck_reader.specs.FirstFault.{IsProcedureFault};
 use crate::names::Names;
 use crate::placed::PlacedStatements;
 use crate::sentence::{paragraph_or_sentence, sees_sentence};
-use deck_parser::{DeckFault, NameOf, Parser, Refusal, Wanted, WantedList, WordPlace, Words};
+use deck_parser::{
+    DeckFault, NameOf, ParseRefusal, Parser, WantedList, WantedWord, WordPlace, Words,
+};
 use std::alloc::Global;
 
 /// How many words a statement has, or more, in most procedures. A period is one.
@@ -29,7 +31,7 @@ fn all_sentences(
     alloc: Global,
     parser: &mut Parser<'_>,
     names: &Names<'_>,
-) -> Result<PlacedStatements, Refusal>
+) -> Result<PlacedStatements, ParseRefusal>
     ensures { ReadsRule (onto joined_statements nothing_placed (paragraph_or_sentence names.now)) parser.old result
         parser.new }
 {
@@ -46,7 +48,7 @@ fn procedure_division(
     alloc: Global,
     parser: &mut Parser<'_>,
     names: &Names<'_>,
-) -> Result<PlacedStatements, Refusal>
+) -> Result<PlacedStatements, ParseRefusal>
     ensures { ReadsRule (procedure names.now) parser.old result parser.new }
 {
     parser.expect(b"PROCEDURE")?;
@@ -60,13 +62,13 @@ pub fn read_procedure(
     alloc: Global,
     names: &Names<'_>,
     words: &Words<'_>,
-) -> Result<PlacedStatements, Refusal>
+) -> Result<PlacedStatements, ParseRefusal>
     ensures statements { GivesOrRefuses (IsProcedure names.now words.now) result }
     ensures fault { TellsFault (IsProcedureFault names.now words.now) result }
 {
     let mut parser = Parser::new(words);
     let statements = procedure_division(alloc, &mut parser, names)?;
-    parser.end(Wanted::Name(NameOf::Paragraph))?;
+    parser.end(WantedWord::Name(NameOf::Paragraph))?;
     Ok(statements)
 }
 

@@ -13,13 +13,13 @@ ghost use Rattle.deck_reader.specs.StatementRules.{receiver, move_statement};
 use crate::names::Names;
 use crate::placed::PlacedStatements;
 use crate::statement::Statement;
-use deck_parser::{Cause, NameOf, NotAllowed, Parser, Refusal, Unknown, WordPlace};
+use deck_parser::{FaultCause, NameOf, NotAllowed, ParseRefusal, Parser, Unknown, WordPlace};
 use record_layout::{Bytes, Figure, Source, takes};
 use std::alloc::{AllocError, Global};
 
 /// A figurative constant.
 #[tactic(auto, unfolding(crate::specs::StatementRules::figure, deck_parser::specs::Notation::the))]
-fn figure(parser: &mut Parser<'_>) -> Result<Figure, Refusal>
+fn figure(parser: &mut Parser<'_>) -> Result<Figure, ParseRefusal>
     ensures { ReadsRule figure parser.old result parser.new }
 {
     if parser.eat(b"SPACE") || parser.eat(b"SPACES") {
@@ -56,7 +56,7 @@ fn sent_by_literal(text: Bytes) -> Source<Bytes>
 }
 
 #[tactic(auto, unfolding(crate::specs::StatementRules::source))]
-fn source(alloc: Global, parser: &mut Parser<'_>) -> Result<Source<Bytes>, Refusal>
+fn source(alloc: Global, parser: &mut Parser<'_>) -> Result<Source<Bytes>, ParseRefusal>
     ensures { ReadsRule source parser.old result parser.new }
 {
     if parser.sees_literal() {
@@ -106,7 +106,7 @@ fn receiver(
     source: &Source<&[u8]>,
     statements: PlacedStatements,
     places: MovePlaces,
-) -> Result<PlacedStatements, Refusal>
+) -> Result<PlacedStatements, ParseRefusal>
     ensures { AddsStatements (receiver names.now places.line (sent source.now)) statements parser.old result parser.new }
 {
     let place = parser.place();
@@ -114,7 +114,7 @@ fn receiver(
     if let Some((file, field)) = names.item(&name) {
         if !takes(field, source) {
             let refused = NotAllowed::Source(places.source, field.length);
-            return Err(place.fault(Cause::NotAllowed(refused)));
+            return Err(place.fault(FaultCause::NotAllowed(refused)));
         }
         let source = copy_of(alloc, source)?;
         let moved = Statement::Move {
@@ -126,11 +126,11 @@ fn receiver(
     }
     let Some(item) = names.length_item(name.as_str()) else {
         let unknown = Unknown::Receiver(names.named(&name));
-        return Err(place.fault(Cause::Unknown(unknown)));
+        return Err(place.fault(FaultCause::Unknown(unknown)));
     };
     if !is_numeric(source) {
         let refused = NotAllowed::Source(places.source, names.digits(item));
-        return Err(place.fault(Cause::NotAllowed(refused)));
+        return Err(place.fault(FaultCause::NotAllowed(refused)));
     }
     let source = copy_of(alloc, source)?;
     Ok(statements.with(Statement::MoveLength { item, source }, places.line)?)
@@ -144,7 +144,7 @@ fn all_receivers(
     source: &Source<&[u8]>,
     statements: PlacedStatements,
     places: MovePlaces,
-) -> Result<PlacedStatements, Refusal>
+) -> Result<PlacedStatements, ParseRefusal>
     ensures { AddsStatements (some_of (receiver names.now places.line (sent source.now))) statements parser.old result
         parser.new }
 {
@@ -163,7 +163,7 @@ fn receivers(
     source: &Source<&[u8]>,
     statements: PlacedStatements,
     places: MovePlaces,
-) -> Result<PlacedStatements, Refusal>
+) -> Result<PlacedStatements, ParseRefusal>
     ensures { AddsStatements (the (codes "TO") ▸ some_of (receiver names.now places.line (sent source.now))) statements
         parser.old result parser.new }
 {
@@ -176,7 +176,7 @@ fn receivers(
 fn moved_source(
     alloc: Global,
     parser: &mut Parser<'_>,
-) -> Result<(WordPlace, Source<Bytes>), Refusal>
+) -> Result<(WordPlace, Source<Bytes>), ParseRefusal>
     ensures reads { ReadsAs (λ moved. moved.1) moved_source parser.old result parser.new }
     ensures stops { Stops moved_source parser.old result }
 {
@@ -192,7 +192,7 @@ pub fn move_statement(
     parser: &mut Parser<'_>,
     names: &Names<'_>,
     statements: PlacedStatements,
-) -> Result<PlacedStatements, Refusal>
+) -> Result<PlacedStatements, ParseRefusal>
     ensures { AddsStatements (move_statement names.now) statements parser.old result parser.new }
 {
     let line = parser.line();

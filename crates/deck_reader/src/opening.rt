@@ -10,7 +10,7 @@ use crate::file_name::file;
 use crate::names::Names;
 use crate::placed::PlacedStatements;
 use crate::statement::Statement;
-use deck_parser::{Cause, NameOf, NotAllowed, Parser, Refusal};
+use deck_parser::{FaultCause, NameOf, NotAllowed, ParseRefusal, Parser};
 use io_state::{FileStatement, OpenMode, Verb, permits};
 
 /// A file that is opened in a mode.
@@ -20,14 +20,14 @@ fn opened(
     names: &Names<'_>,
     mode: OpenMode,
     statements: PlacedStatements,
-) -> Result<PlacedStatements, Refusal>
+) -> Result<PlacedStatements, ParseRefusal>
     ensures { AddsStatements (name_to_open names.now mode) statements parser.old result parser.new }
 {
     let place = parser.place();
     let line = parser.line();
     let file = file(parser, names)?;
     if !permits(names.access(file), mode, Verb::Open) {
-        return Err(place.fault(Cause::NotAllowed(NotAllowed::Open(file, mode))));
+        return Err(place.fault(FaultCause::NotAllowed(NotAllowed::Open(file, mode))));
     }
     let statement = FileStatement::Open(mode);
     Ok(statements.with(Statement::Perform { file, statement }, line)?)
@@ -39,7 +39,7 @@ fn all_opened(
     names: &Names<'_>,
     mode: OpenMode,
     statements: PlacedStatements,
-) -> Result<PlacedStatements, Refusal>
+) -> Result<PlacedStatements, ParseRefusal>
     ensures { AddsStatements (some_of (name_to_open names.now mode)) statements parser.old result parser.new }
 {
     let mut statements = opened(parser, names, mode, statements)?;
@@ -55,7 +55,7 @@ fn opening(
     parser: &mut Parser<'_>,
     names: &Names<'_>,
     statements: PlacedStatements,
-) -> Result<PlacedStatements, Refusal>
+) -> Result<PlacedStatements, ParseRefusal>
     ensures { AddsStatements (opening names.now) statements parser.old result parser.new }
 {
     if parser.eat(b"INPUT") {
@@ -84,7 +84,7 @@ fn all_openings(
     parser: &mut Parser<'_>,
     names: &Names<'_>,
     statements: PlacedStatements,
-) -> Result<PlacedStatements, Refusal>
+) -> Result<PlacedStatements, ParseRefusal>
     ensures { AddsStatements (some_of (opening names.now)) statements parser.old result parser.new }
 {
     let mut statements = opening(parser, names, statements)?;
@@ -99,7 +99,7 @@ pub fn open_statement(
     parser: &mut Parser<'_>,
     names: &Names<'_>,
     statements: PlacedStatements,
-) -> Result<PlacedStatements, Refusal>
+) -> Result<PlacedStatements, ParseRefusal>
     ensures { AddsStatements (open_statement names.now) statements parser.old result parser.new }
 {
     parser.expect(b"OPEN")?;

@@ -13,11 +13,11 @@ ghost use Rattle.deck_reader.specs.StatementRules.{read_statement};
 use crate::file_name::file;
 use crate::names::Names;
 use crate::statement::Statement;
-use deck_parser::{Cause, NameOf, NotAllowed, Parser, Refusal, Unknown};
+use deck_parser::{FaultCause, NameOf, NotAllowed, ParseRefusal, Parser, Unknown};
 use io_state::{Access, FileStatement};
 
 /// Whether the READ is sequential: NEXT says so, and in sequential access it always is.
-fn next(parser: &mut Parser<'_>, file: usize, access: Access) -> Result<bool, Refusal>
+fn next(parser: &mut Parser<'_>, file: usize, access: Access) -> Result<bool, ParseRefusal>
     ensures { ReadsRule (next_phrase access) parser.old result parser.new }
 {
     let place = parser.place();
@@ -25,25 +25,25 @@ fn next(parser: &mut Parser<'_>, file: usize, access: Access) -> Result<bool, Re
         return Ok(access == Access::Sequential);
     }
     if access == Access::Random {
-        return Err(place.fault(Cause::NotAllowed(NotAllowed::Next(file))));
+        return Err(place.fault(FaultCause::NotAllowed(NotAllowed::Next(file))));
     }
     Ok(true)
 }
 
 /// The name of an item of the file that is a key.
 #[tactic(auto, unfolding(crate::specs::StatementRules::key))]
-fn key(parser: &mut Parser<'_>, names: &Names<'_>, file: usize) -> Result<u8, Refusal>
+fn key(parser: &mut Parser<'_>, names: &Names<'_>, file: usize) -> Result<u8, ParseRefusal>
     ensures { ReadsRule (key names.now file) parser.old result parser.new }
 {
     let place = parser.place();
     let name = parser.name(NameOf::Item)?;
     let Some(field) = names.item_in(file, &name) else {
         let unknown = Unknown::KeyItem(file, names.named(&name));
-        return Err(place.fault(Cause::Unknown(unknown)));
+        return Err(place.fault(FaultCause::Unknown(unknown)));
     };
     match names.key(file, field) {
         Some(key) => Ok(key),
-        None => Err(place.fault(Cause::NotAllowed(NotAllowed::NoKey(file)))),
+        None => Err(place.fault(FaultCause::NotAllowed(NotAllowed::NoKey(file)))),
     }
 }
 
@@ -73,7 +73,7 @@ fn key_phrase(
     names: &Names<'_>,
     file: usize,
     sequential: bool,
-) -> Result<Option<u8>, Refusal>
+) -> Result<Option<u8>, ParseRefusal>
     ensures { ReadsRule (optional (where_allowed (not sequential) (the (codes "KEY")) ▸ may (codes "IS")
         ▸ key names.now file)) parser.old result parser.new }
 {
@@ -82,7 +82,7 @@ fn key_phrase(
         return Ok(None);
     }
     if sequential {
-        return Err(place.fault(Cause::NotAllowed(no_key_phrase(names, file))));
+        return Err(place.fault(FaultCause::NotAllowed(no_key_phrase(names, file))));
     }
     parser.eat(b"IS");
     Ok(Some(key(parser, names, file)?))
@@ -95,7 +95,7 @@ fn read_operand(
     names: &Names<'_>,
     file: usize,
     sequential: bool,
-) -> Result<Statement, Refusal>
+) -> Result<Statement, ParseRefusal>
     ensures { ReadsRule (read_operand names.now file sequential) parser.old result parser.new }
 {
     parser.eat(b"RECORD");
@@ -105,7 +105,7 @@ fn read_operand(
 }
 
 #[tactic(auto, unfolding(crate::specs::StatementRules::read_statement))]
-pub fn read_statement(parser: &mut Parser<'_>, names: &Names<'_>) -> Result<Statement, Refusal>
+pub fn read_statement(parser: &mut Parser<'_>, names: &Names<'_>) -> Result<Statement, ParseRefusal>
     ensures { ReadsRule (read_statement names.now) parser.old result parser.new }
 {
     parser.expect(b"READ")?;

@@ -2,7 +2,7 @@
 
 use crate::division::wanted_in_procedure;
 use crate::names::Names;
-use deck_parser::{Cause, Expected, Refusal, WantedList, WordPlace, scan};
+use deck_parser::{Expected, FaultCause, ParseRefusal, WantedList, WordPlace, scan};
 use file_control::{Description, Words, describe, wanted_in_description};
 use std::alloc::{AllocError, Global};
 
@@ -10,7 +10,7 @@ use std::alloc::{AllocError, Global};
 /// tried there.
 #[derive(Debug, Drop)]
 pub struct DeckRefusal {
-    pub refusal: Refusal,
+    pub refusal: ParseRefusal,
     pub wanted: WantedList,
 }
 
@@ -43,10 +43,10 @@ fn wanted_at(alloc: Global, words: &Words<'_>, place: WordPlace) -> WantedList {
 
 /// What is tried at the word of a refusal that does not fit. The deck is read once more for it, so
 /// that nothing is noted where a deck is accepted.
-pub fn wanted_of(alloc: Global, bytes: &[u8], refusal: Refusal) -> WantedList {
+pub fn wanted_of(alloc: Global, bytes: &[u8], refusal: ParseRefusal) -> WantedList {
     let place = match refusal {
-        Refusal::Fault(_, place, Cause::Expected(Expected::Words(_))) => place,
-        Refusal::Fault(_, _, Cause::Expected(Expected::Paragraph(name))) => name,
+        ParseRefusal::Fault(_, place, FaultCause::Expected(Expected::Words(_))) => place,
+        ParseRefusal::Fault(_, _, FaultCause::Expected(Expected::Paragraph(name))) => name,
         _ => return WantedList::new(),
     };
     match scan(bytes) {

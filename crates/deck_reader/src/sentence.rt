@@ -20,11 +20,11 @@ use crate::reading::read_statement;
 use crate::starting::start_statement;
 use crate::statement::Statement;
 use crate::writing::{delete_statement, rewrite_statement, write_statement};
-use deck_parser::{Cause, Expected, NameOf, Parser, Refusal};
+use deck_parser::{Expected, FaultCause, NameOf, ParseRefusal, Parser};
 use io_state::Name;
 use std::alloc::Global;
 
-fn stop_statement(parser: &mut Parser<'_>) -> Result<Statement, Refusal>
+fn stop_statement(parser: &mut Parser<'_>) -> Result<Statement, ParseRefusal>
     ensures { ReadsRule (where_it_gives (λ _. Some StopRun) (the (codes "STOP") ▸ the (codes "RUN")))
         parser.old result parser.new }
 {
@@ -43,7 +43,7 @@ fn sees_statement(parser: &Parser<'_>) -> bool
 }
 
 /// A statement that is one, and not several.
-fn one_statement(parser: &mut Parser<'_>, names: &Names<'_>) -> Result<Statement, Refusal>
+fn one_statement(parser: &mut Parser<'_>, names: &Names<'_>) -> Result<Statement, ParseRefusal>
     ensures { ReadsRule (one_statement names.now) parser.old result parser.new }
 {
     if parser.sees(b"READ") {
@@ -70,7 +70,7 @@ fn one_in_its_line(
     parser: &mut Parser<'_>,
     names: &Names<'_>,
     statements: PlacedStatements,
-) -> Result<PlacedStatements, Refusal>
+) -> Result<PlacedStatements, ParseRefusal>
     ensures { AddsStatements (one_in_its_line names.now) statements parser.old result parser.new }
 {
     let line = parser.line();
@@ -83,7 +83,7 @@ fn statement(
     parser: &mut Parser<'_>,
     names: &Names<'_>,
     statements: PlacedStatements,
-) -> Result<PlacedStatements, Refusal>
+) -> Result<PlacedStatements, ParseRefusal>
     ensures { AddsStatements (statement names.now) statements parser.old result parser.new }
 {
     if parser.sees(b"OPEN") {
@@ -104,7 +104,7 @@ fn all_statements(
     parser: &mut Parser<'_>,
     names: &Names<'_>,
     statements: PlacedStatements,
-) -> Result<PlacedStatements, Refusal>
+) -> Result<PlacedStatements, ParseRefusal>
     ensures { AddsStatements (some_of (statement names.now)) statements parser.old result parser.new }
 {
     let mut statements = statement(alloc, parser, names, statements)?;
@@ -119,7 +119,7 @@ fn sentence(
     parser: &mut Parser<'_>,
     names: &Names<'_>,
     statements: PlacedStatements,
-) -> Result<PlacedStatements, Refusal>
+) -> Result<PlacedStatements, ParseRefusal>
     ensures { AddsStatements (some_of (statement names.now) ◂ period) statements parser.old result
         parser.new }
 {
@@ -129,7 +129,7 @@ fn sentence(
 }
 
 /// A paragraph's name, which has no effect.
-fn paragraph_name(parser: &mut Parser<'_>) -> Result<Name, Refusal>
+fn paragraph_name(parser: &mut Parser<'_>) -> Result<Name, ParseRefusal>
     ensures reads { ReadsAs (λ paragraph. paragraph.bytes) (name ◂ period) parser.old result parser.new }
     ensures stops { Stops (name ◂ period) parser.old result }
 {
@@ -137,10 +137,10 @@ fn paragraph_name(parser: &mut Parser<'_>) -> Result<Name, Refusal>
     let paragraph = parser.name(NameOf::Paragraph)?;
     match parser.period() {
         Ok(()) => Ok(paragraph),
-        Err(Refusal::Memory) => Err(Refusal::Memory),
-        Err(Refusal::Fault(line, behind, _cause)) => {
-            let lacking = Cause::Expected(Expected::Paragraph(place));
-            Err(Refusal::Fault(line, behind, lacking))
+        Err(ParseRefusal::Memory) => Err(ParseRefusal::Memory),
+        Err(ParseRefusal::Fault(line, behind, _cause)) => {
+            let lacking = FaultCause::Expected(Expected::Paragraph(place));
+            Err(ParseRefusal::Fault(line, behind, lacking))
         }
     }
 }
@@ -157,7 +157,7 @@ fn sees_paragraph(parser: &Parser<'_>) -> bool
 fn paragraph(
     parser: &mut Parser<'_>,
     statements: PlacedStatements,
-) -> Result<PlacedStatements, Refusal>
+) -> Result<PlacedStatements, ParseRefusal>
     ensures { AddsStatements paragraph statements parser.old result parser.new }
 {
     let line = parser.line();
@@ -171,7 +171,7 @@ pub fn paragraph_or_sentence(
     parser: &mut Parser<'_>,
     names: &Names<'_>,
     statements: PlacedStatements,
-) -> Result<PlacedStatements, Refusal>
+) -> Result<PlacedStatements, ParseRefusal>
     ensures { AddsStatements (paragraph_or_sentence names.now) statements parser.old result parser.new }
 {
     if sees_paragraph(parser) {

@@ -16,41 +16,45 @@ ghost use Rattle.deck_reader.specs.declared.statement.Statement.TheVariants.{Per
 use crate::file_name::file;
 use crate::names::Names;
 use crate::statement::Statement;
-use deck_parser::{Cause, NameOf, NotAllowed, Parser, Refusal, Unknown};
+use deck_parser::{FaultCause, NameOf, NotAllowed, ParseRefusal, Parser, Unknown};
 use io_state::{Access, FileStatement, Relation};
 
 /// The name of a file that START is for: its access is not random.
-fn file_to_start(parser: &mut Parser<'_>, names: &Names<'_>) -> Result<usize, Refusal>
+fn file_to_start(parser: &mut Parser<'_>, names: &Names<'_>) -> Result<usize, ParseRefusal>
     ensures { ReadsRule (file_to_start names.now) parser.old result parser.new }
 {
     let place = parser.place();
     let file = file(parser, names)?;
     if names.access(file) == Access::Random {
-        return Err(place.fault(Cause::NotAllowed(NotAllowed::Start(file))));
+        return Err(place.fault(FaultCause::NotAllowed(NotAllowed::Start(file))));
     }
     Ok(file)
 }
 
 /// The name of an item of the file that is a key or the leading part of one: the key, and the item's length.
 #[tactic(auto, unfolding(crate::specs::StatementRules::led_key))]
-fn led_key(parser: &mut Parser<'_>, names: &Names<'_>, file: usize) -> Result<(u8, u16), Refusal>
+fn led_key(
+    parser: &mut Parser<'_>,
+    names: &Names<'_>,
+    file: usize,
+) -> Result<(u8, u16), ParseRefusal>
     ensures { ReadsRule (led_key names.now file) parser.old result parser.new }
 {
     let place = parser.place();
     let name = parser.name(NameOf::Item)?;
     let Some(field) = names.item_in(file, &name) else {
         let unknown = Unknown::KeyItem(file, names.named(&name));
-        return Err(place.fault(Cause::Unknown(unknown)));
+        return Err(place.fault(FaultCause::Unknown(unknown)));
     };
     match names.led_key(file, field) {
         Some(led) => Ok(led),
-        None => Err(place.fault(Cause::NotAllowed(NotAllowed::NoLeadingKey(file)))),
+        None => Err(place.fault(FaultCause::NotAllowed(NotAllowed::NoLeadingKey(file)))),
     }
 }
 
 /// GREATER, or GREATER OR EQUAL.
 #[tactic(auto, unfolding(deck_parser::specs::Notation::the))]
-fn greater(parser: &mut Parser<'_>) -> Result<Relation, Refusal>
+fn greater(parser: &mut Parser<'_>) -> Result<Relation, ParseRefusal>
     ensures { ReadsRule greater_relation parser.old result parser.new }
 {
     parser.expect(b"GREATER")?;
@@ -66,7 +70,7 @@ fn greater(parser: &mut Parser<'_>) -> Result<Relation, Refusal>
 
 /// NOT LESS.
 #[tactic(auto, unfolding(deck_parser::specs::Notation::the))]
-fn not_less(parser: &mut Parser<'_>) -> Result<(), Refusal>
+fn not_less(parser: &mut Parser<'_>) -> Result<(), ParseRefusal>
     ensures { ReadsRule (the (codes "NOT") ▸ ((the (codes "LESS") ◂ may (codes "THAN")) ∣ sign (codes
         "<"))) parser.old result parser.new }
 {
@@ -79,7 +83,7 @@ fn not_less(parser: &mut Parser<'_>) -> Result<(), Refusal>
 }
 
 #[tactic(auto, unfolding(crate::specs::StatementRules::relation, deck_parser::specs::Notation::the, deck_parser::specs::Operand::sign))]
-fn relation(parser: &mut Parser<'_>) -> Result<Relation, Refusal>
+fn relation(parser: &mut Parser<'_>) -> Result<Relation, ParseRefusal>
     ensures { ReadsRule relation parser.old result parser.new }
 {
     if parser.eat(b"EQUAL") {
@@ -109,7 +113,7 @@ fn start_phrase(
     parser: &mut Parser<'_>,
     names: &Names<'_>,
     file: usize,
-) -> Result<Option<(Relation, (u8, u16))>, Refusal>
+) -> Result<Option<(Relation, (u8, u16))>, ParseRefusal>
     ensures { ReadsRule (start_phrase names.now file) parser.old result parser.new }
 {
     if !parser.eat(b"KEY") {
@@ -143,7 +147,7 @@ fn start_operand(
     parser: &mut Parser<'_>,
     names: &Names<'_>,
     file: usize,
-) -> Result<Statement, Refusal>
+) -> Result<Statement, ParseRefusal>
     ensures { ReadsRule (start_operand names.now file) parser.old result parser.new }
 {
     let operand = start_phrase(parser, names, file)?;
@@ -152,7 +156,10 @@ fn start_operand(
 }
 
 #[tactic(auto, unfolding(crate::specs::StatementRules::start_statement))]
-pub fn start_statement(parser: &mut Parser<'_>, names: &Names<'_>) -> Result<Statement, Refusal>
+pub fn start_statement(
+    parser: &mut Parser<'_>,
+    names: &Names<'_>,
+) -> Result<Statement, ParseRefusal>
     ensures { ReadsRule (start_statement names.now) parser.old result parser.new }
 {
     parser.expect(b"START")?;

@@ -11,10 +11,13 @@ ghost use Rattle.deck_reader.specs.Parts.{write_statement, rewrite_statement, de
 use crate::file_name::{file, record_name};
 use crate::names::Names;
 use crate::statement::Statement;
-use deck_parser::{Parser, Refusal};
+use deck_parser::{ParseRefusal, Parser};
 use io_state::FileStatement;
 
-pub fn write_statement(parser: &mut Parser<'_>, names: &Names<'_>) -> Result<Statement, Refusal>
+pub fn write_statement(
+    parser: &mut Parser<'_>,
+    names: &Names<'_>,
+) -> Result<Statement, ParseRefusal>
     ensures { ReadsRule (write_statement names.now) parser.old result parser.new }
 {
     parser.expect(b"WRITE")?;
@@ -23,7 +26,10 @@ pub fn write_statement(parser: &mut Parser<'_>, names: &Names<'_>) -> Result<Sta
     Ok(Statement::Perform { file, statement })
 }
 
-pub fn rewrite_statement(parser: &mut Parser<'_>, names: &Names<'_>) -> Result<Statement, Refusal>
+pub fn rewrite_statement(
+    parser: &mut Parser<'_>,
+    names: &Names<'_>,
+) -> Result<Statement, ParseRefusal>
     ensures { ReadsRule (rewrite_statement names.now) parser.old result parser.new }
 {
     parser.expect(b"REWRITE")?;
@@ -32,7 +38,10 @@ pub fn rewrite_statement(parser: &mut Parser<'_>, names: &Names<'_>) -> Result<S
     Ok(Statement::Perform { file, statement })
 }
 
-pub fn delete_statement(parser: &mut Parser<'_>, names: &Names<'_>) -> Result<Statement, Refusal>
+pub fn delete_statement(
+    parser: &mut Parser<'_>,
+    names: &Names<'_>,
+) -> Result<Statement, ParseRefusal>
     ensures { ReadsRule (delete_statement names.now) parser.old result parser.new }
 {
     parser.expect(b"DELETE")?;

@@ -1,10 +1,10 @@
 -- What a run of the bytes of a deck tells.
 use Rattle.std.proofs.Common.{◌≡◌, ◌≢◌, ◌≤◌, ℕ, true, List, Option, sym, ap, ◌∙◌, subst, arith}
-use Rattle.deck_parser.specs.declared.fault.Cause.{Cause}
-use Rattle.deck_parser.specs.declared.fault.Cause.TheVariants.{BadWord, Expected, Unknown, Twice, NotAllowed, Limit, Layout}
+use Rattle.deck_parser.specs.declared.fault.FaultCause.{FaultCause}
+use Rattle.deck_parser.specs.declared.fault.FaultCause.TheVariants.{BadWord, Expected, Unknown, Twice, NotAllowed, Limit, Layout}
 use Rattle.deck_parser.specs.declared.fault.DeckFault.{DeckFault}
-use Rattle.deck_parser.specs.declared.fault.Refusal.{Refusal}
-use Rattle.deck_parser.specs.declared.fault.Refusal.TheVariants.{Memory as NoMemory, Fault}
+use Rattle.deck_parser.specs.declared.fault.ParseRefusal.{ParseRefusal}
+use Rattle.deck_parser.specs.declared.fault.ParseRefusal.TheVariants.{Memory as NoMemory, Fault}
 use Rattle.deck_parser.specs.Fault.{cause_code, told, IsTold}
 use Rattle.indexed_file.specs.Shown.{Shown}
 use Rattle.deck_reader.specs.declared.deck.Deck.{Deck}
@@ -37,7 +37,7 @@ exact library old new written written_after end deck run clean = λ honest shown
 
 -- ---- refusals
 
-code_within : (cause : Cause) → (1 ≤ cause_code cause) × (cause_code cause ≤ 7)
+code_within : (cause : FaultCause) → (1 ≤ cause_code cause) × (cause_code cause ≤ 7)
 code_within BadWord = (omega arith, omega arith)
 code_within (Expected what) = (omega arith, omega arith)
 code_within (Unknown what) = (omega arith, omega arith)
@@ -47,7 +47,7 @@ code_within (Limit which) = (omega arith, omega arith)
 code_within (Layout what) = (omega arith, omega arith)
 
 refused_by :
-    (bytes : List ℕ) (fault : DeckFault) (result : RunFault) (refusal : Refusal) → fault ≡ told refusal → (fault.code ≡ 8 → result ≡ Memory) → (fault.code ≢ 8 → result ≡ DeckRefused fault)
+    (bytes : List ℕ) (fault : DeckFault) (result : RunFault) (refusal : ParseRefusal) → fault ≡ told refusal → (fault.code ≡ 8 → result ≡ Memory) → (fault.code ≢ 8 → result ≡ DeckRefused fault)
     → (fault.code ≢ 8 → (deck : Deck) → IsDeck bytes deck → ⊥) → IsRefusedDeck bytes result
 refused_by bytes fault result NoMemory is memory deck none =
     let code : fault.code ≡ 8 = ap (λ (f : DeckFault). f.code) is in

@@ -2,7 +2,7 @@
 ghost use Rattle.std.specs.Prelude.{◌≡◌, option_map, IsSome};
 ghost use Rattle.io_state.specs.declared.status.Status.{Status};
 ghost use Rattle.io_state.specs.Status.{digits_of};
-ghost use Rattle.deck_parser.specs.declared.fault.Cause.{Cause};
+ghost use Rattle.deck_parser.specs.declared.fault.FaultCause.{FaultCause};
 ghost use Rattle.deck_parser.specs.Fault.{cause_code};
 ghost use Rattle.explanations.specs.Explained.{text_in_table, text_in, digit_of};
 ghost use Rattle.explanations.specs.Tables.{table_of, status_table, fault_table, explanation};
@@ -39,5 +39,5 @@ pub fn explanation_of(kind: &str, number: &str) -> Option<&'static str>
 /// Each status is explained, and each cause for which a deck is refused.
 pub fn all_are_explained()
     ensures statuses { (status : Status) → IsSome (text_in status_table (digits_of status)) }
-    ensures causes { (cause : Cause) → IsSome (text_in fault_table (digit_of (cause_code cause))) }
+    ensures causes { (cause : FaultCause) → IsSome (text_in fault_table (digit_of (cause_code cause))) }
 {}

@@ -8,8 +8,8 @@ use Rattle.deck_reader.specs.Deck.{IsDeck}
 use Rattle.deck_listing.specs.Listing.{Lists}
 use Rattle.deck_listing.specs.Told.{AreTold}
 use Rattle.cobol_program.specs.Layout.{IsLaidOut}
-use Rattle.cobol_program.specs.declared.form.Form.{Form}
-use Rattle.cobol_program.specs.declared.form.Form.TheVariants.{Free, Fixed}
+use Rattle.cobol_program.specs.declared.form.SourceForm.{SourceForm}
+use Rattle.cobol_program.specs.declared.form.SourceForm.TheVariants.{Free, Fixed}
 use Rattle.folder_shelf.specs.Calls.{Call}
 use Rattle.command_support.specs.Front.{IsDeckNamed}
 use Rattle.command_support.specs.Status.{status_of}
@@ -30,12 +30,12 @@ IsDeckRefused bytes refused =
     (refused.fault.code ≢ 8) × ((deck : Deck) → IsDeck bytes deck → ⊥) × AreTold bytes refused.fault refused.faults
 
 -- the form that a flag asks for
-abbrev pub form_of : Bool → Form
+abbrev pub form_of : Bool → SourceForm
 form_of true = Fixed
 form_of false = Free
 
 -- the bytes are a deck, and the text is laid out in this form
-abbrev pub IsInCobol : List ℕ → Form → (text : List ℕ) → Type 0
+abbrev pub IsInCobol : List ℕ → SourceForm → (text : List ℕ) → Type 0
 IsInCobol bytes form text = ((deck : Deck) × IsDeck bytes deck) × IsLaidOut form text
 
 -- a program of the deck that the bytes are was written, in fixed form or in free form

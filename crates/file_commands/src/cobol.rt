@@ -5,14 +5,14 @@ ghost use Rattle.file_commands.specs.Listed.{form_of, IsInCobol, GivesText, Writ
 
 use crate::deck_list::refused;
 use crate::text::write_text;
-use cobol_program::{Form, write_program};
+use cobol_program::{SourceForm, write_program};
 use command_support::{Fault, Outcome, read_deck_bytes};
 use folder_shelf::System;
 use std::alloc::Global;
 use std::io::{Read, Write};
 
 /// The program of the deck that the bytes are.
-fn program_of(alloc: Global, bytes: &[u8], form: Form) -> Result<String, Fault>
+fn program_of(alloc: Global, bytes: &[u8], form: SourceForm) -> Result<String, Fault>
     ensures { GivesText (IsInCobol bytes.now form) bytes.now result }
 {
     match write_program(alloc, bytes, form) {
@@ -22,10 +22,14 @@ fn program_of(alloc: Global, bytes: &[u8], form: Form) -> Result<String, Fault>
 }
 
 /// The form that a flag asks for.
-fn form_of(fixed: bool) -> Form
+fn form_of(fixed: bool) -> SourceForm
     ensures { result ≡ form_of fixed }
 {
-    if fixed { Form::Fixed } else { Form::Free }
+    if fixed {
+        SourceForm::Fixed
+    } else {
+        SourceForm::Free
+    }
 }
 
 #[tactic(auto, using(crate::proofs::ListLemmas::not_read, crate::proofs::ListLemmas::not_written))]

@@ -8,7 +8,7 @@ use Rattle.deck_parser.specs.Unfit.{IsFirstLine}
 use Rattle.deck_parser.specs.Fault.{IsFault, told, fault_of}
 use Rattle.deck_parser.specs.Word.{Word}
 use Rattle.deck_parser.specs.declared.fault.DeckFault.{DeckFault}
-use Rattle.deck_parser.specs.declared.fault.Refusal.{Refusal}
+use Rattle.deck_parser.specs.declared.fault.ParseRefusal.{ParseRefusal}
 use Rattle.record_layout.specs.Layout.{IsLayout, length_of}
 use Rattle.deck_entries.specs.FileControlEntry.{FileControlEntry}
 use Rattle.deck_entries.specs.FileDescription.{FileDescription, StorageEntry}
@@ -110,5 +110,5 @@ IsDescriptionFault words fault = IsEntriesFault words fault
 -- ---- what is told
 
 -- where a call is refused, but for want of memory, what is told of it is a fault of which this is so
-abbrev pub TellsFault : {T : Type 0} → (DeckFault → Type 0) → Result T Refusal → Type 0
+abbrev pub TellsFault : {T : Type 0} → (DeckFault → Type 0) → Result T ParseRefusal → Type 0
 TellsFault Is result = IfErr result (λ refused. IsFault refused → Is (told refused))

@@ -12,10 +12,11 @@ ghost use Rattle.file_control.specs.Described.{AreDescribed};
 
 use crate::data_names::DataNames;
 use crate::described_files::DescribedFiles;
-use crate::files::{FileList, ItemList, check_items, files_of, items_of};
+use crate::files::{DeckFiles, ItemList, check_items, files_of, items_of};
 use deck_entries::{Divisions, read_divisions};
 use deck_parser::{
-    Cause, DeckFault, Expected, Parser, Refusal, WantedClass, WantedList, WordPlace, Words,
+    DeckFault, Expected, FaultCause, ParseRefusal, Parser, WantedClass, WantedList, WordPlace,
+    Words,
 };
 use std::alloc::Global;
 
@@ -23,7 +24,7 @@ use std::alloc::Global;
 /// were read: the word behind them is PROCEDURE.
 #[derive(Drop)]
 pub struct Description {
-    pub files: FileList,
+    pub files: DeckFiles,
     pub items: ItemList,
     pub words: usize,
 }
@@ -31,12 +32,12 @@ pub struct Description {
 /// Files and 77-level items.
 #[derive(Drop)]
 struct Contents {
-    files: FileList,
+    files: DeckFiles,
     items: ItemList,
 }
 
 /// What the divisions describe.
-fn contents_of(alloc: Global, divisions: &Divisions) -> Result<Contents, Refusal>
+fn contents_of(alloc: Global, divisions: &Divisions) -> Result<Contents, ParseRefusal>
     ensures contents { IfOk result (λ contents. Describe divisions.now contents.files contents.items) }
     ensures none { IfErr result (DescribeNone divisions.now) }
     ensures fault { TellsFault (IsContentsFault divisions.now) result }
@@ -61,7 +62,7 @@ fn contents_of(alloc: Global, divisions: &Divisions) -> Result<Contents, Refusal
 }
 
 /// The description that the words up to PROCEDURE are, or why they are none, as `read_description`.
-pub fn describe(alloc: Global, words: &Words<'_>) -> Result<Description, Refusal>
+pub fn describe(alloc: Global, words: &Words<'_>) -> Result<Description, ParseRefusal>
     ensures description { GivesOrRefuses (IsDescription words.now) result }
     ensures fault { TellsFault (IsDescriptionFault words.now) result }
 {
@@ -69,7 +70,7 @@ pub fn describe(alloc: Global, words: &Words<'_>) -> Result<Description, Refusal
     let divisions = read_divisions(&mut parser, alloc)?;
     if !parser.sees(b"PROCEDURE") {
         let wanted = Expected::Words(WantedClass::Word);
-        return Err(parser.fault(Cause::Expected(wanted)));
+        return Err(parser.fault(FaultCause::Expected(wanted)));
     }
     let contents = contents_of(alloc, &divisions)?;
     let Contents { files, items } = contents;

@@ -19,7 +19,7 @@ use crate::field_places::{FieldPlaces, fields_by_name};
 use crate::keys::{are_keys_named, first_unnamed};
 use crate::length_item::length_item;
 use deck_entries::{Described, FileControlEntry, RecordLength, Selected, StorageItem};
-use deck_parser::{Cause, LayoutCause, Refusal, Unknown, WordPlace};
+use deck_parser::{FaultCause, LayoutCause, ParseRefusal, Unknown, WordPlace};
 use io_state::{Access, FileName, Name};
 use record_layout::{Field, Item, Layout, LayoutFault, Schema, one_outcome};
 use std::alloc::Global;
@@ -75,7 +75,7 @@ impl FileDesc {
 }
 
 /// Looks at the keys of the entry of a place: each is an item.
-fn check_entry(at: usize, selected: &Selected, described: &Described) -> Result<(), Refusal>
+fn check_entry(at: usize, selected: &Selected, described: &Described) -> Result<(), ParseRefusal>
     ensures named { OnOk result (are_keys_named described.now.items selected.now ≡ true) }
     ensures unnamed { OnErr result (are_keys_named described.now.items selected.now ≡ false) }
     ensures told { TellsFault (λ fault. fault ≡ fault_of selected.now.line 3) result }
@@ -86,24 +86,29 @@ fn check_entry(at: usize, selected: &Selected, described: &Described) -> Result<
             selected
                 .entry
                 .place
-                .fault(Cause::Unknown(Unknown::Key(at, key))),
+                .fault(FaultCause::Unknown(Unknown::Key(at, key))),
         );
     }
     Ok(())
 }
 
-fn layout_refusal(at: usize, place: WordPlace, fault: LayoutFault) -> Refusal
+fn layout_refusal(at: usize, place: WordPlace, fault: LayoutFault) -> ParseRefusal
     ensures memory { IsFault result → fault ≢ LayoutFault.Memory }
     ensures told { IsFault result → told result ≡ fault_of place.line 7 }
 {
     if fault == LayoutFault::Memory {
-        Refusal::Memory
+        ParseRefusal::Memory
     } else {
-        place.fault(Cause::Layout(LayoutCause::Items(at, fault)))
+        place.fault(FaultCause::Layout(LayoutCause::Items(at, fault)))
     }
 }
 
-fn layout_of(alloc: Global, at: usize, place: WordPlace, items: &[Item]) -> Result<Layout, Refusal>
+fn layout_of(
+    alloc: Global,
+    at: usize,
+    place: WordPlace,
+    items: &[Item],
+) -> Result<Layout, ParseRefusal>
     ensures layout { GivesOrRefuses (IsLayout (map entry_of_item items.now)) result }
     ensures told { TellsFault (λ fault. fault ≡ fault_of place.line 7) result }
 {
@@ -114,7 +119,7 @@ fn layout_of(alloc: Global, at: usize, place: WordPlace, items: &[Item]) -> Resu
     }
 }
 
-fn described_layout(alloc: Global, at: usize, described: &Described) -> Result<Layout, Refusal>
+fn described_layout(alloc: Global, at: usize, described: &Described) -> Result<Layout, ParseRefusal>
     ensures layout { GivesOrRefuses (IsLayout described.now.items) result }
     ensures told { TellsFault (λ fault. fault ≡ fault_of described.now.line 7) result }
 {
@@ -139,7 +144,7 @@ fn place_of(
     storage: &[StorageItem],
     at: usize,
     described: &Described,
-) -> Result<Option<usize>, Cause>
+) -> Result<Option<usize>, FaultCause>
     ensures place { IfOk result (DependsOn storage.now described.now.lengths) }
     ensures none { IfErr result (λ cause. (place : Option ℕ)
         → DependsOn storage.now described.now.lengths place → ⊥) }
@@ -180,7 +185,7 @@ fn item_of_length(
     storage: &[StorageItem],
     at: usize,
     length: &RecordLength,
-) -> Result<Option<usize>, Cause>
+) -> Result<Option<usize>, FaultCause>
     ensures place { IfOk result (DependsOn storage.now (Some length.now)) }
     ensures none { IfErr result (λ cause. (place : Option ℕ) → DependsOn storage.now (Some length.now) place
         → ⊥) }
@@ -204,7 +209,7 @@ fn depends_on(
     storage: &[StorageItem],
     at: usize,
     lengths: &Option<RecordLength>,
-) -> Result<Option<usize>, Cause>
+) -> Result<Option<usize>, FaultCause>
     ensures place { IfOk result (DependsOn storage.now lengths.now) }
     ensures none { IfErr result (λ cause. (place : Option ℕ) → DependsOn storage.now lengths.now place → ⊥) }
     ensures code { IfErr result (λ cause. cause_code cause
@@ -229,7 +234,7 @@ fn schema_of(
     layout: &Layout,
     least: u16,
     entry: &FileControlEntry,
-) -> Result<Schema, Refusal>
+) -> Result<Schema, ParseRefusal>
     requires some { 1 ≤ least }
     requires within { least ≤ length_of layout.now }
     ensures given { IfOk result (λ schema. IsSchema schema × GivesKeys layout.now least entry.now schema) }
@@ -242,7 +247,7 @@ fn schema_of(
             know(&schema);
             Ok(schema)
         }
-        Err(fault) => Err(place.fault(Cause::Layout(LayoutCause::Keys(at, fault)))),
+        Err(fault) => Err(place.fault(FaultCause::Layout(LayoutCause::Keys(at, fault)))),
     }
 }
 
@@ -286,7 +291,7 @@ fn selected_schema(
     selected: &Selected,
     layout: &Layout,
     least: u16,
-) -> Result<Schema, Refusal>
+) -> Result<Schema, ParseRefusal>
     requires some { 1 ≤ least }
     requires within { least ≤ length_of layout.now }
     ensures given { IfOk result (λ schema. IsSchema schema × GivesKeys layout.now least selected.now schema) }
@@ -329,7 +334,7 @@ pub fn file(
     described: &Described,
     storage: &[StorageItem],
     names: &DataNames<'_>,
-) -> Result<FileDesc, Refusal>
+) -> Result<FileDesc, ParseRefusal>
     ensures file { GivesOrRefuses (IsFile names.now storage.now selected.now described.now) result }
     ensures fault { TellsFault (IsFileFault names.now storage.now selected.now described.now) result }
 {
@@ -337,11 +342,11 @@ pub fn file(
     let layout = described_layout(alloc, at, described)?;
     let Some(least) = least_of(described, &layout) else {
         let length = LayoutCause::Length(at, layout.length());
-        return Err(described.place.fault(Cause::Layout(length)));
+        return Err(described.place.fault(FaultCause::Layout(length)));
     };
     if !are_names_new(names, described) {
         let twice = files.item_twice(at, described);
-        return Err(described.place.fault(Cause::Twice(twice)));
+        return Err(described.place.fault(FaultCause::Twice(twice)));
     }
     let place = match place_of(files, storage, at, described) {
         Ok(place) => place,

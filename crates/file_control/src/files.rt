@@ -12,18 +12,18 @@ use crate::described_files::DescribedFiles;
 use crate::file::{FileDesc, file};
 use crate::length_item::digits_of_item;
 use deck_entries::{Described, Selected, StorageItem};
-use deck_parser::{Cause, LayoutCause, Refusal, Twice, Unknown};
+use deck_parser::{FaultCause, LayoutCause, ParseRefusal, Twice, Unknown};
 use io_state::Name;
 use std::alloc::{AllocError, Global};
 use std::marker::Model;
 
 /// Files in the order of their SELECT entries, which contracts see as a list.
 #[derive(Drop)]
-pub struct FileList {
+pub struct DeckFiles {
     files: Vec<FileDesc>,
 }
 
-impl Model for FileList {
+impl Model for DeckFiles {
     ghost use Rattle.std.specs.Prelude.{List};
     ghost use Rattle.file_control.specs.Description.{FileDesc};
 
@@ -62,13 +62,13 @@ impl Model for ItemList {
     ghost view = { λ i. i.items.items };
 }
 
-impl FileList {
+impl DeckFiles {
     ghost use Rattle.std.specs.Prelude.{◌≡◌, [], ◌∷◌, ◌++◌, OnOk};
 
     fn new(alloc: Global) -> Self
         ensures { result ≡ [] }
     {
-        FileList {
+        DeckFiles {
             files: Vec::new(alloc),
         }
     }
@@ -137,13 +137,13 @@ pub fn files_of<'a>(
     descriptions: &'a [Described],
     storage: &[StorageItem],
     names: &mut DataNames<'a>,
-) -> Result<FileList, Refusal>
+) -> Result<DeckFiles, ParseRefusal>
     ensures files { IfOk result (λ files. AreFiles descriptions.now storage.now names.old entries.now files
         names.new) }
     ensures none { IfErr result (AreNoFiles descriptions.now storage.now names.old entries.now) }
     ensures fault { TellsFault (IsFilesFault descriptions.now storage.now names.old entries.now) result }
 {
-    let mut files = FileList::new(alloc);
+    let mut files = DeckFiles::new(alloc);
     let mut rest = entries;
     'more: while let Some((selected, after)) = rest.split_first() {
         let Some(described) = described_as(descriptions, selected.name()) else {
@@ -151,7 +151,7 @@ pub fn files_of<'a>(
                 selected
                     .entry
                     .place
-                    .fault(Cause::Unknown(Unknown::Described)),
+                    .fault(FaultCause::Unknown(Unknown::Described)),
             );
         };
         let at = files.as_slice().len();
@@ -173,7 +173,7 @@ pub fn check_items<'a>(
     files: &DescribedFiles<'_>,
     storage: &'a [StorageItem],
     names: DataNames<'a>,
-) -> Result<(), Refusal>
+) -> Result<(), ParseRefusal>
     ensures items { OnOk result ((items : List Digits) × AreItems names.entry storage.now items) }
     ensures none { HasNoneIfRefused (AreItems names.entry storage.now) result }
     ensures fault { TellsFault (IsItemFault names.entry storage.now) result }
@@ -183,10 +183,13 @@ pub fn check_items<'a>(
     'more: while let Some((item, after)) = rest.split_first() {
         if names.has(item.name.as_str()) {
             let first = files.first_named(storage, item.name.as_str().as_bytes());
-            return Err(item.place.fault(Cause::Twice(Twice::LengthItem(first))));
+            return Err(
+                item.place
+                    .fault(FaultCause::Twice(Twice::LengthItem(first))),
+            );
         }
         let Some(_) = digits_of_item(item) else {
-            return Err(item.place.fault(Cause::Layout(LayoutCause::Digits)));
+            return Err(item.place.fault(FaultCause::Layout(LayoutCause::Digits)));
         };
         names.push(&item.name)?;
         rest = after;
@@ -195,14 +198,14 @@ pub fn check_items<'a>(
 }
 
 /// The 77-level items, whatever their names are.
-pub fn items_of(alloc: Global, storage: &[StorageItem]) -> Result<ItemList, Refusal>
+pub fn items_of(alloc: Global, storage: &[StorageItem]) -> Result<ItemList, ParseRefusal>
     ensures { GivesOrRefuses (HaveDigits storage.now) result }
 {
     let mut items = ItemList::with_capacity(alloc, storage.len())?;
     let mut rest = storage;
     'more: while let Some((item, after)) = rest.split_first() {
         let Some(digits) = digits_of_item(item) else {
-            return Err(item.place.fault(Cause::Layout(LayoutCause::Digits)));
+            return Err(item.place.fault(FaultCause::Layout(LayoutCause::Digits)));
         };
         items.push(LengthItem {
             name: item.name,

@@ -8,7 +8,7 @@ ghost use Rattle.file_control.specs.Description.{HasDigits, digit_count, IsLengt
 
 use crate::described_files::DescribedFiles;
 use deck_entries::StorageItem;
-use deck_parser::{Cause, LayoutCause, Unknown};
+use deck_parser::{FaultCause, LayoutCause, Unknown};
 use io_state::Name;
 use record_layout::{Picture, one_picture};
 
@@ -76,7 +76,7 @@ pub fn length_item(
     at: usize,
     name: &[u8],
     greatest: u64,
-) -> Result<usize, Cause>
+) -> Result<usize, FaultCause>
     ensures place { IfOk result (λ place. IsLengthItem storage.now name.now greatest place) }
     ensures none { IfErr result (λ cause. (place : ℕ) → IsLengthItem storage.now name.now greatest place
         → ⊥) }
@@ -84,10 +84,10 @@ pub fn length_item(
         (position (λ entry. bytes_eq entry.name name.now) storage.now) then 7 else 3)) }
 {
     let Some(place) = place_of(storage, name) else {
-        return Err(Cause::Unknown(Unknown::LengthItem(at, files.named(name))));
+        return Err(FaultCause::Unknown(Unknown::LengthItem(at, files.named(name))));
     };
     match storage.get(place) {
         Some(item) if has_room(item, greatest) => Ok(place),
-        _ => Err(Cause::Layout(LayoutCause::LengthItem(at, greatest))),
+        _ => Err(FaultCause::Layout(LayoutCause::LengthItem(at, greatest))),
     }
 }

@@ -24,4 +24,4 @@ pub use description::{
     Description, are_described, describe, one_description, read_description, wanted_in_description,
 };
 pub use file::FileDesc;
-pub use files::{FileList, ItemList, LengthItem};
+pub use files::{DeckFiles, ItemList, LengthItem};

@@ -3,7 +3,7 @@ use Rattle.std.proofs.Common.{◌≡◌, ◌≤◌, ℕ, Bool, true, false, List
 use Rattle.std.specs.Prelude.{Result, Ok, Err, IfOk}
 use Rattle.std.proofs.lemmas.List.{take_all, drop_all}
 use Rattle.record_text.specs.declared.form.Form.{Form}
-use Rattle.record_text.specs.declared.line_reading.Line.{Line}
+use Rattle.record_text.specs.declared.line_reading.RecordLine.{RecordLine}
 use Rattle.record_text.specs.declared.mistake.LineMistake.{LineMistake}
 use Rattle.record_text.specs.ReadLine.{AreBytes, ReadsRecord, ReadsRecordUpTo}
 use Rattle.record_text.specs.Padded.{SaysPadded, ReadsPadded}
@@ -20,7 +20,7 @@ module _ (form : Form) (options : LoadOptions) (text : List ℕ) (least : ℕ) (
     rest = read.line.rest;
   }
 
-  pub exact_read : options.pad ≡ false → (result : Result Line LineMistake) → IfOk result (ReadsRecordUpTo form text least area area_now) → IfOk result (ReadsLineUpTo (line_form form options) text least area area_now)
+  pub exact_read : options.pad ≡ false → (result : Result RecordLine LineMistake) → IfOk result (ReadsRecordUpTo form text least area area_now) → IfOk result (ReadsLineUpTo (line_form form options) text least area area_now)
   exact_read unasked (Ok line) read = exact_line unasked line.length line.behind.now read
   exact_read unasked (Err mistake) read = tt
 
@@ -39,7 +39,7 @@ module _ (form : Form) (options : LoadOptions) (text : List ℕ) (least : ℕ) (
         all : take n area_now ≡ area_now
         all = take_all n area_now (omega (arith, whole))
 
-    pub padded_read : options.pad ≡ true → (result : Result Line LineMistake) → IfOk result (λ line. ReadsPadded form text area_now line.behind.now) → IfOk result (λ line. line.length ≡ length area_now)
+    pub padded_read : options.pad ≡ true → (result : Result RecordLine LineMistake) → IfOk result (λ line. ReadsPadded form text area_now line.behind.now) → IfOk result (λ line. line.length ≡ length area_now)
         → IfOk result (ReadsLineUpTo (line_form form options) text least area area_now)
     padded_read asked (Ok line) read whole = padded_line asked line.length line.behind.now whole read
     padded_read asked (Err mistake) read whole = tt

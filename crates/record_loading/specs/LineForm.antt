@@ -7,7 +7,7 @@ use Rattle.record_text.specs.ReadLine.{AreBytes, BeginsWithNoRecord}
 use Rattle.record_text.specs.Padded.{SaysPadded, BeginsWithNoPadded}
 use Rattle.record_text.specs.Mistake.{IsLineMistake}
 use Rattle.record_text.specs.PaddedPart.{IsPaddedMistake}
-use Rattle.record_text.specs.declared.line_reading.Line.{Line}
+use Rattle.record_text.specs.declared.line_reading.RecordLine.{RecordLine}
 use Rattle.record_text.specs.declared.mistake.LineMistake.{LineMistake}
 use Rattle.record_loading.specs.declared.options.LoadOptions.{LoadOptions}
 
@@ -47,6 +47,6 @@ pub record ReadsLineOf (form : LineForm) (text : List ℕ) (least : ℕ) (area a
   pub rest : drop n area_after ≡ drop n area
 
 -- so, up to where the line tells
-abbrev pub ReadsLineUpTo : LineForm → (text : List ℕ) → (least : ℕ) → (area area_after : List ℕ) → Line → Type 0
+abbrev pub ReadsLineUpTo : LineForm → (text : List ℕ) → (least : ℕ) → (area area_after : List ℕ) → RecordLine → Type 0
 ReadsLineUpTo form text least area area_after line =
     ReadsLineOf form text least area area_after line.length line.behind.now

@@ -4,7 +4,7 @@ ghost use Rattle.record_text.specs.Whole.{IsWholeForm};
 ghost use Rattle.record_loading.specs.LineForm.{line_form, ReadsLineUpTo, BeginsWithNone, HasMistake};
 
 use crate::options::LoadOptions;
-use record_text::{Form, Line, LineMistake, padded_or_mistake, record_or_mistake};
+use record_text::{Form, LineMistake, RecordLine, padded_or_mistake, record_or_mistake};
 
 /// Reads the record of at least so many bytes whose line a text begins with into the first bytes of the
 /// area: exactly that line, or one whose values are filled up, where that is asked for. Where the text
@@ -15,7 +15,7 @@ pub fn read_line<'a>(
     text: &'a [u8],
     least: u16,
     area: &mut [u8],
-) -> Result<Line<'a>, LineMistake>
+) -> Result<RecordLine<'a>, LineMistake>
     requires whole { IsWholeForm form.now (length area.old) }
     requires ordered { least ≤ length area.old }
     ensures read { IfOk result

@@ -6,7 +6,7 @@ use Rattle.record_text.specs.declared.form.Form.{Form}
 use Rattle.record_text.specs.declared.form.Form.TheVariants.{Text, Csv, Json}
 use Rattle.record_text.specs.declared.quoted.Quoting.{Quoting}
 use Rattle.record_text.specs.declared.quoted.Quoting.TheVariants.{Doubled, Escaped}
-use Rattle.record_text.specs.declared.line_reading.Line.{Line}
+use Rattle.record_text.specs.declared.line_reading.RecordLine.{RecordLine}
 use Rattle.record_text.specs.declared.mistake.LineMistake.{LineMistake}
 use Rattle.record_text.specs.Whole.{IsWholeForm}
 use Rattle.record_text.specs.Quoted.{values_text, LacksFront}
@@ -15,12 +15,12 @@ use Rattle.record_text.specs.Mistake.{IsTextMistake, IsValuesMistake, IsLineMist
 use Rattle.record_text.proofs.LineLemmas.{csv_is, json_is}
 
 -- what was answered of a line of text
-pub text_told : (form : Form) (result : Result Line LineMistake) (text : List ℕ) (least most : ℕ) → form ≡ Text → IfErr result (IsTextMistake text least most) → IfErr result (IsLineMistake form text least most)
+pub text_told : (form : Form) (result : Result RecordLine LineMistake) (text : List ℕ) (least most : ℕ) → form ≡ Text → IfErr result (IsTextMistake text least most) → IfErr result (IsLineMistake form text least most)
 text_told form (Ok line) text least most is told = tt
 text_told form (Err mistake) text least most is told = subst (λ (f : Form). IsLineMistake f text least most mistake) (sym is) told
 
 -- what was answered, and what that tells
-pub told_by : (Told Wanted : LineMistake → Type 0) (result : Result Line LineMistake) → ((mistake : LineMistake) → Told mistake → Wanted mistake) → IfErr result Told → IfErr result Wanted
+pub told_by : (Told Wanted : LineMistake → Type 0) (result : Result RecordLine LineMistake) → ((mistake : LineMistake) → Told mistake → Wanted mistake) → IfErr result Told → IfErr result Wanted
 told_by Told Wanted (Ok line) tells told = tt
 told_by Told Wanted (Err mistake) tells told = tells mistake told
 

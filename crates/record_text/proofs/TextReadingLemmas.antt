@@ -6,7 +6,7 @@ use Rattle.deck_runner.specs.Line.{shown_byte}
 use Rattle.std.specs.Prelude.{Result, Ok, Err, IfOk}
 use Rattle.record_text.specs.declared.form.Form.{Form}
 use Rattle.record_text.specs.declared.form.Form.TheVariants.{Text}
-use Rattle.record_text.specs.declared.line_reading.Line.{Line}
+use Rattle.record_text.specs.declared.line_reading.RecordLine.{RecordLine}
 use Rattle.record_text.specs.declared.mistake.LineMistake.{LineMistake}
 use Rattle.record_text.specs.Lines.{text_line}
 use Rattle.record_text.specs.ReadLine.{AreBytes, ReadsLine, BeginsWithNoLine}
@@ -159,7 +159,7 @@ text_part text area area_now n behind same read = record {
 }
 
 -- the same of what was answered
-pub text_parts : (form : Form) (result : Result Line LineMistake) (text area area_now : List ℕ) → form ≡ Text → length area_now ≡ length area
+pub text_parts : (form : Form) (result : Result RecordLine LineMistake) (text area area_now : List ℕ) → form ≡ Text → length area_now ≡ length area
     → IfOk result (λ line. ReadsLine Text text area area_now line.length line.behind.now)
     → IfOk result (λ line. ReadsPart (line_text form) Anything text area 0 (length area) area_now line.length line.behind.now)
 text_parts form (Err mistake) text area area_now is same read = tt

@@ -8,7 +8,7 @@ use Rattle.record_text.specs.Json.{json_line}
 use Rattle.record_text.specs.Lines.{line_in, member_of}
 use Rattle.record_text.specs.declared.quoted.Quoting.{Quoting}
 use Rattle.record_text.specs.declared.cell.Cell.{Cell}
-use Rattle.record_text.specs.declared.line_reading.Line.{Line}
+use Rattle.record_text.specs.declared.line_reading.RecordLine.{RecordLine}
 use Rattle.record_text.specs.ReadLine.{AreBytes}
 use Rattle.record_text.specs.Quoted.{inside, value_text, values_text, BeginsWithNoByte}
 
@@ -111,6 +111,6 @@ ReadsFront text_of text area area_after n behind =
     ReadsPart text_of Anything text area 0 (length area) area_after n behind
 
 -- so, up to where the line tells
-abbrev pub ReadsUpTo : (List ℕ → List ℕ → List ℕ) → (text area area_after : List ℕ) → Line → Type 0
+abbrev pub ReadsUpTo : (List ℕ → List ℕ → List ℕ) → (text area area_after : List ℕ) → RecordLine → Type 0
 ReadsUpTo text_of text area area_after line =
     ReadsFront text_of text area area_after line.length line.behind.now

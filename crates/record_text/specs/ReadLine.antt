@@ -2,7 +2,7 @@
 use Rattle.std.specs.Prelude.{◌≡◌, ◌<◌, ◌≤◌, ℕ, List, ◌++◌, length, take, drop}
 use Rattle.pages.specs.Each.{Each}
 use Rattle.record_text.specs.declared.form.Form.{Form}
-use Rattle.record_text.specs.declared.line_reading.Line.{Line}
+use Rattle.record_text.specs.declared.line_reading.RecordLine.{RecordLine}
 use Rattle.record_text.specs.Lines.{line_in}
 
 -- the numbers are bytes
@@ -29,7 +29,7 @@ pub record ReadsRecord (form : Form) (text : List ℕ) (least : ℕ) (area area_
   pub line : ReadsLine form text area area_after n behind
 
 -- so, up to where the line tells
-abbrev pub ReadsRecordUpTo : Form → (text : List ℕ) → (least : ℕ) → (area area_after : List ℕ) → Line → Type 0
+abbrev pub ReadsRecordUpTo : Form → (text : List ℕ) → (least : ℕ) → (area area_after : List ℕ) → RecordLine → Type 0
 ReadsRecordUpTo form text least area area_after line =
     ReadsRecord form text least area area_after line.length line.behind.now
 

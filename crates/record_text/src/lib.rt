@@ -47,7 +47,7 @@ pub use form::Form;
 pub use header::{behind_header, header_lines};
 pub use items::{elementary_items, item_columns};
 pub use line::{append_header, append_line, line_room};
-pub use line_reading::{Line, read_record, record_or_mistake};
+pub use line_reading::{RecordLine, read_record, record_or_mistake};
 pub use mistake::{ColumnMistake, LineMistake, Stray, ValueMistake};
 pub use padded_line::padded_or_mistake;
 pub use padded_value::padded_by_move;

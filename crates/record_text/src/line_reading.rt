@@ -18,7 +18,7 @@ use crate::values::read_values;
 
 /// A line at the front of a text: the length of its record, and the text behind it.
 #[derive(Clone, Copy)]
-pub struct Line<'a> {
+pub struct RecordLine<'a> {
     pub length: usize,
     pub behind: &'a [u8],
 }
@@ -28,7 +28,7 @@ fn read_csv<'a>(
     text: &'a [u8],
     columns: &[Column],
     area: &mut [u8],
-) -> Result<Line<'a>, LineMistake>
+) -> Result<RecordLine<'a>, LineMistake>
     requires whole { AreTiled 0 (map part_of_column columns.now) (length area.old) }
     ensures read { IfOk result (ReadsUpTo (csv_text columns.now) text.now area.old area.new) }
     ensures none { OnErr result (HasNoPart (csv_text columns.now) Anything text.now 0 (length area.old)) }
@@ -45,7 +45,7 @@ fn read_csv<'a>(
     let Some(behind) = passed(ended, b'\n') else {
         return Err(LineMistake::Ending(b'\n'));
     };
-    Ok(Line {
+    Ok(RecordLine {
         length: cell.at,
         behind,
     })
@@ -56,7 +56,7 @@ fn read_json<'a>(
     text: &'a [u8],
     columns: &[Column],
     area: &mut [u8],
-) -> Result<Line<'a>, LineMistake>
+) -> Result<RecordLine<'a>, LineMistake>
     requires whole { AreTiled 0 (map part_of_column columns.now) (length area.old) }
     ensures read { IfOk result (ReadsUpTo (json_text columns.now) text.now area.old area.new) }
     ensures none { OnErr result (HasNoPart (json_text columns.now) Anything text.now 0 (length area.old)) }
@@ -76,7 +76,7 @@ fn read_json<'a>(
     let Some(behind) = passed(closed, b'\n') else {
         return Err(LineMistake::Ending(b'\n'));
     };
-    Ok(Line {
+    Ok(RecordLine {
         length: cell.at,
         behind,
     })
@@ -89,7 +89,7 @@ fn read_line<'a>(
     text: &'a [u8],
     least: u16,
     area: &mut [u8],
-) -> Result<Line<'a>, LineMistake>
+) -> Result<RecordLine<'a>, LineMistake>
     requires whole { IsWholeForm form.now (length area.old) }
     ensures read { IfOk result (ReadsUpTo (line_text form.now) text.now area.old area.new) }
     ensures none { OnErr result (HasNoPart (line_text form.now) Anything text.now 0 (length area.old)) }
@@ -127,7 +127,7 @@ pub fn record_or_mistake<'a>(
     text: &'a [u8],
     least: u16,
     area: &mut [u8],
-) -> Result<Line<'a>, LineMistake>
+) -> Result<RecordLine<'a>, LineMistake>
     requires whole { IsWholeForm form.now (length area.old) }
     ensures read { IfOk result (ReadsRecordUpTo form.now text.now least area.old area.new) }
     ensures none { OnErr result (BeginsWithNoRecord form.now text.now least (length area.old)) }
@@ -145,7 +145,12 @@ pub fn record_or_mistake<'a>(
 
 /// The same, without the mistake: None where the text begins with the line of no such record that the
 /// area has room for.
-pub fn read_record<'a>(form: &Form, text: &'a [u8], least: u16, area: &mut [u8]) -> Option<Line<'a>>
+pub fn read_record<'a>(
+    form: &Form,
+    text: &'a [u8],
+    least: u16,
+    area: &mut [u8],
+) -> Option<RecordLine<'a>>
     requires whole { IsWholeForm form.now (length area.old) }
     ensures read { IfSome result (ReadsRecordUpTo form.now text.now least area.old area.new) }
     ensures none { result ≡ None → BeginsWithNoRecord form.now text.now least (length area.old) }

@@ -12,7 +12,7 @@ ghost use Rattle.record_text.specs.declared.quoted.Quoting.TheVariants.{Doubled}
 
 use crate::column::Column;
 use crate::form::Form;
-use crate::line_reading::Line;
+use crate::line_reading::RecordLine;
 use crate::mistake::LineMistake;
 use crate::padded_value::pad;
 use crate::padded_values::read_padded_values;
@@ -127,7 +127,7 @@ pub fn padded_or_mistake<'a>(
     text: &'a [u8],
     least: u16,
     area: &mut [u8],
-) -> Result<Line<'a>, LineMistake>
+) -> Result<RecordLine<'a>, LineMistake>
     requires whole { IsWholeForm form.now (length area.old) }
     ensures read { IfOk result (λ line. ReadsPadded form.now text.now area.new line.behind.now) }
     ensures whole { IfOk result (λ line. line.length ≡ length area.new) }
@@ -135,7 +135,7 @@ pub fn padded_or_mistake<'a>(
     ensures mistake { IfErr result (IsPaddedMistake form.now text.now least (length area.old)) }
 {
     match read_padded_line(form, text, least, area) {
-        Ok(behind) => Ok(Line {
+        Ok(behind) => Ok(RecordLine {
             length: area.len(),
             behind,
         }),

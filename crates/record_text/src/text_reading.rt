@@ -5,7 +5,7 @@ ghost use Rattle.record_text.specs.Quoted.{LacksFront};
 ghost use Rattle.record_text.specs.ReadLine.{ReadsLine, BeginsWithNoLine};
 ghost use Rattle.record_text.specs.Mistake.{IsTextMistake, IsLongText};
 
-use crate::line_reading::Line;
+use crate::line_reading::RecordLine;
 use crate::mistake::{LineMistake, stray_of};
 use crate::shown_byte::first_byte;
 
@@ -43,7 +43,11 @@ fn long_record(text: &[u8], read: usize, least: u16, most: usize) -> LineMistake
 
 /// Reads the record whose line a text begins with, in brackets, into the first bytes of the area.
 /// Where the text begins with the line of no record that the area has room for, it answers a mistake.
-pub fn read_text<'a>(text: &'a [u8], least: u16, area: &mut [u8]) -> Result<Line<'a>, LineMistake>
+pub fn read_text<'a>(
+    text: &'a [u8],
+    least: u16,
+    area: &mut [u8],
+) -> Result<RecordLine<'a>, LineMistake>
     ensures read { IfOk result (λ line. ReadsLine Text text.now area.old area.new line.length
         line.behind.now) }
     ensures none { OnErr result (BeginsWithNoLine Text text.now (length area.old)) }
@@ -70,7 +74,7 @@ pub fn read_text<'a>(text: &'a [u8], least: u16, area: &mut [u8]) -> Result<Line
         let (_, left) = rest.split_at(first.size);
         rest = left;
     }
-    Ok(Line {
+    Ok(RecordLine {
         length,
         behind: &rest[2..],
     })

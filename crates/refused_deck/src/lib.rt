@@ -15,7 +15,7 @@ mod reading;
 mod shown;
 
 pub use known::{Among, Known};
-pub use message::{Message, Told};
+pub use message::{Message, ToldMessage};
 pub use near::is_near;
 pub use reading::{Reading, capitals, is_name, is_number, part_of, says, says_one_of, word_places};
 pub use shown::Shown;

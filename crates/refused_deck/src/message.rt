@@ -13,7 +13,7 @@ pub struct Message {
 }
 
 /// A message; `AllocError` for want of memory.
-pub type Told = Result<Message, AllocError>;
+pub type ToldMessage = Result<Message, AllocError>;
 
 impl Message {
     pub fn new(alloc: Global, place: WordPlace, why: String) -> Self
@@ -26,14 +26,14 @@ impl Message {
         }
     }
 
-    pub fn saying(alloc: Global, place: WordPlace, why: &str) -> Told
+    pub fn saying(alloc: Global, place: WordPlace, why: &str) -> ToldMessage
         ensures { IfOk result (λ message. string_bytes message.why ≡ why.now) }
     {
         Ok(Message::new(alloc, place, String::from_str(alloc, why)?))
     }
 
     /// With a further line, unless that has no text.
-    pub fn with_hint(self, hint: String) -> Told {
+    pub fn with_hint(self, hint: String) -> ToldMessage {
         let mut message = self;
         if !hint.as_str().is_empty() {
             message.hints.push(hint)?;
@@ -41,12 +41,12 @@ impl Message {
         Ok(message)
     }
 
-    pub fn with_text(self, alloc: Global, text: &str) -> Told {
+    pub fn with_text(self, alloc: Global, text: &str) -> ToldMessage {
         self.with_hint(String::from_str(alloc, text)?)
     }
 
     /// What is told of a word that decks do not have, with what to do instead.
-    pub fn not_read(alloc: Global, place: WordPlace, text: &str) -> Told {
+    pub fn not_read(alloc: Global, place: WordPlace, text: &str) -> ToldMessage {
         Message::saying(alloc, place, "not read")?.with_text(alloc, text)
     }
 }

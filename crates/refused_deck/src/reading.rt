@@ -1,7 +1,7 @@
 //! A deck that is refused, and what was read of it.
 
 use crate::known::{Among, Known};
-use crate::message::{Message, Told};
+use crate::message::{Message, ToldMessage};
 use crate::near::is_near;
 use crate::shown::Shown;
 use deck_parser::{NameOf, Parser, WordPlace, words};
@@ -140,11 +140,11 @@ impl<'a> Reading<'a> {
     }
 
     /// What is told of a place.
-    pub fn tell(&self, place: WordPlace, why: Result<String, AllocError>) -> Told {
+    pub fn tell(&self, place: WordPlace, why: Result<String, AllocError>) -> ToldMessage {
         Ok(Message::new(self.alloc, place, why?))
     }
 
-    pub fn tell_text(&self, place: WordPlace, why: &str) -> Told {
+    pub fn tell_text(&self, place: WordPlace, why: &str) -> ToldMessage {
         Message::saying(self.alloc, place, why)
     }
 

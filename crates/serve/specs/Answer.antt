@@ -3,8 +3,8 @@ use Rattle.std.specs.Prelude.{◌≡◌, ◌≤◌, ℕ, List, [], ◌∷◌, �
 use Rattle.byteorder.specs.Endian.{big_bytes}
 use Rattle.io_state.specs.Status.{digits_of}
 use Rattle.io_state.specs.declared.status.Status.{Status}
-use Rattle.serve.specs.declared.answer.Answer.{Answer}
-use Rattle.serve.specs.declared.answer.Answer.TheVariants.{Refused, Done, Performed}
+use Rattle.serve.specs.declared.answer.SessionAnswer.{SessionAnswer}
+use Rattle.serve.specs.declared.answer.SessionAnswer.TheVariants.{Refused, Done, Performed}
 use Rattle.serve.specs.declared.request_refusal.RequestRefusal.{RequestRefusal}
 use Rattle.serve.specs.declared.request_refusal.RequestRefusal.TheVariants.{NoRequest, TooLong, Number, Description}
 use Rattle.serve.specs.declared.request_refusal.RequestRefusal.TheVariants.{Name, Open, Memory, Key}
@@ -28,12 +28,12 @@ pub data Told : Type 0 where
   Tells : (status : Status) → (bytes : List ℕ) → Told
 
 -- an answer without where its record lies in memory
-abbrev pub told_of : Answer → Told
+abbrev pub told_of : SessionAnswer → Told
 told_of (Refused refusal) = Refuses refusal
 told_of Done = Does
 told_of (Performed status bytes) = Tells status bytes.now
 
-abbrev pub record_told : Answer → List ℕ
+abbrev pub record_told : SessionAnswer → List ℕ
 record_told (Refused refusal) = []
 record_told Done = []
 record_told (Performed status bytes) = bytes.now

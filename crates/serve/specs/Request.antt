@@ -4,8 +4,8 @@ use Rattle.io_state.specs.declared.modes.Access.{Access}
 use Rattle.io_state.specs.declared.statement.FileStatement.{FileStatement}
 use Rattle.record_layout.specs.declared.schema.KeyPart.{KeyPart}
 use Rattle.serve.specs.declared.file_description.FileDescription.{FileDescription}
-use Rattle.serve.specs.declared.request.Request.{Request}
-use Rattle.serve.specs.declared.request.Request.TheVariants.{Describe, Perform, Release}
+use Rattle.serve.specs.declared.request.SessionRequest.{SessionRequest}
+use Rattle.serve.specs.declared.request.SessionRequest.TheVariants.{Describe, Perform, Release}
 use Rattle.serve.specs.declared.statement.Performance.{Performance}
 
 -- a file is described, and wants this number
@@ -46,7 +46,7 @@ described_of d = record {
 abbrev pub performed_of : Performance → Performed
 performed_of p = record { file = p.file; statement = p.statement; length = p.length; bytes = p.bytes.now }
 
-abbrev pub asked_of : Request → Asked
+abbrev pub asked_of : SessionRequest → Asked
 asked_of (Describe d) = Describing (described_of d)
 asked_of (Perform p) = Performing (performed_of p)
 asked_of (Release file) = Releasing file

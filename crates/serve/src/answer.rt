@@ -26,7 +26,7 @@ pub const HEAD_LIMIT: usize = 5;
 
 /// What a request is answered by.
 #[derive(Clone, Copy, Debug)]
-pub enum Answer<'a> {
+pub enum SessionAnswer<'a> {
     Refused(RequestRefusal),
     /// The file is described, or released.
     Done,
@@ -34,14 +34,14 @@ pub enum Answer<'a> {
     Performed { status: Status, bytes: &'a [u8] },
 }
 
-impl<'a> Answer<'a> {
+impl<'a> SessionAnswer<'a> {
     /// The record that is told, of no bytes where none is.
     pub(crate) fn record(&self) -> &'a [u8]
         ensures { result.now ≡ record_told self.now }
     {
         match *self {
-            Answer::Refused(_) | Answer::Done => &[],
-            Answer::Performed { bytes, .. } => bytes,
+            SessionAnswer::Refused(_) | SessionAnswer::Done => &[],
+            SessionAnswer::Performed { bytes, .. } => bytes,
         }
     }
 }
@@ -71,7 +71,7 @@ fn begin(room: &mut [u8], size: u16, first: &[u8]) -> usize
 
 /// Puts the head of an answer's frame into the beginning of the room, which is long enough for any.
 /// How many bytes the head has.
-pub(crate) fn put_head(room: &mut [u8], answer: &Answer<'_>) -> usize
+pub(crate) fn put_head(room: &mut [u8], answer: &SessionAnswer<'_>) -> usize
     requires room { 5 ≤ length room.old }
     requires record { length (record_told answer.now) ≤ 4000 }
     ensures frame { take result room.new ++ record_told answer.now ≡ framed (answer_body (told_of answer.now)) }
@@ -79,9 +79,9 @@ pub(crate) fn put_head(room: &mut [u8], answer: &Answer<'_>) -> usize
     ensures limit { result ≤ 5 }
 {
     match *answer {
-        Answer::Refused(refusal) => begin(room, 2, &[0, refusal.code()]),
-        Answer::Done => begin(room, 1, &[1]),
-        Answer::Performed { status, bytes } => {
+        SessionAnswer::Refused(refusal) => begin(room, 2, &[0, refusal.code()]),
+        SessionAnswer::Done => begin(room, 1, &[1]),
+        SessionAnswer::Performed { status, bytes } => {
             let digits = status.digits();
             begin(room, 3 + bytes.len() as u16, &[2, digits[0], digits[1]])
         }
@@ -90,7 +90,7 @@ pub(crate) fn put_head(room: &mut [u8], answer: &Answer<'_>) -> usize
 
 /// Puts the frame of an answer into the beginning of the room, which is long enough for any. How
 /// many bytes the frame has.
-pub fn put_answer(room: &mut [u8], answer: &Answer<'_>) -> usize
+pub fn put_answer(room: &mut [u8], answer: &SessionAnswer<'_>) -> usize
     requires room { 4005 ≤ length room.old }
     requires record { length (record_told answer.now) ≤ 4000 }
     ensures frame { take result room.new ≡ framed (answer_body (told_of answer.now)) }

@@ -6,9 +6,9 @@ ghost use Rattle.serve.specs.Answer.{KeepsBehind, record_told, told_of};
 ghost use Rattle.serve.specs.Answers.{AnswersDescription, AnswersVerb, AnswersRelease};
 ghost use Rattle.serve.specs.Answers.{AnswersRequest, TellsAnswer, told_by};
 
-use crate::answer::{Answer, put_answer};
+use crate::answer::{SessionAnswer, put_answer};
 use crate::file_description::FileDescription;
-use crate::request::{Request, read_request};
+use crate::request::{SessionRequest, read_request};
 use crate::request_refusal::RequestRefusal;
 use crate::session::Session;
 use crate::statement::Performance;
@@ -79,9 +79,9 @@ pub(crate) fn outcome_of<L: GrowingLibrary + Drop>(session: &mut Session<L>, bod
         session.old (told_by session.new.table result) session.new }
 {
     match read_request(body) {
-        Some(Request::Describe(description)) => describe(session, &description),
-        Some(Request::Perform(performance)) => perform(session, &performance),
-        Some(Request::Release(number)) => release(session, number),
+        Some(SessionRequest::Describe(description)) => describe(session, &description),
+        Some(SessionRequest::Perform(performance)) => perform(session, &performance),
+        Some(SessionRequest::Release(number)) => release(session, number),
         None => Outcome::Refused(RequestRefusal::NoRequest),
     }
 }
@@ -90,18 +90,18 @@ pub(crate) fn outcome_of<L: GrowingLibrary + Drop>(session: &mut Session<L>, bod
 pub(crate) fn answer_by<L: GrowingLibrary + Drop>(
     session: &Session<L>,
     outcome: Outcome,
-) -> Answer<'_>
+) -> SessionAnswer<'_>
     ensures told { told_of result ≡ told_by session.now.table outcome }
     ensures short { length (record_told result) ≤ 4000 }
 {
     match outcome {
-        Outcome::Refused(refusal) => Answer::Refused(refusal),
-        Outcome::Done => Answer::Done,
+        Outcome::Refused(refusal) => SessionAnswer::Refused(refusal),
+        Outcome::Done => SessionAnswer::Done,
         Outcome::Performed {
             status,
             file,
             length,
-        } => Answer::Performed {
+        } => SessionAnswer::Performed {
             status,
             bytes: session.record(file, length),
         },

@@ -41,7 +41,7 @@ mod session;
 mod statement;
 mod whole_session;
 
-pub use answer::{ANSWER_LIMIT, Answer, HEAD_LIMIT, put_answer};
+pub use answer::{ANSWER_LIMIT, HEAD_LIMIT, SessionAnswer, put_answer};
 pub use answering::answer_request;
 pub use end::SessionEnd;
 pub use fault::ServeFault;
@@ -49,7 +49,7 @@ pub use file_description::{FileDescription, read_description};
 pub use input::{InputFailed, Next, read_frame};
 pub use laws::what_is_written_is_read;
 pub use lent_answer::{LentAnswer, answer_lent};
-pub use request::{LENGTH_LIMIT, Request, read_request};
+pub use request::{LENGTH_LIMIT, SessionRequest, read_request};
 pub use request_refusal::RequestRefusal;
 pub use serving::{close_all, serve};
 pub use session::{FreePlaces, Session};

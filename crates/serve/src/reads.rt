@@ -3,7 +3,7 @@ ghost use Rattle.std.specs.Prelude.{◌≡◌};
 ghost use Rattle.serve.specs.Reading.{request_in};
 ghost use Rattle.serve.specs.Reads.{is_reading, asks_to_read};
 
-use crate::request::{Request, read_request};
+use crate::request::{SessionRequest, read_request};
 use io_state::FileStatement;
 
 /// READ, READ NEXT and START.
@@ -27,7 +27,7 @@ pub fn only_reads(body: &[u8]) -> bool
     ensures { result ≡ asks_to_read (request_in body.now) }
 {
     match read_request(body) {
-        Some(Request::Perform(performance)) => is_reading(&performance.statement),
-        Some(Request::Describe(_) | Request::Release(_)) | None => false,
+        Some(SessionRequest::Perform(performance)) => is_reading(&performance.statement),
+        Some(SessionRequest::Describe(_) | SessionRequest::Release(_)) | None => false,
     }
 }

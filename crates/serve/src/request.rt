@@ -11,7 +11,7 @@ pub const LENGTH_LIMIT: usize = 8192;
 
 /// What is asked for.
 #[derive(Drop)]
-pub enum Request<'a> {
+pub enum SessionRequest<'a> {
     /// A number for a file.
     Describe(FileDescription<'a>),
     /// A verb.
@@ -21,13 +21,13 @@ pub enum Request<'a> {
 }
 
 /// What a frame without the two bytes of its length asks for. None where it is the frame of no request.
-pub fn read_request(body: &[u8]) -> Option<Request<'_>>
+pub fn read_request(body: &[u8]) -> Option<SessionRequest<'_>>
     ensures { option_map asked_of result ≡ request_in body.now }
 {
     match body {
-        [1, ..] => Some(Request::Describe(read_description(body)?)),
-        [2, ..] => Some(Request::Perform(read_performance(body)?)),
-        [3, file] => Some(Request::Release(*file)),
+        [1, ..] => Some(SessionRequest::Describe(read_description(body)?)),
+        [2, ..] => Some(SessionRequest::Perform(read_performance(body)?)),
+        [3, file] => Some(SessionRequest::Release(*file)),
         _ => None,
     }
 }

@@ -4,7 +4,7 @@ ghost use Rattle.serve.specs.Serving.{ServesInput, ClosesAndCounts, ServesAll, f
 ghost use Rattle.serve.specs.Answering.{outgoing, AnswersRead, AnswersOther, AnswersOne, Finishes};
 ghost use Rattle.serve.specs.Answering.{RefusesLength};
 
-use crate::answer::{ANSWER_LIMIT, Answer, put_answer};
+use crate::answer::{ANSWER_LIMIT, SessionAnswer, put_answer};
 use crate::answering::answer_request;
 use crate::end::SessionEnd;
 use crate::fault::ServeFault;
@@ -78,7 +78,7 @@ fn refuse_length<W: Write>(held: &mut HeldText, out: &mut W) -> Result<(), Serve
         return Err(ServeFault::Output);
     };
     let mut room = [0; ANSWER_LIMIT];
-    let size = put_answer(&mut room, &Answer::Refused(RequestRefusal::TooLong));
+    let size = put_answer(&mut room, &SessionAnswer::Refused(RequestRefusal::TooLong));
     match send_frames(out, &room[..size]) {
         Ok(()) => Ok(()),
         Err(_) => Err(ServeFault::Output),

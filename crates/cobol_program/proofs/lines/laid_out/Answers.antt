@@ -2,12 +2,12 @@ use Rattle.std.proofs.Common.{◌≡◌, ℕ, List, [], ◌∷◌, ◌++◌, tak
 use Rattle.std.proofs.lemmas.List.{map_more, flat_map_more}
 use Rattle.std.proofs.lemmas.List.Elements.{All-push}
 use Rattle.arrayvec.specs.declared.array_string.ArrayString.{ArrayString}
-use Rattle.cobol_program.specs.declared.form.Form.{Form}
+use Rattle.cobol_program.specs.declared.form.SourceForm.{SourceForm}
 use Rattle.cobol_program.specs.Layout.{laid, FitsLine}
 use Rattle.cobol_program.proofs.lines.laid_out.Goals as goal
 
 -- one line more, which fits
-with_line : (form : Form) (lines : List (List ℕ)) (line before after : List ℕ) → before ≡ flat_map (laid form) lines → All FitsLine lines → after ≡ before ++ laid form line → FitsLine line
+with_line : (form : SourceForm) (lines : List (List ℕ)) (line before after : List ℕ) → before ≡ flat_map (laid form) lines → All FitsLine lines → after ≡ before ++ laid form line → FitsLine line
     → (after ≡ flat_map (laid form) (lines ++ line ∷ [])) × All FitsLine (lines ++ line ∷ [])
 with_line form lines line before after told all is fits = (is ∙ ap (λ text. text ++ laid form line) told ∙ flat_map_more (laid form) [] lines line, All-push FitsLine lines line all fits)
 

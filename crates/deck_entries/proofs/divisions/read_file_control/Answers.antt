@@ -5,8 +5,8 @@ use Rattle.deck_parser.specs.Rule.{Rule, each_behind}
 use Rattle.deck_parser.specs.Notation.{the, period, ◌▸◌}
 use Rattle.deck_parser.specs.Reading.{Refuses, TellsStop}
 use Rattle.deck_parser.specs.Word.{Word}
-use Rattle.deck_parser.specs.declared.fault.Refusal.{Refusal}
-use Rattle.deck_parser.specs.declared.fault.Refusal.TheVariants.{Memory, Fault}
+use Rattle.deck_parser.specs.declared.fault.ParseRefusal.{ParseRefusal}
+use Rattle.deck_parser.specs.declared.fault.ParseRefusal.TheVariants.{Memory, Fault}
 use Rattle.deck_entries.specs.FileControlEntry.{FileControlEntry}
 use Rattle.deck_entries.specs.Divisions.{division_heading, identification_division, more_entry, file_control_paragraph}
 use Rattle.deck_entries.proofs.divisions.read_file_control.Goals as goal
@@ -14,14 +14,14 @@ use Rattle.deck_entries.proofs.divisions.read_file_control.Goals as goal
 -- ---- one rule after another
 
 -- the words are refused, where the rule stops
-abbrev AreRefused : {A : Type 0} → Rule A → List Word → Refusal → Type 0
+abbrev AreRefused : {A : Type 0} → Rule A → List Word → ParseRefusal → Type 0
 AreRefused p words refusal = Refuses (p.reads words) refusal × TellsStop (p.stops words) refusal
 
-first_refused : {A B : Type 0} (p : Rule A) (q : Rule B) (words : List Word) (refusal : Refusal) → AreRefused p words refusal → AreRefused (p ▸ q) words refusal
+first_refused : {A B : Type 0} (p : Rule A) (q : Rule B) (words : List Word) (refusal : ParseRefusal) → AreRefused p words refusal → AreRefused (p ▸ q) words refusal
 first_refused p q words Memory r = (tt, tt)
 first_refused p q words (Fault line place cause) r = rw (r.0) (refl, r.1)
 
-second_refused : {A B : Type 0} (p : Rule A) (q : Rule B) (words : List Word) (x : A) (middle : List Word) (refusal : Refusal) → p.reads words ≡ Some (x, middle) → AreRefused q middle refusal → AreRefused (p ▸ q) words refusal
+second_refused : {A B : Type 0} (p : Rule A) (q : Rule B) (words : List Word) (x : A) (middle : List Word) (refusal : ParseRefusal) → p.reads words ≡ Some (x, middle) → AreRefused q middle refusal → AreRefused (p ▸ q) words refusal
 second_refused p q words x middle Memory e r = (tt, tt)
 second_refused p q words x middle (Fault line place cause) e r = rw e (rw (r.0) refl, r.1)
 
@@ -48,7 +48,7 @@ environment = division_heading (codes "ENVIRONMENT") (codes "DIVISION")
 abbrev from_environment : Rule (List FileControlEntry)
 from_environment = environment ▸ from_input_output
 
-refused_behind : (words : List Word) (there : Option (Unit {0})) (middle : List Word) (refusal : Refusal) → identification_division.reads words ≡ Some (there, middle) → AreRefused from_environment middle refusal → AreRefused file_control_paragraph words refusal
+refused_behind : (words : List Word) (there : Option (Unit {0})) (middle : List Word) (refusal : ParseRefusal) → identification_division.reads words ≡ Some (there, middle) → AreRefused from_environment middle refusal → AreRefused file_control_paragraph words refusal
 unfolding file_control_paragraph
 refused_behind words there middle refusal e r = second_refused identification_division from_environment words there middle refusal e r
 

@@ -2,12 +2,12 @@ use Rattle.std.proofs.Common.{◌≡◌, ap, sym, subst}
 use Rattle.std.proofs.lemmas.Result.{err_from_is_err_and}
 use Rattle.deck_parser.specs.Fault.{IsFault, told}
 use Rattle.deck_parser.specs.declared.fault.DeckFault.{DeckFault}
-use Rattle.deck_parser.specs.declared.fault.Refusal.{Refusal}
-use Rattle.deck_parser.specs.declared.fault.Refusal.TheVariants.{Memory, Fault}
+use Rattle.deck_parser.specs.declared.fault.ParseRefusal.{ParseRefusal}
+use Rattle.deck_parser.specs.declared.fault.ParseRefusal.TheVariants.{Memory, Fault}
 use Rattle.deck_reader.specs.FirstFault.{IsProcedureFault}
 use Rattle.deck_reader.proofs.division.procedure.Goals as goal
 
-is_fault : (refusal : Refusal) (fault : DeckFault) → fault ≡ told refusal → (fault.code ≡ 8 → ⊥) → IsFault refusal
+is_fault : (refusal : ParseRefusal) (fault : DeckFault) → fault ≡ told refusal → (fault.code ≡ 8 → ⊥) → IsFault refusal
 is_fault Memory fault e other = absurd (other (ap (λ (f : DeckFault). f.code) e))
 is_fault (Fault line place cause) fault e other = tt
 

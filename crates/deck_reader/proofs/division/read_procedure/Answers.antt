@@ -4,8 +4,8 @@ use Rattle.deck_parser.proofs.RuleLemmas.{nothing_spelled, not_all_spelled}
 use Rattle.deck_parser.specs.Fault.{IsFault, told}
 use Rattle.deck_parser.specs.Rule.{Stop, stop_at, stop_behind}
 use Rattle.deck_parser.specs.Reading.{Refuses, TellsStop}
-use Rattle.deck_parser.specs.declared.fault.Refusal.{Refusal}
-use Rattle.deck_parser.specs.declared.fault.Refusal.TheVariants.{Memory, Fault}
+use Rattle.deck_parser.specs.declared.fault.ParseRefusal.{ParseRefusal}
+use Rattle.deck_parser.specs.declared.fault.ParseRefusal.TheVariants.{Memory, Fault}
 use Rattle.deck_parser.specs.Word.{Word}
 use Rattle.deck_reader.specs.Names.{Names}
 use Rattle.deck_reader.specs.FirstFault.{procedure_stop, IsProcedureFault}
@@ -14,12 +14,12 @@ use Rattle.deck_reader.specs.declared.placed.PlacedStatements.{PlacedStatements}
 use Rattle.deck_reader.proofs.ProcedureLemmas.{lawful_procedure, procedure_is_fit}
 use Rattle.deck_reader.proofs.division.read_procedure.Goals as goal
 
-none_read : {A : Type 0} (refusal : Refusal) (read : Option A) → Refuses read refusal → IsFault refusal → read ≡ None
+none_read : {A : Type 0} (refusal : ParseRefusal) (read : Option A) → Refuses read refusal → IsFault refusal → read ≡ None
 none_read Memory read r f = absurd f
 none_read (Fault line place cause) read r f = r
 
 -- what is told of a refusal where the reading stops
-fault_told : (names : Names) (words : List Word) (stop : Stop) (refusal : Refusal) → ((statements : PlacedStatements) → IsProcedure names words statements → ⊥) → procedure_stop names words ≡ stop → TellsStop stop refusal → IsFault refusal → IsProcedureFault names words (told refusal)
+fault_told : (names : Names) (words : List Word) (stop : Stop) (refusal : ParseRefusal) → ((statements : PlacedStatements) → IsProcedure names words statements → ⊥) → procedure_stop names words ≡ stop → TellsStop stop refusal → IsFault refusal → IsProcedureFault names words (told refusal)
 fault_told names words stop Memory none at tells f = absurd f
 fault_told names words stop (Fault line place cause) none at tells f =
     let here = subst (λ (s : Stop). TellsStop s (Fault line place cause)) (sym at) tells in record { none = none; line = here.0; code = here.1 }

@@ -13,7 +13,7 @@ use Rattle.deck_reader.specs.Names.{Names, item_named}
 use Rattle.deck_reader.specs.StatementRules.{receiver}
 use Rattle.deck_reader.proofs.ProcedureLemmas.{moved_to}
 use Rattle.deck_parser.specs.Rule.{stop_at}
-use Rattle.deck_parser.specs.declared.fault.Cause.TheVariants.{NotAllowed}
+use Rattle.deck_parser.specs.declared.fault.FaultCause.TheVariants.{NotAllowed}
 use Rattle.deck_parser.specs.declared.fault.NotAllowed.TheVariants.{Source as SourceRefused}
 use Rattle.deck_reader.proofs.JoinLemmas.{refused, told_there}
 use Rattle.deck_reader.proofs.moving.receiver.Goals as goal

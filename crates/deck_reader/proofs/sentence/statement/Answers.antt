@@ -6,7 +6,7 @@ use Rattle.deck_parser.specs.Rule.{Rule, Stop}
 use Rattle.deck_parser.specs.Notation.{◌∣◌}
 use Rattle.deck_parser.specs.Reading.{Reads, TellsStop}
 use Rattle.deck_parser.specs.Word.{Word}
-use Rattle.deck_parser.specs.declared.fault.Refusal.{Refusal}
+use Rattle.deck_parser.specs.declared.fault.ParseRefusal.{ParseRefusal}
 use Rattle.deck_reader.specs.declared.placed.PlacedStatements.{PlacedStatements}
 use Rattle.deck_reader.specs.Names.{Names}
 use Rattle.deck_reader.specs.Reading.{AddsStatements}
@@ -18,7 +18,7 @@ use Rattle.deck_reader.proofs.ProcedureLemmas.{open_starts, close_starts, move_s
 use Rattle.deck_reader.proofs.sentence.statement.Goals as goal
 
 -- what is read by another rule in the same way is added in the same way
-added : (p q : Rule PlacedStatements) (before : PlacedStatements) (words : List Word) (result : Result PlacedStatements Refusal) (rest : List Word) → Alike p q words → AddsStatements q before words result rest
+added : (p q : Rule PlacedStatements) (before : PlacedStatements) (words : List Word) (result : Result PlacedStatements ParseRefusal) (rest : List Word) → Alike p q words → AddsStatements q before words result rest
     → AddsStatements p before words result rest
 added p q before words result rest same adds = (
   subst (λ (read : Option (PlacedStatements × List Word)). Reads (option_and_then {U = PlacedStatements × List Word} (λ a. option_map {U = PlacedStatements × List Word} (λ y. (y, a.1)) (joined_statements before a.0)) read) result rest) (sym same.0) adds.0,

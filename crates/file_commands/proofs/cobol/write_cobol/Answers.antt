@@ -1,6 +1,6 @@
 use Rattle.std.proofs.Common.{rules, ◌≡◌, ℕ, List, string_bytes, subst}
 use Rattle.std.specs.Io.KnownBytes.{Appends}
-use Rattle.cobol_program.specs.declared.form.Form.{Form}
+use Rattle.cobol_program.specs.declared.form.SourceForm.{SourceForm}
 use Rattle.file_commands.specs.Listed.{form_of, IsDeckRefused, IsInCobol}
 use Rattle.folder_shelf.proofs.ReadingLemmas.{by_same}
 use Rattle.file_commands.proofs.ListLemmas.{if_ok, deck_not_read, deck_refused, deck_told}
@@ -20,7 +20,7 @@ pub returns : goal.returns
 returns g c =
     let text = string_bytes c.in-Ok-program_of.text in
     let same : c.deref.result.now ≡ text = search rules in
-    let in_form = subst (λ (form : Form). IsInCobol c.as_slice.result.now form text) c.form_of.ensures c.in-Ok-program_of.ensures.text in
+    let in_form = subst (λ (form : SourceForm). IsInCobol c.as_slice.result.now form text) c.form_of.ensures c.in-Ok-program_of.ensures.text in
     let in_cobol = subst (λ (bytes : List ℕ). IsInCobol bytes (form_of c.args.fixed) text) c.as_slice.ensures.value in_form in
     by_same _ _ c.in-Ok.ensures
     (λ calls read. deck_told c.write_text.result c.write_text.ensures.outcome

@@ -4,8 +4,8 @@ use Rattle.deck_parser.specs.Word.{Word}
 use Rattle.deck_parser.specs.Fault.{IsFault, told}
 use Rattle.deck_parser.specs.Rule.{Stop, stop_at, stop_behind}
 use Rattle.deck_parser.specs.Reading.{Refuses, TellsStop}
-use Rattle.deck_parser.specs.declared.fault.Refusal.{Refusal}
-use Rattle.deck_parser.specs.declared.fault.Refusal.TheVariants.{Memory, Fault}
+use Rattle.deck_parser.specs.declared.fault.ParseRefusal.{ParseRefusal}
+use Rattle.deck_parser.specs.declared.fault.ParseRefusal.TheVariants.{Memory, Fault}
 use Rattle.file_control.specs.declared.description.Description.{Description}
 use Rattle.deck_entries.specs.Divisions.{SpellsDivisions, reads_divisions, divisions_stop}
 use Rattle.deck_entries.specs.declared.divisions.Divisions.{Divisions}
@@ -17,7 +17,7 @@ use Rattle.deck_entries.proofs.DivisionRestLemmas.{rest_is}
 use Rattle.file_control.proofs.WholeLemmas.{reads_sound, no_divisions, not_ended, nothing_described, no_end, no_contents}
 use Rattle.file_control.proofs.description.describe.Goals as goal
 
-none_read : {A : Type 0} (refusal : Refusal) (read : Option A) → Refuses read refusal → IsFault refusal → read ≡ None
+none_read : {A : Type 0} (refusal : ParseRefusal) (read : Option A) → Refuses read refusal → IsFault refusal → read ≡ None
 none_read Memory read r f = absurd f
 none_read (Fault line place cause) read r f = r
 
@@ -26,7 +26,7 @@ stops_by : (words : List Word) (read : Option (Divisions × List Word)) → read
 stops_by words read e = ap (λ (o : Option (Divisions × List Word)). stop_behind o (divisions_stop words) (λ (r : Divisions × List Word). stop_at r.1 2)) e
 
 -- what is told of a refusal where the reading stops
-fault_told : (words : List Word) (stop : Stop) (refusal : Refusal) → ((divisions : Divisions) → HasDivisions words divisions → ⊥) → entries_stop words ≡ stop → TellsStop stop refusal → IsFault refusal → IsEntriesFault words (told refusal)
+fault_told : (words : List Word) (stop : Stop) (refusal : ParseRefusal) → ((divisions : Divisions) → HasDivisions words divisions → ⊥) → entries_stop words ≡ stop → TellsStop stop refusal → IsFault refusal → IsEntriesFault words (told refusal)
 fault_told words stop Memory none at tells f = absurd f
 fault_told words stop (Fault line place cause) none at tells f =
     let here = subst (λ (s : Stop). TellsStop s (Fault line place cause)) (sym at) tells in record { none = none; line = here.0; code = here.1 }

@@ -1,11 +1,11 @@
 -- The class of what is wanted at a word.
-use Rattle.deck_parser.specs.declared.wanted.Wanted.{Wanted}
-use Rattle.deck_parser.specs.declared.wanted.Wanted.TheVariants as wanted
+use Rattle.deck_parser.specs.declared.wanted.WantedWord.{WantedWord}
+use Rattle.deck_parser.specs.declared.wanted.WantedWord.TheVariants as wanted
 use Rattle.deck_parser.specs.declared.wanted.WantedClass.{WantedClass}
 use Rattle.deck_parser.specs.declared.wanted.WantedClass.TheVariants as class
 
 -- the class of what is wanted
-abbrev pub class_wanted : Wanted → WantedClass
+abbrev pub class_wanted : WantedWord → WantedClass
 class_wanted (wanted.Word text) = class.Word
 class_wanted (wanted.Sign text) = class.Sign
 class_wanted (wanted.Name of) = class.Name
