@@ -66,28 +66,34 @@ most_lines deck (UpToStop statements) = length statements
 most_lines deck (CloseOf u) = 1
 most_lines deck AllCloses = length deck.files.items
 
--- a part of a run, from a library, a deck in memory, the text that is held and the writer, to those
--- that it leaves. It keeps what every part keeps. Where it came to its end, lines came that are those
--- of its steps. Where the writer refused one, they are those of some of its steps
-pub record RunsPart {S W : Type 0} (shown : Shown S) (contents : W → Option (List ℕ)) (part : RunPart)
-    (library : S) (deck : RunningDeck) (held : List ℕ) (out : W)
-    (library_after : S) (deck_after : RunningDeck) (held_after : List ℕ) (out_after : W)
+-- a stage of a run: its library and its deck in memory, the text that is held, and what the writer
+-- has, if that is known
+pub record RunStage (S : Type 0) : Type 0 where
+  pub state : State S
+  pub held : List ℕ
+  pub written : Option (List ℕ)
+
+abbrev pub stage : {S : Type 0} → S → RunningDeck → (held : List ℕ) → (written : Option (List ℕ)) → RunStage S
+stage library deck held written = record { state = state library deck; held = held; written = written }
+
+-- a part of a run, from a stage to the one that it leaves. It keeps what every part keeps. Where it
+-- came to its end, lines came that are those of its steps. Where the writer refused one, they are
+-- those of some of its steps
+pub record RunsPart {S : Type 0} (shown : Shown S) (part : RunPart) (before after : RunStage S)
     (result : Result RunEnd Refused) : Type 0 where
-  pub goes : GoesOn shown (state library deck) (state library_after deck_after)
-  pub few : IfOk result (λ end. end.lines ≤ most_lines deck part)
-  pub done : IfOk result (λ end. Come (so_far (contents out) held) (so_far (contents out_after) held_after)
-      end (Leads shown (state library deck) (state library_after deck_after) (StepsOf shown part)))
-  pub refused : OnErr result (ComeInPart (so_far (contents out) held) (contents out_after)
-      (Leads shown (state library deck) (state library_after deck_after) (StepsBefore shown part)))
+  pub goes : GoesOn shown before.state after.state
+  pub few : IfOk result (λ end. end.lines ≤ most_lines before.state.deck part)
+  pub done : IfOk result (λ end. Come (so_far before.written before.held) (so_far after.written after.held)
+      end (Leads shown before.state after.state (StepsOf shown part)))
+  pub refused : OnErr result (ComeInPart (so_far before.written before.held) after.written
+      (Leads shown before.state after.state (StepsBefore shown part)))
 
 -- a whole run, which begins with no text held: the text of its lines was written, or of some of
 -- them, and then a proper front of one
-pub record RunsAll {S W : Type 0} (shown : Shown S) (contents : W → Option (List ℕ))
-    (statements : List Statement) (library : S) (deck : RunningDeck) (out : W)
-    (library_after : S) (deck_after : RunningDeck) (out_after : W)
+pub record RunsAll {S : Type 0} (shown : Shown S) (statements : List Statement) (before after : RunStage S)
     (result : Result RunEnd Refused) : Type 0 where
-  pub goes : GoesOn shown (state library deck) (state library_after deck_after)
-  pub done : IfOk result (λ end. TellsLines (contents out) (contents out_after) end
-      (Leads shown (state library deck) (state library_after deck_after) (IsRunOver shown statements)))
-  pub refused : OnErr result (ToldInPart (contents out) (contents out_after)
-      (Leads shown (state library deck) (state library_after deck_after) (IsBrokenOff shown statements)))
+  pub goes : GoesOn shown before.state after.state
+  pub done : IfOk result (λ end. TellsLines before.written after.written end
+      (Leads shown before.state after.state (IsRunOver shown statements)))
+  pub refused : OnErr result (ToldInPart before.written after.written
+      (Leads shown before.state after.state (IsBrokenOff shown statements)))

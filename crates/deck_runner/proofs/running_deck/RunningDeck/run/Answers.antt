@@ -15,7 +15,7 @@ returns-in_err-stopped g c =
     let next = state c.run_to_stop.new.library c.run_to_stop.new.self in
     let Part = AreStretchesInPart shown (until_stop c.args.statements.now) in
     let Off = IsBrokenOff shown c.args.statements.now in
-    all_refused shown g.W.Write.contents c.args.statements.now c.args.library.now _ c.args.self.now _ c.args.out.now _ c.from_residual.result (search rules) c.run_to_stop.ensures.goes
+    all_refused shown g.W.Write.contents c.args.statements.now c.args.library.now _ c.args.self.now _ c.args.held.now _ c.args.out.now _ c.from_residual.result (search rules) c.run_to_stop.ensures.goes
     (told_in_part _ _ _ c.requires.none_held (come_in_part_as _ _ _ _ c.in_err-stopped.ensures.refused (leads_as shown first next Part Off (λ lines p. inl p))))
 
 pub returns-in_err-closed : goal.returns-in_err-closed
@@ -28,7 +28,7 @@ returns-in_err-closed g c =
     let Off = IsBrokenOff shown c.args.statements.now in
     let goes = c.run_to_stop.ensures.goes in
     let more = c.close_all.ensures.goes in
-    all_refused shown g.W.Write.contents c.args.statements.now c.args.library.now _ c.args.self.now _ c.args.out.now _ c.from_residual-in_err-closed.result (search rules) (goes_then shown first stopped next goes more)
+    all_refused shown g.W.Write.contents c.args.statements.now c.args.library.now _ c.args.self.now _ c.args.held.now _ c.args.out.now _ c.from_residual-in_err-closed.result (search rules) (goes_then shown first stopped next goes more)
     (told_in_part _ _ _ c.requires.none_held
     (refused_then shown first stopped next _ _ _ c.in_ok-stopped.stopped Done (ClosesInPart shown) Off goes more
     c.in_ok-stopped.ensures.done c.in_err-closed.ensures.refused (λ xs ys p q. inr (point_in shown stopped, xs, ys, p, q, refl))))
@@ -44,7 +44,7 @@ returns-in_err-hand_over g c =
     let both = end_followed c.in_ok-stopped.stopped c.in_ok-closed.closed in
     let goes = c.run_to_stop.ensures.goes in
     let more = c.close_all.ensures.goes in
-    all_refused shown g.W.Write.contents c.args.statements.now c.args.library.now _ c.args.self.now _ c.args.out.now _ c.from_residual-in_err-hand_over.result (search rules) (goes_then shown first stopped next goes more)
+    all_refused shown g.W.Write.contents c.args.statements.now c.args.library.now _ c.args.self.now _ c.args.held.now _ c.args.out.now _ c.from_residual-in_err-hand_over.result (search rules) (goes_then shown first stopped next goes more)
     (told_in_part _ _ _ c.requires.none_held
     (held_then _ _ _ both _
     (done_then shown first stopped next _ _ _ c.in_ok-stopped.stopped c.in_ok-closed.closed both Done (ClosesFiles shown) Off goes more
