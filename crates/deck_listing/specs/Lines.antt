@@ -3,14 +3,11 @@ use Rattle.std.specs.Prelude.{ℕ, ◌==◌, ◌&&◌, ◌||◌, bytes_eq, Bool,
 use Rattle.std.specs.Prelude.{is_some, Option, Some, None, option_and_then, if◌then◌else◌}
 use Rattle.io_state.specs.declared.modes.Access.{Access}
 use Rattle.io_state.specs.declared.modes.Access.TheVariants.{Sequential, Random, Dynamic}
-use Rattle.io_state.specs.declared.modes.OpenMode.TheVariants.{Input, Output, InputOutput, Extend}
-use Rattle.io_state.specs.declared.statement.FileStatement.{FileStatement}
-use Rattle.io_state.specs.declared.statement.FileStatement.TheVariants.{Open, Close, ReadNext, Read, Start}
-use Rattle.io_state.specs.declared.statement.FileStatement.TheVariants.{Write, Rewrite, Delete}
 use Rattle.record_layout.specs.Layout.{Placed}
 use Rattle.record_layout.specs.declared.schema.KeyKind.{KeyKind}
 use Rattle.record_layout.specs.declared.schema.KeyKind.TheVariants.{Prime, Unique, Duplicates}
 use Rattle.record_layout.specs.declared.schema.KeyPart.{KeyPart}
+use Rattle.deck_reader.specs.VerbText.{verb_text}
 use Rattle.deck_listing.specs.Verbs.{NumberedVerb}
 
 -- ---- items
@@ -83,25 +80,11 @@ heading_with name file lengths access optional =
 
 -- ---- verbs and paragraphs
 
--- a verb as the transcript writes it
-abbrev pub listed_verb_text : FileStatement → List ℕ
-listed_verb_text (Open Input) = codes "OPEN INPUT"
-listed_verb_text (Open Output) = codes "OPEN OUTPUT"
-listed_verb_text (Open InputOutput) = codes "OPEN I-O"
-listed_verb_text (Open Extend) = codes "OPEN EXTEND"
-listed_verb_text (Close lock) = codes "CLOSE"
-listed_verb_text ReadNext = codes "READ NEXT"
-listed_verb_text (Read key) = codes "READ"
-listed_verb_text (Start key length relation) = codes "START"
-listed_verb_text Write = codes "WRITE"
-listed_verb_text Rewrite = codes "REWRITE"
-listed_verb_text Delete = codes "DELETE"
-
 -- a verb: its number, the line of the deck, and what it does to which file
 abbrev pub verb_line : ℕ → NumberedVerb → List ℕ
 verb_line line verb =
     codes "verb " ++ (decimal verb.number ++ (codes " line "
-    ++ (decimal line ++ (codes " " ++ (listed_verb_text verb.statement
+    ++ (decimal line ++ (codes " " ++ (verb_text verb.statement
     ++ (codes " " ++ (verb.file ++ codes "\n")))))))
 
 -- a paragraph has the name of a statement that other COBOLs have, and a deck has not

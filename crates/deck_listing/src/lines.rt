@@ -3,11 +3,11 @@ ghost use Rattle.std.specs.Prelude.{◌≡◌, ◌++◌, option_map, string_byte
 ghost use Rattle.record_layout.specs.Layout.{item_of};
 ghost use Rattle.deck_listing.specs.Lines.{name_or_filler, digits_word, item_line, key_kind, key_line};
 ghost use Rattle.deck_listing.specs.Lines.{access_word, optional_word, lengths_text, heading_with};
-ghost use Rattle.deck_listing.specs.Lines.{listed_verb_text};
 ghost use Rattle.deck_listing.specs.Lines.{verb_line, paragraph_note, paragraph_line};
 
 use crate::verbs::NumberedVerb;
-use io_state::{Access, FileStatement, Name, OpenMode};
+use deck_reader::verb_text;
+use io_state::{Access, Name};
 use record_layout::{KeyKind, KeyPart, Placed};
 use std::alloc::AllocError;
 
@@ -108,29 +108,6 @@ pub fn add_heading(
     let access = access_word(access);
     let optional = optional_word(optional);
     writeln!(text, " access {access}{optional}")
-}
-
-/// A verb as the transcript writes it.
-fn verb_text(statement: &FileStatement) -> &'static str
-    ensures { result.now ≡ listed_verb_text statement.now }
-{
-    match statement {
-        FileStatement::Open(OpenMode::Input) => "OPEN INPUT",
-        FileStatement::Open(OpenMode::Output) => "OPEN OUTPUT",
-        FileStatement::Open(OpenMode::InputOutput) => "OPEN I-O",
-        FileStatement::Open(OpenMode::Extend) => "OPEN EXTEND",
-        FileStatement::Close { lock: _ } => "CLOSE",
-        FileStatement::ReadNext => "READ NEXT",
-        FileStatement::Read { key: _ } => "READ",
-        FileStatement::Start {
-            key: _,
-            length: _,
-            relation: _,
-        } => "START",
-        FileStatement::Write => "WRITE",
-        FileStatement::Rewrite => "REWRITE",
-        FileStatement::Delete => "DELETE",
-    }
 }
 
 /// Adds the line of a verb that stands in this line of the deck.

@@ -1,3 +1,4 @@
+pub mod VerbText
 pub mod Names
 pub mod Named
 pub mod Places

@@ -27,6 +27,7 @@ mod starting;
 mod statement;
 mod statement_list;
 mod writing;
+mod written_verb;
 
 pub use deck::{Deck, no_words_are_two_decks, one_deck, read_deck, read_deck_told};
 pub use division::{
@@ -38,3 +39,4 @@ pub use places::{Paragraph, StatementPlaces};
 pub use refusal::DeckRefusal;
 pub use statement::Statement;
 pub use statement_list::StatementList;
+pub use written_verb::verb_text;

@@ -9,7 +9,7 @@ use std::io::Write;
 use streams::{HeldText, Refused};
 
 /// Whether a statement leaves all files as they are: READ and START.
-fn only_reads(statement: &FileStatement) -> bool
+pub fn only_reads(statement: &FileStatement) -> bool
     ensures { result ≡ only_reads statement.now }
 {
     matches!(

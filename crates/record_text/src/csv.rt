@@ -7,8 +7,9 @@ ghost use Rattle.record_text.specs.Lines.{more_values, more_names};
 ghost use Rattle.record_text.specs.Room.{AddsInRoom};
 
 use crate::column::{Column, cell_of};
-use crate::shown::{escape_of, is_plain};
+use crate::shown::escape_of;
 use crate::text::{add, add_char};
+use deck_runner::is_plain;
 use std::alloc::AllocError;
 
 /// Adds a byte to a field.

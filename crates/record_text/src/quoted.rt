@@ -4,8 +4,8 @@ ghost use Rattle.record_text.specs.Quoted.{LacksFront, ReadsByte};
 ghost use Rattle.record_text.specs.declared.quoted.Quoting.TheVariants.{Doubled, Escaped};
 
 use crate::passed::passed;
-use crate::shown::is_plain;
 use crate::shown_byte::{ShownByte, first_byte};
+use deck_runner::is_plain;
 
 /// How the characters of a value stand in quotes.
 #[derive(Clone, Copy, Debug, PartialEq, Eq)]

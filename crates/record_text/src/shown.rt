@@ -1,33 +1,19 @@
 //! Bytes as the transcript shows them.
-ghost use Rattle.std.specs.Prelude.{◌≡◌, ◌≤◌, false};
-ghost use Rattle.deck_runner.specs.Line.{hex_digit, is_plain, shown_byte};
+ghost use Rattle.std.specs.Prelude.{◌≡◌, false};
+ghost use Rattle.deck_runner.specs.Line.{is_plain, shown_byte};
 ghost use Rattle.record_text.specs.Columns.{text_of};
 ghost use Rattle.record_text.specs.Room.{AddsInRoom};
 
 use crate::text::{add, add_char};
+use deck_runner::{hex_digit, is_plain};
 use std::alloc::AllocError;
-
-/// A hexadecimal digit, in lower case.
-fn digit(n: u8) -> u8
-    requires { n ≤ 15 }
-    ensures { result ≡ hex_digit n }
-{
-    if n < 10 { b'0' + n } else { 87 + n }
-}
-
-/// Whether a byte stands as itself.
-pub fn is_plain(byte: u8) -> bool
-    ensures { result ≡ is_plain byte }
-{
-    byte > 31 && byte < 127 && byte != b'\\'
-}
 
 /// A byte that does not stand as itself, as it is shown: a backslash and two digits.
 pub fn escape_of(byte: u8) -> [u8; 3]
     requires { is_plain byte ≡ false }
     ensures { result ≡ shown_byte byte }
 {
-    [b'\\', digit(byte / 16), digit(byte % 16)]
+    [b'\\', hex_digit(byte / 16), hex_digit(byte % 16)]
 }
 
 /// Adds a byte as it is shown.

@@ -3,7 +3,7 @@ ghost use Rattle.std.specs.Prelude.{◌≡◌, ◌<◌, ◌≤◌, ◌/◌, ◌%
 ghost use Rattle.deck_runner.specs.Line.{hex_digit, shown_byte};
 ghost use Rattle.record_text.specs.Quoted.{ShowsFirst};
 
-use crate::shown::is_plain;
+use deck_runner::is_plain;
 
 /// A byte at the front of a text, and how many bytes of the text show it.
 #[derive(Clone, Copy, Debug, PartialEq, Eq)]

@@ -1,26 +1,14 @@
 -- Requests that only read. All of this is ours.
 use Rattle.std.specs.Prelude.{Bool, true, false, List, ℕ, Option, Some, None, IsTrue}
-use Rattle.io_state.specs.declared.statement.FileStatement.{FileStatement}
-use Rattle.io_state.specs.declared.statement.FileStatement.TheVariants.{Open, Close, ReadNext, Read, Start}
-use Rattle.io_state.specs.declared.statement.FileStatement.TheVariants.{Write, Rewrite, Delete}
+use Rattle.deck_runner.specs.Reads.{only_reads}
 use Rattle.serve.specs.Request.{Asked, Describing, Performing, Releasing}
 use Rattle.serve.specs.Reading.{request_in}
 
--- READ, READ NEXT and START
-abbrev pub is_reading : FileStatement → Bool
-is_reading (Open mode) = false
-is_reading (Close lock) = false
-is_reading ReadNext = true
-is_reading (Read key) = true
-is_reading (Start key length relation) = true
-is_reading Write = false
-is_reading Rewrite = false
-is_reading Delete = false
-
+-- a request for a statement that only reads: READ, READ NEXT or START
 abbrev pub asks_to_read : Option Asked → Bool
 asks_to_read None = false
 asks_to_read (Some (Describing d)) = false
-asks_to_read (Some (Performing p)) = is_reading p.statement
+asks_to_read (Some (Performing p)) = only_reads p.statement
 asks_to_read (Some (Releasing number)) = false
 
 -- the body is that of a request for one of these

@@ -1,33 +1,17 @@
 //! Requests that only read.
 ghost use Rattle.std.specs.Prelude.{◌≡◌};
 ghost use Rattle.serve.specs.Reading.{request_in};
-ghost use Rattle.serve.specs.Reads.{is_reading, asks_to_read};
+ghost use Rattle.serve.specs.Reads.{asks_to_read};
 
 use crate::request::{SessionRequest, read_request};
-use io_state::FileStatement;
+use deck_runner::only_reads;
 
-/// READ, READ NEXT and START.
-fn is_reading(statement: &FileStatement) -> bool
-    ensures { result ≡ is_reading statement.now }
-{
-    matches!(
-        statement,
-        FileStatement::ReadNext
-            | FileStatement::Read { key: _ }
-            | FileStatement::Start {
-                key: _,
-                length: _,
-                relation: _,
-            }
-    )
-}
-
-/// Whether the body of a frame asks for one of these, which leave all files as they are.
-pub fn only_reads(body: &[u8]) -> bool
+/// Whether the body of a frame asks for READ, READ NEXT or START, which leave all files as they are.
+pub fn asks_only_to_read(body: &[u8]) -> bool
     ensures { result ≡ asks_to_read (request_in body.now) }
 {
     match read_request(body) {
-        Some(SessionRequest::Perform(performance)) => is_reading(&performance.statement),
+        Some(SessionRequest::Perform(performance)) => only_reads(&performance.statement),
         Some(SessionRequest::Describe(_) | SessionRequest::Release(_)) | None => false,
     }
 }

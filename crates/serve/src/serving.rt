@@ -11,7 +11,7 @@ use crate::fault::ServeFault;
 use crate::held_answers::{make_way, send_held};
 use crate::input::{Next, read_frame};
 use crate::output::send_frames;
-use crate::reads::only_reads;
+use crate::reads::asks_only_to_read;
 use crate::request::LENGTH_LIMIT;
 use crate::request_refusal::RequestRefusal;
 use crate::session::{FreePlaces, Session};
@@ -63,7 +63,7 @@ fn answer<L: GrowingLibrary + Drop, W: Write>(
     ensures { AnswersOne L.shown L.keeps_open W.contents body.now
         session.old session.new held.old held.new out.old out.new result }
 {
-    if only_reads(body) {
+    if asks_only_to_read(body) {
         answer_read(session, body, held, out)
     } else {
         answer_other(session, body, held, out)
