@@ -7,7 +7,7 @@
 //! gave which it made of the system, all of them reads. A file of records is read as long as no run
 //! changes it.
 //!
-//! What they read before they act is in `command_inputs`. Read `verdict` first, then `listing`.
+//! What they read before they act is in `command_support`. Read `verdict` first, then `listing`.
 #![tactic(auto)]
 
 mod by_index;

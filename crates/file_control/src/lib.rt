@@ -7,7 +7,7 @@
 //!
 //! Read `specs/Description.antt` for the files, `specs/Whole.antt` for the whole description and
 //! `specs/Described.antt` for what is true of it, and then `description`. The grammar of the
-//! entries is in `deck_entries`, the words are in `deck_words`.
+//! entries is in `deck_entries`, the words are in `deck_parser`.
 #![tactic(auto)]
 
 mod data_names;
