@@ -22,7 +22,7 @@ padded_some (Csv columns) most line bytes says =
     omega (arith, is, long)
 padded_some (Json columns) most line bytes says = let long = ap (λ (l : List ℕ). length l) says.line_is in omega (arith, long)
 
-begins_some : (pad : Bool) (form : Form) (greatest : ℕ) (text bytes behind : List ℕ) → BeginsWith pad form greatest text bytes behind → 1 + length behind ≤ length text
+pub begins_some : (pad : Bool) (form : Form) (greatest : ℕ) (text bytes behind : List ℕ) → BeginsWith pad form greatest text bytes behind → 1 + length behind ≤ length text
 begins_some false form greatest text bytes behind is =
     let long = ap (λ (l : List ℕ). length l) is in
     let both = length-append (line_in form bytes) behind in

@@ -14,3 +14,8 @@ mod MistakeLemmas
 mod ReadingLemmas
 mod LineWrittenLemmas
 pub mod KeptLemmas
+mod RisingWriteLemmas
+mod BuiltLoadLemmas
+mod AgainLemmas
+mod LineRecordLemmas
+mod TriedLemmas

@@ -12,6 +12,8 @@ use Rattle.shelf_library.specs.Crashes.{IsSoundImage, MayReadAs}
 use Rattle.shelf_library.specs.MomentLaws.{EachRead}
 use Rattle.shelf_run.specs.Soundness.{AllSound}
 use Rattle.shelf_run.specs.ShelfRun.{LeavesFiles}
+use Rattle.record_loading.specs.BuiltLoad.{TriesToBuild}
+use Rattle.record_loading.specs.declared.built_load.BuildTry.TheVariants.{Unmade}
 use Rattle.record_loading.specs.Loading.{Listing}
 use Rattle.record_loading.specs.declared.end.Load.TheVariants.{New}
 use Rattle.record_loading.specs.declared.shelf_end.ShelfEnd.{ShelfEnd}
@@ -44,6 +46,15 @@ module _ (old new : ShelfState) (same : new.file ≡ old.file) where
     no_false_file = λ honest all other sound. throughout_none IsSoundImage (old.file other) (new.file other) (ap (λ (file : List ℕ → DeviceFile). (file other).log) same) sound;
   }
 
+-- no file was begun
+pub none_tried : (old new : ShelfState) → new.file ≡ old.file → (IsTrue new.is_honest → IsTrue old.is_honest) → (name : List ℕ) (schema : Schema) (list : Listing) → TriesToBuild name schema list old new Unmade
+none_tried old new same before name schema list = record {
+  ends = λ honest absent. tt;
+  unmade = same;
+  others = others_same old new same name;
+  safe = safe_same old new same before name;
+}
+
 -- something was done behind such calls
 module _ (first then last : ShelfState) (same : then.file ≡ first.file) where
   pub left_from : LeavesFiles then last → LeavesFiles first last
@@ -74,13 +85,26 @@ module _ (first then last : ShelfState) (same : then.file ≡ first.file) where
         (subst (λ (file : List ℕ → DeviceFile). AllSound (file other)) (sym same) sound));
   }
 
+  -- what was told of the name by then
+  pub absent_then : (name : List ℕ) (there : Bool) → there ≡ false → (IsTrue then.is_honest → there ≡ is_some (first.file name).seen) → IsTrue then.is_honest → (then.file name).seen ≡ None
+  absent_then name there lacks tells honest =
+      ap (λ (file : List ℕ → DeviceFile). (file name).seen) same ∙ none_there (first.file name).seen (sym lacks ∙ tells honest)
+
   -- where the name had no file, what was loaded was loaded into a new one
-  pub anew : (name : List ℕ) (schema : Schema) (list : Listing) (there : Bool) → there ≡ false → (IsTrue then.is_honest → there ≡ is_some (first.file name).seen)
-      → (IsTrue last.is_honest → IsTrue then.is_honest) → (end : ShelfEnd) → EndsAnyhow name schema New list then end last → EndsLoad name schema New list first end last
-  anew name schema list there lacks tells before IsThere is = absurd is
-  anew name schema list there lacks tells before (Loaded end) is = λ honest.
-      let absent : (first.file name).seen ≡ None = none_there (first.file name).seen (sym lacks ∙ tells (before honest)) in
-      record {
-        absent = absent;
-        leaves = is honest Absent (ap (λ (file : List ℕ → DeviceFile). (file name).seen) same ∙ absent);
-      }
+  pub anew : (name : List ℕ) (schema : Schema) (list : Listing) → (IsTrue last.is_honest → (first.file name).seen ≡ None) → (end : ShelfEnd) → EndsAnyhow name schema New list then end last → EndsLoad name schema New list first end last
+  anew name schema list absent IsThere is = absurd is
+  anew name schema list absent (Loaded end) is = λ honest. record {
+    absent = absent honest;
+    leaves = is honest Absent (ap (λ (file : List ℕ → DeviceFile). (file name).seen) same ∙ absent honest);
+  }
+
+  -- so a load of a new file ended, whose name stood for the same before
+  pub ends_from : (name : List ℕ) (schema : Schema) (list : Listing) (end : ShelfEnd) → EndsLoad name schema New list then end last → EndsLoad name schema New list first end last
+  ends_from name schema list IsThere is = (is.0, record {
+    there = λ honest. subst (λ (file : List ℕ → DeviceFile). IsTrue (is_some (file name).seen)) same (is.1.there honest);
+    same = is.1.same ∙ same;
+  })
+  ends_from name schema list (Loaded end) is = λ honest. let loads = is honest in record {
+    absent = sym (ap (λ (file : List ℕ → DeviceFile). (file name).seen) same) ∙ loads.absent;
+    leaves = loads.leaves;
+  }

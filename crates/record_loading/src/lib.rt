@@ -28,10 +28,13 @@
 #![tactic(auto)]
 
 mod answer;
+mod built_load;
 mod end;
+mod given_records;
 mod keeping;
 mod kept_load;
 mod line_file;
+mod line_records;
 mod loading;
 mod mistake_line;
 mod new_file;

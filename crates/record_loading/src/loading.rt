@@ -23,7 +23,7 @@ use streams::Progress;
 use verbs::Connector;
 
 /// A record area of spaces.
-fn blank_area(alloc: Global, size: u16) -> Result<Vec<u8>, AllocError>
+pub fn blank_area(alloc: Global, size: u16) -> Result<Vec<u8>, AllocError>
     ensures { IfOk result (λ area. area.items ≡ replicate size 32) }
 {
     let mut area = Vec::new(alloc);
@@ -32,7 +32,7 @@ fn blank_area(alloc: Global, size: u16) -> Result<Vec<u8>, AllocError>
 }
 
 /// What stands before the first record of a text in a form.
-fn header_of(alloc: Global, form: &Form) -> Result<Vec<u8>, AllocError>
+pub fn header_of(alloc: Global, form: &Form) -> Result<Vec<u8>, AllocError>
     ensures { IfOk result (λ header. header.items ≡ form_header form.now) }
 {
     let mut header = Vec::new(alloc);

@@ -1,9 +1,12 @@
 //! The loading.
-ghost use Rattle.std.specs.Prelude.{◌≡◌, ◌≤◌, [], IsTrue, IfOk, OnOk, OnErr, ⊤};
+ghost use Rattle.std.specs.Prelude.{◌≡◌, ◌≤◌, [], IsTrue, None, IfOk, OnOk, OnErr, ⊤};
 ghost use Rattle.record_text.specs.Whole.{IsWholeForm};
 ghost use Rattle.record_loading.specs.Loading.{listing, text_source};
+ghost use Rattle.shelf_run.specs.Files.{reads_of};
 ghost use Rattle.record_loading.specs.Loaded.{EndsLoad, LoadsInto, LoadsTold, LoadsAnyhow, TellsIfThere};
+ghost use Rattle.record_loading.specs.BuiltLoad.{LoadsAgain};
 
+use crate::built_load::{BuildTry, build_load, end_after_try};
 use crate::end::Load;
 use crate::loading::load_records;
 use crate::options::LoadOptions;
@@ -69,6 +72,94 @@ fn load_over<S: Shelf, P: Progress, R: RejectLog>(
     (library.into_shelf(), end_of(end))
 }
 
+/// Loads records into a new file that was begun by a try to build it, and is refused.
+fn load_again<S: Shelf, P: Progress, R: RejectLog>(
+    alloc: Global,
+    shelf: S,
+    name: FileName,
+    schema: &Schema,
+    form: &Form,
+    options: LoadOptions,
+    text: &[u8],
+    limit: u32,
+    frames: NonZeroUsize,
+    rejects: &mut R,
+    progress: &mut P,
+) -> (S, ShelfEnd)
+    requires names { (S.state shelf).names ≡ [] }
+    requires limit { 16 ≤ limit }
+    requires whole { IsWholeForm form.now schema.now.greatest }
+    ensures { LoadsAgain R.tells rejects.old rejects.new name.bytes schema.now
+        (text_source form.now text.now options) (S.state shelf) (S.state result.0) result.1 }
+{
+    let (shelf, end) = load_over(
+        alloc,
+        shelf,
+        name,
+        schema,
+        Load::New,
+        form,
+        options,
+        text,
+        limit,
+        frames,
+        rejects,
+        progress,
+    );
+    (shelf, end_after_try(end))
+}
+
+/// Loads records into a new file, where the name has none: the file is built where it can be, or is written
+/// record by record.
+fn load_absent<S: Shelf, P: Progress, R: RejectLog>(
+    alloc: Global,
+    shelf: S,
+    name: FileName,
+    schema: &Schema,
+    form: &Form,
+    options: LoadOptions,
+    text: &[u8],
+    limit: u32,
+    frames: NonZeroUsize,
+    rejects: &mut R,
+    progress: &mut P,
+) -> (S, Result<ShelfEnd, ShelfFault>)
+    requires names { (S.state shelf).names ≡ [] }
+    requires limit { 16 ≤ limit }
+    requires whole { IsWholeForm form.now schema.now.greatest }
+    requires absent { IsTrue (S.state shelf).is_honest → reads_of (S.state shelf) name.bytes ≡ None }
+    ensures untold { OnErr result.1 (rejects.new ≡ rejects.old) }
+    ensures loads { LoadsTold R.tells rejects.old rejects.new name.bytes schema.now Load.New
+        (text_source form.now text.now options) (S.state shelf) (S.state result.0) result.1 }
+{
+    let mut shelf = shelf;
+    match build_load(
+        alloc, &mut shelf, name, schema, form, options, text, limit, frames, progress,
+    ) {
+        BuildTry::Ended(end) => (shelf, Ok(ShelfEnd::Loaded(end))),
+        BuildTry::Begun => {
+            let (shelf, end) = load_again(
+                alloc, shelf, name, schema, form, options, text, limit, frames, rejects, progress,
+            );
+            (shelf, Ok(end))
+        }
+        BuildTry::Unmade => load_over(
+            alloc,
+            shelf,
+            name,
+            schema,
+            Load::New,
+            form,
+            options,
+            text,
+            limit,
+            frames,
+            rejects,
+            progress,
+        ),
+    }
+}
+
 /// Loads records into a new file, where the name has none.
 fn load_new<S: Shelf, P: Progress, R: RejectLog>(
     alloc: Global,
@@ -92,19 +183,8 @@ fn load_new<S: Shelf, P: Progress, R: RejectLog>(
     let mut shelf = shelf;
     match is_there(&mut shelf, name) {
         Ok(true) => (shelf, Ok(ShelfEnd::IsThere)),
-        Ok(false) => load_over(
-            alloc,
-            shelf,
-            name,
-            schema,
-            Load::New,
-            form,
-            options,
-            text,
-            limit,
-            frames,
-            rejects,
-            progress,
+        Ok(false) => load_absent(
+            alloc, shelf, name, schema, form, options, text, limit, frames, rejects, progress,
         ),
         Err(fault) => (shelf, Err(fault_by(fault))),
     }
@@ -203,6 +283,7 @@ pub fn load_on_shelf<S: Shelf, P: Progress>(
         keep_going: false,
         replace: false,
         pad: false,
+        memory: 0,
     };
     load_lines_on_shelf(
         alloc,

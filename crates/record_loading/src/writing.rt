@@ -36,7 +36,7 @@ pub enum PassedLine<'a> {
 }
 
 /// Tells how many bytes of a text are done, of which this is the rest.
-fn tell_progress<P: Progress>(progress: &mut P, text: &[u8], rest: &[u8]) {
+pub fn tell_progress<P: Progress>(progress: &mut P, text: &[u8], rest: &[u8]) {
     let done = text.len().saturating_sub(rest.len());
     progress.at(done as u64, text.len() as u64);
 }
