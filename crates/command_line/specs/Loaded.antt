@@ -55,6 +55,7 @@ options_of lines = record {
   keep_going = lines.keep_going;
   replace = lines.replace;
   pad = lines.pad;
+  memory = 268435456;
 }
 
 -- a text in a form, of which these lines are to be loaded

@@ -50,6 +50,9 @@ fn load_of(into: bool) -> Load
     if into { Load::Into } else { Load::New }
 }
 
+/// How many bytes may be held for the entries of a new file.
+const ENTRY_BYTES: usize = 256 << 20;
+
 /// Which lines the words ask for.
 pub fn options_of(lines: LineOptions) -> LoadOptions
     ensures { result ≡ options_of lines }
@@ -59,6 +62,7 @@ pub fn options_of(lines: LineOptions) -> LoadOptions
         keep_going: lines.keep_going,
         replace: lines.replace,
         pad: lines.pad,
+        memory: ENTRY_BYTES,
     }
 }
 

@@ -3,9 +3,9 @@ use Rattle.std.proofs.Common.{◌≡◌, ◌≤◌, ◌+◌, ◌⊎◌, ℕ, suc
 use Rattle.io_state.specs.declared.fault.Fault.{Fault}
 use Rattle.io_state.specs.declared.fault.Fault.TheVariants.{Memory, Device, Full, Damage, Broken}
 use Rattle.record_layout.specs.Schema.{Schema}
-use Rattle.indexed_file.specs.File.{File}
+use Rattle.indexed_file.specs.File.{File, empty_file}
 use Rattle.page_store.specs.DeviceFile.{DeviceFile, content}
-use Rattle.page_store.specs.Gate.{AllRefused, WasOrRefused}
+use Rattle.page_store.specs.Gate.{AllRefused, WasOrRefused, SameOrRefused}
 use Rattle.page_store.specs.Images.{Leaves}
 use Rattle.page_store.specs.Moments.{Throughout}
 use Rattle.page_store.specs.ShelfState.{ShelfState, KeepsOthers, unit_file}
@@ -21,16 +21,16 @@ use Rattle.shelf_library.specs.FileOpening.{counted_shelf}
 use Rattle.shelf_library.specs.Shelves.{ClosedFileOrRefused}
 use Rattle.tree_building.specs.Fresh.{IsBuildCause}
 use Rattle.file_building.specs.declared.built_end.FileBuilt.{FileBuilt}
-use Rattle.file_building.specs.declared.built_end.FileBuilt.TheVariants.{Closed, OutOfOrder, Clash}
+use Rattle.file_building.specs.declared.built_end.FileBuilt.TheVariants.{Closed, Unclosed, OutOfOrder, Clash}
 use Rattle.file_building.specs.declared.built_parts.BuiltParts.{BuiltParts}
 use Rattle.file_building.specs.declared.built_parts.BuiltParts.TheVariants.{File as Parts, OutOfOrder as PartsStopped, Clash as PartsClashed}
 use Rattle.file_building.specs.declared.file_parts.FileParts.{FileParts}
 use Rattle.file_building.specs.BuiltParts.{CanBuildParts, BuildsOnPages, EndsParts, ArePartsOf, AreBuiltPartsOf}
-use Rattle.file_building.specs.BuiltUnit.{file_of_records, IsBuiltRefused, EndsBuilt, BuildsOnShelf}
-use Rattle.file_building.specs.Closing.{ClosesWithCount, EndsCounted}
+use Rattle.file_building.specs.BuiltUnit.{file_of_records, IsBuiltRefused, EndsBuilt, WhereAllTaken, BuildsOnShelf}
+use Rattle.file_building.specs.Closing.{ClosesWithCount, HasCounted, EndsCounted}
 use Rattle.file_building.specs.Filling.{IsBlank, IsFullFile}
 use Rattle.file_building.specs.NewFile.{IsOldOrWhole, ReadsOldOrWhole}
-use Rattle.file_building.specs.Written.{RecordsRise, rows_with_stamps}
+use Rattle.file_building.specs.Written.{AreAccepted, RecordsRise, rows_with_stamps}
 use Rattle.file_building.proofs.CopyLemmas.{filled_images, filled_refused}
 use Rattle.file_building.proofs.MoveLemmas.{none_counted, made_fault}
 use Rattle.file_building.proofs.WrittenLemmas.{file_of}
@@ -59,6 +59,17 @@ kept_reads : (old new : DeviceFile) (schema : Schema) (file : File) → Leaves n
 kept_reads old new schema file leaves (inl same) = inl same
 kept_reads old new schema file leaves (inr refused) = inl (inr (refused new.seen leaves))
 
+kept_left : (old new : DeviceFile) → Leaves new new.seen → IsKeptOrRefused old new → SameOrRefused old new
+kept_left old new leaves (inl same) = same
+kept_left old new leaves (inr refused) = inr (refused new.seen leaves)
+
+-- where all records were taken
+pub where_taken : (fact : Type 0) (end : FileBuilt) → fact → WhereAllTaken fact end
+where_taken fact (Closed count) is = is
+where_taken fact (Unclosed count) is = is
+where_taken fact OutOfOrder is = tt
+where_taken fact Clash is = tt
+
 -- a cause of a later step
 later_cause : (rose rose_later full full_later : Type 0) (fault : Fault) → (rose → rose_later) → (full → full_later) → IsBuildCause rose full fault → IsBuildCause rose_later full_later fault
 later_cause rose rose_later full full_later fault means more is = record {
@@ -66,6 +77,20 @@ later_cause rose rose_later full full_later fault means more is = record {
   full = λ e. more (is.full e);
   not_broken = is.not_broken;
 }
+
+-- what is told of it
+module _ (schema : Schema) (given : List (List ℕ)) (before after : DeviceFile) (accepted : AreAccepted schema given empty_file) (rise : RecordsRise schema given)
+    (reads : ClosedFileOrRefused schema (file_of_records schema given) after.seen) (law : Leaves after after.seen) where
+  counted_so : (end : FileBuilt) → HasCounted schema (file_of_records schema given) after end → EndsBuilt schema given before after end
+  counted_so (Closed count) is = record {
+    accepted = accepted;
+    settled = is.0;
+    closed = (content after, is.0 after.seen law, is.1);
+    count_is = is.2 ∙ file_many schema given rise;
+  }
+  counted_so (Unclosed count) is = record { accepted = accepted; reads = reads; count_is = is ∙ file_many schema given rise }
+  counted_so OutOfOrder is = absurd is
+  counted_so Clash is = absurd is
 
 -- pages were made for the new file
 module _ (unit limit : ℕ) (schema : Schema) (given : List (List ℕ)) (a : PagedFile) (s0 s1 : ShelfState) (k0 k1 : ℕ)
@@ -109,6 +134,7 @@ module _ (unit limit : ℕ) (schema : Schema) (given : List (List ℕ)) (a : Pag
       ends = ends;
       images = whole_images;
       reads = λ honest. inl (inr (refused_by honest (unit_file s2 unit).seen (law honest)));
+      left = λ honest. tt;
       others = others_by;
       count = let more = fills.count in omega (arith, count);
       cause = tt;
@@ -137,6 +163,7 @@ module _ (unit limit : ℕ) (schema : Schema) (given : List (List ℕ)) (a : Pag
     ends = λ honest. tt;
     images = whole_images s2 k2 (Err fault) fills;
     reads = λ honest. inl (inr (refused_by s2 k2 (Err fault) fills honest (unit_file s2 unit).seen (law honest)));
+    left = λ honest. inr (refused_by s2 k2 (Err fault) fills honest (unit_file s2 unit).seen (law honest));
     others = others_by s2 k2 (Err fault) fills;
     count = let more = fills.count in omega (arith, count);
     cause = later_cause _ _ _ _ fault (λ rose. failed_after k0 k1 k2 count rose)
@@ -146,7 +173,7 @@ module _ (unit limit : ℕ) (schema : Schema) (given : List (List ℕ)) (a : Pag
 
   -- they were, and the file was closed
   module _ (s2 s3 : ShelfState) (k2 k3 : ℕ) (found : BuiltParts) (parts : FileParts) (found_is : found ≡ Parts parts)
-      (fills : BuildsOnPages a schema given (counted_shelf s1 k1) (counted_shelf s2 k2) (Ok found)) (result : Result ℕ Fault)
+      (fills : BuildsOnPages a schema given (counted_shelf s1 k1) (counted_shelf s2 k2) (Ok found)) (result : FileBuilt)
       (closes : ClosesWithCount parts (counted_shelf s2 k2) (counted_shelf s3 k3) result) (law : IsTrue s3.is_honest → Leaves (unit_file s3 unit) (unit_file s3 unit).seen) where
     of : ArePartsOf schema (unit_of_pages a) s2 parts
     of = subst (AreBuiltPartsOf schema (unit_of_pages a) s2) found_is fills.made
@@ -178,39 +205,22 @@ module _ (unit limit : ℕ) (schema : Schema) (given : List (List ℕ)) (a : Pag
     others_to = others_then unit s0 s2 s3 (others_by s2 k2 (Ok found) fills) later
 
   pub built_whole : (s2 s3 : ShelfState) (k2 k3 : ℕ) (found : BuiltParts) (parts : FileParts) → (found_is : found ≡ Parts parts)
-      → (fills : BuildsOnPages a schema given (counted_shelf s1 k1) (counted_shelf s2 k2) (Ok found)) (many : ℕ)
-      → (closes : ClosesWithCount parts (counted_shelf s2 k2) (counted_shelf s3 k3) (Ok many)) → (law : IsTrue s3.is_honest → Leaves (unit_file s3 unit) (unit_file s3 unit).seen)
-      → BuildsOnShelf unit limit schema given (counted_shelf s0 k0) (counted_shelf s3 k3) (Ok (Closed many))
-  built_whole s2 s3 k2 k3 found parts found_is fills many closes law = record {
+      → (fills : BuildsOnPages a schema given (counted_shelf s1 k1) (counted_shelf s2 k2) (Ok found)) (end : FileBuilt)
+      → (closes : ClosesWithCount parts (counted_shelf s2 k2) (counted_shelf s3 k3) end) → (law : IsTrue s3.is_honest → Leaves (unit_file s3 unit) (unit_file s3 unit).seen)
+      → BuildsOnShelf unit limit schema given (counted_shelf s0 k0) (counted_shelf s3 k3) (Ok end)
+  built_whole s2 s3 k2 k3 found parts found_is fills end closes law = record {
     ends = λ honest.
-        let is = ended s2 s3 k2 k3 found parts found_is fills (Ok many) closes law honest in
-        let all = built s2 s3 k2 k3 found parts found_is fills (Ok many) closes law honest in
-        record {
-          accepted = all.1;
-          settled = is.settled;
-          closed = (content (unit_file s3 unit), is.settled (unit_file s3 unit).seen (law honest), is.closed);
-          count_is = is.counted ∙ file_many schema given all.0;
-        };
-    images = images_to s2 s3 k2 k3 found parts found_is fills (Ok many) closes law;
-    reads = reads_to s2 s3 k2 k3 found parts found_is fills (Ok many) closes law;
-    others = others_to s2 s3 k2 k3 found parts found_is fills (Ok many) closes law;
+        let is = ended s2 s3 k2 k3 found parts found_is fills end closes law honest in
+        let all = built s2 s3 k2 k3 found parts found_is fills end closes law honest in
+        counted_so schema given (unit_file s0 unit) (unit_file s3 unit) all.1 all.0
+        (throughout_last (ClosedFileOrRefused schema file) (unit_file s2 unit) (unit_file s3 unit) is.images (unit_file s3 unit).seen (law honest)) (law honest) end is.ends;
+    images = images_to s2 s3 k2 k3 found parts found_is fills end closes law;
+    reads = reads_to s2 s3 k2 k3 found parts found_is fills end closes law;
+    left = λ honest. tt;
+    others = others_to s2 s3 k2 k3 found parts found_is fills end closes law;
     count = let more = fills.count in let most = closes.count in omega (arith, count);
     cause = tt;
     no_damage = λ honest. tt;
-  }
-
-  pub not_closed : (s2 s3 : ShelfState) (k2 k3 : ℕ) (found : BuiltParts) (parts : FileParts) → (found_is : found ≡ Parts parts)
-      → (fills : BuildsOnPages a schema given (counted_shelf s1 k1) (counted_shelf s2 k2) (Ok found)) (fault : Fault)
-      → (closes : ClosesWithCount parts (counted_shelf s2 k2) (counted_shelf s3 k3) (Err fault)) → (law : IsTrue s3.is_honest → Leaves (unit_file s3 unit) (unit_file s3 unit).seen)
-      → BuildsOnShelf unit limit schema given (counted_shelf s0 k0) (counted_shelf s3 k3) (Err fault)
-  not_closed s2 s3 k2 k3 found parts found_is fills fault closes law = record {
-    ends = λ honest. tt;
-    images = images_to s2 s3 k2 k3 found parts found_is fills (Err fault) closes law;
-    reads = reads_to s2 s3 k2 k3 found parts found_is fills (Err fault) closes law;
-    others = others_to s2 s3 k2 k3 found parts found_is fills (Err fault) closes law;
-    count = let more = fills.count in let most = closes.count in omega (arith, count);
-    cause = later_cause _ _ _ _ fault (λ rose. let more = fills.count in failed_after k0 k2 k3 (omega (arith, count)) rose) (λ never. absurd never) closes.cause;
-    no_damage = λ honest. closes.no_damage;
   }
 
 -- no page was made
@@ -227,6 +237,7 @@ not_made state count unit limit schema given before after fault law makes =
       ends = λ honest. tt;
       images = λ honest. throughout_weaker (WasOrRefused old) (IsOldOrWhole old schema file) old new (was_weaker old schema file) (makes.images honest);
       reads = λ honest. kept_reads old new schema file (law honest) (makes.failed honest);
+      left = λ honest. kept_left old new (law honest) (makes.failed honest);
       others = makes.others;
       count = makes.no_fewer;
       cause = record { device = why.0; full = λ e. absurd (no_full why.1 e); not_broken = no_broken why.1 };

@@ -1,11 +1,11 @@
 -- A new file of a shelf that is built from records, and what a call leaves that builds it.
-use Rattle.std.specs.Prelude.{◌≡◌, ◌≢◌, ◌≤◌, ℕ, List, length, IsTrue, Result, IfOk, IfErr, ⊤}
+use Rattle.std.specs.Prelude.{◌≡◌, ◌≢◌, ◌⊎◌, ◌≤◌, ℕ, List, length, IsTrue, Result, IfOk, IfErr, ⊤}
 use Rattle.io_state.specs.declared.fault.Fault.{Fault}
 use Rattle.io_state.specs.declared.fault.Fault.TheVariants.{Damage}
 use Rattle.record_layout.specs.Schema.{Schema}
 use Rattle.indexed_file.specs.File.{File, empty_file}
 use Rattle.page_store.specs.DeviceFile.{DeviceFile}
-use Rattle.page_store.specs.Gate.{AllRefused, IsRefused, WasOrRefused}
+use Rattle.page_store.specs.Gate.{AllRefused, IsRefused, WasOrRefused, SameOrRefused}
 use Rattle.page_store.specs.Images.{IsSettled}
 use Rattle.page_store.specs.Moments.{Throughout}
 use Rattle.page_store.specs.ShelfState.{ShelfState, KeepsOthers, unit_file}
@@ -13,7 +13,7 @@ use Rattle.page_alloc.specs.Joining.{FaultsRose}
 use Rattle.shelf_library.specs.FileOpening.{CountedShelf, counted_shelf}
 use Rattle.tree_building.specs.Fresh.{IsBuildCause}
 use Rattle.file_building.specs.declared.built_end.FileBuilt.{FileBuilt}
-use Rattle.file_building.specs.declared.built_end.FileBuilt.TheVariants.{Closed, OutOfOrder, Clash}
+use Rattle.file_building.specs.declared.built_end.FileBuilt.TheVariants.{Closed, Unclosed, OutOfOrder, Clash}
 use Rattle.file_building.specs.Filling.{IsFullFile}
 use Rattle.file_building.specs.NewFile.{IsClosedFor, IsOldOrWhole, ReadsOldOrWhole}
 use Rattle.file_building.specs.Written.{with_all_added, AreAccepted, RecordsRise}
@@ -30,6 +30,12 @@ pub record IsBuiltWhole (schema : Schema) (records : List (List ℕ)) (count : �
   pub closed : IsClosedFor schema (file_of_records schema records) new.seen
   pub count_is : count ≡ length records
 
+-- so, where its closing failed: it is that closed file, or a refused one
+pub record IsBuiltUnclosed (schema : Schema) (records : List (List ℕ)) (count : ℕ) (new : DeviceFile) : Type 0 where
+  pub accepted : AreAccepted schema records empty_file
+  pub reads : IsRefused new.seen ⊎ IsClosedFor schema (file_of_records schema records) new.seen
+  pub count_is : count ≡ length records
+
 -- the file is there and refused, at each crash from now on too; and at each moment a crash left what
 -- it could leave before, or a refused file
 pub record IsBuiltRefused (old new : DeviceFile) : Type 0 where
@@ -41,6 +47,7 @@ pub record IsBuiltRefused (old new : DeviceFile) : Type 0 where
 -- clashed with those before it
 abbrev pub EndsBuilt : Schema → List (List ℕ) → (old new : DeviceFile) → FileBuilt → Type 0
 EndsBuilt schema records old new (Closed count) = IsBuiltWhole schema records count new
+EndsBuilt schema records old new (Unclosed count) = IsBuiltUnclosed schema records count new
 EndsBuilt schema records old new OutOfOrder = (RecordsRise schema records → ⊥) × IsBuiltRefused old new
 EndsBuilt schema records old new Clash =
     (AreAccepted schema records empty_file → ⊥) × IsBuiltRefused old new
@@ -48,6 +55,7 @@ EndsBuilt schema records old new Clash =
 -- where all records were taken, this is so
 abbrev pub WhereAllTaken : Type 0 → FileBuilt → Type 0
 WhereAllTaken fact (Closed count) = fact
+WhereAllTaken fact (Unclosed count) = fact
 WhereAllTaken fact OutOfOrder = ⊤
 WhereAllTaken fact Clash = ⊤
 
@@ -64,6 +72,8 @@ pub record BuildsOnShelf (unit limit : ℕ) (schema : Schema) (records : List (L
       (unit_file old.shelf unit) (unit_file new.shelf unit)
   pub reads : IsTrue new.shelf.is_honest → ReadsOldOrWhole (unit_file old.shelf unit)
       (unit_file new.shelf unit) schema (file_of_records schema records)
+  pub left : IsTrue new.shelf.is_honest
+      → IfErr result (λ fault. SameOrRefused (unit_file old.shelf unit) (unit_file new.shelf unit))
   pub others : KeepsOthers unit old.shelf new.shelf
   pub count : old.faults ≤ new.faults
   pub cause : IfErr result (IsBuildCause (FaultsRose old.faults new.faults) (IsFullFile unit limit new.shelf))

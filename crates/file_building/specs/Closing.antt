@@ -16,6 +16,8 @@ use Rattle.shelf_library.specs.FileOpening.{CountedShelf, counted_shelf}
 use Rattle.shelf_library.specs.Shelves.{ClosedFileOrRefused}
 use Rattle.shelf_library.specs.Standing.{IsReady, StandsFor}
 use Rattle.tree_building.specs.Fresh.{IsBuildCause}
+use Rattle.file_building.specs.declared.built_end.FileBuilt.{FileBuilt}
+use Rattle.file_building.specs.declared.built_end.FileBuilt.TheVariants.{Closed, Unclosed, OutOfOrder, Clash}
 use Rattle.file_building.specs.declared.file_parts.FileParts.{FileParts}
 use Rattle.file_building.specs.Parts.{joined_file, HavePages}
 use Rattle.file_building.specs.declared.fault.Copied.{Copied}
@@ -53,24 +55,26 @@ pub record ClosesNew (parts : FileParts) (old new : CountedShelf) (result : Resu
   pub count : old.faults ≤ new.faults
   pub cause : IfErr result (IsClosingCause (FaultsRose old.faults new.faults))
 
--- at each moment a crash leaves the file closed or refused; at the end it is closed, and so many rows are
--- told as it has
-pub record EndsCounted (schema : Schema) (file : File) (old new : DeviceFile) (result : Result ℕ Fault)
-    : Type 0 where
+-- the file has so many records, and is closed and settled, or its closing failed
+abbrev pub HasCounted : Schema → File → DeviceFile → FileBuilt → Type 0
+HasCounted schema file new (Closed count) =
+    IsSettled new × AreClosed schema file (content new) × (count ≡ length file.rows)
+HasCounted schema file new (Unclosed count) = count ≡ length file.rows
+HasCounted schema file new OutOfOrder = ⊥
+HasCounted schema file new Clash = ⊥
+
+-- so, where at each moment a crash leaves the file closed or refused
+pub record EndsCounted (schema : Schema) (file : File) (old new : DeviceFile) (built : FileBuilt) : Type 0 where
   pub images : Throughout (ClosedFileOrRefused schema file) old new
-  pub settled : OnOk result (IsSettled new)
-  pub closed : OnOk result (AreClosed schema file (content new))
-  pub counted : IfOk result (λ count. count ≡ length file.rows)
+  pub ends : HasCounted schema file new built
 
 -- a call that closes a file, and tells how many records it has
-pub record ClosesWithCount (parts : FileParts) (old new : CountedShelf) (result : Result ℕ Fault) : Type 0 where
+pub record ClosesWithCount (parts : FileParts) (old new : CountedShelf) (built : FileBuilt) : Type 0 where
   pub closes : IsTrue new.shelf.is_honest → (file : File) → StandsFor (joined_file parts) old.shelf file
       → EndsCounted (file_schema parts.file) file (unit_file old.shelf (unit_of_pages parts.pages))
-      (unit_file new.shelf (unit_of_pages parts.pages)) result
+      (unit_file new.shelf (unit_of_pages parts.pages)) built
   pub others : KeepsOthers (unit_of_pages parts.pages) old.shelf new.shelf
   pub count : old.faults ≤ new.faults
-  pub cause : IfErr result (IsBuildCause (FaultsRose old.faults new.faults) ⊥)
-  pub no_damage : IfErr result (λ fault. fault ≢ Damage)
 
 -- the same, of shelves that show this state and count their faults so
 module _ {H : Type 0} (state : H → ShelfState) (count : H → ℕ) where
@@ -78,6 +82,6 @@ module _ {H : Type 0} (state : H → ShelfState) (count : H → ℕ) where
   ClosesCopy parts old new result = ClosesNew parts (counted_shelf (state old) (count old))
       (counted_shelf (state new) (count new)) result
 
-  abbrev pub ClosesToCount : FileParts → H → H → Result ℕ Fault → Type 0
+  abbrev pub ClosesToCount : FileParts → H → H → FileBuilt → Type 0
   ClosesToCount parts old new result = ClosesWithCount parts (counted_shelf (state old) (count old))
       (counted_shelf (state new) (count new)) result

@@ -21,9 +21,9 @@ use std::num::NonZeroUsize;
 /// held in memory. For each record as many bytes are held as the shortest one has, and 40 more; at most
 /// `memory` in all.
 ///
-/// The file is refused until all of it is written. `OutOfOrder`, `Clash`: it is left so. Device; Full;
-/// Memory, also where `memory` is too few bytes: the file is as it was or refused then, or it is whole
-/// where its closing failed.
+/// The file is refused until all of it is written. `OutOfOrder`, `Clash`: it is left so. `Unclosed`: it is
+/// refused, or whole and closed. Device; Full; Memory, also where `memory` is too few bytes: the file is as
+/// it was or refused then.
 pub fn build_closed<S: Shelf, R: RecordSource>(
     alloc: Global,
     shelf: &mut S,
@@ -47,10 +47,7 @@ pub fn build_closed<S: Shelf, R: RecordSource>(
         Err(fault) => return Err(fault),
     };
     match build_parts(alloc, shelf, pages, schema, records, memory) {
-        Ok(BuiltParts::File(parts)) => match close_counted(shelf, parts) {
-            Ok(records) => Ok(FileBuilt::Closed { records }),
-            Err(fault) => Err(fault),
-        },
+        Ok(BuiltParts::File(parts)) => Ok(close_counted(shelf, parts)),
         Ok(BuiltParts::OutOfOrder) => Ok(FileBuilt::OutOfOrder),
         Ok(BuiltParts::Clash) => Ok(FileBuilt::Clash),
         Err(fault) => Err(fault),

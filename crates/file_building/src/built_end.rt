@@ -5,6 +5,8 @@
 pub enum FileBuilt {
     /// The file has them all, so many, and is closed.
     Closed { records: u64 },
+    /// The file has them all, so many, and its closing failed: it is refused, or closed.
+    Unclosed { records: u64 },
     /// The prime value of the last one does not come after that of the one before it. The file is
     /// refused.
     OutOfOrder,

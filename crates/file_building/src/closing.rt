@@ -2,9 +2,9 @@
 
 ghost use Rattle.file_building.specs.Closing.{IsReadyParts, ClosesCopy, ClosesToCount};
 
+use crate::built_end::FileBuilt;
 use crate::fault::{Copied, CopyingFault};
 use crate::file_parts::FileParts;
-use io_state::Fault;
 use page_store::Shelf;
 
 /// Closes the new file, and tells what it has.
@@ -24,14 +24,14 @@ pub fn close_copy<T: Shelf>(shelf: &mut T, parts: FileParts) -> Result<Copied, C
 }
 
 /// Closes the new file, and tells how many records it has.
-pub fn close_counted<T: Shelf>(shelf: &mut T, parts: FileParts) -> Result<u64, Fault>
+pub fn close_counted<T: Shelf>(shelf: &mut T, parts: FileParts) -> FileBuilt
     requires { IsReadyParts parts (T.state shelf.old) }
     ensures { ClosesToCount T.state T.fault_count parts shelf.old shelf.new result }
 {
     let mut parts = parts;
     let records = parts.file.prime().count();
     match parts.close(shelf) {
-        Ok(()) => Ok(records),
-        Err(fault) => Err(fault),
+        Ok(()) => FileBuilt::Closed { records },
+        Err(_) => FileBuilt::Unclosed { records },
     }
 }

@@ -71,20 +71,22 @@ module _ (schema : Schema) (source : LoadSource) (start : FileState) where
       → BeginsWithRecords schema (lines_form source) text records rest → AreAccepted schema records file
       → IsPassedUpTo schema source start (place_after text count (new_with schema file area))
       → (area_now : List ℕ) × IsPassedUpTo schema source start (place_after rest (count + length records) (new_with schema (with_all_added schema records file) area_now))
-  all_written [] text rest count file area begins accepted so_far =
-      (area, subst (λ (l : List ℕ). IsPassedUpTo schema source start (place_after l (count + 0) (new_with schema file area))) (sym begins)
-      (subst (λ (n : ℕ). IsPassedUpTo schema source start (place_after text n (new_with schema file area))) (omega arith) so_far))
+  all_written [] text rest count file area begins accepted so_far = (
+    area,
+    subst (λ (l : List ℕ). IsPassedUpTo schema source start (place_after l (count + 0) (new_with schema file area))) (sym begins)
+        (subst (λ (n : ℕ). IsPassedUpTo schema source start (place_after text n (new_with schema file area))) (omega arith) so_far),
+  )
   all_written (bytes ∷ records) text rest count file area (after, begins, can_be, more) (first, others) so_far =
       let area_now = bytes ++ drop (length bytes) area in
       let now = new_with schema (added schema bytes file) area_now in
       let one = one_written schema source start (place_after text count (new_with schema file area)) (place_after after (count + 1) now) so_far
-          (record {
-            bytes = bytes;
-            begins = begins;
-            can_be = can_be;
-            success = write_succeeds schema file area bytes can_be.length_is first;
-            file = sym (write_adds schema file area bytes can_be.length_is first);
-          }) refl refl refl in
+      (record {
+        bytes = bytes;
+        begins = begins;
+        can_be = can_be;
+        success = write_succeeds schema file area bytes can_be.length_is first;
+        file = sym (write_adds schema file area bytes can_be.length_is first);
+      }) refl refl refl in
       let all = all_written records after rest (count + 1) (added schema bytes file) area_now more others one in
       let many : count + 1 + length records ≡ count + length (bytes ∷ records) = omega arith in
       (all.0, subst (λ (n : ℕ). IsPassedUpTo schema source start (place_after rest n (new_with schema (with_all_added schema records (added schema bytes file)) all.0))) many all.1)

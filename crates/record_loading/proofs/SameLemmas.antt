@@ -100,10 +100,13 @@ module _ (first then last : ShelfState) (same : then.file ≡ first.file) where
 
   -- so a load of a new file ended, whose name stood for the same before
   pub ends_from : (name : List ℕ) (schema : Schema) (list : Listing) (end : ShelfEnd) → EndsLoad name schema New list then end last → EndsLoad name schema New list first end last
-  ends_from name schema list IsThere is = (is.0, record {
-    there = λ honest. subst (λ (file : List ℕ → DeviceFile). IsTrue (is_some (file name).seen)) same (is.1.there honest);
-    same = is.1.same ∙ same;
-  })
+  ends_from name schema list IsThere is = (
+    is.0,
+    record {
+      there = λ honest. subst (λ (file : List ℕ → DeviceFile). IsTrue (is_some (file name).seen)) same (is.1.there honest);
+      same = is.1.same ∙ same;
+    },
+  )
   ends_from name schema list (Loaded end) is = λ honest. let loads = is honest in record {
     absent = sym (ap (λ (file : List ℕ → DeviceFile). (file name).seen) same) ∙ loads.absent;
     leaves = loads.leaves;

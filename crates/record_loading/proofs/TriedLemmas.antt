@@ -149,10 +149,13 @@ module _ (schema : Schema) (form : Form) (text : List ℕ) (options : LoadOption
 
 -- ---- a try
 
-counts : (a b : ℕ) (s t : Status) → Some (a, s) ≡ Some (b, t) → a ≡ b
+abbrev told_so : ℕ → Status → Option (ℕ × Status)
+told_so count status = Some (count, status)
+
+counts : (a b : ℕ) (s t : Status) → told_so a s ≡ told_so b t → a ≡ b
 counts a b s t same = ap (λ (told : Option (ℕ × Status)). (unwrap_or told (0, Successful)).0) same
 
-answers_so : (a b : ℕ) (s t : Status) → Some (a, s) ≡ Some (b, t) → s ≡ t
+answers_so : (a b : ℕ) (s t : Status) → told_so a s ≡ told_so b t → s ≡ t
 answers_so a b s t same = ap (λ (told : Option (ℕ × Status)). (unwrap_or told (0, Successful)).1) same
 
 module _ (limit : ℕ) (schema : Schema) (form : Form) (text : List ℕ) (options : LoadOptions) (given : List (List ℕ)) (old new : CountedShelf) (built : Result FileBuilt Fault)

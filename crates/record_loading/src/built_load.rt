@@ -55,12 +55,7 @@ fn number_after(form: &Form, skip: u64, records: u64) -> u64
 }
 
 /// How lines ended of which so many gave a record, and of which the next has this mistake, if one was met.
-fn end_of_lines(
-    form: &Form,
-    skip: u64,
-    records: u64,
-    mistake: Option<LineMistake>,
-) -> LinesEnd
+fn end_of_lines(form: &Form, skip: u64, records: u64, mistake: Option<LineMistake>) -> LinesEnd
     ensures { IsLinesEnd form.now skip records mistake result }
 {
     match mistake {

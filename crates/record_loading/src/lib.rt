@@ -10,10 +10,11 @@
 //!
 //! `load_lines_on_shelf` joins this to the library of files in pages, and `load_on_shelf` is the same where no
 //! line is skipped, and the first that is rejected ends the load. A new file is made only where its name
-//! has none: a load never replaces a file. What is promised is said of the files of the shelf alone:
-//! what a read gives of them before the load and after it, and what a crash may leave of them in
-//! between. `add_answer` makes the lines that tell of a load, and `write_mistake` the line that tells
-//! what is wrong with a line that is no record's.
+//! has none: a load never replaces a file. It is built from the lines where their records rise, and else
+//! written record by record: what is told and left is the same. What is promised is said of the files of
+//! the shelf alone: what a read gives of them before the load and after it, and what a crash may leave of
+//! them in between. `add_answer` makes the lines that tell of a load, and `write_mistake` the line that
+//! tells what is wrong with a line that is no record's.
 //!
 //! `RejectedLines` is the log of a load: it writes what is told of a line to one writer, as far as that
 //! takes it, and the bytes of the line into a file, if one is asked for. The file is made new, and what
@@ -24,7 +25,8 @@
 //!
 //! Read `record_text` for a line, `specs/Passing.antt` for what comes of a line, `specs/Loading.antt`
 //! for what is promised, and then `loading`; `specs/Loaded.antt`, `specs/Answer.antt` and `shelf_load`
-//! for files of a shelf; `specs/Kept.antt`, then `keeping`, `rejected_lines` and `kept_load`.
+//! for files of a shelf; `specs/BuiltLoad.antt`, `specs/LineRecords.antt`, then `built_load` and
+//! `line_records`; `specs/Kept.antt`, then `keeping`, `rejected_lines` and `load_keeping`.
 #![tactic(auto)]
 
 mod answer;

@@ -85,10 +85,20 @@ impl<'a, P: Progress> RecordSource for LineRecords<'a, P> {
     ghost has_ended = { λ lines. lines.mistake ≡ None → lines.rest.now ≡ [] };
 
     ghost reads_on = { λ a b. ReadsLinesOn
-        (record { schema = a.schema.now; form = line_form a.form.now a.options; given = a.given.records;
-        rest = a.rest.now; mistake = a.mistake })
-        (record { schema = b.schema.now; form = line_form b.form.now b.options; given = b.given.records;
-        rest = b.rest.now; mistake = b.mistake }) };
+        (record {
+          schema = a.schema.now;
+          form = line_form a.form.now a.options;
+          given = a.given.records;
+          rest = a.rest.now;
+          mistake = a.mistake;
+        })
+        (record {
+          schema = b.schema.now;
+          form = line_form b.form.now b.options;
+          given = b.given.records;
+          rest = b.rest.now;
+          mistake = b.mistake;
+        }) };
 
     ghost reads_nothing = { λ a. reads_no_line _ };
 

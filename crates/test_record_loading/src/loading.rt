@@ -73,12 +73,13 @@ impl RejectLog for RejectedLines {
     }
 }
 
-/// A load that skips no line, and ends at the first that it cannot take.
+/// A load that skips no line, ends at the first that it cannot take, and may build a new file.
 pub const USUAL: LoadOptions = LoadOptions {
     skip: 0,
     keep_going: false,
     replace: false,
     pad: false,
+    memory: 1 << 20,
 };
 
 /// What is told of a load over a shelf, whose units are forgotten.

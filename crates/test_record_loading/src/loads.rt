@@ -287,3 +287,47 @@ fn nothing_is_replaced_in_a_new_file(rt: HostRuntime) {
     let answer = "line 2: status 22\n";
     gives_by(&rt, rt.alloc(), REPLACE, text, answer, "[0001AA]\n");
 }
+
+// Texts whose records rise, or do not at the second line or the last, or clash, or end at a line of no record.
+const OF_NEW_FILES: [[&str; 3]; 7] = [
+    ["", "loaded 0\n", ""],
+    [
+        "[0001AA]\n[0002BB]\n[0003CC]\n",
+        "loaded 3\n",
+        "[0001AA]\n[0002BB]\n[0003CC]\n",
+    ],
+    [
+        "[0002BB]\n[0001AA]\n[0003CC]\n",
+        "loaded 3\n",
+        "[0001AA]\n[0002BB]\n[0003CC]\n",
+    ],
+    [
+        "[0001AA]\n[0003CC]\n[0002BB]\n",
+        "loaded 3\n",
+        "[0001AA]\n[0002BB]\n[0003CC]\n",
+    ],
+    ["[0001AA]\n[0002AA]\n", "line 2: status 22\n", "[0001AA]\n"],
+    [
+        "[0001AA]\n[0002BB]\n[0002CC]\n",
+        "line 3: status 22\n",
+        BEFORE_IN_ORDER,
+    ],
+    [
+        "[0001AA]\n0002BB]\n[0003CC]\n",
+        "line 2: no record of this file\nline 2: no [ at its beginning\n",
+        "[0001AA]\n",
+    ],
+];
+
+// No memory for entries, too little for two records, and enough.
+const MEMORIES: [usize; 3] = [0, 60, 1 << 20];
+
+#[test]
+fn a_new_file_is_the_same_whether_or_not_it_is_built(rt: HostRuntime) {
+    for &memory in &MEMORIES {
+        for &[text, answer, list] in &OF_NEW_FILES {
+            let options = LoadOptions { memory, ..USUAL };
+            gives_by(&rt, rt.alloc(), options, text, answer, list);
+        }
+    }
+}

@@ -1,5 +1,8 @@
+use Rattle.std.proofs.Common.{subst}
 use Rattle.page_store.specs.ShelfState.{unit_name}
-use Rattle.file_building.proofs.BuiltUnitLemmas.{built_stopped, built_clashed, built_whole, not_built, not_closed, not_made}
+use Rattle.file_building.specs.BuiltParts.{WhereParts}
+use Rattle.file_building.specs.declared.built_parts.BuiltParts.{BuiltParts}
+use Rattle.file_building.proofs.BuiltUnitLemmas.{built_stopped, built_clashed, built_whole, not_built, not_made, where_taken}
 use Rattle.file_building.proofs.building.build_closed.Goals as goal
 
 pub returns-in-Err-clause-builds : goal.returns-in-Err-clause-builds
@@ -8,8 +11,8 @@ returns-in-Err-clause-builds g c =
     not_made g.S.Shelf.state g.S.Shelf.fault_count c.args.unit c.args.limit c.args.schema.now (g.R.RecordSource.given c.args.records.now)
     c.args.shelf.now after c.in-Err.fault (g.met.S.Shelf.reads_an_image after (unit_name (g.S.Shelf.state after) c.args.unit)) c.in-Err.ensures.opens
 
-pub returns-in-Ok-close_counted-clause-builds : goal.returns-in-Ok-close_counted-clause-builds
-returns-in-Ok-close_counted-clause-builds g c =
+pub returns-in-Ok-File-clause-builds : goal.returns-in-Ok-File-clause-builds
+returns-in-Ok-File-clause-builds g c =
     let state = g.S.Shelf.state in
     let faults = g.S.Shelf.fault_count in
     let opens = c.in-Ok.ensures.opens in
@@ -20,21 +23,12 @@ returns-in-Ok-close_counted-clause-builds g c =
     built_whole c.args.unit c.args.limit c.args.schema.now given c.in-Ok.pages (state c.args.shelf.now) (state c.create.new.shelf) (faults c.args.shelf.now) (faults c.create.new.shelf)
     c.in-Ok.ensures.made c.in-Ok.ensures.ready opens.images opens.others opens.no_fewer
     (state mid) (state late) (faults mid) (faults late) c.in-Ok-File.field-0 c.in-Ok-File.parts c.in-Ok-File.field-0-is c.in-Ok-File.ensures.builds
-    c.in-Ok-close_counted.records c.in-Ok-close_counted.ensures law
+    c.close_counted.result c.close_counted.ensures law
 
-pub returns-in-Err-close_counted-clause-builds : goal.returns-in-Err-close_counted-clause-builds
-returns-in-Err-close_counted-clause-builds g c =
-    let state = g.S.Shelf.state in
-    let faults = g.S.Shelf.fault_count in
-    let opens = c.in-Ok.ensures.opens in
-    let given = g.R.RecordSource.given c.build_parts.new.records in
-    let mid = c.build_parts.new.shelf in
-    let late = c.close_counted.new.shelf in
-    let law = g.met.S.Shelf.reads_an_image late (unit_name (state late) c.args.unit) in
-    not_closed c.args.unit c.args.limit c.args.schema.now given c.in-Ok.pages (state c.args.shelf.now) (state c.create.new.shelf) (faults c.args.shelf.now) (faults c.create.new.shelf)
-    c.in-Ok.ensures.made c.in-Ok.ensures.ready opens.images opens.others opens.no_fewer
-    (state mid) (state late) (faults mid) (faults late) c.in-Ok-File.field-0 c.in-Ok-File.parts c.in-Ok-File.field-0-is c.in-Ok-File.ensures.builds
-    c.in-Err-close_counted.fault c.in-Err-close_counted.ensures law
+pub returns-in-Ok-File-clause-all : goal.returns-in-Ok-File-clause-all
+returns-in-Ok-File-clause-all g c =
+    let ended = g.R.RecordSource.has_ended c.build_parts.new.records in
+    where_taken ended c.close_counted.result (subst (λ (found : BuiltParts). WhereParts ended found) c.in-Ok-File.field-0-is c.in-Ok-File.ensures.all)
 
 pub returns-in-Ok-OutOfOrder-clause-builds : goal.returns-in-Ok-OutOfOrder-clause-builds
 returns-in-Ok-OutOfOrder-clause-builds g c =

@@ -12,12 +12,23 @@ returns-in-Ok g c =
           let is = close.closes honest c.requires.unbroken c.requires.changed file stands in
           record {
             images = is.images;
-            settled = is.settled;
-            closed = is.closed;
-            counted = many parts.file (live_of (joined_file parts) (g.T.Shelf.state c.args.shelf.now)) file c.prime.result.now c.count-records.result c.prime.ensures c.count-records.ensures stands.stands;
+            ends = (is.settled, is.closed, many parts.file (live_of (joined_file parts) (g.T.Shelf.state c.args.shelf.now)) file c.prime.result.now c.count-records.result c.prime.ensures c.count-records.ensures stands.stands);
           };
       others = close.others;
       count = close.count;
-      cause = tt;
-      no_damage = tt;
+    }
+
+pub returns : goal.returns
+returns g c =
+    let parts = c.args.parts in
+    let close = c.in-Err.ensures.closes in
+    record {
+      closes = λ honest file stands.
+          let is = close.closes honest c.requires.unbroken c.requires.changed file stands in
+          record {
+            images = is.images;
+            ends = many parts.file (live_of (joined_file parts) (g.T.Shelf.state c.args.shelf.now)) file c.prime.result.now c.count-records.result c.prime.ensures c.count-records.ensures stands.stands;
+          };
+      others = close.others;
+      count = close.count;
     }

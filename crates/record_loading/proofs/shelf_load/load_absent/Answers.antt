@@ -13,9 +13,13 @@ returns-in-Ended-clause-loads g c =
     let first = g.S.Shelf.state c.args.shelf in
     let last = g.S.Shelf.state c.build_load.new.shelf in
     record {
-      ends = ([], refl, λ honest.
-          let absent = c.requires.absent (c.build_load.ensures.tries.safe.honest honest) in
-          record { absent = absent; leaves = c.in-Ended.ensures.tries.ends honest absent });
+      ends = (
+        [],
+        refl,
+        λ honest.
+            let absent = c.requires.absent (c.build_load.ensures.tries.safe.honest honest) in
+            record { absent = absent; leaves = c.in-Ended.ensures.tries.ends honest absent },
+      );
       nothing = tt;
       others = c.build_load.ensures.tries.others;
       safe = c.build_load.ensures.tries.safe;
@@ -47,8 +51,12 @@ returns-in-Unmade-clause-loads g c =
       ends = IfOk-weaker c.load_over.result.1
           (λ end. TellsLoadEnd g.R.RejectLog.tells c.args.rejects.now c.load_over.new.rejects (λ told. EndsAnyhow c.args.name.bytes c.args.schema.now New (listing_by c.args.form.now c.args.text.now c.args.options told)) then end last)
           (λ end. TellsLoadEnd g.R.RejectLog.tells c.args.rejects.now c.load_over.new.rejects (λ told. EndsLoad c.args.name.bytes c.args.schema.now New (listing_by c.args.form.now c.args.text.now c.args.options told)) first end last)
-          (λ end is. (is.0, is.1, anew first then last same c.args.name.bytes c.args.schema.now (listing_by c.args.form.now c.args.text.now c.args.options is.0)
-          (λ honest. c.requires.absent (before (c.load_over.ensures.loads.safe.honest honest))) end is.2))
+          (λ end is. (
+            is.0,
+            is.1,
+            anew first then last same c.args.name.bytes c.args.schema.now (listing_by c.args.form.now c.args.text.now c.args.options is.0)
+                (λ honest. c.requires.absent (before (c.load_over.ensures.loads.safe.honest honest))) end is.2,
+          ))
           c.load_over.ensures.loads.ends;
       nothing = nothing_from first then last same c.load_over.result.1 c.load_over.ensures.loads.nothing;
       others = others_from first then last same c.args.name.bytes c.load_over.ensures.loads.others;
