@@ -182,7 +182,7 @@ pub record IsCobol (met : Option (Text × List Row)) (deck : Text) (fixed : Bool
   pub fixed_given : one_of (codes "fixed") rows ≡ Some fixed_text
   pub fixed_is : IsFlag fixed_text fixed
 
--- the values ask for these lines of a text
+-- the values ask for these lines of a text, and so much memory
 pub record AreLineOptions (rows : List Row) (lines : LineOptions) : Type 0 where
   pub skip_text : Text
   pub skip_given : one_of (codes "skip") rows ≡ Some skip_text
@@ -196,6 +196,9 @@ pub record AreLineOptions (rows : List Row) (lines : LineOptions) : Type 0 where
   pub pad_text : Text
   pub pad_given : one_of (codes "pad") rows ≡ Some pad_text
   pub pad_is : IsFlag pad_text lines.pad
+  pub memory_text : Text
+  pub memory_given : one_of (codes "memory") rows ≡ Some memory_text
+  pub memory_is : IsNumber 32 memory_text lines.memory
 
 -- the subcommand that was met is to load the lines of this text, in a form and an encoding, into a
 -- file of this deck over this folder, into the one that is there or not, with these limits, these of

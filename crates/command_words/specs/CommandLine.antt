@@ -116,6 +116,10 @@ where_rule = record (text_rule (codes "where")) { action = Some Append }
 abbrev pub key_rule : Rule
 key_rule = number_rule (codes "key") 0 8 (codes "0")
 
+-- `[--memory MIB]`
+abbrev pub memory_rule : Rule
+memory_rule = number_rule (codes "memory") 0 65536 (codes "256")
+
 -- `[--encoding ENCODING]`
 abbrev pub encoding_rule : Rule
 encoding_rule = usual_rule (codes "encoding") (codes "ascii")
@@ -140,7 +144,8 @@ cobol_shape = record (new_shape (codes "cobol")) {
 }
 
 -- `load DECK --folder DIR --file NAME TEXT [--as FORM] [--encoding ENCODING] [--into] [--skip N]
--- [--keep-going] [--rejects FILE] [--replace] [--pad] [--pages N] [--frames N] [--quiet]`
+-- [--keep-going] [--rejects FILE] [--replace] [--pad] [--memory MIB] [--pages N] [--frames N]
+-- [--quiet]`
 abbrev pub load_shape : Shape
 load_shape = record (new_shape (codes "load")) {
   rules = word_rule (codes "deck") ∷ option_rule (codes "folder") ∷ option_rule (codes "file") ∷ word_rule
@@ -148,7 +153,7 @@ load_shape = record (new_shape (codes "load")) {
       ∷ flag_rule (codes "into")
       ∷ skip_rule ∷ flag_rule (codes "keep-going") ∷ text_rule (codes "rejects") ∷ flag_rule
       (codes "replace")
-      ∷ flag_rule (codes "pad")
+      ∷ flag_rule (codes "pad") ∷ memory_rule
       ∷ pages_rule
       ∷ frames_rule (codes "64") ∷ flag_rule (codes "quiet") ∷ [];
 }

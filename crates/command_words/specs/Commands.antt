@@ -6,7 +6,7 @@ use Rattle.clap.specs.declared.builder.command.Command.{Command}
 use Rattle.clap.specs.declared.builder.command.Command.TheViews.{out-Command}
 use Rattle.command_words.specs.CommandLine.{word_rule, option_rule, text_rule, usual_rule, name_rule}
 use Rattle.command_words.specs.CommandLine.{flag_rule, number_rule, pages_rule, frames_rule, wait_rule, skip_rule}
-use Rattle.command_words.specs.CommandLine.{key_rule, encoding_rule}
+use Rattle.command_words.specs.CommandLine.{key_rule, memory_rule, encoding_rule}
 
 -- an argument of this rule, for its own command alone
 abbrev pub HasRule : Rule → Arg → Type 0
@@ -79,10 +79,11 @@ with_rejects app =
     with_rule (with_rule (with_rule app skip_rule) (flag_rule (codes "keep-going")))
     (text_rule (codes "rejects"))
 
--- and replaces records, and fills up values
+-- and replaces records, fills up values, and takes so much memory
 abbrev pub with_line_options : App → App
 with_line_options app =
-    with_rule (with_rule (with_rejects app) (flag_rule (codes "replace"))) (flag_rule (codes "pad"))
+    with_rule (with_rule (with_rule (with_rejects app) (flag_rule (codes "replace"))) (flag_rule (codes "pad")))
+    memory_rule
 
 -- with the form of a salvage
 abbrev pub with_salvage_form : App → App

@@ -2,7 +2,7 @@
 ghost use Rattle.std.specs.Prelude.{codes};
 ghost use Rattle.command_words.specs.CommandLine.{word_rule, words_rule, option_rule, text_rule, usual_rule};
 ghost use Rattle.command_words.specs.CommandLine.{name_rule, flag_rule, number_rule, first_rule, wait_rule, skip_rule};
-ghost use Rattle.command_words.specs.CommandLine.{where_rule, key_rule, encoding_rule};
+ghost use Rattle.command_words.specs.CommandLine.{where_rule, key_rule, memory_rule, encoding_rule};
 ghost use Rattle.command_words.specs.Commands.{HasRule};
 
 use clap::builder::ValueParser;
@@ -77,6 +77,21 @@ pub fn skip<'a>(alloc: Global) -> Arg<'a>
         "0",
         "How many lines behind the header are passed over, unread",
     )
+}
+
+/// The option `--memory`.
+pub fn memory<'a>(alloc: Global) -> Arg<'a>
+    ensures { HasRule memory_rule result }
+{
+    let memory = number(
+        alloc,
+        "memory",
+        0,
+        65_536,
+        "256",
+        "How much memory the entries of the keys of a new file may take while they are sorted, from 0 to 65,536 MiB",
+    );
+    memory.value_name("MIB")
 }
 
 /// The option `--wait`.

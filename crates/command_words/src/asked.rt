@@ -242,7 +242,7 @@ fn cobol_of<'a>(matches: &ArgMatches<'a>) -> Option<Request<'a>>
     Some(Request::Cobol { deck, fixed })
 }
 
-/// Which lines of a text are to be loaded.
+/// Which lines of a text are to be loaded, and in how much memory.
 fn line_options_of(load: &ArgMatches<'_>) -> Option<LineOptions>
     ensures some { IfSome result (AreLineOptions (rows_of (found_of load.now))) }
     ensures none { result ≡ None → (lines : LineOptions)
@@ -252,11 +252,13 @@ fn line_options_of(load: &ArgMatches<'_>) -> Option<LineOptions>
     let keep_going = load.get_one("keep-going")?;
     let replace = load.get_one("replace")?;
     let pad = load.get_one("pad")?;
+    let memory = load.get_one("memory")?;
     Some(LineOptions {
         skip,
         keep_going,
         replace,
         pad,
+        memory,
     })
 }
 

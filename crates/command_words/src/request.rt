@@ -77,9 +77,9 @@ pub enum Request<'a> {
     },
     /// To write the lines of the text of this path, or of standard input where it is `-`, which are
     /// in this form and encoding, as records into the file of this name in the deck in the file of a path: into
-    /// the file that is there, or into a new one; which lines those are, and whether one that is
-    /// rejected ends that; with a new file of the lines that were rejected, where its path is given;
-    /// without progress where it is quiet.
+    /// the file that is there, or into a new one; which lines those are, whether one that is rejected
+    /// ends that, and in how much memory; with a new file of the lines that were rejected, where its path
+    /// is given; without progress where it is quiet.
     Load {
         deck: &'a str,
         folder: &'a str,

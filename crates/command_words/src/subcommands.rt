@@ -14,8 +14,8 @@ ghost use Rattle.command_words.specs.CommandLine.{versioned_shape, program_shape
 ghost use Rattle.command_words.specs.CommandLine.{lists_app, records_app, loads_app, salvages_app, program_app};
 
 use crate::arguments::{
-    conditions, deck, encoding, first, flag, folder, key, name, number, option, skip, text, usual,
-    wait, word, words,
+    conditions, deck, encoding, first, flag, folder, key, memory, name, number, option, skip, text,
+    usual, wait, word, words,
 };
 use crate::help::{
     ANSWERS, COBOL, COPIED, COUNTED, EXPLAINED, LISTED, LOADED, REASONS, RECORDS, SALVAGED, SCHEMA,
@@ -417,7 +417,7 @@ fn with_rejects<'a>(
     with_argument(going, rejects)
 }
 
-/// A load with these, and the options by which it replaces records, and fills up values.
+/// A load with these, and the options by which it replaces records, fills up values, and takes memory.
 fn with_line_options<'a>(
     alloc: Global,
     load: Result<Command<'a>, AllocError>,
@@ -435,7 +435,8 @@ fn with_line_options<'a>(
         "Fills up a value that is shorter than its item: spaces behind it, zeros before digits",
     );
     let replacing = with_argument(with_rejects(alloc, load), replace);
-    with_argument(replacing, pad)
+    let padding = with_argument(replacing, pad);
+    with_argument(padding, memory(alloc))
 }
 
 /// `load`.

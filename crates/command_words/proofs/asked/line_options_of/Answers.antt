@@ -8,14 +8,14 @@ use Rattle.command_words.proofs.MetLemmas.{some_not_none}
 use Rattle.command_words.proofs.NumberLemmas.{is_read, none_read}
 use Rattle.command_words.proofs.asked.line_options_of.Goals as goal
 
--- what a number is read of a text as
-abbrev Gives : List ℕ → Result ℕ ParseIntError → Type 0
-Gives text read = ParsesUnsigned 64 10 text read × ExplainsUnsignedError 10 text read × HasUnsignedDigitsIfOk text read
+-- what a number of so many bits is read of a text as
+abbrev Gives : ℕ → List ℕ → Result ℕ ParseIntError → Type 0
+Gives bits text read = ParsesUnsigned bits 10 text read × ExplainsUnsignedError 10 text read × HasUnsignedDigitsIfOk text read
 
 pub returns-in_err-skip-clause-none : goal.returns-in_err-skip-clause-none
 returns-in_err-skip-clause-none c =
     λ none lines given.
-    none_read (found_of c.args.load.now) (codes "skip") 64 Gives (λ t x g. g.0) c.get_one.result c.get_one.ensures.value c.in_err-skip.was lines.skip
+    none_read (found_of c.args.load.now) (codes "skip") 64 (Gives 64) (λ t x g. g.0) c.get_one.result c.get_one.ensures.value c.in_err-skip.was lines.skip
     (given.skip_text, given.skip_given, given.skip_is)
 
 pub returns-in_err-keep_going-clause-none : goal.returns-in_err-keep_going-clause-none
@@ -36,13 +36,20 @@ returns-in_err-pad-clause-none c =
     no_flag (found_of c.args.load.now) (codes "pad") c.get_one-4.result c.get_one-4.ensures.value c.in_err-pad.was lines.pad
     (given.pad_text, given.pad_given, given.pad_is)
 
+pub returns-in_err-memory-clause-none : goal.returns-in_err-memory-clause-none
+returns-in_err-memory-clause-none c =
+    λ none lines given.
+    none_read (found_of c.args.load.now) (codes "memory") 32 (Gives 32) (λ t x g. g.0) c.get_one-5.result c.get_one-5.ensures.value c.in_err-memory.was lines.memory
+    (given.memory_text, given.memory_given, given.memory_is)
+
 pub returns-clause-some : goal.returns-clause-some
 returns-clause-some c =
     let f = found_of c.args.load.now in
-    let skip = is_read f (codes "skip") 64 Gives (λ t x g. g.0) c.get_one.result c.get_one.ensures.none c.get_one.ensures.value c.in_ok-skip.skip c.in_ok-skip.was in
+    let skip = is_read f (codes "skip") 64 (Gives 64) (λ t x g. g.0) c.get_one.result c.get_one.ensures.none c.get_one.ensures.value c.in_ok-skip.skip c.in_ok-skip.was in
     let keep = flag_read f (codes "keep-going") c.get_one-2.result c.get_one-2.ensures.none c.get_one-2.ensures.value c.in_ok-keep_going.keep_going c.in_ok-keep_going.was in
     let replace = flag_read f (codes "replace") c.get_one-3.result c.get_one-3.ensures.none c.get_one-3.ensures.value c.in_ok-replace.replace c.in_ok-replace.was in
     let pad = flag_read f (codes "pad") c.get_one-4.result c.get_one-4.ensures.none c.get_one-4.ensures.value c.in_ok-pad.pad c.in_ok-pad.was in
+    let memory = is_read f (codes "memory") 32 (Gives 32) (λ t x g. g.0) c.get_one-5.result c.get_one-5.ensures.none c.get_one-5.ensures.value c.in_ok-memory.memory c.in_ok-memory.was in
     record {
       skip_text = skip.0;
       skip_given = skip.1;
@@ -56,4 +63,7 @@ returns-clause-some c =
       pad_text = pad.0;
       pad_given = pad.1;
       pad_is = pad.2;
+      memory_text = memory.0;
+      memory_given = memory.1;
+      memory_is = memory.2;
     }

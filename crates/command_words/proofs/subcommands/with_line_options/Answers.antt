@@ -4,4 +4,5 @@ pub returns : goal.returns
 returns c =
     λ app is.
     let replacing = c.with_argument-replacing.ensures _ _ (c.with_rejects.ensures _ is) c.flag-replace.ensures in
-    c.with_argument.ensures _ _ replacing c.flag-pad.ensures
+    let padding = c.with_argument-padding.ensures _ _ replacing c.flag-pad.ensures in
+    c.with_argument.ensures _ _ padding c.memory.ensures
