@@ -12,7 +12,9 @@ use Rattle.command_words.specs.declared.fault.WordsFault.TheVariants.{Usage as N
 use Rattle.command_words.specs.declared.form_words.FormWords.{FormWords}
 use Rattle.command_words.specs.declared.limits.Limits.{Limits}
 use Rattle.command_words.specs.declared.request.Request.TheVariants.{Schema, Load, Salvage}
-use Rattle.command_support.specs.AskedForm.{IsConditionRefused, IsListRefused}
+use Rattle.command_support.specs.AskedForm.{ListWords, IsConditionRefused, IsListRefused}
+use Rattle.command_support.specs.AskedKey.{IsKeyRefused}
+use Rattle.file_commands.specs.Records.{words_of}
 use Rattle.command_support.specs.Conditions.{texts_of}
 use Rattle.command_support.specs.Forms.{IsFormRefused}
 use Rattle.file_commands.specs.Listed.{IsListFault}
@@ -28,10 +30,10 @@ use Rattle.record_loading.specs.declared.shelf_end.ShelfEnd.{ShelfEnd}
 use Rattle.command_line.specs.Encoding.{WritesIn}
 use Rattle.command_line.specs.Encoded.{DoesList, IsEncodedRefused}
 use Rattle.command_line.specs.LoadForm.{IsFaultOfLoad}
-use Rattle.command_line.specs.Performed.{AskOfDeck, AskForLoad, AskForRecords, AskForRun, AskForSalvage, AskForSchema, Did, IsRunOutcome}
+use Rattle.command_line.specs.Performed.{AskOfDeck, AskForLoad, AskForRecords, AskForRun, AskForSalvage, AskForSchema, Did, IsRunOutcome, words_of_list}
 use Rattle.command_support.specs.Status.{status_of}
 use Rattle.command_support.specs.declared.fault.Fault.{Fault}
-use Rattle.command_support.specs.declared.fault.Fault.TheVariants.{Deck, NoSuchFile, NotListed, Form as NoForm, Condition as NoCondition, Unexplained, Input, Output, Memory}
+use Rattle.command_support.specs.declared.fault.Fault.TheVariants.{Deck, NoSuchFile, NoSuchKey, LoneKeyName, NotListed, Form as NoForm, Condition as NoCondition, Unexplained, Input, Output, Memory}
 use Rattle.command_support.specs.declared.outcome.Outcome.{Outcome}
 use Rattle.command_support.specs.declared.outcome.Outcome.TheVariants.{Helped, CheckedAll, Counted, Explained, Ended, Served, SchemaTold, SchemaCompared, SchemaRefused, Records, OtherSchema, Loaded, Salvaged}
 use Rattle.command_support.specs.declared.outcome.WorstCheck.{WorstCheck}
@@ -45,11 +47,11 @@ for_schema words file deck name asked =
 abbrev pub for_salvage : (words : List Text) (file : Bor Text) (form : FormWords) (places : Bool) → Ask words (Salvage file form places) → AskForSalvage words
 for_salvage words file form places asked = record { file = file.now; form = form_text form; places = places; asked = asked }
 
-abbrev pub for_records : (words : List Text) (file : Bor Text) (key : ℕ) (from to : Option (Bor Text)) (first : ℕ) (conditions : Bor (List (Bor Text))) (form : FormWords) (checked quiet : Bool)
-    → AskList words file.now key (option_map (λ text. text.now) from) (option_map (λ text. text.now) to) first (texts_of conditions.now) (form_text form) checked quiet → AskForRecords words
+abbrev pub for_records : (words : List Text) (file key : Bor Text) (from to : Option (Bor Text)) (first : ℕ) (conditions : Bor (List (Bor Text))) (form : FormWords) (checked quiet : Bool)
+    → AskList words file.now key.now (option_map (λ text. text.now) from) (option_map (λ text. text.now) to) first (texts_of conditions.now) (form_text form) checked quiet → AskForRecords words
 for_records words file key from to first conditions form checked quiet asked = record {
   file = file.now;
-  key = key;
+  key = key.now;
   from = option_map (λ text. text.now) from;
   to = option_map (λ text. text.now) to;
   first = first;
@@ -93,26 +95,32 @@ module _ (words : List Text) (list : AskForRecords words) where
   did_condition (NoCondition fault) h = (list, h)
   did_condition fault h = absurd h
 
-  did_not_asked : (fault : Fault) → IsListRefused list.form list.conditions fault → Did words (Err fault)
+  did_key : (fault : Fault) → IsKeyRefused list.form list.key fault → Did words (Err fault)
+  did_key LoneKeyName h = (list, h)
+  did_key (NoSuchKey told) h = (list, h)
+  did_key fault h = absurd h
+
+  did_not_asked : (fault : Fault) → IsListRefused (words_of_list list) fault → Did words (Err fault)
   did_not_asked fault (inl long) = subst (λ (x : Fault). Did words (Err x)) (sym long) list
   did_not_asked fault (inr (inl refused)) = did_refused fault refused
-  did_not_asked fault (inr (inr none)) = did_condition fault none
+  did_not_asked fault (inr (inr (inl none))) = did_condition fault none
+  did_not_asked fault (inr (inr (inr none))) = did_key fault none
 
   -- nothing else was done than to list, in whatever encoding
   none_else : (encoding form : Text) (old new : Option (List ℕ)) → WritesIn encoding form old new (λ before behind. ⊥) → ⊥
   none_else encoding form old new (inl (is, so)) = so
   none_else encoding form old new (inr (is, writes)) = writes.so
 
-  pub did_list : (checked : Bool) (disk : Unseen) (input : Option (List ℕ)) (path : List ℕ) (bounds : Bounds) (form : FormWords) → form_text form ≡ list.form → texts_of bounds.conditions.now ≡ list.conditions
+  pub did_list : (checked : Bool) (disk : Unseen) (input : Option (List ℕ)) (path : List ℕ) (bounds : Bounds) (form : FormWords) → words_of bounds form ≡ words_of_list list
       → (old new : Option (List ℕ)) (calls : List Call) (result : Result Outcome Fault)
       → IfOk result (λ outcome. WritesIn form.encoding.now form.kind.now old new (λ before behind. DoesList checked disk input path bounds form before behind calls outcome))
-      → IfErr result (IsListRefused (form_text form) (texts_of bounds.conditions.now)) → Did words result
-  did_list checked disk input path bounds form same are old new calls (Ok (Records end)) done refused = list
-  did_list checked disk input path bounds form same are old new calls (Ok OtherSchema) done refused = inl list
-  did_list true disk input path bounds form same are old new calls (Ok outcome) done refused = absurd (none_else form.encoding.now form.kind.now old new done)
-  did_list false disk input path bounds form same are old new calls (Ok outcome) done refused = absurd (none_else form.encoding.now form.kind.now old new done)
-  did_list checked disk input path bounds form same are old new calls (Err f) done refused =
-      did_not_asked f (subst (λ (texts : List Text). IsListRefused list.form texts f) are (subst (λ (t : FormText). IsListRefused t (texts_of bounds.conditions.now) f) same refused))
+      → IfErr result (IsListRefused (words_of bounds form)) → Did words result
+  did_list checked disk input path bounds form same old new calls (Ok (Records end)) done refused = list
+  did_list checked disk input path bounds form same old new calls (Ok OtherSchema) done refused = inl list
+  did_list true disk input path bounds form same old new calls (Ok outcome) done refused = absurd (none_else form.encoding.now form.kind.now old new done)
+  did_list false disk input path bounds form same old new calls (Ok outcome) done refused = absurd (none_else form.encoding.now form.kind.now old new done)
+  did_list checked disk input path bounds form same old new calls (Err f) done refused =
+      did_not_asked f (subst (λ (asked : ListWords). IsListRefused asked f) same refused)
 
 -- the words ask for a schema
 module _ (words : List Text) (schema : AskForSchema words) where

@@ -5,11 +5,10 @@ use Rattle.std.proofs.lemmas.Result.{IfOk-weaker, IfErr-weaker}
 use Rattle.folder_shelf.specs.Replay.{Unseen}
 use Rattle.folder_shelf.specs.Calls.{Call}
 use Rattle.record_listing.specs.ByPath.{ByReadsAside}
-use Rattle.command_words.specs.Asks.{FormText, form_text}
+use Rattle.command_words.specs.Asks.{FormText}
 use Rattle.command_words.specs.declared.form_words.FormWords.{FormWords}
 use Rattle.command_support.specs.AskedForm.{IsListRefused}
-use Rattle.command_support.specs.Conditions.{texts_of}
-use Rattle.file_commands.specs.Records.{ListsAsked}
+use Rattle.file_commands.specs.Records.{ListsAsked, words_of}
 use Rattle.file_commands.specs.Salvaged.{SalvagesFile, SalvagesFileAt, IsSalvageRefused}
 use Rattle.file_commands.specs.declared.listing.Bounds.{Bounds}
 use Rattle.salvaged_records.specs.Salvaged.{outputs}
@@ -71,7 +70,7 @@ handed_done IsSo encoding form backslashes text made contents old new (Err fault
 
 module _ (disk : Unseen) (input : Option (List ℕ)) (path : List ℕ) (bounds : Bounds) (form : FormWords) (calls : List Call) where
   -- what was done, by what a writer has
-  checked_known : {W : Type 0} (contents : W → Option (List ℕ)) (old new : W) (outcome : Outcome) → ListsAsked input path bounds (texts_of bounds.conditions.now) (form_text form) contents old new calls outcome
+  checked_known : {W : Type 0} (contents : W → Option (List ℕ)) (old new : W) (outcome : Outcome) → ListsAsked input path bounds (words_of bounds form) contents old new calls outcome
       → DoesList true disk input path bounds form (contents old) (contents new) calls outcome
   checked_known contents old new (Records list) is = is
   checked_known contents old new OtherSchema is = is
@@ -80,12 +79,12 @@ module _ (disk : Unseen) (input : Option (List ℕ)) (path : List ℕ) (bounds :
   lists_known : {W : Type 0} (checked : Bool) (contents : W → Option (List ℕ)) (old new : W) (result : Result Outcome Fault) → ListsEitherWay checked disk input path bounds form contents old new result calls
       → IfOk result (DoesList checked disk input path bounds form (contents old) (contents new) calls)
   lists_known true contents old new result lists =
-      IfOk-weaker result (ListsAsked input path bounds (texts_of bounds.conditions.now) (form_text form) contents old new calls) (DoesList true disk input path bounds form (contents old) (contents new) calls)
+      IfOk-weaker result (ListsAsked input path bounds (words_of bounds form) contents old new calls) (DoesList true disk input path bounds form (contents old) (contents new) calls)
       (checked_known contents old new) lists.records
   lists_known false contents old new result lists = lists.records
 
   lists_refused : {W : Type 0} (checked : Bool) (contents : W → Option (List ℕ)) (old new : W) (result : Result Outcome Fault) → ListsEitherWay checked disk input path bounds form contents old new result calls
-      → IfErr result (IsListRefused (form_text form) (texts_of bounds.conditions.now))
+      → IfErr result (IsListRefused (words_of bounds form))
   lists_refused true contents old new result lists = lists.fault
   lists_refused false contents old new result lists = lists.fault
 
@@ -119,7 +118,7 @@ module _ (disk : Unseen) (input : Option (List ℕ)) (path : List ℕ) (bounds :
         records = handed_done (λ before behind outcome. DoesList checked disk input path bounds form before behind calls outcome) form.encoding.now form.kind.now backslashes text made contents old new result is are of_text hands;
         untouched = handed_untouched backslashes text made contents old new result
             (IfErr-weaker made (λ fault. status_of fault ≢ 4 → full ≡ empty) (λ fault. status_of fault ≢ 4 → text ≡ []) (λ fault so other. same (so other)) (lists_untouched checked held empty full made lists)) hands;
-        fault = handed_fault (IsListRefused (form_text form) (texts_of bounds.conditions.now)) (inr (inl tt)) (inr (inl tt)) backslashes text made contents old new result
+        fault = handed_fault (IsListRefused (words_of bounds form)) (inr (inl tt)) (inr (inl tt)) backslashes text made contents old new result
             (lists_refused checked held empty full made lists) hands;
       }
 

@@ -100,12 +100,12 @@ module _ {W : Type 0} (disk : Unseen) (words : List Text) (calls : List Call) (i
   right_schema schema (Err fault) told compared done = tt
 
   -- the records of a file were listed, or it is of another schema
-  module _ (file : Bor Text) (key : ℕ) (from to : Option (Bor Text)) (first : ℕ) (conditions : Bor (List (Bor Text))) (form : FormWords) (quiet : Bool) where
+  module _ (file key : Bor Text) (from to : Option (Bor Text)) (first : ℕ) (conditions : Bor (List (Bor Text))) (form : FormWords) (quiet : Bool) where
     abbrev bounds : Bounds
     bounds = record { key = key; from = from; to = to; first = first; conditions = conditions }
 
     abbrev AskSo : Bool → Type 0
-    AskSo checked = AskList words file.now key (option_map (λ text. text.now) from) (option_map (λ text. text.now) to) first (texts_of conditions.now) (form_text form) checked quiet
+    AskSo checked = AskList words file.now key.now (option_map (λ text. text.now) from) (option_map (λ text. text.now) to) first (texts_of conditions.now) (form_text form) checked quiet
 
     abbrev Lists : Bool → Outcome → Type 0
     Lists checked outcome = WritesIn form.encoding.now form.kind.now (contents old) (contents new)

@@ -4,13 +4,12 @@ use Rattle.std.specs.Prelude.{◌≡◌, ◌≢◌, ◌⊎◌, ℕ, Bool, true, 
 use Rattle.std.specs.Io.KnownBytes.{Appends}
 use Rattle.folder_shelf.specs.Replay.{Unseen}
 use Rattle.folder_shelf.specs.Calls.{Call}
-use Rattle.command_words.specs.Asks.{FormText, form_text}
+use Rattle.command_words.specs.Asks.{FormText}
 use Rattle.command_words.specs.declared.form_words.FormWords.{FormWords}
 use Rattle.command_support.specs.AskedForm.{IsListRefused}
-use Rattle.command_support.specs.Conditions.{texts_of}
 use Rattle.command_support.specs.Forms.{HasFormFault}
 use Rattle.file_commands.specs.ByIndex.{DoesByIndex}
-use Rattle.file_commands.specs.Records.{ListsAsked}
+use Rattle.file_commands.specs.Records.{ListsAsked, words_of}
 use Rattle.file_commands.specs.Salvaged.{SalvagesFileAt, IsSalvageRefused}
 use Rattle.file_commands.specs.declared.listing.Bounds.{Bounds}
 use Rattle.salvaged_records.specs.Salvaged.{outputs}
@@ -40,11 +39,9 @@ pub record HandsTextOver {W : Type 0} (backslashes : Backslashes) (text : List �
 abbrev pub DoesList : (checked : Bool) → Unseen → (input : Option (List ℕ)) → (path : List ℕ) → Bounds
     → FormWords → (before behind : Option (List ℕ)) → List Call → Outcome → Type 0
 DoesList true disk input path bounds form before behind calls outcome =
-    ListsAsked input path bounds (texts_of bounds.conditions.now) (form_text form) (λ known. known) before
-    behind calls outcome
+    ListsAsked input path bounds (words_of bounds form) (λ known. known) before behind calls outcome
 DoesList false disk input path bounds form before behind calls outcome =
-    DoesByIndex disk input path bounds (texts_of bounds.conditions.now) (form_text form) before behind calls
-    outcome
+    DoesByIndex disk input path bounds (words_of bounds form) before behind calls outcome
 
 -- so in the encoding that the words ask for; or they are refused, or the input, the output or memory
 -- failed. Unless one of these failed, nothing is written where nothing is listed
@@ -55,7 +52,7 @@ pub record ListsEncoded
   pub records : IfOk result (λ outcome. WritesIn form.encoding.now form.kind.now (contents old) (contents new)
       (λ before behind. DoesList checked disk input path bounds form before behind calls outcome))
   pub untouched : IfErr result (λ fault. status_of fault ≢ 4 → new ≡ old)
-  pub fault : IfErr result (IsListRefused (form_text form) (texts_of bounds.conditions.now))
+  pub fault : IfErr result (IsListRefused (words_of bounds form))
 
 -- there is no such form of a salvage, nothing came of its deck, the input, an output or memory failed, or
 -- there is no such encoding

@@ -27,7 +27,8 @@ use Rattle.command_line.specs.Folder.{OverFolder}
 use Rattle.command_line.specs.Transcript.{IsRunFault}
 use Rattle.command_line.specs.Encoding.{IsNoEncodingWord}
 use Rattle.command_line.specs.LoadForm.{IsNoFormWord}
-use Rattle.command_support.specs.AskedForm.{IsConditionFaultOf}
+use Rattle.command_support.specs.AskedForm.{ListWords, IsConditionFaultOf}
+use Rattle.command_support.specs.AskedKey.{IsKeyRefused}
 use Rattle.command_support.specs.DeckFile.{IsDeckAsked, IsHalf}
 use Rattle.command_support.specs.Forms.{HasFormFault}
 use Rattle.command_support.specs.Front.{IsDeckNamed}
@@ -41,6 +42,7 @@ use Rattle.command_support.specs.declared.fault.Fault.{Fault}
 use Rattle.command_support.specs.declared.fault.Fault.TheVariants.{Deck, NotListed, NoSuchFile}
 use Rattle.command_support.specs.declared.fault.Fault.TheVariants.{Form as NoForm, Unexplained, LongValue, NoFileName}
 use Rattle.command_support.specs.declared.fault.Fault.TheVariants.{Condition as NoCondition, LoneRejects}
+use Rattle.command_support.specs.declared.fault.Fault.TheVariants.{NoSuchKey, LoneKeyName}
 use Rattle.command_support.specs.declared.fault.Fault.TheVariants.{Usage, Input, Output, Memory}
 use Rattle.command_support.specs.declared.outcome.Outcome.{Outcome}
 use Rattle.command_support.specs.declared.outcome.Outcome.TheVariants.{Helped, Checked, Ended, Served}
@@ -190,7 +192,7 @@ pub record AskForLoad (words : List Text) : Type 0 where
 -- the words ask for records of a file
 pub record AskForRecords (words : List Text) : Type 0 where
   pub file : Text
-  pub key : ℕ
+  pub key : Text
   pub from : Option Text
   pub to : Option Text
   pub first : ℕ
@@ -199,6 +201,10 @@ pub record AskForRecords (words : List Text) : Type 0 where
   pub checked : Bool
   pub quiet : Bool
   pub asked : AskList words file key from to first conditions form checked quiet
+
+-- what they ask for, of which a deck may tell something
+abbrev pub words_of_list : {words : List Text} → AskForRecords words → ListWords
+words_of_list list = record { form = list.form; key = list.key; conditions = list.conditions }
 
 -- the words ask for a schema
 pub record AskForSchema (words : List Text) : Type 0 where
@@ -273,6 +279,10 @@ Did words (Err NoSuchFile) = AskOfFile words
 Did words (Err (NoForm fault)) = AskForNoForm words fault
 Did words (Err (NoCondition fault)) =
     (list : AskForRecords words) × IsConditionFaultOf list.form list.conditions fault
+Did words (Err LoneKeyName) =
+    (list : AskForRecords words) × IsKeyRefused list.form list.key LoneKeyName
+Did words (Err (NoSuchKey told)) =
+    (list : AskForRecords words) × IsKeyRefused list.form list.key (NoSuchKey told)
 Did words (Err LongValue) = AskForRecords words
 Did words (Err LoneRejects) =
     (load : AskForLoad words) × IsSome load.rejects × (load.lines.keep_going ≡ false)

@@ -22,7 +22,7 @@ use Rattle.explanations.specs.Tables.{explanation}
 use Rattle.command_line.specs.CallsMade.{CallsMade, all_calls, BeginsWithStreams}
 use Rattle.command_line.specs.Encoding.{WritesIn}
 use Rattle.command_line.specs.Explained.{WritesExplanation}
-use Rattle.command_line.specs.Performed.{AskForRecords, AskForSalvage, AskForSchema}
+use Rattle.command_line.specs.Performed.{AskForRecords, AskForSalvage, AskForSchema, words_of_list}
 use Rattle.command_support.specs.declared.fault.Fault.{Fault}
 use Rattle.command_support.specs.declared.outcome.Outcome.{Outcome}
 use Rattle.command_support.specs.declared.outcome.Outcome.TheVariants.{Helped, Checked, Ended, Served}
@@ -36,21 +36,21 @@ use Rattle.command_support.specs.declared.outcome.Outcome.TheVariants.{Counted, 
 abbrev pub ListsAsAsked : (checked : Bool) → {words : List Text} → Unseen → (input : Option (List ℕ))
     → AskForRecords words → List Call → (before behind : Option (List ℕ)) → FileList → Type 0
 ListsAsAsked true disk input asked calls before behind list =
-    OfFormAndFile input asked.file asked.form asked.conditions calls (λ form schema conditions bytes.
-    AgreesWith schema bytes × ListsRecords form bytes asked.key asked.from asked.to asked.first conditions
-    before behind list)
+    OfFormAndFile input asked.file (words_of_list asked) calls (λ told bytes.
+    AgreesWith told.told.schema bytes × ListsRecords told.told.form bytes told.key asked.from asked.to
+    asked.first told.conditions.items before behind list)
 ListsAsAsked false disk input asked calls before behind list =
-    ListsRecordsByIndex disk input asked.file asked.form asked.key asked.from asked.to asked.first
-    asked.conditions before behind calls list
+    ListsRecordsByIndex disk input asked.file (words_of_list asked) asked.from asked.to asked.first before
+    behind calls list
 
 -- so the differences of the file from the deck whose columns they ask for
 abbrev pub DiffersAsAsked : (checked : Bool) → {words : List Text} → (input : Option (List ℕ))
     → AskForRecords words → List Call → (before behind : Option (List ℕ)) → Type 0
 DiffersAsAsked true input asked calls before behind =
-    OfFormAndFile input asked.file asked.form asked.conditions calls (λ form schema conditions bytes.
-    WritesOther schema bytes before behind)
+    OfFormAndFile input asked.file (words_of_list asked) calls (λ told bytes.
+    WritesOther told.told.schema bytes before behind)
 DiffersAsAsked false input asked calls before behind =
-    FindsOther input asked.file asked.form asked.conditions before behind calls
+    FindsOther input asked.file (words_of_list asked) before behind calls
 
 -- the records that are left in a file were salvaged as words ask for it, or its differences from a deck were
 -- written; and what was told, a writer took

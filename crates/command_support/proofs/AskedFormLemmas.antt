@@ -1,40 +1,37 @@
--- The form of a list with conditions.
-use Rattle.std.specs.Global.{Vec}
-use Rattle.std.proofs.Common.{◌≡◌, ◌⊎◌, ◌<◌, inl, inr, ℕ, List, [], ◌∷◌, map, length, Option, Some, None, Result, Ok, Err, Bor, refl, sym, ap, subst, ◌∙◌, arith}
+-- The form of a list with a key and conditions.
+use Rattle.std.proofs.Common.{◌≡◌, ◌⊎◌, inl, inr, ℕ, List, [], ◌∷◌, map, Option, Some, None, Result, Ok, Err, refl, sym, ap, subst}
 use Rattle.std.specs.Prelude.{◌≢◌, IsSome}
 use Rattle.clap.specs.Words.{Text as Word}
 use Rattle.record_layout.specs.Layout.{Placed, item_of}
 use Rattle.record_layout.specs.declared.item.Placed.{Placed as Declared}
-use Rattle.record_layout.specs.Schema.{Schema}
 use Rattle.file_control.specs.Description.{FileDesc}
-use Rattle.record_text.specs.declared.form.Form.{Form}
-use Rattle.record_listing.specs.declared.condition.Condition.{Condition}
 use Rattle.folder_shelf.specs.Calls.{Call}
-use Rattle.command_words.specs.Asks.{FormText}
 use Rattle.command_support.specs.declared.form_fault.FormFault.{FormFault}
 use Rattle.command_support.specs.declared.form_fault.FormFault.TheVariants.{HalfDeck}
-use Rattle.command_support.specs.declared.condition_fault.ConditionFault.{ConditionFault}
 use Rattle.command_support.specs.declared.condition_fault.ConditionFault.TheVariants.{NoSign, NoDeck, NoItem, LongValue as LongItem}
 use Rattle.command_support.specs.declared.fault.Fault.{Fault}
-use Rattle.command_support.specs.declared.fault.Fault.TheVariants.{Deck as DeckRefused, NoSuchFile, Form as NoForm, Condition as NoCondition, Input, Output, Memory}
-use Rattle.command_support.specs.AskedForm.{IsWrittenAs, IsFormOfFile, IsAskedFormRefused, ComesOfAskedForm, GivesFormOfFile}
-use Rattle.command_support.specs.Conditions.{AreConditionsBy, AreWordsRefused, HasConditionFault, HaveConditionFault, texts_of}
-use Rattle.command_support.specs.DeckFile.{IsDeckAsked, IsDeckFault, IsHalf, IsOfDeck}
-use Rattle.command_support.specs.Forms.{HasFormFault, IsFormRefused}
+use Rattle.command_support.specs.declared.fault.Fault.TheVariants.{NoSuchKey, LoneKeyName, Form as NoForm, Condition as NoCondition, Memory}
+use Rattle.command_support.specs.AskedKey.{IsKeyNumber, IsNoKeyNumber, IsKeyIn, IsKeyMissing, WantsDeck}
+use Rattle.command_support.specs.AskedForm.{ListWords, IsWrittenAs, IsFormOfFile, IsAskedFormRefused, IsRefusedWhere, ComesOfAskedForm, ComesOfFormAlone, GivesFormOfFile, TellsDeckWanted}
+use Rattle.command_support.specs.Conditions.{AreConditionsBy, AreWordsRefused, HaveConditionFault}
+use Rattle.command_support.specs.DeckFile.{IsDeckAsked, IsHalf, IsOfDeck}
+use Rattle.command_support.specs.Forms.{HasFormFault}
 use Rattle.command_support.specs.Front.{IsDeckNamed}
 use Rattle.command_support.specs.declared.asked_form.AskedForm.{AskedForm}
 use Rattle.command_support.proofs.FormLemmas.{form_of_deck}
 
 -- what was made by the record of a file of a deck
-pub form_made : (calls : List Call) (input : Option (List ℕ)) (kind deck name : Word) (words : List Word) (form : Form) (schema : Schema) (conditions : List Condition) (file : FileDesc)
-    → IsOfDeck (IsDeckNamed calls input deck) name file → (items : List Declared) → map item_of items ≡ file.layout → IsWrittenAs kind file.layout form → schema ≡ file.schema
-    → AreConditionsBy (map item_of items) words conditions → IsFormOfFile calls input kind deck name words form (Some schema) conditions
-form_made calls input kind deck name words form schema conditions file of_deck items are written same by = record {
+pub form_made : (calls : List Call) (input : Option (List ℕ)) (deck name : Word) (asked : ListWords) (told : AskedForm) (file : FileDesc)
+    → IsOfDeck (IsDeckNamed calls input deck) name file → (items : List Declared) → map item_of items ≡ file.layout → IsWrittenAs asked.form.kind file.layout told.told.form
+    → told.told.schema ≡ Some file.schema → IsKeyIn file asked.key told.key → AreConditionsBy (map item_of items) asked.conditions told.conditions.items
+    → IsFormOfFile calls input deck name asked told
+form_made calls input deck name asked told file of_deck items are written same key by = record {
   file = file;
   of_deck = of_deck;
   form_is = written;
-  schema_is = ap Some same;
-  conditions_are = subst (λ (layout : List Placed). AreConditionsBy layout words conditions) are by;
+  schema_is = same;
+  key_is = key;
+  conditions_are = subst (λ (layout : List Placed). AreConditionsBy layout asked.conditions told.conditions.items) are by;
 }
 
 -- words of which one has no deck are not missing one
@@ -43,56 +40,57 @@ not_no_deck layout [] h = h
 not_no_deck layout (word ∷ words) (inl h) = h
 not_no_deck layout (word ∷ words) (inr h) = not_no_deck layout words h
 
-module _ (asked : FormText) (words : List Word) where
+module _ (asked : ListWords) where
   -- the deck is refused, has no such file, or was not read; or a condition is refused
-  refused_of : IsDeckAsked asked.deck asked.name → (fault : Fault) → (layout : List Placed) → AreWordsRefused layout words fault → IsAskedFormRefused asked words fault
-  refused_of both (NoCondition NoSign) layout h = inr (both, (layout, h))
-  refused_of both (NoCondition NoDeck) layout h = absurd (not_no_deck layout words h)
-  refused_of both (NoCondition NoItem) layout h = inr (both, (layout, h))
-  refused_of both (NoCondition LongItem) layout h = inr (both, (layout, h))
+  refused_of : IsDeckAsked asked.form.deck asked.form.name → (fault : Fault) → (layout : List Placed) → AreWordsRefused layout asked.conditions fault → IsAskedFormRefused asked fault
+  refused_of both (NoCondition NoSign) layout h = inr (inl (both, (layout, h)))
+  refused_of both (NoCondition NoDeck) layout h = absurd (not_no_deck layout asked.conditions h)
+  refused_of both (NoCondition NoItem) layout h = inr (inl (both, (layout, h)))
+  refused_of both (NoCondition LongItem) layout h = inr (inl (both, (layout, h)))
   refused_of both Memory layout h = inl tt
   refused_of both fault layout h = absurd h
 
-  -- there is no deck for them
-  pub no_deck : words ≢ [] → asked.deck ≡ None → asked.name ≡ None → IsAskedFormRefused asked words (NoCondition NoDeck)
-  no_deck some deck name = inr (some, deck, name)
+  -- or the file has no such key
+  no_key_of : IsDeckAsked asked.form.deck asked.form.name → (fault : Fault) → (file : FileDesc) → IsKeyMissing file asked.key fault → IsAskedFormRefused asked fault
+  no_key_of both (NoSuchKey told) file h = inr (inr (both, h.0, (file, h.1)))
+  no_key_of both Memory file h = inl tt
+  no_key_of both fault file h = absurd h
+
+  refused_where : IsDeckAsked asked.form.deck asked.form.name → (fault : Fault) → IsRefusedWhere asked fault → IsAskedFormRefused asked fault
+  refused_where both fault (inl is) = inl (form_of_deck asked.form fault both is)
+  refused_where both fault (inr (inl is)) = no_key_of both fault is.0 is.1
+  refused_where both fault (inr (inr is)) = refused_of both fault is.0 is.1
+
+  -- there is no deck for the key or for the conditions
+  pub no_deck : (fault : Fault) → TellsDeckWanted asked.conditions fault → WantsDeck asked.key asked.conditions → asked.form.deck ≡ None → asked.form.name ≡ None → IsAskedFormRefused asked fault
+  no_deck fault (inl (none, is)) (inl some) deck name = absurd (some none)
+  no_deck fault (inl (none, is)) (inr named) deck name = subst (IsAskedFormRefused asked) (sym is) (inr (inr (named, deck, name)))
+  no_deck fault (inr (some, is)) wanted deck name = subst (IsAskedFormRefused asked) (sym is) (inr (inl (some, deck, name)))
 
   -- or half of one
-  pub half_deck : IsHalf asked.deck asked.name → IsAskedFormRefused asked words (NoForm HalfDeck)
+  pub half_deck : IsHalf asked.form.deck asked.form.name → IsAskedFormRefused asked (NoForm HalfDeck)
   half_deck half = inl half
 
   -- or the form is none
-  pub form_at_fault : (fault : FormFault) → HasFormFault asked fault → IsAskedFormRefused asked words (NoForm fault)
+  pub form_at_fault : (fault : FormFault) → HasFormFault asked.form fault → IsAskedFormRefused asked (NoForm fault)
   form_at_fault fault is = inl is
 
--- what came of the file of a deck, where one is asked for
-asked_where : (calls : List Call) (input : Option (List ℕ)) (asked : FormText) (word : Word) (words : List Word) (deck name : Word) (result : Result AskedForm Fault)
-    → asked.deck ≡ Some deck → asked.name ≡ Some name → asked.cut ≡ None → IsDeckAsked asked.deck asked.name
-    → GivesFormOfFile input asked.kind deck name (word ∷ words) result calls
-    → ComesOfAskedForm input asked (word ∷ words) result calls
-asked_where calls input asked word words deck name (Ok told) a_deck a_name uncut both came = record {
-  form = record { deck = deck; name = name; deck_given = a_deck; name_given = a_name; uncut = uncut; of_file = came.right };
-  refused = tt;
-}
-asked_where calls input asked word words deck name (Err fault) a_deck a_name uncut both came = record {
-  form = tt;
-  refused = by came.fault;
-}
-  where
-    by : IsDeckFault fault ⊎ ((layout : List Placed) × AreWordsRefused layout (word ∷ words) fault) → IsAskedFormRefused asked (word ∷ words) fault
-    by (inl is) = inl (form_of_deck asked fault both is)
-    by (inr is) = refused_of asked (word ∷ words) both fault is.0 is.1
+  module _ (calls : List Call) (input : Option (List ℕ)) where
+    -- what came of words that ask for nothing that only a deck tells
+    pub asked_alone : (key : ℕ) (result : Result AskedForm Fault) → IsKeyNumber asked.key key → asked.conditions ≡ [] → ComesOfFormAlone input asked.form key result calls
+        → ComesOfAskedForm input asked result calls
+    asked_alone key (Ok told) number none came =
+        record { form = inl (record { key = key; key_given = number; unconditional = none; alone = came.form }); refused = tt }
+    asked_alone key (Err fault) number none came = record { form = tt; refused = inl came.refused }
 
--- so for words that are some
-pub asked_by_some : (calls : List Call) (input : Option (List ℕ)) (asked : FormText) (words : List Word) (deck name : Word) (result : Result AskedForm Fault)
-    → words ≢ [] → asked.deck ≡ Some deck → asked.name ≡ Some name → asked.cut ≡ None → GivesFormOfFile input asked.kind deck name words result calls
-    → ComesOfAskedForm input asked words result calls
-asked_by_some calls input asked [] deck name result some a_deck a_name uncut came = absurd (some refl)
-asked_by_some calls input asked (word ∷ words) deck name result some a_deck a_name uncut came =
-    let both : IsDeckAsked asked.deck asked.name = (subst (λ (o : Option Word). IsSome o) (sym a_deck) refl, subst (λ (o : Option Word). IsSome o) (sym a_name) refl) in
-    asked_where calls input asked word words deck name result a_deck a_name uncut both came
-
--- words that are some have texts
-pub some_texts : (words : List (Bor (List ℕ))) → 0 < length words → texts_of words ≢ []
-some_texts [] some none = absurd (omega (arith, some))
-some_texts (word ∷ words) some none = absurd (cc)
+    -- what came of the file of a deck, where one is asked for
+    pub asked_where : (deck name : Word) (result : Result AskedForm Fault) → WantsDeck asked.key asked.conditions
+        → asked.form.deck ≡ Some deck → asked.form.name ≡ Some name → asked.form.cut ≡ None → GivesFormOfFile input deck name asked result calls
+        → ComesOfAskedForm input asked result calls
+    asked_where deck name (Ok told) wanted a_deck a_name uncut came = record {
+      form = inr (record { deck = deck; name = name; wanted = wanted; deck_given = a_deck; name_given = a_name; uncut = uncut; of_file = came.right });
+      refused = tt;
+    }
+    asked_where deck name (Err fault) wanted a_deck a_name uncut came =
+        let both : IsDeckAsked asked.form.deck asked.form.name = (subst (λ (o : Option Word). IsSome o) (sym a_deck) refl, subst (λ (o : Option Word). IsSome o) (sym a_name) refl) in
+        record { form = tt; refused = refused_where both fault came.fault }

@@ -6,3 +6,4 @@ pub mod FormLemmas
 pub mod BoundLemmas
 pub mod ConditionLemmas
 pub mod AskedFormLemmas
+pub mod KeyLemmas

@@ -6,4 +6,5 @@ pub mod DeckFile
 pub mod Cuts
 pub mod Forms
 pub mod Conditions
+pub mod AskedKey
 pub mod AskedForm

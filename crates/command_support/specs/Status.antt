@@ -14,7 +14,7 @@ use Rattle.file_reports.specs.declared.statistics_listing.FileStatisticsEnd.{Fil
 use Rattle.file_reports.specs.declared.statistics_listing.FileStatisticsEnd.TheVariants.{Listed as CountListed}
 use Rattle.file_reports.specs.declared.statistics_listing.FileStatisticsEnd.TheVariants.{Unsound as NotCounted}
 use Rattle.command_support.specs.declared.fault.Fault.{Fault}
-use Rattle.command_support.specs.declared.fault.Fault.TheVariants.{Deck, NotListed, NoSuchFile}
+use Rattle.command_support.specs.declared.fault.Fault.TheVariants.{Deck, NotListed, NoSuchFile, NoSuchKey, LoneKeyName}
 use Rattle.command_support.specs.declared.fault.Fault.TheVariants.{Form as NoForm, Unexplained, LongValue, NoFileName}
 use Rattle.command_support.specs.declared.fault.Fault.TheVariants.{Condition as NoCondition, LoneRejects}
 use Rattle.command_support.specs.declared.fault.Fault.TheVariants.{Usage, Input, Output, Memory}
@@ -37,6 +37,7 @@ use Rattle.salvaged_records.specs.declared.salvaging.Salvage.TheVariants.{Unsoun
 
 -- the exit status that tells a fault
 abbrev pub status_of : Fault → ℕ
+status_of (NoSuchKey _) = 1
 status_of (Deck _) = 2
 status_of (NotListed _) = 2
 status_of NoSuchFile = 3
@@ -44,6 +45,7 @@ status_of (NoForm _) = 3
 status_of (NoCondition _) = 3
 status_of Unexplained = 3
 status_of LongValue = 3
+status_of LoneKeyName = 3
 status_of LoneRejects = 3
 status_of NoFileName = 3
 status_of (Usage _) = 3

@@ -1,9 +1,9 @@
-//! The form of a list, and its conditions.
-ghost use Rattle.std.specs.Prelude.{◌≡◌, []};
+//! The form of a list, its key, and its conditions.
+ghost use Rattle.std.specs.Prelude.{◌≡◌, ◌≢◌, []};
 ghost use Rattle.folder_shelf.specs.Reading.{ByReads};
 ghost use Rattle.command_words.specs.Asks.{form_text};
-ghost use Rattle.command_support.specs.AskedForm.{IsFormWord, IsWrittenAs, GivesFormOfFile};
-ghost use Rattle.command_support.specs.AskedForm.{ComesOfAskedForm, TellsFormFault};
+ghost use Rattle.command_support.specs.AskedForm.{IsFormWord, IsWrittenAs, GivesFormOfFile, list_words};
+ghost use Rattle.command_support.specs.AskedForm.{ComesOfAskedForm, ComesOfFormAlone, TellsFormFault, TellsDeckWanted};
 ghost use Rattle.command_support.specs.Conditions.{texts_of};
 ghost use Rattle.command_support.specs.Forms.{WantsOnlyMemory};
 
@@ -13,6 +13,7 @@ use crate::deck::{deck_at, file_in};
 use crate::fault::Fault;
 use crate::form_fault::FormFault;
 use crate::forms::{ListForm, form_of};
+use crate::key::{key_in, key_without_deck};
 use command_words::FormWords;
 use folder_shelf::System;
 use record_layout::Layout;
@@ -21,15 +22,17 @@ use record_text::{Form, item_columns};
 use std::alloc::Global;
 use std::io::Read;
 
-/// The form of a list, and the conditions that its records have to meet.
+/// The form of a list, the number of the key in whose order it is, and the conditions that its records
+/// have to meet.
 #[derive(Drop)]
 pub struct AskedForm {
     pub told: ListForm,
+    pub key: u8,
     pub conditions: Vec<Condition>,
 }
 
-/// What is wrong with the words of a form beside conditions, whose deck is given: they ask for no form,
-/// or for cuts.
+/// What is wrong with the words of a form whose deck is given for a key or conditions: they ask for no
+/// form, or for cuts.
 fn fault_beside(asked: FormWords<'_>) -> Option<FormFault>
     ensures { TellsFormFault (form_text asked.entry) result }
 {
@@ -59,19 +62,21 @@ fn form_by(alloc: Global, kind: &str, layout: &Layout) -> Result<Form, Fault>
     }
 }
 
-/// The form of a word, and conditions, by the record of a file of the deck in the file of a path.
+/// The form, the key and the conditions that words ask for, by the record and the keys of a file of the
+/// deck in the file of a path.
 fn form_where<S: System, I: Read>(
     system: &mut S,
     alloc: Global,
-    kind: &str,
+    asked: FormWords<'_>,
     deck: &str,
     name: &str,
+    key: &str,
     words: &[&str],
     input: &mut I,
 ) -> Result<AskedForm, Fault>
-    requires { IsFormWord kind.now }
-    ensures { ByReads (GivesFormOfFile (I.remaining input.old) kind.now deck.now name.now (texts_of words.now)
-        result) (S.state system.old) (S.state system.new) }
+    requires { IsFormWord asked.kind.now }
+    ensures { ByReads (GivesFormOfFile (I.remaining input.old) deck.now name.now
+        (list_words asked.entry key.now words.now) result) (S.state system.old) (S.state system.new) }
 {
     let deck = match deck_at(system, alloc, deck, input) {
         Ok(deck) => deck,
@@ -81,64 +86,84 @@ fn form_where<S: System, I: Read>(
         Ok(file) => file,
         Err(fault) => return Err(fault),
     };
+    let key = match key_in(alloc, file, key) {
+        Ok(key) => key,
+        Err(fault) => return Err(fault),
+    };
     let conditions = match conditions_of(alloc, file.layout.items(), words) {
         Ok(conditions) => conditions,
         Err(fault) => return Err(fault),
     };
-    match form_by(alloc, kind, &file.layout) {
+    match form_by(alloc, asked.kind, &file.layout) {
         Ok(form) => Ok(AskedForm {
             told: ListForm {
                 form,
                 schema: Some(file.schema.copy()),
             },
+            key,
             conditions,
         }),
         Err(fault) => Err(fault),
     }
 }
 
-/// The form of a list that words ask for, without conditions.
+/// The form of a list that words ask for, in the order of the key of a number, without conditions.
 fn form_alone<S: System, I: Read>(
     system: &mut S,
     alloc: Global,
     asked: FormWords<'_>,
+    key: u8,
     input: &mut I,
 ) -> Result<AskedForm, Fault>
-    ensures { ByReads (ComesOfAskedForm (I.remaining input.old) (form_text asked.entry) [] result)
+    ensures { ByReads (ComesOfFormAlone (I.remaining input.old) (form_text asked.entry) key result)
         (S.state system.old) (S.state system.new) }
 {
     match form_of(system, alloc, asked, input) {
         Ok(told) => Ok(AskedForm {
             told,
+            key,
             conditions: Vec::new(alloc),
         }),
         Err(fault) => Err(fault),
     }
 }
 
+/// What is wrong where there is no deck for a key that is no number, or for conditions.
+fn fault_without_deck(words: &[&str]) -> Fault
+    ensures { TellsDeckWanted (texts_of words.now) result }
+{
+    if words.is_empty() {
+        return Fault::LoneKeyName;
+    }
+    Fault::Condition(ConditionFault::NoDeck)
+}
+
 #[tactic(auto, using(folder_shelf::proofs::ReadingLemmas::by_none))]
-/// The form of a list that words ask for, and its conditions, which are those of a file of a deck.
-/// `Form`: they ask for none. `Condition`: there is no deck, or a word is no condition on the record of
-/// the file. `Deck`, `NoSuchFile`: the deck is refused, or does not have the file.
+/// The form of a list that words ask for, its key, which may have its name in a file of a deck, and its
+/// conditions, which are those of such a file. `Form`: they ask for none. `LoneKeyName`: the key has a name,
+/// and there is no deck. `Condition`: there is no deck, or a word is no condition on the record of the file.
+/// `Deck`, `NoSuchFile`, `NoSuchKey`: the deck is refused, does not have the file, or gives it no key of
+/// that name.
 pub fn form_and_conditions<S: System, I: Read>(
     system: &mut S,
     alloc: Global,
     asked: FormWords<'_>,
+    key: &str,
     words: &[&str],
     input: &mut I,
 ) -> Result<AskedForm, Fault>
-    ensures { ByReads (ComesOfAskedForm (I.remaining input.old) (form_text asked.entry) (texts_of words.now)
+    ensures { ByReads (ComesOfAskedForm (I.remaining input.old) (list_words asked.entry key.now words.now)
         result) (S.state system.old) (S.state system.new) }
 {
-    if words.is_empty() {
-        return form_alone(system, alloc, asked, input);
+    if let Some(number) = key_without_deck(key, words) {
+        return form_alone(system, alloc, asked, number, input);
     }
     match (asked.deck, asked.name) {
         (Some(deck), Some(name)) => match fault_beside(asked) {
             Some(fault) => Err(Fault::Form(fault)),
-            None => form_where(system, alloc, asked.kind, deck, name, words, input),
+            None => form_where(system, alloc, asked, deck, name, key, words, input),
         },
-        (None, None) => Err(Fault::Condition(ConditionFault::NoDeck)),
+        (None, None) => Err(fault_without_deck(words)),
         (Some(_), None) | (None, Some(_)) => Err(Fault::Form(FormFault::HalfDeck)),
     }
 }

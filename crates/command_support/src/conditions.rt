@@ -94,7 +94,7 @@ fn is_item_named(own: &Option<Name>, name: &[u8]) -> bool
 }
 
 /// Where the item of a name stands, if there is one.
-fn item_with_name(items: &[Placed], name: &[u8]) -> Option<Field>
+pub fn item_with_name(items: &[Placed], name: &[u8]) -> Option<Field>
     ensures { result ≡ item_with_name (map item_of items.now) name.now }
 {
     for item in items {

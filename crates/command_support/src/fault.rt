@@ -11,6 +11,7 @@ use deck_listing::DeckFaults;
 use deck_runner::RunFault;
 use explanations::{FAULT_NUMBERS, REASON_NUMBERS, STATUS_NUMBERS};
 use file_control::DeckFault;
+use io_state::Name;
 use std::alloc::{AllocError, AllocFailed};
 use std::fmt;
 use std::io::{self, ErrorKind, Write};
@@ -30,6 +31,21 @@ impl fmt::Display for RefusedDeck {
     }
 }
 
+/// A name that is of no key of a file of a deck: the name, and that of the file.
+#[derive(Debug, Drop)]
+pub struct UnknownKey {
+    pub name: String,
+    pub file: Name,
+}
+
+impl fmt::Display for UnknownKey {
+    fn fmt<W: fmt::Write>(&self, f: &mut fmt::Formatter<W>) -> fmt::Result {
+        let name = self.name.as_str();
+        let file = self.file.as_str();
+        write!(f, "{name} is no key of {file}")
+    }
+}
+
 /// Why no run ended.
 ///
 /// | Fault | Exit status | On standard error |
@@ -37,6 +53,8 @@ impl fmt::Display for RefusedDeck {
 /// | the deck is refused | 2 | `cobix: line L: fault C` |
 /// | a deck to be listed, or written in COBOL, is refused | 2 | the same, then line, word and reason, and those of further faults |
 /// | the command line is not understood | 3 | why, and the usage |
+/// | a file of a deck has no key of a name | 1 | `cobix: NAME is no key of FILE` |
+/// | a key has a name, and there is no deck for it | 3 | `cobix: `, and what a key is |
 /// | a deck has no such file | 3 | `cobix: the deck has no file of this name` |
 /// | there is no such form of a list, or `--deck` or `--file` is alone | 3 | `cobix: `, and why |
 /// | a condition of a list is none, or there is no deck for it | 3 | `cobix: `, and why |
@@ -55,6 +73,10 @@ pub enum Fault {
     NotListed(RefusedDeck),
     #[error("cobix: the deck has no file of this name")]
     NoSuchFile,
+    #[error("cobix: {0}")]
+    NoSuchKey(UnknownKey),
+    #[error("cobix: a key is a number from 0 to 8, or, with '--deck' and '--file', the name of a key")]
+    LoneKeyName,
     #[error("cobix: {0}")]
     Form(FormFault),
     #[error("cobix: {0}")]
@@ -157,11 +179,12 @@ impl Fault {
         ensures { result ≡ status_of self.now }
     {
         match self {
+            Fault::NoSuchKey(_) => 1,
             Fault::Deck(_) => 2,
             Fault::NotListed(_) => 2,
             Fault::Usage(_) => 3,
             Fault::NoSuchFile | Fault::Form(_) | Fault::Condition(_) => 3,
-            Fault::Unexplained | Fault::LongValue => 3,
+            Fault::Unexplained | Fault::LongValue | Fault::LoneKeyName => 3,
             Fault::LoneRejects | Fault::NoFileName => 3,
             Fault::Input | Fault::Output | Fault::Memory => 4,
         }

@@ -150,17 +150,15 @@ pub record IsForm (rows : List Row) (form : FormText) : Type 0 where
 abbrev pub AreConditions : List Row → (conditions : List Text) → Type 0
 AreConditions rows conditions = unwrap_or (all_of (codes "where") rows) [] ≡ conditions
 
--- the subcommand that was met is to list records of this file in the order of a key, from a value
--- on, to a value, and so many at most of those for which conditions hold, in a form, with progress or
--- not
-pub record IsList (met : Option (Text × List Row)) (file : Text) (key : ℕ) (from to : Option Text)
+-- the subcommand that was met is to list records of this file in the order of a key, of which this is
+-- the word, from a value on, to a value, and so many at most of those for which conditions hold, in a
+-- form, with progress or not
+pub record IsList (met : Option (Text × List Row)) (file key : Text) (from to : Option Text)
     (first : ℕ) (conditions : List Text) (form : FormText) (checked quiet : Bool) : Type 0 where
   pub rows : List Row
   pub is : met ≡ Some (codes "list", rows)
   pub file_given : first_of (codes "file") rows ≡ Some file
-  pub key_text : Text
-  pub key_given : one_of (codes "key") rows ≡ Some key_text
-  pub key_is : IsNumber 8 key_text key
+  pub key_given : first_of (codes "key") rows ≡ Some key
   pub first_text : Text
   pub first_given : one_of (codes "first") rows ≡ Some first_text
   pub first_is : IsNumber 64 first_text first
@@ -273,7 +271,7 @@ IsRequestMet met (Schema file deck name) = IsSchemaRequest met file.now (option_
 IsRequestMet met (Explain kind number) = IsExplain met kind.now number.now
 IsRequestMet met (Deck deck) = IsDeckRequest met deck.now
 IsRequestMet met (ListRecords file key from to first conditions form checked quiet wait) =
-    IsList met file.now key (option_map (λ text. text.now) from) (option_map (λ text. text.now) to) first
+    IsList met file.now key.now (option_map (λ text. text.now) from) (option_map (λ text. text.now) to) first
     (map (λ text. text.now) conditions.items) (form_text form) checked quiet × IsWaitMet met wait
 IsRequestMet met (Cobol deck fixed) = IsCobol met deck.now fixed
 IsRequestMet met (Load deck folder file text form encoding into limits lines rejects quiet) =
@@ -307,7 +305,7 @@ abbrev pub IsNoDeckList : Option (Text × List Row) → Type 0
 IsNoDeckList met = (deck : Text) → ¬ (IsDeckRequest met deck)
 
 abbrev pub IsNoList : Option (Text × List Row) → Type 0
-IsNoList met = (file : Text) (key : ℕ) (from to : Option Text) (first : ℕ) (conditions : List Text)
+IsNoList met = (file key : Text) (from to : Option Text) (first : ℕ) (conditions : List Text)
     (form : FormText) (checked quiet : Bool)
     → ¬ (IsList met file key from to first conditions form checked quiet)
 
@@ -401,7 +399,7 @@ abbrev pub AskDeck : List Text → (deck : Text) → Type 0
 AskDeck words deck = AreFaultless words × IsDeckRequest (subcommand_of program_app words) deck
 
 -- to list records of this file in a form, with progress or not
-abbrev pub AskList : List Text → (file : Text) (key : ℕ) (from to : Option Text) (first : ℕ)
+abbrev pub AskList : List Text → (file key : Text) (from to : Option Text) (first : ℕ)
     (conditions : List Text) (form : FormText) (checked quiet : Bool) → Type 0
 AskList words file key from to first conditions form checked quiet = AreFaultless words
     × IsList (subcommand_of program_app words) file key from to first conditions form checked quiet
@@ -454,7 +452,7 @@ Ask words (Schema file deck name) = AskSchema words file.now (option_map (λ tex
 Ask words (Explain kind number) = AskExplain words kind.now number.now
 Ask words (Deck deck) = AskDeck words deck.now
 Ask words (ListRecords file key from to first conditions form checked quiet wait) =
-    AskList words file.now key (option_map (λ text. text.now) from) (option_map (λ text. text.now) to) first
+    AskList words file.now key.now (option_map (λ text. text.now) from) (option_map (λ text. text.now) to) first
     (map (λ text. text.now) conditions.items) (form_text form) checked quiet × AskWait words wait
 Ask words (Cobol deck fixed) = AskCobol words deck.now fixed
 Ask words (Load deck folder file text form encoding into limits lines rejects quiet) =

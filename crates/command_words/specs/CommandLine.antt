@@ -116,6 +116,10 @@ where_rule = record (text_rule (codes "where")) { action = Some Append }
 abbrev pub key_rule : Rule
 key_rule = number_rule (codes "key") 0 8 (codes "0")
 
+-- `[--key KEY]`, a number or a name
+abbrev pub key_word_rule : Rule
+key_word_rule = usual_rule (codes "key") (codes "0")
+
 -- `[--memory MIB]`
 abbrev pub memory_rule : Rule
 memory_rule = number_rule (codes "memory") 0 65536 (codes "256")
@@ -124,12 +128,12 @@ memory_rule = number_rule (codes "memory") 0 65536 (codes "256")
 abbrev pub encoding_rule : Rule
 encoding_rule = usual_rule (codes "encoding") (codes "ascii")
 
--- `list FILE [--key N] [--from V] [--to V] [--first N] [--where ITEM=VALUE].. [--as FORM]
+-- `list FILE [--key KEY] [--from V] [--to V] [--first N] [--where ITEM=VALUE].. [--as FORM]
 -- [--encoding ENCODING] [--cut N,N..] [--deck DECK --file NAME] [--checked] [--quiet]
 -- [--wait SECONDS]`
 abbrev pub list_shape : Shape
 list_shape = record (new_shape (codes "list")) {
-  rules = word_rule (codes "file") ∷ key_rule ∷ text_rule
+  rules = word_rule (codes "file") ∷ key_word_rule ∷ text_rule
       (codes "from") ∷ text_rule (codes "to")
       ∷ first_rule ∷ where_rule ∷ usual_rule (codes "as") (codes "text") ∷ encoding_rule ∷ text_rule
       (codes "cut") ∷ text_rule (codes "deck") ∷ name_rule ∷ flag_rule (codes "checked")

@@ -6,7 +6,7 @@ use Rattle.clap.specs.declared.builder.command.Command.{Command}
 use Rattle.clap.specs.declared.builder.command.Command.TheViews.{out-Command}
 use Rattle.command_words.specs.CommandLine.{word_rule, option_rule, text_rule, usual_rule, name_rule}
 use Rattle.command_words.specs.CommandLine.{flag_rule, number_rule, pages_rule, frames_rule, wait_rule, skip_rule}
-use Rattle.command_words.specs.CommandLine.{key_rule, memory_rule, encoding_rule}
+use Rattle.command_words.specs.CommandLine.{key_word_rule, memory_rule, encoding_rule}
 
 -- an argument of this rule, for its own command alone
 abbrev pub HasRule : Rule → Arg → Type 0
@@ -55,7 +55,7 @@ with_values app = with_rule (with_rule app (text_rule (codes "from"))) (text_rul
 
 -- with the bounds of a list
 abbrev pub with_bounds : App → App
-with_bounds app = with_values (with_rule app key_rule)
+with_bounds app = with_values (with_rule app key_word_rule)
 
 -- with a kind of form, and an encoding
 abbrev pub with_kind : App → App

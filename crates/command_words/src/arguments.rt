@@ -2,7 +2,7 @@
 ghost use Rattle.std.specs.Prelude.{codes};
 ghost use Rattle.command_words.specs.CommandLine.{word_rule, words_rule, option_rule, text_rule, usual_rule};
 ghost use Rattle.command_words.specs.CommandLine.{name_rule, flag_rule, number_rule, first_rule, wait_rule, skip_rule};
-ghost use Rattle.command_words.specs.CommandLine.{where_rule, key_rule, memory_rule, encoding_rule};
+ghost use Rattle.command_words.specs.CommandLine.{where_rule, key_rule, key_word_rule, memory_rule, encoding_rule};
 ghost use Rattle.command_words.specs.Commands.{HasRule};
 
 use clap::builder::ValueParser;
@@ -23,11 +23,18 @@ pub fn number<'a>(
     usual(alloc, name, "N", default, help).value_parser(ValueParser::unsigned(least, most))
 }
 
-/// The option `--key`.
+/// The option `--key` of a copy: the number of a key.
 pub fn key<'a>(alloc: Global, help: &'a str) -> Arg<'a>
     ensures { HasRule key_rule result }
 {
     number(alloc, "key", 0, 8, "0", help)
+}
+
+/// The option `--key` of a list: the number of a key, or its name.
+pub fn key_word<'a>(alloc: Global, help: &'a str) -> Arg<'a>
+    ensures { HasRule key_word_rule result }
+{
+    usual(alloc, "key", "KEY", "0", help)
 }
 
 /// The option `--encoding`.

@@ -197,7 +197,7 @@ fn listed<'a>(list: &ArgMatches<'a>, conditions: Vec<&'a str>) -> Option<Request
         → met ≡ Some (codes "list", rows_of (found_of list.now)) → IsNoList met }
 {
     let file = list.get_str("file")?;
-    let key = list.get_one("key")?;
+    let key = list.get_str("key")?;
     let first = list.get_one("first")?;
     let form = form_of(list)?;
     let checked = checked_of(list)?;

@@ -118,6 +118,8 @@ value; in V a backslash and two digits from 0 to f are a byte, as a line shows i
 The file is read page after page, and no run changes it meanwhile. What is met that is not as it has to be \
 ends the list, and the lines before it stay. With '--checked' the whole file is checked first, and read once \
 before the first line.
+KEY is a number, or, with '--deck' and '--file', the name of the item that RECORD KEY or ALTERNATE RECORD KEY \
+names there.
 
 Conditions:
   --where ITEM=VALUE        only records whose ITEM has this VALUE; with several conditions those of which all hold
@@ -146,11 +148,11 @@ Exit status:
   0   the lines were written
   1   'unsound N' on standard error, as of 'cobix check'; with '--checked', and where the first page tells it, \
 no line was written
-      'cobix: the file has no such key': no line was written
+      'cobix: the file has no such key', or 'cobix: KEY is no key of NAME': no line was written
       'cobix: the file is of another schema than the deck': a line for each difference, as of 'cobix schema'
   2   the deck is refused: 'cobix: line L: fault C'
-  3   the command line is not understood, V is longer than 250 bytes, there is no such form or encoding, text is \
-to have columns, '--cut' is beside '--deck', '--deck' or '--file' is alone, the cuts are no rising numbers from 1 to \
+  3   the command line is not understood, V is longer than 250 bytes, KEY is a name without '--deck' and '--file', \
+there is no such form or encoding, text is to have columns, '--cut' is beside '--deck', '--deck' or '--file' is alone, the cuts are no rising numbers from 1 to \
 65,535, the deck has no file NAME, a condition has no sign or is without '--deck' and '--file', the record has no \
 ITEM, or VALUE is longer than it
   4   the file or the deck could not be read ('cobix: input'), the lines could not be written \

@@ -55,12 +55,12 @@ pub enum Request<'a> {
     Deck {
         deck: &'a str,
     },
-    /// The records of the file of this path, in the order of a key: from this value on, to that
-    /// one, and so many at most of those for which these conditions hold, in this form; after a check of
-    /// the whole file, or as it is read; without progress where it is quiet.
+    /// The records of the file of this path, in the order of a key, which is a number or a name: from
+    /// this value on, to that one, and so many at most of those for which these conditions hold, in this
+    /// form; after a check of the whole file, or as it is read; without progress where it is quiet.
     List {
         file: &'a str,
-        key: u8,
+        key: &'a str,
         from: Option<&'a str>,
         to: Option<&'a str>,
         first: u64,

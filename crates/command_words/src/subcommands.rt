@@ -14,8 +14,8 @@ ghost use Rattle.command_words.specs.CommandLine.{versioned_shape, program_shape
 ghost use Rattle.command_words.specs.CommandLine.{lists_app, records_app, loads_app, salvages_app, program_app};
 
 use crate::arguments::{
-    conditions, deck, encoding, first, flag, folder, key, memory, name, number, option, skip, text,
-    usual, wait, word, words,
+    conditions, deck, encoding, first, flag, folder, key, key_word, memory, name, number, option,
+    skip, text, usual, wait, word, words,
 };
 use crate::help::{
     ANSWERS, COBOL, COPIED, COUNTED, EXPLAINED, LISTED, LOADED, REASONS, RECORDS, SALVAGED, SCHEMA,
@@ -269,9 +269,10 @@ fn with_bounds<'a>(
 ) -> Result<Command<'a>, AllocError>
     ensures { (app : App) → IfOk list.entry (IsApp app) → IfOk result (IsApp (with_bounds app)) }
 {
-    let key = key(
+    let key = key_word(
         alloc,
-        "The key in whose order they are listed: 0 is the prime key, 1 to 8 the alternate keys",
+        "The key in whose order they are listed: 0 is the prime key, 1 to 8 the alternate keys; or, with \
+         '--deck' and '--file', the name of a key",
     );
     with_values(alloc, with_argument(list, key))
 }
@@ -306,7 +307,8 @@ fn with_form<'a>(
     with_deck(
         alloc,
         with_argument(formed, cut),
-        "Takes the items of columns and conditions from a file of the deck in this file, or '-' for standard input",
+        "Takes the items of columns and conditions, and the name of a key, from a file of the deck in this file, \
+         or '-' for standard input",
     )
 }
 

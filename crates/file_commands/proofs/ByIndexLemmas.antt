@@ -21,8 +21,8 @@ use Rattle.command_support.specs.declared.outcome.Outcome.{Outcome}
 use Rattle.command_support.specs.declared.outcome.Outcome.TheVariants.{Records, OtherSchema}
 use Rattle.file_commands.specs.ByIndex.{TellsReasonBy, TellsEnd, ToldOfPages, EndsByIndex, IsStart, ListsPages, ListsByIndex, DoesByIndex}
 use Rattle.command_support.specs.AskedForm.{IsListRefused}
-use Rattle.command_support.specs.Conditions.{texts_of}
-use Rattle.file_commands.specs.Records.{AgreesWith, WritesOther}
+use Rattle.command_support.specs.declared.forms.ListForm.{ListForm}
+use Rattle.file_commands.specs.Records.{AgreesWith, WritesOther, words_of}
 use Rattle.file_commands.specs.declared.by_index.ListStart.{ListStart}
 use Rattle.file_commands.specs.declared.listing.Bounds.{Bounds}
 use Rattle.command_support.proofs.FormLemmas.{form_not_read}
@@ -86,18 +86,18 @@ module _ (disk : Unseen) (path : List ℕ) (form : Form) (asked : Asked) (before
 -- the start was read by these calls
 module _ {W : Type 0} (disk : Unseen) (input : Option (List ℕ)) (path : List ℕ) (bounds : Bounds) (words : FormWords) (contents : W → Option (List ℕ)) (old new : W) where
   -- the words are refused
-  pub not_begun : (calls : List Call) (fault : Fault) → IsListRefused (form_text words) (texts_of bounds.conditions.now) fault → ListsByIndex disk input path bounds words contents old old (Err fault) calls
+  pub not_begun : (calls : List Call) (fault : Fault) → IsListRefused (words_of bounds words) fault → ListsByIndex disk input path bounds words contents old old (Err fault) calls
   not_begun calls fault is = record { records = tt; untouched = λ _. refl; fault = is }
 
   -- the input, the output or memory failed
   pub broken_off : (calls : List Call) (fault : Fault) → status_of fault ≡ 4 → ListsByIndex disk input path bounds words contents old new (Err fault) calls
   broken_off calls fault four = record { records = tt; untouched = λ other. absurd (other four); fault = inr (inl (form_not_read (form_text words) fault four)) }
 
-  module _ (start : ListStart) (calls : List Call) (begun : IsStart input path bounds (form_text words) calls start) where
+  module _ (start : ListStart) (calls : List Call) (begun : IsStart input path bounds (words_of bounds words) calls start) where
     -- the file is of another schema than that of the deck
     pub other_schema : WritesOther start.told.schema start.page.items (contents old) (contents new) → ListsByIndex disk input path bounds words contents old new (Ok OtherSchema) calls
     other_schema written = record {
-      records = (start.told.form, start.told.schema, begun.conditions, begun.deck, begun.is_form, (start.page.items, begun.are, written));
+      records = (begun.told, begun.deck, begun.is_form, (start.page.items, begun.are, subst (λ (told : ListForm). WritesOther told.schema start.page.items (contents old) (contents new)) begun.form_is written));
       untouched = tt;
       fault = tt;
     }
@@ -107,23 +107,21 @@ module _ {W : Type 0} (disk : Unseen) (input : Option (List ℕ)) (path : List �
         → ListsPages disk path start.told.form start.asked (contents old) (contents new) result pages → ListsByIndex disk input path bounds words contents old new result (pages ++ calls)
     listed (Err fault) pages agrees lists = broken_off (pages ++ calls) fault lists.fault
     listed (Ok outcome) pages agrees lists = let done = lists.done in record {
-      records = subst (DoesByIndex disk input path bounds (texts_of bounds.conditions.now) (form_text words) (contents old) (contents new) (pages ++ calls)) (sym done.1) (
-        start.asked,
-        begun.conditions,
-        begun.asked,
-        record {
-          form = start.told.form;
-          schema = start.told.schema;
-          deck = begun.deck;
-          page = start.page.items;
-          reads = done.2;
-          later = done.3;
-          is_form = begun.is_form;
-          agrees = agrees;
-          are = ap (λ (l : List Call). l ++ calls) done.4 ∙ ap (λ (l : List Call). (done.3 ++ done.2) ++ l) begun.are;
-          so = done.5;
-        },
-      );
+      records = subst (DoesByIndex disk input path bounds (words_of bounds words) (contents old) (contents new) (pages ++ calls)) (sym done.1) (record {
+        told = begun.told;
+        deck = begun.deck;
+        page = start.page.items;
+        reads = done.2;
+        later = done.3;
+        is_form = begun.is_form;
+        agrees = subst (λ (told : ListForm). AgreesWith told.schema start.page.items) begun.form_is agrees;
+        are = ap (λ (l : List Call). l ++ calls) done.4 ∙ ap (λ (l : List Call). (done.3 ++ done.2) ++ l) begun.are;
+        so = (
+          start.asked,
+          begun.asked,
+          subst (λ (told : ListForm). EndsByIndex disk path told.form start.asked done.2 done.3 (contents old) (contents new) done.0) begun.form_is done.5,
+        );
+      });
       untouched = tt;
       fault = tt;
     }

@@ -1,20 +1,16 @@
 -- How a list of records ended.
-use Rattle.std.specs.Global.{Vec}
-use Rattle.std.proofs.Common.{◌≡◌, ℕ, List, [], ◌++◌, Option, Result, Ok, Err, inl, inr, refl, sym, ap, subst}
-use Rattle.record_layout.specs.Schema.{Schema}
+use Rattle.std.proofs.Common.{◌≡◌, ℕ, List, ◌++◌, Option, Result, Ok, Err, inl, inr, refl, sym, ap, subst}
 use Rattle.record_listing.specs.declared.asked.Asked.{Asked}
 use Rattle.record_listing.specs.declared.end.ListFault.{ListFault}
-use Rattle.record_text.specs.declared.form.Form.{Form}
 use Rattle.record_listing.specs.FileList.{EndsIn}
 use Rattle.record_listing.specs.declared.file_list.FileList.{FileList}
 use Rattle.command_words.specs.Asks.{form_text}
 use Rattle.command_words.specs.declared.form_words.FormWords.{FormWords}
 use Rattle.folder_shelf.specs.Calls.{Call}
 use Rattle.command_support.specs.Front.{counted_calls}
-use Rattle.record_listing.specs.declared.condition.Condition.{Condition}
 use Rattle.command_support.specs.AskedForm.{IsAskedFormBy, IsAskedFormRefused}
-use Rattle.command_support.specs.Conditions.{texts_of}
-use Rattle.file_commands.specs.Records.{AgreesWith, WritesOther, IsAskedBy, ListsAsked, ListsFile, ToldOfList}
+use Rattle.command_support.specs.declared.asked_form.AskedForm.{AskedForm}
+use Rattle.file_commands.specs.Records.{AgreesWith, WritesOther, IsAskedBy, ListsAsked, ListsFile, ToldOfList, words_of}
 use Rattle.file_commands.specs.declared.listing.Bounds.{Bounds}
 use Rattle.command_support.proofs.FormLemmas.{form_not_read}
 use Rattle.command_support.specs.Status.{status_of}
@@ -23,23 +19,13 @@ use Rattle.command_support.specs.declared.outcome.Outcome.TheVariants.{OtherSche
 use Rattle.command_support.specs.declared.fault.Fault.{Fault}
 use Rattle.command_support.specs.declared.fault.Fault.TheVariants.{LongValue}
 
--- the same is asked for, with conditions
-pub with_these : (bounds : Bounds) (asked : Asked) (conditions : Vec Condition) (new : Asked) → IsAskedBy bounds [] asked → new ≡ record asked { conditions = conditions } → IsAskedBy bounds conditions.items new
-with_these bounds asked conditions new is same = subst (IsAskedBy bounds conditions.items) (sym same) (record {
-  key_is = is.key_is;
-  from_is = is.from_is;
-  to_is = is.to_is;
-  first_is = is.first_is;
-  conditions_are = refl;
-})
-
 module _ {W : Type 0} (input : Option (List ℕ)) (path : List ℕ) (bounds : Bounds) (words : FormWords) (contents : W → Option (List ℕ)) (old : W) where
   -- a value is too long
   pub not_asked : (calls : List Call) (fault : Fault) → fault ≡ LongValue → ListsFile input path bounds words contents old old (Err fault) calls
   not_asked calls fault is = record { records = tt; untouched = λ _. refl; fault = inl is }
 
   -- the form is refused
-  pub no_form : (calls : List Call) (fault : Fault) → IsAskedFormRefused (form_text words) (texts_of bounds.conditions.now) fault → ListsFile input path bounds words contents old old (Err fault) calls
+  pub no_form : (calls : List Call) (fault : Fault) → IsAskedFormRefused (words_of bounds words) fault → ListsFile input path bounds words contents old old (Err fault) calls
   no_form calls fault is = record { records = tt; untouched = λ _. refl; fault = inr is }
 
   module _ (new : W) where
@@ -47,23 +33,22 @@ module _ {W : Type 0} (input : Option (List ℕ)) (path : List ℕ) (bounds : Bo
     pub broken_off : (calls : List Call) (fault : Fault) → status_of fault ≡ 4 → ListsFile input path bounds words contents old new (Err fault) calls
     broken_off calls fault four = record { records = tt; untouched = λ other. absurd (other four); fault = inr (inl (form_not_read (form_text words) fault four)) }
 
-    module _ (form : Form) (schema : Option Schema) (conditions : List Condition) (bytes : List ℕ) (before later : List Call)
-        (formed : IsAskedFormBy before input (form_text words) (texts_of bounds.conditions.now) form schema conditions)
+    module _ (formed : AskedForm) (bytes : List ℕ) (before later : List Call) (is_formed : IsAskedFormBy before input (words_of bounds words) formed)
         (came : later ≡ counted_calls path bytes) where
       -- the file is of another schema than that of the deck
-      pub other_schema : WritesOther schema bytes (contents old) (contents new) → ListsFile input path bounds words contents old new (Ok OtherSchema) (later ++ before)
+      pub other_schema : WritesOther formed.told.schema bytes (contents old) (contents new) → ListsFile input path bounds words contents old new (Ok OtherSchema) (later ++ before)
       other_schema written = record {
-        records = (form, schema, conditions, before, formed, (bytes, ap (λ (l : List Call). l ++ before) came, written));
+        records = (formed, before, is_formed, (bytes, ap (λ (l : List Call). l ++ before) came, written));
         untouched = tt;
         fault = tt;
       }
 
       -- the list ended
-      pub listed : (asked : Asked) (end : Result FileList ListFault) (result : Result Outcome Fault) → AgreesWith schema bytes → IsAskedBy bounds conditions asked
-          → EndsIn form bytes asked (contents old) (contents new) end → ToldOfList end result → ListsFile input path bounds words contents old new result (later ++ before)
+      pub listed : (asked : Asked) (end : Result FileList ListFault) (result : Result Outcome Fault) → AgreesWith formed.told.schema bytes → IsAskedBy bounds formed.key formed.conditions.items asked
+          → EndsIn formed.told.form bytes asked (contents old) (contents new) end → ToldOfList end result → ListsFile input path bounds words contents old new result (later ++ before)
       listed asked (Ok list) (Ok outcome) agrees is_asked ends told = record {
-        records = subst (ListsAsked input path bounds (texts_of bounds.conditions.now) (form_text words) contents old new (later ++ before)) (sym told.done)
-            (form, schema, conditions, before, formed, (bytes, ap (λ (l : List Call). l ++ before) came, (agrees, (asked, is_asked, ends))));
+        records = subst (ListsAsked input path bounds (words_of bounds words) contents old new (later ++ before)) (sym told.done)
+            (formed, before, is_formed, (bytes, ap (λ (l : List Call). l ++ before) came, (agrees, (asked, is_asked, ends))));
         untouched = tt;
         fault = tt;
       }

@@ -23,13 +23,11 @@ use Rattle.command_support.specs.Status.{status_of}
 use Rattle.command_support.specs.declared.fault.Fault.{Fault}
 use Rattle.command_support.specs.declared.outcome.Outcome.{Outcome}
 use Rattle.command_support.specs.declared.outcome.Outcome.TheVariants.{Records, OtherSchema}
-use Rattle.command_words.specs.Asks.{FormText, form_text}
 use Rattle.command_words.specs.declared.form_words.FormWords.{FormWords}
 use Rattle.command_support.specs.Front.{OfFirstPage, counted_calls, word_in}
-use Rattle.record_listing.specs.declared.condition.Condition.{Condition}
-use Rattle.command_support.specs.AskedForm.{IsAskedFormBy, IsListRefused}
-use Rattle.command_support.specs.Conditions.{texts_of}
-use Rattle.file_commands.specs.Records.{IsAskedFor, IsAskedBy, AgreesWith, WritesOther}
+use Rattle.command_support.specs.AskedForm.{ListWords, IsAskedFormBy, IsListRefused}
+use Rattle.command_support.specs.declared.asked_form.AskedForm.{AskedForm}
+use Rattle.file_commands.specs.Records.{IsAskedFor, IsAskedBy, AgreesWith, WritesOther, words_of}
 use Rattle.file_commands.specs.declared.by_index.ListStart.{ListStart}
 use Rattle.file_commands.specs.declared.listing.Bounds.{Bounds}
 
@@ -65,22 +63,22 @@ pub record ToldOfPages (path : List ℕ) (end : Result ListEnd ListFault) (resul
   pub there : IfErr end (λ _. IfOk result (λ _. ⊥))
   pub fault : IfErr result (λ fault. status_of fault ≡ 4)
 
--- what is listed is what the words ask for, and so are the form and the conditions; behind the calls by
--- which their deck was read, if one is asked for, one gave the first page of the file of a path
-pub record IsStart (input : Option (List ℕ)) (path : List ℕ) (bounds : Bounds) (form : FormText)
+-- what is listed is what the words ask for, and so are the form, the key and the conditions; behind the
+-- calls by which their deck was read, if one is asked for, one gave the first page of the file of a path
+pub record IsStart (input : Option (List ℕ)) (path : List ℕ) (bounds : Bounds) (words : ListWords)
     (calls : List Call) (start : ListStart) : Type 0 where
   pub deck : List Call
-  pub conditions : List Condition
-  pub asked : IsAskedBy bounds conditions start.asked
-  pub is_form : IsAskedFormBy deck input form (texts_of bounds.conditions.now) start.told.form start.told.schema
-      conditions
+  pub told : AskedForm
+  pub asked : IsAskedBy bounds told.key told.conditions.items start.asked
+  pub is_form : IsAskedFormBy deck input words told
+  pub form_is : start.told ≡ told.told
   pub are : calls ≡ taken_shared path 4096 (Some start.page.items) ∷ deck
 
 -- so it was read; or the words are refused, or the input or memory failed
 pub record ReadsStart (input : Option (List ℕ)) (path : List ℕ) (bounds : Bounds) (form : FormWords)
     (result : Result ListStart Fault) (calls : List Call) : Type 0 where
-  pub start : IfOk result (IsStart input path bounds (form_text form) calls)
-  pub fault : IfErr result (IsListRefused (form_text form) (texts_of bounds.conditions.now))
+  pub start : IfOk result (IsStart input path bounds (words_of bounds form) calls)
+  pub fault : IfErr result (IsListRefused (words_of bounds form))
 
 -- what a list of a file by these reads, and the calls behind them, ended with
 abbrev pub EndsByIndex : Unseen → (path : List ℕ) → Form → Asked → (reads later : List Call)
@@ -102,49 +100,46 @@ pub record ListsPages (disk : Unseen) (path : List ℕ) (form : Form) (asked : A
       × EndsByIndex disk path form asked reads later before behind list)
   pub fault : IfErr result (λ fault. status_of fault ≡ 4)
 
--- the form is the one that is asked for, and so are the conditions; behind the calls by which their deck
--- was read, if one is asked for, one gave the first page of the file of a path, and then it was listed by
--- these reads and calls
-pub record ReadsByIndex (input : Option (List ℕ)) (path : List ℕ) (asked : FormText)
-    (words : List (List ℕ)) (conditions : List Condition) (calls : List Call)
-    (IsSo : Form → (reads later : List Call) → Type 0) : Type 0 where
-  pub form : Form
-  pub schema : Option Schema
+-- the form is the one that is asked for, and so are the key and the conditions; behind the calls by which
+-- their deck was read, if one is asked for, one gave the first page of the file of a path, and then it was
+-- listed by these reads and calls
+pub record ReadsByIndex (input : Option (List ℕ)) (path : List ℕ) (words : ListWords) (calls : List Call)
+    (IsSo : AskedForm → (reads later : List Call) → Type 0) : Type 0 where
+  pub told : AskedForm
   pub deck : List Call
   pub page : List ℕ
   pub reads : List Call
   pub later : List Call
-  pub is_form : IsAskedFormBy deck input asked words form schema conditions
-  pub agrees : AgreesWith schema page
+  pub is_form : IsAskedFormBy deck input words told
+  pub agrees : AgreesWith told.told.schema page
   pub are : calls ≡ later ++ reads ++ taken_shared path 4096 (Some page) ∷ deck
-  pub so : IsSo form reads later
+  pub so : IsSo told reads later
 
 -- the records of a file were listed as is asked for, and this is how the list ended
-abbrev pub ListsRecordsByIndex : Unseen → (input : Option (List ℕ)) → (path : List ℕ) → FormText
-    → (key : ℕ) (from to : Option (List ℕ)) (first : ℕ) (words : List (List ℕ))
-    → (before behind : Option (List ℕ)) → List Call → FileList → Type 0
-ListsRecordsByIndex disk input path form key from to first words before behind calls list =
-    (asked : Asked) × (conditions : List Condition) × IsAskedFor key from to first conditions asked
-    × ReadsByIndex input path form words conditions calls (λ form reads later.
-    EndsByIndex disk path form asked reads later before behind list)
+abbrev pub ListsRecordsByIndex : Unseen → (input : Option (List ℕ)) → (path : List ℕ) → ListWords
+    → (from to : Option (List ℕ)) (first : ℕ) → (before behind : Option (List ℕ)) → List Call → FileList
+    → Type 0
+ListsRecordsByIndex disk input path words from to first before behind calls list =
+    ReadsByIndex input path words calls (λ told reads later. (asked : Asked)
+    × IsAskedFor told.key from to first told.conditions.items asked
+    × EndsByIndex disk path told.told.form asked reads later before behind list)
 
 -- the first page of the file is that of another schema than the deck's, and the differences were written
-abbrev pub FindsOther : (input : Option (List ℕ)) → (path : List ℕ) → FormText → (words : List (List ℕ))
+abbrev pub FindsOther : (input : Option (List ℕ)) → (path : List ℕ) → ListWords
     → (before behind : Option (List ℕ)) → List Call → Type 0
-FindsOther input path asked words before behind calls = (form : Form) × (schema : Option Schema)
-    × (conditions : List Condition) × (deck : List Call)
-    × IsAskedFormBy deck input asked words form schema conditions
-    × OfFirstPage path deck calls (λ page. WritesOther schema page before behind)
+FindsOther input path words before behind calls = (told : AskedForm) × (deck : List Call)
+    × IsAskedFormBy deck input words told
+    × OfFirstPage path deck calls (λ page. WritesOther told.told.schema page before behind)
 
 -- what was done for these words
-abbrev pub DoesByIndex : Unseen → (input : Option (List ℕ)) → (path : List ℕ) → Bounds → (words : List (List ℕ)) → FormText
+abbrev pub DoesByIndex : Unseen → (input : Option (List ℕ)) → (path : List ℕ) → Bounds → ListWords
     → (before behind : Option (List ℕ)) → List Call → Outcome → Type 0
-DoesByIndex disk input path bounds words asked before behind calls (Records list) =
-    ListsRecordsByIndex disk input path asked bounds.key (word_in bounds.from) (word_in bounds.to)
-    bounds.first words before behind calls list
-DoesByIndex disk input path bounds words asked before behind calls OtherSchema =
-    FindsOther input path asked words before behind calls
-DoesByIndex disk input path bounds words asked before behind calls outcome = ⊥
+DoesByIndex disk input path bounds words before behind calls (Records list) =
+    ListsRecordsByIndex disk input path words (word_in bounds.from) (word_in bounds.to) bounds.first before
+    behind calls list
+DoesByIndex disk input path bounds words before behind calls OtherSchema =
+    FindsOther input path words before behind calls
+DoesByIndex disk input path bounds words before behind calls outcome = ⊥
 
 -- the records that words ask for were listed; or the words are refused, or the input, the output or
 -- memory failed. Unless one of these failed, nothing is written where nothing is listed
@@ -153,7 +148,6 @@ pub record ListsByIndex
     (form : FormWords) (contents : W → Option (List ℕ)) (old new : W) (result : Result Outcome Fault)
     (calls : List Call) : Type 0 where
   pub records : IfOk result
-      (DoesByIndex disk input path bounds (texts_of bounds.conditions.now) (form_text form) (contents old)
-      (contents new) calls)
+      (DoesByIndex disk input path bounds (words_of bounds form) (contents old) (contents new) calls)
   pub untouched : IfErr result (λ fault. status_of fault ≢ 4 → new ≡ old)
-  pub fault : IfErr result (IsListRefused (form_text form) (texts_of bounds.conditions.now))
+  pub fault : IfErr result (IsListRefused (words_of bounds form))

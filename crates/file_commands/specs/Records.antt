@@ -15,14 +15,14 @@ use Rattle.record_listing.specs.declared.file_list.FileList.{FileList}
 use Rattle.record_listing.specs.declared.end.ListFault.{ListFault}
 use Rattle.command_support.specs.Status.{status_of}
 use Rattle.command_support.specs.declared.fault.Fault.{Fault}
-use Rattle.command_words.specs.Asks.{FormText, form_text}
 use Rattle.command_words.specs.declared.form_words.FormWords.{FormWords}
 use Rattle.folder_shelf.specs.Calls.{Call}
 use Rattle.command_support.specs.Bound.{unescaped}
 use Rattle.command_support.specs.Front.{OfCountedFile, word_in}
-use Rattle.command_support.specs.AskedForm.{IsAskedFormBy, IsListRefused}
-use Rattle.command_support.specs.Conditions.{texts_of}
+use Rattle.command_support.specs.AskedForm.{ListWords, list_words, IsAskedFormBy, IsListRefused}
+use Rattle.command_support.specs.declared.asked_form.AskedForm.{AskedForm}
 use Rattle.file_commands.specs.declared.listing.Bounds.{Bounds}
+use Rattle.file_commands.specs.declared.listing.Values.{Values}
 use Rattle.command_support.specs.declared.outcome.Outcome.{Outcome}
 use Rattle.command_support.specs.declared.outcome.Outcome.TheVariants.{Records, OtherSchema}
 
@@ -42,10 +42,20 @@ abbrev pub ListsRecords : Form → List ℕ → (key : ℕ) (from to : Option (L
 ListsRecords form bytes key from to first conditions before behind list = (asked : Asked)
     × IsAskedFor key from to first conditions asked × EndsWithIn form bytes asked before behind list
 
--- this is asked for by the words of a command line, which ask for these conditions
-abbrev pub IsAskedBy : Bounds → List Condition → Asked → Type 0
-IsAskedBy bounds conditions asked =
-    IsAskedFor bounds.key (word_in bounds.from) (word_in bounds.to) bounds.first conditions asked
+-- this is asked for by the words of a command line, which ask for the key of this number and for these
+-- conditions
+abbrev pub IsAskedBy : Bounds → (key : ℕ) → List Condition → Asked → Type 0
+IsAskedBy bounds key conditions asked =
+    IsAskedFor key (word_in bounds.from) (word_in bounds.to) bounds.first conditions asked
+
+-- what the words of a list ask for, of which a deck may tell something
+abbrev pub words_of : Bounds → FormWords → ListWords
+words_of bounds form = list_words form bounds.key.now bounds.conditions.now
+
+-- the first and the last value that the words of a list ask for
+pub record AreValues (bounds : Bounds) (values : Values) : Type 0 where
+  pub from_is : values.from.items ≡ unescaped (unwrap_or (word_in bounds.from) [])
+  pub to_is : option_map (λ value. value.items) values.to ≡ option_map unescaped (word_in bounds.to)
 
 -- OPEN would find a file of these bytes to be of the schema of a deck, where there is one
 abbrev pub AgreesWith : Option Schema → List ℕ → Type 0
@@ -59,28 +69,26 @@ WritesOther None bytes before behind = ⊥
 WritesOther (Some deck) bytes before behind =
     TellsDifferences deck before behind (read_of_file bytes) (Ok Different)
 
--- the form is the one that is asked for, and so are the conditions, and behind the calls by which their
--- deck was read, if one is asked for, others gave the bytes that the first page of the file of a path
--- counts, of which this is so
-abbrev pub OfFormAndFile : (input : Option (List ℕ)) → (path : List ℕ) → FormText → (words : List (List ℕ))
-    → List Call → (IsSo : Form → Option Schema → List Condition → List ℕ → Type 0) → Type 0
-OfFormAndFile input path asked words calls IsSo = (form : Form) × (schema : Option Schema)
-    × (conditions : List Condition) × (before : List Call)
-    × IsAskedFormBy before input asked words form schema conditions
-    × OfCountedFile path before calls (IsSo form schema conditions)
+-- the form is the one that is asked for, and so are the key and the conditions, and behind the calls by
+-- which their deck was read, if one is asked for, others gave the bytes that the first page of the file of
+-- a path counts, of which this is so
+abbrev pub OfFormAndFile : (input : Option (List ℕ)) → (path : List ℕ) → ListWords → List Call
+    → (IsSo : AskedForm → List ℕ → Type 0) → Type 0
+OfFormAndFile input path asked calls IsSo = (told : AskedForm) × (before : List Call)
+    × IsAskedFormBy before input asked told × OfCountedFile path before calls (IsSo told)
 
 -- the records of a file were listed as these words ask for it, in the form that is asked for, and this
 -- is how the list ended; or the file is of another schema than the deck whose columns are asked for
 abbrev pub ListsAsked : {W : Type 0} → (input : Option (List ℕ)) → (path : List ℕ) → Bounds
-    → (words : List (List ℕ)) → FormText → (W → Option (List ℕ)) → (old new : W) → List Call → Outcome → Type 0
-ListsAsked input path bounds words asked contents old new calls (Records list) =
-    OfFormAndFile input path asked words calls (λ form schema conditions bytes.
-    AgreesWith schema bytes × ListsRecords form bytes bounds.key (word_in bounds.from)
-    (word_in bounds.to) bounds.first conditions (contents old) (contents new) list)
-ListsAsked input path bounds words asked contents old new calls OtherSchema =
-    OfFormAndFile input path asked words calls (λ form schema conditions bytes.
-    WritesOther schema bytes (contents old) (contents new))
-ListsAsked input path bounds words asked contents old new calls outcome = ⊥
+    → ListWords → (W → Option (List ℕ)) → (old new : W) → List Call → Outcome → Type 0
+ListsAsked input path bounds asked contents old new calls (Records list) =
+    OfFormAndFile input path asked calls (λ told bytes.
+    AgreesWith told.told.schema bytes × ListsRecords told.told.form bytes told.key (word_in bounds.from)
+    (word_in bounds.to) bounds.first told.conditions.items (contents old) (contents new) list)
+ListsAsked input path bounds asked contents old new calls OtherSchema =
+    OfFormAndFile input path asked calls (λ told bytes.
+    WritesOther told.told.schema bytes (contents old) (contents new))
+ListsAsked input path bounds asked contents old new calls outcome = ⊥
 
 -- whether a file of these bytes is of another schema than that of a deck, if there is one: the
 -- differences are written then, and nothing otherwise
@@ -101,7 +109,6 @@ pub record ListsFile
     {W : Type 0} (input : Option (List ℕ)) (path : List ℕ) (bounds : Bounds) (form : FormWords)
     (contents : W → Option (List ℕ)) (old new : W) (result : Result Outcome Fault) (calls : List Call)
     : Type 0 where
-  pub records : IfOk result (ListsAsked input path bounds (texts_of bounds.conditions.now) (form_text form)
-      contents old new calls)
+  pub records : IfOk result (ListsAsked input path bounds (words_of bounds form) contents old new calls)
   pub untouched : IfErr result (λ fault. status_of fault ≢ 4 → new ≡ old)
-  pub fault : IfErr result (IsListRefused (form_text form) (texts_of bounds.conditions.now))
+  pub fault : IfErr result (IsListRefused (words_of bounds form))

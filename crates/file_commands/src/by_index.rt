@@ -5,7 +5,7 @@ ghost use Rattle.folder_shelf.specs.Reading.{ByReads};
 ghost use Rattle.record_listing.specs.ByPath.{ByReadsAside};
 ghost use Rattle.file_commands.specs.ByIndex.{TellsReason, ToldOfPages, ReadsStart, ListsPages, ListsByIndex};
 
-use crate::listing::{Bounds, asked_by, is_other, with_conditions};
+use crate::listing::{Bounds, asked_by, is_other, values_of};
 use command_support::{
     AskedForm, Fault, ListForm, Outcome, fault_of as not_read, form_and_conditions, read_counted,
     read_first_page,
@@ -94,16 +94,21 @@ fn read_start<S: System, I: Read>(
     ensures { ByReads (ReadsStart (I.remaining input.old) path.now bounds.entry form.entry result)
         (S.state system.old) (S.state system.new) }
 {
-    let asked = match asked_by(alloc, bounds) {
-        Ok(asked) => asked,
+    let values = match values_of(bounds) {
+        Ok(values) => values,
         Err(fault) => return Err(fault),
     };
-    let formed = match form_and_conditions(system, alloc, form, bounds.conditions, input) {
+    let words = bounds.conditions;
+    let formed = match form_and_conditions(system, alloc, form, bounds.key, words, input) {
         Ok(formed) => formed,
         Err(fault) => return Err(fault),
     };
-    let AskedForm { told, conditions } = formed;
-    let asked = with_conditions(asked, conditions);
+    let AskedForm {
+        told,
+        key,
+        conditions,
+    } = formed;
+    let asked = asked_by(bounds, values, key, conditions);
     match read_first_page(system, path) {
         Ok(page) => Ok(ListStart { asked, told, page }),
         Err(fault) => Err(fault),

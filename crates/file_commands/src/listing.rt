@@ -1,9 +1,9 @@
 //! The list of the records of the file of a path.
-ghost use Rattle.std.specs.Prelude.{◌≡◌, option_map, []};
+ghost use Rattle.std.specs.Prelude.{◌≡◌, option_map};
 ghost use Rattle.folder_shelf.specs.Reading.{ByReads};
 ghost use Rattle.command_support.specs.Front.{word_in, GivesSuch};
 ghost use Rattle.command_support.specs.Bound.{FitsValue};
-ghost use Rattle.file_commands.specs.Records.{IsAskedBy, ToldOfList, ListsFile, TellsOther};
+ghost use Rattle.file_commands.specs.Records.{AreValues, IsAskedBy, ToldOfList, ListsFile, TellsOther};
 
 use crate::first_page::fault_of;
 use command_support::{
@@ -13,47 +13,51 @@ use command_support::{
 use command_words::FormWords;
 use file_reports::{Comparison, compare_schema};
 use folder_shelf::System;
+use io_state::Key;
 use record_layout::Schema;
 use record_listing::{Asked, Condition, FileList, ListFault, list_file_as};
 use std::alloc::Global;
 use std::io::{Read, Write};
 use streams::Progress;
 
-/// What is asked of the list of a file: the number of a key, the first and the last value, how many
-/// records at most, and the words of the conditions that each has to meet.
+/// What is asked of the list of a file: a key by its number or its name, the first and the last value,
+/// how many records at most, and the words of the conditions that each has to meet.
 #[derive(Clone, Copy)]
 pub struct Bounds<'a> {
-    pub key: u8,
+    pub key: &'a str,
     pub from: Option<&'a str>,
     pub to: Option<&'a str>,
     pub first: u64,
     pub conditions: &'a [&'a str],
 }
 
-/// What the words of a command line ask of a list, but for its conditions.
-pub fn asked_by(alloc: Global, bounds: Bounds<'_>) -> Result<Asked, Fault>
-    ensures { FitsValue (IsAskedBy bounds.entry []) result }
+/// The first and the last value of a list.
+#[derive(Drop)]
+pub struct Values {
+    pub from: Key,
+    pub to: Option<Key>,
+}
+
+/// The first and the last value that the words of a command line ask for.
+pub fn values_of(bounds: Bounds<'_>) -> Result<Values, Fault>
+    ensures { FitsValue (AreValues bounds.entry) result }
 {
     let from = value_of(bounds.from.unwrap_or(""))?;
     let to = last_of(bounds.to)?;
-    Ok(Asked {
-        key: bounds.key,
-        from,
-        to,
-        first: bounds.first,
-        conditions: Vec::new(alloc),
-    })
+    Ok(Values { from, to })
 }
 
-/// The same list, of records that have to meet these conditions.
-pub fn with_conditions(asked: Asked, conditions: Vec<Condition>) -> Asked
-    ensures { result ≡ record asked { conditions = conditions } }
+/// What the words of a command line ask of a list, by the key of this number, of records that have to
+/// meet these conditions.
+pub fn asked_by(bounds: Bounds<'_>, values: Values, key: u8, conditions: Vec<Condition>) -> Asked
+    requires { AreValues bounds values }
+    ensures { IsAskedBy bounds.entry key conditions.items result }
 {
     Asked {
-        key: asked.key,
-        from: asked.from,
-        to: asked.to,
-        first: asked.first,
+        key,
+        from: values.from,
+        to: values.to,
+        first: bounds.first,
         conditions,
     }
 }
@@ -108,16 +112,21 @@ pub fn list_checked<S: System, I: Read, P: Progress, W: Write>(
     ensures { ByReads (ListsFile (I.remaining input.old) path.now bounds.entry form.entry
         W.contents out.old out.new result) (S.state system.old) (S.state system.new) }
 {
-    let asked = match asked_by(alloc, bounds) {
-        Ok(asked) => asked,
+    let values = match values_of(bounds) {
+        Ok(values) => values,
         Err(fault) => return Err(fault),
     };
-    let formed = match form_and_conditions(system, alloc, form, bounds.conditions, input) {
+    let words = bounds.conditions;
+    let formed = match form_and_conditions(system, alloc, form, bounds.key, words, input) {
         Ok(formed) => formed,
         Err(fault) => return Err(fault),
     };
-    let AskedForm { told, conditions } = formed;
-    let asked = with_conditions(asked, conditions);
+    let AskedForm {
+        told,
+        key,
+        conditions,
+    } = formed;
+    let asked = asked_by(bounds, values, key, conditions);
     let bytes = match read_counted(system, path, progress) {
         Ok(bytes) => bytes,
         Err(fault) => return Err(not_read(fault)),

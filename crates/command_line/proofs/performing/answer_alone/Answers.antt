@@ -90,18 +90,18 @@ returns-in-Deck-clause-came g c words is =
 pub returns-in-List-clause-did : goal.returns-in-List-clause-did
 returns-in-List-clause-did g c words is =
     let asked = subst (Ask words) c.in-List.is is in
-    let listed = subst (λ (l : List (Bor Text)). AskList words c.in-List.file.now c.in-List.key (option_map (λ text. text.now) c.in-List.from) (option_map (λ text. text.now) c.in-List.to) c.in-List.first (texts_of l) (form_text c.in-List.form)
+    let listed = subst (λ (l : List (Bor Text)). AskList words c.in-List.file.now c.in-List.key.now (option_map (λ text. text.now) c.in-List.from) (option_map (λ text. text.now) c.in-List.to) c.in-List.first (texts_of l) (form_text c.in-List.form)
     c.in-List.checked c.in-List.quiet) (sym c.as_slice-words.ensures.value) asked.0 in
     let records = for_records words c.in-List.file c.in-List.key c.in-List.from c.in-List.to c.in-List.first c.as_slice-words.result c.in-List.form c.in-List.checked c.in-List.quiet listed in
     rw c.without_run-in-List.ensures (did_list words records c.in-List.checked g.D.Disk.unseen (g.I.Read.remaining c.args.input.now.reader) c.in-List.file.now
-    (record { key = c.in-List.key; from = c.in-List.from; to = c.in-List.to; first = c.in-List.first; conditions = c.as_slice-words.result }) c.in-List.form refl refl
+    (record { key = c.in-List.key; from = c.in-List.from; to = c.in-List.to; first = c.in-List.first; conditions = c.as_slice-words.result }) c.in-List.form refl
     (g.W.Write.contents c.args.out.now) (g.W.Write.contents c.list_encoded-system.new.out)
     c.list_encoded-system.ensures.so.calls c.list_encoded-system.result.1 c.list_encoded-system.ensures.so.so.records c.list_encoded-system.ensures.so.so.fault)
 
 pub returns-in-List-clause-came : goal.returns-in-List-clause-came
 returns-in-List-clause-came g c words is =
     let asked = subst (Ask words) c.in-List.is is in
-    let listed = subst (λ (l : List (Bor Text)). AskList words c.in-List.file.now c.in-List.key (option_map (λ text. text.now) c.in-List.from) (option_map (λ text. text.now) c.in-List.to) c.in-List.first (texts_of l) (form_text c.in-List.form)
+    let listed = subst (λ (l : List (Bor Text)). AskList words c.in-List.file.now c.in-List.key.now (option_map (λ text. text.now) c.in-List.from) (option_map (λ text. text.now) c.in-List.to) c.in-List.first (texts_of l) (form_text c.in-List.form)
     c.in-List.checked c.in-List.quiet) (sym c.as_slice-words.ensures.value) asked.0 in
     let input = g.I.Read.remaining c.args.input.now.reader in
     rw c.without_run-in-List.ensures (inl (reads_aside g.D.Disk.unseen words input g.W.Write.contents c.args.out.now c.list_encoded-system.new.out c.list_encoded-system.new.aside.calls

@@ -8,9 +8,9 @@ use Rattle.command_words.proofs.MetLemmas.{no_text, same_rows, some_not_none, te
 use Rattle.command_words.proofs.NumberLemmas.{Given, is_read, none_read, wait_met}
 use Rattle.command_words.proofs.asked.listed.Goals as goal
 
--- what a number of so many bits is read of a text as
-abbrev Gives : ℕ → List ℕ → Result ℕ ParseIntError → Type 0
-Gives bits text read = ParsesUnsigned bits 10 text read × ExplainsUnsignedError 10 text read × HasUnsignedDigitsIfOk text read
+-- what a number is read of a text as
+abbrev Gives : List ℕ → Result ℕ ParseIntError → Type 0
+Gives text read = ParsesUnsigned 64 10 text read × ExplainsUnsignedError 10 text read × HasUnsignedDigitsIfOk text read
 
 pub returns-in_err-file-clause-none : goal.returns-in_err-file-clause-none
 returns-in_err-file-clause-none c =
@@ -22,15 +22,13 @@ pub returns-in_err-key-clause-none : goal.returns-in_err-key-clause-none
 returns-in_err-key-clause-none c =
     λ none met is file key from to first conditions form checked quiet list.
     let f = found_of c.args.list.now in
-    none_read f (codes "key") 8 (Gives 8) (λ t x g. g.0) c.get_one.result c.get_one.ensures.value c.in_err-key.was key
-    (subst (λ (rows : List Row). Given rows (codes "key") 8 key) (same_rows is list.is)
-    (list.key_text, list.key_given, list.key_is))
+    no_text f (codes "key") c.get_str-2.result c.get_str-2.ensures c.in_err-key.was list.rows (same_rows is list.is) key list.key_given
 
 pub returns-in_err-first-clause-none : goal.returns-in_err-first-clause-none
 returns-in_err-first-clause-none c =
     λ none met is file key from to first conditions form checked quiet list.
     let f = found_of c.args.list.now in
-    none_read f (codes "first") 64 (Gives 64) (λ t x g. g.0) c.get_one-2.result c.get_one-2.ensures.value c.in_err-first.was first
+    none_read f (codes "first") 64 Gives (λ t x g. g.0) c.get_one.result c.get_one.ensures.value c.in_err-first.was first
     (subst (λ (rows : List Row). Given rows (codes "first") 64 first) (same_rows is list.is)
     (list.first_text, list.first_given, list.first_is))
 
@@ -61,20 +59,17 @@ returns-in_err-wait-clause-none c =
 pub returns-clause-some : goal.returns-clause-some
 returns-clause-some c met is =
     let f = found_of c.args.list.now in
-    let key = is_read f (codes "key") 8 (Gives 8) (λ t x g. g.0) c.get_one.result c.get_one.ensures.none c.get_one.ensures.value c.in_ok-key.key c.in_ok-key.was in
-    let first = is_read f (codes "first") 64 (Gives 64) (λ t x g. g.0) c.get_one-2.result c.get_one-2.ensures.none c.get_one-2.ensures.value c.in_ok-first.first c.in_ok-first.was in (
+    let first = is_read f (codes "first") 64 Gives (λ t x g. g.0) c.get_one.result c.get_one.ensures.none c.get_one.ensures.value c.in_ok-first.first c.in_ok-first.was in (
       record {
         rows = rows_of f;
         is = is;
         file_given = text_read f (codes "file") _ c.in_ok-file.ensures;
-        key_text = key.0;
-        key_given = key.1;
-        key_is = key.2;
+        key_given = text_read f (codes "key") _ c.in_ok-key.ensures;
         first_text = first.0;
         first_given = first.1;
         first_is = first.2;
-        from_is = text_read f (codes "from") _ c.get_str-2.ensures;
-        to_is = text_read f (codes "to") _ c.get_str-3.ensures;
+        from_is = text_read f (codes "from") _ c.get_str-3.ensures;
+        to_is = text_read f (codes "to") _ c.get_str-4.ensures;
         conditions_are = c.requires;
         form_is = c.in_ok-form.ensures.some;
         checked_is = c.in_ok-checked.ensures.some;

@@ -1,9 +1,8 @@
-use Rattle.std.proofs.Common.{List, ◌++◌, ap, inl, inr}
+use Rattle.std.proofs.Common.{List, ◌++◌, ap, inl, inr, refl}
 use Rattle.folder_shelf.specs.Calls.{Call}
 use Rattle.folder_shelf.proofs.ReadingLemmas.{by_none, by_same, by_both}
 use Rattle.command_words.specs.Asks.{form_text}
 use Rattle.command_support.proofs.FormLemmas.{form_not_read}
-use Rattle.file_commands.proofs.RecordsLemmas.{with_these}
 use Rattle.file_commands.proofs.by_index.read_start.Goals as goal
 
 pub returns-in-Err : goal.returns-in-Err
@@ -15,7 +14,7 @@ returns-in-Err-form_and_conditions g c = by_same _ _ c.in-Err-form_and_condition
 pub returns-in-Ok-read_first_page : goal.returns-in-Ok-read_first_page
 returns-in-Ok-read_first_page g c =
     by_both _ _ _ c.in-Ok-form_and_conditions.ensures c.in-Ok-read_first_page.ensures (λ calls later came read. record {
-      start = record { deck = calls; conditions = c.in-Ok-form_and_conditions.formed.conditions.items; asked = with_these c.args.bounds c.in-Ok.asked c.in-Ok-form_and_conditions.formed.conditions c.with_conditions-asked.result c.in-Ok.ensures.value c.with_conditions-asked.ensures; is_form = came.form; are = ap (λ (l : List Call). l ++ calls) read };
+      start = record { deck = calls; told = c.in-Ok-form_and_conditions.formed; asked = c.asked_by-asked.ensures; is_form = came.form; form_is = refl; are = ap (λ (l : List Call). l ++ calls) read };
       fault = tt;
     })
 

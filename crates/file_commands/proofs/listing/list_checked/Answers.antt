@@ -2,7 +2,7 @@ use Rattle.std.proofs.Common.{rules, ◌≡◌, Bool, true, false, subst}
 use Rattle.folder_shelf.proofs.ReadingLemmas.{by_none, by_same, by_both}
 use Rattle.record_listing.specs.FileList.{EndsIn}
 use Rattle.file_commands.specs.Records.{AgreesWith, WritesOther, TellsOther}
-use Rattle.file_commands.proofs.RecordsLemmas.{with_these, not_asked, no_form, broken_off, other_schema, listed}
+use Rattle.file_commands.proofs.RecordsLemmas.{not_asked, no_form, broken_off, other_schema, listed}
 use Rattle.file_commands.proofs.listing.list_checked.Goals as goal
 
 pub returns-in-Err : goal.returns-in-Err
@@ -27,7 +27,7 @@ returns-in-Ok-true g c =
     let other = subst (λ (is : Bool). TellsOther c.in-Ok-form_and_conditions.formed.told.schema c.as_slice.result.now g.W.Write.contents c.args.out.now c.is_other.new.out is) is_true c.in-Ok-true.ensures in
     by_both _ _ _ c.in-Ok-form_and_conditions.ensures c.in-Ok-read_counted.ensures (λ calls later came read.
     other_schema (g.I.Read.remaining c.args.input.now) c.args.path.now c.args.bounds c.args.form g.W.Write.contents c.args.out.now c.is_other.new.out
-    c.in-Ok-form_and_conditions.formed.told.form c.in-Ok-form_and_conditions.formed.told.schema c.in-Ok-form_and_conditions.formed.conditions.items c.in-Ok-read_counted.bytes.items calls later came.form read.whole
+    c.in-Ok-form_and_conditions.formed c.in-Ok-read_counted.bytes.items calls later came.form read.whole
     (subst (λ bytes. WritesOther c.in-Ok-form_and_conditions.formed.told.schema bytes before behind) c.as_slice.ensures.value other))
 
 pub returns-in-Ok-false : goal.returns-in-Ok-false
@@ -39,10 +39,10 @@ returns-in-Ok-false g c =
     let same = subst (λ (is : Bool). TellsOther told.schema c.as_slice.result.now g.W.Write.contents c.args.out.now c.is_other.new.out is) is_false c.in-Ok-false.ensures in
     by_both _ _ _ c.in-Ok-form_and_conditions.ensures c.in-Ok-read_counted.ensures (λ calls later came read.
     listed (g.I.Read.remaining c.args.input.now) c.args.path.now c.args.bounds c.args.form g.W.Write.contents c.args.out.now c.list_file_as.new.out
-    told.form told.schema c.in-Ok-form_and_conditions.formed.conditions.items bytes calls later came.form read.whole c.with_conditions-asked.result c.list_file_as.result c.ended.result
+    c.in-Ok-form_and_conditions.formed bytes calls later came.form read.whole c.asked_by-asked.result c.list_file_as.result c.ended.result
     (subst (λ bytes. AgreesWith told.schema bytes) c.as_slice.ensures.value same.0)
-    (with_these c.args.bounds c.in-Ok.asked c.in-Ok-form_and_conditions.formed.conditions c.with_conditions-asked.result c.in-Ok.ensures.value c.with_conditions-asked.ensures)
-    (subst (λ out. EndsIn told.form bytes c.with_conditions-asked.result (g.W.Write.contents out) behind c.list_file_as.result) same.1 c.list_file_as.ensures.ends)
+    c.asked_by-asked.ensures
+    (subst (λ out. EndsIn told.form bytes c.asked_by-asked.result (g.W.Write.contents out) behind c.list_file_as.result) same.1 c.list_file_as.ensures.ends)
     c.ended.ensures)
 
 pub returns : goal.returns
