@@ -14,8 +14,4 @@ mod MistakeLemmas
 mod ReadingLemmas
 mod LineWrittenLemmas
 pub mod KeptLemmas
-mod RisingWriteLemmas
-mod BuiltLoadLemmas
-mod AgainLemmas
-mod LineRecordLemmas
-mod TriedLemmas
+pub mod SortedTextLemmas

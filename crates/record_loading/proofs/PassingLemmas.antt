@@ -70,7 +70,7 @@ line_front [] = ([], refl)
 line_front (byte ∷ text) = first_front byte text (line_front text) (byte == 10)
 
 -- so is what is behind the line of a record
-begins_front : (pad : Bool) (form : Form) (greatest : ℕ) (text bytes behind : List ℕ) → BeginsWith pad form greatest text bytes behind → (front : List ℕ) × (text ≡ front ++ behind)
+pub begins_front : (pad : Bool) (form : Form) (greatest : ℕ) (text bytes behind : List ℕ) → BeginsWith pad form greatest text bytes behind → (front : List ℕ) × (text ≡ front ++ behind)
 begins_front false form greatest text bytes behind is = (line_in form bytes, is)
 begins_front true form greatest text bytes behind is = (is.0, is.1)
 

@@ -10,6 +10,4 @@ pub mod MistakeLine
 pub mod LineForm
 pub mod Kept
 pub mod KeptLoad
-pub mod LineRecords
-pub mod WholeForm
-pub mod BuiltLoad
+pub mod SortedText

@@ -23,6 +23,8 @@
 //! written. That the system makes a new file, and keeps what it took, is trusted. `load_keeping` joins
 //! this to the load of a text over a shelf.
 //!
+//! `sorted_text` sorts the lines of a text by the values of their records in the prime key.
+//!
 //! Read `record_text` for a line, `specs/Passing.antt` for what comes of a line, `specs/Loading.antt`
 //! for what is promised, and then `loading`; `specs/Loaded.antt`, `specs/Answer.antt` and `shelf_load`
 //! for files of a shelf; `specs/BuiltLoad.antt`, `specs/LineRecords.antt`, then `built_load` and
@@ -47,6 +49,7 @@ mod rejected;
 mod rejected_lines;
 mod shelf_end;
 mod shelf_load;
+mod sorting;
 mod telling;
 mod writing;
 
@@ -61,3 +64,4 @@ pub use rejected::{RejectLog, RejectReason, RejectedLine};
 pub use rejected_lines::RejectedLines;
 pub use shelf_end::{ShelfEnd, ShelfFault, is_compared};
 pub use shelf_load::{load_lines_on_shelf, load_on_shelf};
+pub use sorting::sorted_text;
