@@ -23,7 +23,8 @@ use Rattle.record_loading.specs.Told.{ToldLine}
 use Rattle.record_loading.specs.declared.end.Load.{Load}
 use Rattle.record_loading.specs.declared.end.Load.TheVariants.{New, Into}
 use Rattle.record_loading.specs.Answer.{answer_of}
-use Rattle.record_loading.specs.Loaded.{EndsLoad, KeepsOtherNames, IsSafeLoad, is_compared}
+use Rattle.record_loading.specs.Loaded.{KeepsOtherNames, IsSafeLoad, is_compared}
+use Rattle.record_loading.specs.SortedLoad.{EndsTextLoad}
 use Rattle.record_loading.specs.declared.shelf_end.ShelfEnd.{ShelfEnd}
 use Rattle.record_loading.specs.declared.shelf_end.ShelfEnd.TheVariants.{IsThere, Loaded}
 use Rattle.command_line.specs.CallsMade.{CallsMade, BeginsNothing, folder_behind}
@@ -55,18 +56,18 @@ options_of lines = record {
   keep_going = lines.keep_going;
   replace = lines.replace;
   pad = lines.pad;
-  memory = 268435456;
+  sort = false;
 }
 
 -- a text in a form, of which these lines are to be loaded
 abbrev pub load_source : Form → (text : List ℕ) → LoadOptions → LoadSource
 load_source form text options = record { form = form; text = text; options = options }
 
--- a load ended so, of some lines that were rejected and told
+-- a load ended so, of some lines that were rejected and told: of the text, or of the text sorted
 abbrev pub EndsLoadOf : (name : List ℕ) → Schema → Load → LoadSource → (old : ShelfState) → ShelfEnd
     → (new : ShelfState) → Type 0
 EndsLoadOf name schema load source old end new = (told : List ToldLine)
-    × EndsLoad name schema load (record { source = source; told = told }) old end new
+    × EndsTextLoad name schema load source told old end new
 
 -- a load of a text into the file of a name in the folder of this path, which the system entered, and of
 -- whose files alone it was asked since: how it ended, and what it left where it came to nothing; all other names stand for what they stood for; and

@@ -15,3 +15,4 @@ mod ReadingLemmas
 mod LineWrittenLemmas
 pub mod KeptLemmas
 pub mod SortedTextLemmas
+pub mod SortedLoadLemmas

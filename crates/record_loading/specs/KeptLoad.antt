@@ -7,7 +7,8 @@ use Rattle.record_loading.specs.declared.shelf_end.ShelfEnd.{ShelfEnd}
 use Rattle.record_loading.specs.declared.shelf_end.ShelfFault.{ShelfFault}
 use Rattle.record_loading.specs.Passing.{LoadSource}
 use Rattle.record_loading.specs.Told.{ToldLine}
-use Rattle.record_loading.specs.Loaded.{EndsLoad, LoadsInto}
+use Rattle.record_loading.specs.Loaded.{LoadsInto}
+use Rattle.record_loading.specs.SortedLoad.{EndsTextLoad}
 use Rattle.record_loading.specs.Kept.{Kept, KeepsMore, bytes_of_told}
 
 -- a load ended so, of some lines that were rejected, and the bytes of these lines were to be kept
@@ -15,7 +16,7 @@ abbrev pub EndsKeeping : (before after : Kept) → (name : List ℕ) → Schema 
     → ShelfEnd → (new : ShelfState) → Type 0
 EndsKeeping before after name schema load source old end new = (told : List ToldLine)
     × KeepsMore before (bytes_of_told told) after
-    × EndsLoad name schema load (record { source = source; told = told }) old end new
+    × EndsTextLoad name schema load source told old end new
 
 -- so of a load of a text into the file of a name, or nothing was changed
 abbrev pub LoadsKeeping : (before after : Kept) → (name : List ℕ) → Schema → Load → LoadSource

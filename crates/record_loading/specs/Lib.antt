@@ -11,3 +11,4 @@ pub mod LineForm
 pub mod Kept
 pub mod KeptLoad
 pub mod SortedText
+pub mod SortedLoad

@@ -2,7 +2,7 @@
 ghost use Rattle.std.specs.Prelude.{◌≡◌, ◌≤◌, [], IsTrue, None, IfOk, OnOk, OnErr, ⊤};
 ghost use Rattle.record_text.specs.Whole.{IsWholeForm};
 ghost use Rattle.record_loading.specs.Loading.{listing, text_source};
-ghost use Rattle.shelf_run.specs.Files.{reads_of};
+ghost use Rattle.record_loading.specs.SortedLoad.{LoadsTextInto};
 ghost use Rattle.record_loading.specs.Loaded.{EndsLoad, LoadsInto, LoadsTold, LoadsAnyhow, TellsIfThere};
 ghost use Rattle.record_loading.specs.BuiltLoad.{LoadsAgain};
 
@@ -12,6 +12,7 @@ use crate::loading::load_records;
 use crate::options::LoadOptions;
 use crate::rejected::{RejectLog, RejectedLine};
 use crate::shelf_end::{ShelfEnd, ShelfFault, end_of, fault_by};
+use crate::sorting::sorted_text;
 use io_state::{Fault, FileName};
 use page_store::Shelf;
 use record_layout::Schema;
@@ -190,21 +191,8 @@ fn load_new<S: Shelf, P: Progress, R: RejectLog>(
     }
 }
 
-/// Loads the record of each line of a text in a form into the file of a name on a shelf to which no
-/// name is attached, and gives the shelf back. A file has at most `limit` pages of 4,096 bytes, of
-/// which at most `frames` are held in memory while it is open.
-///
-/// A new file is made only where the name has none: otherwise that is told, and each file is as it
-/// was. Where the shelf is honest, the file represents what OPEN, the WRITEs and CLOSE leave of
-/// what it represented. The first lines behind the header are skipped, so many as `options` says. The
-/// first line that is the line of no record of the file, or whose WRITE is no success, ends a load, and
-/// what was written before stays. Where `options` says that it is to keep going, a line that is no
-/// record's, or whose WRITE is refused for its keys, with 22, is told and passed over. Where it says that
-/// records are to be replaced, a REWRITE follows such a WRITE before that. No crash leaves a false file,
-/// where none could be left before. After each line it is told how many bytes of the text are done.
-///
-/// `Input`: the device failed when it was asked for the file. `Memory`. Nothing was changed then.
-pub fn load_lines_on_shelf<S: Shelf, P: Progress, R: RejectLog>(
+/// Loads the records of lines that are not sorted first, as `load_lines_on_shelf` does.
+fn load_lines<S: Shelf, P: Progress, R: RejectLog>(
     alloc: Global,
     shelf: S,
     name: FileName,
@@ -246,6 +234,67 @@ pub fn load_lines_on_shelf<S: Shelf, P: Progress, R: RejectLog>(
     }
 }
 
+/// Loads the record of each line of a text in a form into the file of a name on a shelf to which no
+/// name is attached, and gives the shelf back. A file has at most `limit` pages of 4,096 bytes, of
+/// which at most `frames` are held in memory while it is open.
+///
+/// A new file is made only where the name has none: otherwise that is told, and each file is as it
+/// was. Where the shelf is honest, the file represents what OPEN, the WRITEs and CLOSE leave of
+/// what it represented. The first lines behind the header are skipped, so many as `options` says. The
+/// first line that is the line of no record of the file, or whose WRITE is no success, ends a load, and
+/// what was written before stays. Where `options` says that it is to keep going, a line that is no
+/// record's, or whose WRITE is refused for its keys, with 22, is told and passed over. Where it says that
+/// records are to be replaced, a REWRITE follows such a WRITE before that. No crash leaves a false file,
+/// where none could be left before. After each line it is told how many bytes of the text are done.
+///
+/// Where `options` says that the lines are to be sorted, all of this is so of the sorted text.
+///
+/// `Input`: the device failed when it was asked for the file. `Memory`. Nothing was changed then.
+pub fn load_lines_on_shelf<S: Shelf, P: Progress, R: RejectLog>(
+    alloc: Global,
+    shelf: S,
+    name: FileName,
+    schema: &Schema,
+    load: Load,
+    form: &Form,
+    options: LoadOptions,
+    text: &[u8],
+    limit: u32,
+    frames: NonZeroUsize,
+    rejects: &mut R,
+    progress: &mut P,
+) -> (S, Result<ShelfEnd, ShelfFault>)
+    requires names { (S.state shelf).names ≡ [] }
+    requires limit { 16 ≤ limit }
+    requires whole { IsWholeForm form.now schema.now.greatest }
+    ensures untold { OnErr result.1 (rejects.new ≡ rejects.old) }
+    ensures loads { LoadsTextInto R.tells rejects.old rejects.new name.bytes schema.now load
+        (text_source form.now text.now options) (S.state shelf) (S.state result.0) result.1 }
+{
+    if !options.sort {
+        return load_lines(
+            alloc, shelf, name, schema, load, form, options, text, limit, frames, rejects, progress,
+        );
+    }
+    let Ok(sorted) = sorted_text(alloc, schema, form, options, text) else {
+        return (shelf, Err(ShelfFault::Memory));
+    };
+    load_lines(
+        alloc,
+        shelf,
+        name,
+        schema,
+        load,
+        form,
+        options,
+        sorted.as_slice(),
+        limit,
+        frames,
+        rejects,
+        progress,
+    )
+}
+
 /// A log that shows nothing.
 #[derive(Drop)]
 struct Unheard;
@@ -283,9 +332,9 @@ pub fn load_on_shelf<S: Shelf, P: Progress>(
         keep_going: false,
         replace: false,
         pad: false,
-        memory: 0,
+        sort: false,
     };
-    load_lines_on_shelf(
+    load_lines(
         alloc,
         shelf,
         name,

@@ -5,7 +5,7 @@
 //! record, and of a name that has a file; and what is told of each. And how far a load is: what is told of
 //! that, and when a terminal shows it.
 //!
-//! Read `loading`, then `loads` and `load_progress`.
+//! Read `loading`, then `loads`, `sorting` and `load_progress`.
 #![tactic(auto)]
 
 #[cfg(test)]
@@ -16,3 +16,5 @@ mod load_progress;
 mod loading;
 #[cfg(test)]
 mod loads;
+#[cfg(test)]
+mod sorting;

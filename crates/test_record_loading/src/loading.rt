@@ -39,7 +39,7 @@ const PARTS: [KeyPart; 2] = [
 ];
 
 /// Records of 6 to 8 bytes: a key of four bytes, and a second one of two, which is unique.
-fn codes(rt: &impl Abort) -> Schema {
+pub fn codes(rt: &impl Abort) -> Schema {
     schema(6, 8, &PARTS).expect(rt, "a schema")
 }
 
@@ -79,7 +79,7 @@ pub const USUAL: LoadOptions = LoadOptions {
     keep_going: false,
     replace: false,
     pad: false,
-    memory: 1 << 20,
+    sort: false,
 };
 
 /// What is told of a load over a shelf, whose units are forgotten.

@@ -1,6 +1,7 @@
 use Rattle.std.proofs.lemmas.Result.{IfOk-weaker}
-use Rattle.record_loading.specs.Loading.{text_source, listing_by}
-use Rattle.record_loading.specs.Loaded.{EndsLoad, TellsLoadEnd}
+use Rattle.record_loading.specs.Loading.{text_source}
+use Rattle.record_loading.specs.Loaded.{TellsLoadEnd}
+use Rattle.record_loading.specs.SortedLoad.{EndsTextLoad}
 use Rattle.record_loading.specs.KeptLoad.{EndsKeeping}
 use Rattle.record_loading.proofs.KeptLemmas.{told_kept}
 use Rattle.record_loading.proofs.kept_load.load_keeping.Goals as goal
@@ -15,7 +16,7 @@ returns-clause-loads g c =
     let is = c.load_lines_on_shelf.ensures.loads in
     record {
       ends = IfOk-weaker c.load_lines_on_shelf.result.1
-          (λ end. TellsLoadEnd g.R.RejectLog.tells before after (λ told. EndsLoad c.args.name.bytes c.args.schema.now c.args.load (listing_by c.args.form.now c.args.text.now c.args.options told)) old end new)
+          (λ end. TellsLoadEnd g.R.RejectLog.tells before after (λ told. EndsTextLoad c.args.name.bytes c.args.schema.now c.args.load (text_source c.args.form.now c.args.text.now c.args.options) told) old end new)
           (λ end. EndsKeeping (kept before) (kept after) c.args.name.bytes c.args.schema.now c.args.load (text_source c.args.form.now c.args.text.now c.args.options) old end new)
           (λ end so. (so.0, told_kept g.R.RejectLog.tells kept c.keeps_told.ensures so.0 before after so.1, so.2)) is.ends;
       nothing = is.nothing;

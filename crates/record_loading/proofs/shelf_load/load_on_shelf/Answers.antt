@@ -7,10 +7,10 @@ use Rattle.record_loading.proofs.shelf_load.load_on_shelf.Goals as goal
 pub returns : goal.returns
 returns g c =
     let old = g.S.Shelf.state c.args.shelf in
-    let new = g.S.Shelf.state c.load_lines_on_shelf.result.0 in
-    let is = c.load_lines_on_shelf.ensures.loads in
+    let new = g.S.Shelf.state c.load_lines.result.0 in
+    let is = c.load_lines.ensures.loads in
     record {
-      ends = IfOk-weaker c.load_lines_on_shelf.result.1 _ (λ end. EndsLoad c.args.name.bytes c.args.schema.now c.args.load (listing c.args.form.now c.args.text.now) old end new)
+      ends = IfOk-weaker c.load_lines.result.1 _ (λ end. EndsLoad c.args.name.bytes c.args.schema.now c.args.load (listing c.args.form.now c.args.text.now) old end new)
           (λ end so. ends_usual c.args.name.bytes c.args.schema.now c.args.form.now c.args.text.now so.0 old new c.args.load end so.2) is.ends;
       nothing = is.nothing;
       others = is.others;
