@@ -56,7 +56,7 @@ options_of lines = record {
   keep_going = lines.keep_going;
   replace = lines.replace;
   pad = lines.pad;
-  sort = false;
+  sort = lines.sort;
 }
 
 -- a text in a form, of which these lines are to be loaded

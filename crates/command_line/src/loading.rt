@@ -62,7 +62,7 @@ pub fn options_of(lines: LineOptions) -> LoadOptions
         keep_going: lines.keep_going,
         replace: lines.replace,
         pad: lines.pad,
-        sort: false,
+        sort: lines.sort,
     }
 }
 

@@ -252,13 +252,13 @@ fn line_options_of(load: &ArgMatches<'_>) -> Option<LineOptions>
     let keep_going = load.get_one("keep-going")?;
     let replace = load.get_one("replace")?;
     let pad = load.get_one("pad")?;
-    let memory = load.get_one("memory")?;
+    let sort = load.get_one("sort")?;
     Some(LineOptions {
         skip,
         keep_going,
         replace,
         pad,
-        memory,
+        sort,
     })
 }
 

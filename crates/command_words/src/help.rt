@@ -257,6 +257,9 @@ With '--pad' a value that is shorter than its item is filled up, as MOVE does it
 an item of digits, with zeros before its digits. There a value without digits, or with anything else, stays a \
 mistake, and so does each value that is too long. In the form 'text' the record gets spaces behind it. Every \
 record has the greatest length then.
+With '--sort' the lines are sorted by the prime values of their records before they are loaded. Lines of one value \
+stay in their order, and lines that are no record of this file come last. What is told, and what '--skip' passes \
+over, are lines of the sorted text.
 With '--rejects' the lines that are told and passed over are also written into FILE, as they are in TEXT, and in \
 csv after the names of the columns. FILE must not be there before.
 Without '--into' a file that is there is left as it is, whatever it is.

@@ -1,7 +1,7 @@
 //! Which lines of a text a load takes, and in how much memory.
 
 /// Which lines of a text are loaded, whether a line that is rejected ends that, whether the record of a
-/// line may replace one of the file, whether its values are filled up, and in how much memory.
+/// line may replace one of the file, whether its values are filled up, and whether the lines are sorted.
 #[derive(Clone, Copy, Debug, PartialEq, Eq)]
 pub struct LineOptions {
     /// How many lines behind the header are passed over, unread.
@@ -12,6 +12,6 @@ pub struct LineOptions {
     pub replace: bool,
     /// Whether values that are shorter than their columns are filled up.
     pub pad: bool,
-    /// How many MiB of memory the entries of the keys of a new file may take while they are sorted.
-    pub memory: u32,
+    /// Whether the lines are sorted by the prime values of their records first.
+    pub sort: bool,
 }

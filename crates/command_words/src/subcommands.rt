@@ -419,7 +419,7 @@ fn with_rejects<'a>(
     with_argument(going, rejects)
 }
 
-/// A load with these, and the options by which it replaces records, fills up values, and takes memory.
+/// A load with these, and the options by which it replaces records, fills up values, and sorts lines.
 fn with_line_options<'a>(
     alloc: Global,
     load: Result<Command<'a>, AllocError>,
@@ -436,9 +436,14 @@ fn with_line_options<'a>(
         "pad",
         "Fills up a value that is shorter than its item: spaces behind it, zeros before digits",
     );
+    let sort = flag(
+        alloc,
+        "sort",
+        "Sorts the lines by the prime values of their records, and loads the sorted text",
+    );
     let replacing = with_argument(with_rejects(alloc, load), replace);
     let padding = with_argument(replacing, pad);
-    with_argument(padding, memory(alloc))
+    with_argument(padding, sort)
 }
 
 /// `load`.

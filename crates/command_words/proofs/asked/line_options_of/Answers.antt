@@ -36,11 +36,11 @@ returns-in_err-pad-clause-none c =
     no_flag (found_of c.args.load.now) (codes "pad") c.get_one-4.result c.get_one-4.ensures.value c.in_err-pad.was lines.pad
     (given.pad_text, given.pad_given, given.pad_is)
 
-pub returns-in_err-memory-clause-none : goal.returns-in_err-memory-clause-none
-returns-in_err-memory-clause-none c =
+pub returns-in_err-sort-clause-none : goal.returns-in_err-sort-clause-none
+returns-in_err-sort-clause-none c =
     λ none lines given.
-    none_read (found_of c.args.load.now) (codes "memory") 32 (Gives 32) (λ t x g. g.0) c.get_one-5.result c.get_one-5.ensures.value c.in_err-memory.was lines.memory
-    (given.memory_text, given.memory_given, given.memory_is)
+    no_flag (found_of c.args.load.now) (codes "sort") c.get_one-5.result c.get_one-5.ensures.value c.in_err-sort.was lines.sort
+    (given.sort_text, given.sort_given, given.sort_is)
 
 pub returns-clause-some : goal.returns-clause-some
 returns-clause-some c =
@@ -49,7 +49,7 @@ returns-clause-some c =
     let keep = flag_read f (codes "keep-going") c.get_one-2.result c.get_one-2.ensures.none c.get_one-2.ensures.value c.in_ok-keep_going.keep_going c.in_ok-keep_going.was in
     let replace = flag_read f (codes "replace") c.get_one-3.result c.get_one-3.ensures.none c.get_one-3.ensures.value c.in_ok-replace.replace c.in_ok-replace.was in
     let pad = flag_read f (codes "pad") c.get_one-4.result c.get_one-4.ensures.none c.get_one-4.ensures.value c.in_ok-pad.pad c.in_ok-pad.was in
-    let memory = is_read f (codes "memory") 32 (Gives 32) (λ t x g. g.0) c.get_one-5.result c.get_one-5.ensures.none c.get_one-5.ensures.value c.in_ok-memory.memory c.in_ok-memory.was in
+    let sort = flag_read f (codes "sort") c.get_one-5.result c.get_one-5.ensures.none c.get_one-5.ensures.value c.in_ok-sort.sort c.in_ok-sort.was in
     record {
       skip_text = skip.0;
       skip_given = skip.1;
@@ -63,7 +63,7 @@ returns-clause-some c =
       pad_text = pad.0;
       pad_given = pad.1;
       pad_is = pad.2;
-      memory_text = memory.0;
-      memory_given = memory.1;
-      memory_is = memory.2;
+      sort_text = sort.0;
+      sort_given = sort.1;
+      sort_is = sort.2;
     }
