@@ -1,5 +1,5 @@
 -- What is loaded into a file of a deck over a folder. All of this is ours.
-use Rattle.std.specs.Prelude.{◌≡◌, ◌≢◌, ◌⊎◌, ℕ, Bool, true, false, List, [], ◌++◌, Option, IsTrue}
+use Rattle.std.specs.Prelude.{◌≡◌, ◌≢◌, ◌⊎◌, ◌*◌, ℕ, Bool, true, false, List, [], ◌++◌, Option, IsTrue}
 use Rattle.std.specs.Prelude.{Result, Ok, Err, IfOk, IfErr, OnErr}
 use Rattle.std.specs.Prelude.{String, string_bytes, option_map}
 use Rattle.std.specs.Global.{Global}
@@ -56,6 +56,7 @@ options_of lines = record {
   keep_going = lines.keep_going;
   replace = lines.replace;
   pad = lines.pad;
+  memory = lines.memory * 1048576;
   sort = lines.sort;
 }
 

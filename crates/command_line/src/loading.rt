@@ -50,8 +50,8 @@ fn load_of(into: bool) -> Load
     if into { Load::Into } else { Load::New }
 }
 
-/// How many bytes may be held for the entries of a new file.
-const ENTRY_BYTES: usize = 256 << 20;
+/// The bytes of a MiB.
+const MIB: usize = 1 << 20;
 
 /// Which lines the words ask for.
 pub fn options_of(lines: LineOptions) -> LoadOptions
@@ -62,6 +62,7 @@ pub fn options_of(lines: LineOptions) -> LoadOptions
         keep_going: lines.keep_going,
         replace: lines.replace,
         pad: lines.pad,
+        memory: lines.memory as usize * MIB,
         sort: lines.sort,
     }
 }

@@ -197,6 +197,9 @@ pub record AreLineOptions (rows : List Row) (lines : LineOptions) : Type 0 where
   pub sort_text : Text
   pub sort_given : one_of (codes "sort") rows ≡ Some sort_text
   pub sort_is : IsFlag sort_text lines.sort
+  pub memory_text : Text
+  pub memory_given : one_of (codes "memory") rows ≡ Some memory_text
+  pub memory_is : IsNumber 32 memory_text lines.memory
 
 -- the subcommand that was met is to load the lines of this text, in a form and an encoding, into a
 -- file of this deck over this folder, into the one that is there or not, with these limits, these of

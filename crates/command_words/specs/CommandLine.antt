@@ -148,7 +148,8 @@ cobol_shape = record (new_shape (codes "cobol")) {
 }
 
 -- `load DECK --folder DIR --file NAME TEXT [--as FORM] [--encoding ENCODING] [--into] [--skip N]
--- [--keep-going] [--rejects FILE] [--replace] [--pad] [--sort] [--pages N] [--frames N] [--quiet]`
+-- [--keep-going] [--rejects FILE] [--replace] [--pad] [--sort] [--memory MIB] [--pages N]
+-- [--frames N] [--quiet]`
 abbrev pub load_shape : Shape
 load_shape = record (new_shape (codes "load")) {
   rules = word_rule (codes "deck") ∷ option_rule (codes "folder") ∷ option_rule (codes "file") ∷ word_rule
@@ -156,7 +157,7 @@ load_shape = record (new_shape (codes "load")) {
       ∷ flag_rule (codes "into")
       ∷ skip_rule ∷ flag_rule (codes "keep-going") ∷ text_rule (codes "rejects") ∷ flag_rule
       (codes "replace")
-      ∷ flag_rule (codes "pad") ∷ flag_rule (codes "sort")
+      ∷ flag_rule (codes "pad") ∷ flag_rule (codes "sort") ∷ memory_rule
       ∷ pages_rule
       ∷ frames_rule (codes "64") ∷ flag_rule (codes "quiet") ∷ [];
 }

@@ -79,11 +79,11 @@ with_rejects app =
     with_rule (with_rule (with_rule app skip_rule) (flag_rule (codes "keep-going")))
     (text_rule (codes "rejects"))
 
--- and replaces records, fills up values, and sorts lines
+-- and replaces records, fills up values, sorts lines, and takes so much memory
 abbrev pub with_line_options : App → App
 with_line_options app =
-    with_rule (with_rule (with_rule (with_rejects app) (flag_rule (codes "replace"))) (flag_rule (codes "pad")))
-    (flag_rule (codes "sort"))
+    with_rule (with_rule (with_rule (with_rule (with_rejects app) (flag_rule (codes "replace")))
+    (flag_rule (codes "pad"))) (flag_rule (codes "sort"))) memory_rule
 
 -- with the form of a salvage
 abbrev pub with_salvage_form : App → App

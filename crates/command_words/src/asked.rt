@@ -253,12 +253,14 @@ fn line_options_of(load: &ArgMatches<'_>) -> Option<LineOptions>
     let replace = load.get_one("replace")?;
     let pad = load.get_one("pad")?;
     let sort = load.get_one("sort")?;
+    let memory = load.get_one("memory")?;
     Some(LineOptions {
         skip,
         keep_going,
         replace,
         pad,
         sort,
+        memory,
     })
 }
 

@@ -1,7 +1,8 @@
 //! Which lines of a text a load takes, and in how much memory.
 
 /// Which lines of a text are loaded, whether a line that is rejected ends that, whether the record of a
-/// line may replace one of the file, whether its values are filled up, and whether the lines are sorted.
+/// line may replace one of the file, whether its values are filled up, whether the lines are sorted, and in
+/// how much memory.
 #[derive(Clone, Copy, Debug, PartialEq, Eq)]
 pub struct LineOptions {
     /// How many lines behind the header are passed over, unread.
@@ -14,4 +15,6 @@ pub struct LineOptions {
     pub pad: bool,
     /// Whether the lines are sorted by the prime values of their records first.
     pub sort: bool,
+    /// How many MiB of memory the entries of the keys of a new file may take while they are sorted.
+    pub memory: u32,
 }

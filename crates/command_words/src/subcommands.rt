@@ -419,7 +419,8 @@ fn with_rejects<'a>(
     with_argument(going, rejects)
 }
 
-/// A load with these, and the options by which it replaces records, fills up values, and sorts lines.
+/// A load with these, and the options by which it replaces records, fills up values, sorts lines, and takes
+/// memory.
 fn with_line_options<'a>(
     alloc: Global,
     load: Result<Command<'a>, AllocError>,
@@ -443,7 +444,8 @@ fn with_line_options<'a>(
     );
     let replacing = with_argument(with_rejects(alloc, load), replace);
     let padding = with_argument(replacing, pad);
-    with_argument(padding, sort)
+    let sorting = with_argument(padding, sort);
+    with_argument(sorting, memory(alloc))
 }
 
 /// `load`.

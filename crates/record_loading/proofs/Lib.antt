@@ -14,5 +14,10 @@ mod MistakeLemmas
 mod ReadingLemmas
 mod LineWrittenLemmas
 pub mod KeptLemmas
+mod RisingWriteLemmas
+mod BuiltLoadLemmas
+mod AgainLemmas
+mod LineRecordLemmas
+mod TriedLemmas
 pub mod SortedTextLemmas
 pub mod SortedLoadLemmas

@@ -10,5 +10,8 @@ pub mod MistakeLine
 pub mod LineForm
 pub mod Kept
 pub mod KeptLoad
+pub mod LineRecords
+pub mod WholeForm
+pub mod BuiltLoad
 pub mod SortedText
 pub mod SortedLoad

@@ -46,10 +46,10 @@ text_source form text options = record { form = form; text = text; options = opt
 abbrev pub listing_by : Form → List ℕ → LoadOptions → (told : List ToldLine) → Listing
 listing_by form text options told = record { source = text_source form text options; told = told }
 
--- no line is skipped, the first that is rejected ends a load, no record is replaced, no value filled up, and
--- nothing sorted
+-- no line is skipped, the first that is rejected ends a load, no record is replaced, no value filled up,
+-- nothing is held for entries, and nothing sorted
 abbrev pub usual_options : LoadOptions
-usual_options = record { skip = 0; keep_going = false; replace = false; pad = false; sort = false }
+usual_options = record { skip = 0; keep_going = false; replace = false; pad = false; memory = 0; sort = false }
 
 -- so of a text in a form: no line is passed over, and none is told
 abbrev pub listing : Form → List ℕ → Listing

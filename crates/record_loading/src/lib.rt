@@ -28,7 +28,8 @@
 //! Read `record_text` for a line, `specs/Passing.antt` for what comes of a line, `specs/Loading.antt`
 //! for what is promised, and then `loading`; `specs/Loaded.antt`, `specs/Answer.antt` and `shelf_load`
 //! for files of a shelf; `specs/BuiltLoad.antt`, `specs/LineRecords.antt`, then `built_load` and
-//! `line_records`; `specs/Kept.antt`, then `keeping`, `rejected_lines` and `load_keeping`.
+//! `line_records`; `specs/SortedText.antt`, then `sorting`; `specs/Kept.antt`, then `keeping`,
+//! `rejected_lines` and `kept_load`.
 #![tactic(auto)]
 
 mod answer;

@@ -12,6 +12,9 @@ pub struct LoadOptions {
     pub replace: bool,
     /// Whether values that are shorter than their columns are filled up.
     pub pad: bool,
+    /// How many bytes may be held for the entries of a new file that is built. Where they would not do,
+    /// or are none, it is written record by record, and what is told and left is the same.
+    pub memory: usize,
     /// Whether the lines are sorted by the prime values of their records before any is loaded. The numbers
     /// of lines, and those that are passed over, are then those of the sorted text.
     pub sort: bool,

@@ -2,6 +2,7 @@
 ghost use Rattle.std.specs.Prelude.{◌≡◌, ◌≤◌, [], IsTrue, None, IfOk, OnOk, OnErr, ⊤};
 ghost use Rattle.record_text.specs.Whole.{IsWholeForm};
 ghost use Rattle.record_loading.specs.Loading.{listing, text_source};
+ghost use Rattle.shelf_run.specs.Files.{reads_of};
 ghost use Rattle.record_loading.specs.SortedLoad.{LoadsTextInto};
 ghost use Rattle.record_loading.specs.Loaded.{EndsLoad, LoadsInto, LoadsTold, LoadsAnyhow, TellsIfThere};
 ghost use Rattle.record_loading.specs.BuiltLoad.{LoadsAgain};
@@ -332,6 +333,7 @@ pub fn load_on_shelf<S: Shelf, P: Progress>(
         keep_going: false,
         replace: false,
         pad: false,
+        memory: 0,
         sort: false,
     };
     load_lines(

@@ -79,6 +79,7 @@ pub const USUAL: LoadOptions = LoadOptions {
     keep_going: false,
     replace: false,
     pad: false,
+    memory: 1 << 20,
     sort: false,
 };
 

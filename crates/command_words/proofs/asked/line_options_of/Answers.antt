@@ -42,6 +42,12 @@ returns-in_err-sort-clause-none c =
     no_flag (found_of c.args.load.now) (codes "sort") c.get_one-5.result c.get_one-5.ensures.value c.in_err-sort.was lines.sort
     (given.sort_text, given.sort_given, given.sort_is)
 
+pub returns-in_err-memory-clause-none : goal.returns-in_err-memory-clause-none
+returns-in_err-memory-clause-none c =
+    λ none lines given.
+    none_read (found_of c.args.load.now) (codes "memory") 32 (Gives 32) (λ t x g. g.0) c.get_one-6.result c.get_one-6.ensures.value c.in_err-memory.was lines.memory
+    (given.memory_text, given.memory_given, given.memory_is)
+
 pub returns-clause-some : goal.returns-clause-some
 returns-clause-some c =
     let f = found_of c.args.load.now in
@@ -50,6 +56,7 @@ returns-clause-some c =
     let replace = flag_read f (codes "replace") c.get_one-3.result c.get_one-3.ensures.none c.get_one-3.ensures.value c.in_ok-replace.replace c.in_ok-replace.was in
     let pad = flag_read f (codes "pad") c.get_one-4.result c.get_one-4.ensures.none c.get_one-4.ensures.value c.in_ok-pad.pad c.in_ok-pad.was in
     let sort = flag_read f (codes "sort") c.get_one-5.result c.get_one-5.ensures.none c.get_one-5.ensures.value c.in_ok-sort.sort c.in_ok-sort.was in
+    let memory = is_read f (codes "memory") 32 (Gives 32) (λ t x g. g.0) c.get_one-6.result c.get_one-6.ensures.none c.get_one-6.ensures.value c.in_ok-memory.memory c.in_ok-memory.was in
     record {
       skip_text = skip.0;
       skip_given = skip.1;
@@ -66,4 +73,7 @@ returns-clause-some c =
       sort_text = sort.0;
       sort_given = sort.1;
       sort_is = sort.2;
+      memory_text = memory.0;
+      memory_given = memory.1;
+      memory_is = memory.2;
     }
