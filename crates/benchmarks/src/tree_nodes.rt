@@ -13,15 +13,15 @@ mod vec_leaf;
 use crate::arguments::number;
 use report::compare;
 use std::env::Args;
-use tree_node::Shape;
+use tree_node::NodeShape;
 
-const SHORT: Shape = Shape {
+const SHORT: NodeShape = NodeShape {
     key: 0,
     width: 8,
     entry: 14,
 };
 
-const WIDE: Shape = Shape {
+const WIDE: NodeShape = NodeShape {
     key: 0,
     width: 128,
     entry: 134,

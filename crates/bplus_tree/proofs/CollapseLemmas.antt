@@ -3,10 +3,10 @@ use Rattle.std.proofs.Common.{◌≡◌, ◌≢◌, ℕ, zero, suc, ◌≤◌, L
 use Rattle.std.specs.Prelude.{IsErrAnd}
 use Rattle.std.proofs.lemmas.List.{append-nil}
 use Rattle.io_state.specs.declared.fault.Fault.{Fault}
-use Rattle.tree_node.specs.declared.shape.Shape.{Shape}
+use Rattle.tree_node.specs.declared.shape.NodeShape.{NodeShape}
 use Rattle.pages.specs.Each.{Each}
 use Rattle.pages.specs.PageMap.{PageMap}
-use Rattle.bplus_tree.specs.declared.collapse.Base.{Base}
+use Rattle.bplus_tree.specs.declared.collapse.RootLevel.{RootLevel}
 use Rattle.tree_node.specs.Fill.{least_entries}
 use Rattle.tree_search.specs.Tree.{TreeOf, page_of, entries_of, pages_of, Bound, IsRow, IsOrdered}
 use Rattle.tree_search.specs.Calls.{size_of, IsHalfFull, IsRooted, IsTree}
@@ -18,7 +18,7 @@ use Rattle.tree_search.proofs.AnswerLemmas.{fails}
 use Rattle.bplus_tree.proofs.RemoveLemmas.{full_rooted}
 use Rattle.tree_node.proofs.OrderLemmas.{Each-weaker}
 
-pub node_there : (shape : Shape) (pages : PageMap) (page : ℕ) (ss : List (List ℕ)) (below : List ℕ) → IsInnerAt shape pages page ss below → IsSome (pages page)
+pub node_there : (shape : NodeShape) (pages : PageMap) (page : ℕ) (ss : List (List ℕ)) (below : List ℕ) → IsInnerAt shape pages page ss below → IsSome (pages page)
 node_there shape pages page ss below at = rw at.there refl
 
 -- the only child
@@ -33,10 +33,10 @@ only P [] (x ∷ []) none row = record { child = x; is = refl; between = row }
 only P [] (x ∷ y ∷ xs) none row = absurd row
 only P (s ∷ ss) xs none row = absurd (omega arith)
 
-at_root : (shape : Shape) (before : PageMap) (k root : ℕ) (t : TreeOf (suc k)) → IsTree shape before (suc k) root None None t → IsInnerAt shape before root t.1 (map (page_of k) t.2)
+at_root : (shape : NodeShape) (before : PageMap) (k root : ℕ) (t : TreeOf (suc k)) → IsTree shape before (suc k) root None None t → IsInnerAt shape before root t.1 (map (page_of k) t.2)
 at_root shape before k root t tree = subst (λ (n : ℕ). IsInnerAt shape before n t.1 (map (page_of k) t.2)) tree.root tree.holds.0
 
-collapsed_child : (shape : Shape) (before after : PageMap) (is_sound : Type 0) (k root child : ℕ) (t : TreeOf (suc k)) → IsTree shape before (suc k) root None None t → AreApart (pages_of (suc k) t) → IsHalfFull shape (suc k) t
+collapsed_child : (shape : NodeShape) (before after : PageMap) (is_sound : Type 0) (k root child : ℕ) (t : TreeOf (suc k)) → IsTree shape before (suc k) root None None t → AreApart (pages_of (suc k) t) → IsHalfFull shape (suc k) t
     → HasCollapsed before after root t.1 (map (page_of k) t.2) (Some child) → HasSettledRoot shape before after (suc k) t (record { root = child; levels = k })
 collapsed_child shape before after is_sound k root child t tree apart filled collapse_inner =
     let one = only (IsOrdered shape.width k) t.1 t.2 collapse_inner.0 tree.ordered.1 in
@@ -74,7 +74,7 @@ changes_none before after own same apart = record {
   apart = apart;
 }
 
-collapsed_same : (shape : Shape) (before after : PageMap) (h root : ℕ) (t : TreeOf h) → after ≡ before → IsTree shape before h root None None t → AreApart (pages_of h t) → IsHalfFull shape h t → IsRooted h t
+collapsed_same : (shape : NodeShape) (before after : PageMap) (h root : ℕ) (t : TreeOf h) → after ≡ before → IsTree shape before h root None None t → AreApart (pages_of h t) → IsHalfFull shape h t → IsRooted h t
     → HasSettledRoot shape before after h t (record { root = root; levels = h })
 collapsed_same shape before after h root t same tree apart filled rooted =
     record {
@@ -84,7 +84,7 @@ collapsed_same shape before after h root t same tree apart filled rooted =
       changes = changes_none before after (pages_of h t) same apart;
     }
 
-module _ (shape : Shape) (before after : PageMap) (is_sound : Type 0) (h k root : ℕ) (one : h ≡ suc k) where
+module _ (shape : NodeShape) (before after : PageMap) (is_sound : Type 0) (h k root : ℕ) (one : h ≡ suc k) where
   pub collapses_none : CollapsesInner shape root (Ok None) before after is_sound → Collapses shape h root (Ok (record { root = root; levels = h })) before after is_sound
   collapses_none collapses = subst (λ (n : ℕ). Collapses shape n root (Ok (record { root = root; levels = n })) before after is_sound) (sym one) (λ t tree apart filled.
       let a = (collapses t.1 (map (page_of k) t.2) (at_root shape before k root t tree)).answer in
@@ -95,7 +95,7 @@ module _ (shape : Shape) (before after : PageMap) (is_sound : Type 0) (h k root 
       let a = (collapses t.1 (map (page_of k) t.2) (at_root shape before k root t tree)).answer in
       record { answer = (collapsed_child shape before after is_sound k root child t tree apart filled a.0, a.1); no_damage = tt })
 
-  pub collapses_fault : (fault : Fault) (out : Result Base Fault) → CollapsesInner shape root (Err fault) before after is_sound → IsErrAnd out (λ e. e ≡ fault) → Collapses shape h root out before after is_sound
+  pub collapses_fault : (fault : Fault) (out : Result RootLevel Fault) → CollapsesInner shape root (Err fault) before after is_sound → IsErrAnd out (λ e. e ≡ fault) → Collapses shape h root out before after is_sound
   collapses_fault fault out collapses was = subst (λ (n : ℕ). Collapses shape n root out before after is_sound) (sym one) (λ t tree apart filled.
       let a = collapses t.1 (map (page_of k) t.2) (at_root shape before k root t tree) in
       fails out fault (λ base. HasSettledRoot shape before after (suc k) t base × is_sound) was a.no_damage)

@@ -1,7 +1,7 @@
 -- How many entries a tree of a height has at least.
 use Rattle.std.proofs.Common.{◌≡◌, ℕ, zero, suc, ◌+◌, ◌*◌, ◌≤◌, List, [], ◌∷◌, length, Some, None, refl, arith, flat_map}
 use Rattle.std.proofs.lemmas.List.{length-append}
-use Rattle.tree_node.specs.declared.shape.Shape.{Shape}
+use Rattle.tree_node.specs.declared.shape.NodeShape.{NodeShape}
 use Rattle.pages.specs.Each.{Each}
 use Rattle.tree_node.proofs.LeafLemmas.{leaf_room_some}
 use Rattle.tree_node.proofs.InnerLemmas.{inner_room_some}
@@ -33,13 +33,13 @@ many_in f Q e each (suc n) (x ∷ xs) all h =
     let step : times (suc n) e ≡ e + times n e = refl in
     omega arith
 
-record IsChild (shape : Shape) (k : ℕ) (t : TreeOf k) : Type 0 where
+record IsChild (shape : NodeShape) (k : ℕ) (t : TreeOf k) : Type 0 where
   pub low : Bound
   pub high : Bound
   pub ordered : IsOrdered shape.width k low high t
   pub full : (least_entries shape k ≤ size_of k t) × IsHalfFull shape k t
 
-children_are : (shape : Shape) (k : ℕ) (low : Bound) (ss : List (List ℕ)) (xs : List (TreeOf k)) (high : Bound) → IsRow (IsOrdered shape.width k) low ss xs high
+children_are : (shape : NodeShape) (k : ℕ) (low : Bound) (ss : List (List ℕ)) (xs : List (TreeOf k)) (high : Bound) → IsRow (IsOrdered shape.width k) low ss xs high
     → Each (λ c. (least_entries shape k ≤ size_of k c) × IsHalfFull shape k c) xs → Each (IsChild shape k) xs
 children_are shape k low [] [] high row fill = tt
 children_are shape k low [] (x ∷ []) high row fill = (record { low = low; high = high; ordered = row; full = fill.0 }, tt)
@@ -47,7 +47,7 @@ children_are shape k low [] (x ∷ y ∷ xs) high row fill = absurd row
 children_are shape k low (s ∷ ss) [] high row fill = tt
 children_are shape k low (s ∷ ss) (x ∷ xs) high row fill = (record { low = low; high = Some s; ordered = row.2; full = fill.0 }, children_are shape k (Some s) ss xs high row.3 fill.1)
 
-many_below : (shape : Shape) (h : ℕ) (t : TreeOf h) → IsChild shape h t → fewest h ≤ length (entries_of h t)
+many_below : (shape : NodeShape) (h : ℕ) (t : TreeOf h) → IsChild shape h t → fewest h ≤ length (entries_of h t)
 many_below shape zero t child =
     let room = leaf_room_some shape in
     let full = child.full.0 in

@@ -5,7 +5,7 @@ use Rattle.std.proofs.Math.Nat.{div-le_self}
 use Rattle.std.proofs.lemmas.Bool.{cases_Bool, eqb-true, ne_eqb}
 use Rattle.std.proofs.lemmas.List.{length-append}
 use Rattle.std.proofs.lemmas.Map.Steps.{length-le_from_distinct_below}
-use Rattle.tree_node.specs.declared.shape.Shape.{Shape}
+use Rattle.tree_node.specs.declared.shape.NodeShape.{NodeShape}
 use Rattle.tree_node.proofs.OrderLemmas.{Each-weaker}
 use Rattle.tree_node.proofs.TableLemmas.{length_table}
 use Rattle.pages.specs.Each.{Each}
@@ -53,7 +53,7 @@ many_over entries pages Q each (x ∷ xs) all =
     let longer = length-append (pages x) (flat_map pages xs) in
     omega arith
 
-fit : (shape : Shape) (pages : PageMap) (h : ℕ) (t : TreeOf h) → Holds shape pages h t → length (entries_of h t) ≤ 4080 * length (pages_of h t)
+fit : (shape : NodeShape) (pages : PageMap) (h : ℕ) (t : TreeOf h) → Holds shape pages h t → length (entries_of h t) ≤ 4080 * length (pages_of h t)
 fit shape pages zero t holds =
     let long = length_table 16 shape.entry holds.bytes in
     let few = holds.leaf.few in
@@ -82,7 +82,7 @@ some_below (suc h) t count none all = absurd (omega (arith, none, all.0))
 
 -- ---- the entries that a height needs
 
-many_deep : (shape : Shape) (pages : PageMap) (h page : ℕ) (t : TreeOf h) → IsWhole shape pages h page None None t → h ≡ 19 → 2 ^ 57 ≤ length (entries_of h t)
+many_deep : (shape : NodeShape) (pages : PageMap) (h page : ℕ) (t : TreeOf h) → IsWhole shape pages h page None None t → h ≡ 19 → 2 ^ 57 ≤ length (entries_of h t)
 many_deep shape pages zero page t whole deep = absurd (omega arith)
 many_deep shape pages (suc k) page t whole deep =
     let e : 18 ≡ k = omega arith in

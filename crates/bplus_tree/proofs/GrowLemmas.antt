@@ -5,7 +5,7 @@ use Rattle.std.proofs.Math.Seq.{drop-cons}
 use Rattle.std.proofs.lemmas.List.{take-append-drop, length-drop}
 use Rattle.arrayvec.specs.ArrayVec.{ArrayVec}
 use Rattle.io_state.specs.declared.fault.Fault.{Fault}
-use Rattle.tree_node.specs.declared.shape.Shape.{Shape}
+use Rattle.tree_node.specs.declared.shape.NodeShape.{NodeShape}
 use Rattle.tree_node.specs.Leaf.{leaf_entries}
 use Rattle.tree_node.specs.Inner.{separators, children}
 use Rattle.tree_node.proofs.InnerLemmas.{inner_room_some}
@@ -22,7 +22,7 @@ pub answer_map : {X : Type 0} {r : Result X Fault} {P Q : X → Type 0} → IsAn
 answer_map {r = Ok x} a f = record { answer = f x a.answer; no_damage = tt }
 answer_map {r = Err e} a f = record { answer = tt; no_damage = a.no_damage }
 
-module _ (shape : Shape) (before after : PageMap) (page : ℕ) (lower upper : List ℕ) where
+module _ (shape : NodeShape) (before after : PageMap) (page : ℕ) (lower upper : List ℕ) where
   leaf_parts : (entries : List (List ℕ)) (key : Option (ArrayVec ℕ)) (up : Option Separator) → PutInLeaf shape lower upper entries key → IsSplitOrWhole before after page lower upper key up
       → option_map (λ (s : Separator). s.key) up ≡ key → HasAddedToLeaf shape before after page entries up
   leaf_parts entries None None put parts same =
@@ -79,7 +79,7 @@ both_ok (Ok x) P Q R f a q = record { answer = f x a.answer q; no_damage = tt }
 both_ok (Err e) P Q R f a q = record { answer = tt; no_damage = a.no_damage }
 
 -- a copy of a node was changed and written back
-module _ (shape : Shape) (before mid after : PageMap) (is_sound : Type 0) (page place : ℕ) (bytes lower upper : List ℕ) (key : Option (ArrayVec ℕ)) (result : Result (Option Separator) Fault)
+module _ (shape : NodeShape) (before mid after : PageMap) (is_sound : Type 0) (page place : ℕ) (bytes lower upper : List ℕ) (key : Option (ArrayVec ℕ)) (result : Result (Option Separator) Fault)
     (same : mid ≡ before) (there : before page ≡ Some bytes) (written : WritesParts page lower upper key result mid after is_sound) (keyed : IfOk result (λ up. option_map (λ (s : Separator). s.key) up ≡ key)) where
   wrote : IsAnswer result (λ up. IsSplitOrWhole before after page lower upper key up × is_sound)
   wrote = (subst (λ (m : PageMap). WritesParts page lower upper key result m after is_sound) same written) (rw there refl)

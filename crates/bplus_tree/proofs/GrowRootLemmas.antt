@@ -3,7 +3,7 @@ use Rattle.std.proofs.Common.{◌≡◌, ◌≢◌, ℕ, zero, suc, ◌+◌, ◌
 use Rattle.std.proofs.Common.{◌∙◌, arith, flat_map}
 use Rattle.std.proofs.lemmas.List.{append-nil}
 use Rattle.pages.specs.Each.{Each}
-use Rattle.tree_node.specs.declared.shape.Shape.{Shape}
+use Rattle.tree_node.specs.declared.shape.NodeShape.{NodeShape}
 use Rattle.tree_node.proofs.OrderLemmas.{Each-weaker}
 use Rattle.pages.specs.PageMap.{PageMap}
 use Rattle.pages.specs.Owners.{IsOutside, ChangesPages}
@@ -24,7 +24,7 @@ rooted_still zero t new rooted large = tt
 rooted_still (suc h) t new rooted large = omega arith
 
 -- the root was not split
-grown_same : {shape : Shape} {before mid : PageMap} {h root : ℕ} {entries : List (List ℕ)} (t : TreeOf h) → IsRooted h t
+grown_same : {shape : NodeShape} {before mid : PageMap} {h root : ℕ} {entries : List (List ℕ)} (t : TreeOf h) → IsRooted h t
     → Becomes (from_root (at_page shape h root) t) before mid (size_of h t) entries
     → HasGrownRoot shape before mid (pages_of h t) entries (record { root = root; levels = h })
 grown_same {h} t rooted b =
@@ -35,7 +35,7 @@ grown_same {h} t rooted b =
       changes = b.changes;
     }
 
-module _ {shape : Shape} {before mid after : PageMap} {h root : ℕ} {entries : List (List ℕ)} {separator : Separator} {new : ℕ}
+module _ {shape : NodeShape} {before mid after : PageMap} {h root : ℕ} {entries : List (List ℕ)} {separator : Separator} {new : ℕ}
     (t : TreeOf h) (two : BecomesTwo (from_root (at_page shape h root) t) before mid entries separator)
     (put : HasRoot shape mid after root separator new) where
   fresh : (n : ℕ) → IsSome (mid n) → n ≢ new
@@ -99,7 +99,7 @@ module _ {shape : Shape} {before mid after : PageMap} {h root : ℕ} {entries : 
       let has = ap (λ (l : List (List ℕ)). entries_of h two.left ++ l) (append-nil (entries_of h two.right)) ∙ two.has in
       record { tree = tree; whole = whole; has = has; changes = frame }
 
-module _ {shape : Shape} {h root : ℕ} where
+module _ {shape : NodeShape} {h root : ℕ} where
   pub grows_none : {mid : PageMap} {is_sound : Type 0} → is_sound
       → GrowsRoot (at_page shape h root) None (Ok (record { root = root; levels = h })) mid mid is_sound
   grows_none sound before t entries rooted grown = record { answer = (grown_same t rooted grown, sound); no_damage = tt }

@@ -9,7 +9,7 @@ use Rattle.arrayvec.specs.ArrayVec.{ArrayVec}
 use Rattle.io_state.specs.declared.fault.Fault.{Fault}
 use Rattle.io_state.specs.declared.fault.Fault.TheVariants.{Damage}
 use Rattle.pages.specs.Each.{Each}
-use Rattle.tree_node.specs.declared.shape.Shape.{Shape}
+use Rattle.tree_node.specs.declared.shape.NodeShape.{NodeShape}
 use Rattle.tree_node.specs.Leaf.{IsLeaf, leaf_entries}
 use Rattle.tree_node.specs.Order.{Ascends}
 use Rattle.tree_node.proofs.LeafLemmas.{leaf_room_some}
@@ -18,7 +18,7 @@ use Rattle.tree_node.proofs.OrderLemmas.{Each-weaker}
 use Rattle.pages.specs.PageMap.{PageMap, Writes}
 use Rattle.pages.specs.Owners.{ChangesPages}
 use Rattle.tree_search.specs.declared.descent.StepDown.{StepDown}
-use Rattle.tree_search.specs.declared.descent.Look.{Look}
+use Rattle.tree_search.specs.declared.descent.LeafLook.{LeafLook}
 use Rattle.tree_node.specs.declared.separator.Separator.{Separator}
 use Rattle.bplus_tree.specs.declared.insert.Grown.{Grown}
 use Rattle.bplus_tree.specs.declared.insert.Grown.TheVariants.{Present, Added}
@@ -44,7 +44,7 @@ use Rattle.bplus_tree.proofs.GrowLemmas.{answer_map}
 
 -- ---- a leaf
 
-module _ {shape : Shape} {page : ℕ} {before : PageMap} (after : PageMap) (e : List ℕ) (leaf : Leaf shape page)
+module _ {shape : NodeShape} {page : ℕ} {before : PageMap} (after : PageMap) (e : List ℕ) (leaf : Leaf shape page)
     (stands : IsSubtree before leaf) (within : IsInBounds leaf (take shape.width e))
     (none : entry_of shape.width (take shape.width e) leaf.tree.1 ≡ None) where
   abbrev now : List (List ℕ)
@@ -95,8 +95,8 @@ module _ {shape : Shape} {page : ℕ} {before : PageMap} (after : PageMap) (e : 
         },
       )
 
-pub leaf_grows : {shape : Shape} {page : ℕ} {before after : PageMap} {is_sound : Type 0} {result : Result (Option Separator) Fault}
-    (e : List ℕ) (leaf : Leaf shape page) (look : Look) → IsSubtree before leaf → IsInBounds leaf (take shape.width e)
+pub leaf_grows : {shape : NodeShape} {page : ℕ} {before after : PageMap} {is_sound : Type 0} {result : Result (Option Separator) Fault}
+    (e : List ℕ) (leaf : Leaf shape page) (look : LeafLook) → IsSubtree before leaf → IsInBounds leaf (take shape.width e)
     → IsLook shape.width (take shape.width e) leaf.tree.1 look → look.found ≡ None
     → AddsToLeaf shape page look.place e result before after is_sound
     → IsAnswer result (λ up. HasInsertedBelow leaf before after e (Added up) × is_sound)
@@ -109,14 +109,14 @@ leaf_grows {shape} {after} e leaf look stands within is missed adds =
 
 -- ---- a leaf that has room
 
-pub put_page : (shape : Shape) (before after : PageMap) (page : ℕ) (e old new : List ℕ) (done : Bool) → before page ≡ Some old → Writes before after page new → IsLeaf shape new
+pub put_page : (shape : NodeShape) (before after : PageMap) (page : ℕ) (e old new : List ℕ) (done : Bool) → before page ≡ Some old → Writes before after page new → IsLeaf shape new
     → (done ≡ false → new ≡ old) → IsPutIf shape.width e (leaf_entries shape old) (leaf_entries shape new) done → HasPutInPlaceIf shape before after page e (leaf_entries shape old) done
 put_page shape before after page e old new true there writes leaf same put =
     (put.0, record { leaf = record { bytes = new; there = writes.page; leaf = leaf; holds = put.1 }; others = writes.others })
 put_page shape before after page e old new false there writes leaf same put =
     written_same before after page old there (record { page = writes.page ∙ ap Some (same refl); others = writes.others })
 
-pub put_leaf : {shape : Shape} {page : ℕ} {before : PageMap} {is_sound : Type 0} {out : Result Bool Fault} (after : PageMap) (e : List ℕ)
+pub put_leaf : {shape : NodeShape} {page : ℕ} {before : PageMap} {is_sound : Type 0} {out : Result Bool Fault} (after : PageMap) (e : List ℕ)
     → PutsInPlace shape page e out before after is_sound → PutsBelow (at_page shape zero page) e out before after is_sound
 put_leaf {shape} {page} {before} after e puts leaf whole within =
     let stands = whole.stands in
@@ -130,7 +130,7 @@ put_leaf {shape} {page} {before} after e puts leaf whole within =
 -- ---- a node
 
 -- A child was split. Its parent is to have these separators and children, and does not lead to the second part yet.
-pub record Parted {shape : Shape} {k page : ℕ} (node : Inner shape k page) (before after : PageMap) (entries ss : List (List ℕ))
+pub record Parted {shape : NodeShape} {k page : ℕ} (node : Inner shape k page) (before after : PageMap) (entries ss : List (List ℕ))
     (xs : List (TreeOf k)) : Type 0 where
   pub root : node.tree.0 ≡ page
   pub row : IsRow (IsOrdered shape.width k) node.low ss xs node.high
@@ -140,7 +140,7 @@ pub record Parted {shape : Shape} {k page : ℕ} (node : Inner shape k page) (be
   pub changes : ChangesPages before after (page ∷ flat_map (pages_of k) node.tree.2) (page ∷ flat_map (pages_of k) xs)
   pub there : IsSome (after page)
 
-module _ {shape : Shape} {k page : ℕ} {before after : PageMap} {entries ss : List (List ℕ)} {xs : List (TreeOf k)} (late : PageMap)
+module _ {shape : NodeShape} {k page : ℕ} {before after : PageMap} {entries ss : List (List ℕ)} {xs : List (TreeOf k)} (late : PageMap)
     (node : Inner shape k page) (parted : Parted node before after entries ss xs) where
   abbrev old : List ℕ
   old = flat_map (pages_of k) node.tree.2
@@ -233,7 +233,7 @@ insert_behind xs ys x y i h =
     ap (λ (l : List ℕ). insert l (i + 1) y) (sym (append_assoc xs (x ∷ []) ys)) ∙ rw (take_at (xs ++ x ∷ []) ys (i + 1) long, drop_at (xs ++ x ∷ []) ys (i + 1) long) (append_assoc xs (x ∷ []) (y ∷ ys))
 
 -- a child was split in two
-record ChildSplit {shape : Shape} {k page : ℕ} (node : Inner shape k page) (before after : PageMap) (e : List ℕ) (i : ℕ)
+record ChildSplit {shape : NodeShape} {k page : ℕ} (node : Inner shape k page) (before after : PageMap) (e : List ℕ) (i : ℕ)
     (separator : Separator) : Type 0 where
   pub xs : List (TreeOf k)
   pub parted : Parted node before after (with_entry shape.width e (flat_map (entries_of k) node.tree.2))
@@ -241,7 +241,7 @@ record ChildSplit {shape : Shape} {k page : ℕ} (node : Inner shape k page) (be
   pub parent : IsInnerAt shape after page node.tree.1 (map (page_of k) node.tree.2)
   pub leads : insert (map (page_of k) node.tree.2) (i + 1) separator.child ≡ map (page_of k) xs
 
-module _ {shape : Shape} {k page : ℕ} {before after : PageMap} {step : StepDown} (e : List ℕ) (node : Inner shape k page)
+module _ {shape : NodeShape} {k page : ℕ} {before after : PageMap} {step : StepDown} (e : List ℕ) (node : Inner shape k page)
     (whole : IsWholeSubtree before node) (child : Child before node (take shape.width e) step) where
   child_split : (separator : Separator)
       → BecomesTwo (below_it child) before after (with_entry shape.width e (entries_of k child.row.here)) separator
@@ -296,24 +296,24 @@ module _ {shape : Shape} {k page : ℕ} {before after : PageMap} {step : StepDow
       (append-nil (entries_of k new.tree) ∙ new.has)
       ∙ ap (λ (l : List (TreeOf k)). with_entry shape.width e (flat_map (entries_of k) l)) (sym row.is))
 
-within_it : {shape : Shape} {k page : ℕ} {before : PageMap} {node : Inner shape k page} {key : List ℕ} {step : StepDown}
+within_it : {shape : NodeShape} {k page : ℕ} {before : PageMap} {node : Inner shape k page} {key : List ℕ} {step : StepDown}
     (child : Child before node key step) → IsInBounds node key → IsInBounds (below_it child) key
 within_it child within = (child.row.under within.0, child.row.over within.1)
 
 -- ---- the exits of an insert below a page
 
-pub inserts_at : {shape : Shape} {n m page : ℕ} {before : PageMap} {is_sound : Type 0} {out : Result Grown Fault} (after : PageMap)
+pub inserts_at : {shape : NodeShape} {n m page : ℕ} {before : PageMap} {is_sound : Type 0} {out : Result Grown Fault} (after : PageMap)
     (e : List ℕ) → Inserts (at_page shape m page) e out before after is_sound → n ≡ m
     → Inserts (at_page shape n page) e out before after is_sound
 inserts_at {shape} {page} {before} {is_sound} {out} after e says same =
     subst (λ (levels : ℕ). Inserts (at_page shape levels page) e out before after is_sound) (sym same) says
 
-pub puts_at : {shape : Shape} {n m page : ℕ} {before : PageMap} {is_sound : Type 0} {out : Result Bool Fault} (after : PageMap) (e : List ℕ)
+pub puts_at : {shape : NodeShape} {n m page : ℕ} {before : PageMap} {is_sound : Type 0} {out : Result Bool Fault} (after : PageMap) (e : List ℕ)
     → PutsBelow (at_page shape m page) e out before after is_sound → n ≡ m → PutsBelow (at_page shape n page) e out before after is_sound
 puts_at {shape} {page} {before} {is_sound} {out} after e says same =
     subst (λ (levels : ℕ). PutsBelow (at_page shape levels page) e out before after is_sound) (sym same) says
 
-module _ {shape : Shape} {k page : ℕ} {before : PageMap} {step : StepDown} {is_sound : Type 0} (e : List ℕ)
+module _ {shape : NodeShape} {k page : ℕ} {before : PageMap} {step : StepDown} {is_sound : Type 0} (e : List ℕ)
     (steps : Steps shape before page (take shape.width e) (Ok step)) (after : PageMap) where
   -- the child's fault is no damage
   pub child_fails : {fault : Fault} → Inserts (at_page shape k step.child) e (Err fault) before after is_sound → (node : Inner shape k page)

@@ -1,7 +1,7 @@
 -- Pages of trees that stand side by side, and what a change of one leaves of the others.
 use Rattle.std.proofs.Common.{◌≡◌, ◌≢◌, ℕ, zero, suc, List, [], ◌∷◌, ◌++◌, Some, None, IsSome, refl, ap, sym, subst, ◌∙◌, arith, flat_map}
 use mathlib.Core.Path.{fun_ext}
-use Rattle.tree_node.specs.declared.shape.Shape.{Shape}
+use Rattle.tree_node.specs.declared.shape.NodeShape.{NodeShape}
 use Rattle.pages.specs.Each.{Each}
 use Rattle.tree_node.proofs.OrderLemmas.{Each-weaker}
 use Rattle.tree_search.specs.Tree.{TreeOf, pages_of}
@@ -54,7 +54,7 @@ each_pages P Q pages f [] h = tt
 each_pages P Q pages f (x ∷ xs) h = Each-append P (pages x) (flat_map pages xs) (f x h.0) (each_pages P Q pages f xs h.1)
 
 -- the pages of a standing tree are in use
-pub pages_live : (shape : Shape) (pages : PageMap) (h : ℕ) (t : TreeOf h) → Holds shape pages h t → Each (λ n. IsSome (pages n)) (pages_of h t)
+pub pages_live : (shape : NodeShape) (pages : PageMap) (h : ℕ) (t : TreeOf h) → Holds shape pages h t → Each (λ n. IsSome (pages n)) (pages_of h t)
 pages_live shape pages zero t holds = (rw holds.there refl, tt)
 pages_live shape pages (suc h) t holds =
     (rw holds.0.there refl, each_pages (λ n. IsSome (pages n)) (Holds shape pages h) (pages_of h) (pages_live shape pages h) t.2 holds.1)
@@ -65,7 +65,7 @@ each_kept P Q R pages f (x ∷ xs) h k =
     (f x h.0 (each_left P (pages x) (flat_map pages xs) k), each_kept P Q R pages f xs h.1 (each_right P (pages x) (flat_map pages xs) k))
 
 -- a tree stands while its pages stay as they are
-pub holds_still : (shape : Shape) (before after : PageMap) (h : ℕ) (t : TreeOf h) → Holds shape before h t → Each (λ n. after n ≡ before n) (pages_of h t) → Holds shape after h t
+pub holds_still : (shape : NodeShape) (before after : PageMap) (h : ℕ) (t : TreeOf h) → Holds shape before h t → Each (λ n. after n ≡ before n) (pages_of h t) → Holds shape after h t
 holds_still shape before after zero t holds same =
     record { bytes = holds.bytes; there = same.0 ∙ holds.there; leaf = holds.leaf; holds = holds.holds }
 holds_still shape before after (suc h) t holds same = (
@@ -73,7 +73,7 @@ holds_still shape before after (suc h) t holds same = (
   each_kept (λ n. after n ≡ before n) (Holds shape before h) (Holds shape after h) (pages_of h) (holds_still shape before after h) t.2 holds.1 same.1,
 )
 
-pub rows_still : (shape : Shape) (before after : PageMap) (h : ℕ) (ts : List (TreeOf h)) → Each (Holds shape before h) ts → Each (λ n. after n ≡ before n) (flat_map (pages_of h) ts) → Each (Holds shape after h) ts
+pub rows_still : (shape : NodeShape) (before after : PageMap) (h : ℕ) (ts : List (TreeOf h)) → Each (Holds shape before h) ts → Each (λ n. after n ≡ before n) (flat_map (pages_of h) ts) → Each (Holds shape after h) ts
 rows_still shape before after h ts holds same =
     each_kept (λ n. after n ≡ before n) (Holds shape before h) (Holds shape after h) (pages_of h) (holds_still shape before after h) ts holds same
 

@@ -5,7 +5,7 @@ use Rattle.std.specs.List.{remove}
 use Rattle.std.proofs.lemmas.List.{map-append, length-append, length-map, length-set, get_or_at}
 use Rattle.std.proofs.lemmas.List.Edits.{remove-append_right, length-remove}
 use Rattle.std.proofs.lemmas.Grind.{flat_map-append}
-use Rattle.tree_node.specs.declared.shape.Shape.{Shape}
+use Rattle.tree_node.specs.declared.shape.NodeShape.{NodeShape}
 use Rattle.pages.specs.Each.{Each}
 use Rattle.tree_node.specs.Inner.{separators, children}
 use Rattle.pages.specs.PageMap.{PageMap}
@@ -43,7 +43,7 @@ module _ {X : Type 0} (F L : X → Type 0) where
   lacks_second (x ∷ front) l r back (suc place) is h = let rec = lacks_second front l r back place (omega arith) h.1 in ((h.0, rec.0), rec.1, rec.2, rec.3)
 
 -- two neighbours, one of which lacks one
-pub record Uneven (shape : Shape) (k : ℕ) (front : List (TreeOf k)) (left right : TreeOf k) (back : List (TreeOf k)) : Type 0 where
+pub record Uneven (shape : NodeShape) (k : ℕ) (front : List (TreeOf k)) (left right : TreeOf k) (back : List (TreeOf k)) : Type 0 where
   pub in_front : Each (IsHalfFullWithRoot shape k) front
   pub behind : Each (IsHalfFullWithRoot shape k) back
   pub filled_left : IsHalfFull shape k left
@@ -53,7 +53,7 @@ pub record Uneven (shape : Shape) (k : ℕ) (front : List (TreeOf k)) (left righ
   pub enough : least_entries shape k ≤ size_of k left + size_of k right
   pub uneven : size_of k left ≡ size_of k right → 2 * least_entries shape k ≤ size_of k left + size_of k right → ⊥
 
-uneven_first : (shape : Shape) (k : ℕ) (front : List (TreeOf k)) (left right : TreeOf k) (back : List (TreeOf k)) → Each (IsHalfFullWithRoot shape k) front × LacksOne shape k left × IsHalfFullWithRoot shape k right × Each (IsHalfFullWithRoot shape k) back
+uneven_first : (shape : NodeShape) (k : ℕ) (front : List (TreeOf k)) (left right : TreeOf k) (back : List (TreeOf k)) → Each (IsHalfFullWithRoot shape k) front × LacksOne shape k left × IsHalfFullWithRoot shape k right × Each (IsHalfFullWithRoot shape k) back
     → Uneven shape k front left right back
 uneven_first shape k front left right back h =
     let a = h.1.0 in
@@ -69,7 +69,7 @@ uneven_first shape k front left right back h =
       uneven = λ e f. omega arith;
     }
 
-uneven_second : (shape : Shape) (k : ℕ) (front : List (TreeOf k)) (left right : TreeOf k) (back : List (TreeOf k)) → Each (IsHalfFullWithRoot shape k) front × IsHalfFullWithRoot shape k left × LacksOne shape k right × Each (IsHalfFullWithRoot shape k) back
+uneven_second : (shape : NodeShape) (k : ℕ) (front : List (TreeOf k)) (left right : TreeOf k) (back : List (TreeOf k)) → Each (IsHalfFullWithRoot shape k) front × IsHalfFullWithRoot shape k left × LacksOne shape k right × Each (IsHalfFullWithRoot shape k) back
     → Uneven shape k front left right back
 uneven_second shape k front left right back h =
     let a = h.1.0 in
@@ -85,7 +85,7 @@ uneven_second shape k front left right back h =
       uneven = λ e f. omega arith;
     }
 
-uneven_at : (shape : Shape) (k : ℕ) (front : List (TreeOf k)) (left right : TreeOf k) (back : List (TreeOf k)) (place : ℕ) → (length front ≡ place) ⊎ (length front + 1 ≡ place)
+uneven_at : (shape : NodeShape) (k : ℕ) (front : List (TreeOf k)) (left right : TreeOf k) (back : List (TreeOf k)) (place : ℕ) → (length front ≡ place) ⊎ (length front + 1 ≡ place)
     → AreFullBut (IsHalfFullWithRoot shape k) (LacksOne shape k) place (front ++ left ∷ right ∷ back) → Uneven shape k front left right back
 uneven_at shape k front left right back place (inl e) h = uneven_first shape k front left right back (lacks_first (IsHalfFullWithRoot shape k) (LacksOne shape k) front left right back place e h)
 uneven_at shape k front left right back place (inr e) h = uneven_second shape k front left right back (lacks_second (IsHalfFullWithRoot shape k) (LacksOne shape k) front left right back place e h)
@@ -102,7 +102,7 @@ pages_split (suc k) t = refl
 
 -- ---- what is known of the node and the two children before anything is written
 
-pub record Chosen {shape : Shape} {k page : ℕ} (before : PageMap) (node : Inner shape k page) (bytes : PairBytes)
+pub record Chosen {shape : NodeShape} {k page : ℕ} (before : PageMap) (node : Inner shape k page) (bytes : PairBytes)
     (pair : Pair) : Type 0 where
   pub seps : separators shape bytes.node ≡ node.tree.1
   pub kids : children shape bytes.node ≡ map (page_of k) node.tree.2
@@ -131,7 +131,7 @@ two_pages k front left right back p q u v is is' =
     ∙ ap (λ (l : List ℕ). flat_map (pages_of k) front ++ (l ++ (pages_of k right ++ flat_map (pages_of k) back))) is
     ∙ ap (λ (l : List ℕ). flat_map (pages_of k) front ++ (p ∷ (u ++ (l ++ flat_map (pages_of k) back)))) is'
 
-pub chosen : {shape : Shape} {k page place : ℕ} {before : PageMap} {bytes : PairBytes} {pair : Pair} (node : Inner shape k page)
+pub chosen : {shape : NodeShape} {k page place : ℕ} {before : PageMap} {bytes : PairBytes} {pair : Pair} (node : Inner shape k page)
     → LacksBelow before place node → HasRead shape before page place bytes pair → Chosen before node bytes pair
 chosen {shape} {k} {page} {place} {before} {bytes} {pair} node lacks read =
     let stands = lacks.stands in
@@ -200,7 +200,7 @@ chosen {shape} {k} {page} {place} {before} {bytes} {pair} node lacks read =
     }
 
 -- it is a node of its kind, with as many entries or separators as its tree has
-node_of : (shape : Shape) (pages : PageMap) (k : ℕ) (t : TreeOf k) (bytes : List ℕ) → Holds shape pages k t
+node_of : (shape : NodeShape) (pages : PageMap) (k : ℕ) (t : TreeOf k) (bytes : List ℕ) → Holds shape pages k t
     → pages (page_of k t) ≡ Some bytes → IsNode shape k bytes × (count_at shape k bytes ≡ size_of k t)
 node_of shape pages zero t bytes holds there =
     let same : holds.bytes ≡ bytes = cc (holds.there, there) in
@@ -219,7 +219,7 @@ remove_second front x y back i is =
 
 -- ---- what is so after
 
-module _ {shape : Shape} {k page : ℕ} {before : PageMap} {node : Inner shape k page} {bytes : PairBytes} {pair : Pair}
+module _ {shape : NodeShape} {k page : ℕ} {before : PageMap} {node : Inner shape k page} {bytes : PairBytes} {pair : Pair}
     (found : Chosen before node bytes pair) where
   -- so the two can be balanced
   pub no_fault : (IsNode shape k bytes.left → IsNode shape k bytes.right → (count_at shape k bytes.left ≡ count_at shape k bytes.right)
@@ -375,7 +375,7 @@ module _ {shape : Shape} {k page : ℕ} {before : PageMap} {node : Inner shape k
 
 -- ---- reading
 
-pub kids_there : (shape : Shape) (pages : PageMap) (page place : ℕ) (node : List ℕ) (pair : Pair) → IsParent shape pages page → pages page ≡ Some node → IsBeside shape place node pair
+pub kids_there : (shape : NodeShape) (pages : PageMap) (page place : ℕ) (node : List ℕ) (pair : Pair) → IsParent shape pages page → pages page ≡ Some node → IsBeside shape place node pair
     → IsSome (pages pair.lower) × IsSome (pages pair.upper)
 kids_there shape pages page place node pair parent there beside =
     let same : parent.bytes ≡ node = cc (parent.there, there) in
@@ -383,7 +383,7 @@ kids_there shape pages page place node pair parent there beside =
     let inside = beside.within in
     (rw beside.lower (kids pair.at (omega arith)), rw beside.upper (kids (pair.at + 1) (omega arith)))
 
-pub parent_there : (shape : Shape) (pages : PageMap) (page : ℕ) → IsParent shape pages page → IsSome (pages page)
+pub parent_there : (shape : NodeShape) (pages : PageMap) (page : ℕ) → IsParent shape pages page → IsSome (pages page)
 parent_there shape pages page parent = rw parent.there refl
 
 each_index : (P : ℕ → Type 0) (xs : List ℕ) (i : ℕ) → i < length xs → Each P xs → P (slice_index xs i)
@@ -391,11 +391,11 @@ each_index P [] i h all = absurd (omega arith)
 each_index P (x ∷ xs) zero h all = all.0
 each_index P (x ∷ xs) (suc i) h all = each_index P xs i (omega arith) all.1
 
-each_roots : (shape : Shape) (pages : PageMap) (k : ℕ) (ts : List (TreeOf k)) → Each (Holds shape pages k) ts → Each (λ n. IsSome (pages n)) (map (page_of k) ts)
+each_roots : (shape : NodeShape) (pages : PageMap) (k : ℕ) (ts : List (TreeOf k)) → Each (Holds shape pages k) ts → Each (λ n. IsSome (pages n)) (map (page_of k) ts)
 each_roots shape pages k [] h = tt
 each_roots shape pages k (t ∷ ts) h = (root_there shape pages k t h.0, each_roots shape pages k ts h.1)
 
-pub parent_of : {shape : Shape} {k page place : ℕ} {pages : PageMap} (node : Inner shape k page) → LacksBelow pages place node
+pub parent_of : {shape : NodeShape} {k page place : ℕ} {pages : PageMap} (node : Inner shape k page) → LacksBelow pages place node
     → IsParent shape pages page
 parent_of {shape} {k} {pages} node lacks =
     let at = lacks.stands.holds.0 in

@@ -11,7 +11,7 @@ use Rattle.std.proofs.lemmas.List.Edits.{length-remove}
 use Rattle.std.proofs.lemmas.Grind.{flat_map-append}
 use Rattle.arrayvec.specs.ArrayVec.{ArrayVec}
 use Rattle.io_state.specs.declared.fault.Fault.{Fault}
-use Rattle.tree_node.specs.declared.shape.Shape.{Shape}
+use Rattle.tree_node.specs.declared.shape.NodeShape.{NodeShape}
 use Rattle.pages.specs.Each.{Each}
 use Rattle.tree_node.specs.Leaf.{IsLeaf, leaf_entries}
 use Rattle.tree_node.specs.Order.{less, Ascends, IsRank}
@@ -19,7 +19,7 @@ use Rattle.tree_node.proofs.InnerLemmas.{inner_room_some}
 use Rattle.tree_node.proofs.OrderLemmas.{Each-weaker, either}
 use Rattle.pages.specs.PageMap.{PageMap, Writes}
 use Rattle.tree_search.specs.declared.descent.StepDown.{StepDown}
-use Rattle.tree_search.specs.declared.descent.Look.{Look}
+use Rattle.tree_search.specs.declared.descent.LeafLook.{LeafLook}
 use Rattle.bplus_tree.specs.declared.remove.Shrunk.{Shrunk}
 use Rattle.bplus_tree.specs.declared.remove.Shrunk.TheVariants.{Absent, Taken}
 use Rattle.tree_node.specs.Fill.{least_entries}
@@ -121,15 +121,15 @@ module _ (width : ℕ) (key : List ℕ) where
 
 -- ---- a leaf
 
-abbrev pub Leaf : Shape → (page : ℕ) → Type 0
+abbrev pub Leaf : NodeShape → (page : ℕ) → Type 0
 Leaf shape page = Subtree (at_page shape zero page)
 
 -- the entry of a key was taken out of a leaf
-record Without {shape : Shape} {page : ℕ} (leaf : Leaf shape page) (before after : PageMap) (key : List ℕ) (i : ℕ) : Type 0 where
+record Without {shape : NodeShape} {page : ℕ} (leaf : Leaf shape page) (before after : PageMap) (key : List ℕ) (i : ℕ) : Type 0 where
   pub becomes : Becomes leaf before after (length leaf.tree.1 - 1) (without_key shape.width key leaf.tree.1)
   pub size : length becomes.tree.1 ≡ length (remove leaf.tree.1 i)
 
-leaf_without : {shape : Shape} {page : ℕ} {before after : PageMap} (leaf : Leaf shape page) (key : List ℕ) (i : ℕ) (e : List ℕ)
+leaf_without : {shape : NodeShape} {page : ℕ} {before after : PageMap} (leaf : Leaf shape page) (key : List ℕ) (i : ℕ) (e : List ℕ)
     → IsSubtree before leaf → IsRank shape.width key leaf.tree.1 i → entry_of shape.width key leaf.tree.1 ≡ Some e
     → IsLeafAt shape after page (remove leaf.tree.1 i) → ((n : ℕ) → n ≢ page → after n ≡ before n) → Without leaf before after key i
 leaf_without {shape} {page} {before} {after} leaf key i e stands rank was left frame =
@@ -156,8 +156,8 @@ leaf_without {shape} {page} {before} {after} leaf key i e stands rank was left f
       size = size;
     }
 
-pub leaf_removes : {shape : Shape} {page : ℕ} {before after : PageMap} {is_sound : Type 0} {result : Result Bool Fault}
-    (leaf : Leaf shape page) (key : List ℕ) (look : Look) (entry : ArrayVec ℕ) → IsSubtree before leaf
+pub leaf_removes : {shape : NodeShape} {page : ℕ} {before after : PageMap} {is_sound : Type 0} {result : Result Bool Fault}
+    (leaf : Leaf shape page) (key : List ℕ) (look : LeafLook) (entry : ArrayVec ℕ) → IsSubtree before leaf
     → IsLook shape.width key leaf.tree.1 look → look.found ≡ Some entry → OutOfLeaf shape page look.place result before after is_sound
     → IsAnswer result (λ short. HasRemovedBelow leaf before after key (Taken entry short) × is_sound)
 leaf_removes {shape} leaf key look entry stands is found out =
@@ -169,14 +169,14 @@ leaf_removes {shape} leaf key look entry stands is found out =
 
 -- ---- a leaf that has enough still
 
-pub take_page : (shape : Shape) (before after : PageMap) (page : ℕ) (key old new : List ℕ) (entry : ArrayVec ℕ) (done : Bool) → before page ≡ Some old → Writes before after page new → IsLeaf shape new
+pub take_page : (shape : NodeShape) (before after : PageMap) (page : ℕ) (key old new : List ℕ) (entry : ArrayVec ℕ) (done : Bool) → before page ≡ Some old → Writes before after page new → IsLeaf shape new
     → (done ≡ false → new ≡ old) → IsTakenIf shape key (leaf_entries shape old) (leaf_entries shape new) entry done → HasTakenInPlaceIf shape before after page key (leaf_entries shape old) entry done
 take_page shape before after page key old new entry true there writes leaf same taken =
     record { now = leaf_entries shape new; taken = taken; leaf = record { bytes = new; there = writes.page; leaf = leaf; holds = refl }; others = writes.others }
 take_page shape before after page key old new entry false there writes leaf same taken =
     written_same before after page old there (record { page = writes.page ∙ ap Some (same refl); others = writes.others })
 
-leaf_taken : {shape : Shape} {page : ℕ} {before after : PageMap} (leaf : Leaf shape page) (key entry : List ℕ) → IsSubtree before leaf
+leaf_taken : {shape : NodeShape} {page : ℕ} {before after : PageMap} (leaf : Leaf shape page) (key entry : List ℕ) → IsSubtree before leaf
     → HasTakenInPlace shape before after page key leaf.tree.1 entry → HasTaken leaf before after key entry
 leaf_taken {shape} leaf key entry stands put =
     let taken = put.taken in
@@ -184,7 +184,7 @@ leaf_taken {shape} leaf key entry stands put =
     let enough : least_entries shape zero ≤ length left.becomes.tree.1 = rw (left.size, ← taken.left) taken.enough in
     record { was = taken.was; becomes = left.becomes; enough = λ full. enough; rooted = λ r. tt }
 
-pub take_leaf : {shape : Shape} {page : ℕ} {before : PageMap} {is_sound : Type 0} {out : Result Bool Fault} (after : PageMap) (key : List ℕ)
+pub take_leaf : {shape : NodeShape} {page : ℕ} {before : PageMap} {is_sound : Type 0} {out : Result Bool Fault} (after : PageMap) (key : List ℕ)
     (entry : ArrayVec ℕ) → TakesInPlace shape page key entry out before after is_sound
     → TakesBelow (at_page shape zero page) key entry out before after is_sound
 take_leaf {shape} {page} {before} after key entry takes leaf whole =
@@ -210,14 +210,14 @@ changes_trans a b c old mid new first second = record {
 }
 
 -- a node with so many levels below its children
-abbrev pub Inner : Shape → (k page : ℕ) → Type 0
+abbrev pub Inner : NodeShape → (k page : ℕ) → Type 0
 Inner shape k page = Subtree (at_page shape (suc k) page)
 
-pub full_rooted : (shape : Shape) (k : ℕ) (t : TreeOf k) → least_entries shape k ≤ size_of k t → IsRooted k t
+pub full_rooted : (shape : NodeShape) (k : ℕ) (t : TreeOf k) → least_entries shape k ≤ size_of k t → IsRooted k t
 full_rooted shape zero t h = tt
 full_rooted shape (suc k) t h = let room = inner_room_some shape in omega arith
 
-module _ {shape : Shape} {k page : ℕ} where
+module _ {shape : NodeShape} {k page : ℕ} where
   -- what a change below one child leaves of the node and of the other children
   pub record Around (node : Inner shape k page) (before after : PageMap) (front back : List (TreeOf k)) (new : List ℕ) : Type 0 where
     pub changes : ChangesPages before after (pages_of (suc k) node.tree)
@@ -363,19 +363,19 @@ but_here F L [] x back (suc place) is a l b = absurd (omega arith)
 but_here F L (y ∷ front) x back zero is a l b = absurd (omega arith)
 but_here F L (y ∷ front) x back (suc place) is a l b = (a.0, but_here F L front x back place (omega arith) a.1 l b)
 
-pub takes_at : {shape : Shape} {n m page : ℕ} {before : PageMap} {is_sound : Type 0} {out : Result Bool Fault} (after : PageMap)
+pub takes_at : {shape : NodeShape} {n m page : ℕ} {before : PageMap} {is_sound : Type 0} {out : Result Bool Fault} (after : PageMap)
     (key : List ℕ) (entry : ArrayVec ℕ) → TakesBelow (at_page shape m page) key entry out before after is_sound
     → n ≡ m → TakesBelow (at_page shape n page) key entry out before after is_sound
 takes_at {shape} {page} {before} {is_sound} {out} after key entry says same =
     subst (λ (levels : ℕ). TakesBelow (at_page shape levels page) key entry out before after is_sound) (sym same) says
 
-pub removes_at : {shape : Shape} {n m page : ℕ} {before : PageMap} {is_sound : Type 0} {out : Result Shrunk Fault} (after : PageMap)
+pub removes_at : {shape : NodeShape} {n m page : ℕ} {before : PageMap} {is_sound : Type 0} {out : Result Shrunk Fault} (after : PageMap)
     (key : List ℕ) → Removes (at_page shape m page) key out before after is_sound
     → n ≡ m → Removes (at_page shape n page) key out before after is_sound
 removes_at {shape} {page} {before} {is_sound} {out} after key says same =
     subst (λ (levels : ℕ). Removes (at_page shape levels page) key out before after is_sound) (sym same) says
 
-module _ {shape : Shape} {k page : ℕ} {before : PageMap} {key : List ℕ} {step : StepDown} {is_sound : Type 0}
+module _ {shape : NodeShape} {k page : ℕ} {before : PageMap} {key : List ℕ} {step : StepDown} {is_sound : Type 0}
     (steps : Steps shape before page key (Ok step)) (after : PageMap) where
   pub take_inner : {out : Result Bool Fault} (entry : ArrayVec ℕ)
       → TakesBelow (at_page shape k step.child) key entry out before after is_sound

@@ -4,7 +4,7 @@ use Rattle.arrayvec.specs.ArrayVec.{ArrayVec}
 use Rattle.pages.specs.PageMap.{PageMap}
 use Rattle.pages.specs.Owners.{ChangesPages}
 use Rattle.bplus_tree.specs.declared.tree.Tree.{Tree}
-use Rattle.bplus_tree.specs.declared.collapse.Base.{Base}
+use Rattle.bplus_tree.specs.declared.collapse.RootLevel.{RootLevel}
 use Rattle.tree_node.specs.declared.separator.Separator.{Separator}
 use Rattle.bplus_tree.specs.declared.insert.Grown.TheVariants.{Present, Added}
 use Rattle.tree_search.specs.Tree.{TreeOf, entries_of, pages_of}
@@ -25,7 +25,7 @@ module _ {old : Tree} {before : PageMap} {entries : List (List ℕ)} {own : List
       → HasInserted before after old old e entries own (Some found)
   inserted_none h = (rw stands.has at h.0, h.1, refl)
 
-  pub inserted_one : {late : PageMap} {is_sound : Type 0} {base : Base} {count changes : ℕ} {low : base.levels < 20} (mid : PageMap)
+  pub inserted_one : {late : PageMap} {is_sound : Type 0} {base : RootLevel} {count changes : ℕ} {low : base.levels < 20} (mid : PageMap)
       (up : Option Separator) → count ≡ old.count + 1 → HasInsertedBelow (at_root old stands.value) before mid e (Added up)
       → GrowsRoot (at_page old.shape old.levels old.root) up (Ok base) mid late is_sound
       → HasInserted before late old

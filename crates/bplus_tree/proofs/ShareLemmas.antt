@@ -2,7 +2,7 @@
 use Rattle.std.proofs.Common.{◌≡◌, ℕ, zero, suc, ◌+◌, ◌<◌, ◌≤◌, true, false, List, [], ◌∷◌, ◌++◌, length, take, drop, get_or, map, Some, None, refl, ap, sym, subst, ◌∙◌, arith, flat_map, append_assoc, add-one}
 use Rattle.std.proofs.lemmas.List.{map-append, length-append, take_at, drop_at, get_or_at, take-map, drop-map, take-append-drop}
 use Rattle.std.proofs.lemmas.Grind.{flat_map-append}
-use Rattle.tree_node.specs.declared.shape.Shape.{Shape}
+use Rattle.tree_node.specs.declared.shape.NodeShape.{NodeShape}
 use Rattle.pages.specs.Each.{Each}
 use Rattle.tree_node.specs.Order.{less, Ascends}
 use Rattle.tree_node.specs.Leaf.{leaf_entries}
@@ -87,7 +87,7 @@ row_join P low (t ∷ ss) (x ∷ xs) s ts ys high under over row row' =
 
 -- ---- trees
 
-pub record OneTree (shape : Shape) (after : PageMap) (k : ℕ) (from to : Bound) (left right : TreeOf k) : Type 0 where
+pub record OneTree (shape : NodeShape) (after : PageMap) (k : ℕ) (from to : Bound) (left right : TreeOf k) : Type 0 where
   pub tree : TreeOf k
   pub stands : IsTree shape after k (page_of k left) from to tree
   pub has : entries_of k tree ≡ entries_of k left ++ entries_of k right
@@ -95,7 +95,7 @@ pub record OneTree (shape : Shape) (after : PageMap) (k : ℕ) (from to : Bound)
   pub large : size_of k left + size_of k right ≤ size_of k tree
   pub filled : IsHalfFull shape k tree
 
-pub record TwoTrees (shape : Shape) (after : PageMap) (k : ℕ) (from to : Bound) (left right : TreeOf k) (key : List ℕ) : Type 0 where
+pub record TwoTrees (shape : NodeShape) (after : PageMap) (k : ℕ) (from to : Bound) (left right : TreeOf k) (key : List ℕ) : Type 0 where
   pub lower : TreeOf k
   pub upper : TreeOf k
   pub under : Above from key
@@ -112,7 +112,7 @@ pub record TwoTrees (shape : Shape) (after : PageMap) (k : ℕ) (from to : Bound
   pub lower_filled : IsHalfFull shape k lower
   pub upper_filled : IsHalfFull shape k upper
 
-module _ (shape : Shape) (before after : PageMap) (from to : Bound) (s : List ℕ) (under : Above from s) (over : Below to s) where
+module _ (shape : NodeShape) (before after : PageMap) (from to : Bound) (s : List ℕ) (under : Above from s) (over : Below to s) where
   both_rise : (left right : TreeOf zero) → IsOrdered shape.width zero from (Some s) left → IsOrdered shape.width zero (Some s) to right → Ascends shape.width (left.1 ++ right.1)
   both_rise left right ol or =
       ascends_join shape.width s left.1 right.1 ol.0 or.0
@@ -287,7 +287,7 @@ module _ (shape : Shape) (before after : PageMap) (from to : Bound) (s : List �
 
 -- ---- of any height
 
-module _ (shape : Shape) (before after : PageMap) (from to : Bound) (s : List ℕ) (under : Above from s) (over : Below to s) where
+module _ (shape : NodeShape) (before after : PageMap) (from to : Bound) (s : List ℕ) (under : Above from s) (over : Below to s) where
   pub trees_joined : (k : ℕ) (left right : TreeOf k) (bl br now : List ℕ) → Holds shape before k left → Holds shape before k right
       → IsOrdered shape.width k from (Some s) left → IsOrdered shape.width k (Some s) to right → before (page_of k left) ≡ Some bl → before (page_of k right) ≡ Some br
       → AreJoined shape k s bl br now → after (page_of k left) ≡ Some now → IsHalfFull shape k left → IsHalfFull shape k right

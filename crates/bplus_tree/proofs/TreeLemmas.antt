@@ -3,7 +3,7 @@ use Rattle.std.proofs.Common.{◌≡◌, ◌≢◌, ℕ, ◌+◌, ◌-◌, ◌<�
 use Rattle.arrayvec.specs.ArrayVec.{ArrayVec}
 use Rattle.pages.specs.PageMap.{PageMap, Takes}
 use Rattle.bplus_tree.specs.declared.tree.Tree.{Tree}
-use Rattle.bplus_tree.specs.declared.collapse.Base.{Base}
+use Rattle.bplus_tree.specs.declared.collapse.RootLevel.{RootLevel}
 use Rattle.bplus_tree.specs.declared.remove.Shrunk.TheVariants.{Absent, Taken}
 use Rattle.tree_search.specs.Tree.{entries_of, pages_of}
 use Rattle.pages.specs.Owners.{ChangesPages}
@@ -11,7 +11,7 @@ use Rattle.bplus_tree.specs.Edits.{without_key}
 use Rattle.tree_search.specs.Calls.{entry_of}
 use Rattle.bplus_tree.specs.Collapse.{Collapses}
 use Rattle.bplus_tree.specs.Remove.{HasRemovedBelow, HasTaken}
-use Rattle.tree_node.specs.declared.shape.Shape.{Shape}
+use Rattle.tree_node.specs.declared.shape.NodeShape.{NodeShape}
 use Rattle.bplus_tree.specs.Start.{HasStarted}
 use Rattle.bplus_tree.specs.Standing.{TreeStands, HasRemoved, IsNewTree}
 use Rattle.bplus_tree.proofs.RemoveLemmas.{changes_trans, taken_once}
@@ -27,7 +27,7 @@ module _ {old : Tree} {before : PageMap} {entries : List (List ℕ)} {own : List
       → length (without_key old.shape.width key entries) + 1 ≡ length entries
   fewer entry was = rw stands.has at (taken_once old.shape.width key old.levels stands.value stands.whole.stands.ordered entry was)
 
-  pub removed_some : {mid late : PageMap} {is_sound : Type 0} {base : Base} {n changes : ℕ} {low : base.levels < 20} (entry : ArrayVec ℕ)
+  pub removed_some : {mid late : PageMap} {is_sound : Type 0} {base : RootLevel} {n changes : ℕ} {low : base.levels < 20} (entry : ArrayVec ℕ)
       (short : Bool) → n ≡ old.count - 1 → HasRemovedBelow (at_root old stands.value) before mid key (Taken entry short)
       → Collapses old.shape old.levels old.root (Ok base) mid late is_sound
       → HasRemoved before late old
@@ -85,7 +85,7 @@ module _ {old : Tree} {before : PageMap} {entries : List (List ℕ)} {own : List
 not_free : (pages : PageMap) (m n : ℕ) → pages n ≡ None → IsSome (pages m) → m ≢ n
 not_free pages m n free some same = let there : IsSome (pages m) = some in let none : pages m ≡ None = ap pages same ∙ free in cc
 
-pub new_tree : (shape : Shape) (before mid after : PageMap) (n : ℕ) (bytes : List ℕ) (low : 0 < 20) → Takes before mid n bytes → HasStarted shape mid after n
+pub new_tree : (shape : NodeShape) (before mid after : PageMap) (n : ℕ) (bytes : List ℕ) (low : 0 < 20) → Takes before mid n bytes → HasStarted shape mid after n
     → IsNewTree shape before after (record { shape = shape; root = n; levels = 0; count = 0; changes = 0; low = low })
 new_tree shape before mid after n bytes low takes started = record {
   changed = record {

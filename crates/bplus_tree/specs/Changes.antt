@@ -1,7 +1,7 @@
 -- What calls that change pages ask for, and what they leave.
 use Rattle.std.specs.Prelude.{◌≡◌, ◌≤◌, ◌<◌, ◌+◌, ℕ, List, length, Result, IsTrue, IsSome, IfErr}
 use Rattle.io_state.specs.declared.fault.Fault.{Fault}
-use Rattle.tree_node.specs.declared.shape.Shape.{Shape}
+use Rattle.tree_node.specs.declared.shape.NodeShape.{NodeShape}
 use Rattle.pages.specs.Cause.{IsCaused}
 use Rattle.pages.specs.PageMap.{PageMap}
 use Rattle.pages.specs.ShownPages.{ShownPages}
@@ -13,7 +13,7 @@ pub record CanWrite {S : Type 0} (shown : ShownPages S) (pages : S) : Type 0 whe
   pub changing : shown.CanChange pages
 
 -- and the entry is as long as the entries of the tree
-pub record CanInsert {S : Type 0} (shown : ShownPages S) (shape : Shape) (entry : List ℕ)
+pub record CanInsert {S : Type 0} (shown : ShownPages S) (shape : NodeShape) (entry : List ℕ)
     (pages : S) : Type 0 where
   pub size : length entry ≡ shape.entry
   pub ready : shown.IsReady pages

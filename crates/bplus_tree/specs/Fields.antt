@@ -1,10 +1,10 @@
 -- What is said above of the fields of a tree, and of a cursor.
 use Rattle.std.specs.Prelude.{ℕ, ◌<◌, List}
-use Rattle.tree_node.specs.declared.shape.Shape.{Shape}
+use Rattle.tree_node.specs.declared.shape.NodeShape.{NodeShape}
 use Rattle.bplus_tree.specs.declared.tree.Tree.{Tree}
 use Rattle.bplus_tree.specs.declared.cursor.Cursor.{Cursor}
 
-abbrev pub tree_shape : Tree → Shape
+abbrev pub tree_shape : Tree → NodeShape
 tree_shape tree = tree.shape
 
 -- of its keys, in bytes
@@ -22,7 +22,7 @@ abbrev pub tree_count : Tree → ℕ
 tree_count tree = tree.count
 
 -- the tree that a header tells of
-abbrev pub tree_with : Shape → (root levels count : ℕ) → levels < 20 → Tree
+abbrev pub tree_with : NodeShape → (root levels count : ℕ) → levels < 20 → Tree
 tree_with shape root levels count low = record {
   shape = shape;
   root = root;

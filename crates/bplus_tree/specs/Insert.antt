@@ -2,7 +2,7 @@
 use Rattle.std.specs.Prelude.{◌≡◌, ℕ, ◌<◌, ◌≤◌, Bool, true, false, List, ◌++◌, length, take, Some, None}
 use Rattle.std.specs.Prelude.{Option, Result, ⊤}
 use Rattle.io_state.specs.declared.fault.Fault.{Fault}
-use Rattle.tree_node.specs.declared.shape.Shape.{Shape}
+use Rattle.tree_node.specs.declared.shape.NodeShape.{NodeShape}
 use Rattle.pages.specs.PageMap.{PageMap}
 use Rattle.pages.specs.Owners.{ChangesPages}
 use Rattle.tree_node.specs.declared.separator.Separator.{Separator}
@@ -58,7 +58,7 @@ Inserts at e result before after is_sound =
     → IsAnswer result (λ grown. HasInsertedBelow old before after e grown × is_sound)
 
 -- where a separator goes up, it has a whole key
-abbrev pub HasWholeKey : Shape → Grown → Type 0
+abbrev pub HasWholeKey : NodeShape → Grown → Type 0
 HasWholeKey shape (Present found) = ⊤
 HasWholeKey shape (Added up) = HasWidth shape.width up
 
@@ -78,36 +78,36 @@ IsPutIf width e old new true = (entry_of width (take width e) old ≡ None) × (
 IsPutIf width e old new false = new ≡ old
 
 -- and of the bytes of a leaf whose entries rise
-abbrev pub PutsInBytes : Shape → List ℕ → (old new : List ℕ) → Bool → Type 0
+abbrev pub PutsInBytes : NodeShape → List ℕ → (old new : List ℕ) → Bool → Type 0
 PutsInBytes shape e old new done = Ascends shape.width (leaf_entries shape old)
     → IsPutIf shape.width e (leaf_entries shape old) (leaf_entries shape new) done
 
 -- and of its page
-abbrev pub HasPutInPlaceIf : Shape → PageMap → PageMap → ℕ → List ℕ → List (List ℕ) → Bool → Type 0
+abbrev pub HasPutInPlaceIf : NodeShape → PageMap → PageMap → ℕ → List ℕ → List (List ℕ) → Bool → Type 0
 HasPutInPlaceIf shape before after page e entries true =
     (entry_of shape.width (take shape.width e) entries ≡ None)
     × HasLeaf shape before after page (with_entry shape.width e entries)
 HasPutInPlaceIf shape before after page e entries false = after ≡ before
 
-abbrev pub PutsInPlace : Shape → ℕ → List ℕ → Result Bool Fault → PageMap → PageMap → Type 0 → Type 0
+abbrev pub PutsInPlace : NodeShape → ℕ → List ℕ → Result Bool Fault → PageMap → PageMap → Type 0 → Type 0
 PutsInPlace shape page e result before after is_sound =
     (entries : List (List ℕ)) → IsLeafAt shape before page entries → Ascends shape.width entries
     → IsAnswer result (λ done. HasPutInPlaceIf shape before after page e entries done × is_sound)
 
 -- what is put into the bytes of a leaf is a whole entry
-pub record CanPut (shape : Shape) (entry page : List ℕ) : Type 0 where
+pub record CanPut (shape : NodeShape) (entry page : List ℕ) : Type 0 where
   pub leaf : IsLeaf shape page
   pub size : length entry ≡ shape.entry
 
 -- the same, and there is a place for it
-pub record CanPutAt (shape : Shape) (place : ℕ) (entry page : List ℕ) : Type 0 where
+pub record CanPutAt (shape : NodeShape) (place : ℕ) (entry page : List ℕ) : Type 0 where
   pub leaf : IsLeaf shape page
   pub room : length (leaf_entries shape page) < leaf_room shape
   pub within : place ≤ length (leaf_entries shape page)
   pub size : length entry ≡ shape.entry
 
 -- what is left of the bytes of a leaf, which are as they were where nothing was put in
-pub record PutsInLeaf (shape : Shape) (entry old new : List ℕ) (done : Bool) : Type 0 where
+pub record PutsInLeaf (shape : NodeShape) (entry old new : List ℕ) (done : Bool) : Type 0 where
   pub leaf : IsLeaf shape new
   pub put : PutsInBytes shape entry old new done
   pub same : done ≡ false → new ≡ old

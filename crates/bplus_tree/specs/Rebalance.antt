@@ -2,7 +2,7 @@
 use Rattle.std.specs.Prelude.{◌≡◌, ◌≢◌, ℕ, ◌+◌, ◌<◌, ◌≤◌, ◌⊎◌, List, length, slice_index, Some, None, Option}
 use Rattle.std.specs.Prelude.{Result, IsSome}
 use Rattle.io_state.specs.declared.fault.Fault.{Fault}
-use Rattle.tree_node.specs.declared.shape.Shape.{Shape}
+use Rattle.tree_node.specs.declared.shape.NodeShape.{NodeShape}
 use Rattle.tree_node.specs.Inner.{IsInner, separators, children}
 use Rattle.pages.specs.PageMap.{PageMap}
 use Rattle.bplus_tree.specs.declared.rebalance.Pair.{Pair}
@@ -53,19 +53,19 @@ EndsShared page pair bytes result before after is_sound =
     → IsAnswer result (λ done. HasShared before after page pair bytes × is_sound)
 
 -- a separator beside child `place`, and the pages of the children on its two sides
-pub record IsBeside (shape : Shape) (place : ℕ) (node : List ℕ) (pair : Pair) : Type 0 where
+pub record IsBeside (shape : NodeShape) (place : ℕ) (node : List ℕ) (pair : Pair) : Type 0 where
   pub inner : IsInner shape node
   pub within : pair.at < length (separators shape node)
   pub beside : place ≤ length (separators shape node) → (pair.at ≡ place) ⊎ (pair.at + 1 ≡ place)
   pub lower : pair.lower ≡ slice_index (children shape node) pair.at
   pub upper : pair.upper ≡ slice_index (children shape node) (pair.at + 1)
 
-abbrev pub IsPairAt : Shape → ℕ → List ℕ → Option Pair → Type 0
+abbrev pub IsPairAt : NodeShape → ℕ → List ℕ → Option Pair → Type 0
 IsPairAt shape place node (Some pair) = IsBeside shape place node pair
 IsPairAt shape place node None = IsInner shape node → length (separators shape node) ≡ 0
 
 -- an inner node with a separator, all of whose children are in use
-pub record IsParent (shape : Shape) (pages : PageMap) (page : ℕ) : Type 0 where
+pub record IsParent (shape : NodeShape) (pages : PageMap) (page : ℕ) : Type 0 where
   pub bytes : List ℕ
   pub there : pages page ≡ Some bytes
   pub inner : IsInner shape bytes
@@ -74,13 +74,13 @@ pub record IsParent (shape : Shape) (pages : PageMap) (page : ℕ) : Type 0 wher
       → IsSome (pages (slice_index (children shape bytes) i))
 
 -- what stands in a node, and in two of its children
-pub record HasRead (shape : Shape) (pages : PageMap) (page place : ℕ) (bytes : PairBytes)
+pub record HasRead (shape : NodeShape) (pages : PageMap) (page place : ℕ) (bytes : PairBytes)
     (pair : Pair) : Type 0 where
   pub parent : pages page ≡ Some bytes.node
   pub beside : IsBeside shape place bytes.node pair
   pub lower : pages pair.lower ≡ Some bytes.left
   pub upper : pages pair.upper ≡ Some bytes.right
 
-abbrev pub ReadsPair : Shape → (page place : ℕ) → PairBytes → Result Pair Fault → PageMap → Type 0
+abbrev pub ReadsPair : NodeShape → (page place : ℕ) → PairBytes → Result Pair Fault → PageMap → Type 0
 ReadsPair shape page place bytes result pages =
     IsParent shape pages page → IsAnswer result (HasRead shape pages page place bytes)

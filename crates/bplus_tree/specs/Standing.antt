@@ -3,7 +3,7 @@ use Rattle.std.specs.Prelude.{◌≡◌, ℕ, ◌+◌, ◌-◌, ◌^◌, Bool, L
 use Rattle.std.specs.Prelude.{Result, option_map}
 use Rattle.arrayvec.specs.ArrayVec.{ArrayVec}
 use Rattle.io_state.specs.declared.fault.Fault.{Fault}
-use Rattle.tree_node.specs.declared.shape.Shape.{Shape}
+use Rattle.tree_node.specs.declared.shape.NodeShape.{NodeShape}
 use Rattle.pages.specs.PageMap.{PageMap}
 use Rattle.pages.specs.Owners.{ChangesPages}
 use Rattle.bplus_tree.specs.declared.tree.Tree.{Tree}
@@ -45,12 +45,12 @@ Tells Says key tree pages result =
     → IsAnswer result (Says (entry_of tree.shape.width key entries))
 
 -- a new tree without entries
-pub record IsNewTree (shape : Shape) (before after : PageMap) (tree : Tree) : Type 0 where
+pub record IsNewTree (shape : NodeShape) (before after : PageMap) (tree : Tree) : Type 0 where
   pub changed : Changed before after tree [] []
   pub shape_is : tree.shape ≡ shape
   pub low : tree.levels ≡ 0
 
-abbrev pub MakesTree : Shape → Result Tree Fault → PageMap → PageMap → Type 0 → Type 0
+abbrev pub MakesTree : NodeShape → Result Tree Fault → PageMap → PageMap → Type 0 → Type 0
 MakesTree shape result before after is_sound = IsAnswer result (λ tree. IsNewTree shape before after tree
     × is_sound)
 

@@ -1,18 +1,18 @@
 -- A tree below a page, as a call on that page finds it.
 use Rattle.std.specs.Prelude.{ℕ, List, None}
-use Rattle.tree_node.specs.declared.shape.Shape.{Shape}
+use Rattle.tree_node.specs.declared.shape.NodeShape.{NodeShape}
 use Rattle.pages.specs.PageMap.{PageMap}
 use Rattle.tree_search.specs.Tree.{TreeOf, Bound, NotBelow, Below}
 use Rattle.tree_search.specs.Calls.{IsTree, IsWhole}
 
 -- a page that heads a tree with so many levels above its leaves
 pub record Head : Type 0 where
-  pub shape : Shape
+  pub shape : NodeShape
   pub levels : ℕ
   pub page : ℕ
 
 -- this page with so many levels below it
-abbrev pub at_page : Shape → (levels page : ℕ) → Head
+abbrev pub at_page : NodeShape → (levels page : ℕ) → Head
 at_page shape levels page = record { shape = shape; levels = levels; page = page }
 
 -- the tree that it heads, and the bounds of its keys

@@ -7,7 +7,7 @@ ghost use Rattle.tree_search.specs.LookUps.{WhenHonest};
 use crate::tree::Tree;
 use io_state::Fault;
 use pages::Pages;
-use tree_node::{Entry, Shape, TreeKey};
+use tree_node::{Entry, NodeShape, TreeKey};
 use tree_search::{Spot, begins_with, copy_entry, entry_begins_with, next_below};
 
 /// The key of the entry that was given last, at first the one that the cursor was made for. While
@@ -170,7 +170,7 @@ impl Cursor {
 }
 
 /// Makes the tree key that of an entry.
-fn take_key(key: &mut TreeKey, entry: &Entry, shape: Shape)
+fn take_key(key: &mut TreeKey, entry: &Entry, shape: NodeShape)
     ensures { key.new.items ≡ take shape.width entry.now.items }
 {
     let width = (shape.width as usize).min(entry.len());

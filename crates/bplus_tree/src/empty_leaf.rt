@@ -5,10 +5,10 @@ ghost use Rattle.bplus_tree.specs.Start.{StartsInPages};
 
 use io_state::Fault;
 use pages::Pages;
-use tree_node::{Shape, write_leaf};
+use tree_node::{NodeShape, write_leaf};
 
 /// Writes a leaf without entries.
-pub fn write_empty_leaf<P: Pages>(pages: &mut P, shape: Shape, page: u32) -> Result<(), Fault>
+pub fn write_empty_leaf<P: Pages>(pages: &mut P, shape: NodeShape, page: u32) -> Result<(), Fault>
     requires { CanWrite P.shown pages.old }
     ensures { StartsInPages P.shown shape page pages.old pages.new result }
 {

@@ -11,7 +11,7 @@ use crate::two_parts::write_parts;
 use io_state::Fault;
 use pages::{PAGE_SIZE, Pages, copy, store};
 use tree_node::{
-    InnerView, InnerViewMut, LeafView, Separator, Shape, is_inner, is_leaf, put_in_inner,
+    InnerView, InnerViewMut, LeafView, NodeShape, Separator, is_inner, is_leaf, put_in_inner,
     put_in_leaf, write_inner,
 };
 
@@ -21,7 +21,7 @@ use tree_node::{
 /// Full where no page is available.
 pub fn add_to_leaf<P: Pages>(
     pages: &mut P,
-    shape: Shape,
+    shape: NodeShape,
     page: u32,
     place: usize,
     entry: &[u8],
@@ -42,7 +42,7 @@ pub fn add_to_leaf<P: Pages>(
 }
 
 /// A leaf has at least so many entries.
-fn has_entry_place(page: &[u8; PAGE_SIZE], shape: Shape, place: usize) -> bool
+fn has_entry_place(page: &[u8; PAGE_SIZE], shape: NodeShape, place: usize) -> bool
     requires leaf { IsLeaf shape page.now }
     ensures { IsTrue result ↔ (place ≤ length (leaf_entries shape page.now)) }
 {
@@ -56,7 +56,7 @@ fn has_entry_place(page: &[u8; PAGE_SIZE], shape: Shape, place: usize) -> bool
 /// Full where no page is available.
 pub fn add_to_inner<P: Pages>(
     pages: &mut P,
-    shape: Shape,
+    shape: NodeShape,
     page: u32,
     place: usize,
     separator: &Separator,
@@ -77,7 +77,7 @@ pub fn add_to_inner<P: Pages>(
 }
 
 /// An inner node has at least so many separators.
-fn has_separator_place(page: &[u8; PAGE_SIZE], shape: Shape, place: usize) -> bool
+fn has_separator_place(page: &[u8; PAGE_SIZE], shape: NodeShape, place: usize) -> bool
     requires inner { IsInner shape page.now }
     ensures { IsTrue result ↔ (place ≤ length (separators shape page.now)) }
 {
@@ -89,7 +89,7 @@ fn has_separator_place(page: &[u8; PAGE_SIZE], shape: Shape, place: usize) -> bo
 /// Full where no page is available.
 pub fn add_root<P: Pages>(
     pages: &mut P,
-    shape: Shape,
+    shape: NodeShape,
     left: u32,
     separator: &Separator,
 ) -> Result<u32, Fault>
@@ -106,7 +106,7 @@ pub fn add_root<P: Pages>(
 
 /// Makes the page an inner node of one separator, between this child and the one to which the
 /// separator leads.
-fn write_over(page: &mut [u8; PAGE_SIZE], shape: Shape, left: u32, separator: &Separator)
+fn write_over(page: &mut [u8; PAGE_SIZE], shape: NodeShape, left: u32, separator: &Separator)
     requires width { length separator.now.key.items ≡ shape.width }
     ensures { IsRootOver shape page.new left separator.now }
 {

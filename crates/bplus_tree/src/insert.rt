@@ -12,8 +12,8 @@ ghost use Rattle.bplus_tree.specs.Subtree.{at_page};
 use crate::grow::{add_to_inner, add_to_leaf};
 use io_state::Fault;
 use pages::{PAGE_SIZE, Pages};
-use tree_node::{Entry, LeafView, LeafViewMut, Separator, Shape, is_leaf};
-use tree_search::{Look, descend, has_key, seek};
+use tree_node::{Entry, LeafView, LeafViewMut, NodeShape, Separator, is_leaf};
+use tree_search::{LeafLook, descend, has_key, seek};
 
 /// What an insert found, or did, below a page.
 #[derive(Drop)]
@@ -27,7 +27,7 @@ pub enum Grown {
 /// Puts an entry into a tree with `levels` levels above its leaves, where its key is not there.
 pub fn insert_below<P: Pages>(
     pages: &mut P,
-    shape: Shape,
+    shape: NodeShape,
     page: u32,
     levels: u8,
     entry: &[u8],
@@ -56,7 +56,7 @@ pub fn insert_below<P: Pages>(
 /// The answer is whether it did; where it did not, nothing is changed.
 pub fn put_below<P: Pages>(
     pages: &mut P,
-    shape: Shape,
+    shape: NodeShape,
     page: u32,
     levels: u8,
     entry: &[u8],
@@ -75,7 +75,7 @@ pub fn put_below<P: Pages>(
 /// Puts an entry into a leaf, where that has room and not its key.
 fn put_in_place<P: Pages>(
     pages: &mut P,
-    shape: Shape,
+    shape: NodeShape,
     page: u32,
     entry: &[u8],
 ) -> Result<bool, Fault>
@@ -90,7 +90,7 @@ fn put_in_place<P: Pages>(
 }
 
 /// The same in the bytes of a leaf.
-fn put_new(page: &mut [u8; PAGE_SIZE], shape: Shape, entry: &[u8]) -> bool
+fn put_new(page: &mut [u8; PAGE_SIZE], shape: NodeShape, entry: &[u8]) -> bool
     requires { CanPut shape entry.now page.old }
     ensures { PutsInLeaf shape entry.now page.old page.new result }
 {
@@ -104,7 +104,7 @@ fn put_new(page: &mut [u8; PAGE_SIZE], shape: Shape, entry: &[u8]) -> bool
 }
 
 /// Puts an entry before entry `place` of the bytes of a leaf.
-fn put_at(page: &mut [u8; PAGE_SIZE], shape: Shape, place: usize, entry: &[u8])
+fn put_at(page: &mut [u8; PAGE_SIZE], shape: NodeShape, place: usize, entry: &[u8])
     requires { CanPutAt shape place entry.now page.old }
     ensures { IsLeafOf shape (insert (leaf_entries shape page.old) place entry.now) page.new }
 {
@@ -114,7 +114,7 @@ fn put_at(page: &mut [u8; PAGE_SIZE], shape: Shape, place: usize, entry: &[u8])
 /// Puts an entry into a leaf, where its key is not there.
 fn insert_in_leaf<P: Pages>(
     pages: &mut P,
-    shape: Shape,
+    shape: NodeShape,
     page: u32,
     entry: &[u8],
 ) -> Result<Grown, Fault>
@@ -124,7 +124,7 @@ fn insert_in_leaf<P: Pages>(
     ensures width { IfOk result (HasWholeKey shape) }
     ensures writes { TakesOne P.shown 6 pages.old pages.new result }
 {
-    let Look { place, found } = seek(pages, shape, page, &entry[..shape.width as usize])?;
+    let LeafLook { place, found } = seek(pages, shape, page, &entry[..shape.width as usize])?;
     match found {
         Some(found) => Ok(Grown::Present(found)),
         None => {

@@ -13,7 +13,7 @@ ghost use Rattle.bplus_tree.specs.Remove.{Rebalances};
 
 use io_state::Fault;
 use pages::{PAGE_SIZE, Pages, copy, store};
-use tree_node::{InnerView, Shape, balance, is_inner};
+use tree_node::{InnerView, NodeShape, balance, is_inner};
 
 /// Two children side by side: the number of the separator between them, and their pages.
 #[derive(Clone, Copy)]
@@ -24,7 +24,7 @@ struct Pair {
 }
 
 /// Child `place` of a node and a neighbour, where it has one.
-fn pair_at(node: &[u8; PAGE_SIZE], shape: Shape, place: usize) -> Option<Pair>
+fn pair_at(node: &[u8; PAGE_SIZE], shape: NodeShape, place: usize) -> Option<Pair>
     ensures { IsPairAt shape place node.now result }
 {
     if !is_inner(node, shape) {
@@ -84,7 +84,7 @@ fn end_shared<P: Pages>(
 /// too little. The answer is whether the node has too little now.
 pub fn rebalance<P: Pages>(
     pages: &mut P,
-    shape: Shape,
+    shape: NodeShape,
     page: u32,
     levels: u8,
     place: usize,
@@ -115,7 +115,7 @@ pub fn rebalance<P: Pages>(
 /// Copies a node, its child `place`, and a neighbour of that one.
 fn read_pair<P: Pages>(
     pages: &mut P,
-    shape: Shape,
+    shape: NodeShape,
     page: u32,
     place: usize,
     node: &mut [u8; PAGE_SIZE],
@@ -139,7 +139,7 @@ fn read_pair<P: Pages>(
 }
 
 /// An inner node has too little for one below another node.
-fn is_short(node: &[u8; PAGE_SIZE], shape: Shape) -> bool
+fn is_short(node: &[u8; PAGE_SIZE], shape: NodeShape) -> bool
     requires inner { IsInner shape node.now }
     ensures { IsTrue result ↔ (length (separators shape node.now) < least_entries shape 1) }
 {

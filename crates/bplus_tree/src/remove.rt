@@ -12,8 +12,8 @@ ghost use Rattle.bplus_tree.specs.Subtree.{at_page};
 use crate::rebalance::rebalance;
 use io_state::Fault;
 use pages::{PAGE_SIZE, Pages};
-use tree_node::{Entry, LeafView, LeafViewMut, Shape, is_leaf};
-use tree_search::{Look, descend, fill, has_key, seek};
+use tree_node::{Entry, LeafView, LeafViewMut, NodeShape, is_leaf};
+use tree_search::{LeafLook, descend, fill, has_key, seek};
 
 /// What is left below a page.
 #[derive(Drop)]
@@ -27,7 +27,7 @@ pub enum Shrunk {
 /// Takes the entry of a key out of a tree with `levels` levels above its leaves.
 pub fn remove_below<P: Pages>(
     pages: &mut P,
-    shape: Shape,
+    shape: NodeShape,
     page: u32,
     levels: u8,
     key: &[u8],
@@ -59,7 +59,7 @@ pub fn remove_below<P: Pages>(
 /// answer is whether it did; where it did not, nothing is changed.
 pub fn take_below<P: Pages>(
     pages: &mut P,
-    shape: Shape,
+    shape: NodeShape,
     page: u32,
     levels: u8,
     key: &[u8],
@@ -79,7 +79,7 @@ pub fn take_below<P: Pages>(
 /// Takes the entry of a key out of a leaf that keeps enough without it.
 fn take_in_place<P: Pages>(
     pages: &mut P,
-    shape: Shape,
+    shape: NodeShape,
     page: u32,
     key: &[u8],
     to: &mut Entry,
@@ -96,7 +96,7 @@ fn take_in_place<P: Pages>(
 }
 
 /// The same in the bytes of a leaf.
-fn take_spare(page: &mut [u8; PAGE_SIZE], shape: Shape, key: &[u8], to: &mut Entry) -> bool
+fn take_spare(page: &mut [u8; PAGE_SIZE], shape: NodeShape, key: &[u8], to: &mut Entry) -> bool
     requires leaf { IsLeaf shape page.old }
     ensures { TakesFromLeaf shape key.now page.old page.new to.new result }
 {
@@ -113,7 +113,7 @@ fn take_spare(page: &mut [u8; PAGE_SIZE], shape: Shape, key: &[u8], to: &mut Ent
 /// Takes the entry of a key out of a leaf.
 fn remove_from_leaf<P: Pages>(
     pages: &mut P,
-    shape: Shape,
+    shape: NodeShape,
     page: u32,
     key: &[u8],
 ) -> Result<Shrunk, Fault>
@@ -122,7 +122,7 @@ fn remove_from_leaf<P: Pages>(
         key.now result) }
     ensures writes { GivesPages P.shown 2 pages.old pages.new result }
 {
-    let Look { place, found } = seek(pages, shape, page, key)?;
+    let LeafLook { place, found } = seek(pages, shape, page, key)?;
     match found {
         None => Ok(Shrunk::Absent),
         Some(entry) => {
@@ -133,7 +133,12 @@ fn remove_from_leaf<P: Pages>(
 }
 
 /// Takes entry `place` out of a leaf. The answer is whether the leaf has too little now.
-fn take_out<P: Pages>(pages: &mut P, shape: Shape, page: u32, place: usize) -> Result<bool, Fault>
+fn take_out<P: Pages>(
+    pages: &mut P,
+    shape: NodeShape,
+    page: u32,
+    place: usize,
+) -> Result<bool, Fault>
     requires { CanWrite P.shown pages.old }
     ensures taken { WhereSound P.shown pages.old pages.new (OutOfLeaf shape page place result) }
     ensures writes { GivesPages P.shown 1 pages.old pages.new result }
@@ -149,7 +154,7 @@ fn take_out<P: Pages>(pages: &mut P, shape: Shape, page: u32, place: usize) -> R
 }
 
 /// Takes entry `place` out of the bytes of a leaf. The answer is whether the leaf has too little now.
-fn cut_out(page: &mut [u8; PAGE_SIZE], shape: Shape, place: usize) -> bool
+fn cut_out(page: &mut [u8; PAGE_SIZE], shape: NodeShape, place: usize) -> bool
     requires { HasPlace shape place page.old }
     ensures removed { IsLeafOf shape (remove (leaf_entries shape page.old) place) page.new }
     ensures short { IsTrue result ↔ (length (leaf_entries shape page.new) < least_entries shape 0) }
@@ -159,7 +164,7 @@ fn cut_out(page: &mut [u8; PAGE_SIZE], shape: Shape, place: usize) -> bool
 }
 
 /// A leaf has too little for one below another node.
-fn is_short(page: &[u8; PAGE_SIZE], shape: Shape) -> bool
+fn is_short(page: &[u8; PAGE_SIZE], shape: NodeShape) -> bool
     requires leaf { IsLeaf shape page.now }
     ensures { IsTrue result ↔ (length (leaf_entries shape page.now) < least_entries shape 0) }
 {
@@ -167,7 +172,7 @@ fn is_short(page: &[u8; PAGE_SIZE], shape: Shape) -> bool
 }
 
 /// So many separators are too few for an inner node below another one.
-fn is_few(count: usize, shape: Shape) -> bool
+fn is_few(count: usize, shape: NodeShape) -> bool
     ensures { IsTrue result ↔ (count < least_entries shape 1) }
 {
     count < shape.inner_room() / 2

@@ -10,7 +10,7 @@ use crate::insert::{Grown, insert_below, put_below};
 use crate::remove::{Shrunk, remove_below, take_below};
 use io_state::Fault;
 use pages::Pages;
-use tree_node::{Entry, Shape};
+use tree_node::{Entry, NodeShape};
 use tree_search::{
     First, Spot, find_below, find_tail, first_within, has_below, last_below, next_below,
 };
@@ -26,7 +26,7 @@ const GREATEST_LEVELS: u8 = 19;
 /// After a fault of a call that changes the tree nothing is known of it.
 #[derive(Clone, Copy)]
 pub struct Tree {
-    pub(crate) shape: Shape,
+    pub(crate) shape: NodeShape,
     pub(crate) root: u32,
     pub(crate) levels: u8,
     count: u64,
@@ -47,7 +47,7 @@ impl Tree {
     ghost use Rattle.tree_search.specs.Calls.{entry_of, first_from, first_after, last_of};
 
     /// A tree without entries, in a page of its own. Full where no page is available.
-    pub fn empty<P: Pages>(pages: &mut P, shape: Shape) -> Result<Tree, Fault>
+    pub fn empty<P: Pages>(pages: &mut P, shape: NodeShape) -> Result<Tree, Fault>
         requires { CanWrite P.shown pages.old }
         ensures made { WhereSound P.shown pages.old pages.new (MakesTree shape result) }
         ensures shape { IfOk result (λ tree. (tree_shape tree ≡ shape) × (tree_levels tree ≡ 0)) }
@@ -68,7 +68,7 @@ impl Tree {
 
     /// The tree that a header tells of: the page of its root, how many levels are above its leaves,
     /// and how many entries it has. It begins at 0 changes.
-    pub fn stored(shape: Shape, root: u32, levels: u8, count: u64) -> Tree
+    pub fn stored(shape: NodeShape, root: u32, levels: u8, count: u64) -> Tree
         requires low { levels < 20 }
         ensures shape { tree_shape result ≡ shape }
         ensures root { tree_root result ≡ root }
@@ -86,7 +86,7 @@ impl Tree {
     }
 
     /// The key and the lengths of its entries.
-    pub fn shape(&self) -> Shape
+    pub fn shape(&self) -> NodeShape
         ensures { result ≡ tree_shape self.now }
     {
         self.shape

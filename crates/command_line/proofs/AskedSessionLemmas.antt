@@ -11,8 +11,8 @@ use Rattle.serve.specs.declared.fault.ServeFault.TheVariants as served
 use Rattle.command_line.specs.Session.{session_end_as, shown_over, keeps_over, IsNewOver, IsLeftIn, IsExactOver, ServedOver}
 use Rattle.command_line.specs.declared.session.ServedEnd.{ServedEnd}
 use Rattle.shelf_library.specs.declared.library.ShelfLibrary.{ShelfLibrary}
-use Rattle.command_support.specs.declared.fault.Fault.{Fault}
-use Rattle.command_support.specs.declared.fault.Fault.TheVariants as faults
+use Rattle.command_support.specs.declared.fault.CommandFault.{CommandFault}
+use Rattle.command_support.specs.declared.fault.CommandFault.TheVariants as faults
 
 -- a session over a folder came to its end, or memory was wanted before its first request
 module _ {X : Type 0} (shelf : Ghosts X) (keeps_open : X → ℕ → Bool) (disk : Unseen) (folder : List ℕ) (pages frames : ℕ) (s : Streams) (system : SystemState) where
@@ -31,7 +31,7 @@ module _ {X : Type 0} (shelf : Ghosts X) (keeps_open : X → ℕ → Bool) (disk
   requests_end : (session : ServedEnd) → session.requests ≢ Err faults.Memory → IsServed session → Ends session
   requests_end session other served = let so = served other in inr (record { start = so.0; is_new = so.1; served = so.2; exact = so.3 })
 
-  came_by : (requests : Result Unit Fault) (session : ServedEnd) → session.requests ≡ requests → IsServed session → IsUnread session → Ends session
+  came_by : (requests : Result Unit CommandFault) (session : ServedEnd) → session.requests ≡ requests → IsServed session → IsUnread session → Ends session
   came_by (Ok done) session is served unread = requests_end session (λ (same : session.requests ≡ Err faults.Memory). absurd (cc)) served
   came_by (Err faults.Memory) session is served unread = let none = unread is in inl (record { memory = is; unread = none.0; unwritten = none.1; unasked = none.2 })
   came_by (Err fault) session is served unread = requests_end session (λ (same : session.requests ≡ Err faults.Memory). absurd (cc)) served

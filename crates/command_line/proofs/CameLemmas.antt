@@ -29,14 +29,14 @@ use Rattle.command_line.proofs.DidLemmas.{did_fail, did_load, did_run}
 use Rattle.command_line.proofs.LoadingLemmas.{load_done, told_end}
 use Rattle.record_loading.specs.declared.shelf_end.ShelfEnd.{ShelfEnd}
 use Rattle.command_support.specs.Status.{status_of}
-use Rattle.command_support.specs.declared.fault.Fault.{Fault}
-use Rattle.command_support.specs.declared.fault.Fault.TheVariants.{NoFileName}
+use Rattle.command_support.specs.declared.fault.CommandFault.{CommandFault}
+use Rattle.command_support.specs.declared.fault.CommandFault.TheVariants.{NoFileName}
 use Rattle.command_support.specs.declared.outcome.Outcome.{Outcome}
 use Rattle.command_support.specs.declared.outcome.Outcome.TheVariants.{Loaded as LoadEnded}
 
 -- a run that was not begun is told as a fault of the input, the output or memory
-did_not : (words : List Text) (outcome : Result Outcome Fault) (fault : Fault) → outcome ≡ Err fault → IfErr outcome (λ fault. status_of fault ≡ 4) → Did words outcome
-did_not words outcome fault is four = subst (Did words) (sym is) (did_fail words fault (subst (λ (o : Result Outcome Fault). IfErr o (λ fault. status_of fault ≡ 4)) is four))
+did_not : (words : List Text) (outcome : Result Outcome CommandFault) (fault : CommandFault) → outcome ≡ Err fault → IfErr outcome (λ fault. status_of fault ≡ 4) → Did words outcome
+did_not words outcome fault is four = subst (Did words) (sym is) (did_fail words fault (subst (λ (o : Result Outcome CommandFault). IfErr o (λ fault. status_of fault ≡ 4)) is four))
 
 module _ {X I W : Type 0} (shelf : Ghosts X) (keeps_open : X → ℕ → Bool) (disk : Unseen) (words : List Text) (before : List Call) (after : SystemState) (left : I → Option (List ℕ))
     (contents : W → Option (List ℕ)) (input input_after : StandardInput I) (out out_after : W) (old : SystemState) (held : old.calls ≡ streams_first) where
@@ -45,7 +45,7 @@ module _ {X I W : Type 0} (shelf : Ghosts X) (keeps_open : X → ℕ → Bool) (
 
   -- a run
   module _ (deck folder : Text) (limits : Limits) (strict : Bool) (asks : AskRun words deck folder limits.pages limits.frames.value strict) where
-    abbrev pub Comes : Option Ran → Result Outcome Fault → Type 0
+    abbrev pub Comes : Option Ran → Result Outcome CommandFault → Type 0
     Comes = ComesOfRun old left input deck folder limits strict disk (calls_made before after) contents out out_after
 
     run_by : (done : Done) (ran : Option Ran) → done.ran ≡ ran → Comes ran done.outcome → Came done
@@ -83,7 +83,7 @@ module _ {X I W : Type 0} (shelf : Ghosts X) (keeps_open : X → ℕ → Bool) (
 
   -- a load
   module _ (load : AskForLoad words) where
-    abbrev pub IsBegun : List Call → Result Outcome Fault → Type 0
+    abbrev pub IsBegun : List Call → Result Outcome CommandFault → Type 0
     IsBegun base outcome = BeginsLoadOfDeck base (left input.reader) load.deck load.folder load.file load.text load.form load.encoding load.into (options_of load.lines) disk (calls_made before after)
         (contents out) (contents out_after) outcome
 
@@ -96,10 +96,10 @@ module _ {X I W : Type 0} (shelf : Ghosts X) (keeps_open : X → ℕ → Bool) (
 -- what was done for words that ask for a run
 module _ {I W : Type 0} (old : SystemState) (left : I → Option (List ℕ)) (input : StandardInput I) (deck folder : Text) (limits : Limits) (strict : Bool) (disk : Unseen) (made : CallsMade)
     (contents : W → Option (List ℕ)) (out out_after : W) (words : List Text) (asks : AskRun words deck folder limits.pages limits.frames.value strict) where
-  abbrev pub ComesTo : Option Ran → Result Outcome Fault → Type 0
+  abbrev pub ComesTo : Option Ran → Result Outcome CommandFault → Type 0
   ComesTo = ComesOfRun old left input deck folder limits strict disk made contents out out_after
 
-  did_by : (outcome : Result Outcome Fault) (ran : Option Ran) → ComesTo ran outcome → Did words outcome
+  did_by : (outcome : Result Outcome CommandFault) (ran : Option Ran) → ComesTo ran outcome → Did words outcome
   did_by outcome None comes = did_not words outcome comes.0.fault comes.0.told comes.1
   did_by outcome (Some ran) comes =
       did_run words (record { deck = deck; folder = folder; pages = limits.pages; frames = limits.frames.value; strict = strict; asked = asks }) outcome comes.1.told
@@ -108,14 +108,14 @@ module _ {I W : Type 0} (old : SystemState) (left : I → Option (List ℕ)) (in
   run_did done comes = did_by done.outcome done.ran comes
 
 -- what was done for words that ask for a load
-load_done_by : {W : Type 0} (old : SystemState) (made : CallsMade) (out out_after : W) (before behind : Option (List ℕ)) (outcome : Result Outcome Fault) (base : List Call) (input : Option (List ℕ))
+load_done_by : {W : Type 0} (old : SystemState) (made : CallsMade) (out out_after : W) (before behind : Option (List ℕ)) (outcome : Result Outcome CommandFault) (base : List Call) (input : Option (List ℕ))
     (deck folder file text form encoding : Text) (into : Bool) (options : LoadOptions) (disk : Unseen)
     → BeginsLoadOfDeck base input deck folder file text form encoding into options disk made before behind outcome → IfOk outcome (λ o. (end : ShelfEnd) × (o ≡ LoadEnded end))
 load_done_by old made out out_after before behind outcome base input deck folder file text form encoding into options disk is =
     let loads = is.3.2 in told_end _ _ loads.end loads.calls before behind outcome loads.told
 
 pub load_did : {W : Type 0} (words : List Text) (load : AskForLoad words) {old : SystemState} {made : CallsMade} {out out_after : W} {before behind : Option (List ℕ)} {base : List Call}
-    {input : Option (List ℕ)} {disk : Unseen} (outcome : Result Outcome Fault)
+    {input : Option (List ℕ)} {disk : Unseen} (outcome : Result Outcome CommandFault)
     → ComesOfLoad (BeginsLoadOfDeck base input load.deck load.folder load.file load.text load.form load.encoding load.into (options_of load.lines) disk made before behind outcome) (IsFaultOfLoad load.form load.encoding load.rejects load.lines.keep_going) old made out out_after outcome
     → Did words outcome
 load_did words load {old} {made} {out} {out_after} {before} {behind} {base} {input} {disk} outcome comes =
@@ -131,7 +131,7 @@ came_alone shelf keeps_open disk words before after beside left contents input i
     subst (λ (other : List Call). CameFor shelf keeps_open disk words (calls_beside before after other) left contents input input_after out out_after done) (sym none) (inl (refl, came))
 
 -- a copy: nothing is written to the output
-pub copy_unwritten : {W : Type 0} (out : W) (outcome : Result Outcome Fault) → IfErr outcome (λ fault. status_of fault ≢ 4 → out ≡ out)
+pub copy_unwritten : {W : Type 0} (out : W) (outcome : Result Outcome CommandFault) → IfErr outcome (λ fault. status_of fault ≢ 4 → out ≡ out)
 copy_unwritten out (Ok outcome) = tt
 copy_unwritten out (Err fault) = λ other. refl
 
@@ -153,11 +153,11 @@ copy_came shelf keeps_open disk words before after beside left contents input ou
 
 -- what was done for words that ask for a copy
 module _ (words : List Text) (copy : AskForCopy words) where
-  did_unread : (outcome : Result Outcome Fault) → IsToldUnread outcome → Did words outcome
+  did_unread : (outcome : Result Outcome CommandFault) → IsToldUnread outcome → Did words outcome
   did_unread outcome (inl is) = subst (Did words) (sym is) tt
   did_unread outcome (inr is) = subst (Did words) (sym is) tt
 
-  did_copy : (result : Result Copied CopyingFault) (outcome : Result Outcome Fault) → IsToldCopy result outcome → Did words outcome
+  did_copy : (result : Result Copied CopyingFault) (outcome : Result Outcome CommandFault) → IsToldCopy result outcome → Did words outcome
   did_copy (Ok copied) outcome is = subst (Did words) (sym is) copy
   did_copy (Err NoneToCopy) outcome is = did_unread outcome is
   did_copy (Err NotAccepted) outcome is = subst (Did words) (sym is) copy
@@ -174,12 +174,12 @@ module _ (words : List Text) (copy : AskForCopy words) where
   did_copy (Err (Writing Damage)) outcome is = subst (Did words) (sym is) tt
   did_copy (Err (Writing Broken)) outcome is = subst (Did words) (sym is) tt
 
-  did_no_copy : (fault : Fault) → (status_of fault ≡ 4) ⊎ ((fault ≡ NoFileName) × (EndsInName copy.new → ⊥)) → Did words (Err fault)
+  did_no_copy : (fault : CommandFault) → (status_of fault ≡ 4) ⊎ ((fault ≡ NoFileName) × (EndsInName copy.new → ⊥)) → Did words (Err fault)
   did_no_copy fault (inl four) = did_fail words fault four
-  did_no_copy fault (inr none) = subst (λ (f : Fault). Did words (Err f)) (sym none.0) (copy, none.1)
+  did_no_copy fault (inr none) = subst (λ (f : CommandFault). Did words (Err f)) (sym none.0) (copy, none.1)
 
 pub copy_did : (words : List Text) (disk : Unseen) (made : CallsMade) (old : SystemState) (asks : Copying) → AskCopy words asks.file.now asks.new.now asks.key asks.limits.pages asks.limits.frames.value
-    → (outcome : Result Outcome Fault) → ComesOfCopy old disk made asks outcome → Did words outcome
+    → (outcome : Result Outcome CommandFault) → ComesOfCopy old disk made asks outcome → Did words outcome
 copy_did words disk made old asks asked outcome (inl none) =
     subst (Did words) (sym none.told)
     (did_no_copy words (record { file = asks.file.now; new = asks.new.now; key = asks.key; pages = asks.limits.pages; frames = asks.limits.frames.value; asked = asked }) none.fault none.cause)

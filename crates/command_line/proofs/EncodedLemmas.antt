@@ -14,8 +14,8 @@ use Rattle.file_commands.specs.declared.listing.Bounds.{Bounds}
 use Rattle.salvaged_records.specs.Salvaged.{outputs}
 use Rattle.streams.specs.declared.backslashes.Backslashes.{Backslashes}
 use Rattle.command_support.specs.Status.{status_of}
-use Rattle.command_support.specs.declared.fault.Fault.{Fault}
-use Rattle.command_support.specs.declared.fault.Fault.TheVariants.{Form as NoForm, Output, Memory}
+use Rattle.command_support.specs.declared.fault.CommandFault.{CommandFault}
+use Rattle.command_support.specs.declared.fault.CommandFault.TheVariants.{Form as NoForm, Output, Memory}
 use Rattle.command_support.specs.declared.form_fault.FormFault.TheVariants.{Encoding as NoEncoding}
 use Rattle.command_support.specs.declared.outcome.Outcome.{Outcome}
 use Rattle.command_support.specs.declared.outcome.Outcome.TheVariants.{Records, OtherSchema}
@@ -24,34 +24,34 @@ use Rattle.command_line.specs.Encoding.{AreBackslashesOf, WritesIn, IsNoEncoding
 use Rattle.command_line.specs.Encoded.{DoesList, ListsEncoded, SalvagesEncoded, HandsTextOver, IsNoRoom, IsEncodedRefused}
 
 -- a fault of the output or of memory has this status
-no_room_status : (fault : Fault) → IsNoRoom fault → status_of fault ≡ 4
+no_room_status : (fault : CommandFault) → IsNoRoom fault → status_of fault ≡ 4
 no_room_status fault (inl output) = ap status_of output
 no_room_status fault (inr memory) = ap status_of memory
 
 -- what is so of a fault of the text that was listed, and of those of the output and memory, is so of a fault
 -- that is told
-handed_fault : {W : Type 0} (IsSo : Fault → Type 0) → IsSo Output → IsSo Memory
-    → (backslashes : Backslashes) (text : List ℕ) (made : Result Outcome Fault) (contents : W → Option (List ℕ)) (old new : W) (result : Result Outcome Fault)
+handed_fault : {W : Type 0} (IsSo : CommandFault → Type 0) → IsSo Output → IsSo Memory
+    → (backslashes : Backslashes) (text : List ℕ) (made : Result Outcome CommandFault) (contents : W → Option (List ℕ)) (old new : W) (result : Result Outcome CommandFault)
     → IfErr made IsSo → HandsTextOver backslashes text made contents old new result → IfErr result IsSo
 handed_fault IsSo of_output of_memory backslashes text made contents old new (Ok outcome) so hands = tt
 handed_fault IsSo of_output of_memory backslashes text made contents old new (Err fault) so hands = elim hands.fault [
-  | inl is ↦ subst (λ (r : Result Outcome Fault). IfErr r IsSo) is so
+  | inl is ↦ subst (λ (r : Result Outcome CommandFault). IfErr r IsSo) is so
   | inr (inl output) ↦ subst IsSo (sym output) of_output
   | inr (inr memory) ↦ subst IsSo (sym memory) of_memory
 ]
 
-handed_untouched : {W : Type 0} (backslashes : Backslashes) (text : List ℕ) (made : Result Outcome Fault) (contents : W → Option (List ℕ)) (old new : W) (result : Result Outcome Fault)
+handed_untouched : {W : Type 0} (backslashes : Backslashes) (text : List ℕ) (made : Result Outcome CommandFault) (contents : W → Option (List ℕ)) (old new : W) (result : Result Outcome CommandFault)
     → IfErr made (λ fault. status_of fault ≢ 4 → text ≡ []) → HandsTextOver backslashes text made contents old new result
     → IfErr result (λ fault. status_of fault ≢ 4 → new ≡ old)
 handed_untouched backslashes text made contents old new (Ok outcome) so hands = tt
 handed_untouched backslashes text made contents old new (Err fault) so hands = elim hands.fault [
-  | inl is ↦ λ other. hands.nothing (subst (λ (r : Result Outcome Fault). IfErr r (λ f. status_of f ≢ 4 → text ≡ [])) is so other)
+  | inl is ↦ λ other. hands.nothing (subst (λ (r : Result Outcome CommandFault). IfErr r (λ f. status_of f ≢ 4 → text ≡ [])) is so other)
   | inr none ↦ λ other. absurd (other (no_room_status fault none))
 ]
 
 -- a text of which something is so was handed over
-handed_done : {W : Type 0} (IsSo : (before behind : Option (List ℕ)) → Outcome → Type 0) (encoding form : List ℕ) (backslashes : Backslashes) (text : List ℕ) (made : Result Outcome Fault)
-    (contents : W → Option (List ℕ)) (old new : W) (result : Result Outcome Fault)
+handed_done : {W : Type 0} (IsSo : (before behind : Option (List ℕ)) → Outcome → Type 0) (encoding form : List ℕ) (backslashes : Backslashes) (text : List ℕ) (made : Result Outcome CommandFault)
+    (contents : W → Option (List ℕ)) (old new : W) (result : Result Outcome CommandFault)
     → encoding ≡ codes "utf-8" → AreBackslashesOf form backslashes → IfOk made (IsSo (Some []) (Some text)) → HandsTextOver backslashes text made contents old new result
     → IfOk result (λ outcome. WritesIn encoding form (contents old) (contents new) (λ before behind. IsSo before behind outcome))
 handed_done IsSo encoding form backslashes text made contents old new (Ok outcome) is are so hands = inr (
@@ -60,7 +60,7 @@ handed_done IsSo encoding form backslashes text made contents old new (Ok outcom
     text = text;
     backslashes = backslashes;
     are = are;
-    so = subst (λ (r : Result Outcome Fault). IfOk r (IsSo (Some []) (Some text))) hands.done so;
+    so = subst (λ (r : Result Outcome CommandFault). IfOk r (IsSo (Some []) (Some text))) hands.done so;
     written = hands.written;
   },
 )
@@ -76,25 +76,25 @@ module _ (disk : Unseen) (input : Option (List ℕ)) (path : List ℕ) (bounds :
   checked_known contents old new OtherSchema is = is
   checked_known contents old new outcome is = absurd is
 
-  lists_known : {W : Type 0} (checked : Bool) (contents : W → Option (List ℕ)) (old new : W) (result : Result Outcome Fault) → ListsEitherWay checked disk input path bounds form contents old new result calls
+  lists_known : {W : Type 0} (checked : Bool) (contents : W → Option (List ℕ)) (old new : W) (result : Result Outcome CommandFault) → ListsEitherWay checked disk input path bounds form contents old new result calls
       → IfOk result (DoesList checked disk input path bounds form (contents old) (contents new) calls)
   lists_known true contents old new result lists =
       IfOk-weaker result (ListsAsked input path bounds (words_of bounds form) contents old new calls) (DoesList true disk input path bounds form (contents old) (contents new) calls)
       (checked_known contents old new) lists.records
   lists_known false contents old new result lists = lists.records
 
-  lists_refused : {W : Type 0} (checked : Bool) (contents : W → Option (List ℕ)) (old new : W) (result : Result Outcome Fault) → ListsEitherWay checked disk input path bounds form contents old new result calls
+  lists_refused : {W : Type 0} (checked : Bool) (contents : W → Option (List ℕ)) (old new : W) (result : Result Outcome CommandFault) → ListsEitherWay checked disk input path bounds form contents old new result calls
       → IfErr result (IsListRefused (words_of bounds form))
   lists_refused true contents old new result lists = lists.fault
   lists_refused false contents old new result lists = lists.fault
 
-  lists_untouched : {W : Type 0} (checked : Bool) (contents : W → Option (List ℕ)) (old new : W) (result : Result Outcome Fault) → ListsEitherWay checked disk input path bounds form contents old new result calls
+  lists_untouched : {W : Type 0} (checked : Bool) (contents : W → Option (List ℕ)) (old new : W) (result : Result Outcome CommandFault) → ListsEitherWay checked disk input path bounds form contents old new result calls
       → IfErr result (λ fault. status_of fault ≢ 4 → new ≡ old)
   lists_untouched true contents old new result lists = lists.untouched
   lists_untouched false contents old new result lists = lists.untouched
 
   -- in ASCII
-  pub in_ascii_listed : {W : Type 0} (checked : Bool) (contents : W → Option (List ℕ)) (old new : W) (result : Result Outcome Fault) → form.encoding.now ≡ codes "ascii"
+  pub in_ascii_listed : {W : Type 0} (checked : Bool) (contents : W → Option (List ℕ)) (old new : W) (result : Result Outcome CommandFault) → form.encoding.now ≡ codes "ascii"
       → ListsEitherWay checked disk input path bounds form contents old new result calls → ListsEncoded checked disk input path bounds form contents old new result calls
   in_ascii_listed checked contents old new result is lists = record {
     records = IfOk-weaker result (DoesList checked disk input path bounds form (contents old) (contents new) calls)
@@ -105,8 +105,8 @@ module _ (disk : Unseen) (input : Option (List ℕ)) (path : List ℕ) (bounds :
   }
 
   -- in UTF-8, by a text that was listed into memory
-  pub in_utf_8_listed : {V W : Type 0} (checked : Bool) (held : V → Option (List ℕ)) (empty full : V) (text : List ℕ) (made : Result Outcome Fault) (backslashes : Backslashes)
-      (contents : W → Option (List ℕ)) (old new : W) (result : Result Outcome Fault)
+  pub in_utf_8_listed : {V W : Type 0} (checked : Bool) (held : V → Option (List ℕ)) (empty full : V) (text : List ℕ) (made : Result Outcome CommandFault) (backslashes : Backslashes)
+      (contents : W → Option (List ℕ)) (old new : W) (result : Result Outcome CommandFault)
       → held empty ≡ Some [] → held full ≡ Some text → (full ≡ empty → text ≡ []) → form.encoding.now ≡ codes "utf-8" → AreBackslashesOf form.kind.now backslashes
       → ListsEitherWay checked disk input path bounds form held empty full made calls → HandsTextOver backslashes text made contents old new result
       → ListsEncoded checked disk input path bounds form contents old new result calls
@@ -141,10 +141,10 @@ module _ {E : Type 0} (input : Option (List ℕ)) (path : List ℕ) (asked : For
   abbrev DoesSalvage : (before behind : Option (List ℕ)) → Outcome → Type 0
   DoesSalvage before behind outcome = SalvagesFileAt input path asked places (outputs before behind (contents_told told) (contents_told told_after)) calls outcome
 
-  as_refused : (result : Result Outcome Fault) → IfErr result (IsSalvageRefused asked) → IfErr result (IsEncodedRefused asked)
+  as_refused : (result : Result Outcome CommandFault) → IfErr result (IsSalvageRefused asked) → IfErr result (IsEncodedRefused asked)
   as_refused result so = IfErr-weaker result (IsSalvageRefused asked) (IsEncodedRefused asked) (λ fault is. inl is) so
 
-  pub in_ascii_salvaged : {W : Type 0} (contents : W → Option (List ℕ)) (old new : W) (result : Result Outcome Fault) → asked.encoding ≡ codes "ascii"
+  pub in_ascii_salvaged : {W : Type 0} (contents : W → Option (List ℕ)) (old new : W) (result : Result Outcome CommandFault) → asked.encoding ≡ codes "ascii"
       → SalvagesFile input path asked places contents_told told told_after contents old new result calls → SalvagesEncoded input path asked places contents_told told told_after contents old new result calls
   in_ascii_salvaged contents old new result is salvages = record {
     records = IfOk-weaker result (DoesSalvage (contents old) (contents new))
@@ -154,8 +154,8 @@ module _ {E : Type 0} (input : Option (List ℕ)) (path : List ℕ) (asked : For
     fault = as_refused result salvages.fault;
   }
 
-  pub in_utf_8_salvaged : {V W : Type 0} (held : V → Option (List ℕ)) (empty full : V) (text : List ℕ) (made : Result Outcome Fault) (backslashes : Backslashes)
-      (contents : W → Option (List ℕ)) (old new : W) (result : Result Outcome Fault)
+  pub in_utf_8_salvaged : {V W : Type 0} (held : V → Option (List ℕ)) (empty full : V) (text : List ℕ) (made : Result Outcome CommandFault) (backslashes : Backslashes)
+      (contents : W → Option (List ℕ)) (old new : W) (result : Result Outcome CommandFault)
       → held empty ≡ Some [] → held full ≡ Some text → (full ≡ empty → text ≡ []) → asked.encoding ≡ codes "utf-8" → AreBackslashesOf asked.kind backslashes
       → SalvagesFile input path asked places contents_told told told_after held empty full made calls → HandsTextOver backslashes text made contents old new result
       → SalvagesEncoded input path asked places contents_told told told_after contents old new result calls

@@ -10,7 +10,7 @@ use Rattle.command_support.specs.Front.{ReadsDeckNamed}
 use Rattle.command_line.specs.Performed.{ReadsFolder, ReadsInputs}
 use Rattle.command_line.proofs.CallsMadeLemmas.{only_reads}
 use Rattle.command_support.specs.Status.{status_of}
-use Rattle.command_support.specs.declared.fault.Fault.{Fault}
+use Rattle.command_support.specs.declared.fault.CommandFault.{CommandFault}
 
 -- ---- the folder
 
@@ -21,7 +21,7 @@ module _ (path : List ℕ) (old new : SystemState) where
   pub folder_given : (found : String Global) → string_bytes found ≡ path → new ≡ with_call (asked_of_folder path (Some true)) old → ReadsFolder path old new (Ok found)
   folder_given found same is = record { given = (same, is); reads = folder_asked (Some true) is; fault = tt }
 
-  pub folder_refused : (told : Option Bool) (fault : Fault) → status_of fault ≡ 4 → new ≡ with_call (asked_of_folder path told) old → ReadsFolder path old new (Err fault)
+  pub folder_refused : (told : Option Bool) (fault : CommandFault) → status_of fault ≡ 4 → new ≡ with_call (asked_of_folder path told) old → ReadsFolder path old new (Err fault)
   folder_refused told fault four is = record { given = tt; reads = folder_asked told is; fault = four }
 
 -- ---- the deck, and then the folder
@@ -40,7 +40,7 @@ module _ {I : Type 0} (left : I → Option (List ℕ)) (deck folder : List ℕ) 
     fault = tt;
   }
 
-  pub inputs_no_folder : (bytes : Vec ℕ) (fault : Fault) → ByReads (ReadsDeckNamed left deck input input_after (Ok bytes)) old between → ReadsFolder folder between new (Err fault)
+  pub inputs_no_folder : (bytes : Vec ℕ) (fault : CommandFault) → ByReads (ReadsDeckNamed left deck input input_after (Ok bytes)) old between → ReadsFolder folder between new (Err fault)
       → ReadsInputs (left input) deck folder old new (Err fault)
   inputs_no_folder bytes fault reads found = record {
     given = tt;
@@ -49,6 +49,6 @@ module _ {I : Type 0} (left : I → Option (List ℕ)) (deck folder : List ℕ) 
   }
 
 -- the deck was not read
-pub inputs_no_deck : {I : Type 0} (left : I → Option (List ℕ)) (deck folder : List ℕ) (input input_after : I) (old new : SystemState) (fault : Fault)
+pub inputs_no_deck : {I : Type 0} (left : I → Option (List ℕ)) (deck folder : List ℕ) (input input_after : I) (old new : SystemState) (fault : CommandFault)
     → ByReads (ReadsDeckNamed left deck input input_after (Err fault)) old new → ReadsInputs (left input) deck folder old new (Err fault)
 inputs_no_deck left deck folder input input_after old new fault reads = record { given = tt; reads = only_reads old new reads; fault = reads.so.bytes }

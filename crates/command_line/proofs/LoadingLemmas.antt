@@ -27,8 +27,8 @@ use Rattle.command_line.specs.LoadForm.{IsFaultOfLoad}
 use Rattle.command_line.specs.Loaded.{EndsLoadOf, LoadsFolder, LoadsDeck, TellsLoad, ComesOfLoad, BeginsLoad, BeginsLoadOfDeck}
 use Rattle.command_line.proofs.FolderLemmas.{untouched}
 use Rattle.command_support.specs.Status.{status_of}
-use Rattle.command_support.specs.declared.fault.Fault.{Fault}
-use Rattle.command_support.specs.declared.fault.Fault.TheVariants.{Output}
+use Rattle.command_support.specs.declared.fault.CommandFault.{CommandFault}
+use Rattle.command_support.specs.declared.fault.CommandFault.TheVariants.{Output}
 use Rattle.command_support.specs.declared.outcome.Outcome.{Outcome}
 use Rattle.command_support.specs.declared.outcome.Outcome.TheVariants.{Loaded as LoadEnded}
 
@@ -55,7 +55,7 @@ module _ (disk : Unseen) (path : List ℕ) (calls : List Call) (at_first : Syste
     safe = from_first (IsSafeLoad name) safe;
   }
 
-  pub load_failed : StaysWithin system → (fault : Fault) → LeavesFiles first last → KeepsOtherNames name first last → IsSafeLoad name first last
+  pub load_failed : StaysWithin system → (fault : CommandFault) → LeavesFiles first last → KeepsOtherNames name first last → IsSafeLoad name first last
       → LoadsFolder disk path name schema load source system (Err fault)
   load_failed within fault nothing others safe = record {
     within = within;
@@ -84,7 +84,7 @@ text_in encoding form so text (inr (is, reads)) =
     inr (is, record { given = reads.given; backslashes = reads.backslashes; are = reads.are; so = so reads.given reads.so; is = reads.is })
 
 -- what else is known of the text of a load
-pub loads_as : {A B : List ℕ → Type 0} {disk : Unseen} {system : SystemState} {bytes folder name word : List ℕ} {into : Bool} {options : LoadOptions} {before behind : Option (List ℕ)} {outcome : Result Outcome Fault}
+pub loads_as : {A B : List ℕ → Type 0} {disk : Unseen} {system : SystemState} {bytes folder name word : List ℕ} {into : Bool} {options : LoadOptions} {before behind : Option (List ℕ)} {outcome : Result Outcome CommandFault}
     → ((text : List ℕ) → A text → B text) → LoadsDeck disk system A bytes folder name word into options before behind outcome
     → LoadsDeck disk system B bytes folder name word into options before behind outcome
 loads_as so known = record {
@@ -107,46 +107,46 @@ loads_as so known = record {
 -- ---- what is told of a load
 
 -- a fault that is told is of the output, the input or memory
-pub told_fault : (path : List ℕ) (schema : Schema) (end : Result ShelfEnd Fault) (calls : List Call) (before behind : Option (List ℕ)) (outcome : Result Outcome Fault)
+pub told_fault : (path : List ℕ) (schema : Schema) (end : Result ShelfEnd CommandFault) (calls : List Call) (before behind : Option (List ℕ)) (outcome : Result Outcome CommandFault)
     → TellsLoad path schema end calls before behind outcome → IfErr outcome (λ fault. status_of fault ≡ 4)
-told_fault path schema (Ok end) calls before behind outcome (inl told) = subst (λ (o : Result Outcome Fault). IfErr o (λ fault. status_of fault ≡ 4)) (sym told.0) tt
-told_fault path schema (Ok end) calls before behind outcome (inr (inl told)) = subst (λ (o : Result Outcome Fault). IfErr o (λ fault. status_of fault ≡ 4)) (sym told) refl
-told_fault path schema (Ok end) calls before behind outcome (inr (inr told)) = subst (λ (o : Result Outcome Fault). IfErr o (λ fault. status_of fault ≡ 4)) (sym told.0) refl
+told_fault path schema (Ok end) calls before behind outcome (inl told) = subst (λ (o : Result Outcome CommandFault). IfErr o (λ fault. status_of fault ≡ 4)) (sym told.0) tt
+told_fault path schema (Ok end) calls before behind outcome (inr (inl told)) = subst (λ (o : Result Outcome CommandFault). IfErr o (λ fault. status_of fault ≡ 4)) (sym told) refl
+told_fault path schema (Ok end) calls before behind outcome (inr (inr told)) = subst (λ (o : Result Outcome CommandFault). IfErr o (λ fault. status_of fault ≡ 4)) (sym told.0) refl
 told_fault path schema (Err fault) calls before behind outcome told =
-    subst (λ (o : Result Outcome Fault). IfErr o (λ f. status_of f ≡ 4)) (sym told.0) (elim told.1 [ inl input ↦ ap status_of input | inr memory ↦ ap status_of memory ])
+    subst (λ (o : Result Outcome CommandFault). IfErr o (λ f. status_of f ≡ 4)) (sym told.0) (elim told.1 [ inl input ↦ ap status_of input | inr memory ↦ ap status_of memory ])
 
 -- and what was done is a load
-pub told_end : (path : List ℕ) (schema : Schema) (end : Result ShelfEnd Fault) (calls : List Call) (before behind : Option (List ℕ)) (outcome : Result Outcome Fault)
+pub told_end : (path : List ℕ) (schema : Schema) (end : Result ShelfEnd CommandFault) (calls : List Call) (before behind : Option (List ℕ)) (outcome : Result Outcome CommandFault)
     → TellsLoad path schema end calls before behind outcome → IfOk outcome (λ o. (e : ShelfEnd) × (o ≡ LoadEnded e))
-told_end path schema (Ok end) calls before behind outcome (inl told) = subst (λ (o : Result Outcome Fault). IfOk o (λ o. (e : ShelfEnd) × (o ≡ LoadEnded e))) (sym told.0) (end, refl)
-told_end path schema (Ok end) calls before behind outcome (inr (inl told)) = subst (λ (o : Result Outcome Fault). IfOk o (λ o. (e : ShelfEnd) × (o ≡ LoadEnded e))) (sym told) tt
-told_end path schema (Ok end) calls before behind outcome (inr (inr told)) = subst (λ (o : Result Outcome Fault). IfOk o (λ o. (e : ShelfEnd) × (o ≡ LoadEnded e))) (sym told.0) tt
-told_end path schema (Err fault) calls before behind outcome told = subst (λ (o : Result Outcome Fault). IfOk o (λ o. (e : ShelfEnd) × (o ≡ LoadEnded e))) (sym told.0) tt
+told_end path schema (Ok end) calls before behind outcome (inl told) = subst (λ (o : Result Outcome CommandFault). IfOk o (λ o. (e : ShelfEnd) × (o ≡ LoadEnded e))) (sym told.0) (end, refl)
+told_end path schema (Ok end) calls before behind outcome (inr (inl told)) = subst (λ (o : Result Outcome CommandFault). IfOk o (λ o. (e : ShelfEnd) × (o ≡ LoadEnded e))) (sym told) tt
+told_end path schema (Ok end) calls before behind outcome (inr (inr told)) = subst (λ (o : Result Outcome CommandFault). IfOk o (λ o. (e : ShelfEnd) × (o ≡ LoadEnded e))) (sym told.0) tt
+told_end path schema (Err fault) calls before behind outcome told = subst (λ (o : Result Outcome CommandFault). IfOk o (λ o. (e : ShelfEnd) × (o ≡ LoadEnded e))) (sym told.0) tt
 
 -- it was told so, or that the output failed
-pub told_or_output : (path : List ℕ) (schema : Schema) (end : ShelfEnd) (calls : List Call) (before behind : Option (List ℕ)) (told outcome : Result Outcome Fault)
+pub told_or_output : (path : List ℕ) (schema : Schema) (end : ShelfEnd) (calls : List Call) (before behind : Option (List ℕ)) (told outcome : Result Outcome CommandFault)
     → (outcome ≡ told) ⊎ (outcome ≡ Err Output) → TellsLoad path schema (Ok end) calls before behind told → TellsLoad path schema (Ok end) calls before behind outcome
-told_or_output path schema end calls before behind told outcome (inl same) is = subst (λ (o : Result Outcome Fault). TellsLoad path schema (Ok end) calls before behind o) (sym same) is
+told_or_output path schema end calls before behind told outcome (inl same) is = subst (λ (o : Result Outcome CommandFault). TellsLoad path schema (Ok end) calls before behind o) (sym same) is
 told_or_output path schema end calls before behind told outcome (inr failed) is = inr (inl failed)
 
 -- so it is of a load that was begun or not
-pub load_done : {W : Type 0} (old : SystemState) (made : CallsMade) (out out_after : W) (outcome : Result Outcome Fault) (IsBegun : Type 0)
+pub load_done : {W : Type 0} (old : SystemState) (made : CallsMade) (out out_after : W) (outcome : Result Outcome CommandFault) (IsBegun : Type 0)
     → BeginsNothing old made out out_after outcome ⊎ IsBegun → (IsBegun → IfOk outcome (λ o. (e : ShelfEnd) × (o ≡ LoadEnded e))) → IfOk outcome (λ o. (e : ShelfEnd) × (o ≡ LoadEnded e))
-load_done old made out out_after outcome IsBegun (inl none) so = subst (λ (o : Result Outcome Fault). IfOk o (λ o. (e : ShelfEnd) × (o ≡ LoadEnded e))) (sym none.told) tt
+load_done old made out out_after outcome IsBegun (inl none) so = subst (λ (o : Result Outcome CommandFault). IfOk o (λ o. (e : ShelfEnd) × (o ≡ LoadEnded e))) (sym none.told) tt
 load_done old made out out_after outcome IsBegun (inr is) so = so is
 
 -- a fault of this status is one of a file of a deck
-pub deck_fault : (outcome : Result Outcome Fault) → IfErr outcome (λ fault. status_of fault ≡ 4) → IfErr outcome IsDeckFault
+pub deck_fault : (outcome : Result Outcome CommandFault) → IfErr outcome (λ fault. status_of fault ≡ 4) → IfErr outcome IsDeckFault
 deck_fault outcome four = IfErr-weaker outcome (λ fault. status_of fault ≡ 4) IsDeckFault not_there four
 
 -- and nothing is said of what was written then
-pub untouched_unless : (A : Type 0) (outcome : Result Outcome Fault) → IfErr outcome (λ fault. status_of fault ≡ 4) → IfErr outcome (λ fault. status_of fault ≢ 4 → A)
+pub untouched_unless : (A : Type 0) (outcome : Result Outcome CommandFault) → IfErr outcome (λ fault. status_of fault ≡ 4) → IfErr outcome (λ fault. status_of fault ≢ 4 → A)
 untouched_unless A outcome four = IfErr-weaker outcome (λ fault. status_of fault ≡ 4) (λ fault. status_of fault ≢ 4 → A) (λ fault is other. absurd (other is)) four
 
 -- ---- a load of the bytes of a deck is one of the deck
 
 -- a fault came before a folder was entered, after other reads
-pub begins_nothing_after : {W : Type 0} (old between : SystemState) (made : CallsMade) (out out_after : W) (outcome : Result Outcome Fault) → ByReads (λ _. ⊤) old between
+pub begins_nothing_after : {W : Type 0} (old between : SystemState) (made : CallsMade) (out out_after : W) (outcome : Result Outcome CommandFault) → ByReads (λ _. ⊤) old between
     → BeginsNothing between made out out_after outcome → BeginsNothing old made out out_after outcome
 begins_nothing_after old between made out out_after outcome first none = record {
   none_aside = none.none_aside;
@@ -157,7 +157,7 @@ begins_nothing_after old between made out out_after outcome first none = record 
 }
 
 module _ {W : Type 0} (old between : SystemState) (made : CallsMade) (at_first behind_deck : Option (List ℕ)) (deck folder file text form encoding : List ℕ) (into : Bool) (options : LoadOptions) (disk : Unseen) (before behind : Option (List ℕ))
-    (out out_after : W) (outcome : Result Outcome Fault) (bytes : List ℕ) (reads : List Call) (is_deck : IsDeckNamed reads at_first deck bytes)
+    (out out_after : W) (outcome : Result Outcome CommandFault) (bytes : List ℕ) (reads : List Call) (is_deck : IsDeckNamed reads at_first deck bytes)
     (noted : between.calls ≡ folder_behind folder reads old.calls) (first : ByReads (λ _. ⊤) old between)
     (unread : (deck ≡ codes "-" → ⊥) → behind_deck ≡ at_first) (not_both : deck ≡ codes "-" → text ≡ codes "-" → ⊥) where
   abbrev IsOfBytes : List Call → Type 0

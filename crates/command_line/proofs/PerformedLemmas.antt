@@ -16,8 +16,8 @@ use Rattle.command_line.specs.Performed.{Begun, Written, CameTo, begun, outcome_
 use Rattle.command_line.specs.Transcript.{IsRunFault}
 use Rattle.command_support.specs.Status.{status_of}
 use Rattle.command_support.specs.Told.{told_as}
-use Rattle.command_support.specs.declared.fault.Fault.{Fault}
-use Rattle.command_support.specs.declared.fault.Fault.TheVariants.{Deck, Output}
+use Rattle.command_support.specs.declared.fault.CommandFault.{CommandFault}
+use Rattle.command_support.specs.declared.fault.CommandFault.TheVariants.{Deck, Output}
 use Rattle.command_support.specs.declared.outcome.Outcome.{Outcome}
 
 -- what a run is told as
@@ -26,7 +26,7 @@ run_fault (DeckRefused fault) = tt
 run_fault LineRefused = tt
 run_fault NoMemory = tt
 
-pub run_outcome : (end : Result RunEnd Fault) → IfErr end IsRunFault → IsRunOutcome (outcome_of end)
+pub run_outcome : (end : Result RunEnd CommandFault) → IfErr end IsRunFault → IsRunOutcome (outcome_of end)
 run_outcome (Ok e) fault = tt
 run_outcome (Err f) fault = fault
 
@@ -37,7 +37,7 @@ module _ (folder : List ℕ) (limit frames : ℕ) (disk : Unseen) (system : Syst
   abbrev out : Written
   out = record { before = before; behind = behind }
 
-  pub came_to : (end : Result RunEnd Fault)
+  pub came_to : (end : Result RunEnd CommandFault)
       → IfOk end (λ e. e.clean ≡ true → OverFolder disk folder system (λ first last. IsExactRun bytes first last before behind e))
       → IfOk end (λ e. OverFolder disk folder system (λ first last. OnShelf bytes first last (λ deck. TellsLines before behind e (Runs limit frames first last 0 (failed_calls system.calls) deck))))
       → IfErr end (λ fault. fault ≡ Output → OverFolder disk folder system (λ first last. OnShelf bytes first last (λ deck. ToldInPart before behind (BreaksOff limit frames first last 0 (failed_calls system.calls) deck))))
@@ -58,14 +58,14 @@ module _ (folder : List ℕ) (limit frames : ℕ) (disk : Unseen) (system : Syst
     exact = λ end is clean. absurd (cc);
     whole = λ end is. absurd (cc);
     part = λ is. let same : f ≡ Output = cc in part same;
-    nothing = λ fault is other. let same : f ≡ fault = cc in nothing (subst (λ (x : Fault). x ≢ Output) (sym same) other);
+    nothing = λ fault is other. let same : f ≡ fault = cc in nothing (subst (λ (x : CommandFault). x ≢ Output) (sym same) other);
     refused = λ told is. let same : f ≡ Deck told = cc in refused told same;
     sound = sound;
   }
 
 -- what is so of a run that failed otherwise than by its output is so where the status is not 4
-pub unwritten : (A : Type 0) (end : Result RunEnd Fault) (outcome : Result Outcome Fault) → outcome ≡ outcome_of end → IfErr end (λ fault. fault ≢ Output → A)
+pub unwritten : (A : Type 0) (end : Result RunEnd CommandFault) (outcome : Result Outcome CommandFault) → outcome ≡ outcome_of end → IfErr end (λ fault. fault ≢ Output → A)
     → IfErr outcome (λ fault. status_of fault ≢ 4 → A)
-unwritten A (Ok e) outcome is known = subst (λ (o : Result Outcome Fault). IfErr o (λ fault. status_of fault ≢ 4 → A)) (sym is) tt
+unwritten A (Ok e) outcome is known = subst (λ (o : Result Outcome CommandFault). IfErr o (λ fault. status_of fault ≢ 4 → A)) (sym is) tt
 unwritten A (Err f) outcome is known =
-    subst (λ (o : Result Outcome Fault). IfErr o (λ fault. status_of fault ≢ 4 → A)) (sym is) (λ other. known (λ same. other (ap status_of same)))
+    subst (λ (o : Result Outcome CommandFault). IfErr o (λ fault. status_of fault ≢ 4 → A)) (sym is) (λ other. known (λ same. other (ap status_of same)))

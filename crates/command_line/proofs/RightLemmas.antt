@@ -22,7 +22,7 @@ use Rattle.command_line.specs.Encoding.{WritesIn}
 use Rattle.command_line.specs.Encoded.{DoesList}
 use Rattle.command_line.specs.Right.{IsRightOf, SalvagesAsAsked}
 use Rattle.command_line.proofs.DidLemmas.{for_records}
-use Rattle.command_support.specs.declared.fault.Fault.{Fault}
+use Rattle.command_support.specs.declared.fault.CommandFault.{CommandFault}
 use Rattle.command_support.specs.declared.outcome.Outcome.{Outcome}
 use Rattle.command_support.specs.declared.outcome.Outcome.TheVariants.{Helped, CheckedAll, SchemaTold, SchemaCompared, SchemaRefused, Explained, Listed, Records, OtherSchema, InCobol, Salvaged}
 use Rattle.command_support.specs.declared.outcome.WorstCheck.{WorstCheck}
@@ -32,30 +32,30 @@ module _ {W : Type 0} (disk : Unseen) (words : List Text) (calls : List Call) (i
   IsRight = IsRightOf disk words calls input contents old new
 
   -- help was written
-  pub right_help : (result : Result Outcome Fault) → IfOk result (λ outcome. outcome ≡ Helped) → IfOk result IsRight
+  pub right_help : (result : Result Outcome CommandFault) → IfOk result (λ outcome. outcome ≡ Helped) → IfOk result IsRight
   right_help (Ok outcome) is = subst IsRight (sym is) tt
   right_help (Err fault) is = tt
 
   -- a number was explained
-  pub right_explained : (kind number : Text) → AskExplain words kind number → (result : Result Outcome Fault) → IfOk result (λ outcome. outcome ≡ Explained)
+  pub right_explained : (kind number : Text) → AskExplain words kind number → (result : Result Outcome CommandFault) → IfOk result (λ outcome. outcome ≡ Explained)
       → IfOk result (λ _. WritesExplanation (explanation kind number) (contents old) (contents new)) → IfOk result IsRight
   right_explained kind number asked (Ok outcome) is text = subst IsRight (sym is) (kind, number, asked, text)
   right_explained kind number asked (Err fault) is text = tt
 
   -- a file was checked
-  pub right_check : (file : Text) (quiet : Bool) → AskCheck words (file ∷ []) quiet → (result : Result Outcome Fault) → DoesBy (ChecksFile file contents old new) result calls → IfOk result IsRight
+  pub right_check : (file : Text) (quiet : Bool) → AskCheck words (file ∷ []) quiet → (result : Result Outcome CommandFault) → DoesBy (ChecksFile file contents old new) result calls → IfOk result IsRight
   right_check file quiet asked (Ok outcome) does = let done = does.right in
       subst IsRight (sym done.1) (file, quiet, asked, subst (λ (o : Outcome). ChecksFile file contents old new calls o) done.1 done)
   right_check file quiet asked (Err fault) does = tt
 
   -- files were checked
-  pub right_checks : (files : List Text) (quiet : Bool) → AskCheck words files quiet → (result : Result Outcome Fault)
+  pub right_checks : (files : List Text) (quiet : Bool) → AskCheck words files quiet → (result : Result Outcome CommandFault)
       → IfOk result (λ outcome. (worst : WorstCheck) × (outcome ≡ CheckedAll worst) × WritesVerdicts files (contents old) (contents new) calls worst) → IfOk result IsRight
   right_checks files quiet asked (Ok outcome) done = subst IsRight (sym done.1) (files, quiet, asked, done.2)
   right_checks files quiet asked (Err fault) done = tt
 
   -- the pages of a file were counted
-  pub right_count : (path : Text) → AskStat words path → (result : Result Outcome Fault) → DoesBy (CountsFileAt path contents old new) result calls → IfOk result IsRight
+  pub right_count : (path : Text) → AskStat words path → (result : Result Outcome CommandFault) → DoesBy (CountsFileAt path contents old new) result calls → IfOk result IsRight
   right_count path asked (Ok outcome) does = let done = does.right in
       subst IsRight (sym done.1) (path, asked, subst (λ (o : Outcome). CountsFileAt path contents old new calls o) done.1 done)
   right_count path asked (Err fault) does = tt
@@ -68,7 +68,7 @@ module _ {W : Type 0} (disk : Unseen) (words : List Text) (calls : List Call) (i
   told_by salvage told told_behind outcome (inr (is, writes)) =
       inr (is, record { text = writes.text; backslashes = writes.backslashes; are = writes.are; so = (told, told_behind, writes.so); written = writes.written })
 
-  pub right_salvage : (salvage : AskForSalvage words) (told told_behind : Option (List ℕ)) (result : Result Outcome Fault)
+  pub right_salvage : (salvage : AskForSalvage words) (told told_behind : Option (List ℕ)) (result : Result Outcome CommandFault)
       → IfOk result (λ outcome. WritesIn salvage.form.encoding salvage.form.kind (contents old) (contents new)
       (λ before behind. SalvagesFileAt input salvage.file salvage.form salvage.places (outputs before behind told told_behind) calls outcome)) → IfOk result IsRight
   right_salvage salvage told told_behind (Ok (Salvaged end)) is = (salvage, told_by salvage told told_behind (Salvaged end) is)
@@ -78,18 +78,18 @@ module _ {W : Type 0} (disk : Unseen) (words : List Text) (calls : List Call) (i
   right_salvage salvage told told_behind (Err fault) is = tt
 
   -- a deck was listed, or written in COBOL
-  pub right_listed : (deck : Text) → AskDeck words deck → (result : Result Outcome Fault)
+  pub right_listed : (deck : Text) → AskDeck words deck → (result : Result Outcome CommandFault)
       → TellsDeck (IsDeckNamed calls input deck) (λ bytes. WritesList bytes (contents old) (contents new)) Listed old new result → IfOk result IsRight
   right_listed deck asked (Ok outcome) told = subst IsRight (sym told.done) (deck, asked, told.written)
   right_listed deck asked (Err fault) told = tt
 
-  pub right_cobol : (deck : Text) (fixed : Bool) → AskCobol words deck fixed → (result : Result Outcome Fault)
+  pub right_cobol : (deck : Text) (fixed : Bool) → AskCobol words deck fixed → (result : Result Outcome CommandFault)
       → TellsDeck (IsDeckNamed calls input deck) (λ bytes. WritesCobol bytes fixed (contents old) (contents new)) InCobol old new result → IfOk result IsRight
   right_cobol deck fixed asked (Ok outcome) told = subst IsRight (sym told.done) (deck, fixed, asked, told.written)
   right_cobol deck fixed asked (Err fault) told = tt
 
   -- a schema was told, compared or refused
-  pub right_schema : (schema : AskForSchema words) (result : Result Outcome Fault)
+  pub right_schema : (schema : AskForSchema words) (result : Result Outcome CommandFault)
       → IfOk result (λ outcome. IsOfSchema outcome → TellsAsked input schema.file schema.deck contents old new calls outcome)
       → IfOk result (ComparesAsked input schema.file schema.deck schema.name contents old new calls)
       → IfOk result (IsSchemaDone schema.deck schema.name) → IfOk result IsRight
@@ -115,7 +115,7 @@ module _ {W : Type 0} (disk : Unseen) (words : List Text) (calls : List Call) (i
     none_else (inl (is, so)) = so
     none_else (inr (is, writes)) = writes.so
 
-    pub right_list : (checked : Bool) → AskSo checked → (result : Result Outcome Fault) → IfOk result (Lists checked) → IfOk result IsRight
+    pub right_list : (checked : Bool) → AskSo checked → (result : Result Outcome CommandFault) → IfOk result (Lists checked) → IfOk result IsRight
     right_list true asked (Ok (Records end)) is = (for_records words file key from to first conditions form true quiet asked, is)
     right_list true asked (Ok OtherSchema) is = inl (for_records words file key from to first conditions form true quiet asked, is)
     right_list true asked (Ok outcome) is = absurd (none_else is)

@@ -17,8 +17,8 @@ use Rattle.file_building.specs.declared.end.CopyEnd.{CopyEnd}
 use Rattle.file_building.specs.declared.end.CopyEnd.TheVariants as copies
 use Rattle.streams.specs.LineEnds.{has_failed_line}
 use Rattle.command_support.specs.Status.{status_of, status_by, status_of_worst, status_of_list, status_where, status_of_comparison, status_of_load, status_of_count, status_of_salvage, status_of_copy, status_for, exit_status, IsExitStatus}
-use Rattle.command_support.specs.declared.fault.Fault.{Fault}
-use Rattle.command_support.specs.declared.fault.Fault.TheVariants as faults
+use Rattle.command_support.specs.declared.fault.CommandFault.{CommandFault}
+use Rattle.command_support.specs.declared.fault.CommandFault.TheVariants as faults
 use Rattle.command_support.specs.declared.outcome.Outcome.{Outcome}
 use Rattle.command_support.specs.declared.outcome.Outcome.TheVariants as outcomes
 use Rattle.command_support.specs.declared.outcome.WorstCheck.{WorstCheck}
@@ -109,7 +109,7 @@ not_three : (n : ℕ) → IsLow n → n ≡ 3 → ⊥
 not_three n (inl few) three = omega (arith, few, three)
 not_three n (inr four) three = omega (arith, four, three)
 
-fault_is : (fault : Fault) → IsExitStatus (status_of fault)
+fault_is : (fault : CommandFault) → IsExitStatus (status_of fault)
 fault_is (faults.Deck fault) = inr (inr (inl refl))
 fault_is (faults.NotListed fault) = inr (inr (inl refl))
 fault_is faults.NoSuchFile = inr (inr (inr (inl refl)))
@@ -126,7 +126,7 @@ fault_is faults.Input = inr (inr (inr (inr refl)))
 fault_is faults.Output = inr (inr (inr (inr refl)))
 fault_is faults.Memory = inr (inr (inr (inr refl)))
 
-exit_is : (outcome : Result Outcome Fault) → IsExitStatus (exit_status outcome)
+exit_is : (outcome : Result Outcome CommandFault) → IsExitStatus (exit_status outcome)
 exit_is (Ok outcome) = low_is (status_for outcome) (low outcome)
 exit_is (Err fault) = fault_is fault
 
@@ -138,13 +138,13 @@ four_or : (fails : Bool) (n : ℕ) → IsExitStatus n → IsExitStatus (if fails
 four_or true n is = inr (inr (inr (inr refl)))
 four_or false n is = is
 
-pub heeding_is : (strict : Bool) (unclosed : ℕ) (bytes : List ℕ) (outcome : Result Outcome Fault) → IsExitStatus (status_heeding strict unclosed bytes outcome)
+pub heeding_is : (strict : Bool) (unclosed : ℕ) (bytes : List ℕ) (outcome : Result Outcome CommandFault) → IsExitStatus (status_heeding strict unclosed bytes outcome)
 heeding_is strict unclosed bytes outcome =
     one_or (strict && is_ended outcome && has_failed_line bytes) _
     (four_or (is_served outcome && nat_lt 0 unclosed) (exit_status outcome) (exit_is outcome))
 
 -- a status of 2 or 3 is that of a fault that is neither of the input, of the output, nor of memory
-by_fault : (P : Type 0) (outcome : Result Outcome Fault) → IfErr outcome (λ fault. status_of fault ≢ 4 → P) → (exit_status outcome ≡ 2) ⊎ (exit_status outcome ≡ 3) → P
+by_fault : (P : Type 0) (outcome : Result Outcome CommandFault) → IfErr outcome (λ fault. status_of fault ≢ 4 → P) → (exit_status outcome ≡ 2) ⊎ (exit_status outcome ≡ 3) → P
 by_fault P (Ok outcome) kept (inl two) = absurd (not_two (status_for outcome) (low outcome) two)
 by_fault P (Ok outcome) kept (inr three) = absurd (not_three (status_for outcome) (low outcome) three)
 by_fault P (Err fault) kept (inl two) = kept (λ four. omega (arith, two, four))
@@ -160,7 +160,7 @@ not_four true n (inl two) = absurd (omega (arith, two))
 not_four true n (inr three) = absurd (omega (arith, three))
 not_four false n either = either
 
-pub untouched_by : (P : Type 0) (strict : Bool) (unclosed : ℕ) (bytes : List ℕ) (outcome : Result Outcome Fault) → IfErr outcome (λ fault. status_of fault ≢ 4 → P) → (status : ℕ)
+pub untouched_by : (P : Type 0) (strict : Bool) (unclosed : ℕ) (bytes : List ℕ) (outcome : Result Outcome CommandFault) → IfErr outcome (λ fault. status_of fault ≢ 4 → P) → (status : ℕ)
     → status ≡ status_heeding strict unclosed bytes outcome → (status ≡ 2) ⊎ (status ≡ 3) → P
 untouched_by P strict unclosed bytes outcome kept status is either =
     let heeded : (status_heeding strict unclosed bytes outcome ≡ 2) ⊎ (status_heeding strict unclosed bytes outcome ≡ 3) = elim either [ inl two ↦ inl (sym is ∙ two) | inr three ↦ inr (sym is ∙ three) ] in

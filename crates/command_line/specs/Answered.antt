@@ -18,24 +18,24 @@ use Rattle.command_line.specs.Session.{streams_of}
 use Rattle.command_line.specs.declared.done.Done.{Done}
 use Rattle.command_line.specs.declared.done.Ran.{Ran}
 use Rattle.command_support.specs.Status.{exit_status}
-use Rattle.command_support.specs.declared.fault.Fault.{Fault}
+use Rattle.command_support.specs.declared.fault.CommandFault.{CommandFault}
 use Rattle.command_support.specs.declared.outcome.Outcome.{Outcome}
 use Rattle.command_support.specs.declared.outcome.Outcome.TheVariants.{Ended, Served}
 
 -- whether a run ended
-abbrev pub is_ended : Result Outcome Fault → Bool
+abbrev pub is_ended : Result Outcome CommandFault → Bool
 is_ended (Ok (Ended end)) = true
 is_ended outcome = false
 
 -- whether the requests of a session ended with its input
-abbrev pub is_served : Result Outcome Fault → Bool
+abbrev pub is_served : Result Outcome CommandFault → Bool
 is_served (Ok Served) = true
 is_served outcome = false
 
 -- the exit status of an outcome; but of a strict run that ended, 1 where the bytes that were written
 -- have a line that ends in 24, 30, 90, 91 or 92, and of a session that ended with its input, 4 where a
 -- close at its end failed
-abbrev pub status_heeding : (strict : Bool) → (unclosed : ℕ) → List ℕ → Result Outcome Fault → ℕ
+abbrev pub status_heeding : (strict : Bool) → (unclosed : ℕ) → List ℕ → Result Outcome CommandFault → ℕ
 status_heeding strict unclosed bytes outcome =
     if strict && is_ended outcome && has_failed_line bytes then 1
     else (if is_served outcome && nat_lt 0 unclosed then 4 else exit_status outcome)
@@ -51,13 +51,13 @@ is_strict None = false
 
 -- the words ask for a load, and this one was begun
 abbrev pub LoadedAsAsked : (words : List Text) → (input : Option (List ℕ)) → Unseen → CallsMade
-    → (before behind : Option (List ℕ)) → Result Outcome Fault → Type 0
+    → (before behind : Option (List ℕ)) → Result Outcome CommandFault → Type 0
 LoadedAsAsked words input disk made before behind outcome = (load : AskForLoad words)
     × BeginsLoadOfDeck streams_first input load.deck load.folder load.file load.text load.form
     load.encoding load.into (options_of load.lines) disk made before behind outcome
 
 -- the words ask for a copy, and this one was begun
-abbrev pub CopiedAsAsked : (words : List Text) → Unseen → CallsMade → Result Outcome Fault → Type 0
+abbrev pub CopiedAsAsked : (words : List Text) → Unseen → CallsMade → Result Outcome CommandFault → Type 0
 CopiedAsAsked words disk made outcome = (copy : AskForCopy words)
     × BeginsCopy streams_first copy.file copy.new copy.key copy.pages disk made outcome
 

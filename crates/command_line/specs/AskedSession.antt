@@ -16,13 +16,13 @@ use Rattle.command_line.specs.CallsMade.{CallsMade, BeginsNothing, folder_behind
 use Rattle.command_line.specs.Session.{shown_over, keeps_over, IsNewOver, IsLeftIn, IsExactOver, streams_of}
 use Rattle.command_line.specs.Session.{ServedOver}
 use Rattle.command_line.specs.declared.session.ServedEnd.{ServedEnd}
-use Rattle.command_support.specs.declared.fault.Fault.{Fault}
-use Rattle.command_support.specs.declared.fault.Fault.TheVariants.{Memory}
+use Rattle.command_support.specs.declared.fault.CommandFault.{CommandFault}
+use Rattle.command_support.specs.declared.fault.CommandFault.TheVariants.{Memory}
 use Rattle.command_support.specs.declared.outcome.Outcome.{Outcome}
 use Rattle.command_support.specs.declared.outcome.Outcome.TheVariants.{Served}
 
 -- how a session ended, as what was done
-abbrev pub outcome_of_end : Result Unit Fault → Result Outcome Fault
+abbrev pub outcome_of_end : Result Unit CommandFault → Result Outcome CommandFault
 outcome_of_end (Ok _) = Ok Served
 outcome_of_end (Err fault) = Err fault
 
@@ -47,7 +47,7 @@ pub record EndsRequests {S : Type 0} (shown : Shown S) (keeps_open : S → ℕ �
 -- came to this, which is what was done
 pub record BeginsSession {X : Type 0} (base : List Call) (shelf : Ghosts X) (keeps_open : X → ℕ → Bool)
     (disk : Unseen) (made : CallsMade) (folder : List ℕ) (pages frames : ℕ) (s : Streams) (unclosed : ℕ)
-    (outcome : Result Outcome Fault) : Type 0 where
+    (outcome : Result Outcome CommandFault) : Type 0 where
   pub before : made.before ≡ folder_behind folder [] base
   pub within : StaysWithin made.system
   pub session : ServedEnd
@@ -61,7 +61,7 @@ pub record BeginsSession {X : Type 0} (base : List Call) (shelf : Ghosts X) (kee
 abbrev pub ComesOfSession : {X I W : Type 0} → (old : SystemState) → (shelf : Ghosts X) → (X → ℕ → Bool)
     → Unseen → CallsMade → (folder : List ℕ) → Limits → (I → Option (List ℕ)) → (W → Option (List ℕ))
     → (input input_after : StandardInput I) → (out out_after : W) → (unclosed : ℕ)
-    → Result Outcome Fault → Type 0
+    → Result Outcome CommandFault → Type 0
 ComesOfSession old shelf keeps_open disk made folder limits left contents input input_after out out_after
     unclosed outcome =
     (BeginsNothing old made out out_after outcome × (input_after ≡ input))
@@ -71,7 +71,7 @@ ComesOfSession old shelf keeps_open disk made folder limits left contents input 
 -- the words ask for a session, and this one was begun, over the folder that they name, with their limit of
 -- pages and number of frames
 pub record ServedAsAsked {X : Type 0} (shelf : Ghosts X) (keeps_open : X → ℕ → Bool) (words : List Text)
-    (disk : Unseen) (made : CallsMade) (s : Streams) (unclosed : ℕ) (outcome : Result Outcome Fault) : Type 0 where
+    (disk : Unseen) (made : CallsMade) (s : Streams) (unclosed : ℕ) (outcome : Result Outcome CommandFault) : Type 0 where
   pub folder : Text
   pub pages : ℕ
   pub frames : ℕ

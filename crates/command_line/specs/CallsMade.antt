@@ -3,7 +3,7 @@ use Rattle.std.specs.Prelude.{◌≡◌, ◌⊎◌, ℕ, true, false, List, [], 
 use Rattle.folder_shelf.specs.Calls.{Call, asked_of_folder, streams_held}
 use Rattle.folder_shelf.specs.Reading.{ByReads}
 use Rattle.folder_shelf.specs.SystemState.{SystemState}
-use Rattle.command_support.specs.declared.fault.Fault.{Fault}
+use Rattle.command_support.specs.declared.fault.CommandFault.{CommandFault}
 use Rattle.command_support.specs.declared.outcome.Outcome.{Outcome}
 
 -- the calls that were set aside when a folder was entered, or before a file was read page after page, the
@@ -41,9 +41,9 @@ BeginsWithStreams calls reads = (calls ≡ reads ++ streams_first)
 
 -- a fault came before a folder was entered: only reads were made, and nothing was written
 pub record BeginsNothing {W : Type 0} (old : SystemState) (made : CallsMade) (out out_after : W)
-    (outcome : Result Outcome Fault) : Type 0 where
+    (outcome : Result Outcome CommandFault) : Type 0 where
   pub none_aside : made.before ≡ []
   pub reads : ByReads (λ _. ⊤) old made.system
   pub unwritten : out_after ≡ out
-  pub fault : Fault
+  pub fault : CommandFault
   pub told : outcome ≡ Err fault

@@ -23,8 +23,8 @@ use Rattle.command_words.specs.declared.request.Request.TheVariants.{Copy}
 use Rattle.command_line.specs.CallsMade.{CallsMade, folder_behind}
 use Rattle.command_line.specs.declared.copying.Copying.{Copying}
 use Rattle.command_support.specs.Status.{status_of}
-use Rattle.command_support.specs.declared.fault.Fault.{Fault}
-use Rattle.command_support.specs.declared.fault.Fault.TheVariants.{NoFileName, Input, Output, Memory}
+use Rattle.command_support.specs.declared.fault.CommandFault.{CommandFault}
+use Rattle.command_support.specs.declared.fault.CommandFault.TheVariants.{NoFileName, Input, Output, Memory}
 use Rattle.command_support.specs.declared.outcome.Outcome.{Outcome}
 use Rattle.command_support.specs.declared.outcome.Outcome.TheVariants.{Copied as CopyEnded}
 
@@ -47,11 +47,11 @@ abbrev pub EndsInName : Text → Type 0
 EndsInName path = is_file_name (last_part path) ≡ true
 
 -- it is told that a file was not read, or that memory was lacking for that
-abbrev pub IsToldUnread : Result Outcome Fault → Type 0
+abbrev pub IsToldUnread : Result Outcome CommandFault → Type 0
 IsToldUnread outcome = (outcome ≡ Err Input) ⊎ (outcome ≡ Err Memory)
 
 -- it is told what became of a copy
-abbrev pub IsToldCopy : Result Copied CopyingFault → Result Outcome Fault → Type 0
+abbrev pub IsToldCopy : Result Copied CopyingFault → Result Outcome CommandFault → Type 0
 IsToldCopy (Ok copied) outcome = outcome ≡ Ok (CopyEnded (Whole copied))
 IsToldCopy (Err NoneToCopy) outcome = IsToldUnread outcome
 IsToldCopy (Err NotAccepted) outcome = outcome ≡ Ok (CopyEnded Refused)
@@ -67,7 +67,7 @@ IsToldCopy (Err (Writing fault)) outcome = outcome ≡ Err Output
 -- path of the new file is a folder; since then the system was asked of files of that folder alone, and
 -- another one was asked to read; the file was copied so, and it is told what became of that.
 pub record BeginsCopy (base : List Call) (file new : Text) (key pages : ℕ) (disk : Unseen) (made : CallsMade)
-    (outcome : Result Outcome Fault) : Type 0 where
+    (outcome : Result Outcome CommandFault) : Type 0 where
   pub is_name : EndsInName new
   pub before : made.before ≡ folder_behind (folder_of new) [] base
   pub reading : AreReading made.beside
@@ -79,16 +79,16 @@ pub record BeginsCopy (base : List Call) (file new : Text) (key pages : ℕ) (di
 
 -- none was: the path of the new file ends in no name of a file, and nothing was asked; or its folder was not
 -- told to be one, or memory was lacking
-pub record BeginsNoCopy (old : SystemState) (new : Text) (made : CallsMade) (outcome : Result Outcome Fault)
+pub record BeginsNoCopy (old : SystemState) (new : Text) (made : CallsMade) (outcome : Result Outcome CommandFault)
     : Type 0 where
   pub none_aside : made.before ≡ []
   pub none_beside : made.beside ≡ []
   pub reads : ByReads (λ _. ⊤) old made.system
-  pub fault : Fault
+  pub fault : CommandFault
   pub told : outcome ≡ Err fault
   pub cause : (status_of fault ≡ 4) ⊎ ((fault ≡ NoFileName) × (EndsInName new → ⊥))
 
 -- one of these
-abbrev pub ComesOfCopy : (old : SystemState) → Unseen → CallsMade → Copying → Result Outcome Fault → Type 0
+abbrev pub ComesOfCopy : (old : SystemState) → Unseen → CallsMade → Copying → Result Outcome CommandFault → Type 0
 ComesOfCopy old disk made asks outcome = BeginsNoCopy old asks.new.now made outcome
     ⊎ BeginsCopy old.calls asks.file.now asks.new.now asks.key asks.limits.pages disk made outcome

@@ -16,20 +16,20 @@ use Rattle.salvaged_records.specs.Salvaged.{outputs}
 use Rattle.streams.specs.InUtf8.{in_utf_8}
 use Rattle.streams.specs.declared.backslashes.Backslashes.{Backslashes}
 use Rattle.command_support.specs.Status.{status_of}
-use Rattle.command_support.specs.declared.fault.Fault.{Fault}
-use Rattle.command_support.specs.declared.fault.Fault.TheVariants.{Form as NoForm, Output, Memory}
+use Rattle.command_support.specs.declared.fault.CommandFault.{CommandFault}
+use Rattle.command_support.specs.declared.fault.CommandFault.TheVariants.{Form as NoForm, Output, Memory}
 use Rattle.command_support.specs.declared.form_fault.FormFault.TheVariants.{Encoding as NoEncoding}
 use Rattle.command_support.specs.declared.outcome.Outcome.{Outcome}
 use Rattle.command_line.specs.Encoding.{WritesIn}
 
 -- the output or memory failed
-abbrev pub IsNoRoom : Fault → Type 0
+abbrev pub IsNoRoom : CommandFault → Type 0
 IsNoRoom fault = (fault ≡ Output) ⊎ (fault ≡ Memory)
 
 -- a text that was listed so was written in UTF-8, and this is how the list ended; or the list, the output
 -- or memory failed. Of an empty text nothing is written
-pub record HandsTextOver {W : Type 0} (backslashes : Backslashes) (text : List ℕ) (made : Result Outcome Fault)
-    (contents : W → Option (List ℕ)) (old new : W) (result : Result Outcome Fault) : Type 0 where
+pub record HandsTextOver {W : Type 0} (backslashes : Backslashes) (text : List ℕ) (made : Result Outcome CommandFault)
+    (contents : W → Option (List ℕ)) (old new : W) (result : Result Outcome CommandFault) : Type 0 where
   pub done : IfOk result (λ outcome. made ≡ Ok outcome)
   pub written : IfOk result (λ _. Appends (contents old) (contents new) (in_utf_8 backslashes text))
   pub fault : IfErr result (λ fault. (made ≡ Err fault) ⊎ IsNoRoom fault)
@@ -48,7 +48,7 @@ DoesList false disk input path bounds form before behind calls outcome =
 pub record ListsEncoded
     {W : Type 0} (checked : Bool) (disk : Unseen) (input : Option (List ℕ)) (path : List ℕ)
     (bounds : Bounds) (form : FormWords) (contents : W → Option (List ℕ)) (old new : W)
-    (result : Result Outcome Fault) (calls : List Call) : Type 0 where
+    (result : Result Outcome CommandFault) (calls : List Call) : Type 0 where
   pub records : IfOk result (λ outcome. WritesIn form.encoding.now form.kind.now (contents old) (contents new)
       (λ before behind. DoesList checked disk input path bounds form before behind calls outcome))
   pub untouched : IfErr result (λ fault. status_of fault ≢ 4 → new ≡ old)
@@ -56,7 +56,7 @@ pub record ListsEncoded
 
 -- there is no such form of a salvage, nothing came of its deck, the input, an output or memory failed, or
 -- there is no such encoding
-abbrev pub IsEncodedRefused : FormText → Fault → Type 0
+abbrev pub IsEncodedRefused : FormText → CommandFault → Type 0
 IsEncodedRefused asked fault =
     IsSalvageRefused asked fault ⊎ ((fault ≡ NoForm NoEncoding) × HasFormFault asked NoEncoding)
     ⊎ IsNoRoom fault
@@ -66,7 +66,7 @@ IsEncodedRefused asked fault =
 pub record SalvagesEncoded
     {E W : Type 0} (input : Option (List ℕ)) (path : List ℕ) (asked : FormText) (places : Bool)
     (contents_told : E → Option (List ℕ)) (told told_after : E) (contents : W → Option (List ℕ))
-    (old new : W) (result : Result Outcome Fault) (calls : List Call)
+    (old new : W) (result : Result Outcome CommandFault) (calls : List Call)
     : Type 0 where
   pub records : IfOk result (λ outcome. WritesIn asked.encoding asked.kind (contents old) (contents new)
       (λ before behind. SalvagesFileAt input path asked places

@@ -6,12 +6,12 @@ use Rattle.command_words.specs.declared.form_words.FormWords.{FormWords}
 use Rattle.file_commands.specs.ByIndex.{ListsByIndex}
 use Rattle.file_commands.specs.Records.{ListsFile}
 use Rattle.file_commands.specs.declared.listing.Bounds.{Bounds}
-use Rattle.command_support.specs.declared.fault.Fault.{Fault}
+use Rattle.command_support.specs.declared.fault.CommandFault.{CommandFault}
 use Rattle.command_support.specs.declared.outcome.Outcome.{Outcome}
 
 -- the records of a file were listed: after a check of it, or page after page
 abbrev pub ListsEitherWay : {W : Type 0} → (checked : Bool) → Unseen → (input : Option (List ℕ)) → (path : List ℕ)
-    → Bounds → FormWords → (W → Option (List ℕ)) → (old new : W) → Result Outcome Fault → List Call → Type 0
+    → Bounds → FormWords → (W → Option (List ℕ)) → (old new : W) → Result Outcome CommandFault → List Call → Type 0
 ListsEitherWay true disk input path bounds form contents old new result calls =
     ListsFile input path bounds form contents old new result calls
 ListsEitherWay false disk input path bounds form contents old new result calls =

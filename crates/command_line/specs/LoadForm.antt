@@ -8,8 +8,8 @@ use Rattle.record_text.specs.declared.form.Form.TheVariants.{Text, Csv, Json}
 use Rattle.record_text.specs.Parts.{part_of_column, item_parts}
 use Rattle.command_support.specs.DeckFile.{IsDeckFault}
 use Rattle.command_support.specs.declared.form_fault.FormFault.TheVariants.{Kind, Encoding as NoEncoding}
-use Rattle.command_support.specs.declared.fault.Fault.{Fault}
-use Rattle.command_support.specs.declared.fault.Fault.TheVariants.{Form as NoForm, LoneRejects}
+use Rattle.command_support.specs.declared.fault.CommandFault.{CommandFault}
+use Rattle.command_support.specs.declared.fault.CommandFault.TheVariants.{Form as NoForm, LoneRejects}
 use Rattle.command_line.specs.Encoding.{IsNoEncodingWord}
 use Rattle.command_line.specs.declared.load_form.FormKind.{FormKind}
 use Rattle.command_line.specs.declared.load_form.FormKind.TheVariants as kinds
@@ -36,11 +36,11 @@ IsFormOf word file (Json columns) = (word ≡ codes "json") × AreColumnsOf file
 
 -- why nothing came of a load: a word asks for no form, another one for no encoding, or it is a fault of a
 -- file of a deck
-abbrev pub IsLoadFault : (form encoding : Word) → Fault → Type 0
+abbrev pub IsLoadFault : (form encoding : Word) → CommandFault → Type 0
 IsLoadFault form encoding fault = ((fault ≡ NoForm Kind) × IsNoFormWord form)
     ⊎ ((fault ≡ NoForm NoEncoding) × IsNoEncodingWord encoding) ⊎ IsDeckFault fault
 
 -- or a file for rejected lines is asked for, and the first one ends the load
-abbrev pub IsFaultOfLoad : (form encoding : Word) → (rejects : Option Word) → (keep_going : Bool) → Fault → Type 0
+abbrev pub IsFaultOfLoad : (form encoding : Word) → (rejects : Option Word) → (keep_going : Bool) → CommandFault → Type 0
 IsFaultOfLoad form encoding rejects keep_going fault =
     IsLoadFault form encoding fault ⊎ ((fault ≡ LoneRejects) × IsSome rejects × (keep_going ≡ false))

@@ -41,8 +41,8 @@ use Rattle.command_line.specs.declared.loading.Loading.{Loading}
 use Rattle.command_support.specs.Status.{status_of}
 use Rattle.command_support.specs.declared.outcome.Outcome.{Outcome}
 use Rattle.command_support.specs.declared.outcome.Outcome.TheVariants.{Loaded as LoadEnded}
-use Rattle.command_support.specs.declared.fault.Fault.{Fault}
-use Rattle.command_support.specs.declared.fault.Fault.TheVariants.{Input, Output, Memory}
+use Rattle.command_support.specs.declared.fault.CommandFault.{CommandFault}
+use Rattle.command_support.specs.declared.fault.CommandFault.TheVariants.{Input, Output, Memory}
 
 -- into what a flag says that records are loaded
 abbrev pub load_of : Bool → Load
@@ -74,7 +74,7 @@ EndsLoadOf name schema load source old end new = (told : List ToldLine)
 -- whose files alone it was asked since: how it ended, and what it left where it came to nothing; all other names stand for what they stood for; and
 -- no crash leaves a false file
 pub record LoadsFolder (disk : Unseen) (folder name : List ℕ) (schema : Schema) (load : Load)
-    (source : LoadSource) (system : SystemState) (result : Result ShelfEnd Fault) : Type 0 where
+    (source : LoadSource) (system : SystemState) (result : Result ShelfEnd CommandFault) : Type 0 where
   pub within : StaysWithin system
   pub ends : OverFolder disk folder system (λ first last.
       IfOk result (λ end. EndsLoadOf name schema load source first end last))
@@ -84,12 +84,12 @@ pub record LoadsFolder (disk : Unseen) (folder name : List ℕ) (schema : Schema
 
 -- so of a load of a text into a file that is described
 abbrev pub LoadsDescribed : (disk : Unseen) → (path : List ℕ) → FileDesc → Load → LoadSource → SystemState
-    → Result ShelfEnd Fault → Type 0
+    → Result ShelfEnd CommandFault → Type 0
 LoadsDescribed disk path file load source system result =
     LoadsFolder disk path file.file file.schema load source system result
 
 -- why nothing was loaded
-abbrev pub IsShelfFault : Fault → Type 0
+abbrev pub IsShelfFault : CommandFault → Type 0
 IsShelfFault fault = (fault ≡ Input) ⊎ (fault ≡ Memory)
 
 -- the lines that tell of a load; nothing is told of it where the name has a file already
@@ -113,21 +113,21 @@ WritesAnswer path schema end calls before behind = (lines : List ℕ)
 
 -- the lines that tell of a load were written, and these behind them; or the output took not all of that
 abbrev pub WritesEnd : ShelfEnd → (lines : List ℕ) → (before behind : Option (List ℕ))
-    → Result Outcome Fault → Type 0
+    → Result Outcome CommandFault → Type 0
 WritesEnd end lines before behind outcome =
     ((outcome ≡ Ok (LoadEnded end)) × Appends before behind (told_of_load end ++ lines))
     ⊎ (outcome ≡ Err Output)
 
 -- memory was lacking for the lines of the differences, and nothing was written
-abbrev pub LacksMemoryFor : ShelfEnd → (before behind : Option (List ℕ)) → Result Outcome Fault → Type 0
+abbrev pub LacksMemoryFor : ShelfEnd → (before behind : Option (List ℕ)) → Result Outcome CommandFault → Type 0
 LacksMemoryFor end before behind outcome =
     (outcome ≡ Err Memory) × IsTrue (is_compared end) × (behind ≡ before)
 
 -- it was told how a load ended into the file of a path, and by the calls behind it how that differs; or
 -- the output took not all of that, or memory was lacking; or it is told why nothing was loaded, and
 -- nothing was written
-abbrev pub TellsLoad : (path : List ℕ) → Schema → Result ShelfEnd Fault → List Call
-    → (before behind : Option (List ℕ)) → Result Outcome Fault → Type 0
+abbrev pub TellsLoad : (path : List ℕ) → Schema → Result ShelfEnd CommandFault → List Call
+    → (before behind : Option (List ℕ)) → Result Outcome CommandFault → Type 0
 TellsLoad path schema (Ok end) calls before behind outcome =
     ((outcome ≡ Ok (LoadEnded end)) × WritesAnswer path schema end calls before behind)
     ⊎ (outcome ≡ Err Output) ⊎ LacksMemoryFor end before behind outcome
@@ -138,7 +138,7 @@ TellsLoad path schema (Err fault) calls before behind outcome =
 -- in the form that a word asks for, which left this system, and it was told how that ended
 pub record LoadsDeck
     (disk : Unseen) (system : SystemState) (IsTheText : List ℕ → Type 0) (bytes folder name word : List ℕ)
-    (into : Bool) (options : LoadOptions) (before behind : Option (List ℕ)) (outcome : Result Outcome Fault) : Type 0 where
+    (into : Bool) (options : LoadOptions) (before behind : Option (List ℕ)) (outcome : Result Outcome CommandFault) : Type 0 where
   pub deck : Deck
   pub is_deck : IsDeck bytes deck
   pub file : FileDesc
@@ -147,7 +147,7 @@ pub record LoadsDeck
   pub is_form : IsFormOf word file form
   pub text : List ℕ
   pub is_text : IsTheText text
-  pub end : Result ShelfEnd Fault
+  pub end : Result ShelfEnd CommandFault
   pub left : SystemState
   pub loads : LoadsFolder disk folder file.file file.schema (load_of into) (load_source form text options) left end
   pub calls : List Call
@@ -156,8 +156,8 @@ pub record LoadsDeck
 
 -- a load was begun of which this is so; or none was; a fault is one of these, and if it is none of the
 -- input, the output and memory, nothing was written
-pub record ComesOfLoad {W : Type 0} (IsBegun : Type 0) (IsSuch : Fault → Type 0) (old : SystemState)
-    (made : CallsMade) (out out_after : W) (outcome : Result Outcome Fault) : Type 0 where
+pub record ComesOfLoad {W : Type 0} (IsBegun : Type 0) (IsSuch : CommandFault → Type 0) (old : SystemState)
+    (made : CallsMade) (out out_after : W) (outcome : Result Outcome CommandFault) : Type 0 where
   pub came : BeginsNothing old made out out_after outcome ⊎ IsBegun
   pub untouched : IfErr outcome (λ fault. status_of fault ≢ 4 → out_after ≡ out)
   pub fault : IfErr outcome IsSuch
@@ -166,7 +166,7 @@ pub record ComesOfLoad {W : Type 0} (IsBegun : Type 0) (IsSuch : Fault → Type 
 -- path is a hyphen, which is in an encoding, and loaded into a file of the deck that the bytes are
 abbrev pub BeginsLoad : (base : List Call) → (input : Option (List ℕ)) → (bytes folder : List ℕ)
     → (file text form encoding : List ℕ) → (into : Bool) → LoadOptions → Unseen → CallsMade → (before behind : Option (List ℕ))
-    → Result Outcome Fault → Type 0
+    → Result Outcome CommandFault → Type 0
 BeginsLoad base input bytes folder file text form encoding into options disk made before behind outcome =
     (reads : List Call) × (made.before ≡ reads ++ base)
     × LoadsDeck disk made.system (IsTextIn encoding form (IsTextNamed reads input text)) bytes folder file form
@@ -174,7 +174,7 @@ BeginsLoad base input bytes folder file text form encoding into options disk mad
 
 abbrev pub LoadsBytes : {I W : Type 0} → (old : SystemState) → (I → Option (List ℕ)) → StandardInput I
     → Unseen → CallsMade → (bytes : List ℕ) → (path : String Global) → FormKind → Encoding → Loading
-    → (W → Option (List ℕ)) → (out out_after : W) → Result Outcome Fault → Type 0
+    → (W → Option (List ℕ)) → (out out_after : W) → Result Outcome CommandFault → Type 0
 LoadsBytes old left input disk made bytes path kind encoding asks contents out out_after outcome = ComesOfLoad
     (BeginsLoad old.calls (left input.reader) bytes (string_bytes path) asks.file.now asks.text.now
     (form_word kind) (encoding_word encoding) asks.into asks.lines disk made (contents out) (contents out_after)
@@ -185,7 +185,7 @@ LoadsBytes old left input disk made bytes path kind encoding asks contents out o
 -- was told that the folder is one
 abbrev pub BeginsLoadOfDeck : (base : List Call) → (input : Option (List ℕ)) → (deck folder : List ℕ)
     → (file text form encoding : List ℕ) → (into : Bool) → LoadOptions → Unseen → CallsMade → (before behind : Option (List ℕ))
-    → Result Outcome Fault → Type 0
+    → Result Outcome CommandFault → Type 0
 BeginsLoadOfDeck base input deck folder file text form encoding into options disk made before behind outcome =
     (bytes : List ℕ) × (reads : List Call) × IsDeckNamed reads input deck bytes
     × BeginsLoad (folder_behind folder reads base) input bytes folder file text form encoding into options disk
@@ -193,7 +193,7 @@ BeginsLoadOfDeck base input deck folder file text form encoding into options dis
 
 abbrev pub LoadsAsked : {I W : Type 0} → (old : SystemState) → (I → Option (List ℕ)) → StandardInput I
     → Unseen → CallsMade → (deck folder : List ℕ) → Loading → (W → Option (List ℕ)) → (out out_after : W)
-    → Result Outcome Fault → Type 0
+    → Result Outcome CommandFault → Type 0
 LoadsAsked old left input disk made deck folder asks contents out out_after outcome = ComesOfLoad
     (BeginsLoadOfDeck old.calls (left input.reader) deck folder asks.file.now asks.text.now asks.form.now
     asks.encoding.now asks.into asks.lines disk made (contents out) (contents out_after) outcome)

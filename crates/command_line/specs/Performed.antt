@@ -38,12 +38,12 @@ use Rattle.command_support.specs.Status.{status_of}
 use Rattle.command_support.specs.declared.form_fault.FormFault.{FormFault}
 use Rattle.command_support.specs.declared.form_fault.FormFault.TheVariants.{Kind, HalfDeck}
 use Rattle.command_support.specs.declared.form_fault.FormFault.TheVariants.{Encoding as NoEncoding}
-use Rattle.command_support.specs.declared.fault.Fault.{Fault}
-use Rattle.command_support.specs.declared.fault.Fault.TheVariants.{Deck, NotListed, NoSuchFile}
-use Rattle.command_support.specs.declared.fault.Fault.TheVariants.{Form as NoForm, Unexplained, LongValue, NoFileName}
-use Rattle.command_support.specs.declared.fault.Fault.TheVariants.{Condition as NoCondition, LoneRejects}
-use Rattle.command_support.specs.declared.fault.Fault.TheVariants.{NoSuchKey, LoneKeyName}
-use Rattle.command_support.specs.declared.fault.Fault.TheVariants.{Usage, Input, Output, Memory}
+use Rattle.command_support.specs.declared.fault.CommandFault.{CommandFault}
+use Rattle.command_support.specs.declared.fault.CommandFault.TheVariants.{Deck, NotListed, NoSuchFile}
+use Rattle.command_support.specs.declared.fault.CommandFault.TheVariants.{Form as NoForm, Unexplained, LongValue, NoFileName}
+use Rattle.command_support.specs.declared.fault.CommandFault.TheVariants.{Condition as NoCondition, LoneRejects}
+use Rattle.command_support.specs.declared.fault.CommandFault.TheVariants.{NoSuchKey, LoneKeyName}
+use Rattle.command_support.specs.declared.fault.CommandFault.TheVariants.{Usage, Input, Output, Memory}
 use Rattle.command_support.specs.declared.outcome.Outcome.{Outcome}
 use Rattle.command_support.specs.declared.outcome.Outcome.TheVariants.{Helped, Checked, Ended, Served}
 use Rattle.command_support.specs.declared.outcome.Outcome.TheVariants.{SchemaTold, SchemaCompared}
@@ -66,12 +66,12 @@ abbrev pub faults_in : Begun → ℕ
 faults_in run = failed_calls run.system.calls
 
 -- how a run ended, as what was done
-abbrev pub outcome_of : Result RunEnd Fault → Result Outcome Fault
+abbrev pub outcome_of : Result RunEnd CommandFault → Result Outcome CommandFault
 outcome_of (Ok end) = Ok (Ended end)
 outcome_of (Err fault) = Err fault
 
 -- the end of a run, or why it came to none
-abbrev pub IsRunOutcome : Result Outcome Fault → Type 0
+abbrev pub IsRunOutcome : Result Outcome CommandFault → Type 0
 IsRunOutcome (Ok (Ended end)) = ⊤
 IsRunOutcome (Ok outcome) = ⊥
 IsRunOutcome (Err fault) = IsRunFault fault
@@ -92,7 +92,7 @@ wrote contents old new = written (contents old) (contents new)
 -- the run of these bytes over the folder of this path, with this limit of pages and this number of
 -- frames, came to this
 pub record CameTo (folder : List ℕ) (limit frames : ℕ) (run : Begun) (out : Written)
-    (outcome : Result Outcome Fault) : Type 0 where
+    (outcome : Result Outcome CommandFault) : Type 0 where
   pub exact : (end : RunEnd) → outcome ≡ Ok (Ended end) → end.clean ≡ true
       → OverFolder run.disk folder run.system
       (λ first last. IsExactRun run.bytes first last out.before out.behind end)
@@ -102,13 +102,13 @@ pub record CameTo (folder : List ℕ) (limit frames : ℕ) (run : Begun) (out : 
   pub part : outcome ≡ Err Output
       → OverFolder run.disk folder run.system (λ first last. OnShelf run.bytes first last (λ deck.
       ToldInPart out.before out.behind (BreaksOff limit frames first last 0 (faults_in run) deck)))
-  pub nothing : (fault : Fault) → outcome ≡ Err fault → fault ≢ Output
+  pub nothing : (fault : CommandFault) → outcome ≡ Err fault → fault ≢ Output
       → (out.behind ≡ out.before) × OverFolder run.disk folder run.system LeavesFiles
   pub refused : (fault : DeckFault) → outcome ≡ Err (Deck fault) → IsNoDeck run.bytes fault
   pub sound : OverFolder run.disk folder run.system StaysSound
 
 -- the path was read of a folder, which it was told to be; or it was not, and nothing but that was asked
-pub record ReadsFolder (path : List ℕ) (old new : SystemState) (result : Result (String Global) Fault)
+pub record ReadsFolder (path : List ℕ) (old new : SystemState) (result : Result (String Global) CommandFault)
     : Type 0 where
   pub given : IfOk result (λ found. (string_bytes found ≡ path)
       × (new ≡ with_call (asked_of_folder path (Some true)) old))
@@ -118,7 +118,7 @@ pub record ReadsFolder (path : List ℕ) (old new : SystemState) (result : Resul
 -- the bytes of a deck were read of the path, or of the input where the path is a hyphen, and then the path
 -- of a folder; or only reads were made
 pub record ReadsInputs (input : Option (List ℕ)) (deck folder : List ℕ) (old new : SystemState)
-    (result : Result (Vec ℕ × String Global) Fault) : Type 0 where
+    (result : Result (Vec ℕ × String Global) CommandFault) : Type 0 where
   pub given : IfOk result (λ inputs. (string_bytes inputs.1 ≡ folder) × (reads : List Call)
       × IsDeckNamed reads input deck inputs.0.items × (new.calls ≡ folder_behind folder reads old.calls))
   pub reads : ByReads (λ _. ⊤) old new
@@ -129,7 +129,7 @@ pub record ReadsInputs (input : Option (List ℕ)) (deck folder : List ℕ) (old
 -- of the files of the folder that it entered, and of nothing else; and so the run came to this
 pub record BeginsRun (base : List Call) (input : Option (List ℕ)) (deck folder : Text) (limit frames : ℕ)
     (disk : Unseen) (made : CallsMade) (bytes : List ℕ) (out : Written)
-    (outcome : Result Outcome Fault) : Type 0 where
+    (outcome : Result Outcome CommandFault) : Type 0 where
   pub reads : List Call
   pub is_deck : IsDeckNamed reads input deck bytes
   pub before : made.before ≡ folder_behind folder reads base
@@ -140,7 +140,7 @@ pub record BeginsRun (base : List Call) (input : Option (List ℕ)) (deck folder
 -- a run was begun so, strict or not, which is given back; or none was
 abbrev pub ComesOfRun : {I W : Type 0} → (old : SystemState) → (I → Option (List ℕ)) → StandardInput I
     → (deck folder : List ℕ) → Limits → (strict : Bool) → Unseen → CallsMade → (W → Option (List ℕ))
-    → (out out_after : W) → Option Ran → Result Outcome Fault → Type 0
+    → (out out_after : W) → Option Ran → Result Outcome CommandFault → Type 0
 ComesOfRun old left input deck folder limits strict disk made contents out out_after None outcome =
     BeginsNothing old made out out_after outcome × IfErr outcome (λ fault. status_of fault ≡ 4)
 ComesOfRun old left input deck folder limits strict disk made contents out out_after (Some ran) outcome =
@@ -150,7 +150,7 @@ ComesOfRun old left input deck folder limits strict disk made contents out out_a
 -- the words ask for a run, strict or not as it is said, and this run was begun, over the folder that
 -- they name, with their limit of pages and number of frames
 pub record RanAsAsked (words : List Text) (input : Option (List ℕ)) (disk : Unseen) (made : CallsMade)
-    (out : Written) (strict : Bool) (outcome : Result Outcome Fault) : Type 0 where
+    (out : Written) (strict : Bool) (outcome : Result Outcome CommandFault) : Type 0 where
   pub deck : Text
   pub folder : Text
   pub pages : ℕ
@@ -255,7 +255,7 @@ AskForNoForm words fault =
 -- answered for those that ask for a
 -- session, a schema told, compared or refused for those that ask for one, and a run came to its end for those that ask for one; a fault that is told of the words is
 -- theirs. The input, the output or memory may fail for any words.
-abbrev pub Did : List Text → Result Outcome Fault → Type 0
+abbrev pub Did : List Text → Result Outcome CommandFault → Type 0
 Did words (Ok Helped) = (text : Error) × AskHelp words text
 Did words (Ok (Checked verdict)) = (file : Text) × (quiet : Bool) × AskCheck words (file ∷ []) quiet
 Did words (Ok (CheckedAll worst)) = (files : List Text) × (quiet : Bool) × AskCheck words files quiet

@@ -23,7 +23,7 @@ use Rattle.command_line.specs.CallsMade.{CallsMade, all_calls, BeginsWithStreams
 use Rattle.command_line.specs.Encoding.{WritesIn}
 use Rattle.command_line.specs.Explained.{WritesExplanation}
 use Rattle.command_line.specs.Performed.{AskForRecords, AskForSalvage, AskForSchema, words_of_list}
-use Rattle.command_support.specs.declared.fault.Fault.{Fault}
+use Rattle.command_support.specs.declared.fault.CommandFault.{CommandFault}
 use Rattle.command_support.specs.declared.outcome.Outcome.{Outcome}
 use Rattle.command_support.specs.declared.outcome.Outcome.TheVariants.{Helped, Checked, Ended, Served}
 use Rattle.command_support.specs.declared.outcome.Outcome.TheVariants.{SchemaTold, SchemaCompared}
@@ -132,7 +132,7 @@ AskToRead words = (request : Request) × IsToRead request × Ask words request
 -- no folder was entered, and none but reads were made, of which the outcome is right; and nothing was written,
 -- where the words ask for a run, a session, a load or a copy
 pub record ReadsAlone {W : Type 0} (disk : Unseen) (words : List Text) (input : Option (List ℕ))
-    (made : CallsMade) (contents : W → Option (List ℕ)) (old new : W) (outcome : Result Outcome Fault) : Type
+    (made : CallsMade) (contents : W → Option (List ℕ)) (old new : W) (outcome : Result Outcome CommandFault) : Type
     0 where
   pub reads : List Call
   pub calls : BeginsWithStreams (all_calls made) reads

@@ -21,8 +21,8 @@ use Rattle.serve.specs.declared.fault.ServeFault.TheVariants.{Memory as NoMemory
 use Rattle.command_words.specs.declared.limits.Limits.{Limits}
 use Rattle.command_line.specs.Folder.{folder_at_first, OverFolder}
 use Rattle.command_line.specs.declared.session.ServedEnd.{ServedEnd}
-use Rattle.command_support.specs.declared.fault.Fault.{Fault}
-use Rattle.command_support.specs.declared.fault.Fault.TheVariants.{Input, Output, Memory}
+use Rattle.command_support.specs.declared.fault.CommandFault.{CommandFault}
+use Rattle.command_support.specs.declared.fault.CommandFault.TheVariants.{Input, Output, Memory}
 
 -- a library, by what its shelf shows
 abbrev pub library_state : {X : Type 0} → (shelf : Ghosts X) → ShelfLibrary X shelf → LibraryState
@@ -46,12 +46,12 @@ streams_of left contents input input_after out out_after =
     streams (source_of left input) (source_of left input_after) (contents out) (contents out_after)
 
 -- how the program tells why a session ended
-abbrev pub session_told_as : ServeFault → Fault
+abbrev pub session_told_as : ServeFault → CommandFault
 session_told_as NotRead = Input
 session_told_as NotWritten = Output
 session_told_as NoMemory = Memory
 
-abbrev pub session_end_as : Result Unit ServeFault → Result Unit Fault
+abbrev pub session_end_as : Result Unit ServeFault → Result Unit CommandFault
 session_end_as (Ok _) = Ok tt
 session_end_as (Err fault) = Err (session_told_as fault)
 

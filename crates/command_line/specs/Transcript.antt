@@ -11,8 +11,8 @@ use Rattle.deck_runner.specs.declared.run_end.RunEnd.{RunEnd}
 use Rattle.shelf_run.specs.ShelfRun.{OnShelf, Runs, BreaksOff, LeavesFiles}
 use Rattle.command_words.specs.declared.limits.Limits.{Limits}
 use Rattle.command_line.specs.Folder.{OverFolder}
-use Rattle.command_support.specs.declared.fault.Fault.{Fault}
-use Rattle.command_support.specs.declared.fault.Fault.TheVariants.{Deck, Output, Memory}
+use Rattle.command_support.specs.declared.fault.CommandFault.{CommandFault}
+use Rattle.command_support.specs.declared.fault.CommandFault.TheVariants.{Deck, Output, Memory}
 
 -- the transcript of the deck was written, up to this end
 abbrev pub TellsRun : {W : Type 0} → Unseen → (path : List ℕ) → SystemState → (bytes : List ℕ)
@@ -23,7 +23,7 @@ TellsRun disk path system bytes limits contents old new end = OverFolder disk pa
 
 -- where the writer refused a line, lines of it were written, up to that one
 abbrev pub TellsPart : {W : Type 0} → Unseen → (path : List ℕ) → SystemState → (bytes : List ℕ)
-    → Limits → (W → Option (List ℕ)) → (old new : W) → Fault → Type 0
+    → Limits → (W → Option (List ℕ)) → (old new : W) → CommandFault → Type 0
 TellsPart disk path system bytes limits contents old new fault =
     fault ≡ Output → OverFolder disk path system (λ first last.
     OnShelf bytes first last (λ deck. ToldInPart (contents old) (contents new) (BreaksOff limits.pages
@@ -31,16 +31,16 @@ TellsPart disk path system bytes limits contents old new fault =
 
 -- at any other fault nothing was written, and no file was changed
 abbrev pub LeavesAll : {W : Type 0} → Unseen → (path : List ℕ) → SystemState → (old new : W)
-    → Fault → Type 0
+    → CommandFault → Type 0
 LeavesAll disk path system old new fault =
     fault ≢ Output → (new ≡ old) × OverFolder disk path system LeavesFiles
 
 -- a deck that is refused is none, for this fault
-abbrev pub TellsNoDeck : (bytes : List ℕ) → Fault → Type 0
+abbrev pub TellsNoDeck : (bytes : List ℕ) → CommandFault → Type 0
 TellsNoDeck bytes fault = (told : DeckFault) → fault ≡ Deck told → IsNoDeck bytes told
 
 -- why a run came to no end
-abbrev pub IsRunFault : Fault → Type 0
+abbrev pub IsRunFault : CommandFault → Type 0
 IsRunFault (Deck fault) = ⊤
 IsRunFault Output = ⊤
 IsRunFault Memory = ⊤

@@ -6,11 +6,11 @@ ghost use Rattle.command_line.specs.CallsMade.{calls_beside};
 ghost use Rattle.command_line.specs.Copied.{ComesOfCopy, IsToldCopy, is_copy};
 
 use crate::performing::folder_at;
-use command_support::{Fault, Outcome};
+use command_support::{CommandFault, Outcome};
 use command_words::{Limits, Request};
 use file_building::{Copied, CopyEnd, CopyingFault, copy_path, place_of};
 use folder_shelf::{CallRecord, Disk, System};
-use io_state::Fault as FileFault;
+use io_state::Fault;
 use std::alloc::Global;
 use std::io::ErrorKind;
 use system_files::Cause;
@@ -47,17 +47,21 @@ pub fn copy_asked<'a>(request: &Request<'a>) -> Option<Copying<'a>>
 }
 
 /// Why the file was not read, as the system tells it of the last that it did not read.
-fn not_read<S: System>(reader: &S) -> Fault
-    ensures { (result ≡ Fault.Input) ⊎ (result ≡ Fault.Memory) }
+fn not_read<S: System>(reader: &S) -> CommandFault
+    ensures { (result ≡ CommandFault.Input) ⊎ (result ≡ CommandFault.Memory) }
 {
     match reader.unread().last() {
-        Some(unread) if unread.cause == Cause::Other(ErrorKind::OutOfMemory) => Fault::Memory,
-        _ => Fault::Input,
+        Some(unread) if unread.cause == Cause::Other(ErrorKind::OutOfMemory) =>
+            CommandFault::Memory,
+        _ => CommandFault::Input,
     }
 }
 
 /// What became of a copy, as the program tells it.
-fn told<S: System>(reader: &S, copied: Result<Copied, CopyingFault>) -> Result<Outcome, Fault>
+fn told<S: System>(
+    reader: &S,
+    copied: Result<Copied, CopyingFault>,
+) -> Result<Outcome, CommandFault>
     ensures { IsToldCopy copied result }
 {
     match copied {
@@ -72,25 +76,23 @@ fn told<S: System>(reader: &S, copied: Result<Copied, CopyingFault>) -> Result<O
 }
 
 /// What is told where the file was not read.
-fn told_reading<S: System>(reader: &S, fault: FileFault) -> Result<Outcome, Fault>
+fn told_reading<S: System>(reader: &S, fault: Fault) -> Result<Outcome, CommandFault>
     ensures { IsToldCopy (Err (Reading fault)) result }
 {
     match fault {
-        FileFault::Damage => Ok(Outcome::Copied(CopyEnd::Damaged)),
-        FileFault::Device | FileFault::Memory | FileFault::Full | FileFault::Broken => {
-            Err(not_read(reader))
-        }
+        Fault::Damage => Ok(Outcome::Copied(CopyEnd::Damaged)),
+        Fault::Device | Fault::Memory | Fault::Full | Fault::Broken => { Err(not_read(reader)) }
     }
 }
 
 /// What is told where the new file was not written.
-fn told_writing(fault: FileFault) -> Result<Outcome, Fault>
+fn told_writing(fault: Fault) -> Result<Outcome, CommandFault>
     ensures { IsToldCopy (Err (Writing fault)) result }
 {
     match fault {
-        FileFault::Full => Ok(Outcome::Copied(CopyEnd::Full)),
-        FileFault::Memory => Err(Fault::Memory),
-        FileFault::Device | FileFault::Damage | FileFault::Broken => Err(Fault::Output),
+        Fault::Full => Ok(Outcome::Copied(CopyEnd::Full)),
+        Fault::Memory => Err(CommandFault::Memory),
+        Fault::Device | Fault::Damage | Fault::Broken => Err(CommandFault::Output),
     }
 }
 
@@ -104,14 +106,14 @@ pub fn copy<S: System + Drop, D: Disk>(
     aside: &mut CallRecord,
     alloc: Global,
     asked: Copying<'_>,
-) -> (S, S, Result<Outcome, Fault>)
+) -> (S, S, Result<Outcome, CommandFault>)
     requires none_aside { aside.old.calls ≡ [] }
     requires unread { (S.state reader).calls ≡ [] }
     ensures { ComesOfCopy (S.state system) D.Disk.unseen
         (calls_beside aside.new.calls (S.state result.0) (S.state result.1).calls) asked.entry result.2 }
 {
     let Some(place) = place_of(asked.new) else {
-        return (system, reader, Err(Fault::NoFileName));
+        return (system, reader, Err(CommandFault::NoFileName));
     };
     let mut system = system;
     let folder = match folder_at(&mut system, alloc, place.folder) {
@@ -119,7 +121,7 @@ pub fn copy<S: System + Drop, D: Disk>(
         Err(fault) => return (system, reader, Err(fault)),
     };
     let Ok(file) = asked.file.to_string(alloc) else {
-        return (system, reader, Err(Fault::Memory));
+        return (system, reader, Err(CommandFault::Memory));
     };
     system.exchange_record(aside);
     let limits = asked.limits;

@@ -1,7 +1,7 @@
 //! What the program came to.
 ghost use Rattle.std.specs.Prelude.{◌≡◌, None};
 
-use command_support::{Fault, Outcome};
+use command_support::{CommandFault, Outcome};
 
 /// A run that was begun: the bytes of its deck, and whether it is strict.
 #[derive(Drop)]
@@ -14,7 +14,7 @@ pub struct Ran {
 /// of a session failed.
 #[derive(Drop)]
 pub struct Done {
-    pub outcome: Result<Outcome, Fault>,
+    pub outcome: Result<Outcome, CommandFault>,
     pub ran: Option<Ran>,
     pub unclosed: usize,
 }
@@ -22,7 +22,7 @@ pub struct Done {
 impl Done {
     /// What was done for words that ask for no run and no session, or why a run or a session was not
     /// begun.
-    pub fn without_run(outcome: Result<Outcome, Fault>) -> Done
+    pub fn without_run(outcome: Result<Outcome, CommandFault>) -> Done
         ensures { result ≡ record { outcome = outcome; ran = None; unclosed = 0 } }
     {
         Done {

@@ -11,7 +11,7 @@ ghost use Rattle.std.specs.Prelude.{codes};
 
 use crate::encoding::{Encoding, backslashes_of, encoding_of};
 use crate::handing_over::hand_over;
-use command_support::{Fault, FormFault, Outcome};
+use command_support::{CommandFault, FormFault, Outcome};
 use command_words::FormWords;
 use file_commands::{Bounds, list_checked, list_records, salvage_path};
 use folder_shelf::{CallRecord, Disk, System};
@@ -32,7 +32,7 @@ fn list<S: System + Drop, D: Disk, I: Read, P: Progress, W: Write>(
     input: &mut StandardInput<I>,
     progress: &mut P,
     out: &mut W,
-) -> (S, Result<Outcome, Fault>)
+) -> (S, Result<Outcome, CommandFault>)
     requires none_aside { aside.old.calls ≡ [] }
     ensures so { ByReadsAside (ListsEitherWay checked D.Disk.unseen (I.remaining input.old.reader) file.now
         bounds.entry form.entry W.contents out.old out.new result.1)
@@ -61,7 +61,7 @@ fn list_in_utf_8<S: System + Drop, D: Disk, I: Read, P: Progress, W: Write>(
     input: &mut StandardInput<I>,
     progress: &mut P,
     out: &mut W,
-) -> (S, Result<Outcome, Fault>)
+) -> (S, Result<Outcome, CommandFault>)
     requires none_aside { aside.old.calls ≡ [] }
     requires encoding { form.encoding.now ≡ codes "utf-8" }
     ensures { ByReadsAside (ListsEncoded checked D.Disk.unseen (I.remaining input.old.reader) file.now
@@ -94,7 +94,7 @@ pub fn list_encoded<S: System + Drop, D: Disk, I: Read, P: Progress, W: Write>(
     input: &mut StandardInput<I>,
     progress: &mut P,
     out: &mut W,
-) -> (S, Result<Outcome, Fault>)
+) -> (S, Result<Outcome, CommandFault>)
     requires none_aside { aside.old.calls ≡ [] }
     ensures so { ByReadsAside (ListsEncoded checked D.Disk.unseen (I.remaining input.old.reader) file.now
         bounds.entry form.entry W.contents out.old out.new result.1)
@@ -102,7 +102,7 @@ pub fn list_encoded<S: System + Drop, D: Disk, I: Read, P: Progress, W: Write>(
     ensures untouched { IfErr result.1 (λ fault. status_of fault ≢ 4 → out.new ≡ out.old) }
 {
     match encoding_of(form.encoding) {
-        None => (system, Err(Fault::Form(FormFault::Encoding))),
+        None => (system, Err(CommandFault::Form(FormFault::Encoding))),
         Some(Encoding::Ascii) => list::<S, D, I, P, W>(
             system, aside, alloc, file, bounds, form, checked, input, progress, out,
         ),
@@ -123,7 +123,7 @@ fn salvage_in_utf_8<S: System, I: Read, E: Write, W: Write>(
     input: &mut I,
     doubts: &mut E,
     out: &mut W,
-) -> Result<Outcome, Fault>
+) -> Result<Outcome, CommandFault>
     requires encoding { form.encoding.now ≡ codes "utf-8" }
     ensures { ByReads (SalvagesEncoded (I.remaining input.old) file.now (form_text form.entry) places
         E.contents doubts.old doubts.new W.contents out.old out.new result)
@@ -151,13 +151,13 @@ pub fn salvage_encoded<S: System, I: Read, E: Write, W: Write>(
     input: &mut I,
     doubts: &mut E,
     out: &mut W,
-) -> Result<Outcome, Fault>
+) -> Result<Outcome, CommandFault>
     ensures { ByReads (SalvagesEncoded (I.remaining input.old) file.now (form_text form.entry) places
         E.contents doubts.old doubts.new W.contents out.old out.new result)
         (S.state system.old) (S.state system.new) }
 {
     match encoding_of(form.encoding) {
-        None => Err(Fault::Form(FormFault::Encoding)),
+        None => Err(CommandFault::Form(FormFault::Encoding)),
         Some(Encoding::Ascii) => {
             salvage_path(system, alloc, file, form, places, input, doubts, out)
         }

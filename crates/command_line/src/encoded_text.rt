@@ -6,7 +6,7 @@ ghost use Rattle.command_line.specs.LoadForm.{form_word};
 
 use crate::encoding::Encoding;
 use crate::load_form::FormKind;
-use command_support::{Fault, read_text};
+use command_support::{CommandFault, read_text};
 use folder_shelf::System;
 use std::alloc::Global;
 use std::io::Read;
@@ -38,7 +38,7 @@ pub fn read_encoded<S: System, I: Read>(
     form: FormKind,
     path: &str,
     input: &mut I,
-) -> Result<LoadText, Fault>
+) -> Result<LoadText, CommandFault>
     ensures { ByReads (λ calls. GivesSuch (λ text. IsTextIn (encoding_word encoding) (form_word form)
         (IsTextNamed calls (I.remaining input.old) path.now) text.list.items) result)
         (S.state system.old) (S.state system.new) }
@@ -54,7 +54,7 @@ pub fn read_encoded<S: System, I: Read>(
         }),
         Encoding::Utf8 => match in_ascii(alloc, backslashes_by(form), text.as_slice()) {
             Ok(list) => Ok(LoadText { list, given: text }),
-            Err(_) => Err(Fault::Memory),
+            Err(_) => Err(CommandFault::Memory),
         },
     }
 }

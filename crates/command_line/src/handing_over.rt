@@ -4,19 +4,19 @@ ghost use Rattle.std.specs.Io.KnownBytes.{Appends};
 ghost use Rattle.streams.specs.InUtf8.{in_utf_8};
 ghost use Rattle.command_line.specs.Encoded.{HandsTextOver, IsNoRoom};
 
-use command_support::{Fault, Outcome};
+use command_support::{CommandFault, Outcome};
 use std::alloc::Global;
 use std::io::Write;
 use streams::{Backslashes, in_utf_8};
 
 /// What was done where a text was listed into memory, which alone may have failed then.
-fn of_memory(made: Result<Outcome, Fault>) -> Result<Outcome, Fault>
+fn of_memory(made: Result<Outcome, CommandFault>) -> Result<Outcome, CommandFault>
     ensures done { IfOk result (λ outcome. made ≡ Ok outcome) }
     ensures fault { IfErr result (λ fault. (made ≡ Err fault) ⊎ IsNoRoom fault) }
 {
     match made {
         Ok(outcome) => Ok(outcome),
-        Err(Fault::Output) => Err(Fault::Memory),
+        Err(CommandFault::Output) => Err(CommandFault::Memory),
         Err(fault) => Err(fault),
     }
 }
@@ -27,18 +27,18 @@ fn write_in_utf_8<W: Write>(
     backslashes: Backslashes,
     text: &[u8],
     out: &mut W,
-) -> Result<(), Fault>
+) -> Result<(), CommandFault>
     ensures written { OnOk result (Appends (W.contents out.old) (W.contents out.new)
         (in_utf_8 backslashes text.now)) }
     ensures fault { IfErr result IsNoRoom }
 {
     let encoded = match in_utf_8(alloc, backslashes, text) {
         Ok(encoded) => encoded,
-        Err(_) => return Err(Fault::Memory),
+        Err(_) => return Err(CommandFault::Memory),
     };
     match out.write_all(encoded.as_slice()) {
         Ok(()) => Ok(()),
-        Err(_) => Err(Fault::Output),
+        Err(_) => Err(CommandFault::Output),
     }
 }
 
@@ -48,9 +48,9 @@ pub fn hand_over<W: Write>(
     alloc: Global,
     backslashes: Backslashes,
     text: &[u8],
-    made: Result<Outcome, Fault>,
+    made: Result<Outcome, CommandFault>,
     out: &mut W,
-) -> Result<Outcome, Fault>
+) -> Result<Outcome, CommandFault>
     ensures { HandsTextOver backslashes text.now made W.contents out.old out.new result }
 {
     if text.is_empty() {

@@ -5,7 +5,7 @@ ghost use Rattle.record_text.specs.Lines.{form_header};
 ghost use Rattle.record_loading.specs.Kept.{All, IsAllKept};
 ghost use Rattle.command_support.specs.Status.{status_of};
 
-use command_support::{Fault, Outcome};
+use command_support::{CommandFault, Outcome};
 use record_loading::{KeepsLines, LoadOptions};
 use record_text::{Form, append_header};
 use std::alloc::Global;
@@ -27,7 +27,7 @@ pub fn keep_rejects<R: KeepsLines>(
     path: Option<&str>,
     form: &Form,
     rejects: &mut R,
-) -> Result<(), Fault>
+) -> Result<(), CommandFault>
     ensures kept { OnOk result (IfSome path.entry (λ _. R.kept rejects.new ≡ All (form_header form.now))) }
     ensures fault { IfErr result (λ fault. status_of fault ≡ 4) }
 {
@@ -36,27 +36,27 @@ pub fn keep_rejects<R: KeepsLines>(
     };
     let mut header = Vec::new(alloc);
     if append_header(&mut header, form).is_err() {
-        return Err(Fault::Memory);
+        return Err(CommandFault::Memory);
     }
     if rejects.keep_in(path, header.as_slice()) {
         Ok(())
     } else {
-        Err(Fault::Output)
+        Err(CommandFault::Output)
     }
 }
 
 /// What is told of a load: where the file for rejected lines did not take all of them, the output failed.
 pub fn told_if_kept<R: KeepsLines>(
     rejects: &mut R,
-    told: Result<Outcome, Fault>,
-) -> Result<Outcome, Fault>
-    ensures told { (result ≡ told) ⊎ (result ≡ Err Fault.Output) }
+    told: Result<Outcome, CommandFault>,
+) -> Result<Outcome, CommandFault>
+    ensures told { (result ≡ told) ⊎ (result ≡ Err CommandFault.Output) }
     ensures kept { (R.kept rejects.new ≡ R.kept rejects.old) × IsAllKept (R.kept rejects.old)
-        ⊎ (result ≡ Err Fault.Output) }
+        ⊎ (result ≡ Err CommandFault.Output) }
 {
     if rejects.finish() {
         told
     } else {
-        Err(Fault::Output)
+        Err(CommandFault::Output)
     }
 }

@@ -2,7 +2,7 @@
 ghost use Rattle.std.specs.Prelude.{◌≡◌, codes, IfOk, IfErr, IfSome, None};
 ghost use Rattle.command_line.specs.LoadForm.{form_word, IsNoFormWord, IsFormOf, AreColumnsOf};
 
-use command_support::Fault;
+use command_support::CommandFault;
 use file_control::FileDesc;
 use record_text::{Column, Form, item_columns};
 use std::alloc::Global;
@@ -33,20 +33,20 @@ pub fn kind_of(word: &str) -> Option<FormKind>
 }
 
 /// The columns of a file: the elementary items of its record.
-fn columns_of(alloc: Global, file: &FileDesc) -> Result<Vec<Column>, Fault>
+fn columns_of(alloc: Global, file: &FileDesc) -> Result<Vec<Column>, CommandFault>
     ensures columns { IfOk result (λ columns. AreColumnsOf file.now columns.items) }
-    ensures fault { IfErr result (λ fault. fault ≡ Fault.Memory) }
+    ensures fault { IfErr result (λ fault. fault ≡ CommandFault.Memory) }
 {
     match item_columns(alloc, &file.layout) {
         Ok(columns) => Ok(columns),
-        Err(_) => Err(Fault::Memory),
+        Err(_) => Err(CommandFault::Memory),
     }
 }
 
 /// The form, with the columns of a file.
-pub fn form_of(alloc: Global, kind: FormKind, file: &FileDesc) -> Result<Form, Fault>
+pub fn form_of(alloc: Global, kind: FormKind, file: &FileDesc) -> Result<Form, CommandFault>
     ensures form { IfOk result (IsFormOf (form_word kind) file.now) }
-    ensures fault { IfErr result (λ fault. fault ≡ Fault.Memory) }
+    ensures fault { IfErr result (λ fault. fault ≡ CommandFault.Memory) }
 {
     match kind {
         FormKind::Text => Ok(Form::Text),

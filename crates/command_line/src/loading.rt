@@ -10,7 +10,7 @@ use crate::foreign_lines::ForeignLog;
 use crate::kept_rejects::{keep_rejects, told_if_kept};
 use crate::load_form::{FormKind, form_of};
 use crate::told_load::{room_and_path, tell_end};
-use command_support::{Fault, Outcome, deck_of, file_named};
+use command_support::{CommandFault, Outcome, deck_of, file_named};
 use command_words::{Limits, LineOptions};
 use file_control::FileDesc;
 use folder_shelf::{CallRecord, Disk, FolderShelf, System};
@@ -68,12 +68,12 @@ pub fn options_of(lines: LineOptions) -> LoadOptions
 }
 
 /// Why nothing was loaded, as the program tells it.
-fn told_fault(fault: ShelfFault) -> Fault
+fn told_fault(fault: ShelfFault) -> CommandFault
     ensures { IsShelfFault result }
 {
     match fault {
-        ShelfFault::Input => Fault::Input,
-        ShelfFault::Memory => Fault::Memory,
+        ShelfFault::Input => CommandFault::Input,
+        ShelfFault::Memory => CommandFault::Memory,
     }
 }
 
@@ -91,7 +91,7 @@ fn load_over_folder<S: System + Drop, D: Disk, R: KeepsLines, P: Progress>(
     limits: Limits,
     rejects: &mut R,
     progress: &mut P,
-) -> (S, Result<ShelfEnd, Fault>)
+) -> (S, Result<ShelfEnd, CommandFault>)
     requires unasked { (S.state system).calls ≡ [] }
     requires whole { IsWholeForm form.now file.now.schema.greatest }
     ensures loads { LoadsDescribed D.Disk.unseen (string_bytes folder) file.now load
@@ -147,7 +147,7 @@ pub fn load_deck<
     progress: &mut P,
     doubts: &mut E,
     out: &mut W,
-) -> (S, Result<Outcome, Fault>)
+) -> (S, Result<Outcome, CommandFault>)
     requires none_aside { aside.old.calls ≡ [] }
     ensures { LoadsBytes (S.state system) I.remaining input.old D.Disk.unseen
         (calls_made aside.new.calls (S.state result.0)) bytes.now folder kind encoding asked.entry
@@ -159,7 +159,7 @@ pub fn load_deck<
         Err(fault) => return (system, Err(fault)),
     };
     let Some(file) = file_named(deck.files.as_slice(), asked.file) else {
-        return (system, Err(Fault::NoSuchFile));
+        return (system, Err(CommandFault::NoSuchFile));
     };
     // This brings that the columns are the whole of a record.
     items_are_whole();

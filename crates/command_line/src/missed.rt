@@ -1,6 +1,6 @@
 //! What could not be read or written, and why: the second line of `cobix: input` and `cobix: output`.
 
-use command_support::{Fault, Outcome};
+use command_support::{CommandFault, Outcome};
 use folder_shelf::{System, Unread};
 use std::io::{self, ErrorKind, Write};
 use streams::StandardOutput;
@@ -15,10 +15,10 @@ pub enum Missed {
 }
 
 /// Whether the input or the output is what failed.
-pub fn missed_stream(outcome: &Result<Outcome, Fault>) -> Missed {
+pub fn missed_stream(outcome: &Result<Outcome, CommandFault>) -> Missed {
     match outcome {
-        Err(Fault::Input) => Missed::Input,
-        Err(Fault::Output) => Missed::Output,
+        Err(CommandFault::Input) => Missed::Input,
+        Err(CommandFault::Output) => Missed::Output,
         _ => Missed::Nothing,
     }
 }

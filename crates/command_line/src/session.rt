@@ -5,7 +5,7 @@ ghost use Rattle.folder_shelf.specs.Within.{StaysWithin};
 ghost use Rattle.command_support.specs.Status.{status_of};
 ghost use Rattle.command_line.specs.Session.{ServedAt, session_told_as, session_end_as};
 
-use command_support::Fault;
+use command_support::CommandFault;
 use command_words::Limits;
 use folder_shelf::{Disk, FolderShelf, System};
 use page_store::{GrowingShelf, Shelf};
@@ -20,23 +20,23 @@ use streams::{ReadsAhead, StandardInput};
 /// closed with another status than 00.
 #[derive(Drop)]
 pub struct ServedEnd {
-    pub requests: Result<(), Fault>,
+    pub requests: Result<(), CommandFault>,
     pub unclosed: usize,
 }
 
 /// Why a session ended, as the program tells it.
-fn program_fault(fault: ServeFault) -> Fault
+fn program_fault(fault: ServeFault) -> CommandFault
     ensures { result ≡ session_told_as fault }
 {
     match fault {
-        ServeFault::Input => Fault::Input,
-        ServeFault::Output => Fault::Output,
-        ServeFault::Memory => Fault::Memory,
+        ServeFault::Input => CommandFault::Input,
+        ServeFault::Output => CommandFault::Output,
+        ServeFault::Memory => CommandFault::Memory,
     }
 }
 
 /// How the requests ended, as the program tells it.
-fn ended(requests: Result<(), ServeFault>) -> Result<(), Fault>
+fn ended(requests: Result<(), ServeFault>) -> Result<(), CommandFault>
     ensures told { result ≡ session_end_as requests }
     ensures fault { IfErr result (λ fault. status_of fault ≡ 4) }
 {
@@ -62,7 +62,7 @@ pub fn serve_folder<S: System + Drop, D: Disk, I: Read + ReadsAhead, W: Write>(
     ensures served { ServedAt ⟦<FolderShelf<S, D> as Shelf>⟧
         (⟦<FolderShelf<S, D> as GrowingShelf>⟧).keeps_open D.Disk.unseen (string_bytes folder) limits
         I.remaining W.contents input.old input.new out.old out.new (S.state result.0) result.1 }
-    ensures memory { result.1.requests ≡ Err Fault.Memory → (input.new ≡ input.old) × (out.new ≡ out.old)
+    ensures memory { result.1.requests ≡ Err CommandFault.Memory → (input.new ≡ input.old) × (out.new ≡ out.old)
         × ((S.state result.0).calls ≡ entered (string_bytes folder) ∷ []) }
     ensures fault { IfErr result.1.requests (λ fault. status_of fault ≡ 4) }
     ensures within { StaysWithin (S.state result.0) }

@@ -4,7 +4,7 @@ ghost use Rattle.folder_shelf.specs.Reading.{ByReads};
 ghost use Rattle.folder_shelf.specs.SystemState.{file_path};
 ghost use Rattle.command_line.specs.Loaded.{TellsLoad, WritesEnd};
 
-use command_support::{Fault, Outcome};
+use command_support::{CommandFault, Outcome};
 use file_commands::{differences_at, path_in};
 use file_control::FileDesc;
 use folder_shelf::System;
@@ -25,21 +25,21 @@ fn write_answer<W: Write>(
     end: &ShelfEnd,
     differences: &[u8],
     out: &mut W,
-) -> Result<Outcome, Fault>
+) -> Result<Outcome, CommandFault>
     requires { room.items ≡ [] }
     ensures { WritesEnd end.now differences.now (W.contents out.old) (W.contents out.new) result }
 {
     let mut answer = room;
     if let ShelfEnd::Loaded(loaded) = end {
         if add_answer(&mut answer, *loaded).is_err() {
-            return Err(Fault::Output);
+            return Err(CommandFault::Output);
         }
         if out.write_all(&answer).is_err() {
-            return Err(Fault::Output);
+            return Err(CommandFault::Output);
         }
     }
     if out.write_all(differences).is_err() {
-        return Err(Fault::Output);
+        return Err(CommandFault::Output);
     }
     Ok(Outcome::Loaded(*end))
 }
@@ -55,7 +55,7 @@ pub fn tell_end<S: System, W: Write>(
     room: Vec<u8>,
     end: &ShelfEnd,
     out: &mut W,
-) -> Result<Outcome, Fault>
+) -> Result<Outcome, CommandFault>
     requires { room.items ≡ [] }
     ensures { ByReads (λ calls. TellsLoad path.now schema.now (Ok end.now) calls
         (W.contents out.old) (W.contents out.new) result) (S.state system.old) (S.state system.new) }
@@ -74,14 +74,14 @@ pub fn room_and_path(
     alloc: Global,
     folder: &str,
     file: &FileDesc,
-) -> Result<(Vec<u8>, String), Fault>
+) -> Result<(Vec<u8>, String), CommandFault>
     ensures room { IfOk result (λ had. had.0.items ≡ []) }
     ensures path { IfOk result (λ had. string_bytes had.1 ≡ file_path folder.now file.now.file) }
-    ensures fault { IfErr result (λ fault. fault ≡ Fault.Memory) }
+    ensures fault { IfErr result (λ fault. fault ≡ CommandFault.Memory) }
 {
     let room = match Vec::with_capacity(alloc, MOST_BYTES) {
         Ok(room) => room,
-        Err(_) => return Err(Fault::Memory),
+        Err(_) => return Err(CommandFault::Memory),
     };
     match path_in(alloc, folder, &file.file) {
         Ok(path) => Ok((room, path)),

@@ -9,8 +9,8 @@ use Rattle.folder_shelf.specs.Calls.{Call}
 use Rattle.command_support.specs.declared.form_fault.FormFault.{FormFault}
 use Rattle.command_support.specs.declared.form_fault.FormFault.TheVariants.{HalfDeck}
 use Rattle.command_support.specs.declared.condition_fault.ConditionFault.TheVariants.{NoSign, NoDeck, NoItem, LongValue as LongItem}
-use Rattle.command_support.specs.declared.fault.Fault.{Fault}
-use Rattle.command_support.specs.declared.fault.Fault.TheVariants.{NoSuchKey, LoneKeyName, Form as NoForm, Condition as NoCondition, Memory}
+use Rattle.command_support.specs.declared.fault.CommandFault.{CommandFault}
+use Rattle.command_support.specs.declared.fault.CommandFault.TheVariants.{NoSuchKey, LoneKeyName, Form as NoForm, Condition as NoCondition, Memory}
 use Rattle.command_support.specs.AskedKey.{IsKeyNumber, IsNoKeyNumber, IsKeyIn, IsKeyMissing, WantsDeck}
 use Rattle.command_support.specs.AskedForm.{ListWords, IsWrittenAs, IsFormOfFile, IsAskedFormRefused, IsRefusedWhere, ComesOfAskedForm, ComesOfFormAlone, GivesFormOfFile, TellsDeckWanted}
 use Rattle.command_support.specs.Conditions.{AreConditionsBy, AreWordsRefused, HaveConditionFault}
@@ -42,7 +42,7 @@ not_no_deck layout (word ∷ words) (inr h) = not_no_deck layout words h
 
 module _ (asked : ListWords) where
   -- the deck is refused, has no such file, or was not read; or a condition is refused
-  refused_of : IsDeckAsked asked.form.deck asked.form.name → (fault : Fault) → (layout : List Placed) → AreWordsRefused layout asked.conditions fault → IsAskedFormRefused asked fault
+  refused_of : IsDeckAsked asked.form.deck asked.form.name → (fault : CommandFault) → (layout : List Placed) → AreWordsRefused layout asked.conditions fault → IsAskedFormRefused asked fault
   refused_of both (NoCondition NoSign) layout h = inr (inl (both, (layout, h)))
   refused_of both (NoCondition NoDeck) layout h = absurd (not_no_deck layout asked.conditions h)
   refused_of both (NoCondition NoItem) layout h = inr (inl (both, (layout, h)))
@@ -51,18 +51,18 @@ module _ (asked : ListWords) where
   refused_of both fault layout h = absurd h
 
   -- or the file has no such key
-  no_key_of : IsDeckAsked asked.form.deck asked.form.name → (fault : Fault) → (file : FileDesc) → IsKeyMissing file asked.key fault → IsAskedFormRefused asked fault
+  no_key_of : IsDeckAsked asked.form.deck asked.form.name → (fault : CommandFault) → (file : FileDesc) → IsKeyMissing file asked.key fault → IsAskedFormRefused asked fault
   no_key_of both (NoSuchKey told) file h = inr (inr (both, h.0, (file, h.1)))
   no_key_of both Memory file h = inl tt
   no_key_of both fault file h = absurd h
 
-  refused_where : IsDeckAsked asked.form.deck asked.form.name → (fault : Fault) → IsRefusedWhere asked fault → IsAskedFormRefused asked fault
+  refused_where : IsDeckAsked asked.form.deck asked.form.name → (fault : CommandFault) → IsRefusedWhere asked fault → IsAskedFormRefused asked fault
   refused_where both fault (inl is) = inl (form_of_deck asked.form fault both is)
   refused_where both fault (inr (inl is)) = no_key_of both fault is.0 is.1
   refused_where both fault (inr (inr is)) = refused_of both fault is.0 is.1
 
   -- there is no deck for the key or for the conditions
-  pub no_deck : (fault : Fault) → TellsDeckWanted asked.conditions fault → WantsDeck asked.key asked.conditions → asked.form.deck ≡ None → asked.form.name ≡ None → IsAskedFormRefused asked fault
+  pub no_deck : (fault : CommandFault) → TellsDeckWanted asked.conditions fault → WantsDeck asked.key asked.conditions → asked.form.deck ≡ None → asked.form.name ≡ None → IsAskedFormRefused asked fault
   no_deck fault (inl (none, is)) (inl some) deck name = absurd (some none)
   no_deck fault (inl (none, is)) (inr named) deck name = subst (IsAskedFormRefused asked) (sym is) (inr (inr (named, deck, name)))
   no_deck fault (inr (some, is)) wanted deck name = subst (IsAskedFormRefused asked) (sym is) (inr (inl (some, deck, name)))
@@ -77,14 +77,14 @@ module _ (asked : ListWords) where
 
   module _ (calls : List Call) (input : Option (List ℕ)) where
     -- what came of words that ask for nothing that only a deck tells
-    pub asked_alone : (key : ℕ) (result : Result AskedForm Fault) → IsKeyNumber asked.key key → asked.conditions ≡ [] → ComesOfFormAlone input asked.form key result calls
+    pub asked_alone : (key : ℕ) (result : Result AskedForm CommandFault) → IsKeyNumber asked.key key → asked.conditions ≡ [] → ComesOfFormAlone input asked.form key result calls
         → ComesOfAskedForm input asked result calls
     asked_alone key (Ok told) number none came =
         record { form = inl (record { key = key; key_given = number; unconditional = none; alone = came.form }); refused = tt }
     asked_alone key (Err fault) number none came = record { form = tt; refused = inl came.refused }
 
     -- what came of the file of a deck, where one is asked for
-    pub asked_where : (deck name : Word) (result : Result AskedForm Fault) → WantsDeck asked.key asked.conditions
+    pub asked_where : (deck name : Word) (result : Result AskedForm CommandFault) → WantsDeck asked.key asked.conditions
         → asked.form.deck ≡ Some deck → asked.form.name ≡ Some name → asked.form.cut ≡ None → GivesFormOfFile input deck name asked result calls
         → ComesOfAskedForm input asked result calls
     asked_where deck name (Ok told) wanted a_deck a_name uncut came = record {

@@ -6,8 +6,8 @@ use Rattle.std.specs.Char.{is_ascii_digit}
 use Rattle.record_layout.specs.Layout.{Placed}
 use Rattle.record_listing.specs.declared.condition.Condition.{Condition}
 use Rattle.record_listing.specs.declared.condition.Operator.{Operator}
-use Rattle.command_support.specs.declared.fault.Fault.{Fault}
-use Rattle.command_support.specs.declared.fault.Fault.TheVariants.{Condition as NoCondition, Memory}
+use Rattle.command_support.specs.declared.fault.CommandFault.{CommandFault}
+use Rattle.command_support.specs.declared.fault.CommandFault.TheVariants.{Condition as NoCondition, Memory}
 use Rattle.command_support.specs.Bound.{unescaped}
 use Rattle.command_support.specs.Conditions.{Said, is_sign, operator_in, said_in, are_digits, IsConditionBy, AddsConditions, AreWordsRefused, ComesOfWords}
 
@@ -41,19 +41,19 @@ module _ (layout : List Placed) where
       (condition ∷ more.0, more.1 ∙ ap (λ (l : List Condition). l ++ more.0) is ∙ append_assoc old (condition ∷ []) more.0, (by, more.2))
 
   -- the first word is refused, or one after it
-  pub refused_first : (word : List ℕ) (words : List (List ℕ)) (fault : Fault) → AreWordsRefused layout (word ∷ []) fault → AreWordsRefused layout (word ∷ words) fault
+  pub refused_first : (word : List ℕ) (words : List (List ℕ)) (fault : CommandFault) → AreWordsRefused layout (word ∷ []) fault → AreWordsRefused layout (word ∷ words) fault
   refused_first word words (NoCondition fault) (inl h) = inl h
   refused_first word words (NoCondition fault) (inr h) = absurd h
   refused_first word words Memory h = tt
   refused_first word words fault h = absurd h
 
-  pub refused_later : (word : List ℕ) (words : List (List ℕ)) (fault : Fault) → AreWordsRefused layout words fault → AreWordsRefused layout (word ∷ words) fault
+  pub refused_later : (word : List ℕ) (words : List (List ℕ)) (fault : CommandFault) → AreWordsRefused layout words fault → AreWordsRefused layout (word ∷ words) fault
   refused_later word words (NoCondition fault) h = inr h
   refused_later word words Memory h = tt
   refused_later word words fault h = absurd h
 
   -- what came of the words after the first one
-  pub with_first : {X : Type 0} (word : List ℕ) (words : List (List ℕ)) (condition : Condition) (old between new : List Condition) (result : Result X Fault) → IsConditionBy layout word condition → between ≡ old ++ condition ∷ []
+  pub with_first : {X : Type 0} (word : List ℕ) (words : List (List ℕ)) (condition : Condition) (old between new : List Condition) (result : Result X CommandFault) → IsConditionBy layout word condition → between ≡ old ++ condition ∷ []
       → ComesOfWords (λ _. AddsConditions layout words between new) layout words result → ComesOfWords (λ _. AddsConditions layout (word ∷ words) old new) layout (word ∷ words) result
   with_first word words condition old between new (Ok done) by is came = record { right = one_added word words condition old between new by is came.right; refused = tt }
   with_first word words condition old between new (Err fault) by is came = record { right = tt; refused = refused_later word words fault came.refused }

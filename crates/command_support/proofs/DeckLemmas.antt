@@ -7,8 +7,8 @@ use Rattle.deck_runner.specs.declared.fault.RunFault.TheVariants.{Deck as DeckRe
 use Rattle.command_support.specs.DeckFile.{IsDeckFault}
 use Rattle.command_support.specs.Status.{status_of}
 use Rattle.command_support.specs.Told.{told_as}
-use Rattle.command_support.specs.declared.fault.Fault.{Fault}
-use Rattle.command_support.specs.declared.fault.Fault.TheVariants.{Input, Output, Memory}
+use Rattle.command_support.specs.declared.fault.CommandFault.{CommandFault}
+use Rattle.command_support.specs.declared.fault.CommandFault.TheVariants.{Input, Output, Memory}
 
 -- two texts are compared by their bytes
 pub same_test : (r : Bool) (a b : List ℕ) → (IsTrue r → a ≡ b) × (a ≡ b → IsTrue r) → r ≡ bytes_eq a b
@@ -21,7 +21,7 @@ of_a_deck LineRefused = tt
 of_a_deck NoMemory = tt
 
 -- and so are those of the input, the output and memory
-pub not_there : (fault : Fault) → status_of fault ≡ 4 → IsDeckFault fault
+pub not_there : (fault : CommandFault) → status_of fault ≡ 4 → IsDeckFault fault
 not_there Input is = tt
 not_there Output is = tt
 not_there Memory is = tt

@@ -11,7 +11,7 @@ use Rattle.system_files.specs.Front.{IsFrontRead, IsTextRead}
 use Rattle.folder_shelf.specs.Calls.{Call, taken, taken_shared}
 use Rattle.command_support.specs.Front.{IsTextTaken, GivesSuch, ReadsNamed, ReadsTextNamed, ReadsCounted, longest_line, asked_by, counted_calls}
 use Rattle.command_support.specs.Status.{status_of}
-use Rattle.command_support.specs.declared.fault.Fault.{Fault}
+use Rattle.command_support.specs.declared.fault.CommandFault.{CommandFault}
 
 -- how many bytes a first page asks for
 pub asked_is : (first : List ℕ) (count less : ℕ) → count ≡ big_number 4 (slice_range first 12 16) → less ≡ count - 1 → length first ≡ 4096 → 4096 + 4096 * less ≡ asked_in first
@@ -21,17 +21,17 @@ asked_is first count less is one whole =
     ap (λ (n : ℕ). 4096 + 4096 * n) (one ∙ ap (λ (n : ℕ). n - 1) (is ∙ ap (λ (p : List ℕ). number_in p 12 4) (sym page)))
 
 -- a value came, and it is so
-pub such_came : {X : Type 0} (P : X → Type 0) (result : Result X Fault) → GivesSuch P result → IfOk result P
+pub such_came : {X : Type 0} (P : X → Type 0) (result : Result X CommandFault) → GivesSuch P result → IfOk result P
 such_came P (Ok x) is = is
 such_came P (Err fault) is = tt
 
 -- none came, since the input, the output or memory failed
-pub none_came : {X : Type 0} (P : X → Type 0) (Q : Fault → Type 0) (result : Result X Fault) → ((fault : Fault) → status_of fault ≡ 4 → Q fault) → GivesSuch P result → IfErr result Q
+pub none_came : {X : Type 0} (P : X → Type 0) (Q : CommandFault → Type 0) (result : Result X CommandFault) → ((fault : CommandFault) → status_of fault ≡ 4 → Q fault) → GivesSuch P result → IfErr result Q
 none_came P Q (Ok x) so is = tt
 none_came P Q (Err fault) so is = so fault is
 
 -- what is so of a value, and follows from it
-pub such_too : {X : Type 0} (P Q : X → Type 0) (result : Result X Fault) → ((x : X) → P x → Q x) → GivesSuch P result → GivesSuch Q result
+pub such_too : {X : Type 0} (P Q : X → Type 0) (result : Result X CommandFault) → ((x : X) → P x → Q x) → GivesSuch P result → GivesSuch Q result
 such_too P Q (Ok x) so is = so x is
 such_too P Q (Err fault) so is = is
 
@@ -39,7 +39,7 @@ such_too P Q (Err fault) so is = is
 
 module _ {I : Type 0} (left : I → Option (List ℕ)) (word : List ℕ) where
   -- a hyphen: the input, and no call was made
-  pub front_of_input : (most : ℕ) (old new : I) (result : Result (Vec ℕ) Fault) → word ≡ codes "-" → GivesSuch (λ bytes. IsFrontRead most (left old) bytes.items) result
+  pub front_of_input : (most : ℕ) (old new : I) (result : Result (Vec ℕ) CommandFault) → word ≡ codes "-" → GivesSuch (λ bytes. IsFrontRead most (left old) bytes.items) result
       → ReadsNamed most left word old new result []
   front_of_input most old new result is came = record {
     bytes = such_too _ _ result (λ bytes front. record { of_input = λ _. (front, refl); of_file = λ other. absurd (other is) }) came;
@@ -47,21 +47,21 @@ module _ {I : Type 0} (left : I → Option (List ℕ)) (word : List ℕ) where
   }
 
   -- another word: the file of a path, and the input stays
-  pub front_of_file : (most : ℕ) (input : I) (result : Result (Vec ℕ) Fault) (calls : List Call) → (word ≡ codes "-" → ⊥) → GivesSuch (λ bytes. calls ≡ taken word most (Some bytes.items) ∷ []) result
+  pub front_of_file : (most : ℕ) (input : I) (result : Result (Vec ℕ) CommandFault) (calls : List Call) → (word ≡ codes "-" → ⊥) → GivesSuch (λ bytes. calls ≡ taken word most (Some bytes.items) ∷ []) result
       → ReadsNamed most left word input input result calls
   front_of_file most input result calls other came = record {
     bytes = such_too _ _ result (λ bytes call. record { of_input = λ is. absurd (other is); of_file = λ _. call }) came;
     unread = λ _. refl;
   }
 
-  pub text_of_input : (old new : I) (result : Result (Vec ℕ) Fault) → word ≡ codes "-" → GivesSuch (λ text. IsTextRead longest_line (left old) text.items) result
+  pub text_of_input : (old new : I) (result : Result (Vec ℕ) CommandFault) → word ≡ codes "-" → GivesSuch (λ text. IsTextRead longest_line (left old) text.items) result
       → ReadsTextNamed left word old new result []
   text_of_input old new result is came = record {
     text = such_too _ _ result (λ text whole. record { of_input = λ _. (whole, refl); of_file = λ other. absurd (other is) }) came;
     unread = λ other. absurd (other is);
   }
 
-  pub text_of_file : (input : I) (result : Result (Vec ℕ) Fault) (calls : List Call) → (word ≡ codes "-" → ⊥) → GivesSuch (λ text. IsTextTaken calls word text.items) result
+  pub text_of_file : (input : I) (result : Result (Vec ℕ) CommandFault) (calls : List Call) → (word ≡ codes "-" → ⊥) → GivesSuch (λ text. IsTextTaken calls word text.items) result
       → ReadsTextNamed left word input input result calls
   text_of_file input result calls other came = record {
     text = such_too _ _ result (λ text call. record { of_input = λ is. absurd (other is); of_file = λ _. call }) came;

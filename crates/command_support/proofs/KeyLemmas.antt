@@ -7,8 +7,8 @@ use Rattle.file_control.specs.Description.{FileDesc}
 use Rattle.command_words.specs.Asks.{IsNumber}
 use Rattle.command_support.specs.Conditions.{texts_of}
 use Rattle.command_support.specs.AskedKey.{IsKeyNumber, IsNoKeyNumber, key_named, TellsUnknownKey, IsKeyMissing}
-use Rattle.command_support.specs.declared.fault.Fault.{Fault}
-use Rattle.command_support.specs.declared.fault.Fault.TheVariants.{NoSuchKey, Memory}
+use Rattle.command_support.specs.declared.fault.CommandFault.{CommandFault}
+use Rattle.command_support.specs.declared.fault.CommandFault.TheVariants.{NoSuchKey, Memory}
 
 -- a word that is no number is that of no key
 pub no_number : (word : Word) → ((n : ℕ) → IsNumber 8 word n → ⊥) → IsNoKeyNumber word
@@ -35,7 +35,7 @@ numbered word words None none is = tt
 numbered word words (Some number) none is = (is, no_texts words none)
 
 -- what is told of a name that is of no key
-pub key_missing : (file : FileDesc) (word : Word) (fault : Fault) → IsNoKeyNumber word → key_named file word ≡ None → TellsUnknownKey file word fault → IsKeyMissing file word fault
+pub key_missing : (file : FileDesc) (word : Word) (fault : CommandFault) → IsNoKeyNumber word → key_named file word ≡ None → TellsUnknownKey file word fault → IsKeyMissing file word fault
 key_missing file word (NoSuchKey told) name none tells = (name, record { none = none; name_is = tells.0; file_is = tells.1 })
 key_missing file word Memory name none tells = tt
 key_missing file word fault name none tells = absurd tells

@@ -4,7 +4,7 @@ use Rattle.deck_parser.specs.declared.fault.DeckFault.{DeckFault}
 use Rattle.deck_runner.specs.DeckRun.{IsNoDeck, IsRefusedDeck}
 use Rattle.deck_runner.specs.declared.fault.RunFault.{RunFault}
 use Rattle.deck_runner.specs.declared.fault.RunFault.TheVariants.{Deck as DeckRefused, Output as LineRefused, Memory as NoMemory}
-use Rattle.command_support.specs.declared.fault.Fault.TheVariants.{Deck, Output}
+use Rattle.command_support.specs.declared.fault.CommandFault.TheVariants.{Deck, Output}
 use Rattle.command_support.specs.Told.{told_as}
 
 pub line_refused : (fault : RunFault) → told_as fault ≡ Output → fault ≡ LineRefused

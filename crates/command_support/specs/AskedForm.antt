@@ -16,9 +16,9 @@ use Rattle.command_support.specs.declared.form_fault.FormFault.{FormFault}
 use Rattle.command_support.specs.declared.condition_fault.ConditionFault.{ConditionFault}
 use Rattle.command_support.specs.declared.condition_fault.ConditionFault.TheVariants.{NoSign, NoDeck, NoItem}
 use Rattle.command_support.specs.declared.condition_fault.ConditionFault.TheVariants.{LongValue as LongItem}
-use Rattle.command_support.specs.declared.fault.Fault.{Fault}
-use Rattle.command_support.specs.declared.fault.Fault.TheVariants.{Condition as NoCondition, LongValue}
-use Rattle.command_support.specs.declared.fault.Fault.TheVariants.{LoneKeyName}
+use Rattle.command_support.specs.declared.fault.CommandFault.{CommandFault}
+use Rattle.command_support.specs.declared.fault.CommandFault.TheVariants.{Condition as NoCondition, LongValue}
+use Rattle.command_support.specs.declared.fault.CommandFault.TheVariants.{LoneKeyName}
 use Rattle.command_support.specs.AskedKey.{IsKeyNumber, IsKeyIn, IsKeyMissing, IsKeyRefused, WantsDeck}
 use Rattle.command_support.specs.Conditions.{AreConditionsBy, AreWordsRefused, HaveConditionFault, texts_of}
 use Rattle.command_support.specs.DeckFile.{IsDeckAsked, IsDeckFault, IsOfDeck}
@@ -102,45 +102,45 @@ IsConditionFaultOf asked words NoItem = IsDeckAsked asked.deck asked.name
 IsConditionFaultOf asked words LongItem = IsDeckAsked asked.deck asked.name
     × ((layout : List Placed) × HaveConditionFault layout words LongItem)
 
-abbrev pub IsConditionRefused : FormText → (words : List Word) → Fault → Type 0
+abbrev pub IsConditionRefused : FormText → (words : List Word) → CommandFault → Type 0
 IsConditionRefused asked words (NoCondition fault) = IsConditionFaultOf asked words fault
 IsConditionRefused asked words fault = ⊥
 
 -- why a list has no form, no conditions, or no key
-abbrev pub IsAskedFormRefused : ListWords → Fault → Type 0
+abbrev pub IsAskedFormRefused : ListWords → CommandFault → Type 0
 IsAskedFormRefused asked fault = IsFormRefused asked.form fault
     ⊎ IsConditionRefused asked.form asked.conditions fault ⊎ IsKeyRefused asked.form asked.key fault
 
 -- why records are not listed: a value is too long, or the form, a condition or the key is refused
-abbrev pub IsListRefused : ListWords → Fault → Type 0
+abbrev pub IsListRefused : ListWords → CommandFault → Type 0
 IsListRefused asked fault = (fault ≡ LongValue) ⊎ IsAskedFormRefused asked fault
 
 -- why nothing came of a file of a deck: it did not come, or has no such key, or conditions are refused
-abbrev pub IsRefusedWhere : ListWords → Fault → Type 0
+abbrev pub IsRefusedWhere : ListWords → CommandFault → Type 0
 IsRefusedWhere asked fault = IsDeckFault fault
     ⊎ ((file : FileDesc) × IsKeyMissing file asked.key fault)
     ⊎ ((layout : List Placed) × AreWordsRefused layout asked.conditions fault)
 
 -- a form, a key and conditions came of the file of a name in a deck; or none did
 pub record GivesFormOfFile (input : Option (List ℕ)) (deck name : Word) (asked : ListWords)
-    (result : Result AskedForm Fault) (calls : List Call) : Type 0 where
+    (result : Result AskedForm CommandFault) (calls : List Call) : Type 0 where
   pub right : IfOk result (IsFormOfFile calls input deck name asked)
   pub fault : IfErr result (IsRefusedWhere asked)
 
 -- what came of the words of a list is so; or they are refused
-pub record ComesOfAskedForm (input : Option (List ℕ)) (asked : ListWords) (result : Result AskedForm Fault)
+pub record ComesOfAskedForm (input : Option (List ℕ)) (asked : ListWords) (result : Result AskedForm CommandFault)
     (calls : List Call) : Type 0 where
   pub form : IfOk result (IsAskedFormBy calls input asked)
   pub refused : IfErr result (IsAskedFormRefused asked)
 
 -- so of a form, with a key of a number
 pub record ComesOfFormAlone (input : Option (List ℕ)) (asked : FormText) (key : ℕ)
-    (result : Result AskedForm Fault) (calls : List Call) : Type 0 where
+    (result : Result AskedForm CommandFault) (calls : List Call) : Type 0 where
   pub form : IfOk result (IsFormAlone calls input asked key)
   pub refused : IfErr result (IsFormRefused asked)
 
 -- there is no deck for a key, or for conditions where there are some
-abbrev pub TellsDeckWanted : (conditions : List Word) → Fault → Type 0
+abbrev pub TellsDeckWanted : (conditions : List Word) → CommandFault → Type 0
 TellsDeckWanted conditions fault = ((conditions ≡ []) × (fault ≡ LoneKeyName))
     ⊎ ((conditions ≢ []) × (fault ≡ NoCondition NoDeck))
 

@@ -7,8 +7,8 @@ use Rattle.file_control.specs.Description.{FileDesc}
 use Rattle.command_words.specs.Asks.{FormText, IsNumber}
 use Rattle.command_support.specs.Conditions.{item_with_name}
 use Rattle.command_support.specs.DeckFile.{IsDeckAsked}
-use Rattle.command_support.specs.declared.fault.Fault.{Fault}
-use Rattle.command_support.specs.declared.fault.Fault.TheVariants.{NoSuchKey, LoneKeyName, Memory}
+use Rattle.command_support.specs.declared.fault.CommandFault.{CommandFault}
+use Rattle.command_support.specs.declared.fault.CommandFault.TheVariants.{NoSuchKey, LoneKeyName, Memory}
 use Rattle.command_support.specs.declared.fault.UnknownKey.{UnknownKey}
 
 -- the word is the number of a key, from 0 to 8
@@ -40,26 +40,26 @@ pub record IsUnknownKey (file : FileDesc) (name : Word) (told : UnknownKey) : Ty
   pub file_is : told.file.bytes ≡ file.name
 
 -- so it is told; or memory was wanted
-abbrev pub TellsUnknownKey : FileDesc → (name : Word) → Fault → Type 0
+abbrev pub TellsUnknownKey : FileDesc → (name : Word) → CommandFault → Type 0
 TellsUnknownKey file name (NoSuchKey told) =
     (string_bytes told.name ≡ name) × (told.file.bytes ≡ file.name)
 TellsUnknownKey file name Memory = ⊤
 TellsUnknownKey file name fault = ⊥
 
 -- why a file of a deck has no key of a word
-abbrev pub IsKeyMissing : FileDesc → Word → Fault → Type 0
+abbrev pub IsKeyMissing : FileDesc → Word → CommandFault → Type 0
 IsKeyMissing file word (NoSuchKey told) = IsNoKeyNumber word × IsUnknownKey file word told
 IsKeyMissing file word Memory = ⊤
 IsKeyMissing file word fault = ⊥
 
 -- the key that a word asks for was found in a file of a deck, or it has none
-pub record FindsAskedKey (file : FileDesc) (word : Word) (result : Result ℕ Fault) : Type 0 where
+pub record FindsAskedKey (file : FileDesc) (word : Word) (result : Result ℕ CommandFault) : Type 0 where
   pub key : IfOk result (IsKeyIn file word)
   pub missing : IfErr result (IsKeyMissing file word)
 
 -- why words ask for no key: it has a name, and there is no deck for it, or a file of the deck has no key of
 -- that name
-abbrev pub IsKeyRefused : FormText → (key : Word) → Fault → Type 0
+abbrev pub IsKeyRefused : FormText → (key : Word) → CommandFault → Type 0
 IsKeyRefused form key LoneKeyName =
     IsNoKeyNumber key × (form.deck ≡ None) × (form.name ≡ None)
 IsKeyRefused form key (NoSuchKey told) = IsDeckAsked form.deck form.name × IsNoKeyNumber key

@@ -3,8 +3,8 @@ use Rattle.std.specs.Prelude.{◌≡◌, ℕ, ◌+◌, ◌*◌, ◌-◌, ◌<◌
 use Rattle.std.specs.Prelude.{Option, Some, None}
 use Rattle.std.specs.Prelude.{if◌then◌else◌, Result, IfOk, IfErr}
 use Rattle.std.specs.Option.{option_map_or}
-use Rattle.command_support.specs.declared.fault.Fault.{Fault}
-use Rattle.command_support.specs.declared.fault.Fault.TheVariants.{LongValue}
+use Rattle.command_support.specs.declared.fault.CommandFault.{CommandFault}
+use Rattle.command_support.specs.declared.fault.CommandFault.TheVariants.{LongValue}
 
 -- what a hexadecimal digit counts, if it is one; its letters are small
 abbrev pub digit_in : ℕ → Option ℕ
@@ -40,6 +40,6 @@ pub record StandsForByte (text : List ℕ) (byte : ℕ) (rest : List ℕ) : Type
   pub shorter : length rest < length text
 
 -- a value that is so; or a text is too long for one
-pub record FitsValue {X : Type 0} (IsSo : X → Type 0) (result : Result X Fault) : Type 0 where
+pub record FitsValue {X : Type 0} (IsSo : X → Type 0) (result : Result X CommandFault) : Type 0 where
   pub value : IfOk result IsSo
   pub fault : IfErr result (λ fault. fault ≡ LongValue)

@@ -16,8 +16,8 @@ use Rattle.record_listing.specs.declared.condition.Operator.TheVariants.{NotLess
 use Rattle.command_support.specs.declared.condition_fault.ConditionFault.{ConditionFault}
 use Rattle.command_support.specs.declared.condition_fault.ConditionFault.TheVariants.{NoSign, NoDeck, NoItem}
 use Rattle.command_support.specs.declared.condition_fault.ConditionFault.TheVariants.{LongValue}
-use Rattle.command_support.specs.declared.fault.Fault.{Fault}
-use Rattle.command_support.specs.declared.fault.Fault.TheVariants.{Condition as NoCondition, Memory}
+use Rattle.command_support.specs.declared.fault.CommandFault.{CommandFault}
+use Rattle.command_support.specs.declared.fault.CommandFault.TheVariants.{Condition as NoCondition, Memory}
 use Rattle.command_support.specs.Bound.{unescaped}
 use Rattle.command_support.specs.declared.conditions.ConditionWords.{ConditionWords}
 
@@ -127,19 +127,19 @@ HaveConditionFault layout (word ∷ words) fault =
     HasConditionFault layout word fault ⊎ HaveConditionFault layout words fault
 
 -- why there are no conditions: a word has a fault, or memory was wanted
-abbrev pub AreWordsRefused : List Placed → (words : List (List ℕ)) → Fault → Type 0
+abbrev pub AreWordsRefused : List Placed → (words : List (List ℕ)) → CommandFault → Type 0
 AreWordsRefused layout words (NoCondition fault) = HaveConditionFault layout words fault
 AreWordsRefused layout words Memory = ⊤
 AreWordsRefused layout words fault = ⊥
 
 -- what came of words is so; or they are refused
 pub record ComesOfWords {X : Type 0} (IsSo : X → Type 0) (layout : List Placed) (words : List (List ℕ))
-    (result : Result X Fault) : Type 0 where
+    (result : Result X CommandFault) : Type 0 where
   pub right : IfOk result IsSo
   pub refused : IfErr result (AreWordsRefused layout words)
 
 -- the conditions of words on a record with these items; or the words are refused
-abbrev pub GivesConditions : List Placed → (words : List (List ℕ)) → Result (Vec Condition) Fault → Type 0
+abbrev pub GivesConditions : List Placed → (words : List (List ℕ)) → Result (Vec Condition) CommandFault → Type 0
 GivesConditions layout words result =
     ComesOfWords (λ conditions. AreConditionsBy layout words conditions.items) layout words result
 
@@ -154,6 +154,6 @@ AddsConditions layout words old new = (added : List Condition) × (new ≡ old +
 
 -- so it was; or the words are refused
 abbrev pub AddsOrRefuses : List Placed → (words : List (List ℕ)) → (old new : List Condition)
-    → Result Unit Fault → Type 0
+    → Result Unit CommandFault → Type 0
 AddsOrRefuses layout words old new result =
     ComesOfWords (λ _. AddsConditions layout words old new) layout words result

@@ -10,9 +10,9 @@ use Rattle.deck_runner.specs.DeckRun.{IsNoDeck}
 use Rattle.deck_parser.specs.declared.fault.DeckFault.{DeckFault}
 use Rattle.folder_shelf.specs.Calls.{Call}
 use Rattle.command_support.specs.Front.{OfNamedDeck}
-use Rattle.command_support.specs.declared.fault.Fault.{Fault}
-use Rattle.command_support.specs.declared.fault.Fault.TheVariants.{Deck as DeckRefused, NoSuchFile, Input}
-use Rattle.command_support.specs.declared.fault.Fault.TheVariants.{Output, Memory}
+use Rattle.command_support.specs.declared.fault.CommandFault.{CommandFault}
+use Rattle.command_support.specs.declared.fault.CommandFault.TheVariants.{Deck as DeckRefused, NoSuchFile, Input}
+use Rattle.command_support.specs.declared.fault.CommandFault.TheVariants.{Output, Memory}
 
 -- the name is that of the file in its deck, in capitals or small letters
 abbrev pub is_named_in_deck : (name : List ℕ) → FileDesc → Bool
@@ -50,7 +50,7 @@ IsDeckFile IsRead (Some deck) (Some name) file = IsOfDeck (IsRead deck) name fil
 
 -- why nothing came of a file of a deck: the deck is refused or has no such file, or the input, the
 -- output or memory failed
-abbrev pub IsDeckFault : Fault → Type 0
+abbrev pub IsDeckFault : CommandFault → Type 0
 IsDeckFault (DeckRefused fault) = ⊤
 IsDeckFault NoSuchFile = ⊤
 IsDeckFault Input = ⊤
@@ -63,12 +63,12 @@ abbrev pub IsDeckAt : List Call → Option (List ℕ) → (path : List ℕ) → 
 IsDeckAt calls input path deck = OfNamedDeck calls input path (λ bytes. IsDeck bytes deck)
 
 -- what came of a file of a deck is so; or nothing did
-pub record ComesOfDeck {X : Type 0} (IsSo : X → Type 0) (result : Result X Fault) : Type 0 where
+pub record ComesOfDeck {X : Type 0} (IsSo : X → Type 0) (result : Result X CommandFault) : Type 0 where
   pub right : IfOk result IsSo
   pub fault : IfErr result IsDeckFault
 
 -- the deck that the bytes are; or they are none, and it is told why
-pub record GivesDeck (bytes : List ℕ) (result : Result Deck Fault) : Type 0 where
+pub record GivesDeck (bytes : List ℕ) (result : Result Deck CommandFault) : Type 0 where
   pub deck : IfOk result (IsDeck bytes)
   pub refused : IfErr result (λ fault. (told : DeckFault) → fault ≡ DeckRefused told → IsNoDeck bytes told)
   pub fault : IfErr result IsDeckFault

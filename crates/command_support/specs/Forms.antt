@@ -19,10 +19,10 @@ use Rattle.command_support.specs.DeckFile.{IsOfDeck, IsHalf, IsDeckAsked}
 use Rattle.command_support.specs.declared.form_fault.FormFault.{FormFault}
 use Rattle.command_support.specs.declared.form_fault.FormFault.TheVariants.{Kind, Encoding, TextColumns, CutAndDeck}
 use Rattle.command_support.specs.declared.form_fault.FormFault.TheVariants.{HalfDeck, Cuts}
-use Rattle.command_support.specs.declared.fault.Fault.{Fault}
-use Rattle.command_support.specs.declared.fault.Fault.TheVariants.{Deck as DeckRefused, NoSuchFile}
-use Rattle.command_support.specs.declared.fault.Fault.TheVariants.{Form as NoForm, Input, Output}
-use Rattle.command_support.specs.declared.fault.Fault.TheVariants.{Memory}
+use Rattle.command_support.specs.declared.fault.CommandFault.{CommandFault}
+use Rattle.command_support.specs.declared.fault.CommandFault.TheVariants.{Deck as DeckRefused, NoSuchFile}
+use Rattle.command_support.specs.declared.fault.CommandFault.TheVariants.{Form as NoForm, Input, Output}
+use Rattle.command_support.specs.declared.fault.CommandFault.TheVariants.{Memory}
 
 -- the columns are those between the cuts of a text, which rise from 1 on
 abbrev pub IsCutInto : Word → List Column → Type 0
@@ -74,7 +74,7 @@ HasFormFault asked Cuts = (text : Word) × (asked.cut ≡ Some text)
 
 -- why the columns of a form are not there: its texts have a fault, the deck is refused or does not
 -- have the file, or the input or memory failed
-abbrev pub IsFormRefused : FormText → Fault → Type 0
+abbrev pub IsFormRefused : FormText → CommandFault → Type 0
 IsFormRefused asked (DeckRefused fault) = IsDeckAsked asked.deck asked.name
 IsFormRefused asked NoSuchFile = IsDeckAsked asked.deck asked.name
 IsFormRefused asked (NoForm fault) = HasFormFault asked fault
@@ -101,12 +101,12 @@ abbrev pub IsFormToldBy : List Call → (input : Option (List ℕ)) → FormText
 IsFormToldBy calls input asked told = IsFormBy calls input asked told.form told.schema
 
 -- no cuts, or want of memory
-abbrev pub IsCutFault : Fault → Type 0
+abbrev pub IsCutFault : CommandFault → Type 0
 IsCutFault fault = (fault ≡ NoForm Cuts) ⊎ (fault ≡ Memory)
 
 -- what came of cuts is so; or there are none, and this is so of the text, or memory was wanted
 pub record ComesOfCuts {X : Type 0} (IsSo : X → Type 0) (HasNone : Type 0)
-    (result : Result X Fault) : Type 0 where
+    (result : Result X CommandFault) : Type 0 where
   pub cuts : IfOk result IsSo
   pub none : result ≡ Err (NoForm Cuts) → HasNone
   pub fault : IfErr result IsCutFault
@@ -123,13 +123,13 @@ abbrev pub IsNoCuts : (text : List ℕ) → Type 0
 IsNoCuts text = (cuts : List ℕ) → AreCuts text cuts → ⊥
 
 -- a value that is so; or memory was wanted
-pub record WantsOnlyMemory {X : Type 0} (IsSo : X → Type 0) (result : Result X Fault) : Type 0 where
+pub record WantsOnlyMemory {X : Type 0} (IsSo : X → Type 0) (result : Result X CommandFault) : Type 0 where
   pub column : IfOk result IsSo
   pub fault : IfErr result (λ fault. fault ≡ Memory)
 
 -- what came of the words of a form is so; or the form is refused
 pub record ComesOfForm {X : Type 0} (IsSo : FormText → X → Type 0) (asked : FormWords)
-    (result : Result X Fault) : Type 0 where
+    (result : Result X CommandFault) : Type 0 where
   pub form : IfOk result (IsSo (form_text asked))
   pub refused : IfErr result (IsFormRefused (form_text asked))
 

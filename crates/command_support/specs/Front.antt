@@ -11,8 +11,8 @@ use Rattle.file_checker.specs.Sound.{asked_in}
 use Rattle.system_files.specs.Front.{IsFrontRead, IsTextRead, EndsInLongLine}
 use Rattle.folder_shelf.specs.Calls.{Call, taken, taken_shared}
 use Rattle.command_support.specs.Status.{status_of}
-use Rattle.command_support.specs.declared.fault.Fault.{Fault}
-use Rattle.command_support.specs.declared.fault.Fault.TheVariants.{Output}
+use Rattle.command_support.specs.declared.fault.CommandFault.{CommandFault}
+use Rattle.command_support.specs.declared.fault.CommandFault.TheVariants.{Output}
 use Rattle.command_support.specs.declared.outcome.Outcome.{Outcome}
 
 -- the bytes are all of what a word names, or the first `most` of it: a hyphen is what the input had
@@ -86,11 +86,11 @@ abbrev pub word_in : Option (Bor (List ℕ)) → Option (List ℕ)
 word_in word = option_map (λ text. text.now) word
 
 -- a value of which this is so; or the input, the output or memory failed
-abbrev pub GivesSuch : {X : Type 0} → (IsSo : X → Type 0) → Result X Fault → Type 0
+abbrev pub GivesSuch : {X : Type 0} → (IsSo : X → Type 0) → Result X CommandFault → Type 0
 GivesSuch IsSo result = MatchResult result IsSo (λ fault. status_of fault ≡ 4)
 
 -- so of what was done, by these calls
-pub record DoesBy (IsSo : List Call → Outcome → Type 0) (result : Result Outcome Fault) (calls : List Call)
+pub record DoesBy (IsSo : List Call → Outcome → Type 0) (result : Result Outcome CommandFault) (calls : List Call)
     : Type 0 where
   pub right : IfOk result (IsSo calls)
   pub fault : IfErr result (λ fault. status_of fault ≡ 4)
@@ -99,19 +99,19 @@ pub record DoesBy (IsSo : List Call → Outcome → Type 0) (result : Result Out
 -- word is a hyphen
 pub record ReadsNamed
     {I : Type 0} (most : ℕ) (left : I → Option (List ℕ)) (word : List ℕ) (old new : I)
-    (result : Result (Vec ℕ) Fault) (calls : List Call) : Type 0 where
+    (result : Result (Vec ℕ) CommandFault) (calls : List Call) : Type 0 where
   pub bytes : GivesSuch (λ bytes. IsFrontOfNamed most calls (left old) word bytes.items) result
   pub unread : (word ≡ codes "-" → ⊥) → new ≡ old
 
 -- so of a deck
 abbrev pub ReadsDeckNamed : {I : Type 0} → (left : I → Option (List ℕ)) → (word : List ℕ) → (old new : I)
-    → Result (Vec ℕ) Fault → List Call → Type 0
+    → Result (Vec ℕ) CommandFault → List Call → Type 0
 ReadsDeckNamed left word old new result calls = ReadsNamed 1048577 left word old new result calls
 
 -- so of a text
 pub record ReadsTextNamed
     {I : Type 0} (left : I → Option (List ℕ)) (word : List ℕ) (old new : I)
-    (result : Result (Vec ℕ) Fault) (calls : List Call) : Type 0 where
+    (result : Result (Vec ℕ) CommandFault) (calls : List Call) : Type 0 where
   pub text : GivesSuch (λ text. IsTextNamed calls (left old) word text.items) result
   pub unread : (word ≡ codes "-" → ⊥) → new ≡ old
 
@@ -123,7 +123,7 @@ pub record ReadsCounted {E : Type 0} (path : List ℕ) (result : Result (Vec ℕ
 
 -- a text was written, and that is what was done; or the output failed
 pub record WritesWhole {W : Type 0} (text : List ℕ) (done : Outcome) (contents : W → Option (List ℕ))
-    (old new : W) (result : Result Outcome Fault) : Type 0 where
+    (old new : W) (result : Result Outcome CommandFault) : Type 0 where
   pub outcome : IfOk result (λ outcome. outcome ≡ done)
   pub written : IfOk result (λ _. Appends (contents old) (contents new) text)
   pub fault : IfErr result (λ fault. fault ≡ Output)

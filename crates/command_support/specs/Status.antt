@@ -13,11 +13,11 @@ use Rattle.record_loading.specs.declared.shelf_end.ShelfEnd.TheVariants.{IsThere
 use Rattle.file_reports.specs.declared.statistics_listing.FileStatisticsEnd.{FileStatisticsEnd}
 use Rattle.file_reports.specs.declared.statistics_listing.FileStatisticsEnd.TheVariants.{Listed as CountListed}
 use Rattle.file_reports.specs.declared.statistics_listing.FileStatisticsEnd.TheVariants.{Unsound as NotCounted}
-use Rattle.command_support.specs.declared.fault.Fault.{Fault}
-use Rattle.command_support.specs.declared.fault.Fault.TheVariants.{Deck, NotListed, NoSuchFile, NoSuchKey, LoneKeyName}
-use Rattle.command_support.specs.declared.fault.Fault.TheVariants.{Form as NoForm, Unexplained, LongValue, NoFileName}
-use Rattle.command_support.specs.declared.fault.Fault.TheVariants.{Condition as NoCondition, LoneRejects}
-use Rattle.command_support.specs.declared.fault.Fault.TheVariants.{Usage, Input, Output, Memory}
+use Rattle.command_support.specs.declared.fault.CommandFault.{CommandFault}
+use Rattle.command_support.specs.declared.fault.CommandFault.TheVariants.{Deck, NotListed, NoSuchFile, NoSuchKey, LoneKeyName}
+use Rattle.command_support.specs.declared.fault.CommandFault.TheVariants.{Form as NoForm, Unexplained, LongValue, NoFileName}
+use Rattle.command_support.specs.declared.fault.CommandFault.TheVariants.{Condition as NoCondition, LoneRejects}
+use Rattle.command_support.specs.declared.fault.CommandFault.TheVariants.{Usage, Input, Output, Memory}
 use Rattle.command_support.specs.declared.outcome.WorstCheck.{WorstCheck}
 use Rattle.command_support.specs.declared.outcome.WorstCheck.TheVariants.{AllSound}
 use Rattle.command_support.specs.declared.outcome.WorstCheck.TheVariants.{Unsound as SomeUnsound}
@@ -36,7 +36,7 @@ use Rattle.salvaged_records.specs.declared.salvaging.Salvage.TheVariants.{All as
 use Rattle.salvaged_records.specs.declared.salvaging.Salvage.TheVariants.{Unsound as NotSalvaged}
 
 -- the exit status that tells a fault
-abbrev pub status_of : Fault → ℕ
+abbrev pub status_of : CommandFault → ℕ
 status_of (NoSuchKey _) = 1
 status_of (Deck _) = 2
 status_of (NotListed _) = 2
@@ -129,7 +129,7 @@ status_for (Salvaged end) = status_of_salvage end
 status_for (Copied end) = status_of_copy end
 
 -- the exit status that tells what happened
-abbrev pub exit_status : Result Outcome Fault → ℕ
+abbrev pub exit_status : Result Outcome CommandFault → ℕ
 exit_status (Ok outcome) = status_for outcome
 exit_status (Err fault) = status_of fault
 

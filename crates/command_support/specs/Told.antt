@@ -6,16 +6,16 @@ use Rattle.deck_runner.specs.declared.fault.RunFault.TheVariants.{Memory as NoMe
 use Rattle.command_words.specs.declared.fault.WordsFault.{WordsFault}
 use Rattle.command_words.specs.declared.fault.WordsFault.TheVariants.{Usage as NotUnderstood}
 use Rattle.command_words.specs.declared.fault.WordsFault.TheVariants.{Memory as NoMemoryForWords}
-use Rattle.command_support.specs.declared.fault.Fault.{Fault}
-use Rattle.command_support.specs.declared.fault.Fault.TheVariants.{Deck, Usage, Output, Memory}
+use Rattle.command_support.specs.declared.fault.CommandFault.{CommandFault}
+use Rattle.command_support.specs.declared.fault.CommandFault.TheVariants.{Deck, Usage, Output, Memory}
 
 -- why a run did not end
-abbrev pub told_as : RunFault → Fault
+abbrev pub told_as : RunFault → CommandFault
 told_as (DeckRefused fault) = Deck fault
 told_as LineRefused = Output
 told_as NoMemory = Memory
 
 -- why words ask for nothing
-abbrev pub words_told_as : WordsFault → Fault
+abbrev pub words_told_as : WordsFault → CommandFault
 words_told_as (NotUnderstood text) = Usage text
 words_told_as NoMemoryForWords = Memory

@@ -10,7 +10,7 @@ ghost use Rattle.command_support.specs.Forms.{WantsOnlyMemory};
 use crate::condition_fault::ConditionFault;
 use crate::conditions::conditions_of;
 use crate::deck::{deck_at, file_in};
-use crate::fault::Fault;
+use crate::fault::CommandFault;
 use crate::form_fault::FormFault;
 use crate::forms::{ListForm, form_of};
 use crate::key::{key_in, key_without_deck};
@@ -48,7 +48,7 @@ fn fault_beside(asked: FormWords<'_>) -> Option<FormFault>
 }
 
 /// The form of a word, with the elementary items of a record for its columns.
-fn form_by(alloc: Global, kind: &str, layout: &Layout) -> Result<Form, Fault>
+fn form_by(alloc: Global, kind: &str, layout: &Layout) -> Result<Form, CommandFault>
     requires { IsFormWord kind.now }
     ensures { WantsOnlyMemory (IsWrittenAs kind.now layout.now) result }
 {
@@ -58,7 +58,7 @@ fn form_by(alloc: Global, kind: &str, layout: &Layout) -> Result<Form, Fault>
     match item_columns(alloc, layout) {
         Ok(columns) if kind == "csv" => Ok(Form::Csv(columns)),
         Ok(columns) => Ok(Form::Json(columns)),
-        Err(_) => Err(Fault::Memory),
+        Err(_) => Err(CommandFault::Memory),
     }
 }
 
@@ -73,7 +73,7 @@ fn form_where<S: System, I: Read>(
     key: &str,
     words: &[&str],
     input: &mut I,
-) -> Result<AskedForm, Fault>
+) -> Result<AskedForm, CommandFault>
     requires { IsFormWord asked.kind.now }
     ensures { ByReads (GivesFormOfFile (I.remaining input.old) deck.now name.now
         (list_words asked.entry key.now words.now) result) (S.state system.old) (S.state system.new) }
@@ -114,7 +114,7 @@ fn form_alone<S: System, I: Read>(
     asked: FormWords<'_>,
     key: u8,
     input: &mut I,
-) -> Result<AskedForm, Fault>
+) -> Result<AskedForm, CommandFault>
     ensures { ByReads (ComesOfFormAlone (I.remaining input.old) (form_text asked.entry) key result)
         (S.state system.old) (S.state system.new) }
 {
@@ -129,13 +129,13 @@ fn form_alone<S: System, I: Read>(
 }
 
 /// What is wrong where there is no deck for a key that is no number, or for conditions.
-fn fault_without_deck(words: &[&str]) -> Fault
+fn fault_without_deck(words: &[&str]) -> CommandFault
     ensures { TellsDeckWanted (texts_of words.now) result }
 {
     if words.is_empty() {
-        return Fault::LoneKeyName;
+        return CommandFault::LoneKeyName;
     }
-    Fault::Condition(ConditionFault::NoDeck)
+    CommandFault::Condition(ConditionFault::NoDeck)
 }
 
 #[tactic(auto, using(folder_shelf::proofs::ReadingLemmas::by_none))]
@@ -151,7 +151,7 @@ pub fn form_and_conditions<S: System, I: Read>(
     key: &str,
     words: &[&str],
     input: &mut I,
-) -> Result<AskedForm, Fault>
+) -> Result<AskedForm, CommandFault>
     ensures { ByReads (ComesOfAskedForm (I.remaining input.old) (list_words asked.entry key.now words.now)
         result) (S.state system.old) (S.state system.new) }
 {
@@ -160,10 +160,10 @@ pub fn form_and_conditions<S: System, I: Read>(
     }
     match (asked.deck, asked.name) {
         (Some(deck), Some(name)) => match fault_beside(asked) {
-            Some(fault) => Err(Fault::Form(fault)),
+            Some(fault) => Err(CommandFault::Form(fault)),
             None => form_where(system, alloc, asked, deck, name, key, words, input),
         },
         (None, None) => Err(fault_without_deck(words)),
-        (Some(_), None) | (None, Some(_)) => Err(Fault::Form(FormFault::HalfDeck)),
+        (Some(_), None) | (None, Some(_)) => Err(CommandFault::Form(FormFault::HalfDeck)),
     }
 }

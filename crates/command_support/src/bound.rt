@@ -5,7 +5,7 @@ ghost use Rattle.command_support.specs.Bound.{byte_in, byte_of_digits, digit_in,
 ghost use Rattle.command_support.specs.Front.{word_in};
 ghost use Rattle.command_support.specs.Bound.{FitsValue};
 
-use crate::fault::Fault;
+use crate::fault::CommandFault;
 use io_state::Key;
 
 /// What a hexadecimal digit counts, if it is one; its letters are small.
@@ -64,14 +64,14 @@ pub fn next_byte(text: &[u8]) -> Option<(u8, &[u8])>
 
 /// A value, of which no key has more than 250 bytes. A backslash and two hexadecimal digits are a
 /// byte, as a list writes it; any other backslash is one.
-pub fn value_of(text: &str) -> Result<Key, Fault>
+pub fn value_of(text: &str) -> Result<Key, CommandFault>
     ensures { FitsValue (λ key. key.items ≡ unescaped text.now) result }
 {
     let mut key = Key::new();
     let mut rest = text.as_bytes();
     'more: while let Some((byte, behind)) = next_byte(rest) {
         if key.try_push(byte).is_err() {
-            return Err(Fault::LongValue);
+            return Err(CommandFault::LongValue);
         }
         rest = behind;
     }
@@ -79,7 +79,7 @@ pub fn value_of(text: &str) -> Result<Key, Fault>
 }
 
 /// A last value, if there is one.
-pub fn last_of(text: Option<&str>) -> Result<Option<Key>, Fault>
+pub fn last_of(text: Option<&str>) -> Result<Option<Key>, CommandFault>
     ensures { FitsValue (λ key. option_map (λ key. key.items) key ≡ option_map unescaped (word_in text.entry))
         result }
 {

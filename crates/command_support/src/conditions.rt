@@ -12,7 +12,7 @@ ghost use Rattle.command_support.specs.Conditions.{texts_of};
 
 use crate::bound::next_byte;
 use crate::condition_fault::ConditionFault;
-use crate::fault::Fault;
+use crate::fault::CommandFault;
 use io_state::Name;
 use record_layout::{Field, Placed};
 use record_listing::{Condition, Operator};
@@ -167,21 +167,21 @@ fn full_value(alloc: Global, field: Field, value: &[u8]) -> Result<Vec<u8>, Allo
 
 /// The condition of a word on a record of these items. `NoSign`: it has none. `NoItem`: the record has
 /// no item of its name. `LongValue`: the value is longer than the item. `Memory`.
-fn condition_of(alloc: Global, items: &[Placed], word: &str) -> Result<Condition, Fault>
+fn condition_of(alloc: Global, items: &[Placed], word: &str) -> Result<Condition, CommandFault>
     ensures { ComesOfWords (IsConditionBy (map item_of items.now) word.now) (map item_of items.now)
         (word.now ∷ []) result }
 {
     let Some(said) = said_in(word) else {
-        return Err(Fault::Condition(ConditionFault::NoSign));
+        return Err(CommandFault::Condition(ConditionFault::NoSign));
     };
     let Some(field) = item_with_name(items, said.name) else {
-        return Err(Fault::Condition(ConditionFault::NoItem));
+        return Err(CommandFault::Condition(ConditionFault::NoItem));
     };
     let Ok(value) = value_in(alloc, said.value) else {
-        return Err(Fault::Memory);
+        return Err(CommandFault::Memory);
     };
     if value.len() > usize::from(field.length) {
-        return Err(Fault::Condition(ConditionFault::LongValue));
+        return Err(CommandFault::Condition(ConditionFault::LongValue));
     }
     match full_value(alloc, field, value.as_slice()) {
         Ok(value) => Ok(Condition {
@@ -189,7 +189,7 @@ fn condition_of(alloc: Global, items: &[Placed], word: &str) -> Result<Condition
             operator: said.operator,
             value,
         }),
-        Err(_) => Err(Fault::Memory),
+        Err(_) => Err(CommandFault::Memory),
     }
 }
 
@@ -199,7 +199,7 @@ fn add_conditions(
     items: &[Placed],
     words: &[&str],
     conditions: &mut Vec<Condition>,
-) -> Result<(), Fault>
+) -> Result<(), CommandFault>
     ensures { AddsOrRefuses (map item_of items.now) (texts_of words.now) conditions.old.items
         conditions.new.items result }
 {
@@ -211,7 +211,7 @@ fn add_conditions(
         Err(fault) => return Err(fault),
     };
     if conditions.push(condition).is_err() {
-        return Err(Fault::Memory);
+        return Err(CommandFault::Memory);
     }
     add_conditions(alloc, items, rest, conditions)
 }
@@ -221,7 +221,7 @@ pub fn conditions_of(
     alloc: Global,
     items: &[Placed],
     words: &[&str],
-) -> Result<Vec<Condition>, Fault>
+) -> Result<Vec<Condition>, CommandFault>
     ensures { GivesConditions (map item_of items.now) (texts_of words.now) result }
 {
     let mut conditions = Vec::new(alloc);

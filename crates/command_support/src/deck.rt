@@ -3,7 +3,7 @@ ghost use Rattle.std.specs.Prelude.{◌≡◌, None, find, option_map, IfOk, IfE
 ghost use Rattle.folder_shelf.specs.Reading.{ByReads};
 ghost use Rattle.command_support.specs.DeckFile.{is_named_in_deck, IsFileOf, IsDeckAt, ComesOfDeck, GivesDeck};
 
-use crate::fault::Fault;
+use crate::fault::CommandFault;
 use crate::file_bytes::read_deck_bytes;
 use deck_runner::{Deck, RunFault, read_deck};
 use file_control::FileDesc;
@@ -13,12 +13,12 @@ use std::io::Read;
 
 #[tactic(auto, using(crate::proofs::DeckLemmas::of_a_deck))]
 /// The deck that the bytes are.
-pub fn deck_of(alloc: Global, bytes: &[u8]) -> Result<Deck, Fault>
+pub fn deck_of(alloc: Global, bytes: &[u8]) -> Result<Deck, CommandFault>
     ensures { GivesDeck bytes.now result }
 {
     match read_deck(alloc, bytes) {
         Ok(deck) => Ok(deck),
-        Err(fault) => Err(Fault::of_run(RunFault::of(fault))),
+        Err(fault) => Err(CommandFault::of_run(RunFault::of(fault))),
     }
 }
 
@@ -43,7 +43,7 @@ pub fn deck_at<S: System, I: Read>(
     alloc: Global,
     path: &str,
     input: &mut I,
-) -> Result<Deck, Fault>
+) -> Result<Deck, CommandFault>
     ensures { ByReads (λ calls. ComesOfDeck (IsDeckAt calls (I.remaining input.old) path.now) result)
         (S.state system.old) (S.state system.new) }
 {
@@ -55,13 +55,13 @@ pub fn deck_at<S: System, I: Read>(
 }
 
 /// The file of a name in a deck.
-pub fn file_in<'a>(deck: &'a Deck, name: &str) -> Result<&'a FileDesc, Fault>
+pub fn file_in<'a>(deck: &'a Deck, name: &str) -> Result<&'a FileDesc, CommandFault>
     ensures file { IfOk result (λ file. IsFileOf deck.now.files name.now file.now) }
     ensures none { IfErr result (λ fault. find (is_named_in_deck name.now) deck.now.files ≡ None) }
-    ensures fault { IfErr result (λ fault. fault ≡ Fault.NoSuchFile) }
+    ensures fault { IfErr result (λ fault. fault ≡ CommandFault.NoSuchFile) }
 {
     match file_named(deck.files.as_slice(), name) {
         Some(file) => Ok(file),
-        None => Err(Fault::NoSuchFile),
+        None => Err(CommandFault::NoSuchFile),
     }
 }

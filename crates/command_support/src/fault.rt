@@ -48,7 +48,7 @@ impl fmt::Display for UnknownKey {
 
 /// Why no run ended.
 ///
-/// | Fault | Exit status | On standard error |
+/// | CommandFault | Exit status | On standard error |
 /// |---|---|---|
 /// | the deck is refused | 2 | `cobix: line L: fault C` |
 /// | a deck to be listed, or written in COBOL, is refused | 2 | the same, then line, word and reason, and those of further faults |
@@ -66,7 +66,7 @@ impl fmt::Display for UnknownKey {
 /// | the transcript, or the help, cannot be written | 4 | `cobix: output` |
 /// | want of memory | 4 | `cobix: memory` |
 #[derive(Debug, Drop, Error)]
-pub enum Fault {
+pub enum CommandFault {
     #[error("cobix: {0}")]
     Deck(DeckFault),
     #[error("cobix: {0}")]
@@ -122,38 +122,38 @@ fn tell_numbers<E: Write>(err: &mut E) -> io::Result<()> {
     writeln!(err, "  unsound{REASON_NUMBERS}")
 }
 
-impl Fault {
+impl CommandFault {
     /// Why something was not read: for want of memory, or for another reason.
-    pub fn of_input(error: io::Error) -> Fault
-        ensures told { (result ≡ Fault.Input) ⊎ (result ≡ Fault.Memory) }
-        ensures memory { error_kind error ≡ ErrorKind.OutOfMemory → result ≡ Fault.Memory }
-        ensures input { error_kind error ≢ ErrorKind.OutOfMemory → result ≡ Fault.Input }
+    pub fn of_input(error: io::Error) -> CommandFault
+        ensures told { (result ≡ CommandFault.Input) ⊎ (result ≡ CommandFault.Memory) }
+        ensures memory { error_kind error ≡ ErrorKind.OutOfMemory → result ≡ CommandFault.Memory }
+        ensures input { error_kind error ≢ ErrorKind.OutOfMemory → result ≡ CommandFault.Input }
     {
         if error.kind() == ErrorKind::OutOfMemory {
-            Fault::Memory
+            CommandFault::Memory
         } else {
-            Fault::Input
+            CommandFault::Input
         }
     }
 
     /// Why words were not read.
-    pub fn of_words(fault: WordsFault) -> Fault
+    pub fn of_words(fault: WordsFault) -> CommandFault
         ensures { result ≡ words_told_as fault }
     {
         match fault {
-            WordsFault::Usage(error) => Fault::Usage(error),
-            WordsFault::Memory => Fault::Memory,
+            WordsFault::Usage(error) => CommandFault::Usage(error),
+            WordsFault::Memory => CommandFault::Memory,
         }
     }
 
     /// Why a run did not end.
-    pub fn of_run(fault: RunFault) -> Fault
+    pub fn of_run(fault: RunFault) -> CommandFault
         ensures { result ≡ told_as fault }
     {
         match fault {
-            RunFault::Deck(fault) => Fault::Deck(fault),
-            RunFault::Output => Fault::Output,
-            RunFault::Memory => Fault::Memory,
+            RunFault::Deck(fault) => CommandFault::Deck(fault),
+            RunFault::Output => CommandFault::Output,
+            RunFault::Memory => CommandFault::Memory,
         }
     }
 
@@ -168,9 +168,9 @@ impl Fault {
     fn write<E: Write>(&self, err: &mut E) -> io::Result<()> {
         match self {
             // Its text ends its own lines.
-            Fault::Usage(error) => write!(err, "{error}"),
-            Fault::NotListed(refused) => tell_refused(refused, err),
-            Fault::Unexplained => tell_numbers(err),
+            CommandFault::Usage(error) => write!(err, "{error}"),
+            CommandFault::NotListed(refused) => tell_refused(refused, err),
+            CommandFault::Unexplained => tell_numbers(err),
             fault => writeln!(err, "{fault}"),
         }
     }
@@ -179,36 +179,36 @@ impl Fault {
         ensures { result ≡ status_of self.now }
     {
         match self {
-            Fault::NoSuchKey(_) => 1,
-            Fault::Deck(_) => 2,
-            Fault::NotListed(_) => 2,
-            Fault::Usage(_) => 3,
-            Fault::NoSuchFile | Fault::Form(_) | Fault::Condition(_) => 3,
-            Fault::Unexplained | Fault::LongValue | Fault::LoneKeyName => 3,
-            Fault::LoneRejects | Fault::NoFileName => 3,
-            Fault::Input | Fault::Output | Fault::Memory => 4,
+            CommandFault::NoSuchKey(_) => 1,
+            CommandFault::Deck(_) => 2,
+            CommandFault::NotListed(_) => 2,
+            CommandFault::Usage(_) => 3,
+            CommandFault::NoSuchFile | CommandFault::Form(_) | CommandFault::Condition(_) => 3,
+            CommandFault::Unexplained | CommandFault::LongValue | CommandFault::LoneKeyName => 3,
+            CommandFault::LoneRejects | CommandFault::NoFileName => 3,
+            CommandFault::Input | CommandFault::Output | CommandFault::Memory => 4,
         }
     }
 }
 
-impl From<AllocError> for Fault {
+impl From<AllocError> for CommandFault {
     ghost use Rattle.std.specs.Prelude.{◌≡◌};
-    ghost use Rattle.command_support.specs.declared.fault.Fault.TheVariants.{Memory};
+    ghost use Rattle.command_support.specs.declared.fault.CommandFault.TheVariants.{Memory};
 
     ghost from_gives = { λ _ fault. fault ≡ Memory };
 
-    fn from(_error: AllocError) -> Fault {
-        Fault::Memory
+    fn from(_error: AllocError) -> CommandFault {
+        CommandFault::Memory
     }
 }
 
-impl<T: Drop> From<AllocFailed<T>> for Fault {
+impl<T: Drop> From<AllocFailed<T>> for CommandFault {
     ghost use Rattle.std.specs.Prelude.{◌≡◌};
-    ghost use Rattle.command_support.specs.declared.fault.Fault.TheVariants.{Memory};
+    ghost use Rattle.command_support.specs.declared.fault.CommandFault.TheVariants.{Memory};
 
     ghost from_gives = { λ _ fault. fault ≡ Memory };
 
-    fn from(_error: AllocFailed<T>) -> Fault {
-        Fault::Memory
+    fn from(_error: AllocFailed<T>) -> CommandFault {
+        CommandFault::Memory
     }
 }

@@ -7,7 +7,7 @@ ghost use Rattle.command_support.specs.Status.{status_of};
 ghost use Rattle.command_support.specs.Front.{asked_by, longest_line, IsTextTaken, GivesSuch};
 ghost use Rattle.command_support.specs.Front.{ReadsDeckNamed, ReadsTextNamed, ReadsCounted};
 
-use crate::fault::Fault;
+use crate::fault::CommandFault;
 use byteorder::{BigEndian, ByteOrder};
 use file_control::DECK_LIMIT;
 use folder_shelf::System;
@@ -30,18 +30,18 @@ const PAGES_END: usize = 16;
 const LONGEST_LINE: usize = 1_048_576;
 
 /// Why bytes did not come, as the command tells it.
-pub fn fault_of(fault: ReadFault) -> Fault
+pub fn fault_of(fault: ReadFault) -> CommandFault
     ensures { status_of result ≡ 4 }
 {
     match fault {
-        ReadFault::Memory => Fault::Memory,
-        ReadFault::Device(Cause::Other(ErrorKind::OutOfMemory)) => Fault::Memory,
-        ReadFault::Device(_) => Fault::Input,
+        ReadFault::Memory => CommandFault::Memory,
+        ReadFault::Device(Cause::Other(ErrorKind::OutOfMemory)) => CommandFault::Memory,
+        ReadFault::Device(_) => CommandFault::Input,
     }
 }
 
 /// The bytes of the input to its end, or so many of the first ones.
-fn read_input<I: Read>(alloc: Global, input: &mut I, most: usize) -> Result<Vec<u8>, Fault>
+fn read_input<I: Read>(alloc: Global, input: &mut I, most: usize) -> Result<Vec<u8>, CommandFault>
     ensures { GivesSuch (λ bytes. IsFrontRead most (I.remaining input.old) bytes.items) result }
 {
     match read_front(alloc, input, most) {
@@ -51,7 +51,7 @@ fn read_input<I: Read>(alloc: Global, input: &mut I, most: usize) -> Result<Vec<
 }
 
 /// The bytes of the file of a path to its end, or so many of the first ones.
-fn take_front<S: System>(system: &mut S, path: &str, most: usize) -> Result<Vec<u8>, Fault>
+fn take_front<S: System>(system: &mut S, path: &str, most: usize) -> Result<Vec<u8>, CommandFault>
     ensures { ByReads (λ calls. GivesSuch (λ bytes.
         calls ≡ taken path.now most (Some bytes.items) ∷ []) result)
         (S.state system.old) (S.state system.new) }
@@ -69,7 +69,7 @@ pub fn read_deck_bytes<S: System, I: Read>(
     alloc: Global,
     path: &str,
     input: &mut I,
-) -> Result<Vec<u8>, Fault>
+) -> Result<Vec<u8>, CommandFault>
     ensures { ByReads (ReadsDeckNamed I.remaining path.now input.old input.new result)
         (S.state system.old) (S.state system.new) }
 {
@@ -81,7 +81,7 @@ pub fn read_deck_bytes<S: System, I: Read>(
 
 /// The text that the input has: all of it, or a front that ends in a line which is too long for any
 /// record.
-fn read_input_text<I: Read>(alloc: Global, input: &mut I) -> Result<Vec<u8>, Fault>
+fn read_input_text<I: Read>(alloc: Global, input: &mut I) -> Result<Vec<u8>, CommandFault>
     ensures { GivesSuch (λ text. IsTextRead longest_line (I.remaining input.old) text.items) result }
 {
     match read_lines(alloc, input, LONGEST_LINE) {
@@ -91,7 +91,7 @@ fn read_input_text<I: Read>(alloc: Global, input: &mut I) -> Result<Vec<u8>, Fau
 }
 
 /// The same of the file of a path.
-fn take_text<S: System>(system: &mut S, path: &str) -> Result<Vec<u8>, Fault>
+fn take_text<S: System>(system: &mut S, path: &str) -> Result<Vec<u8>, CommandFault>
     ensures { ByReads (λ calls. GivesSuch (λ text. IsTextTaken calls path.now text.items) result)
         (S.state system.old) (S.state system.new) }
 {
@@ -108,7 +108,7 @@ pub fn read_text<S: System, I: Read>(
     alloc: Global,
     path: &str,
     input: &mut I,
-) -> Result<Vec<u8>, Fault>
+) -> Result<Vec<u8>, CommandFault>
     ensures { ByReads (ReadsTextNamed I.remaining path.now input.old input.new result)
         (S.state system.old) (S.state system.new) }
 {
@@ -183,7 +183,7 @@ pub fn read_counted<S: System, P: Progress>(
 
 /// The first page of the file of a path, or all bytes that it has where they are fewer, as long as
 /// no run changes it.
-pub fn read_first_page<S: System>(system: &mut S, path: &str) -> Result<Vec<u8>, Fault>
+pub fn read_first_page<S: System>(system: &mut S, path: &str) -> Result<Vec<u8>, CommandFault>
     ensures { ByReads (λ calls. GivesSuch (λ bytes.
         calls ≡ taken_shared path.now 4096 (Some bytes.items) ∷ []) result)
         (S.state system.old) (S.state system.new) }

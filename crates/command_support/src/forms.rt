@@ -8,7 +8,7 @@ ghost use Rattle.command_support.specs.Forms.{IsFormToldBy, ComesOfCuts, ComesOf
 
 use crate::cuts::read_cuts;
 use crate::deck::{deck_at, file_in};
-use crate::fault::Fault;
+use crate::fault::CommandFault;
 use crate::form_fault::FormFault;
 use command_words::FormWords;
 use folder_shelf::System;
@@ -34,7 +34,7 @@ pub struct ListForm {
 }
 
 /// The columns between the cuts of a text.
-fn columns_between(alloc: Global, text: &str) -> Result<Columns, Fault>
+fn columns_between(alloc: Global, text: &str) -> Result<Columns, CommandFault>
     ensures { ComesOfCuts (AreBetweenCuts text.now) (AreNoCuts text.now) result }
 {
     let cuts = match read_cuts(alloc, text) {
@@ -46,8 +46,8 @@ fn columns_between(alloc: Global, text: &str) -> Result<Columns, Fault>
             columns,
             schema: None,
         }),
-        Err(CutFault::Order) => Err(Fault::Form(FormFault::Cuts)),
-        Err(CutFault::Memory) => Err(Fault::Memory),
+        Err(CutFault::Order) => Err(CommandFault::Form(FormFault::Cuts)),
+        Err(CutFault::Memory) => Err(CommandFault::Memory),
     }
 }
 
@@ -58,7 +58,7 @@ fn columns_in<S: System, I: Read>(
     deck: &str,
     name: &str,
     input: &mut I,
-) -> Result<Columns, Fault>
+) -> Result<Columns, CommandFault>
     ensures { ByReads (λ calls. ComesOfDeck (AreItemsAt calls (I.remaining input.old) deck.now name.now) result)
         (S.state system.old) (S.state system.new) }
 {
@@ -75,12 +75,12 @@ fn columns_in<S: System, I: Read>(
             columns,
             schema: Some(file.schema.copy()),
         }),
-        Err(_) => Err(Fault::Memory),
+        Err(_) => Err(CommandFault::Memory),
     }
 }
 
 /// The record as one column.
-fn whole(alloc: Global) -> Result<Columns, Fault>
+fn whole(alloc: Global) -> Result<Columns, CommandFault>
     ensures { WantsOnlyMemory IsWholeRecord result }
 {
     match whole_column(alloc) {
@@ -88,7 +88,7 @@ fn whole(alloc: Global) -> Result<Columns, Fault>
             columns,
             schema: None,
         }),
-        Err(_) => Err(Fault::Memory),
+        Err(_) => Err(CommandFault::Memory),
     }
 }
 
@@ -99,7 +99,7 @@ fn columns_of<S: System, I: Read>(
     alloc: Global,
     asked: FormWords<'_>,
     input: &mut I,
-) -> Result<Columns, Fault>
+) -> Result<Columns, CommandFault>
     ensures { ByReads (λ calls. ComesOfForm (AreColumnsBy calls (I.remaining input.old)) asked.entry result)
         (S.state system.old) (S.state system.new) }
 {
@@ -107,13 +107,13 @@ fn columns_of<S: System, I: Read>(
         (None, None, None) => whole(alloc),
         (Some(text), None, None) => columns_between(alloc, text),
         (None, Some(deck), Some(name)) => columns_in(system, alloc, deck, name, input),
-        (Some(_), Some(_), Some(_)) => Err(Fault::Form(FormFault::CutAndDeck)),
-        (_, Some(_), None) | (_, None, Some(_)) => Err(Fault::Form(FormFault::HalfDeck)),
+        (Some(_), Some(_), Some(_)) => Err(CommandFault::Form(FormFault::CutAndDeck)),
+        (_, Some(_), None) | (_, None, Some(_)) => Err(CommandFault::Form(FormFault::HalfDeck)),
     }
 }
 
 /// Text, where no columns are asked for.
-fn text_form(asked: FormWords<'_>) -> Result<ListForm, Fault>
+fn text_form(asked: FormWords<'_>) -> Result<ListForm, CommandFault>
     requires { asked.kind.now ≡ codes "text" }
     ensures { (input : Option (List ℕ)) → ComesOfForm (IsFormToldBy [] input) asked.entry result }
 {
@@ -122,7 +122,7 @@ fn text_form(asked: FormWords<'_>) -> Result<ListForm, Fault>
             form: Form::Text,
             schema: None,
         }),
-        _ => Err(Fault::Form(FormFault::TextColumns)),
+        _ => Err(CommandFault::Form(FormFault::TextColumns)),
     }
 }
 
@@ -134,7 +134,7 @@ pub fn form_of<S: System, I: Read>(
     alloc: Global,
     asked: FormWords<'_>,
     input: &mut I,
-) -> Result<ListForm, Fault>
+) -> Result<ListForm, CommandFault>
     ensures { ByReads (λ calls. ComesOfForm (IsFormToldBy calls (I.remaining input.old)) asked.entry result)
         (S.state system.old) (S.state system.new) }
 {
@@ -159,5 +159,5 @@ pub fn form_of<S: System, I: Read>(
             Err(fault) => Err(fault),
         };
     }
-    Err(Fault::Form(FormFault::Kind))
+    Err(CommandFault::Form(FormFault::Kind))
 }

@@ -7,7 +7,7 @@ ghost use Rattle.command_support.specs.AskedKey.{IsKeyNumber, IsNoKeyNumber, Wan
 ghost use Rattle.command_support.specs.AskedKey.{key_named, TellsUnknownKey, FindsAskedKey};
 
 use crate::conditions::item_with_name;
-use crate::fault::{Fault, UnknownKey};
+use crate::fault::{CommandFault, UnknownKey};
 use file_control::FileDesc;
 use std::alloc::Global;
 
@@ -59,20 +59,20 @@ fn key_named(file: &FileDesc, name: &str) -> Option<u8>
 }
 
 /// Why a file of a deck has no key of a name.
-fn unknown(alloc: Global, file: &FileDesc, name: &str) -> Fault
+fn unknown(alloc: Global, file: &FileDesc, name: &str) -> CommandFault
     ensures { TellsUnknownKey file.now name.now result }
 {
     match name.to_string(alloc) {
-        Ok(name) => Fault::NoSuchKey(UnknownKey {
+        Ok(name) => CommandFault::NoSuchKey(UnknownKey {
             name,
             file: file.name,
         }),
-        Err(_) => Fault::Memory,
+        Err(_) => CommandFault::Memory,
     }
 }
 
 /// The number of the key that a word asks for in a file of a deck, by its number or its name.
-pub fn key_in(alloc: Global, file: &FileDesc, word: &str) -> Result<u8, Fault>
+pub fn key_in(alloc: Global, file: &FileDesc, word: &str) -> Result<u8, CommandFault>
     ensures { FindsAskedKey file.now word.now result }
 {
     if let Some(number) = key_number(word) {

@@ -4,7 +4,7 @@ ghost use Rattle.command_support.specs.Status.{status_by, status_of_list, status
 ghost use Rattle.command_support.specs.Status.{status_of_comparison, status_where, status_for, exit_status};
 ghost use Rattle.command_support.specs.Status.{status_of_worst, status_of_salvage, status_of_copy};
 
-use crate::fault::Fault;
+use crate::fault::CommandFault;
 use deck_runner::RunEnd;
 use explanations::REASON_LINES;
 use file_building::CopyEnd;
@@ -198,7 +198,7 @@ fn tell_copy<E: Write>(end: CopyEnd, err: &mut E) -> io::Result<()> {
         CopyEnd::NoKey => return writeln!(err, "cobix: the file has no such key"),
         CopyEnd::IsThere => return writeln!(err, "cobix: the new file is there already"),
         CopyEnd::Full => {
-            writeln!(err, "{}", Fault::Output)?;
+            writeln!(err, "{}", CommandFault::Output)?;
             return writeln!(
                 err,
                 "  the new file needs more pages than '--pages' gives it"
@@ -262,7 +262,7 @@ impl Outcome {
             let _ = tell_salvage(end, err);
         }
         if let Outcome::CheckedAll(WorstCheck::Unread) = self {
-            let _ = writeln!(err, "{}", Fault::Input);
+            let _ = writeln!(err, "{}", CommandFault::Input);
         }
         match self {
             Outcome::Loaded(end) => report_load(&end, err),
@@ -293,7 +293,7 @@ impl Outcome {
 
 /// The exit status of what happened. A fault, and why a file has no schema or no list, is told as
 /// far as the writer takes it.
-pub fn report<E: Write>(outcome: Result<Outcome, Fault>, err: &mut E) -> u8
+pub fn report<E: Write>(outcome: Result<Outcome, CommandFault>, err: &mut E) -> u8
     ensures { result ≡ exit_status outcome }
 {
     match outcome {

@@ -4,7 +4,7 @@ use Rattle.io_state.specs.declared.fault.Fault.{Fault}
 use Rattle.indexed_file.specs.Sound.{is_file}
 use Rattle.pages.specs.Answer.{IsAnswer}
 use Rattle.record_heap.specs.declared.heap.Heap.{Heap}
-use Rattle.record_heap.specs.declared.shape.Shape.{Shape}
+use Rattle.record_heap.specs.declared.shape.SlotShape.{SlotShape}
 use Rattle.key_index.specs.declared.prime_index.PrimeIndex.{PrimeIndex}
 use Rattle.key_index.specs.declared.alt_index.AltIndex.{AltIndex}
 use Rattle.open_file.specs.Fields.{file_schema, next_stamp_of, alternates_of}
@@ -24,9 +24,9 @@ module _ (source : OpenFile) (heap : Heap) (prime : PrimeIndex) (alternates : Li
   for_schema : ArePartsLike source heap prime alternates → ArePartsFor (file_schema source) heap prime alternates
   for_schema like = record {
     slots_are = record {
-      stamps = ap (λ (s : Shape). s.stamps) like.slots_are ∙ shaped.stamps;
-      least = ap (λ (s : Shape). s.least) like.slots_are ∙ shaped.least;
-      greatest = ap (λ (s : Shape). s.greatest) like.slots_are ∙ shaped.greatest;
+      stamps = ap (λ (s : SlotShape). s.stamps) like.slots_are ∙ shaped.stamps;
+      least = ap (λ (s : SlotShape). s.least) like.slots_are ∙ shaped.least;
+      greatest = ap (λ (s : SlotShape). s.greatest) like.slots_are ∙ shaped.greatest;
     };
     width_is = like.width_is ∙ shaped.prime_width;
     indexes = record {

@@ -26,7 +26,7 @@ use Rattle.open_file.proofs.HeaderLemmas.{prime_entries_many}
 use Rattle.shelf_library.specs.ClosedFile.{AreClosed, StandsIn}
 use Rattle.shelf_library.specs.Named.{look_of}
 use Rattle.shelf_library.specs.Shelves.{ClosedFileOrRefused}
-use Rattle.shelf_library.specs.declared.look.Look.TheVariants.{Accepted}
+use Rattle.shelf_library.specs.declared.look.HeaderLook.TheVariants.{Accepted}
 use Rattle.shelf_library.specs.FileAcceptedLemmas.{looks_accepted, accepted_there}
 use Rattle.file_building.specs.declared.fault.Copied.{Copied}
 use Rattle.file_building.specs.declared.fault.CopyingFault.{CopyingFault}

@@ -11,7 +11,7 @@ use Rattle.pages.specs.Each.{Each}
 use Rattle.pages.specs.PageMap.{PageMap}
 use Rattle.tree_node.specs.Order.{less, Ascends}
 use Rattle.tree_node.proofs.OrderLemmas.{less_itself}
-use Rattle.record_heap.specs.declared.shape.Shape.{Shape}
+use Rattle.record_heap.specs.declared.shape.SlotShape.{SlotShape}
 use Rattle.record_heap.specs.declared.shape.Place.{Place}
 use Rattle.record_heap.specs.Chain.{Slots, IsOneOf}
 use Rattle.record_heap.specs.Standing.{first_heap_page}
@@ -175,7 +175,7 @@ found_place schema slots new p e (place ∷ places) (row ∷ rows) at one is =
         absurd (let never : true ≡ false = sym yes ∙ not in cc)
     behind (inr rest) not further = further rest
 
-pub rows_moved : (schema : Schema) (shape : Shape) (slots : Slots) (places : List Place) (rows : List Row) (entries : List AltEntry) (start mid after : PageMap) (records : MovedRecords) (index : PrimeIndex)
+pub rows_moved : (schema : Schema) (shape : SlotShape) (slots : Slots) (places : List Place) (rows : List Row) (entries : List AltEntry) (start mid after : PageMap) (records : MovedRecords) (index : PrimeIndex)
     → AreAt schema slots places rows → HasMovedAll shape slots (prime_entries schema places rows) entries start mid records → AreKnown records.places (prime_entries schema places rows) → ((n : ℕ) → start n ≡ None)
     → PrimeChanged mid after index [] (map (moved_entry records.places) (prime_entries schema places rows)) → RowsStandBuilt schema records.heap index [] after rows
 rows_moved schema shape slots places rows entries start mid after records index at all known free changed =

@@ -12,7 +12,7 @@ use Rattle.page_alloc.specs.StepLaws.{failed_after}
 use Rattle.open_file.specs.declared.first_page.Header.{Header}
 use Rattle.shelf_library.specs.ClosedFile.{StandsIn}
 use Rattle.shelf_library.specs.Named.{look_of}
-use Rattle.shelf_library.specs.declared.look.Look.TheVariants.{Accepted}
+use Rattle.shelf_library.specs.declared.look.HeaderLook.TheVariants.{Accepted}
 use Rattle.shelf_library.specs.FileOpening.{counted_shelf}
 use Rattle.shelf_library.specs.LookLemmas.{same_file}
 use Rattle.file_building.specs.declared.fault.Copied.{Copied}

@@ -5,7 +5,7 @@ use Rattle.std.proofs.lemmas.List.{length-take-le}
 use Rattle.arrayvec.specs.ArrayVec.{ArrayVec}
 use Rattle.pages.specs.Each.{Each}
 use Rattle.pages.specs.PageMap.{PageMap}
-use Rattle.tree_node.specs.declared.shape.Shape.{Shape}
+use Rattle.tree_node.specs.declared.shape.NodeShape.{NodeShape}
 use Rattle.tree_node.specs.Order.{less, Ascends, AreUpTo, AreAbove}
 use Rattle.tree_node.proofs.OrderLemmas.{less_itself, not_less, Each-weaker}
 use Rattle.tree_search.specs.Calls.{first_after}
@@ -56,7 +56,7 @@ unfolding less
 from_none [] some = absurd (omega arith)
 from_none (b ∷ bs) some = refl
 
-from_start : (shape : Shape) (entries : List (List ℕ)) → Each (λ e. length e ≡ shape.entry) entries → AreAbove shape.width [] entries
+from_start : (shape : NodeShape) (entries : List (List ℕ)) → Each (λ e. length e ≡ shape.entry) entries → AreAbove shape.width [] entries
 from_start shape entries long =
     Each-weaker (λ e. length e ≡ shape.entry) (λ e. less [] (take shape.width e) ≡ true)
     (λ e is. let some = shape.some in let longer = shape.longer in

@@ -9,7 +9,7 @@ use Rattle.page_store.specs.ShelfState.{ShelfState, HasUnit, KeepsOthers, OnlyAn
 use Rattle.page_alloc.specs.Joining.{FaultsRose}
 use Rattle.open_file.specs.declared.first_page.Header.{Header}
 use Rattle.open_file.specs.Bounds.{IsHeader}
-use Rattle.shelf_library.specs.declared.look.Look.TheVariants.{NoFile, Refused}
+use Rattle.shelf_library.specs.declared.look.HeaderLook.TheVariants.{NoFile, Refused}
 use Rattle.shelf_library.specs.ClosedFile.{AreClosed, StandsIn}
 use Rattle.shelf_library.specs.Named.{look_of}
 use Rattle.shelf_library.specs.FileOpening.{CountedShelf, counted_shelf}

@@ -9,7 +9,7 @@ use Rattle.pages.specs.Owners.{ChangesPages}
 use Rattle.pages.specs.Answer.{IsAnswer}
 use Rattle.pages.specs.Cause.{IsCaused}
 use Rattle.pages.specs.ShownPages.{ShownPages}
-use Rattle.record_heap.specs.declared.shape.Shape.{Shape}
+use Rattle.record_heap.specs.declared.shape.SlotShape.{SlotShape}
 use Rattle.record_heap.specs.declared.shape.Place.{Place}
 use Rattle.record_heap.specs.Slot.{room, FitsSlot}
 use Rattle.record_heap.specs.Chain.{Slots, IsOneOf}
@@ -107,7 +107,7 @@ pub record HasMovedEntries (index : AltIndex) (walk : TreeWalk) (mover : Records
   pub many : length rest ≡ left
 
 -- the records of all entries were moved, into a heap that stands
-pub record HasMovedAll (shape : Shape) (slots : Slots) (primes : List PrimeEntry) (entries : List AltEntry)
+pub record HasMovedAll (shape : SlotShape) (slots : Slots) (primes : List PrimeEntry) (entries : List AltEntry)
     (start pages : PageMap) (records : MovedRecords) : Type 0 where
   pub now : Slots
   pub own : List ℕ
@@ -129,7 +129,7 @@ pub record IsMoving (source : OpenFile) (index : AltIndex) (walk : TreeWalk) (mo
   pub is_mover : IsMover source mover
 
 -- it is for slots of this shape, has no records and no pages, and stands so in all pages
-pub record IsNewMover (shape : Shape) (mover : RecordsMover) : Type 0 where
+pub record IsNewMover (shape : SlotShape) (mover : RecordsMover) : Type 0 where
   pub slots_are : built_shape mover.heap ≡ shape
   pub room_is : mover.places.room ≡ room shape
   pub begun : (pages : PageMap) (slots : Slots) (primes : List PrimeEntry)

@@ -7,7 +7,7 @@ use Rattle.indexed_file.specs.File.{Row}
 use Rattle.indexed_file.specs.Sound.{is_file}
 use Rattle.pages.specs.PageMap.{PageMap}
 use Rattle.pages.specs.Answer.{IsAnswer}
-use Rattle.record_heap.specs.declared.shape.Shape.{Shape}
+use Rattle.record_heap.specs.declared.shape.SlotShape.{SlotShape}
 use Rattle.record_heap.specs.declared.heap.Heap.{Heap}
 use Rattle.record_heap.specs.Standing.{slot_shape, first_heap_page, first_free_slot}
 use Rattle.open_file.specs.declared.first_page.Header.{Header}
@@ -23,7 +23,7 @@ use Rattle.file_building.specs.Rows.{RowsStandBuilt}
 use Rattle.file_building.specs.Alternates.{AreAllIndexesFor}
 
 -- a slot has room for the stamps and the longest record
-pub record IsShapeFor (schema : Schema) (shape : Shape) : Type 0 where
+pub record IsShapeFor (schema : Schema) (shape : SlotShape) : Type 0 where
   pub stamps : shape.stamps ≡ stamps_length (drop 1 schema.keys)
   pub least : shape.least ≡ schema.least
   pub greatest : shape.greatest ≡ schema.greatest

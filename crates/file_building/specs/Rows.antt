@@ -10,7 +10,7 @@ use Rattle.pages.specs.PageMap.{PageMap}
 use Rattle.pages.specs.Answer.{IsAnswer}
 use Rattle.pages.specs.ShownPages.{ShownPages}
 use Rattle.pages.specs.Parted.{Parted}
-use Rattle.record_heap.specs.declared.shape.Shape.{Shape}
+use Rattle.record_heap.specs.declared.shape.SlotShape.{SlotShape}
 use Rattle.record_heap.specs.declared.shape.Place.{Place}
 use Rattle.record_heap.specs.declared.heap.Heap.{Heap}
 use Rattle.record_heap.specs.Slot.{FitsSlot}
@@ -28,7 +28,7 @@ use Rattle.file_building.specs.declared.rows_builder.RowsBuilder.{RowsBuilder}
 use Rattle.file_building.specs.declared.rows_builder.RowParts.{RowParts}
 
 -- the shape of the heap's slots
-abbrev pub slots_built : RowsBuilder → Shape
+abbrev pub slots_built : RowsBuilder → SlotShape
 slots_built builder = built_shape builder.heap
 
 -- the length of a value of the prime key
@@ -49,7 +49,7 @@ pub record HasRowsSoFar (schema : Schema) (builder : RowsBuilder) (pages : PageM
   pub parted : Parted pages (heap_own ∷ prime_own ∷ [])
 
 -- it has no rows and no pages, and stands so in pages of which none is in use
-pub record IsNewRowsBuilder (shape : Shape) (width : ℕ) (builder : RowsBuilder) : Type 0 where
+pub record IsNewRowsBuilder (shape : SlotShape) (width : ℕ) (builder : RowsBuilder) : Type 0 where
   pub slots_are : slots_built builder ≡ shape
   pub width_is : width_built builder ≡ width
   pub begun : (schema : Schema) (pages : PageMap) → ((n : ℕ) → pages n ≡ None)

@@ -7,7 +7,7 @@ use Rattle.pages.specs.PageMap.{PageMap}
 use Rattle.pages.specs.Answer.{IsAnswer}
 use Rattle.pages.specs.ShownPages.{ShownPages}
 use Rattle.pages.specs.PageCalls.{ReadsPages}
-use Rattle.tree_node.specs.declared.shape.Shape.{Shape}
+use Rattle.tree_node.specs.declared.shape.NodeShape.{NodeShape}
 use Rattle.tree_node.specs.Order.{less, AreUpTo, AreAbove}
 use Rattle.bplus_tree.specs.declared.tree.Tree.{Tree}
 use Rattle.bplus_tree.specs.Fields.{tree_shape, tree_levels, cursor_key}
@@ -60,6 +60,6 @@ pub record EndsWalk {S : Type 0} (shown : ShownPages S) (before after : S) (walk
   pub reads : ReadsPages shown (2 * (tree_levels (walk_tree walk) + 1)) before after result
 
 -- whether an entry has the length of a tree's entries, and a key above this one
-pub record RisesTo (shape : Shape) (last entry : List ℕ) (result : Bool) : Type 0 where
+pub record RisesTo (shape : NodeShape) (last entry : List ℕ) (result : Bool) : Type 0 where
   pub rises : length entry ≡ shape.entry → less last (take shape.width entry) ≡ true → result ≡ true
   pub long : IsTrue result → length entry ≡ shape.entry

@@ -7,7 +7,7 @@ ghost use Rattle.file_building.specs.Looking.{FindsSource, FindsNoTarget, IsHead
 use crate::fault::CopyingFault;
 use open_file::Header;
 use page_store::Shelf;
-use shelf_library::{Look, look_at};
+use shelf_library::{HeaderLook, look_at};
 
 /// The header of the file that is to be copied, which has the key of this number.
 pub fn source_header<S: Shelf>(shelf: &mut S, unit: usize, key: u8) -> Result<Header, CopyingFault>
@@ -15,9 +15,9 @@ pub fn source_header<S: Shelf>(shelf: &mut S, unit: usize, key: u8) -> Result<He
     ensures { FindsSource S.state S.fault_count unit key shelf.old shelf.new result }
 {
     match look_at(shelf, unit) {
-        Ok(Look::Accepted(header)) => header_with(header, key),
-        Ok(Look::NoFile) => Err(CopyingFault::NoneToCopy),
-        Ok(Look::Refused) => Err(CopyingFault::NotAccepted),
+        Ok(HeaderLook::Accepted(header)) => header_with(header, key),
+        Ok(HeaderLook::NoFile) => Err(CopyingFault::NoneToCopy),
+        Ok(HeaderLook::Refused) => Err(CopyingFault::NotAccepted),
         Err(fault) => Err(CopyingFault::Reading(fault)),
     }
 }

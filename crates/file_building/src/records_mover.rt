@@ -8,7 +8,7 @@ ghost use Rattle.open_file.specs.Lent.{LendsToChange};
 use crate::new_places::NewPlaces;
 use io_state::Fault;
 use pages::Pages;
-use record_heap::{Heap, HeapBuilder, Place, Shape};
+use record_heap::{Heap, HeapBuilder, Place, SlotShape};
 use std::alloc::Global;
 
 /// A heap that is being built, and the places that its records have, by those that they had.
@@ -27,7 +27,7 @@ pub struct MovedRecords {
 
 impl RecordsMover {
     /// No records yet, and no page.
-    pub fn new(alloc: Global, shape: Shape) -> RecordsMover
+    pub fn new(alloc: Global, shape: SlotShape) -> RecordsMover
         ensures { IsNewMover shape result }
     {
         RecordsMover {

@@ -10,7 +10,7 @@ ghost use Rattle.file_building.specs.Rows.{width_built};
 use io_state::Fault;
 use key_index::PrimeIndex;
 use pages::Pages;
-use record_heap::{Heap, HeapBuilder, Shape};
+use record_heap::{Heap, HeapBuilder, SlotShape};
 use std::alloc::Global;
 use tree_building::PrimeBuilder;
 
@@ -30,7 +30,7 @@ pub struct RowParts {
 
 impl RowsBuilder {
     /// No rows yet, and no page.
-    pub fn new(alloc: Global, shape: Shape, width: u16) -> RowsBuilder
+    pub fn new(alloc: Global, shape: SlotShape, width: u16) -> RowsBuilder
         requires { IsWidth width }
         ensures { IsNewRowsBuilder shape width result }
     {

@@ -8,12 +8,12 @@ ghost use Rattle.file_building.specs.Stamps.{AreStampsOf};
 
 use arrayvec::ArrayVec;
 use byteorder::{BigEndian, ByteOrder};
-use record_heap::Shape;
+use record_heap::SlotShape;
 use record_layout::Schema;
 
 /// What the slots of a file's heap have in common: each has a stamp for each alternate key that may
 /// have duplicates.
-pub fn heap_shape(schema: &Schema) -> Shape
+pub fn heap_shape(schema: &Schema) -> SlotShape
     ensures shape { IsShapeFor schema.now result }
     ensures schema { IsSchema schema.now }
 {
@@ -23,7 +23,7 @@ pub fn heap_shape(schema: &Schema) -> Shape
         .iter()
         .filter(|part| part.has_duplicates())
         .count();
-    Shape {
+    SlotShape {
         stamps: 8 * stamped as u16,
         least,
         greatest: schema.greatest(),

@@ -7,7 +7,7 @@ ghost use Rattle.file_building.specs.Walk.{BeginsWalk, StepsInWalk, EndsWalk, Ri
 use bplus_tree::{Cursor, Tree};
 use io_state::Fault;
 use pages::Pages;
-use tree_node::{Entry, Shape, TreeKey};
+use tree_node::{Entry, NodeShape, TreeKey};
 
 /// A walk over the entries of a tree, from the first on.
 #[derive(Drop)]
@@ -61,7 +61,7 @@ impl TreeWalk {
 }
 
 /// The entry is as long as the entries of the tree, and its key comes after this one.
-fn rises_to(last: &TreeKey, entry: &Entry, shape: Shape) -> bool
+fn rises_to(last: &TreeKey, entry: &Entry, shape: NodeShape) -> bool
     ensures { RisesTo shape last.now.items entry.now.items result }
 {
     if entry.len() != usize::from(shape.entry) {

@@ -14,7 +14,7 @@ use Rattle.pages.specs.PageList.{pages_in}
 use Rattle.pages.specs.Parted.{own_at, all_of}
 use Rattle.pages.proofs.MarksLemmas.{marks_on}
 use Rattle.pages.proofs.PartLemmas.{low_or_not}
-use Rattle.page_walks.specs.declared.spot.Spot.{Spot}
+use Rattle.page_walks.specs.declared.spot.LeafSpot.{LeafSpot}
 use Rattle.page_walks.specs.Spots.{entries_at, entry_at_spot}
 use Rattle.page_walks.specs.TreeWalk.{TreeWalked}
 use Rattle.key_index.specs.declared.alt_index.AltIndex.{AltIndex}
@@ -29,14 +29,14 @@ entries_rise tree pages entries own stands =
     subst (Ascends (tree_shape tree).width) stands.has (tree_ascends (tree_shape tree).width (tree_levels tree) None None stands.value stands.whole.stands.ordered)
 
 -- those of the prime index rise by their values
-pub prime_rise : (opened : OpenFile) (list : List (List ℕ)) (before after : ℕ → Bool) (spots : List Spot) → TreeWalked (prime_index_of opened).tree list before after spots → EntriesRise opened list spots
+pub prime_rise : (opened : OpenFile) (list : List (List ℕ)) (before after : ℕ → Bool) (spots : List LeafSpot) → TreeWalked (prime_index_of opened).tree list before after spots → EntriesRise opened list spots
 prime_rise opened list before after spots walked =
     let index = prime_index_of opened in
     subst (λ (width : ℕ). Ascends width (entries_at (tree_shape index.tree) list spots)) index.keys
     (entries_rise index.tree (pages_in list) (entries_at (tree_shape index.tree) list spots) walked.own walked.stands)
 
 -- a tree has as many entries as places were found
-pub spots_many : (tree : Tree) (list : List (List ℕ)) (before after : ℕ → Bool) (spots : List Spot) → TreeWalked tree list before after spots → length spots ≡ tree_count tree
+pub spots_many : (tree : Tree) (list : List (List ℕ)) (before after : ℕ → Bool) (spots : List LeafSpot) → TreeWalked tree list before after spots → length spots ≡ tree_count tree
 spots_many tree list before after spots walked = sym (walked.stands.count ∙ length-map spots (entry_at_spot (tree_shape tree) list))
 
 own_left : (owns : List (List ℕ)) (own : List ℕ) (j : ℕ) → j < length owns → own_at owns j ≡ own_at (owns ++ own ∷ []) j
@@ -50,7 +50,7 @@ one_item : {X : Type 0} (xs : List X) (i j : ℕ) (x y : X) → i < length xs �
 one_item xs i j x y within same one two = one ∙ get_or_default xs i x y within ∙ ap (λ n. slice_index_or xs n y) same ∙ sym two
 
 -- one more was walked
-pub alternates_more : (opened : OpenFile) (list : List (List ℕ)) (primes : List Spot) (index : AltIndex) (n : ℕ) (own : List ℕ) (a b c : ℕ → Bool)
+pub alternates_more : (opened : OpenFile) (list : List (List ℕ)) (primes : List LeafSpot) (index : AltIndex) (n : ℕ) (own : List ℕ) (a b c : ℕ → Bool)
     → n < length (alternates_of opened) → index ≡ slice_index_or (alternates_of opened) n index → AlternatesFound opened list primes n a b
     → AlternateFound opened list primes index own → Marks b c own → AlternatesFound opened list primes (n + 1) a c
 alternates_more opened list primes index n own a b c within is front found marks = record {

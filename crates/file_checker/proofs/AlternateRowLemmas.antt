@@ -17,7 +17,7 @@ use Rattle.indexed_file.specs.File.{Row, stamp_of}
 use Rattle.indexed_file.specs.Rank.{row_cmp}
 use Rattle.tree_node.specs.Order.{less, Ascends}
 use Rattle.pages.specs.PageList.{pages_in}
-use Rattle.page_walks.specs.declared.spot.Spot.{Spot}
+use Rattle.page_walks.specs.declared.spot.LeafSpot.{LeafSpot}
 use Rattle.page_walks.specs.Spots.{entry_at_spot, entries_at}
 use Rattle.record_heap.specs.Chain.{IsOneOf}
 use Rattle.record_heap.specs.Standing.{slot_off}
@@ -168,12 +168,12 @@ ranks_differ : (schema : Schema) (k : ℕ) (rows : List Row) → AreUntied lower
 ranks_differ schema k [] all = tt
 ranks_differ schema k (row ∷ rows) all = (untied_rows schema k row rows all.0, ranks_differ schema k rows all.1)
 
-module _ (opened : OpenFile) (list : List (List ℕ)) (primes : List Spot) (index : AltIndex) where
-  entries_kept : (spots : List Spot) → Each (HasRow opened list primes index) spots → Each (EntryKept index.width index.prime) (entries_at (tree_shape index.tree) list spots)
+module _ (opened : OpenFile) (list : List (List ℕ)) (primes : List LeafSpot) (index : AltIndex) where
+  entries_kept : (spots : List LeafSpot) → Each (HasRow opened list primes index) spots → Each (EntryKept index.width index.prime) (entries_at (tree_shape index.tree) list spots)
   entries_kept [] all = tt
   entries_kept (spot ∷ spots) all = (entry_kept index.width index.prime (entry_at_spot (tree_shape index.tree) list spot) (all.0.long ∙ index.entries) all.0.bytes, entries_kept spots all.1)
 
-  each_of_row : (spots : List Spot) → Each (HasRow opened list primes index) spots
+  each_of_row : (spots : List LeafSpot) → Each (HasRow opened list primes index) spots
       → Each (λ e. IsOneOf (map (entry_of (file_schema opened) (alt_key index)) (rows_in opened list primes)) e) (map (alt_entry_in index.width) (entries_at (tree_shape index.tree) list spots))
   each_of_row [] all = tt
   each_of_row (spot ∷ spots) all =
@@ -182,7 +182,7 @@ module _ (opened : OpenFile) (list : List (List ℕ)) (primes : List Spot) (inde
       let entries = one_mapped (entry_of (file_schema opened) (alt_key index)) (rows_in opened list primes) (row_at opened list h.leader) rows in
       (subst (λ (e : AltEntry). IsOneOf (map (entry_of (file_schema opened) (alt_key index)) (rows_in opened list primes)) e) (sym h.is) entries, each_of_row spots all.1)
 
-  pub alternate_stands : (spots : List Spot) → Each (HasRow opened list primes index) spots → length spots ≡ length primes → Ascends (tree_shape index.tree).width (entries_at (tree_shape index.tree) list spots)
+  pub alternate_stands : (spots : List LeafSpot) → Each (HasRow opened list primes index) spots → length spots ≡ length primes → Ascends (tree_shape index.tree).width (entries_at (tree_shape index.tree) list spots)
       → AlternateStands opened list primes index spots
   alternate_stands spots all many rises =
       let w = index.width in
@@ -206,7 +206,7 @@ module _ (opened : OpenFile) (list : List (List ℕ)) (primes : List Spot) (inde
       }
 
 -- the entry of a row, by its parts
-pub entry_is : (opened : OpenFile) (list : List (List ℕ)) (leader : Spot) (stored e : List ℕ) (w k : ℕ) → slot_off (heap_of opened) (pages_in list) (place_at opened list leader) ≡ Some stored
+pub entry_is : (opened : OpenFile) (list : List (List ℕ)) (leader : LeafSpot) (stored e : List ℕ) (w k : ℕ) → slot_off (heap_of opened) (pages_in list) (place_at opened list leader) ≡ Some stored
     → take w e ≡ value_of (file_schema opened) k (row_off (file_schema opened) (Some stored)).bytes → big_number 8 (drop w e) ≡ stamp_of k (row_off (file_schema opened) (Some stored))
     → drop (w + 8) e ≡ prime_of (file_schema opened) (row_off (file_schema opened) (Some stored)).bytes → alt_entry_in w e ≡ entry_of (file_schema opened) k (row_at opened list leader)
 entry_is opened list leader stored e w k there value stamp prime =

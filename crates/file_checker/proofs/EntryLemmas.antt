@@ -3,11 +3,11 @@ use Rattle.std.proofs.Common.{◌≡◌, inl, inr, ℕ, zero, suc, ◌+◌, ◌*
 use Rattle.std.specs.Prelude.{slice_index_or}
 use Rattle.std.proofs.Math.Nat.{suc-mul}
 use Rattle.pages.proofs.ChunkLemmas.{get_or-chunks, times_less}
-use Rattle.tree_node.specs.declared.shape.Shape.{Shape}
+use Rattle.tree_node.specs.declared.shape.NodeShape.{NodeShape}
 use Rattle.tree_node.specs.Table.{count_of, table}
 use Rattle.tree_node.proofs.TableLemmas.{length_table}
 use Rattle.tree_node.proofs.LeafLemmas.{leaf_fits}
-use Rattle.page_walks.specs.declared.spot.Spot.{Spot}
+use Rattle.page_walks.specs.declared.spot.LeafSpot.{LeafSpot}
 use Rattle.page_walks.specs.Spots.{IsSpotThere, entry_at_spot}
 use Rattle.record_heap.specs.Chain.{IsOneOf}
 
@@ -17,7 +17,7 @@ long_at size i n page within fits =
     let step = suc-mul i size in
     length-take-le size (drop (i * size) (drop 16 page)) (rw (length-drop, length-drop) (omega (arith, split, step, fits)))
 
-pub entry_long : (shape : Shape) (list : List (List ℕ)) (spot : Spot) → IsSpotThere shape list spot → length (entry_at_spot shape list spot) ≡ shape.entry
+pub entry_long : (shape : NodeShape) (list : List (List ℕ)) (spot : LeafSpot) → IsSpotThere shape list spot → length (entry_at_spot shape list spot) ≡ shape.entry
 unfolding table
 entry_long shape list spot there =
     let page = slice_index_or list spot.page [] in

@@ -11,7 +11,7 @@ use Rattle.record_layout.specs.Schema.{prime_of, value_of}
 use Rattle.indexed_file.specs.File.{Row, stamp_of}
 use Rattle.indexed_file.specs.Sound.{is_row}
 use Rattle.page_walks.specs.declared.leaf.Leaf.{Leaf}
-use Rattle.page_walks.specs.declared.spot.Spot.{Spot}
+use Rattle.page_walks.specs.declared.spot.LeafSpot.{LeafSpot}
 use Rattle.page_walks.specs.Spots.{IsSpotThere, entry_at_spot, entries_at, spots_in}
 use Rattle.record_heap.specs.declared.shape.Place.{Place}
 use Rattle.record_heap.specs.Calls.{used_at}
@@ -72,7 +72,7 @@ some_there None some = absurd (cc)
 some_there (Some x) some = (x, refl)
 
 -- what the entry of a row that stands leads to
-record RowThere (opened : OpenFile) (list : List (List ℕ)) (own : List ℕ) (spot : Spot) : Type 0 where
+record RowThere (opened : OpenFile) (list : List (List ℕ)) (own : List ℕ) (spot : LeafSpot) : Type 0 where
   pub stored : List ℕ
   pub used : slot_off (heap_of opened) (pages_in list) (place_at opened list spot) ≡ Some stored
   pub held : is_in_list own (place_at opened list spot).page ≡ true
@@ -81,7 +81,7 @@ record RowThere (opened : OpenFile) (list : List (List ℕ)) (own : List ℕ) (s
   pub value : value_at opened list spot ≡ prime_of (file_schema opened) (row_at opened list spot).bytes
 
 module _ (opened : OpenFile) (list : List (List ℕ)) (own : List ℕ) where
-  row_there : (spot : Spot) → IsTrue (is_row (file_schema opened) (next_stamp_of opened) (row_at opened list spot))
+  row_there : (spot : LeafSpot) → IsTrue (is_row (file_schema opened) (next_stamp_of opened) (row_at opened list spot))
       → slots_of (slot_shape (heap_of opened)) (pages_in list) own (place_at opened list spot) ≡ Some (stored (file_schema opened) (row_at opened list spot))
       → prime_bytes (record { value = record { items = prime_of (file_schema opened) (row_at opened list spot).bytes }; place = place_at opened list spot }) ≡ prime_at opened list spot
       → IsPrimeEntry (prime_index_of opened).width (record { value = record { items = prime_of (file_schema opened) (row_at opened list spot).bytes }; place = place_at opened list spot })
@@ -105,7 +105,7 @@ module _ (opened : OpenFile) (list : List (List ℕ)) (own : List ℕ) where
       by_page bytes is (inl less) = less
       by_page bytes is (inr past) = let none = no_page (slot_shape (heap_of opened)) list (place_at opened list spot) past in let no : None ≡ Some bytes = sym none ∙ is in absurd (cc)
 
-  each_row_there : (spots : List Spot) → Each (λ row. IsTrue (is_row (file_schema opened) (next_stamp_of opened) row)) (rows_in opened list spots)
+  each_row_there : (spots : List LeafSpot) → Each (λ row. IsTrue (is_row (file_schema opened) (next_stamp_of opened) row)) (rows_in opened list spots)
       → AreAt (file_schema opened) (slots_of (slot_shape (heap_of opened)) (pages_in list) own) (places_in opened list spots) (rows_in opened list spots)
       → map prime_bytes (prime_entries (file_schema opened) (places_in opened list spots) (rows_in opened list spots)) ≡ entries_at (tree_shape (prime_index_of opened).tree) list spots
       → Each (IsPrimeEntry (prime_index_of opened).width) (prime_entries (file_schema opened) (places_in opened list spots) (rows_in opened list spots)) → Each (RowThere opened list own) spots
@@ -116,7 +116,7 @@ module _ (opened : OpenFile) (list : List (List ℕ)) (own : List ℕ) where
   rows_there primes ahead = each_row_there (spots_in primes) ahead.stand.rows_are ahead.stand.placed.rows_at ahead.stand.entries_are ahead.stand.each
 
   each_leads : (marks : List Bool) → length marks ≡ length list → ((n : ℕ) → n < length marks → is_in_list own n ≡ true → marked_in marks n ≡ true)
-      → (spots : List Spot) → Each (IsSpotThere (tree_shape (prime_index_of opened).tree) list) spots → Each (RowThere opened list own) spots → Each (LeadsAhead opened list marks) spots
+      → (spots : List LeafSpot) → Each (IsSpotThere (tree_shape (prime_index_of opened).tree) list) spots → Each (RowThere opened list own) spots → Each (LeadsAhead opened list marks) spots
   each_leads marks long all [] there rows = tt
   each_leads marks long all (spot ∷ spots) there rows =
       let r = rows.0 in
@@ -138,7 +138,7 @@ module _ (opened : OpenFile) (list : List (List ℕ)) (own : List ℕ) where
   all_lead marks primes long all ahead =
       each_leads marks long all (spots_in primes) (spots_there (tree_shape (prime_index_of opened).tree) list primes ahead.there) (rows_there primes ahead)
 
-  each_has_row : (spots : List Spot) → Each (IsSpotThere (tree_shape (prime_index_of opened).tree) list) spots → Each (RowThere opened list own) spots → Each (HasItsRow opened list) spots
+  each_has_row : (spots : List LeafSpot) → Each (IsSpotThere (tree_shape (prime_index_of opened).tree) list) spots → Each (RowThere opened list own) spots → Each (HasItsRow opened list) spots
   each_has_row [] there rows = tt
   each_has_row (spot ∷ spots) there rows =
       (record { there = there.0; used = rw rows.0.used refl; value = rows.0.value }, each_has_row spots there.1 rows.1)
@@ -164,9 +164,9 @@ one_found f (y ∷ ys) p some =
     (λ other. let rest = one_found f ys p (rw other at some) in (rest.0, inr rest.1, rest.2))
 
 -- where the entry of a slot in use is sought by its value, it is found
-pub slot_found : (opened : OpenFile) (list : List (List ℕ)) (primes : List Leaf) (place : Place) (bytes value : List ℕ) (found : Option Spot) → slot_off (heap_of opened) (pages_in list) place ≡ Some bytes
+pub slot_found : (opened : OpenFile) (list : List (List ℕ)) (primes : List Leaf) (place : Place) (bytes value : List ℕ) (found : Option LeafSpot) → slot_off (heap_of opened) (pages_in list) place ≡ Some bytes
     → value ≡ prime_of (file_schema opened) (stored_row opened bytes).bytes → FindsEntry opened list primes value found → PrimesLead opened list primes → HasEntry opened list (spots_in primes) place
-    → (spot : Spot) × (found ≡ Some spot) × IsSpotThere (tree_shape (prime_index_of opened).tree) list spot × (place ≡ place_at opened list spot)
+    → (spot : LeafSpot) × (found ≡ Some spot) × IsSpotThere (tree_shape (prime_index_of opened).tree) list spot × (place ≡ place_at opened list spot)
 slot_found opened list primes place bytes value found used is finds lead has =
     let one = one_found (place_at opened list) (spots_in primes) place (has (rw used refl)) in
     let row = each_one (HasItsRow opened list) (spots_in primes) one.0 lead.rows one.1 in
@@ -175,8 +175,8 @@ slot_found opened list primes place bytes value found used is finds lead has =
     (one.0, finds lead.there lead.rise one.0 one.1 same, row.there, one.2)
 
 -- so the place of what is found is the slot
-pub slot_is : (opened : OpenFile) (list : List (List ℕ)) (found : Option Spot) (place : Place) (spot : Spot) → found ≡ Some spot
-    → (other : Spot) × (found ≡ Some other) × IsSpotThere (tree_shape (prime_index_of opened).tree) list other × (place ≡ place_at opened list other)
+pub slot_is : (opened : OpenFile) (list : List (List ℕ)) (found : Option LeafSpot) (place : Place) (spot : LeafSpot) → found ≡ Some spot
+    → (other : LeafSpot) × (found ≡ Some other) × IsSpotThere (tree_shape (prime_index_of opened).tree) list other × (place ≡ place_at opened list other)
     → IsSpotThere (tree_shape (prime_index_of opened).tree) list spot × (place ≡ place_at opened list spot)
 slot_is opened list found place spot is at =
     let both : Some at.0 ≡ Some spot = sym at.1 ∙ is in
@@ -191,23 +191,23 @@ in_list_at (x ∷ xs) (suc i) d within =
     either (nat_eq (slice_index_or xs i d) x) (is_in_list (x ∷ xs) (slice_index_or xs i d) ≡ true) (λ here. rw here refl) (λ other. rw other rest)
 
 -- the slots of one of the heap's own pages
-pub page_has : (opened : OpenFile) (list : List (List ℕ)) (primes : List Spot) (own : List ℕ) (n : ℕ) → is_in_list own n ≡ true → PagesHaveEntries opened list primes own → PageHasEntries opened list primes n
+pub page_has : (opened : OpenFile) (list : List (List ℕ)) (primes : List LeafSpot) (own : List ℕ) (n : ℕ) → is_in_list own n ≡ true → PagesHaveEntries opened list primes own → PageHasEntries opened list primes n
 page_has opened list primes own n one all p is within used =
     let here : is_in_list own p.page ≡ true = ap (is_in_list own) is ∙ one in
     all p (rw (here, lt-ltb p.slot (room (slot_shape (heap_of opened))) within) used)
 
 -- ---- each entry of an alternate index
 
-module _ (opened : OpenFile) (list : List (List ℕ)) (primes : List Spot) (index : AltIndex) where
+module _ (opened : OpenFile) (list : List (List ℕ)) (primes : List LeafSpot) (index : AltIndex) where
   -- the row is one that the prime index leads to
   abbrev HasLeader : Row → Type 0
-  HasLeader row = (leader : Spot) × IsOneOf primes leader × (row ≡ row_at opened list leader)
+  HasLeader row = (leader : LeafSpot) × IsOneOf primes leader × (row ≡ row_at opened list leader)
 
-  each_has_leader : (spots : List Spot) → ((spot : Spot) → IsOneOf spots spot → IsOneOf primes spot) → Each HasLeader (rows_in opened list spots)
+  each_has_leader : (spots : List LeafSpot) → ((spot : LeafSpot) → IsOneOf spots spot → IsOneOf primes spot) → Each HasLeader (rows_in opened list spots)
   each_has_leader [] among = tt
   each_has_leader (spot ∷ spots) among = ((spot, among spot (inl refl), refl), each_has_leader spots (λ s one. among s (inr one)))
 
-  each_row_ahead : (rows : List Row) (spots : List Spot) → Each HasLeader rows → Each (IsSpotThere (tree_shape index.tree) list) spots
+  each_row_ahead : (rows : List Row) (spots : List LeafSpot) → Each HasLeader rows → Each (IsSpotThere (tree_shape index.tree) list) spots
       → map alt_bytes (map (entry_of (file_schema opened) (alt_key index)) rows) ≡ entries_at (tree_shape index.tree) list spots
       → Each (IsAltEntry index.width index.prime) (map (entry_of (file_schema opened) (alt_key index)) rows) → Each (HasRowAhead opened list primes index) spots
   each_row_ahead [] [] lead there entries fits = tt
@@ -240,7 +240,7 @@ pub record EntryParts (opened : OpenFile) (w k : ℕ) (e bytes : List ℕ) : Typ
   pub stamp : big_number 8 (drop w e) ≡ stamp_of k (stored_row opened bytes)
   pub prime : drop (w + 8) e ≡ prime_of (file_schema opened) (stored_row opened bytes).bytes
 
-pub entry_parts : (opened : OpenFile) (list : List (List ℕ)) (index : AltIndex) (leader : Spot) (e bytes : List ℕ) → slot_off (heap_of opened) (pages_in list) (place_at opened list leader) ≡ Some bytes
+pub entry_parts : (opened : OpenFile) (list : List (List ℕ)) (index : AltIndex) (leader : LeafSpot) (e bytes : List ℕ) → slot_off (heap_of opened) (pages_in list) (place_at opened list leader) ≡ Some bytes
     → IsEntryOf opened list index e leader → EntryParts opened index.width (alt_key index) e bytes
 entry_parts opened list index leader e bytes there is =
     let all : alt_entry_in index.width e ≡ entry_of (file_schema opened) (alt_key index) (stored_row opened bytes) =
@@ -248,17 +248,17 @@ entry_parts opened list index leader e bytes there is =
     record { value = ap (λ (a : AltEntry). a.value.items) all; stamp = ap (λ (a : AltEntry). a.stamp) all; prime = ap (λ (a : AltEntry). a.prime.items) all }
 
 -- where the row of an entry is sought by its prime value, it is found
-pub leader_found : (opened : OpenFile) (list : List (List ℕ)) (primes : List Leaf) (index : AltIndex) (spot : Spot) (value : List ℕ) (found : Option Spot)
+pub leader_found : (opened : OpenFile) (list : List (List ℕ)) (primes : List Leaf) (index : AltIndex) (spot : LeafSpot) (value : List ℕ) (found : Option LeafSpot)
     → value ≡ drop (index.width + 8) (entry_at_spot (tree_shape index.tree) list spot) → FindsEntry opened list primes value found → PrimesLead opened list primes
     → HasRowAhead opened list (spots_in primes) index spot
-    → (leader : Spot) × (found ≡ Some leader) × HasItsRow opened list leader × IsEntryOf opened list index (entry_at_spot (tree_shape index.tree) list spot) leader
+    → (leader : LeafSpot) × (found ≡ Some leader) × HasItsRow opened list leader × IsEntryOf opened list index (entry_at_spot (tree_shape index.tree) list spot) leader
 leader_found opened list primes index spot value found is finds lead has =
     let row = each_one (HasItsRow opened list) (spots_in primes) has.leader lead.rows has.one in
     let same : value_at opened list has.leader ≡ value = row.value ∙ sym (ap (λ (a : AltEntry). a.prime.items) has.is) ∙ sym is in
     (has.leader, finds lead.there lead.rise has.leader has.one same, row, has.is)
 
-pub leader_is : (opened : OpenFile) (list : List (List ℕ)) (index : AltIndex) (e : List ℕ) (found : Option Spot) (leader : Spot) → found ≡ Some leader
-    → (other : Spot) × (found ≡ Some other) × HasItsRow opened list other × IsEntryOf opened list index e other → HasItsRow opened list leader × IsEntryOf opened list index e leader
+pub leader_is : (opened : OpenFile) (list : List (List ℕ)) (index : AltIndex) (e : List ℕ) (found : Option LeafSpot) (leader : LeafSpot) → found ≡ Some leader
+    → (other : LeafSpot) × (found ≡ Some other) × HasItsRow opened list other × IsEntryOf opened list index e other → HasItsRow opened list leader × IsEntryOf opened list index e leader
 leader_is opened list index e found leader is at =
     let both : Some at.0 ≡ Some leader = sym at.1 ∙ is in
     let same : at.0 ≡ leader = cc in

@@ -11,7 +11,7 @@ use Rattle.pages.proofs.PartLemmas.{low_or_not}
 use Rattle.record_layout.specs.Schema.{prime_of}
 use Rattle.indexed_file.specs.File.{Row}
 use Rattle.page_walks.specs.declared.leaf.Leaf.{Leaf}
-use Rattle.page_walks.specs.declared.spot.Spot.{Spot}
+use Rattle.page_walks.specs.declared.spot.LeafSpot.{LeafSpot}
 use Rattle.page_walks.specs.Spots.{IsSpotThere, spots_below, spots_in}
 use Rattle.record_heap.specs.declared.shape.Place.{Place}
 use Rattle.record_heap.specs.Calls.{used_at}
@@ -62,16 +62,16 @@ module _ (P Q : FaultPlace → Type 0) where
 
 -- ---- entries
 
-pub entry_told : (spots : List Spot) (P : Spot → Type 0) (spot : Spot) (fault : RowFault) → fault ≡ Index (Entry spot.page spot.place) → IsOneOf spots spot → (P spot → ⊥) → TellsOfRows (IsEntryFault spots P) fault
+pub entry_told : (spots : List LeafSpot) (P : LeafSpot → Type 0) (spot : LeafSpot) (fault : RowFault) → fault ≡ Index (Entry spot.page spot.place) → IsOneOf spots spot → (P spot → ⊥) → TellsOfRows (IsEntryFault spots P) fault
 entry_told spots P spot fault is one wrong = subst (TellsOfRows (IsEntryFault spots P)) (sym is) (record { spot = spot; one = one; told = refl; wrong = wrong })
 
 -- among more places, and where less holds
-pub entry_more : (spots more : List Spot) (P Q : Spot → Type 0) → ((spot : Spot) → IsOneOf spots spot → IsOneOf more spot) → ((spot : Spot) → Q spot → P spot)
+pub entry_more : (spots more : List LeafSpot) (P Q : LeafSpot → Type 0) → ((spot : LeafSpot) → IsOneOf spots spot → IsOneOf more spot) → ((spot : LeafSpot) → Q spot → P spot)
     → (place : FaultPlace) → IsEntryFault spots P place → IsEntryFault more Q place
 entry_more spots more P Q among less place h = record { spot = h.spot; one = among h.spot h.one; told = h.told; wrong = λ q. h.wrong (less h.spot q) }
 
 -- the places of a leaf are among those of all
-pub one_of_leaf : (leaves : List Leaf) (i : ℕ) (none : Leaf) → i < length leaves → (spot : Spot) → IsOneOf (spots_below (slice_index_or leaves i none).page (slice_index_or leaves i none).count) spot
+pub one_of_leaf : (leaves : List Leaf) (i : ℕ) (none : Leaf) → i < length leaves → (spot : LeafSpot) → IsOneOf (spots_below (slice_index_or leaves i none).page (slice_index_or leaves i none).count) spot
     → IsOneOf (spots_in leaves) spot
 one_of_leaf [] i none within spot one = absurd (omega (arith, within))
 one_of_leaf (leaf ∷ leaves) zero none within spot one = one_left (spots_below leaf.page leaf.count) (spots_in leaves) spot one
@@ -80,7 +80,7 @@ one_of_leaf (leaf ∷ leaves) (suc i) none within spot one =
 
 -- ---- slots
 
-module _ (opened : OpenFile) (list : List (List ℕ)) (primes : List Spot) where
+module _ (opened : OpenFile) (list : List (List ℕ)) (primes : List LeafSpot) where
   used_or_none : (p : Place) → (HasEntry opened list primes p → ⊥) → (o : Option (List ℕ)) → slot_off (heap_of opened) (pages_in list) p ≡ o → IsSome (slot_off (heap_of opened) (pages_in list) p)
   used_or_none p wrong (Some bytes) is = rw is refl
   used_or_none p wrong None is = absurd (wrong (λ used. absurd (nothing (slot_off (heap_of opened) (pages_in list) p) is used)))
@@ -123,7 +123,7 @@ module _ (opened : OpenFile) (list : List (List ℕ)) where
 
   -- by marks on these pages
   pub leads_by_marks : (own : List ℕ) (marks : List Bool) → length marks ≡ length list → ((n : ℕ) → n < length marks → is_in_list own n ≡ true → marked_in marks n ≡ true)
-      → (spot : Spot) → LeadsToOwn opened list own spot → LeadsAhead opened list marks spot
+      → (spot : LeafSpot) → LeadsToOwn opened list own spot → LeadsAhead opened list marks spot
   leads_by_marks own marks long all spot h = record {
     there = h.there;
     stored = h.stored;
@@ -133,7 +133,7 @@ module _ (opened : OpenFile) (list : List (List ℕ)) where
     value = h.value;
   }
 
-  each_found : (marks : List Bool) (spots : List Spot) → Each (IsSpotThere (tree_shape (prime_index_of opened).tree) list) spots → Each (LeadsToRow opened list marks) spots → Each (HasItsRow opened list) spots
+  each_found : (marks : List Bool) (spots : List LeafSpot) → Each (IsSpotThere (tree_shape (prime_index_of opened).tree) list) spots → Each (LeadsToRow opened list marks) spots → Each (HasItsRow opened list) spots
   each_found marks [] there leads = tt
   each_found marks (spot ∷ spots) there leads =
       let is : row_at opened list spot ≡ row_off (file_schema opened) (Some leads.0.stored) = ap (row_off (file_schema opened)) leads.0.there in (

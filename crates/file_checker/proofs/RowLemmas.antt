@@ -12,7 +12,7 @@ use Rattle.indexed_file.proofs.RowLemmas.{row_from}
 use Rattle.tree_node.specs.Order.{less, Ascends}
 use Rattle.pages.specs.Marks.{marked_in}
 use Rattle.pages.specs.PageList.{pages_in}
-use Rattle.page_walks.specs.declared.spot.Spot.{Spot}
+use Rattle.page_walks.specs.declared.spot.LeafSpot.{LeafSpot}
 use Rattle.page_walks.specs.Spots.{entries_at}
 use Rattle.record_heap.specs.declared.shape.Place.{Place}
 use Rattle.record_heap.specs.Slot.{room}
@@ -46,7 +46,7 @@ row_fits schema next bytes some least greatest fit =
     fit
 
 -- what is known of a row and its entry
-pub record RowKept (opened : OpenFile) (list : List (List ℕ)) (own : List ℕ) (spot : Spot) : Type 0 where
+pub record RowKept (opened : OpenFile) (list : List (List ℕ)) (own : List ℕ) (spot : LeafSpot) : Type 0 where
   pub row : is_row (file_schema opened) (next_stamp_of opened) (row_at opened list spot) ≡ true
   pub here : slots_of (slot_shape (heap_of opened)) (pages_in list) own (place_at opened list spot) ≡ Some (stored (file_schema opened) (row_at opened list spot))
   pub value : take (prime_index_of opened).width (prime_at opened list spot) ≡ prime_of (file_schema opened) (row_at opened list spot).bytes
@@ -54,7 +54,7 @@ pub record RowKept (opened : OpenFile) (list : List (List ℕ)) (own : List ℕ)
   pub fits : IsPrimeEntry (prime_index_of opened).width (record { value = record { items = prime_of (file_schema opened) (row_at opened list spot).bytes }; place = place_at opened list spot })
 
 module _ (opened : OpenFile) (list : List (List ℕ)) (own : List ℕ) (marks : List Bool) (own_marked : (n : ℕ) → marked_in marks n ≡ true → is_in_list own n ≡ true) where
-  pub row_kept : (spot : Spot) → LeadsToRow opened list marks spot → RowKept opened list own spot
+  pub row_kept : (spot : LeafSpot) → LeadsToRow opened list marks spot → RowKept opened list own spot
   row_kept spot l =
       let schema = file_schema opened in
       let w = (prime_index_of opened).width in
@@ -79,30 +79,30 @@ module _ (opened : OpenFile) (list : List (List ℕ)) (own : List ℕ) (marks : 
         };
       }
 
-  pub all_kept : (spots : List Spot) → Each (LeadsToRow opened list marks) spots → Each (RowKept opened list own) spots
+  pub all_kept : (spots : List LeafSpot) → Each (LeadsToRow opened list marks) spots → Each (RowKept opened list own) spots
   all_kept [] all = tt
   all_kept (spot ∷ spots) all = (row_kept spot all.0, all_kept spots all.1)
 
 module _ (opened : OpenFile) (list : List (List ℕ)) (own : List ℕ) where
-  rows_are : (spots : List Spot) → Each (RowKept opened list own) spots → Each (λ row. IsTrue (is_row (file_schema opened) (next_stamp_of opened) row)) (rows_in opened list spots)
+  rows_are : (spots : List LeafSpot) → Each (RowKept opened list own) spots → Each (λ row. IsTrue (is_row (file_schema opened) (next_stamp_of opened) row)) (rows_in opened list spots)
   rows_are [] all = tt
   rows_are (spot ∷ spots) all = (all.0.row, rows_are spots all.1)
 
-  rows_at : (spots : List Spot) → Each (RowKept opened list own) spots → AreAt (file_schema opened) (slots_of (slot_shape (heap_of opened)) (pages_in list) own) (places_in opened list spots) (rows_in opened list spots)
+  rows_at : (spots : List LeafSpot) → Each (RowKept opened list own) spots → AreAt (file_schema opened) (slots_of (slot_shape (heap_of opened)) (pages_in list) own) (places_in opened list spots) (rows_in opened list spots)
   rows_at [] all = tt
   rows_at (spot ∷ spots) all = (all.0.here, rows_at spots all.1)
 
-  entries_are : (spots : List Spot) → Each (RowKept opened list own) spots
+  entries_are : (spots : List LeafSpot) → Each (RowKept opened list own) spots
       → map prime_bytes (prime_entries (file_schema opened) (places_in opened list spots) (rows_in opened list spots)) ≡ entries_at (tree_shape (prime_index_of opened).tree) list spots
   entries_are [] all = refl
   entries_are (spot ∷ spots) all = let first = all.0.entry in let rest = entries_are spots all.1 in λ i. first i ∷ rest i
 
-  each_fits : (spots : List Spot) → Each (RowKept opened list own) spots → Each (IsPrimeEntry (prime_index_of opened).width) (prime_entries (file_schema opened) (places_in opened list spots) (rows_in opened list spots))
+  each_fits : (spots : List LeafSpot) → Each (RowKept opened list own) spots → Each (IsPrimeEntry (prime_index_of opened).width) (prime_entries (file_schema opened) (places_in opened list spots) (rows_in opened list spots))
   each_fits [] all = tt
   each_fits (spot ∷ spots) all = (all.0.fits, each_fits spots all.1)
 
   -- tree keys are prime values
-  above : (spot : Spot) (spots : List Spot) → RowKept opened list own spot → Each (RowKept opened list own) spots
+  above : (spot : LeafSpot) (spots : List LeafSpot) → RowKept opened list own spot → Each (RowKept opened list own) spots
       → Each (λ y. less (take (prime_index_of opened).width (prime_at opened list spot)) (take (prime_index_of opened).width y) ≡ true) (entries_at (tree_shape (prime_index_of opened).tree) list spots)
       → Each (λ other. IsTrue (is_lt (value_cmp (prime_of (file_schema opened) (row_at opened list spot).bytes) (prime_of (file_schema opened) other.bytes)))) (rows_in opened list spots)
   unfolding less
@@ -113,11 +113,11 @@ module _ (opened : OpenFile) (list : List (List ℕ)) (own : List ℕ) where
     above spot spots here all.1 rises.1,
   )
 
-  rise : (spots : List Spot) → Each (RowKept opened list own) spots → Ascends (prime_index_of opened).width (entries_at (tree_shape (prime_index_of opened).tree) list spots) → PrimesRise (file_schema opened) (rows_in opened list spots)
+  rise : (spots : List LeafSpot) → Each (RowKept opened list own) spots → Ascends (prime_index_of opened).width (entries_at (tree_shape (prime_index_of opened).tree) list spots) → PrimesRise (file_schema opened) (rows_in opened list spots)
   rise [] all rises = tt
   rise (spot ∷ spots) all rises = (above spot spots all.0 all.1 rises.0, rise spots all.1 rises.1)
 
-  pub rows_stand : (spots : List Spot) → Each (RowKept opened list own) spots → Ascends (prime_index_of opened).width (entries_at (tree_shape (prime_index_of opened).tree) list spots)
+  pub rows_stand : (spots : List LeafSpot) → Each (RowKept opened list own) spots → Ascends (prime_index_of opened).width (entries_at (tree_shape (prime_index_of opened).tree) list spots)
       → ((p : Place) → IsSome (slots_of (slot_shape (heap_of opened)) (pages_in list) own p) → IsSome (find (is_same p) (places_in opened list spots))) → RowsStand opened list own spots
   rows_stand spots all rises no_more = record {
     rows_are = rows_are spots all;

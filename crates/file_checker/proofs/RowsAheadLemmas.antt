@@ -7,7 +7,7 @@ use Rattle.std.proofs.Math.Seq.{drop-append_seam}
 use Rattle.std.proofs.lemmas.Bool.{and_parts, eq-eqb, lt-ltb}
 use Rattle.pages.specs.Each.{Each}
 use Rattle.pages.specs.PageList.{pages_in}
-use Rattle.page_walks.specs.declared.spot.Spot.{Spot}
+use Rattle.page_walks.specs.declared.spot.LeafSpot.{LeafSpot}
 use Rattle.page_walks.specs.Spots.{entries_at}
 use Rattle.record_layout.specs.Schema.{Schema, prime_of}
 use Rattle.indexed_file.specs.File.{Row}
@@ -53,7 +53,7 @@ row_back schema next row fit limit =
 -- what the entries of these rows at these places lead to
 pub rows_read : (opened : OpenFile) (list : List (List ℕ)) (slots : Slots) (next : ℕ) → next ≤ 2 ^ 63
     → ((p : Place) (bytes : List ℕ) → slots p ≡ Some bytes → slot_off (heap_of opened) (pages_in list) p ≡ Some bytes)
-    → (spots : List Spot) (places : List Place) (rows : List Row) → AreAt (file_schema opened) slots places rows → Each (λ row. is_row (file_schema opened) next row ≡ true) rows
+    → (spots : List LeafSpot) (places : List Place) (rows : List Row) → AreAt (file_schema opened) slots places rows → Each (λ row. is_row (file_schema opened) next row ≡ true) rows
     → map prime_bytes (prime_entries (file_schema opened) places rows) ≡ entries_at (tree_shape (prime_index_of opened).tree) list spots
     → Each (IsPrimeEntry (prime_index_of opened).width) (prime_entries (file_schema opened) places rows) → (places_in opened list spots ≡ places) × (rows_in opened list spots ≡ rows)
 rows_read opened list slots next limit used [] [] [] at fit entries each = (refl, refl)

@@ -3,11 +3,11 @@ use Rattle.std.proofs.Common.{◌≡◌, ◌⊎◌, inl, inr, ℕ, zero, suc, �
 use Rattle.pages.specs.Each.{Each}
 use Rattle.pages.proofs.EachLemmas.{each_left, each_right}
 use Rattle.pages.proofs.PartLemmas.{low_or_not}
-use Rattle.tree_node.specs.declared.shape.Shape.{Shape}
+use Rattle.tree_node.specs.declared.shape.NodeShape.{NodeShape}
 use Rattle.tree_node.specs.Leaf.{leaf_entries}
 use Rattle.tree_node.specs.Order.{less, Ascends, AreBelow, AreNotBelow, FindsRank, IsRank}
 use Rattle.tree_node.proofs.OrderLemmas.{Each-get_or, less-trans, less_itself}
-use Rattle.page_walks.specs.declared.spot.Spot.{Spot}
+use Rattle.page_walks.specs.declared.spot.LeafSpot.{LeafSpot}
 use Rattle.page_walks.specs.declared.leaf.Leaf.{Leaf}
 use Rattle.page_walks.specs.Spots.{IsLeafThere, IsSpotThere, entry_at_spot, entries_at, spots_below, spots_in}
 use Rattle.page_walks.proofs.SpotLemmas.{entries_more}
@@ -34,30 +34,30 @@ one_split (z ∷ xs) ys x (inr one) = next (one_split xs ys x one)
 -- ---- the places of a leaf
 
 -- a place of a page
-pub place_below : (page n : ℕ) (spot : Spot) → IsOneOf (spots_below page n) spot → (spot.page ≡ page) × (spot.place < n)
+pub place_below : (page n : ℕ) (spot : LeafSpot) → IsOneOf (spots_below page n) spot → (spot.page ≡ page) × (spot.place < n)
 place_below page zero spot one = absurd one
 place_below page (suc n) spot one = next (λ h. place_below page n spot h) (one_split (spots_below page n) (record { page = page; place = n } ∷ []) spot one)
   where
     next : (IsOneOf (spots_below page n) spot → (spot.page ≡ page) × (spot.place < n)) → IsOneOf (spots_below page n) spot ⊎ IsOneOf (record { page = page; place = n } ∷ []) spot
         → (spot.page ≡ page) × (spot.place < suc n)
     next again (inl h) = let p = again h in (p.0, (let less = p.1 in omega (arith, less)))
-    next again (inr (inl same)) = (ap (λ (s : Spot). s.page) same, (let at : spot.place ≡ n = ap (λ (s : Spot). s.place) same in omega (arith, at)))
+    next again (inr (inl same)) = (ap (λ (s : LeafSpot). s.page) same, (let at : spot.place ≡ n = ap (λ (s : LeafSpot). s.place) same in omega (arith, at)))
     next again (inr (inr none)) = absurd none
 
-spot_is : (spot : Spot) (page : ℕ) → spot.page ≡ page → record { page = page; place = spot.place } ≡ spot
+spot_is : (spot : LeafSpot) (page : ℕ) → spot.page ≡ page → record { page = page; place = spot.place } ≡ spot
 spot_is spot page same = λ i. record { page = sym same i; place = spot.place }
 
 -- the places of all leaves are those of each of them
-leaf_places : (P : Spot → Type 0) (page n : ℕ) → ((place : ℕ) → place < n → P (record { page = page; place = place })) → Each P (spots_below page n)
+leaf_places : (P : LeafSpot → Type 0) (page n : ℕ) → ((place : ℕ) → place < n → P (record { page = page; place = place })) → Each P (spots_below page n)
 leaf_places P page zero all = tt
 leaf_places P page (suc n) all = join (spots_below page n) (leaf_places P page n (λ place less. all place (omega (arith, less)))) (all n (omega arith))
   where
-    join : (xs : List Spot) → Each P xs → P (record { page = page; place = n }) → Each P (xs ++ record { page = page; place = n } ∷ [])
+    join : (xs : List LeafSpot) → Each P xs → P (record { page = page; place = n }) → Each P (xs ++ record { page = page; place = n } ∷ [])
     join [] h last = (last, tt)
     join (x ∷ xs) h last = (h.0, join xs h.1 last)
 
 -- each place of a leaf that is there has an entry
-pub leaf_spots_there : (shape : Shape) (list : List (List ℕ)) (leaf : Leaf) → IsLeafThere shape list leaf → Each (IsSpotThere shape list) (spots_below leaf.page leaf.count)
+pub leaf_spots_there : (shape : NodeShape) (list : List (List ℕ)) (leaf : Leaf) → IsLeafThere shape list leaf → Each (IsSpotThere shape list) (spots_below leaf.page leaf.count)
 leaf_spots_there shape list leaf there =
     leaf_places (IsSpotThere shape list) leaf.page leaf.count (λ place less. record {
       page = there.page;
@@ -65,55 +65,55 @@ leaf_spots_there shape list leaf there =
       place = let many = there.many in omega (arith, less, many);
     })
 
-pub spots_there : (shape : Shape) (list : List (List ℕ)) (leaves : List Leaf) → Each (IsLeafThere shape list) leaves → Each (IsSpotThere shape list) (spots_in leaves)
+pub spots_there : (shape : NodeShape) (list : List (List ℕ)) (leaves : List Leaf) → Each (IsLeafThere shape list) leaves → Each (IsSpotThere shape list) (spots_in leaves)
 spots_there shape list [] there = tt
 spots_there shape list (leaf ∷ leaves) there = join (spots_below leaf.page leaf.count) (leaf_spots_there shape list leaf there.0) (spots_there shape list leaves there.1)
   where
-    join : (xs : List Spot) → Each (IsSpotThere shape list) xs → Each (IsSpotThere shape list) (spots_in leaves) → Each (IsSpotThere shape list) (xs ++ spots_in leaves)
+    join : (xs : List LeafSpot) → Each (IsSpotThere shape list) xs → Each (IsSpotThere shape list) (spots_in leaves) → Each (IsSpotThere shape list) (xs ++ spots_in leaves)
     join [] h rest = rest
     join (x ∷ xs) h rest = (h.0, join xs h.1 rest)
 
 -- what each place of all leaves has, each of one leaf has
-pub each_of_leaf : (P : Spot → Type 0) (leaves : List Leaf) (i : ℕ) (d : Leaf) → i < length leaves → Each P (spots_in leaves)
+pub each_of_leaf : (P : LeafSpot → Type 0) (leaves : List Leaf) (i : ℕ) (d : Leaf) → i < length leaves → Each P (spots_in leaves)
     → Each P (spots_below (slice_index_or leaves i d).page (slice_index_or leaves i d).count)
 each_of_leaf P [] i d within all = absurd (omega (arith, within))
 each_of_leaf P (leaf ∷ leaves) zero d within all = each_left P (spots_below leaf.page leaf.count) (spots_in leaves) all
 each_of_leaf P (leaf ∷ leaves) (suc i) d within all = each_of_leaf P leaves i d (omega (arith, within)) (each_right P (spots_below leaf.page leaf.count) (spots_in leaves) all)
 
 -- one of the places of a page has what each has
-pub each_place : (P : Spot → Type 0) (page n place : ℕ) → place < n → Each P (spots_below page n) → P (record { page = page; place = place })
+pub each_place : (P : LeafSpot → Type 0) (page n place : ℕ) → place < n → Each P (spots_below page n) → P (record { page = page; place = place })
 each_place P page n place within all = each_one P (spots_below page n) (record { page = page; place = place }) all (one_below page n place within)
 
 -- ---- keys that rise
 
-module _ (shape : Shape) (list : List (List ℕ)) (width : ℕ) where
-  key_at : Spot → List ℕ
+module _ (shape : NodeShape) (list : List (List ℕ)) (width : ℕ) where
+  key_at : LeafSpot → List ℕ
   key_at spot = take width (entry_at_spot shape list spot)
 
-  each_entry : (P : List ℕ → Type 0) (spots : List Spot) (spot : Spot) → Each P (entries_at shape list spots) → IsOneOf spots spot → P (entry_at_spot shape list spot)
+  each_entry : (P : List ℕ → Type 0) (spots : List LeafSpot) (spot : LeafSpot) → Each P (entries_at shape list spots) → IsOneOf spots spot → P (entry_at_spot shape list spot)
   each_entry P [] spot all one = absurd one
-  each_entry P (s ∷ spots) spot all (inl same) = subst (λ (x : Spot). P (entry_at_spot shape list x)) (sym same) all.0
+  each_entry P (s ∷ spots) spot all (inl same) = subst (λ (x : LeafSpot). P (entry_at_spot shape list x)) (sym same) all.0
   each_entry P (s ∷ spots) spot all (inr one) = each_entry P spots spot all.1 one
 
   -- one of the front comes before one behind it
-  rises_across : (xs ys : List Spot) (x y : Spot) → Ascends width (entries_at shape list (xs ++ ys)) → IsOneOf xs x → IsOneOf ys y
+  rises_across : (xs ys : List LeafSpot) (x y : LeafSpot) → Ascends width (entries_at shape list (xs ++ ys)) → IsOneOf xs x → IsOneOf ys y
       → less (take width (entry_at_spot shape list x)) (take width (entry_at_spot shape list y)) ≡ true
   rises_across [] ys x y rises one two = absurd one
   rises_across (z ∷ xs) ys x y rises (inl same) two =
-      subst (λ (s : Spot). less (take width (entry_at_spot shape list s)) (take width (entry_at_spot shape list y)) ≡ true) (sym same)
+      subst (λ (s : LeafSpot). less (take width (entry_at_spot shape list s)) (take width (entry_at_spot shape list y)) ≡ true) (sym same)
       (each_entry (λ e. less (take width (entry_at_spot shape list z)) (take width e) ≡ true) (xs ++ ys) y rises.0 (one_right xs ys y two))
   rises_across (z ∷ xs) ys x y rises (inr one) two = rises_across xs ys x y rises.1 one two
 
-  rises_left : (xs ys : List Spot) → Ascends width (entries_at shape list (xs ++ ys)) → Ascends width (entries_at shape list xs)
+  rises_left : (xs ys : List LeafSpot) → Ascends width (entries_at shape list (xs ++ ys)) → Ascends width (entries_at shape list xs)
   rises_left [] ys rises = tt
   rises_left (x ∷ xs) ys rises = (front xs rises.0, rises_left xs ys rises.1)
     where
-      front : (zs : List Spot) → Each (λ e. less (take width (entry_at_spot shape list x)) (take width e) ≡ true) (entries_at shape list (zs ++ ys))
+      front : (zs : List LeafSpot) → Each (λ e. less (take width (entry_at_spot shape list x)) (take width e) ≡ true) (entries_at shape list (zs ++ ys))
           → Each (λ e. less (take width (entry_at_spot shape list x)) (take width e) ≡ true) (entries_at shape list zs)
       front [] h = tt
       front (z ∷ zs) h = (h.0, front zs h.1)
 
-  rises_right : (xs ys : List Spot) → Ascends width (entries_at shape list (xs ++ ys)) → Ascends width (entries_at shape list ys)
+  rises_right : (xs ys : List LeafSpot) → Ascends width (entries_at shape list (xs ++ ys)) → Ascends width (entries_at shape list ys)
   rises_right [] ys rises = rises
   rises_right (x ∷ xs) ys rises = rises_right xs ys rises.1
 
@@ -141,7 +141,7 @@ module _ (shape : Shape) (list : List (List ℕ)) (width : ℕ) where
           (one_below page n a (omega (arith, before, same))) (inl (ap (λ (p : ℕ). record { page = page; place = p }) same))
 
 -- the entries at the places of a leaf that is there are its own
-pub leaf_entries_are : (shape : Shape) (list : List (List ℕ)) (leaf : Leaf) → IsLeafThere shape list leaf
+pub leaf_entries_are : (shape : NodeShape) (list : List (List ℕ)) (leaf : Leaf) → IsLeafThere shape list leaf
     → entries_at shape list (spots_below leaf.page leaf.count) ≡ leaf_entries shape (slice_index_or list leaf.page [])
 leaf_entries_are shape list leaf there =
     ap (entries_at shape list) (sym (append-nil (spots_below leaf.page leaf.count))) ∙ entries_more shape list [] leaf there.many
@@ -149,7 +149,7 @@ leaf_entries_are shape list leaf there =
 -- ---- the leaf of a value
 
 module _ (opened : OpenFile) (list : List (List ℕ)) (value : List ℕ) where
-  abbrev shape : Shape
+  abbrev shape : NodeShape
   shape = tree_shape (prime_index_of opened).tree
 
   abbrev w : ℕ
@@ -163,7 +163,7 @@ module _ (opened : OpenFile) (list : List (List ℕ)) (value : List ℕ) where
   last_one leaf there = one_below leaf.page leaf.count (leaf.count - 1) (let some = there.some in omega (arith, some))
 
   -- no place of a leaf that ends below the value has it
-  not_in_leaf : (leaf : Leaf) (spot : Spot) → IsPrimeLeaf opened list leaf → Ascends w (entries_at shape list (spots_below leaf.page leaf.count)) → less (last_value opened list leaf) value ≡ true
+  not_in_leaf : (leaf : Leaf) (spot : LeafSpot) → IsPrimeLeaf opened list leaf → Ascends w (entries_at shape list (spots_below leaf.page leaf.count)) → less (last_value opened list leaf) value ≡ true
       → IsOneOf (spots_below leaf.page leaf.count) spot → value_at opened list spot ≡ value → ⊥
   not_in_leaf leaf spot there rises ends one has = by_place (low_or_not spot.place (leaf.count - 1))
     where
@@ -187,7 +187,7 @@ module _ (opened : OpenFile) (list : List (List ℕ)) (value : List ℕ) where
   -- the leaf that a search comes to has the entry of the value, if one of them has it
   pub leaf_has : (leaves : List Leaf) (i : ℕ) → i ≤ length leaves → Each (IsPrimeLeaf opened list) leaves → Ascends w (entries_at shape list (spots_in leaves))
       → ((k : ℕ) → i ≡ suc k → less (last_value opened list (leaf_at leaves k)) value ≡ true) → (i < length leaves → less (last_value opened list (leaf_at leaves i)) value ≡ false)
-      → (spot : Spot) → IsOneOf (spots_in leaves) spot → value_at opened list spot ≡ value
+      → (spot : LeafSpot) → IsOneOf (spots_in leaves) spot → value_at opened list spot ≡ value
       → (i < length leaves) × IsOneOf (spots_below (leaf_at leaves i).page (leaf_at leaves i).count) spot
   leaf_has [] i within there rises before from spot one has = absurd one
   leaf_has (leaf ∷ leaves) zero within there rises before from spot one has = next (one_split (spots_below leaf.page leaf.count) (spots_in leaves) spot one)
@@ -228,7 +228,7 @@ module _ (opened : OpenFile) (list : List (List ℕ)) (value : List ℕ) where
 
   -- so it is there that a search finds it
   pub found_near : (leaves : List Leaf) (i : ℕ) → IsNear opened list leaves value i → Each (IsPrimeLeaf opened list) leaves → Ascends w (entries_at shape list (spots_in leaves))
-      → (spot : Spot) → IsOneOf (spots_in leaves) spot → value_at opened list spot ≡ value
+      → (spot : LeafSpot) → IsOneOf (spots_in leaves) spot → value_at opened list spot ≡ value
       → (i < length leaves) × (spot.page ≡ (leaf_at leaves i).page) × (spot.place < (leaf_at leaves i).count)
   found_near leaves i near there rises spot one has =
       let at = leaf_has leaves i near.within there rises
@@ -238,7 +238,7 @@ module _ (opened : OpenFile) (list : List (List ℕ)) (value : List ℕ) where
       (at.0, place.0, place.1)
 
   -- and the place in it is found
-  pub entry_found : (leaves : List Leaf) (i : ℕ) (found : Option Spot) → IsNear opened list leaves value i → FindsKeyInLeaf shape list (leaf_at leaves i) value found
+  pub entry_found : (leaves : List Leaf) (i : ℕ) (found : Option LeafSpot) → IsNear opened list leaves value i → FindsKeyInLeaf shape list (leaf_at leaves i) value found
       → FindsEntry opened list leaves value found
   entry_found leaves i found near finds there rises spot one has =
       let at = found_near leaves i near there rises spot one has in
@@ -249,11 +249,11 @@ module _ (opened : OpenFile) (list : List (List ℕ)) (value : List ℕ) where
       subst (Ascends shape.width) (leaf_entries_are shape list leaf here)
       (leaf_rises shape list shape.width leaves i (record { page = 0; count = 0 }) at.0 (subst (λ (n : ℕ). Ascends n (entries_at shape list (spots_in leaves))) keys rises)) in
       let key : take shape.width (entry_at_spot shape list (record { page = leaf.page; place = spot.place })) ≡ value =
-      ap (λ (s : Spot). take shape.width (entry_at_spot shape list s)) (spot_is spot leaf.page at.1) ∙ ap (λ (n : ℕ). take n (entry_at_spot shape list spot)) (sym keys) ∙ has in
+      ap (λ (s : LeafSpot). take shape.width (entry_at_spot shape list s)) (spot_is spot leaf.page at.1) ∙ ap (λ (n : ℕ). take n (entry_at_spot shape list spot)) (sym keys) ∙ has in
       finds here up spot.place at.2 key ∙ ap Some (spot_is spot leaf.page at.1)
 
 -- the rank of a key that a leaf has is the place of its entry
-pub leaf_found : (shape : Shape) (list : List (List ℕ)) (leaf : Leaf) (key : List ℕ) (rank : ℕ) → FindsRank shape.width key (leaf_entries shape (slice_index_or list leaf.page [])) rank → IsLeafThere shape list leaf
+pub leaf_found : (shape : NodeShape) (list : List (List ℕ)) (leaf : Leaf) (key : List ℕ) (rank : ℕ) → FindsRank shape.width key (leaf_entries shape (slice_index_or list leaf.page [])) rank → IsLeafThere shape list leaf
     → Ascends shape.width (leaf_entries shape (slice_index_or list leaf.page [])) → (place : ℕ) → place < leaf.count
     → take shape.width (entry_at_spot shape list (record { page = leaf.page; place = place })) ≡ key → rank ≡ place
 leaf_found shape list leaf key rank finds there rises place within has = by_place (low_or_not place rank) (low_or_not rank place)

@@ -1,5 +1,5 @@
 -- Slots in use, and the entries that lead to them.
-use Rattle.std.proofs.Common.{◌≡◌, ◌≢◌, ◌⊎◌, inl, inr, ℕ, ◌+◌, ◌==◌, ◌&&◌, ◌≤◌, ◌<◌, nat_lt, Bool, true, false, List, [], ◌∷◌, ◌++◌, length, drop, map, None, refl, ap, sym, subst, ◌∙◌, arith}
+use Rattle.std.proofs.Common.{Some, ◌≡◌, ◌≢◌, ◌⊎◌, inl, inr, ℕ, ◌+◌, ◌==◌, ◌&&◌, ◌≤◌, ◌<◌, nat_lt, Bool, true, false, List, [], ◌∷◌, ◌++◌, length, drop, map, None, refl, ap, sym, subst, ◌∙◌, arith}
 use Rattle.std.specs.Prelude.{IsSome, find, slice_index_or}
 use Rattle.std.proofs.lemmas.Bool.{and_parts, and_from, le-ltb, eq-eqb}
 use Rattle.std.proofs.lemmas.List.{get_or_past}
@@ -9,7 +9,7 @@ use Rattle.std.proofs.lemmas.Grind.{common_steps}
 use Rattle.pages.proofs.ChunkLemmas.{length-chunks}
 use Rattle.pages.specs.PageMap.{PageMap}
 use Rattle.pages.specs.PageList.{pages_in}
-use Rattle.record_heap.specs.declared.shape.Shape.{Shape}
+use Rattle.record_heap.specs.declared.shape.SlotShape.{SlotShape}
 use Rattle.record_heap.specs.declared.shape.Place.{Place}
 use Rattle.record_heap.specs.Slot.{room, size, used_in}
 use Rattle.record_heap.specs.Slots.{slot_at}
@@ -20,14 +20,18 @@ use Rattle.open_file.specs.Stands.{is_same}
 use Rattle.open_file.proofs.OrderLemmas.{either}
 
 -- no bytes are a slot in use
-none_used : (shape : Shape) (slot : List ℕ) → slot ≡ [] → used_in shape slot ≡ None
+none_used : (shape : SlotShape) (slot : List ℕ) → slot ≡ [] → used_in shape slot ≡ None
 none_used shape slot none = ap (used_in shape) none
 
+-- what a slot of a page of the list holds
+pub used_here : (shape : SlotShape) (list : List (List ℕ)) (p : Place) (bytes : List ℕ) → pages_in list p.page ≡ Some bytes → used_at shape (pages_in list) p ≡ used_in shape (slot_at shape bytes p.slot)
+used_here shape list p bytes is = rw is refl
+
 -- past the pages that were read, and past the slots of a page, none is in use
-pub no_page : (shape : Shape) (list : List (List ℕ)) (p : Place) → length list ≤ p.page → used_at shape (pages_in list) p ≡ None
+pub no_page : (shape : SlotShape) (list : List (List ℕ)) (p : Place) → length list ≤ p.page → used_at shape (pages_in list) p ≡ None
 no_page shape list p past = let no : nat_lt p.page (length list) ≡ false = le-ltb p.page (length list) past in rw no refl
 
-pub no_slot : (shape : Shape) (list : List (List ℕ)) (p : Place) → room shape ≤ p.slot → used_at shape (pages_in list) p ≡ None
+pub no_slot : (shape : SlotShape) (list : List (List ℕ)) (p : Place) → room shape ≤ p.slot → used_at shape (pages_in list) p ≡ None
 no_slot shape list p past =
     either (nat_lt p.page (length list)) (used_at shape (pages_in list) p ≡ None)
     (λ yes. rw yes (none_used shape (slot_at shape (slice_index_or list p.page []) p.slot) (none_past (slice_index_or list p.page []))))
@@ -103,7 +107,7 @@ all_marked_more count ms m before after all here others n within one = by_test (
 
 -- ---- the slots of these pages
 
-module _ (shape : Shape) (Has : Place → Type 0) where
+module _ (shape : SlotShape) (Has : Place → Type 0) where
   -- the slots of one more page
   pub pages_more : (ms : List ℕ) (m : ℕ) → ((p : Place) → is_in_list ms p.page ≡ true → p.slot < room shape → Has p) → ((p : Place) → p.page ≡ m → p.slot < room shape → Has p)
       → (p : Place) → is_in_list (ms ++ m ∷ []) p.page ≡ true → p.slot < room shape → Has p
@@ -122,7 +126,7 @@ module _ (shape : Shape) (Has : Place → Type 0) where
       by_slot (inr other) = all p is (omega (arith, below, other.1))
 
 -- a slot of the heap's own pages that is in use
-pub own_slot : (shape : Shape) (pages : PageMap) (own : List ℕ) (p : Place) → IsSome (slots_of shape pages own p) → (is_in_list own p.page ≡ true) × (p.slot < room shape) × IsSome (used_at shape pages p)
+pub own_slot : (shape : SlotShape) (pages : PageMap) (own : List ℕ) (p : Place) → IsSome (slots_of shape pages own p) → (is_in_list own p.page ≡ true) × (p.slot < room shape) × IsSome (used_at shape pages p)
 own_slot shape pages own p some =
     either (is_in_list own p.page && nat_lt p.slot (room shape)) ((is_in_list own p.page ≡ true) × (p.slot < room shape) × IsSome (used_at shape pages p))
     (λ yes. let parts = and_parts _ _ yes in (parts.0, below p.slot (room shape) parts.1, rw yes at some))

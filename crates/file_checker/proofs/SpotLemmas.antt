@@ -8,11 +8,11 @@ use Rattle.pages.specs.Each.{Each}
 use Rattle.pages.proofs.EachLemmas.{each_join}
 use Rattle.pages.proofs.PartLemmas.{low_or_not}
 use Rattle.page_walks.specs.declared.leaf.Leaf.{Leaf}
-use Rattle.page_walks.specs.declared.spot.Spot.{Spot}
+use Rattle.page_walks.specs.declared.spot.LeafSpot.{LeafSpot}
 use Rattle.page_walks.specs.Spots.{spots_below, spots_in}
 use Rattle.record_heap.specs.Chain.{IsOneOf}
 
-module _ (P : Spot → Type 0) where
+module _ (P : LeafSpot → Type 0) where
   -- of one place more
   pub each_below : (page n : ℕ) → Each P (spots_below page n) → P (record { page = page; place = n }) → Each P (spots_below page (n + 1))
   each_below page n each more =
@@ -59,7 +59,7 @@ one_below page (suc n) place within = by_place (λ less. one_below page n place 
         one_left (spots_below page n) (record { page = page; place = n } ∷ []) (record { page = page; place = place }) (again (omega (arith, within, other.1)))
 
 -- a place below the count of one of the leaves is one of their places
-pub one_in : (leaves : List Leaf) (leaf : Leaf) (spot : Spot) → IsOneOf leaves leaf → spot.page ≡ leaf.page → spot.place < leaf.count → IsOneOf (spots_in leaves) spot
+pub one_in : (leaves : List Leaf) (leaf : Leaf) (spot : LeafSpot) → IsOneOf leaves leaf → spot.page ≡ leaf.page → spot.place < leaf.count → IsOneOf (spots_in leaves) spot
 one_in [] leaf spot one page place = absurd one
 one_in (l ∷ leaves) leaf spot (inl same) page place =
     one_left (spots_below l.page l.count) (spots_in leaves) spot
@@ -67,7 +67,7 @@ one_in (l ∷ leaves) leaf spot (inl same) page place =
     (subst (λ (p : ℕ). IsOneOf (spots_below p leaf.count) spot) page (one_below spot.page leaf.count spot.place place)))
 one_in (l ∷ leaves) leaf spot (inr one) page place = one_right (spots_below l.page l.count) (spots_in leaves) spot (one_in leaves leaf spot one page place)
 
-pub found_in : (leaves : List Leaf) (leaf : Leaf) (found : Option Spot) → IsOneOf leaves leaf → IfSome found (λ spot. spot.page ≡ leaf.page) → IfSome found (λ spot. spot.place < leaf.count)
+pub found_in : (leaves : List Leaf) (leaf : Leaf) (found : Option LeafSpot) → IsOneOf leaves leaf → IfSome found (λ spot. spot.page ≡ leaf.page) → IfSome found (λ spot. spot.place < leaf.count)
     → IfSome found (λ spot. IsOneOf (spots_in leaves) spot)
 found_in leaves leaf None one page place = tt
 found_in leaves leaf (Some spot) one page place = one_in leaves leaf spot one page place

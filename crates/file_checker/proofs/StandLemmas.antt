@@ -9,7 +9,7 @@ use Rattle.pages.specs.Marks.{Marks}
 use Rattle.pages.specs.PageList.{pages_in}
 use Rattle.pages.specs.Parted.{own_at, all_of}
 use Rattle.pages.proofs.MarksLemmas.{marks_on, outside_reached}
-use Rattle.page_walks.specs.declared.spot.Spot.{Spot}
+use Rattle.page_walks.specs.declared.spot.LeafSpot.{LeafSpot}
 use Rattle.page_walks.specs.Spots.{entries_at}
 use Rattle.page_walks.specs.TreeWalk.{TreeWalked}
 use Rattle.page_walks.specs.FreeWalk.{FreeWalked}
@@ -38,7 +38,7 @@ use Rattle.file_checker.specs.Lost.{LeavesOut}
 use Rattle.file_checker.proofs.AlternateLemmas.{spots_many}
 
 -- what is found of a file before all its pages are known to be reached
-pub record Found (header : Header) (list : List (List ℕ)) (opened : OpenFile) (own : List ℕ) (primes : List Spot) (none zeroth start heaped primed final : ℕ → Bool) : Type 0 where
+pub record Found (header : Header) (list : List (List ℕ)) (opened : OpenFile) (own : List ℕ) (primes : List LeafSpot) (none zeroth start heaped primed final : ℕ → Bool) : Type 0 where
   pub clear : (n : ℕ) → none n ≡ false
   pub first : Marks none zeroth (0 ∷ [])
   pub free : FreeWalked list header.first_free header.free zeroth start
@@ -54,7 +54,7 @@ item_there [] j within = absurd (omega arith)
 item_there (x ∷ xs) zero within = (x, refl)
 item_there (x ∷ xs) (suc j) within = item_there xs j (omega arith)
 
-module _ (header : Header) (list : List (List ℕ)) (opened : OpenFile) (own : List ℕ) (primes : List Spot) (none zeroth start heaped primed final : ℕ → Bool)
+module _ (header : Header) (list : List (List ℕ)) (opened : OpenFile) (own : List ℕ) (primes : List LeafSpot) (none zeroth start heaped primed final : ℕ → Bool)
     (allowed : IsHeader header) (by_header : IsOpenedBy header opened) (found : Found header list opened own primes none zeroth start heaped primed final) where
   -- the alternate keys have the numbers of their indexes
   key_is : (j : ℕ) (index : AltIndex) → j < length (alternates_of opened) → index ≡ slice_index_or (alternates_of opened) j index → alt_key index ≡ j + 1

@@ -6,7 +6,7 @@ use Rattle.tree_node.specs.Order.{Ascends}
 use Rattle.record_layout.specs.Schema.{Schema, key_at}
 use Rattle.indexed_file.specs.File.{Row}
 use Rattle.indexed_file.specs.Rank.{row_cmp}
-use Rattle.page_walks.specs.declared.spot.Spot.{Spot}
+use Rattle.page_walks.specs.declared.spot.LeafSpot.{LeafSpot}
 use Rattle.page_walks.specs.Spots.{entries_at}
 use Rattle.key_index.specs.declared.alt_index.AltIndex.{AltIndex}
 use Rattle.key_index.specs.Standing.{alt_key}
@@ -32,7 +32,7 @@ pub record IsEntryFor (opened : OpenFile) (alternate : AltIndex) (entry : List �
   pub long : length entry ≡ (tree_shape alternate.tree).entry
 
 -- the entries at these places come in the order of the index
-abbrev pub EntriesAscend : AltIndex → List (List ℕ) → List Spot → Type 0
+abbrev pub EntriesAscend : AltIndex → List (List ℕ) → List LeafSpot → Type 0
 EntriesAscend index list spots =
     Ascends (tree_shape index.tree).width (entries_at (tree_shape index.tree) list spots)
 
@@ -43,8 +43,8 @@ RanksDiffer schema k (row ∷ rows) = Each (λ other. IsTrue (is_lt (row_cmp sch
     ⊎ IsTrue (is_lt (row_cmp schema k other row))) rows × RanksDiffer schema k rows
 
 -- the entries at these places are those that the index has of the rows, in the order of their ranks
-pub record HasEntriesOfRows (opened : OpenFile) (list : List (List ℕ)) (primes : List Spot)
-    (index : AltIndex) (spots : List Spot) : Type 0 where
+pub record HasEntriesOfRows (opened : OpenFile) (list : List (List ℕ)) (primes : List LeafSpot)
+    (index : AltIndex) (spots : List LeafSpot) : Type 0 where
   pub entries_are : map alt_bytes
       (alt_entries (file_schema opened) (alt_key index) (rows_in opened list primes))
       ≡ entries_at (tree_shape index.tree) list spots
@@ -52,7 +52,7 @@ pub record HasEntriesOfRows (opened : OpenFile) (list : List (List ℕ)) (primes
       (alt_entries (file_schema opened) (alt_key index) (rows_in opened list primes))
 
 -- so, and no two of these ranks are one
-pub record AlternateStands (opened : OpenFile) (list : List (List ℕ)) (primes : List Spot)
-    (index : AltIndex) (spots : List Spot) : Type 0 where
+pub record AlternateStands (opened : OpenFile) (list : List (List ℕ)) (primes : List LeafSpot)
+    (index : AltIndex) (spots : List LeafSpot) : Type 0 where
   pub entries : HasEntriesOfRows opened list primes index spots
   pub differ : RanksDiffer (file_schema opened) (alt_key index) (rows_in opened list primes)

@@ -9,7 +9,7 @@ use Rattle.indexed_file.specs.File.{Row}
 use Rattle.indexed_file.specs.Sound.{is_row, is_stamp}
 use Rattle.pages.specs.Marks.{marked_in}
 use Rattle.pages.specs.PageList.{pages_in}
-use Rattle.page_walks.specs.declared.spot.Spot.{Spot}
+use Rattle.page_walks.specs.declared.spot.LeafSpot.{LeafSpot}
 use Rattle.page_walks.specs.declared.leaf.Leaf.{Leaf}
 use Rattle.page_walks.specs.Spots.{entry_at_spot, spots_below}
 use Rattle.record_heap.specs.declared.shape.Place.{Place}
@@ -30,7 +30,7 @@ use Rattle.bplus_tree.specs.Fields.{tree_shape}
 use Rattle.file_checker.specs.Rows.{prime_at, place_at, places_in, row_at}
 
 -- this is so of each entry of the leaf
-abbrev pub OfEachEntry : (Spot → Type 0) → Leaf → Type 0
+abbrev pub OfEachEntry : (LeafSpot → Type 0) → Leaf → Type 0
 OfEachEntry fact leaf = Each fact (spots_below leaf.page leaf.count)
 
 -- in a file whose parts are made for the schema: stamps, and a record of a length that the file has
@@ -67,7 +67,7 @@ IsStoredRow opened stored =
 
 -- the entry leads to a row that has its value, in one of the marked pages
 pub record LeadsToRow (opened : OpenFile) (list : List (List ℕ)) (marks : List Bool)
-    (spot : Spot) : Type 0 where
+    (spot : LeafSpot) : Type 0 where
   pub long : length (prime_at opened list spot) ≡ (prime_index_of opened).width + 6
   pub bytes : Each (λ b. b < 256) (prime_at opened list spot)
   pub stored : List ℕ
@@ -80,31 +80,31 @@ pub record LeadsToRow (opened : OpenFile) (list : List (List ℕ)) (marks : List
       (stored_row opened stored).bytes
 
 -- where a slot is in use, an entry of the prime index leads to it
-abbrev pub HasEntry : OpenFile → List (List ℕ) → List Spot → Place → Type 0
+abbrev pub HasEntry : OpenFile → List (List ℕ) → List LeafSpot → Place → Type 0
 HasEntry opened list primes place = IsSome (slot_off (heap_of opened) (pages_in list) place)
     → IsSome (find (is_same place) (places_in opened list primes))
 
 -- each slot of page n that is in use has its entry
-abbrev pub PageHasEntries : OpenFile → List (List ℕ) → List Spot → ℕ → Type 0
+abbrev pub PageHasEntries : OpenFile → List (List ℕ) → List LeafSpot → ℕ → Type 0
 PageHasEntries opened list primes n = (p : Place) → p.page ≡ n → p.slot < room (slot_shape (heap_of opened))
     → HasEntry opened list primes p
 
 -- each slot of these pages that is in use has its entry
-abbrev pub PagesHaveEntries : OpenFile → List (List ℕ) → List Spot → List ℕ → Type 0
+abbrev pub PagesHaveEntries : OpenFile → List (List ℕ) → List LeafSpot → List ℕ → Type 0
 PagesHaveEntries opened list primes own = (p : Place)
     → IsSome (slots_of (slot_shape (heap_of opened)) (pages_in list) own p)
     → IsSome (find (is_same p) (places_in opened list primes))
 
 -- these bytes are the entry that the index has of the row that the leader leads to
-abbrev pub IsEntryOf : OpenFile → List (List ℕ) → AltIndex → List ℕ → Spot → Type 0
+abbrev pub IsEntryOf : OpenFile → List (List ℕ) → AltIndex → List ℕ → LeafSpot → Type 0
 IsEntryOf opened list index bytes leader = alt_entry_in index.width bytes
     ≡ entry_of (file_schema opened) (alt_key index) (row_at opened list leader)
 
 -- the entry is the one that the index has of a row that the prime index leads to
-pub record HasRow (opened : OpenFile) (list : List (List ℕ)) (primes : List Spot) (index : AltIndex)
-    (spot : Spot) : Type 0 where
+pub record HasRow (opened : OpenFile) (list : List (List ℕ)) (primes : List LeafSpot) (index : AltIndex)
+    (spot : LeafSpot) : Type 0 where
   pub long : length (entry_at_spot (tree_shape index.tree) list spot) ≡ (tree_shape index.tree).entry
   pub bytes : Each (λ b. b < 256) (entry_at_spot (tree_shape index.tree) list spot)
-  pub leader : Spot
+  pub leader : LeafSpot
   pub one : IsOneOf primes leader
   pub is : IsEntryOf opened list index (entry_at_spot (tree_shape index.tree) list spot) leader

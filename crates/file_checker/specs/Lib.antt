@@ -16,3 +16,4 @@ pub mod Later
 pub mod Findings
 pub mod Sound
 pub mod Laws
+pub mod UnitPages

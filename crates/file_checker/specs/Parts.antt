@@ -5,7 +5,7 @@ use Rattle.pages.specs.Marks.{Marks, marked_in}
 use Rattle.pages.specs.PageList.{pages_in}
 use Rattle.pages.specs.Parted.{own_at, all_of}
 use Rattle.page_alloc.specs.Chain.{chain}
-use Rattle.page_walks.specs.declared.spot.Spot.{Spot}
+use Rattle.page_walks.specs.declared.spot.LeafSpot.{LeafSpot}
 use Rattle.page_walks.specs.Spots.{entries_at}
 use Rattle.page_walks.specs.FreeWalk.{page_in}
 use Rattle.page_walks.specs.WholeFile.{pages_used_in}
@@ -21,14 +21,14 @@ use Rattle.open_file.specs.Stands.{Stands}
 use Rattle.file_checker.specs.Alternate.{AlternateStands}
 
 -- the index stands in pages of its own, and its entries are those of the rows
-pub record AlternateFound (opened : OpenFile) (list : List (List ℕ)) (primes : List Spot)
+pub record AlternateFound (opened : OpenFile) (list : List (List ℕ)) (primes : List LeafSpot)
     (index : AltIndex) (own : List ℕ) : Type 0 where
-  pub spots : List Spot
+  pub spots : List LeafSpot
   pub tree : TreeStands index.tree (pages_in list) (entries_at (tree_shape index.tree) list spots) own
   pub rows : AlternateStands opened list primes index spots
 
 -- so do the first alternate indexes, so many, and their pages were reached now
-pub record AlternatesFound (opened : OpenFile) (list : List (List ℕ)) (primes : List Spot) (count : ℕ)
+pub record AlternatesFound (opened : OpenFile) (list : List (List ℕ)) (primes : List LeafSpot) (count : ℕ)
     (before after : ℕ → Bool) : Type 0 where
   pub owns : List (List ℕ)
   pub as_many : length owns ≡ count
@@ -42,7 +42,7 @@ AlternatesCount opened n = (j : ℕ) (index : AltIndex) → j < length (alternat
     → index ≡ slice_index_or (alternates_of opened) j index → tree_count index.tree ≡ n
 
 -- all of them stand so, and their pages were marked now
-abbrev pub AllFound : OpenFile → List (List ℕ) → List Spot → List Bool → List Bool → Type 0
+abbrev pub AllFound : OpenFile → List (List ℕ) → List LeafSpot → List Bool → List Bool → Type 0
 AllFound opened list primes before after = AlternatesFound opened list primes
     (length (alternates_of opened)) (marked_in before) (marked_in after)
 

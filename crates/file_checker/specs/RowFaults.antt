@@ -4,7 +4,7 @@ use Rattle.record_layout.specs.Schema.{prime_of}
 use Rattle.pages.specs.PageList.{pages_in}
 use Rattle.pages.specs.declared.fault_place.FaultPlace.{FaultPlace}
 use Rattle.pages.specs.declared.fault_place.FaultPlace.TheVariants.{Entry}
-use Rattle.page_walks.specs.declared.spot.Spot.{Spot}
+use Rattle.page_walks.specs.declared.spot.LeafSpot.{LeafSpot}
 use Rattle.page_walks.specs.declared.leaf.Leaf.{Leaf}
 use Rattle.page_walks.specs.Spots.{IsSpotThere, spots_in}
 use Rattle.record_heap.specs.declared.shape.Place.{Place}
@@ -30,14 +30,14 @@ TellsOfRows Holds Memory = ⊤
 TellsOfRows Holds (Index place) = Holds place
 
 -- the entry at one of these places is told, of which this does not hold
-pub record IsEntryFault (spots : List Spot) (Holds : Spot → Type 0) (place : FaultPlace) : Type 0 where
-  pub spot : Spot
+pub record IsEntryFault (spots : List LeafSpot) (Holds : LeafSpot → Type 0) (place : FaultPlace) : Type 0 where
+  pub spot : LeafSpot
   pub one : IsOneOf spots spot
   pub told : place ≡ Entry spot.page spot.place
   pub wrong : Holds spot → ⊥
 
 -- the entry is there, and leads to a row that has its value, in one of these pages
-pub record LeadsToOwn (opened : OpenFile) (list : List (List ℕ)) (own : List ℕ) (spot : Spot) : Type 0 where
+pub record LeadsToOwn (opened : OpenFile) (list : List (List ℕ)) (own : List ℕ) (spot : LeafSpot) : Type 0 where
   pub there : IsSpotThere (tree_shape (prime_index_of opened).tree) list spot
   pub stored : List ℕ
   pub used : slot_off (heap_of opened) (pages_in list) (place_at opened list spot) ≡ Some stored
@@ -46,7 +46,7 @@ pub record LeadsToOwn (opened : OpenFile) (list : List (List ℕ)) (own : List �
   pub value : value_at opened list spot ≡ prime_of (file_schema opened) (stored_row opened stored).bytes
 
 -- a slot of these pages is told that is in use, and to which no entry of the prime index leads
-pub record HasNoEntry (opened : OpenFile) (list : List (List ℕ)) (primes : List Spot) (own : List ℕ)
+pub record HasNoEntry (opened : OpenFile) (list : List (List ℕ)) (primes : List LeafSpot) (own : List ℕ)
     (place : FaultPlace) : Type 0 where
   pub slot : Place
   pub page : is_in_list own slot.page ≡ true

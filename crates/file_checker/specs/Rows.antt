@@ -9,7 +9,7 @@ use Rattle.io_state.specs.Rank.{value_cmp}
 use Rattle.indexed_file.specs.Sound.{is_row}
 use Rattle.pages.specs.Marks.{marked_in}
 use Rattle.pages.specs.PageList.{pages_in}
-use Rattle.page_walks.specs.declared.spot.Spot.{Spot}
+use Rattle.page_walks.specs.declared.spot.LeafSpot.{LeafSpot}
 use Rattle.page_walks.specs.Spots.{entry_at_spot, entries_at}
 use Rattle.record_heap.specs.declared.shape.Place.{Place}
 use Rattle.record_heap.specs.Standing.{slot_off, slot_shape}
@@ -23,32 +23,32 @@ use Rattle.open_file.specs.declared.open_file.OpenFile.{OpenFile}
 use Rattle.bplus_tree.specs.Fields.{tree_shape}
 
 -- the bytes of an entry of the prime index
-abbrev pub prime_at : OpenFile → List (List ℕ) → Spot → List ℕ
+abbrev pub prime_at : OpenFile → List (List ℕ) → LeafSpot → List ℕ
 prime_at opened list spot = entry_at_spot (tree_shape (prime_index_of opened).tree) list spot
 
 -- the place that it leads to
-abbrev pub place_at : OpenFile → List (List ℕ) → Spot → Place
+abbrev pub place_at : OpenFile → List (List ℕ) → LeafSpot → Place
 place_at opened list spot = (prime_entry_in (prime_index_of opened).width (prime_at opened list spot)).place
 
 -- the row that is there
-abbrev pub row_at : OpenFile → List (List ℕ) → Spot → Row
+abbrev pub row_at : OpenFile → List (List ℕ) → LeafSpot → Row
 row_at opened list spot = row_off (file_schema opened) (slot_off (heap_of opened) (pages_in list)
     (place_at opened list spot))
 
-abbrev pub places_in : OpenFile → List (List ℕ) → List Spot → List Place
+abbrev pub places_in : OpenFile → List (List ℕ) → List LeafSpot → List Place
 places_in opened list spots = map (place_at opened list) spots
 
-abbrev pub rows_in : OpenFile → List (List ℕ) → List Spot → List Row
+abbrev pub rows_in : OpenFile → List (List ℕ) → List LeafSpot → List Row
 rows_in opened list spots = map (row_at opened list) spots
 
 -- the entries of the prime index at these places rise by their values
-abbrev pub EntriesRise : OpenFile → List (List ℕ) → List Spot → Type 0
+abbrev pub EntriesRise : OpenFile → List (List ℕ) → List LeafSpot → Type 0
 EntriesRise opened list spots = Ascends (prime_index_of opened).width
     (entries_at (tree_shape (prime_index_of opened).tree) list spots)
 
 -- the parts of the file are made for its schema, the entries of its prime index rise, and each page has
 -- a mark, which is not set
-pub record MayCompareRows (opened : OpenFile) (list : List (List ℕ)) (spots : List Spot)
+pub record MayCompareRows (opened : OpenFile) (list : List (List ℕ)) (spots : List LeafSpot)
     (marks : List Bool) : Type 0 where
   pub shaped : IsShaped opened
   pub rises : EntriesRise opened list spots
@@ -65,7 +65,7 @@ PrimesRise schema (row ∷ rows) = Each (λ other. IsTrue
 -- What the entries of the prime index at these places lead to are rows in the order of their prime
 -- values, and they are the entries of these rows; no other slot of the heap's own pages is in use.
 pub record RowsStand (opened : OpenFile) (list : List (List ℕ)) (own : List ℕ)
-    (spots : List Spot) : Type 0 where
+    (spots : List LeafSpot) : Type 0 where
   pub rows_are : Each (λ row. IsTrue (is_row (file_schema opened) (next_stamp_of opened) row))
       (rows_in opened list spots)
   pub placed : IsPlaced (file_schema opened) (slots_of (slot_shape (heap_of opened)) (pages_in list) own)

@@ -4,7 +4,7 @@ use Rattle.pages.specs.Each.{Each}
 use Rattle.record_layout.specs.Schema.{prime_of}
 use Rattle.pages.specs.Marks.{marked_in}
 use Rattle.pages.specs.PageList.{pages_in}
-use Rattle.page_walks.specs.declared.spot.Spot.{Spot}
+use Rattle.page_walks.specs.declared.spot.LeafSpot.{LeafSpot}
 use Rattle.page_walks.specs.declared.leaf.Leaf.{Leaf}
 use Rattle.page_walks.specs.Spots.{IsLeafThere, IsSpotThere, spots_in}
 use Rattle.record_heap.specs.Chain.{IsOneOf}
@@ -34,7 +34,7 @@ pub record RowsAhead (opened : OpenFile) (list : List (List ℕ)) (own : List �
 
 -- the entry is there, and leads to a row that has its value, in one of the marked pages
 pub record LeadsAhead (opened : OpenFile) (list : List (List ℕ)) (marks : List Bool)
-    (spot : Spot) : Type 0 where
+    (spot : LeafSpot) : Type 0 where
   pub there : IsSpotThere (tree_shape (prime_index_of opened).tree) list spot
   pub stored : List ℕ
   pub used : slot_off (heap_of opened) (pages_in list) (place_at opened list spot) ≡ Some stored
@@ -43,7 +43,7 @@ pub record LeadsAhead (opened : OpenFile) (list : List (List ℕ)) (marks : List
   pub value : value_at opened list spot ≡ prime_of (file_schema opened) (stored_row opened stored).bytes
 
 -- the entry is there, leads to a slot in use, and has the value of the row in it
-pub record HasItsRow (opened : OpenFile) (list : List (List ℕ)) (spot : Spot) : Type 0 where
+pub record HasItsRow (opened : OpenFile) (list : List (List ℕ)) (spot : LeafSpot) : Type 0 where
   pub there : IsSpotThere (tree_shape (prime_index_of opened).tree) list spot
   pub used : IsSome (slot_off (heap_of opened) (pages_in list) (place_at opened list spot))
   pub value : value_at opened list spot ≡ prime_of (file_schema opened) (row_at opened list spot).bytes
@@ -55,10 +55,10 @@ pub record PrimesLead (opened : OpenFile) (list : List (List ℕ)) (primes : Lis
   pub rows : Each (HasItsRow opened list) (spots_in primes)
 
 -- the entry is there, and is the one that the index has of a row that the prime index leads to
-pub record HasRowAhead (opened : OpenFile) (list : List (List ℕ)) (primes : List Spot)
-    (index : AltIndex) (spot : Spot) : Type 0 where
+pub record HasRowAhead (opened : OpenFile) (list : List (List ℕ)) (primes : List LeafSpot)
+    (index : AltIndex) (spot : LeafSpot) : Type 0 where
   pub there : IsSpotThere (tree_shape index.tree) list spot
-  pub leader : Spot
+  pub leader : LeafSpot
   pub one : IsOneOf primes leader
   pub is : IsEntryOf opened list index (entry_at_spot (tree_shape index.tree) list spot) leader
 

@@ -2,10 +2,10 @@
 use Rattle.std.specs.Prelude.{◌≡◌, ℕ, ◌+◌, ◌-◌, ◌<◌, ◌≤◌, true, false, List, [], length, take}
 use Rattle.std.specs.Prelude.{slice_index_or, Option, Some}
 use Rattle.pages.specs.Each.{Each}
-use Rattle.tree_node.specs.declared.shape.Shape.{Shape}
+use Rattle.tree_node.specs.declared.shape.NodeShape.{NodeShape}
 use Rattle.tree_node.specs.Leaf.{leaf_entries}
 use Rattle.tree_node.specs.Order.{less, Ascends}
-use Rattle.page_walks.specs.declared.spot.Spot.{Spot}
+use Rattle.page_walks.specs.declared.spot.LeafSpot.{LeafSpot}
 use Rattle.page_walks.specs.declared.leaf.Leaf.{Leaf}
 use Rattle.page_walks.specs.Spots.{IsLeafThere, entry_at_spot, spots_in}
 use Rattle.record_heap.specs.Chain.{IsOneOf}
@@ -15,7 +15,7 @@ use Rattle.bplus_tree.specs.Fields.{tree_shape}
 use Rattle.file_checker.specs.Rows.{EntriesRise, prime_at}
 
 -- the value of an entry of the prime index
-abbrev pub value_at : OpenFile → List (List ℕ) → Spot → List ℕ
+abbrev pub value_at : OpenFile → List (List ℕ) → LeafSpot → List ℕ
 value_at opened list spot = take (prime_index_of opened).width (prime_at opened list spot)
 
 -- the leaf is one of the prime index, as it was read
@@ -48,7 +48,7 @@ pub record IsNear (opened : OpenFile) (list : List (List ℕ)) (leaves : List Le
   pub from : i < length leaves → EndsFrom opened list value (leaf_at leaves i)
 
 -- where the leaf is there, and its keys rise, the entry of a key that it has is found
-abbrev pub FindsKeyInLeaf : Shape → List (List ℕ) → Leaf → List ℕ → Option Spot → Type 0
+abbrev pub FindsKeyInLeaf : NodeShape → List (List ℕ) → Leaf → List ℕ → Option LeafSpot → Type 0
 FindsKeyInLeaf shape list leaf key found = IsLeafThere shape list leaf
     → Ascends shape.width (leaf_entries shape (slice_index_or list leaf.page []))
     → (place : ℕ) → place < leaf.count
@@ -57,7 +57,7 @@ FindsKeyInLeaf shape list leaf key found = IsLeafThere shape list leaf
 
 -- where the leaves are there, and the values of their entries rise, the entry of a value that one of
 -- them has is found
-abbrev pub FindsEntry : OpenFile → List (List ℕ) → List Leaf → List ℕ → Option Spot → Type 0
+abbrev pub FindsEntry : OpenFile → List (List ℕ) → List Leaf → List ℕ → Option LeafSpot → Type 0
 FindsEntry opened list leaves value found = Each (IsPrimeLeaf opened list) leaves
     → EntriesRise opened list (spots_in leaves)
-    → (spot : Spot) → IsOneOf (spots_in leaves) spot → value_at opened list spot ≡ value → found ≡ Some spot
+    → (spot : LeafSpot) → IsOneOf (spots_in leaves) spot → value_at opened list spot ≡ value → found ≡ Some spot

@@ -1,6 +1,6 @@
 //! The entries of an alternate key, and the rows.
 
-ghost use Rattle.std.specs.Prelude.{◌≡◌, IsTrue, length};
+ghost use Rattle.std.specs.Prelude.{◌≡◌, IsTrue, length, List, ℕ};
 ghost use Rattle.page_walks.specs.Spots.{spots_in};
 ghost use Rattle.file_checker.specs.Alternate.{IsIndexFor, IsEntryFor, EntriesAscend};
 ghost use Rattle.file_checker.specs.Leading.{HasRow, IsEntryOf};
@@ -14,29 +14,39 @@ use crate::row_fault::RowFault;
 use byteorder::{BigEndian, ByteOrder};
 use key_index::AltIndex;
 use open_file::OpenFile;
-use page_walks::{Leaf, Spot};
-use pages::PAGE_SIZE;
+use page_walks::{Leaf, LeafSpot};
+use pages::{PAGE_SIZE, PageSource};
 
 /// The bytes of a stamp.
 const STAMP: usize = 8;
 
 /// The entry is what the index has of the row that an entry of the prime index leads to.
-fn is_of_row(
-    pages: &[[u8; PAGE_SIZE]],
+fn is_of_row<P: PageSource>(
+    pages: &mut P,
     file: &OpenFile,
     index: AltIndex,
     entry_bytes: &[u8],
-    leader: Spot,
+    leader: LeafSpot,
 ) -> bool
     requires { IsEntryFor file.now index entry_bytes.now }
-    ensures entry { IsTrue result → IsEntryOf file.now pages.now index entry_bytes.now leader }
-    ensures refused { HasItsRow file.now pages.now leader
-        → IsEntryOf file.now pages.now index entry_bytes.now leader → IsTrue result }
+    ensures entry { (list : List (List ℕ)) → P.has pages.new list
+        → IsTrue result → IsEntryOf file.now list index entry_bytes.now leader }
+    ensures refused { (list : List (List ℕ)) → P.has pages.new list
+        → HasItsRow file.now list leader
+        → IsEntryOf file.now list index entry_bytes.now leader → IsTrue result }
+    ensures before { (list : List (List ℕ)) → P.has pages.new list → P.has pages.old list }
 {
-    let Some(prime) = entry(pages, file.prime().tree.shape(), leader) else {
+    let mut prime_frame = [0; PAGE_SIZE];
+    let mut frame = [0; PAGE_SIZE];
+    let Some(prime) = entry(pages, file.prime().tree.shape(), leader, &mut prime_frame) else {
         return false;
     };
-    let Some(stored) = stored_at(pages, file, place_in(prime, file.prime().width as usize)) else {
+    let Some(stored) = stored_at(
+        pages,
+        file,
+        place_in(prime, file.prime().width as usize),
+        &mut frame,
+    ) else {
         return false;
     };
     let width = index.width as usize;
@@ -47,19 +57,23 @@ fn is_of_row(
 }
 
 /// The entry is what the index has of a row that the prime index leads to.
-fn has_row(
-    pages: &[[u8; PAGE_SIZE]],
+fn has_row<P: PageSource>(
+    pages: &mut P,
     file: &OpenFile,
     primes: &[Leaf],
     index: AltIndex,
-    spot: Spot,
+    spot: LeafSpot,
 ) -> bool
     requires { IsIndexFor file.now index }
-    ensures row { IsTrue result → HasRow file.now pages.now (spots_in primes.now) index spot }
-    ensures refused { PrimesLead file.now pages.now primes.now
-        → HasRowAhead file.now pages.now (spots_in primes.now) index spot → IsTrue result }
+    ensures row { (list : List (List ℕ)) → P.has pages.new list
+        → IsTrue result → HasRow file.now list (spots_in primes.now) index spot }
+    ensures refused { (list : List (List ℕ)) → P.has pages.new list
+        → PrimesLead file.now list primes.now
+        → HasRowAhead file.now list (spots_in primes.now) index spot → IsTrue result }
+    ensures before { (list : List (List ℕ)) → P.has pages.new list → P.has pages.old list }
 {
-    let Some(entry) = entry(pages, index.tree.shape(), spot) else {
+    let mut frame = [0; PAGE_SIZE];
+    let Some(entry) = entry(pages, index.tree.shape(), spot, &mut frame) else {
         return false;
     };
     match entry_near(pages, file, primes, &entry[index.width as usize + STAMP..]) {
@@ -69,18 +83,20 @@ fn has_row(
 }
 
 /// Each entry of the leaf is what the index has of a row that the prime index leads to.
-fn check_leaf(
-    pages: &[[u8; PAGE_SIZE]],
+fn check_leaf<P: PageSource>(
+    pages: &mut P,
     file: &OpenFile,
     primes: &[Leaf],
     index: AltIndex,
     leaf: Leaf,
 ) -> Result<(), RowFault>
     requires { IsIndexFor file.now index }
-    ensures { ChecksLeaf (pages_read file.now pages.now primes.now) index leaf result }
+    ensures checks { (list : List (List ℕ)) → P.has pages.new list
+        → ChecksLeaf (pages_read file.now list primes.now) index leaf result }
+    ensures before { (list : List (List ℕ)) → P.has pages.new list → P.has pages.old list }
 {
     for place in 0..leaf.count {
-        let spot = Spot {
+        let spot = LeafSpot {
             page: leaf.page,
             place,
         };
@@ -92,15 +108,17 @@ fn check_leaf(
 }
 
 /// Each entry of these leaves is what the index has of a row that the prime index leads to.
-fn check_leaves(
-    pages: &[[u8; PAGE_SIZE]],
+fn check_leaves<P: PageSource>(
+    pages: &mut P,
     file: &OpenFile,
     primes: &[Leaf],
     index: AltIndex,
     leaves: &[Leaf],
 ) -> Result<(), RowFault>
     requires { IsIndexFor file.now index }
-    ensures { ChecksLeaves (pages_read file.now pages.now primes.now) index leaves.now result }
+    ensures checks { (list : List (List ℕ)) → P.has pages.new list
+        → ChecksLeaves (pages_read file.now list primes.now) index leaves.now result }
+    ensures before { (list : List (List ℕ)) → P.has pages.new list → P.has pages.old list }
 {
     for &leaf in leaves {
         check_leaf(pages, file, primes, index, leaf)?;
@@ -109,12 +127,11 @@ fn check_leaves(
 }
 
 /// Compares the index of an alternate key with the rows of a file. `primes` and `leaves` are the
-/// leaves of the prime index and of this one, each in their order, in the pages of the file as they
-/// were read.
+/// leaves of the prime index and of this one, each in their order, in the pages of the file.
 ///
 /// Index, where they do not agree, at an entry that is that of no row.
-pub fn check_alternate(
-    pages: &[[u8; PAGE_SIZE]],
+pub fn check_alternate<P: PageSource>(
+    pages: &mut P,
     file: &OpenFile,
     primes: &[Leaf],
     index: AltIndex,
@@ -122,8 +139,10 @@ pub fn check_alternate(
 ) -> Result<(), RowFault>
     requires index { IsIndexFor file.now index }
     requires many { length (spots_in leaves.now) ≡ length (spots_in primes.now) }
-    requires rises { EntriesAscend index pages.now (spots_in leaves.now) }
-    ensures { ComparesIndex (pages_read file.now pages.now primes.now) index leaves.now result }
+    requires rises { (list : List (List ℕ)) → P.has pages.old list → EntriesAscend index list (spots_in leaves.now) }
+    ensures compares { (list : List (List ℕ)) → P.has pages.new list
+        → ComparesIndex (pages_read file.now list primes.now) index leaves.now result }
+    ensures before { (list : List (List ℕ)) → P.has pages.new list → P.has pages.old list }
 {
     check_leaves(pages, file, primes, index, leaves)?;
     Ok(())

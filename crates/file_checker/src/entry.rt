@@ -1,6 +1,8 @@
-//! An entry of an index, in the pages of a file that were read.
+//! An entry of an index, in the pages of a file.
 
-ghost use Rattle.std.specs.Prelude.{◌≡◌, ◌+◌, ◌<◌, ◌≤◌, IfSome, IsSome, length, true, false};
+ghost use Rattle.std.specs.Prelude.{◌≡◌, ◌+◌, ◌<◌, ◌≤◌, ◌↔◌, IfSome, IsSome, length, true, false, slice_index_or};
+ghost use Rattle.std.specs.Prelude.{List, ℕ, []};
+ghost use Rattle.tree_node.specs.Leaf.{IsLeaf, leaf_entries};
 ghost use Rattle.pages.specs.Each.{Each};
 ghost use Rattle.page_walks.specs.Spots.{IsSpotThere, entry_at_spot, spots_in};
 ghost use Rattle.tree_node.specs.Order.{less};
@@ -10,24 +12,48 @@ ghost use Rattle.file_checker.specs.Search.{EndsBefore, EndsFrom, FindsEntry, Fi
 
 use byteorder::{BigEndian, ByteOrder};
 use open_file::OpenFile;
-use page_walks::{Leaf, Spot};
-use pages::PAGE_SIZE;
+use page_walks::{Leaf, LeafSpot};
+use pages::{PAGE_SIZE, PageSource};
 use record_heap::Place;
-use tree_node::{LeafView, Shape, is_leaf};
+use tree_node::{LeafView, NodeShape, is_leaf};
 
 /// Bytes are below 256. It does nothing.
 pub fn bytes_fit(bytes: &[u8])
     ensures { Each (λ b. b < 256) bytes.now }
 {}
 
-/// The entry that stands there.
-pub fn entry<'a>(pages: &'a [[u8; PAGE_SIZE]], shape: Shape, spot: Spot) -> Option<&'a [u8]>
-    ensures value { IfSome result (λ entry. entry.now ≡ entry_at_spot shape pages.now spot) }
+/// Entry `place` of a page that is to be a leaf.
+fn entry_on(page: &[u8; PAGE_SIZE], shape: NodeShape, place: u16) -> Option<&[u8]>
+    ensures there { IsSome result ↔ (IsLeaf shape page.now × (place < length (leaf_entries shape page.now))) }
+    ensures value { IfSome result (λ entry. entry.now ≡ slice_index_or (leaf_entries shape page.now) place []) }
+{
+    if !is_leaf(page, shape) {
+        return None;
+    }
+    let leaf = LeafView { page, shape };
+    let place = place as usize;
+    if place >= leaf.count() {
+        return None;
+    }
+    Some(leaf.entry(place))
+}
+
+/// The entry that stands there. Its page is read into `frame`.
+pub fn entry<'a, P: PageSource>(
+    pages: &mut P,
+    shape: NodeShape,
+    spot: LeafSpot,
+    frame: &'a mut [u8; PAGE_SIZE],
+) -> Option<&'a [u8]>
+    ensures value { (list : List (List ℕ)) → P.has pages.new list
+        → IfSome result (λ entry. entry.now ≡ entry_at_spot shape list spot) }
     ensures long { IfSome result (λ entry. length entry.now ≡ shape.entry) }
     ensures bytes { IfSome result (λ entry. Each (λ b. b < 256) entry.now) }
-    ensures there { IsSpotThere shape pages.now spot → IsSome result }
+    ensures there { (list : List (List ℕ)) → P.has pages.new list → IsSpotThere shape list spot → IsSome result }
+    ensures before { (list : List (List ℕ)) → P.has pages.new list → P.has pages.old list }
 {
-    let entry = spot.entry(pages, shape)?;
+    *frame = pages.page(spot.page)?;
+    let entry = entry_on(frame, shape, spot.place)?;
     bytes_fit(entry);
     Some(entry)
 }
@@ -51,46 +77,62 @@ fn is_below(a: &[u8], b: &[u8]) -> bool
 }
 
 /// The last entry of a leaf of the prime index has a value below this one.
-fn ends_before(pages: &[[u8; PAGE_SIZE]], file: &OpenFile, leaf: Leaf, value: &[u8]) -> bool
-    ensures before { result ≡ true → EndsBefore file.now pages.now value.now leaf }
-    ensures from { result ≡ false → EndsFrom file.now pages.now value.now leaf }
+fn ends_before<P: PageSource>(pages: &mut P, file: &OpenFile, leaf: Leaf, value: &[u8]) -> bool
+    ensures ends { (list : List (List ℕ)) → P.has pages.new list
+        → result ≡ true → EndsBefore file.now list value.now leaf }
+    ensures from { (list : List (List ℕ)) → P.has pages.new list
+        → result ≡ false → EndsFrom file.now list value.now leaf }
+    ensures before { (list : List (List ℕ)) → P.has pages.new list → P.has pages.old list }
 {
-    let last = Spot {
+    let mut frame = [0; PAGE_SIZE];
+    let last = LeafSpot {
         page: leaf.page,
         place: leaf.count.saturating_sub(1),
     };
-    match entry(pages, file.prime().tree.shape(), last) {
+    match entry(pages, file.prime().tree.shape(), last, &mut frame) {
         Some(entry) => is_below(&entry[..file.prime().width as usize], value),
         None => false,
     }
 }
 
 /// An entry of a leaf; where they are in order, the first whose tree key is not below this one.
-fn entry_in(pages: &[[u8; PAGE_SIZE]], shape: Shape, leaf: Leaf, key: &[u8]) -> Option<Spot>
+fn entry_in<P: PageSource>(
+    pages: &mut P,
+    shape: NodeShape,
+    leaf: Leaf,
+    key: &[u8],
+) -> Option<LeafSpot>
     ensures page { IfSome result (λ spot. spot.page ≡ leaf.page) }
     ensures place { IfSome result (λ spot. spot.place < leaf.count) }
-    ensures found { FindsKeyInLeaf shape pages.now leaf key.now result }
+    ensures found { (list : List (List ℕ)) → P.has pages.new list
+        → FindsKeyInLeaf shape list leaf key.now result }
+    ensures before { (list : List (List ℕ)) → P.has pages.new list → P.has pages.old list }
 {
-    if leaf.page as usize >= pages.len() {
+    let page = pages.page(leaf.page)?;
+    if !is_leaf(&page, shape) {
         return None;
     }
-    let page = &pages[leaf.page as usize];
-    if !is_leaf(page, shape) {
-        return None;
-    }
-    let place = LeafView { page, shape }.rank(key);
+    let place = LeafView { page: &page, shape }.rank(key);
     if place >= leaf.count as usize {
         return None;
     }
-    Some(Spot {
+    Some(LeafSpot {
         page: leaf.page,
         place: place as u16,
     })
 }
 
 /// How many leaves of the prime index end before this value, where they are in order.
-fn leaves_before(pages: &[[u8; PAGE_SIZE]], file: &OpenFile, primes: &[Leaf], value: &[u8]) -> usize
-    ensures { IsNear file.now pages.now primes.now value.now result }
+fn leaves_before<P: PageSource>(
+    pages: &mut P,
+    file: &OpenFile,
+    primes: &[Leaf],
+    value: &[u8],
+) -> usize
+    ensures within { result ≤ length primes.now }
+    ensures near { (list : List (List ℕ)) → P.has pages.new list
+        → IsNear file.now list primes.now value.now result }
+    ensures before { (list : List (List ℕ)) → P.has pages.new list → P.has pages.old list }
 {
     let mut low = 0;
     let mut high = primes.len();
@@ -106,14 +148,16 @@ fn leaves_before(pages: &[[u8; PAGE_SIZE]], file: &OpenFile, primes: &[Leaf], va
 }
 
 /// An entry of the prime index; where they are in order, the first whose value is not below this one.
-pub fn entry_near(
-    pages: &[[u8; PAGE_SIZE]],
+pub fn entry_near<P: PageSource>(
+    pages: &mut P,
     file: &OpenFile,
     primes: &[Leaf],
     value: &[u8],
-) -> Option<Spot>
+) -> Option<LeafSpot>
     ensures one { IfSome result (λ spot. IsOneOf (spots_in primes.now) spot) }
-    ensures found { FindsEntry file.now pages.now primes.now value.now result }
+    ensures found { (list : List (List ℕ)) → P.has pages.new list
+        → FindsEntry file.now list primes.now value.now result }
+    ensures before { (list : List (List ℕ)) → P.has pages.new list → P.has pages.old list }
 {
     let i = leaves_before(pages, file, primes, value);
     if i == primes.len() {

@@ -1,6 +1,6 @@
 //! The slots of the heap, each of which an entry of the prime index leads to, if it is in use.
 
-ghost use Rattle.std.specs.Prelude.{◌≡◌, IsTrue};
+ghost use Rattle.std.specs.Prelude.{◌≡◌, IsTrue, List, ℕ};
 ghost use Rattle.page_walks.specs.Spots.{IsSpotThere, spots_in};
 ghost use Rattle.open_file.specs.Stands.{IsShaped};
 ghost use Rattle.open_file.specs.Fields.{prime_index_of};
@@ -15,18 +15,22 @@ use crate::record::stored_at;
 use crate::row::value;
 use crate::row_fault::RowFault;
 use open_file::OpenFile;
-use page_walks::{Leaf, Spot};
-use pages::PAGE_SIZE;
+use page_walks::{Leaf, LeafSpot};
+use pages::{PAGE_SIZE, PageSource};
 use record_heap::Place;
 
 /// The slot is not in use, or an entry of the prime index leads to it.
-fn has_entry(pages: &[[u8; PAGE_SIZE]], file: &OpenFile, primes: &[Leaf], place: Place) -> bool
+fn has_entry<P: PageSource>(pages: &mut P, file: &OpenFile, primes: &[Leaf], place: Place) -> bool
     requires { IsShaped file.now }
-    ensures entry { IsTrue result → HasEntry file.now pages.now (spots_in primes.now) place }
-    ensures refused { PrimesLead file.now pages.now primes.now
-        → HasEntry file.now pages.now (spots_in primes.now) place → IsTrue result }
+    ensures entry { (list : List (List ℕ)) → P.has pages.new list
+        → IsTrue result → HasEntry file.now list (spots_in primes.now) place }
+    ensures refused { (list : List (List ℕ)) → P.has pages.new list
+        → PrimesLead file.now list primes.now
+        → HasEntry file.now list (spots_in primes.now) place → IsTrue result }
+    ensures before { (list : List (List ℕ)) → P.has pages.new list → P.has pages.old list }
 {
-    let Some(stored) = stored_at(pages, file, place) else {
+    let mut frame = [0; PAGE_SIZE];
+    let Some(stored) = stored_at(pages, file, place, &mut frame) else {
         return true;
     };
     match entry_near(pages, file, primes, value(file, stored, 0)) {
@@ -36,26 +40,32 @@ fn has_entry(pages: &[[u8; PAGE_SIZE]], file: &OpenFile, primes: &[Leaf], place:
 }
 
 /// The entry of the prime index leads to this place.
-fn leads_to(pages: &[[u8; PAGE_SIZE]], file: &OpenFile, spot: Spot, place: Place) -> bool
-    ensures leads { IsTrue result → place ≡ place_at file.now pages.now spot }
-    ensures refused { IsSpotThere (tree_shape (prime_index_of file.now).tree) pages.now spot
-        → place ≡ place_at file.now pages.now spot → IsTrue result }
+fn leads_to<P: PageSource>(pages: &mut P, file: &OpenFile, spot: LeafSpot, place: Place) -> bool
+    ensures leads { (list : List (List ℕ)) → P.has pages.new list
+        → IsTrue result → place ≡ place_at file.now list spot }
+    ensures refused { (list : List (List ℕ)) → P.has pages.new list
+        → IsSpotThere (tree_shape (prime_index_of file.now).tree) list spot
+        → place ≡ place_at file.now list spot → IsTrue result }
+    ensures before { (list : List (List ℕ)) → P.has pages.new list → P.has pages.old list }
 {
-    match entry(pages, file.prime().tree.shape(), spot) {
+    let mut frame = [0; PAGE_SIZE];
+    match entry(pages, file.prime().tree.shape(), spot, &mut frame) {
         Some(entry) => place_in(entry, file.prime().width as usize) == place,
         None => false,
     }
 }
 
 /// Each slot of page n that is in use has its entry in the prime index.
-fn check_page(
-    pages: &[[u8; PAGE_SIZE]],
+fn check_page<P: PageSource>(
+    pages: &mut P,
     file: &OpenFile,
     primes: &[Leaf],
     n: u32,
 ) -> Result<(), RowFault>
     requires { IsShaped file.now }
-    ensures { ChecksPage (pages_read file.now pages.now primes.now) n result }
+    ensures checks { (list : List (List ℕ)) → P.has pages.new list
+        → ChecksPage (pages_read file.now list primes.now) n result }
+    ensures before { (list : List (List ℕ)) → P.has pages.new list → P.has pages.old list }
 {
     for i in 0..file.heap().shape().room() {
         let place = Place {
@@ -70,14 +80,16 @@ fn check_page(
 }
 
 /// Each slot of the heap's own pages that is in use has its entry in the prime index.
-pub fn check_slots(
-    pages: &[[u8; PAGE_SIZE]],
+pub fn check_slots<P: PageSource>(
+    pages: &mut P,
     file: &OpenFile,
     primes: &[Leaf],
     own: &[u32],
 ) -> Result<(), RowFault>
     requires { IsShaped file.now }
-    ensures { ChecksSlots (pages_read file.now pages.now primes.now) own.now result }
+    ensures checks { (list : List (List ℕ)) → P.has pages.new list
+        → ChecksSlots (pages_read file.now list primes.now) own.now result }
+    ensures before { (list : List (List ℕ)) → P.has pages.new list → P.has pages.old list }
 {
     for &n in own {
         check_page(pages, file, primes, n)?;

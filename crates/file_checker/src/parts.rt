@@ -10,12 +10,11 @@ ghost use Rattle.file_checker.specs.RowsAhead.{PrimesLead};
 ghost use Rattle.file_checker.specs.Lost.{first_unmarked};
 ghost use Rattle.file_checker.specs.Parts.{AllFound, AlternatesCount, MayCheckParts};
 
-use crate::alternate::check_alternate;
+use crate::listed::{check_alternate, check_rows, walk_free, walk_tree};
 use crate::parts_fault::PartsFault;
-use crate::prime_rows::check_rows;
 use crate::verdict::Reason;
 use open_file::{Header, OpenFile};
-use page_walks::{Leaf, walk_free, walk_tree};
+use page_walks::Leaf;
 use pages::{FaultPlace, PAGE_SIZE, mark};
 use record_heap::walk_heap;
 use std::alloc::Global;

@@ -1,7 +1,7 @@
 //! The rows that the prime index leads to.
 
 ghost use Rattle.std.specs.Prelude.{◌≡◌, ◌≢◌, ◌<◌, ◌↔◌, ℕ, true, false, All, IfOk, IfErr, OnOk};
-ghost use Rattle.std.specs.Prelude.{OnErr, IsTrue, length};
+ghost use Rattle.std.specs.Prelude.{OnErr, IsTrue, length, List};
 ghost use Rattle.pages.specs.Each.{Each};
 ghost use Rattle.pages.specs.Marks.{marked_in};
 ghost use Rattle.page_walks.specs.Spots.{spots_below, spots_in};
@@ -19,8 +19,8 @@ use crate::record::stored_at;
 use crate::row::{is_row, value};
 use crate::row_fault::RowFault;
 use open_file::OpenFile;
-use page_walks::{Leaf, Spot};
-use pages::PAGE_SIZE;
+use page_walks::{Leaf, LeafSpot};
+use pages::{PAGE_SIZE, PageSource};
 use std::alloc::Global;
 
 /// No marks, for so many pages.
@@ -64,17 +64,27 @@ fn is_marked(marks: &[bool], n: u32) -> bool
 }
 
 /// The entry of the prime index leads to a row that has its value, in one of the marked pages.
-fn leads_to_row(pages: &[[u8; PAGE_SIZE]], file: &OpenFile, marks: &[bool], spot: Spot) -> bool
+fn leads_to_row<P: PageSource>(
+    pages: &mut P,
+    file: &OpenFile,
+    marks: &[bool],
+    spot: LeafSpot,
+) -> bool
     requires { IsShaped file.now }
-    ensures leads { IsTrue result → LeadsToRow file.now pages.now marks.now spot }
-    ensures refused { LeadsAhead file.now pages.now marks.now spot → IsTrue result }
+    ensures leads { (list : List (List ℕ)) → P.has pages.new list
+        → IsTrue result → LeadsToRow file.now list marks.now spot }
+    ensures refused { (list : List (List ℕ)) → P.has pages.new list
+        → LeadsAhead file.now list marks.now spot → IsTrue result }
+    ensures before { (list : List (List ℕ)) → P.has pages.new list → P.has pages.old list }
 {
+    let mut prime_frame = [0; PAGE_SIZE];
+    let mut frame = [0; PAGE_SIZE];
     let width = file.prime().width as usize;
-    let Some(entry) = entry(pages, file.prime().tree.shape(), spot) else {
+    let Some(entry) = entry(pages, file.prime().tree.shape(), spot, &mut prime_frame) else {
         return false;
     };
     let place = place_in(entry, width);
-    let Some(stored) = stored_at(pages, file, place) else {
+    let Some(stored) = stored_at(pages, file, place, &mut frame) else {
         return false;
     };
     is_marked(marks, place.page)
@@ -83,20 +93,24 @@ fn leads_to_row(pages: &[[u8; PAGE_SIZE]], file: &OpenFile, marks: &[bool], spot
 }
 
 /// Each entry of the leaf of the prime index leads to a row that has its value, in one of the marked pages.
-fn check_leaf(
-    pages: &[[u8; PAGE_SIZE]],
+fn check_leaf<P: PageSource>(
+    pages: &mut P,
     file: &OpenFile,
     marks: &[bool],
     leaf: Leaf,
 ) -> Result<(), RowFault>
     requires { IsShaped file.now }
-    ensures lead { OnOk result (OfEachEntry (LeadsToRow file.now pages.now marks.now) leaf) }
-    ensures refused { OnErr result (OfEachEntry (LeadsAhead file.now pages.now marks.now) leaf → ⊥) }
-    ensures told { IfErr result (TellsOfRows (IsEntryFault (spots_below leaf.page leaf.count)
-        (LeadsAhead file.now pages.now marks.now))) }
+    ensures lead { (list : List (List ℕ)) → P.has pages.new list
+        → OnOk result (OfEachEntry (LeadsToRow file.now list marks.now) leaf) }
+    ensures refused { (list : List (List ℕ)) → P.has pages.new list
+        → OnErr result (OfEachEntry (LeadsAhead file.now list marks.now) leaf → ⊥) }
+    ensures told { (list : List (List ℕ)) → P.has pages.new list
+        → IfErr result (TellsOfRows (IsEntryFault (spots_below leaf.page leaf.count)
+        (LeadsAhead file.now list marks.now))) }
+    ensures before { (list : List (List ℕ)) → P.has pages.new list → P.has pages.old list }
 {
     for place in 0..leaf.count {
-        let spot = Spot {
+        let spot = LeafSpot {
             page: leaf.page,
             place,
         };
@@ -109,19 +123,21 @@ fn check_leaf(
 
 /// Each entry of these leaves of the prime index leads to a row that has its value, in one of the
 /// marked pages.
-fn check_leaves(
-    pages: &[[u8; PAGE_SIZE]],
+fn check_leaves<P: PageSource>(
+    pages: &mut P,
     file: &OpenFile,
     marks: &[bool],
     primes: &[Leaf],
 ) -> Result<(), RowFault>
     requires { IsShaped file.now }
-    ensures lead { OnOk result
-        (All (OfEachEntry (LeadsToRow file.now pages.now marks.now)) primes.now) }
-    ensures refused { OnErr result
-        (Each (LeadsAhead file.now pages.now marks.now) (spots_in primes.now) → ⊥) }
-    ensures told { IfErr result (TellsOfRows (IsEntryFault (spots_in primes.now)
-        (LeadsAhead file.now pages.now marks.now))) }
+    ensures lead { (list : List (List ℕ)) → P.has pages.new list
+        → OnOk result (All (OfEachEntry (LeadsToRow file.now list marks.now)) primes.now) }
+    ensures refused { (list : List (List ℕ)) → P.has pages.new list
+        → OnErr result (Each (LeadsAhead file.now list marks.now) (spots_in primes.now) → ⊥) }
+    ensures told { (list : List (List ℕ)) → P.has pages.new list
+        → IfErr result (TellsOfRows (IsEntryFault (spots_in primes.now)
+        (LeadsAhead file.now list marks.now))) }
+    ensures before { (list : List (List ℕ)) → P.has pages.new list → P.has pages.old list }
 {
     for &leaf in primes {
         check_leaf(pages, file, marks, leaf)?;
@@ -130,18 +146,25 @@ fn check_leaves(
 }
 
 /// Compares the prime index with the records, by marks on the heap's own pages.
-fn compare(
-    pages: &[[u8; PAGE_SIZE]],
+fn compare<P: PageSource>(
+    pages: &mut P,
     file: &OpenFile,
     own: &[u32],
     primes: &[Leaf],
     marks: &mut [bool],
 ) -> Result<(), RowFault>
-    requires { MayCompareRows file.now pages.now (spots_in primes.now) marks.old }
-    ensures stand { OnOk result (RowsStand file.now pages.now own.now (spots_in primes.now)) }
-    ensures refused { OnErr result (RowsAhead file.now pages.now own.now primes.now → ⊥) }
-    ensures told { IfErr result (λ fault. Each (IsPrimeLeaf file.now pages.now) primes.now
-        → TellsOfRows (IsRowFault file.now pages.now own.now primes.now) fault) }
+    requires shaped { IsShaped file.now }
+    requires none { (n : ℕ) → marked_in marks.old n ≡ false }
+    requires may { (list : List (List ℕ)) → P.has pages.old list
+        → MayCompareRows file.now list (spots_in primes.now) marks.old }
+    ensures stand { (list : List (List ℕ)) → P.has pages.new list
+        → OnOk result (RowsStand file.now list own.now (spots_in primes.now)) }
+    ensures refused { (list : List (List ℕ)) → P.has pages.new list
+        → OnErr result (RowsAhead file.now list own.now primes.now → ⊥) }
+    ensures told { (list : List (List ℕ)) → P.has pages.new list
+        → IfErr result (λ fault. Each (IsPrimeLeaf file.now list) primes.now
+        → TellsOfRows (IsRowFault file.now list own.now primes.now) fault) }
+    ensures before { (list : List (List ℕ)) → P.has pages.new list → P.has pages.old list }
 {
     mark_all(marks, own);
     check_leaves(pages, file, marks, primes)?;
@@ -150,25 +173,32 @@ fn compare(
 }
 
 /// Compares the prime index of a file with its records. `own` are the heap's own pages, and
-/// `primes` the leaves of the index, in their order, in the pages of the file as they were read.
+/// `primes` the leaves of the index, in their order, in the pages of the file, of which there are
+/// `count`.
 ///
 /// Memory; Index, where they do not agree, at an entry that does not lead to a row that has its
 /// value, or at a slot in use that has no entry.
-pub fn check_rows(
+pub fn check_rows<P: PageSource>(
     alloc: Global,
-    pages: &[[u8; PAGE_SIZE]],
+    pages: &mut P,
+    count: usize,
     file: &OpenFile,
     own: &[u32],
     primes: &[Leaf],
 ) -> Result<(), RowFault>
     requires shaped { IsShaped file.now }
-    requires rises { EntriesRise file.now pages.now (spots_in primes.now) }
-    ensures stand { OnOk result (RowsStand file.now pages.now own.now (spots_in primes.now)) }
-    ensures refused { IfErr result
-        (RefusesRows (RowsAhead file.now pages.now own.now primes.now)) }
-    ensures told { IfErr result (λ fault. Each (IsPrimeLeaf file.now pages.now) primes.now
-        → TellsOfRows (IsRowFault file.now pages.now own.now primes.now) fault) }
+    requires counted { (list : List (List ℕ)) → P.has pages.old list → count ≡ length list }
+    requires rises { (list : List (List ℕ)) → P.has pages.old list
+        → EntriesRise file.now list (spots_in primes.now) }
+    ensures stand { (list : List (List ℕ)) → P.has pages.new list
+        → OnOk result (RowsStand file.now list own.now (spots_in primes.now)) }
+    ensures refused { (list : List (List ℕ)) → P.has pages.new list
+        → IfErr result (RefusesRows (RowsAhead file.now list own.now primes.now)) }
+    ensures told { (list : List (List ℕ)) → P.has pages.new list
+        → IfErr result (λ fault. Each (IsPrimeLeaf file.now list) primes.now
+        → TellsOfRows (IsRowFault file.now list own.now primes.now) fault) }
+    ensures before { (list : List (List ℕ)) → P.has pages.new list → P.has pages.old list }
 {
-    let mut marks = no_marks(alloc, pages.len())?;
+    let mut marks = no_marks(alloc, count)?;
     compare(pages, file, own, primes, &mut marks)
 }

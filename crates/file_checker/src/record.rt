@@ -1,6 +1,6 @@
-//! What a slot holds, in the pages of a file that were read.
+//! What a slot holds, in the pages of a file.
 
-ghost use Rattle.std.specs.Prelude.{◌≡◌, ◌+◌, ◌≤◌, ◌<◌, IfSome, length};
+ghost use Rattle.std.specs.Prelude.{◌≡◌, ◌+◌, ◌≤◌, ◌<◌, IfSome, length, List, ℕ};
 ghost use Rattle.std.specs.Option.{option_copied};
 ghost use Rattle.pages.specs.Each.{Each};
 ghost use Rattle.record_heap.specs.Slot.{room, size, length_in_slot, used_in};
@@ -14,8 +14,8 @@ ghost use Rattle.file_checker.specs.Leading.{IsStoredRecord};
 use crate::entry::bytes_fit;
 use byteorder::{BigEndian, ByteOrder};
 use open_file::OpenFile;
-use pages::PAGE_SIZE;
-use record_heap::{Place, Shape};
+use pages::{PAGE_SIZE, PageSource};
+use record_heap::{Place, SlotShape};
 
 /// The mark of a slot in use.
 const USED: u8 = 1;
@@ -27,7 +27,7 @@ const LENGTH: usize = 1;
 const FIRST_SLOT: usize = 16;
 
 /// The length of the record in a slot in use.
-fn record_length(slot: &[u8], shape: Shape) -> usize
+fn record_length(slot: &[u8], shape: SlotShape) -> usize
     requires { size shape ≤ length slot.now }
     ensures { result ≡ length_in_slot shape slot.now }
 {
@@ -39,7 +39,7 @@ fn record_length(slot: &[u8], shape: Shape) -> usize
 }
 
 /// The stamps and the record in a slot, where it is in use.
-fn stored_in<'a>(slot: &'a [u8], shape: Shape) -> Option<&'a [u8]>
+fn stored_in<'a>(slot: &'a [u8], shape: SlotShape) -> Option<&'a [u8]>
     requires { size shape ≤ length slot.now }
     ensures value { option_copied result ≡ used_in shape slot.now }
     ensures least { IfSome result (λ stored. shape.stamps + shape.least ≤ length stored.now) }
@@ -55,7 +55,7 @@ fn stored_in<'a>(slot: &'a [u8], shape: Shape) -> Option<&'a [u8]>
 }
 
 /// The bytes of slot `i`.
-fn slot(page: &[u8; PAGE_SIZE], shape: Shape, i: usize) -> &[u8]
+fn slot(page: &[u8; PAGE_SIZE], shape: SlotShape, i: usize) -> &[u8]
     requires { i < room shape }
     ensures value { result.now ≡ slot_at shape page.now i }
     ensures len { length result.now ≡ size shape }
@@ -65,23 +65,30 @@ fn slot(page: &[u8; PAGE_SIZE], shape: Shape, i: usize) -> &[u8]
     &page[at..at + size]
 }
 
-/// The stamps and the record at a place, where it is in use.
-pub fn stored_at<'a>(
-    pages: &'a [[u8; PAGE_SIZE]],
+/// The stamps and the record at a place, where it is in use. Its page is read into `frame`.
+pub fn stored_at<'a, P: PageSource>(
+    pages: &mut P,
     file: &OpenFile,
     place: Place,
+    frame: &'a mut [u8; PAGE_SIZE],
 ) -> Option<&'a [u8]>
     requires { IsShaped file.now }
-    ensures value { option_copied result ≡ slot_off (heap_of file.now) (pages_in pages.now) place }
+    ensures value { (list : List (List ℕ)) → P.has pages.new list
+        → option_copied result ≡ slot_off (heap_of file.now) (pages_in list) place }
     ensures within { IfSome result (λ stored. place.slot < room (slot_shape (heap_of file.now))) }
     ensures fits { IfSome result (λ stored. IsStoredRecord file.now stored.now) }
+    ensures before { (list : List (List ℕ)) → P.has pages.new list → P.has pages.old list }
 {
     let shape = file.heap().shape();
     let i = place.slot as usize;
-    if place.page as usize >= pages.len() || i >= shape.room() {
+    if i >= shape.room() {
         return None;
     }
-    let stored = stored_in(slot(&pages[place.page as usize], shape, i), shape)?;
+    let Some(page) = pages.page(place.page) else {
+        return None;
+    };
+    *frame = page;
+    let stored = stored_in(slot(frame, shape, i), shape)?;
     bytes_fit(stored);
     Some(stored)
 }

@@ -1,6 +1,6 @@
 //! Why a check of rows ends.
 
-use page_walks::Spot;
+use page_walks::LeafSpot;
 use pages::FaultPlace;
 use record_heap::Place;
 use thiserror::Error;
@@ -19,7 +19,7 @@ impl RowFault {
     ghost use Rattle.std.specs.Prelude.{◌≡◌};
 
     /// The entry that stands there is that of no row.
-    pub fn of_entry(spot: Spot) -> RowFault
+    pub fn of_entry(spot: LeafSpot) -> RowFault
         ensures { result ≡ RowFault.Index (FaultPlace.Entry spot.page spot.place) }
     {
         RowFault::Index(FaultPlace::Entry {

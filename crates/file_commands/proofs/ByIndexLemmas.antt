@@ -16,7 +16,7 @@ use Rattle.folder_shelf.proofs.ReadingLemmas.{both_reading}
 use Rattle.command_words.specs.Asks.{form_text}
 use Rattle.command_words.specs.declared.form_words.FormWords.{FormWords}
 use Rattle.command_support.specs.Status.{status_of}
-use Rattle.command_support.specs.declared.fault.Fault.{Fault}
+use Rattle.command_support.specs.declared.fault.CommandFault.{CommandFault}
 use Rattle.command_support.specs.declared.outcome.Outcome.{Outcome}
 use Rattle.command_support.specs.declared.outcome.Outcome.TheVariants.{Records, OtherSchema}
 use Rattle.file_commands.specs.ByIndex.{TellsReasonBy, TellsEnd, ToldOfPages, EndsByIndex, IsStart, ListsPages, ListsByIndex, DoesByIndex}
@@ -77,7 +77,7 @@ module _ (disk : Unseen) (path : List ℕ) (form : Form) (asked : Asked) (before
   ended NotOpened outcome lists told = refused outcome lists told
   ended Damaged outcome lists told = refused outcome lists told
 
-  pub pages_listed : (end : Result ListEnd ListFault) (result : Result Outcome Fault) → ListsAtPath disk path form asked before behind end reads → ToldOfPages path end result later
+  pub pages_listed : (end : Result ListEnd ListFault) (result : Result Outcome CommandFault) → ListsAtPath disk path form asked before behind end reads → ToldOfPages path end result later
       → ListsPages disk path form asked before behind result (later ++ reads)
   pages_listed (Ok end) (Ok outcome) lists told = record { done = ended end outcome lists told.told; fault = tt }
   pages_listed (Err fault) (Ok outcome) lists told = absurd told.there
@@ -86,11 +86,11 @@ module _ (disk : Unseen) (path : List ℕ) (form : Form) (asked : Asked) (before
 -- the start was read by these calls
 module _ {W : Type 0} (disk : Unseen) (input : Option (List ℕ)) (path : List ℕ) (bounds : Bounds) (words : FormWords) (contents : W → Option (List ℕ)) (old new : W) where
   -- the words are refused
-  pub not_begun : (calls : List Call) (fault : Fault) → IsListRefused (words_of bounds words) fault → ListsByIndex disk input path bounds words contents old old (Err fault) calls
+  pub not_begun : (calls : List Call) (fault : CommandFault) → IsListRefused (words_of bounds words) fault → ListsByIndex disk input path bounds words contents old old (Err fault) calls
   not_begun calls fault is = record { records = tt; untouched = λ _. refl; fault = is }
 
   -- the input, the output or memory failed
-  pub broken_off : (calls : List Call) (fault : Fault) → status_of fault ≡ 4 → ListsByIndex disk input path bounds words contents old new (Err fault) calls
+  pub broken_off : (calls : List Call) (fault : CommandFault) → status_of fault ≡ 4 → ListsByIndex disk input path bounds words contents old new (Err fault) calls
   broken_off calls fault four = record { records = tt; untouched = λ other. absurd (other four); fault = inr (inl (form_not_read (form_text words) fault four)) }
 
   module _ (start : ListStart) (calls : List Call) (begun : IsStart input path bounds (words_of bounds words) calls start) where
@@ -103,7 +103,7 @@ module _ {W : Type 0} (disk : Unseen) (input : Option (List ℕ)) (path : List �
     }
 
     -- the list ended
-    pub listed : (result : Result Outcome Fault) (pages : List Call) → AgreesWith start.told.schema start.page.items
+    pub listed : (result : Result Outcome CommandFault) (pages : List Call) → AgreesWith start.told.schema start.page.items
         → ListsPages disk path start.told.form start.asked (contents old) (contents new) result pages → ListsByIndex disk input path bounds words contents old new result (pages ++ calls)
     listed (Err fault) pages agrees lists = broken_off (pages ++ calls) fault lists.fault
     listed (Ok outcome) pages agrees lists = let done = lists.done in record {

@@ -16,21 +16,21 @@ use Rattle.command_support.proofs.FormLemmas.{form_not_read}
 use Rattle.command_support.specs.Status.{status_of}
 use Rattle.command_support.specs.declared.outcome.Outcome.{Outcome}
 use Rattle.command_support.specs.declared.outcome.Outcome.TheVariants.{OtherSchema}
-use Rattle.command_support.specs.declared.fault.Fault.{Fault}
-use Rattle.command_support.specs.declared.fault.Fault.TheVariants.{LongValue}
+use Rattle.command_support.specs.declared.fault.CommandFault.{CommandFault}
+use Rattle.command_support.specs.declared.fault.CommandFault.TheVariants.{LongValue}
 
 module _ {W : Type 0} (input : Option (List ℕ)) (path : List ℕ) (bounds : Bounds) (words : FormWords) (contents : W → Option (List ℕ)) (old : W) where
   -- a value is too long
-  pub not_asked : (calls : List Call) (fault : Fault) → fault ≡ LongValue → ListsFile input path bounds words contents old old (Err fault) calls
+  pub not_asked : (calls : List Call) (fault : CommandFault) → fault ≡ LongValue → ListsFile input path bounds words contents old old (Err fault) calls
   not_asked calls fault is = record { records = tt; untouched = λ _. refl; fault = inl is }
 
   -- the form is refused
-  pub no_form : (calls : List Call) (fault : Fault) → IsAskedFormRefused (words_of bounds words) fault → ListsFile input path bounds words contents old old (Err fault) calls
+  pub no_form : (calls : List Call) (fault : CommandFault) → IsAskedFormRefused (words_of bounds words) fault → ListsFile input path bounds words contents old old (Err fault) calls
   no_form calls fault is = record { records = tt; untouched = λ _. refl; fault = inr is }
 
   module _ (new : W) where
     -- the input, the output or memory failed
-    pub broken_off : (calls : List Call) (fault : Fault) → status_of fault ≡ 4 → ListsFile input path bounds words contents old new (Err fault) calls
+    pub broken_off : (calls : List Call) (fault : CommandFault) → status_of fault ≡ 4 → ListsFile input path bounds words contents old new (Err fault) calls
     broken_off calls fault four = record { records = tt; untouched = λ other. absurd (other four); fault = inr (inl (form_not_read (form_text words) fault four)) }
 
     module _ (formed : AskedForm) (bytes : List ℕ) (before later : List Call) (is_formed : IsAskedFormBy before input (words_of bounds words) formed)
@@ -44,7 +44,7 @@ module _ {W : Type 0} (input : Option (List ℕ)) (path : List ℕ) (bounds : Bo
       }
 
       -- the list ended
-      pub listed : (asked : Asked) (end : Result FileList ListFault) (result : Result Outcome Fault) → AgreesWith formed.told.schema bytes → IsAskedBy bounds formed.key formed.conditions.items asked
+      pub listed : (asked : Asked) (end : Result FileList ListFault) (result : Result Outcome CommandFault) → AgreesWith formed.told.schema bytes → IsAskedBy bounds formed.key formed.conditions.items asked
           → EndsIn formed.told.form bytes asked (contents old) (contents new) end → ToldOfList end result → ListsFile input path bounds words contents old new result (later ++ before)
       listed asked (Ok list) (Ok outcome) agrees is_asked ends told = record {
         records = subst (ListsAsked input path bounds (words_of bounds words) contents old new (later ++ before)) (sym told.done)

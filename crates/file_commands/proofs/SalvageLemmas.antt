@@ -15,8 +15,8 @@ use Rattle.command_support.specs.Front.{GivesSuch}
 use Rattle.file_commands.specs.Salvaged.{IsSchemaIn, IsSchemaAsked, GivesSchemaAsked, GivesSalvageForm, IsSalvageFormBy, IsSalvageRefused, SalvagesBytes, SalvagesFile}
 use Rattle.file_commands.specs.Schema.{IsSchemaFault}
 use Rattle.command_support.specs.Status.{status_of}
-use Rattle.command_support.specs.declared.fault.Fault.{Fault}
-use Rattle.command_support.specs.declared.fault.Fault.TheVariants.{Deck as DeckRefused, NoSuchFile, Input, Output, Memory}
+use Rattle.command_support.specs.declared.fault.CommandFault.{CommandFault}
+use Rattle.command_support.specs.declared.fault.CommandFault.TheVariants.{Deck as DeckRefused, NoSuchFile, Input, Output, Memory}
 use Rattle.command_support.specs.declared.outcome.Outcome.{Outcome}
 
 -- a gate that is closed is closed again
@@ -25,13 +25,13 @@ closed_twice [] = refl
 closed_twice (first ∷ rest) = refl
 
 -- the input, the output or memory failed
-not_given : (deck name : Option (List ℕ)) (fault : Fault) → status_of fault ≡ 4 → IsSchemaFault deck name fault
+not_given : (deck name : Option (List ℕ)) (fault : CommandFault) → status_of fault ≡ 4 → IsSchemaFault deck name fault
 not_given deck name Input is = tt
 not_given deck name Output is = tt
 not_given deck name Memory is = tt
 not_given deck name fault is = absurd (cc)
 
-of_deck : (deck name : Bor (List ℕ)) (fault : Fault) → IsDeckFault fault → IsSchemaFault (Some deck.now) (Some name.now) fault
+of_deck : (deck name : Bor (List ℕ)) (fault : CommandFault) → IsDeckFault fault → IsSchemaFault (Some deck.now) (Some name.now) fault
 of_deck deck name (DeckRefused why) is = search rules
 of_deck deck name NoSuchFile is = search rules
 of_deck deck name Input is = tt
@@ -44,7 +44,7 @@ pub schema_given : (input : Option (List ℕ)) (deck name : Bor (List ℕ)) (sch
     → GivesSchemaAsked input (Some deck) (Some name) (Ok (Some schema)) calls
 schema_given input deck name schema calls is = record { schema = is; fault = tt }
 
-pub deck_refused : (input : Option (List ℕ)) (deck name : Bor (List ℕ)) (fault : Fault) (calls : List Call) → IsDeckFault fault → GivesSchemaAsked input (Some deck) (Some name) (Err fault) calls
+pub deck_refused : (input : Option (List ℕ)) (deck name : Bor (List ℕ)) (fault : CommandFault) (calls : List Call) → IsDeckFault fault → GivesSchemaAsked input (Some deck) (Some name) (Err fault) calls
 deck_refused input deck name fault calls is = record { schema = tt; fault = of_deck deck name fault is }
 
 -- the form of a salvage as text, or as of a list
@@ -52,17 +52,17 @@ pub text_given : (input : Option (List ℕ)) (asked : FormText) (schema : Option
     → GivesSalvageForm input asked (Ok (record { form = Text; schema = schema })) calls
 text_given input asked schema calls text is = record { form = inl (text, refl, is); fault = tt }
 
-pub text_refused : (input : Option (List ℕ)) (asked : FormText) (fault : Fault) (calls : List Call) → asked.kind ≡ codes "text" → IsSchemaFault asked.deck asked.name fault
+pub text_refused : (input : Option (List ℕ)) (asked : FormText) (fault : CommandFault) (calls : List Call) → asked.kind ≡ codes "text" → IsSchemaFault asked.deck asked.name fault
     → GivesSalvageForm input asked (Err fault) calls
 text_refused input asked fault calls text is = record { form = tt; fault = inl (text, is) }
 
-pub other_given : (input : Option (List ℕ)) (asked : FormWords) (result : Result ListForm Fault) (calls : List Call) → (form_text asked).kind ≢ codes "text"
+pub other_given : (input : Option (List ℕ)) (asked : FormWords) (result : Result ListForm CommandFault) (calls : List Call) → (form_text asked).kind ≢ codes "text"
     → ComesOfForm (IsFormToldBy calls input) asked result → GivesSalvageForm input (form_text asked) result calls
 other_given input asked (Ok told) calls other came = record { form = inr (other, came.form); fault = tt }
 other_given input asked (Err fault) calls other came = record { form = tt; fault = inr (other, came.refused) }
 
 -- the input, an output or memory failed
-not_formed : (asked : FormText) (fault : Fault) → (asked.kind ≡ codes "text") ⊎ (asked.kind ≢ codes "text") → status_of fault ≡ 4 → IsSalvageRefused asked fault
+not_formed : (asked : FormText) (fault : CommandFault) → (asked.kind ≡ codes "text") ⊎ (asked.kind ≢ codes "text") → status_of fault ≡ 4 → IsSalvageRefused asked fault
 not_formed asked fault (inl text) is = inl (text, not_given asked.deck asked.name fault is)
 not_formed asked Input (inr other) is = inr (other, tt)
 not_formed asked Output (inr other) is = inr (other, tt)
@@ -77,11 +77,11 @@ which_form calls input asked form schema (inr (other, is)) = inr other
 
 module _ {E W : Type 0} (input : Option (List ℕ)) (path : List ℕ) (asked : FormText) (places : Bool) (contents_told : E → Option (List ℕ)) (told : E) (contents : W → Option (List ℕ)) (old : W) where
   -- nothing came of the words
-  pub not_begun : (fault : Fault) (calls : List Call) → IsSalvageRefused asked fault → SalvagesFile input path asked places contents_told told told contents old old (Err fault) calls
+  pub not_begun : (fault : CommandFault) (calls : List Call) → IsSalvageRefused asked fault → SalvagesFile input path asked places contents_told told told contents old old (Err fault) calls
   not_begun fault calls is = record { records = tt; untouched = λ _. refl; fault = is }
 
   -- the file was not read
-  pub not_read : (form : ListForm) (first : List Call) → IsSalvageFormBy first input asked form.form form.schema → (fault : Fault) (calls : List Call) → status_of fault ≡ 4
+  pub not_read : (form : ListForm) (first : List Call) → IsSalvageFormBy first input asked form.form form.schema → (fault : CommandFault) (calls : List Call) → status_of fault ≡ 4
       → SalvagesFile input path asked places contents_told told told contents old old (Err fault) calls
   not_read form first is fault calls four = record {
     records = tt;
@@ -90,7 +90,7 @@ module _ {E W : Type 0} (input : Option (List ℕ)) (path : List ℕ) (asked : F
   }
 
   -- its bytes were salvaged
-  by_result : (new : W) (told_after : E) (form : ListForm) (first : List Call) (bytes : List ℕ) (result : Result Outcome Fault) → IsSalvageFormBy first input asked form.form form.schema
+  by_result : (new : W) (told_after : E) (form : ListForm) (first : List Call) (bytes : List ℕ) (result : Result Outcome CommandFault) → IsSalvageFormBy first input asked form.form form.schema
       → GivesSuch (SalvagesBytes form places (with_gate_closed bytes) (outputs (contents old) (contents new) (contents_told told) (contents_told told_after))) result
       → SalvagesFile input path asked places contents_told told told_after contents old new result (taken_shared path 17592186044416 (Some bytes) ∷ first)
   by_result new told_after form first bytes (Ok outcome) is so = record { records = (form, first, is, (bytes, refl, so)); untouched = tt; fault = tt }
@@ -100,7 +100,7 @@ module _ {E W : Type 0} (input : Option (List ℕ)) (path : List ℕ) (asked : F
     fault = not_formed asked fault (which_form first input asked form.form form.schema is) four;
   }
 
-  pub bytes_salvaged : (new : W) (told_after : E) (form : ListForm) (first : List Call) (bytes held : List ℕ) (result : Result Outcome Fault) → IsSalvageFormBy first input asked form.form form.schema
+  pub bytes_salvaged : (new : W) (told_after : E) (form : ListForm) (first : List Call) (bytes held : List ℕ) (result : Result Outcome CommandFault) → IsSalvageFormBy first input asked form.form form.schema
       → held ≡ with_gate_closed bytes
       → (with_gate_closed held ≡ held → GivesSuch (SalvagesBytes form places held (outputs (contents old) (contents new) (contents_told told) (contents_told told_after))) result)
       → SalvagesFile input path asked places contents_told told told_after contents old new result (taken_shared path 17592186044416 (Some bytes) ∷ first)

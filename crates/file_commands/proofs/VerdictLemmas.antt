@@ -7,7 +7,7 @@ use Rattle.command_support.specs.declared.outcome.WorstCheck.{WorstCheck}
 use Rattle.command_support.specs.declared.outcome.WorstCheck.TheVariants.{AllSound}
 use Rattle.folder_shelf.specs.Calls.{Call}
 use Rattle.file_checker.specs.Sound.{IsRight}
-use Rattle.command_support.specs.declared.fault.Fault.{Fault}
+use Rattle.command_support.specs.declared.fault.CommandFault.{CommandFault}
 use Rattle.command_support.specs.Front.{GivesSuch, counted_calls}
 use Rattle.file_commands.specs.declared.verdict.NoVerdict.{NoVerdict}
 use Rattle.file_commands.specs.declared.verdict.NoVerdict.TheVariants.{Unread, Memory}
@@ -50,7 +50,7 @@ found_by path bytes calls came (Ok verdict) right memory = record { right = (byt
 found_by path bytes calls came (Err why) right memory = record { right = tt; unread = λ cause same. let never : Unread cause ≡ Memory = sym same ∙ memory in absurd (cc) }
 
 -- the line of one of several files tells what was found of it
-pub line_of : (path : List ℕ) (before behind : Option (List ℕ)) (calls : List Call) (found : Result Verdict NoVerdict) (told : Result (Option Verdict) Fault) → FindsVerdict path found calls
+pub line_of : (path : List ℕ) (before behind : Option (List ℕ)) (calls : List Call) (found : Result Verdict NoVerdict) (told : Result (Option Verdict) CommandFault) → FindsVerdict path found calls
     → GivesSuch (WritesFound path found before behind) told → GivesSuch (WritesLineOf path before behind calls) told
 line_of path before behind calls found (Err fault) finds line = line
 line_of path before behind calls (Ok verdict) (Ok it) finds line =

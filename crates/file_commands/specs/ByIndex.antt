@@ -20,7 +20,7 @@ use Rattle.record_listing.specs.ByPath.{ListsAtPath}
 use Rattle.folder_shelf.specs.Answers.{are_answers_of}
 use Rattle.folder_shelf.specs.Calls.{Call, taken_shared}
 use Rattle.command_support.specs.Status.{status_of}
-use Rattle.command_support.specs.declared.fault.Fault.{Fault}
+use Rattle.command_support.specs.declared.fault.CommandFault.{CommandFault}
 use Rattle.command_support.specs.declared.outcome.Outcome.{Outcome}
 use Rattle.command_support.specs.declared.outcome.Outcome.TheVariants.{Records, OtherSchema}
 use Rattle.command_words.specs.declared.form_words.FormWords.{FormWords}
@@ -44,7 +44,7 @@ TellsReasonBy path calls (Records (Unsound reason)) =
 TellsReasonBy path calls outcome = ⊥
 
 -- so it was told; or the input or memory failed
-pub record TellsReason (path : List ℕ) (result : Result Outcome Fault) (calls : List Call) : Type 0 where
+pub record TellsReason (path : List ℕ) (result : Result Outcome CommandFault) (calls : List Call) : Type 0 where
   pub told : IfOk result (TellsReasonBy path calls)
   pub fault : IfErr result (λ fault. status_of fault ≡ 4)
 
@@ -57,7 +57,7 @@ TellsEnd path NotOpened calls outcome = TellsReasonBy path calls outcome
 TellsEnd path Damaged calls outcome = TellsReasonBy path calls outcome
 
 -- so it was told; or the list or the input failed, or memory
-pub record ToldOfPages (path : List ℕ) (end : Result ListEnd ListFault) (result : Result Outcome Fault)
+pub record ToldOfPages (path : List ℕ) (end : Result ListEnd ListFault) (result : Result Outcome CommandFault)
     (calls : List Call) : Type 0 where
   pub told : IfOk result (λ outcome. IfOk end (λ end. TellsEnd path end calls outcome))
   pub there : IfErr end (λ _. IfOk result (λ _. ⊥))
@@ -76,7 +76,7 @@ pub record IsStart (input : Option (List ℕ)) (path : List ℕ) (bounds : Bound
 
 -- so it was read; or the words are refused, or the input or memory failed
 pub record ReadsStart (input : Option (List ℕ)) (path : List ℕ) (bounds : Bounds) (form : FormWords)
-    (result : Result ListStart Fault) (calls : List Call) : Type 0 where
+    (result : Result ListStart CommandFault) (calls : List Call) : Type 0 where
   pub start : IfOk result (IsStart input path bounds (words_of bounds form) calls)
   pub fault : IfErr result (IsListRefused (words_of bounds form))
 
@@ -94,7 +94,7 @@ EndsByIndex disk path form asked reads later before behind (Unsound reason) =
 -- the file of a path was listed by these calls, and so this was done; or the input, the output or memory
 -- failed
 pub record ListsPages (disk : Unseen) (path : List ℕ) (form : Form) (asked : Asked)
-    (before behind : Option (List ℕ)) (result : Result Outcome Fault) (calls : List Call) : Type 0 where
+    (before behind : Option (List ℕ)) (result : Result Outcome CommandFault) (calls : List Call) : Type 0 where
   pub done : IfOk result (λ outcome. (list : FileList) × (outcome ≡ Records list)
       × (reads : List Call) × (later : List Call) × (calls ≡ later ++ reads)
       × EndsByIndex disk path form asked reads later before behind list)
@@ -145,7 +145,7 @@ DoesByIndex disk input path bounds words before behind calls outcome = ⊥
 -- memory failed. Unless one of these failed, nothing is written where nothing is listed
 pub record ListsByIndex
     {W : Type 0} (disk : Unseen) (input : Option (List ℕ)) (path : List ℕ) (bounds : Bounds)
-    (form : FormWords) (contents : W → Option (List ℕ)) (old new : W) (result : Result Outcome Fault)
+    (form : FormWords) (contents : W → Option (List ℕ)) (old new : W) (result : Result Outcome CommandFault)
     (calls : List Call) : Type 0 where
   pub records : IfOk result
       (DoesByIndex disk input path bounds (words_of bounds form) (contents old) (contents new) calls)

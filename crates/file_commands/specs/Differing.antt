@@ -7,8 +7,8 @@ use Rattle.file_reports.specs.declared.first_page.Refusal.{Refusal}
 use Rattle.file_reports.specs.Differences.{differences}
 use Rattle.file_reports.specs.SchemaListing.{read_of_file}
 use Rattle.folder_shelf.specs.Calls.{Call, taken_shared}
-use Rattle.command_support.specs.declared.fault.Fault.{Fault}
-use Rattle.command_support.specs.declared.fault.Fault.TheVariants.{Memory}
+use Rattle.command_support.specs.declared.fault.CommandFault.{CommandFault}
+use Rattle.command_support.specs.declared.fault.CommandFault.TheVariants.{Memory}
 
 -- a line for each difference of a first page from a deck; none, where the page is none
 abbrev pub differences_of_page : Schema → Result Header Refusal → List ℕ
@@ -27,7 +27,7 @@ AreDifferencesOf path deck calls lines = (told : Option (List ℕ))
     × (calls ≡ taken_shared path 4096 told ∷ []) × (lines ≡ differences_told deck told)
 
 -- these lines were given; or memory was lacking
-pub record GivesDifferences (path : List ℕ) (deck : Schema) (result : Result (Vec ℕ) Fault)
+pub record GivesDifferences (path : List ℕ) (deck : Schema) (result : Result (Vec ℕ) CommandFault)
     (calls : List Call) : Type 0 where
   pub lines : IfOk result (λ lines. AreDifferencesOf path deck calls lines.items)
   pub fault : IfErr result (λ fault. fault ≡ Memory)

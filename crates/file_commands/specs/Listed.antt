@@ -15,9 +15,9 @@ use Rattle.command_support.specs.Front.{IsDeckNamed}
 use Rattle.command_support.specs.Status.{status_of}
 use Rattle.command_support.specs.declared.outcome.Outcome.{Outcome}
 use Rattle.command_support.specs.declared.outcome.Outcome.TheVariants.{Listed, InCobol}
-use Rattle.command_support.specs.declared.fault.Fault.{Fault}
+use Rattle.command_support.specs.declared.fault.CommandFault.{CommandFault}
 use Rattle.command_support.specs.declared.fault.RefusedDeck.{RefusedDeck}
-use Rattle.command_support.specs.declared.fault.Fault.TheVariants.{NotListed, Input, Output, Memory}
+use Rattle.command_support.specs.declared.fault.CommandFault.TheVariants.{NotListed, Input, Output, Memory}
 
 -- the list of the deck that the bytes are was written
 abbrev pub WritesList : List ℕ → (before behind : Option (List ℕ)) → Type 0
@@ -44,7 +44,7 @@ WritesCobol bytes fixed before behind = (text : List ℕ) × IsInCobol bytes (fo
     × Appends before behind text
 
 -- why a deck is not listed: it is refused, or the input, the output or memory failed
-abbrev pub IsListFault : Fault → Type 0
+abbrev pub IsListFault : CommandFault → Type 0
 IsListFault (NotListed fault) = ⊤
 IsListFault Input = ⊤
 IsListFault Output = ⊤
@@ -52,12 +52,12 @@ IsListFault Memory = ⊤
 IsListFault fault = ⊥
 
 -- a fault by which a deck is refused is one of these bytes
-abbrev pub IsRefusalOf : List ℕ → Fault → Type 0
+abbrev pub IsRefusalOf : List ℕ → CommandFault → Type 0
 IsRefusalOf bytes fault = (told : RefusedDeck) → fault ≡ NotListed told → IsDeckRefused bytes told
 
 -- a text of the deck that the bytes are, or the fault by which it is refused
 pub record GivesText (IsText : List ℕ → Type 0) (bytes : List ℕ)
-    (result : Result (String Global) Fault) : Type 0 where
+    (result : Result (String Global) CommandFault) : Type 0 where
   pub text : IfOk result (λ text. IsText (string_bytes text))
   pub refused : IfErr result (IsRefusalOf bytes)
   pub fault : IfErr result IsListFault
@@ -66,7 +66,7 @@ pub record GivesText (IsText : List ℕ → Type 0) (bytes : List ℕ)
 -- refused, or the input, the output or memory failed. Unless one of these failed, nothing is written
 -- of a deck that is refused
 pub record TellsDeck {W : Type 0} (IsRead IsWritten : List ℕ → Type 0) (told : Outcome) (old new : W)
-    (result : Result Outcome Fault) : Type 0 where
+    (result : Result Outcome CommandFault) : Type 0 where
   pub done : IfOk result (λ outcome. outcome ≡ told)
   pub written : IfOk result (λ _. (bytes : List ℕ) × IsRead bytes × IsWritten bytes)
   pub refused : IfErr result (λ fault. (why : RefusedDeck) → fault ≡ NotListed why
@@ -76,14 +76,14 @@ pub record TellsDeck {W : Type 0} (IsRead IsWritten : List ℕ → Type 0) (told
 
 -- the deck of a path, or of the input where the path is a hyphen, and its list was written
 abbrev pub ListsDeckAt : {W : Type 0} → (input : Option (List ℕ)) → (path : List ℕ) → (W → Option (List ℕ))
-    → (old new : W) → Result Outcome Fault → List Call → Type 0
+    → (old new : W) → Result Outcome CommandFault → List Call → Type 0
 ListsDeckAt input path contents old new result calls =
     TellsDeck (IsDeckNamed calls input path)
     (λ bytes. WritesList bytes (contents old) (contents new)) Listed old new result
 
 -- or a program of it, in fixed form or in free form
 abbrev pub WritesCobolAt : {W : Type 0} → (input : Option (List ℕ)) → (path : List ℕ) → (fixed : Bool)
-    → (W → Option (List ℕ)) → (old new : W) → Result Outcome Fault → List Call → Type 0
+    → (W → Option (List ℕ)) → (old new : W) → Result Outcome CommandFault → List Call → Type 0
 WritesCobolAt input path fixed contents old new result calls =
     TellsDeck (IsDeckNamed calls input path)
     (λ bytes. WritesCobol bytes fixed (contents old) (contents new)) InCobol old new result

@@ -14,7 +14,7 @@ use Rattle.record_listing.specs.FileList.{EndsWithIn}
 use Rattle.record_listing.specs.declared.file_list.FileList.{FileList}
 use Rattle.record_listing.specs.declared.end.ListFault.{ListFault}
 use Rattle.command_support.specs.Status.{status_of}
-use Rattle.command_support.specs.declared.fault.Fault.{Fault}
+use Rattle.command_support.specs.declared.fault.CommandFault.{CommandFault}
 use Rattle.command_words.specs.declared.form_words.FormWords.{FormWords}
 use Rattle.folder_shelf.specs.Calls.{Call}
 use Rattle.command_support.specs.Bound.{unescaped}
@@ -98,7 +98,7 @@ TellsOther schema bytes contents old new true = WritesOther schema bytes (conten
 TellsOther schema bytes contents old new false = AgreesWith schema bytes × (new ≡ old)
 
 -- how a list ended, as what was done
-pub record ToldOfList (end : Result FileList ListFault) (result : Result Outcome Fault) : Type 0 where
+pub record ToldOfList (end : Result FileList ListFault) (result : Result Outcome CommandFault) : Type 0 where
   pub done : IfOk result (λ outcome. IfOk end (λ list. outcome ≡ Records list))
   pub there : IfErr end (λ _. IfOk result (λ _. ⊥))
   pub fault : IfErr result (λ fault. status_of fault ≡ 4)
@@ -107,7 +107,7 @@ pub record ToldOfList (end : Result FileList ListFault) (result : Result Outcome
 -- memory failed. Unless one of these failed, nothing is written where nothing is listed
 pub record ListsFile
     {W : Type 0} (input : Option (List ℕ)) (path : List ℕ) (bounds : Bounds) (form : FormWords)
-    (contents : W → Option (List ℕ)) (old new : W) (result : Result Outcome Fault) (calls : List Call)
+    (contents : W → Option (List ℕ)) (old new : W) (result : Result Outcome CommandFault) (calls : List Call)
     : Type 0 where
   pub records : IfOk result (ListsAsked input path bounds (words_of bounds form) contents old new calls)
   pub untouched : IfErr result (λ fault. status_of fault ≢ 4 → new ≡ old)

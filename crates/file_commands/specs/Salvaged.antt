@@ -17,7 +17,7 @@ use Rattle.command_support.specs.Front.{IsDeckNamed, word_in}
 use Rattle.file_commands.specs.Records.{AgreesWith, WritesOther}
 use Rattle.file_commands.specs.Schema.{IsSchemaFault}
 use Rattle.command_support.specs.Status.{status_of}
-use Rattle.command_support.specs.declared.fault.Fault.{Fault}
+use Rattle.command_support.specs.declared.fault.CommandFault.{CommandFault}
 use Rattle.command_support.specs.declared.outcome.Outcome.{Outcome}
 use Rattle.command_support.specs.declared.outcome.Outcome.TheVariants.{OtherSchema, Salvaged}
 
@@ -35,7 +35,7 @@ IsSchemaAsked calls input deck name schema = ⊥
 
 -- it was given; or half of the words is, or nothing came of the deck
 pub record GivesSchemaAsked (input : Option (List ℕ)) (deck name : Option (Bor (List ℕ)))
-    (result : Result (Option Schema) Fault) (calls : List Call) : Type 0 where
+    (result : Result (Option Schema) CommandFault) (calls : List Call) : Type 0 where
   pub schema : IfOk result (IsSchemaAsked calls input (word_in deck) (word_in name))
   pub fault : IfErr result (IsSchemaFault (word_in deck) (word_in name))
 
@@ -47,12 +47,12 @@ IsSalvageFormBy calls input asked form schema =
     ⊎ ((asked.kind ≢ codes "text") × IsFormBy calls input asked form schema)
 
 -- why there is none: as text half of a deck is given, or nothing came of it; or as of a list
-abbrev pub IsSalvageRefused : FormText → Fault → Type 0
+abbrev pub IsSalvageRefused : FormText → CommandFault → Type 0
 IsSalvageRefused asked fault = ((asked.kind ≡ codes "text") × IsSchemaFault asked.deck asked.name fault)
     ⊎ ((asked.kind ≢ codes "text") × IsFormRefused asked fault)
 
 -- it was given; or there is none
-pub record GivesSalvageForm (input : Option (List ℕ)) (asked : FormText) (result : Result ListForm Fault)
+pub record GivesSalvageForm (input : Option (List ℕ)) (asked : FormText) (result : Result ListForm CommandFault)
     (calls : List Call) : Type 0 where
   pub form : IfOk result (λ told. IsSalvageFormBy calls input asked told.form told.schema)
   pub fault : IfErr result (IsSalvageRefused asked)
@@ -85,7 +85,7 @@ SalvagesFileAt input path asked places o calls outcome = (told : ListForm) × (f
 pub record SalvagesFile
     {E W : Type 0} (input : Option (List ℕ)) (path : List ℕ) (asked : FormText) (places : Bool)
     (contents_told : E → Option (List ℕ)) (told told_after : E) (contents : W → Option (List ℕ))
-    (old new : W) (result : Result Outcome Fault) (calls : List Call)
+    (old new : W) (result : Result Outcome CommandFault) (calls : List Call)
     : Type 0 where
   pub records : IfOk result (SalvagesFileAt input path asked places
       (outputs (contents old) (contents new) (contents_told told) (contents_told told_after)) calls)

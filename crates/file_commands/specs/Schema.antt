@@ -18,15 +18,15 @@ use Rattle.folder_shelf.specs.Calls.{Call}
 use Rattle.command_support.specs.Front.{IsDeckNamed, IsDeckReadBy, OfFirstPage, GivesSuch, word_in}
 use Rattle.command_support.specs.Status.{status_of}
 use Rattle.command_support.specs.declared.form_fault.FormFault.TheVariants.{HalfDeck}
-use Rattle.command_support.specs.declared.fault.Fault.{Fault}
-use Rattle.command_support.specs.declared.fault.Fault.TheVariants.{Deck as DeckRefused, NoSuchFile}
-use Rattle.command_support.specs.declared.fault.Fault.TheVariants.{Form as NoForm, Input, Output, Memory}
+use Rattle.command_support.specs.declared.fault.CommandFault.{CommandFault}
+use Rattle.command_support.specs.declared.fault.CommandFault.TheVariants.{Deck as DeckRefused, NoSuchFile}
+use Rattle.command_support.specs.declared.fault.CommandFault.TheVariants.{Form as NoForm, Input, Output, Memory}
 use Rattle.command_support.specs.declared.outcome.Outcome.{Outcome}
 use Rattle.command_support.specs.declared.outcome.Outcome.TheVariants.{SchemaTold, SchemaCompared}
 use Rattle.command_support.specs.declared.outcome.Outcome.TheVariants.{SchemaRefused}
 
 -- why nothing is told, or not all
-abbrev pub listing_told_as : ListingFault → Fault
+abbrev pub listing_told_as : ListingFault → CommandFault
 listing_told_as Unread = Input
 listing_told_as Unwritten = Output
 listing_told_as NoMemory = Memory
@@ -66,7 +66,7 @@ IsSchemaDone deck name outcome = ⊥
 
 -- why a schema is not told or compared: half of what is to be held against it is given, the deck is
 -- refused or does not have the file, or the input, the output or memory failed
-abbrev pub IsSchemaFault : (deck name : Option Text) → Fault → Type 0
+abbrev pub IsSchemaFault : (deck name : Option Text) → CommandFault → Type 0
 IsSchemaFault deck name (DeckRefused fault) = IsDeckAsked deck name
 IsSchemaFault deck name NoSuchFile = IsDeckAsked deck name
 IsSchemaFault deck name (NoForm fault) = IsHalf deck name × (fault ≡ HalfDeck)
@@ -108,7 +108,7 @@ ComparesAsked input path deck name contents old new calls outcome =
     × ComparesFile path described.schema contents old new before calls outcome
 
 -- an outcome of a kind, of which this is so
-pub record ComesOfFile (IsKind IsSo : Outcome → Type 0) (result : Result Outcome Fault) : Type 0 where
+pub record ComesOfFile (IsKind IsSo : Outcome → Type 0) (result : Result Outcome CommandFault) : Type 0 where
   pub told : IfOk result IsSo
   pub kind : GivesSuch IsKind result
 
@@ -116,7 +116,7 @@ pub record ComesOfFile (IsKind IsSo : Outcome → Type 0) (result : Result Outco
 -- came of them. Unless the input, the output or memory failed, nothing is written then
 pub record ComparesPaths
     {W : Type 0} (input : Option (List ℕ)) (path deck name : Text) (contents : W → Option (List ℕ))
-    (old new : W) (result : Result Outcome Fault) (calls : List Call) : Type 0 where
+    (old new : W) (result : Result Outcome CommandFault) (calls : List Call) : Type 0 where
   pub told : IfOk result (ComparesWithDeck input path deck name contents old new calls)
   pub kind : IfOk result IsOfComparison
   pub untouched : IfErr result (λ fault. status_of fault ≢ 4 → new ≡ old)
@@ -125,7 +125,7 @@ pub record ComparesPaths
 -- the same where a deck and a name may be given, without which the schema is told
 pub record AnswersSchema
     {W : Type 0} (input : Option (List ℕ)) (path : List ℕ) (deck name : Option (Bor (List ℕ)))
-    (contents : W → Option (List ℕ)) (old new : W) (result : Result Outcome Fault) (calls : List Call)
+    (contents : W → Option (List ℕ)) (old new : W) (result : Result Outcome CommandFault) (calls : List Call)
     : Type 0 where
   pub told : IfOk result (λ outcome. IsOfSchema outcome
       → TellsAsked input path (word_in deck) contents old new calls outcome)

@@ -7,8 +7,8 @@ ghost use Rattle.file_commands.specs.ByIndex.{TellsReason, ToldOfPages, ReadsSta
 
 use crate::listing::{Bounds, asked_by, is_other, values_of};
 use command_support::{
-    AskedForm, Fault, ListForm, Outcome, fault_of as not_read, form_and_conditions, read_counted,
-    read_first_page,
+    AskedForm, CommandFault, ListForm, Outcome, fault_of as not_read, form_and_conditions,
+    read_counted, read_first_page,
 };
 use command_words::FormWords;
 use file_checker::{Verdict, check_bytes};
@@ -35,7 +35,7 @@ fn reason_of<S: System, P: Progress>(
     alloc: Global,
     path: &str,
     progress: &mut P,
-) -> Result<Outcome, Fault>
+) -> Result<Outcome, CommandFault>
     ensures { ByReads (TellsReason path.now result) (S.state system.old) (S.state system.new) }
 {
     let bytes = match read_counted(system, path, progress) {
@@ -44,18 +44,18 @@ fn reason_of<S: System, P: Progress>(
     };
     match check_bytes(alloc, bytes.as_slice()) {
         Ok(Verdict::Unsound(reason)) => Ok(Outcome::Records(FileList::Unsound(reason))),
-        Ok(Verdict::Sound { .. }) => Err(Fault::Input),
-        Err(_) => Err(Fault::Memory),
+        Ok(Verdict::Sound { .. }) => Err(CommandFault::Input),
+        Err(_) => Err(CommandFault::Memory),
     }
 }
 
 /// Why a file was not read page after page, as the system tells it of the last that it did not read.
-fn not_listed<S: System>(system: &S) -> Fault
+fn not_listed<S: System>(system: &S) -> CommandFault
     ensures { status_of result ≡ 4 }
 {
     match system.unread().last() {
         Some(unread) => not_read(ReadFault::Device(unread.cause)),
-        None => Fault::Input,
+        None => CommandFault::Input,
     }
 }
 
@@ -67,7 +67,7 @@ fn told_pages<S: System, P: Progress>(
     path: &str,
     end: Result<ListEnd, ListFault>,
     progress: &mut P,
-) -> Result<Outcome, Fault>
+) -> Result<Outcome, CommandFault>
     ensures { ByReads (ToldOfPages path.now end result) (S.state system.old) (S.state system.new) }
 {
     match end {
@@ -77,8 +77,8 @@ fn told_pages<S: System, P: Progress>(
             reason_of(system, alloc, path, progress)
         }
         Err(ListFault::Input) => Err(not_listed(system)),
-        Err(ListFault::Output) => Err(Fault::Output),
-        Err(ListFault::Memory) => Err(Fault::Memory),
+        Err(ListFault::Output) => Err(CommandFault::Output),
+        Err(ListFault::Memory) => Err(CommandFault::Memory),
     }
 }
 
@@ -90,7 +90,7 @@ fn read_start<S: System, I: Read>(
     bounds: Bounds<'_>,
     form: FormWords<'_>,
     input: &mut I,
-) -> Result<ListStart, Fault>
+) -> Result<ListStart, CommandFault>
     ensures { ByReads (ReadsStart (I.remaining input.old) path.now bounds.entry form.entry result)
         (S.state system.old) (S.state system.new) }
 {
@@ -126,7 +126,7 @@ fn list_pages<S: System + Drop, D: Disk, P: Progress, W: Write>(
     form: &Form,
     progress: &mut P,
     out: &mut W,
-) -> (S, Result<Outcome, Fault>)
+) -> (S, Result<Outcome, CommandFault>)
     requires none_aside { aside.old.calls ≡ [] }
     ensures { ByReadsAside (ListsPages D.Disk.unseen path.now form.now asked (W.contents out.old)
         (W.contents out.new) result.1)
@@ -152,7 +152,7 @@ pub fn list_records<S: System + Drop, D: Disk, I: Read, P: Progress, W: Write>(
     input: &mut I,
     progress: &mut P,
     out: &mut W,
-) -> (S, Result<Outcome, Fault>)
+) -> (S, Result<Outcome, CommandFault>)
     requires none_aside { aside.old.calls ≡ [] }
     ensures { ByReadsAside (ListsByIndex D.Disk.unseen (I.remaining input.old) path.now bounds.entry
         form.entry W.contents out.old out.new result.1)

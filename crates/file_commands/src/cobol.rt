@@ -6,13 +6,13 @@ ghost use Rattle.file_commands.specs.Listed.{form_of, IsInCobol, GivesText, Writ
 use crate::deck_list::refused;
 use crate::text::write_text;
 use cobol_program::{SourceForm, write_program};
-use command_support::{Fault, Outcome, read_deck_bytes};
+use command_support::{CommandFault, Outcome, read_deck_bytes};
 use folder_shelf::System;
 use std::alloc::Global;
 use std::io::{Read, Write};
 
 /// The program of the deck that the bytes are.
-fn program_of(alloc: Global, bytes: &[u8], form: SourceForm) -> Result<String, Fault>
+fn program_of(alloc: Global, bytes: &[u8], form: SourceForm) -> Result<String, CommandFault>
     ensures { GivesText (IsInCobol bytes.now form) bytes.now result }
 {
     match write_program(alloc, bytes, form) {
@@ -42,7 +42,7 @@ pub fn write_cobol<S: System, I: Read, W: Write>(
     fixed: bool,
     input: &mut I,
     out: &mut W,
-) -> Result<Outcome, Fault>
+) -> Result<Outcome, CommandFault>
     ensures { ByReads (WritesCobolAt (I.remaining input.old) path.now fixed W.contents out.old out.new result)
         (S.state system.old) (S.state system.new) }
 {

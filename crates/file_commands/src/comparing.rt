@@ -6,7 +6,7 @@ ghost use Rattle.file_commands.specs.Schema.{ComparesAs, ComparesFile, IsOfCompa
 ghost use Rattle.file_commands.specs.Schema.{ComparesPaths};
 
 use crate::first_page::fault_of;
-use command_support::{Fault, Outcome, deck_at, file_in, read_first_page};
+use command_support::{CommandFault, Outcome, deck_at, file_in, read_first_page};
 use file_reports::compare_schema;
 use folder_shelf::System;
 use record_layout::Schema;
@@ -20,7 +20,7 @@ fn write_differences<W: Write>(
     bytes: &[u8],
     deck: &Schema,
     out: &mut W,
-) -> Result<Outcome, Fault>
+) -> Result<Outcome, CommandFault>
     ensures { ComesOfFile IsOfComparison
         (ComparesAs deck.now (W.contents out.old) (W.contents out.new) (read_of_file bytes.now)) result }
 {
@@ -38,7 +38,7 @@ fn compare_file<S: System, W: Write>(
     path: &str,
     deck: &Schema,
     out: &mut W,
-) -> Result<Outcome, Fault>
+) -> Result<Outcome, CommandFault>
     ensures { ByReads (λ calls. ComesOfFile IsOfComparison
         (ComparesFile path.now deck.now W.contents out.old out.new [] calls) result)
         (S.state system.old) (S.state system.new) }
@@ -61,7 +61,7 @@ pub fn compare_path<S: System, I: Read, W: Write>(
     name: &str,
     input: &mut I,
     out: &mut W,
-) -> Result<Outcome, Fault>
+) -> Result<Outcome, CommandFault>
     ensures { ByReads (ComparesPaths (I.remaining input.old) path.now deck.now name.now
         W.contents out.old out.new result) (S.state system.old) (S.state system.new) }
 {

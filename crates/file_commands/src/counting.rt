@@ -5,7 +5,7 @@ ghost use Rattle.file_commands.specs.Counted.{CountsFileAt};
 ghost use Rattle.command_support.specs.Front.{DoesBy};
 ghost use Rattle.command_support.specs.Status.{status_of};
 
-use command_support::{Fault, Outcome, fault_of as not_read, read_counted};
+use command_support::{CommandFault, Outcome, fault_of as not_read, read_counted};
 use file_reports::{FileStatisticsEnd, StatisticsFault, list_statistics};
 use folder_shelf::System;
 use std::alloc::Global;
@@ -13,12 +13,12 @@ use std::io::Write;
 use streams::Silent;
 
 /// Why nothing is told of a file, or not all.
-fn fault_of(fault: StatisticsFault) -> Fault
+fn fault_of(fault: StatisticsFault) -> CommandFault
     ensures { status_of result ≡ 4 }
 {
     match fault {
-        StatisticsFault::Output => Fault::Output,
-        StatisticsFault::Memory => Fault::Memory,
+        StatisticsFault::Output => CommandFault::Output,
+        StatisticsFault::Memory => CommandFault::Memory,
     }
 }
 
@@ -28,7 +28,7 @@ pub fn count_path<S: System, W: Write>(
     alloc: Global,
     path: &str,
     out: &mut W,
-) -> Result<Outcome, Fault>
+) -> Result<Outcome, CommandFault>
     ensures { ByReads (DoesBy (CountsFileAt path.now W.contents out.old out.new) result)
         (S.state system.old) (S.state system.new) }
 {

@@ -7,7 +7,7 @@ ghost use Rattle.folder_shelf.specs.Reading.{ByReads};
 ghost use Rattle.file_commands.specs.Listed.{IsRefusalOf, IsListFault, GivesText, ListsDeckAt};
 
 use crate::text::write_text;
-use command_support::{Fault, Outcome, RefusedDeck, read_deck_bytes};
+use command_support::{CommandFault, Outcome, RefusedDeck, read_deck_bytes};
 use deck_listing::{diagnose, list_deck};
 use file_control::DeckFault;
 use folder_shelf::System;
@@ -18,22 +18,22 @@ use std::io::{Read, Write};
 const MEMORY_CODE: u8 = 8;
 
 /// The fault of bytes that are no deck, with the words for it; or want of memory.
-pub fn refused(alloc: Global, bytes: &[u8], fault: DeckFault) -> Fault
+pub fn refused(alloc: Global, bytes: &[u8], fault: DeckFault) -> CommandFault
     requires none { fault.code ≢ 8 → (deck : ToldDeck) → IsDeck bytes.now deck → ⊥ }
     ensures refused { IsRefusalOf bytes.now result }
     ensures fault { IsListFault result }
 {
     if fault.code == MEMORY_CODE {
-        return Fault::Memory;
+        return CommandFault::Memory;
     }
     match diagnose(alloc, bytes, fault) {
-        Ok(faults) => Fault::NotListed(RefusedDeck { fault, faults }),
-        Err(_) => Fault::Memory,
+        Ok(faults) => CommandFault::NotListed(RefusedDeck { fault, faults }),
+        Err(_) => CommandFault::Memory,
     }
 }
 
 /// The list of the deck that the bytes are.
-fn list(alloc: Global, bytes: &[u8]) -> Result<String, Fault>
+fn list(alloc: Global, bytes: &[u8]) -> Result<String, CommandFault>
     ensures { GivesText (Lists bytes.now) bytes.now result }
 {
     match list_deck(alloc, bytes) {
@@ -51,7 +51,7 @@ pub fn list_path<S: System, I: Read, W: Write>(
     path: &str,
     input: &mut I,
     out: &mut W,
-) -> Result<Outcome, Fault>
+) -> Result<Outcome, CommandFault>
     ensures { ByReads (ListsDeckAt (I.remaining input.old) path.now W.contents out.old out.new result)
         (S.state system.old) (S.state system.new) }
 {

@@ -7,27 +7,27 @@ ghost use Rattle.file_commands.specs.Schema.{listing_told_as};
 ghost use Rattle.command_support.specs.Status.{status_of};
 
 use crate::comparing::compare_path;
-use command_support::{Fault, FormFault, Outcome, read_first_page};
+use command_support::{CommandFault, FormFault, Outcome, read_first_page};
 use file_reports::{ListingFault, list_schema};
 use folder_shelf::System;
 use std::alloc::Global;
 use std::io::{Read, Write};
 
 /// Why nothing is told of a file, or not all.
-pub fn fault_of(fault: ListingFault) -> Fault
+pub fn fault_of(fault: ListingFault) -> CommandFault
     ensures told { result ≡ listing_told_as fault }
     ensures status { status_of result ≡ 4 }
 {
     match fault {
-        ListingFault::Input => Fault::Input,
-        ListingFault::Output => Fault::Output,
-        ListingFault::Memory => Fault::Memory,
+        ListingFault::Input => CommandFault::Input,
+        ListingFault::Output => CommandFault::Output,
+        ListingFault::Memory => CommandFault::Memory,
     }
 }
 
 /// Writes the lines that tell of the file that begins with these bytes, by its first page alone; or
 /// nothing, where that page is none.
-fn write_schema<W: Write>(alloc: Global, bytes: &[u8], out: &mut W) -> Result<Outcome, Fault>
+fn write_schema<W: Write>(alloc: Global, bytes: &[u8], out: &mut W) -> Result<Outcome, CommandFault>
     ensures { ComesOfFile IsOfSchema
         (TellsAs (W.contents out.old) (W.contents out.new) (read_of_file bytes.now)) result }
 {
@@ -44,7 +44,7 @@ fn schema_path<S: System, W: Write>(
     alloc: Global,
     path: &str,
     out: &mut W,
-) -> Result<Outcome, Fault>
+) -> Result<Outcome, CommandFault>
     ensures { ByReads (λ calls. ComesOfFile IsOfSchema
         (TellsFile path.now W.contents out.old out.new [] calls) result)
         (S.state system.old) (S.state system.new) }
@@ -66,13 +66,13 @@ pub fn schema<S: System, I: Read, W: Write>(
     name: Option<&str>,
     input: &mut I,
     out: &mut W,
-) -> Result<Outcome, Fault>
+) -> Result<Outcome, CommandFault>
     ensures { ByReads (AnswersSchema (I.remaining input.old) path.now deck.entry name.entry
         W.contents out.old out.new result) (S.state system.old) (S.state system.new) }
 {
     match (deck, name) {
         (None, None) => schema_path(system, alloc, path, out),
         (Some(deck), Some(name)) => compare_path(system, alloc, path, deck, name, input, out),
-        (Some(_), None) | (None, Some(_)) => Err(Fault::Form(FormFault::HalfDeck)),
+        (Some(_), None) | (None, Some(_)) => Err(CommandFault::Form(FormFault::HalfDeck)),
     }
 }

@@ -7,8 +7,8 @@ ghost use Rattle.file_commands.specs.Records.{AreValues, IsAskedBy, ToldOfList, 
 
 use crate::first_page::fault_of;
 use command_support::{
-    AskedForm, Fault, Outcome, fault_of as not_read, form_and_conditions, last_of, read_counted,
-    value_of,
+    AskedForm, CommandFault, Outcome, fault_of as not_read, form_and_conditions, last_of,
+    read_counted, value_of,
 };
 use command_words::FormWords;
 use file_reports::{Comparison, compare_schema};
@@ -39,7 +39,7 @@ pub struct Values {
 }
 
 /// The first and the last value that the words of a command line ask for.
-pub fn values_of(bounds: Bounds<'_>) -> Result<Values, Fault>
+pub fn values_of(bounds: Bounds<'_>) -> Result<Values, CommandFault>
     ensures { FitsValue (AreValues bounds.entry) result }
 {
     let from = value_of(bounds.from.unwrap_or(""))?;
@@ -63,14 +63,14 @@ pub fn asked_by(bounds: Bounds<'_>, values: Values, key: u8, conditions: Vec<Con
 }
 
 /// How a list ended, as what was done.
-pub fn ended(end: Result<FileList, ListFault>) -> Result<Outcome, Fault>
+pub fn ended(end: Result<FileList, ListFault>) -> Result<Outcome, CommandFault>
     ensures { ToldOfList end result }
 {
     match end {
         Ok(list) => Ok(Outcome::Records(list)),
-        Err(ListFault::Input) => Err(Fault::Input),
-        Err(ListFault::Output) => Err(Fault::Output),
-        Err(ListFault::Memory) => Err(Fault::Memory),
+        Err(ListFault::Input) => Err(CommandFault::Input),
+        Err(ListFault::Output) => Err(CommandFault::Output),
+        Err(ListFault::Memory) => Err(CommandFault::Memory),
     }
 }
 
@@ -81,7 +81,7 @@ pub fn is_other<W: Write>(
     bytes: &[u8],
     schema: &Option<Schema>,
     out: &mut W,
-) -> Result<bool, Fault>
+) -> Result<bool, CommandFault>
     ensures { GivesSuch (TellsOther schema.now bytes.now W.contents out.old out.new) result }
 {
     let Some(schema) = schema else {
@@ -108,7 +108,7 @@ pub fn list_checked<S: System, I: Read, P: Progress, W: Write>(
     input: &mut I,
     progress: &mut P,
     out: &mut W,
-) -> Result<Outcome, Fault>
+) -> Result<Outcome, CommandFault>
     ensures { ByReads (ListsFile (I.remaining input.old) path.now bounds.entry form.entry
         W.contents out.old out.new result) (S.state system.old) (S.state system.new) }
 {

@@ -11,7 +11,7 @@ ghost use Rattle.command_support.specs.Status.{status_of};
 
 use crate::listing::is_other;
 use command_support::{
-    Fault, FormFault, ListForm, Outcome, deck_at, fault_of as not_read, file_in, form_of,
+    CommandFault, FormFault, ListForm, Outcome, deck_at, fault_of as not_read, file_in, form_of,
 };
 use command_words::FormWords;
 use folder_shelf::System;
@@ -27,13 +27,13 @@ use streams::Silent;
 const MOST_BYTES: usize = 17_592_186_044_416;
 
 /// Why no records are told, or not all.
-fn fault_of(fault: ListFault) -> Fault
+fn fault_of(fault: ListFault) -> CommandFault
     ensures { status_of result ≡ 4 }
 {
     match fault {
-        ListFault::Input => Fault::Input,
-        ListFault::Output => Fault::Output,
-        ListFault::Memory => Fault::Memory,
+        ListFault::Input => CommandFault::Input,
+        ListFault::Output => CommandFault::Output,
+        ListFault::Memory => CommandFault::Memory,
     }
 }
 
@@ -44,7 +44,7 @@ fn schema_in<S: System, I: Read>(
     deck: &str,
     name: &str,
     input: &mut I,
-) -> Result<Schema, Fault>
+) -> Result<Schema, CommandFault>
     ensures { ByReads (λ calls. ComesOfDeck (IsSchemaIn calls (I.remaining input.old) deck.now name.now) result)
         (S.state system.old) (S.state system.new) }
 {
@@ -65,7 +65,7 @@ fn schema_asked<S: System, I: Read>(
     deck: Option<&str>,
     name: Option<&str>,
     input: &mut I,
-) -> Result<Option<Schema>, Fault>
+) -> Result<Option<Schema>, CommandFault>
     ensures { ByReads (GivesSchemaAsked (I.remaining input.old) deck.entry name.entry result)
         (S.state system.old) (S.state system.new) }
 {
@@ -75,7 +75,7 @@ fn schema_asked<S: System, I: Read>(
             Ok(schema) => Ok(Some(schema)),
             Err(fault) => Err(fault),
         },
-        (Some(_), None) | (None, Some(_)) => Err(Fault::Form(FormFault::HalfDeck)),
+        (Some(_), None) | (None, Some(_)) => Err(CommandFault::Form(FormFault::HalfDeck)),
     }
 }
 
@@ -86,7 +86,7 @@ fn salvage_form<S: System, I: Read>(
     alloc: Global,
     asked: FormWords<'_>,
     input: &mut I,
-) -> Result<ListForm, Fault>
+) -> Result<ListForm, CommandFault>
     ensures { ByReads (GivesSalvageForm (I.remaining input.old) (form_text asked.entry) result)
         (S.state system.old) (S.state system.new) }
 {
@@ -121,7 +121,7 @@ fn salvage_bytes<W: Write, E: Write>(
     places: bool,
     told: &mut E,
     out: &mut W,
-) -> Result<Outcome, Fault>
+) -> Result<Outcome, CommandFault>
     ensures { with_gate_closed bytes.items ≡ bytes.items
         → GivesSuch (SalvagesBytes asked.now places bytes.items
         (outputs (W.contents out.old) (W.contents out.new) (E.contents told.old) (E.contents told.new))) result }
@@ -154,7 +154,7 @@ pub fn salvage_path<S: System, I: Read, W: Write, E: Write>(
     input: &mut I,
     told: &mut E,
     out: &mut W,
-) -> Result<Outcome, Fault>
+) -> Result<Outcome, CommandFault>
     ensures { ByReads (SalvagesFile (I.remaining input.old) path.now (form_text form.entry) places
         E.contents told.old told.new W.contents out.old out.new result)
         (S.state system.old) (S.state system.new) }

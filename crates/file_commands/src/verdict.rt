@@ -10,7 +10,7 @@ ghost use Rattle.file_commands.specs.Verdicts.{WritesLine, WritesLineOf, WritesV
 ghost use Rattle.file_commands.specs.Verdicts.{WritesFound};
 
 use crate::verdict_lines::{named_line, unread_line, verdict_line};
-use command_support::{Fault, Outcome, WorstCheck, fault_of, read_counted};
+use command_support::{CommandFault, Outcome, WorstCheck, fault_of, read_counted};
 use file_checker::{Verdict, check_bytes};
 use folder_shelf::System;
 use std::alloc::Global;
@@ -26,12 +26,12 @@ enum NoVerdict {
 }
 
 /// Why a check told no verdict, as the command tells it.
-fn fault_by(why: NoVerdict) -> Fault
+fn fault_by(why: NoVerdict) -> CommandFault
     ensures { status_of result ≡ 4 }
 {
     match why {
         NoVerdict::Unread(cause) => fault_of(ReadFault::Device(cause)),
-        NoVerdict::Memory => Fault::Memory,
+        NoVerdict::Memory => CommandFault::Memory,
     }
 }
 
@@ -70,13 +70,13 @@ fn verdict_of<S: System, P: Progress>(
 }
 
 /// Writes a line.
-fn write_line<W: Write>(line: &[u8], out: &mut W) -> Result<(), Fault>
+fn write_line<W: Write>(line: &[u8], out: &mut W) -> Result<(), CommandFault>
     ensures written { IfOk result (λ _. Appends (W.contents out.old) (W.contents out.new) line.now) }
     ensures fault { IfErr result (λ fault. status_of fault ≡ 4) }
 {
     match out.write_all(line) {
         Ok(()) => Ok(()),
-        Err(_) => Err(Fault::Output),
+        Err(_) => Err(CommandFault::Output),
     }
 }
 
@@ -87,7 +87,7 @@ pub fn check_path<S: System, P: Progress, W: Write>(
     path: &str,
     progress: &mut P,
     out: &mut W,
-) -> Result<Outcome, Fault>
+) -> Result<Outcome, CommandFault>
     ensures { ByReads (DoesBy (ChecksFile path.now W.contents out.old out.new) result)
         (S.state system.old) (S.state system.new) }
 {
@@ -102,7 +102,7 @@ pub fn check_path<S: System, P: Progress, W: Write>(
 }
 
 /// Writes the line of the verdict on a file that is checked alone.
-fn write_alone<W: Write>(alloc: Global, verdict: Verdict, out: &mut W) -> Result<(), Fault>
+fn write_alone<W: Write>(alloc: Global, verdict: Verdict, out: &mut W) -> Result<(), CommandFault>
     ensures { GivesSuch (λ _. Appends (W.contents out.old) (W.contents out.new) (verdict_line verdict)) result }
 {
     let line = verdict_line(alloc, verdict)?;
@@ -115,7 +115,7 @@ fn write_verdict<W: Write>(
     path: &str,
     verdict: Verdict,
     out: &mut W,
-) -> Result<(), Fault>
+) -> Result<(), CommandFault>
     ensures { GivesSuch (λ _. WritesLine path.now (Some verdict) (W.contents out.old)
         (W.contents out.new)) result }
 {
@@ -124,7 +124,12 @@ fn write_verdict<W: Write>(
 }
 
 /// Writes the line of a file that cannot be read.
-fn write_unread<W: Write>(alloc: Global, path: &str, cause: Cause, out: &mut W) -> Result<(), Fault>
+fn write_unread<W: Write>(
+    alloc: Global,
+    path: &str,
+    cause: Cause,
+    out: &mut W,
+) -> Result<(), CommandFault>
     ensures { GivesSuch (λ _. WritesLine path.now None (W.contents out.old) (W.contents out.new)) result }
 {
     let line = unread_line(alloc, path, cause)?;
@@ -137,7 +142,7 @@ fn write_found<W: Write>(
     path: &str,
     found: Result<Verdict, NoVerdict>,
     out: &mut W,
-) -> Result<Option<Verdict>, Fault>
+) -> Result<Option<Verdict>, CommandFault>
     ensures { GivesSuch (λ told. WritesFound path.now found (W.contents out.old)
         (W.contents out.new) told) result }
 {
@@ -150,7 +155,7 @@ fn write_found<W: Write>(
             write_unread(alloc, path, cause, out)?;
             Ok(None)
         }
-        Err(NoVerdict::Memory) => Err(Fault::Memory),
+        Err(NoVerdict::Memory) => Err(CommandFault::Memory),
     }
 }
 
@@ -161,7 +166,7 @@ fn check_named<S: System, P: Progress, W: Write>(
     path: &str,
     progress: &mut P,
     out: &mut W,
-) -> Result<Option<Verdict>, Fault>
+) -> Result<Option<Verdict>, CommandFault>
     ensures { ByReads (λ calls. GivesSuch (WritesLineOf path.now (W.contents out.old)
         (W.contents out.new) calls) result) (S.state system.old) (S.state system.new) }
 {
@@ -188,7 +193,7 @@ fn check_files<S: System, P: Progress, W: Write>(
     paths: &[&str],
     progress: &mut P,
     out: &mut W,
-) -> Result<WorstCheck, Fault>
+) -> Result<WorstCheck, CommandFault>
     ensures { ByReads (λ calls. GivesSuch (WritesVerdicts (paths_of paths.now) (W.contents out.old)
         (W.contents out.new) calls) result) (S.state system.old) (S.state system.new) }
 {
@@ -214,7 +219,7 @@ pub fn check_paths<S: System, P: Progress, W: Write>(
     paths: &[&str],
     progress: &mut P,
     out: &mut W,
-) -> Result<Outcome, Fault>
+) -> Result<Outcome, CommandFault>
     ensures { ByReads (DoesBy (ChecksFiles paths.now W.contents out.old out.new) result)
         (S.state system.old) (S.state system.new) }
 {

@@ -8,7 +8,7 @@ use crate::keys::{greatest_key, rank_key};
 use bplus_tree::Tree;
 use io_state::Fault;
 use pages::Pages;
-use tree_node::{Entry, Shape};
+use tree_node::{Entry, NodeShape};
 use tree_search::First;
 
 /// The index of an alternate key: no two of its entries have one value and stamp.
@@ -54,7 +54,7 @@ impl AltIndex {
         requires { MayMakeAlt P.shown pages.old width prime }
         ensures { MakesIndex P.shown pages.old pages.new result IsNewAlt (IsAltOf key width prime) }
     {
-        let shape = Shape {
+        let shape = NodeShape {
             key,
             width: width + 8,
             entry: width + 8 + prime,
@@ -69,7 +69,7 @@ impl AltIndex {
         ensures stored { IsAltStored result width prime root height count }
         ensures key { alt_key result ≡ key }
     {
-        let shape = Shape {
+        let shape = NodeShape {
             key,
             width: width + 8,
             entry: width + 8 + prime,

@@ -9,7 +9,7 @@ use bplus_tree::Tree;
 use io_state::Fault;
 use pages::Pages;
 use record_heap::Place;
-use tree_node::{Entry, Shape};
+use tree_node::{Entry, NodeShape};
 
 /// The index of the prime key: no two of its entries have one value.
 #[derive(Clone, Copy)]
@@ -40,7 +40,7 @@ impl PrimeIndex {
         requires { MayMakePrime P.shown pages.old width }
         ensures { MakesIndex P.shown pages.old pages.new result IsNewPrime (IsPrimeOf width) }
     {
-        let shape = Shape {
+        let shape = NodeShape {
             key: 0,
             width,
             entry: width + 6,
@@ -55,7 +55,7 @@ impl PrimeIndex {
         requires height { IsHeight height }
         ensures { IsPrimeStored result width root height count }
     {
-        let shape = Shape {
+        let shape = NodeShape {
             key: 0,
             width,
             entry: width + 6,

@@ -12,7 +12,7 @@ use Rattle.indexed_file.specs.File.{Row}
 use Rattle.pages.specs.Each.{Each}
 use Rattle.pages.specs.PageMap.{PageMap}
 use Rattle.record_heap.specs.declared.shape.Place.{Place}
-use Rattle.record_heap.specs.declared.shape.Shape.{Shape}
+use Rattle.record_heap.specs.declared.shape.SlotShape.{SlotShape}
 use Rattle.record_heap.specs.Slot.{room, used_in, behind_in}
 use Rattle.record_heap.specs.Slots.{slot_at}
 use Rattle.record_heap.specs.Calls.{slot_of, used_at, behind_at}
@@ -118,7 +118,7 @@ stamps_same (part ∷ parts) (stamp ∷ stamps) =
     (λ no. rw no rest)
 
 -- the slots that a file of this schema has
-abbrev pub closed_shape : (schema : Schema) → schema.least ≤ schema.greatest → 8 * count_by has_duplicates (drop 1 schema.keys) + schema.greatest ≤ 4077 → Shape
+abbrev pub closed_shape : (schema : Schema) → schema.least ≤ schema.greatest → 8 * count_by has_duplicates (drop 1 schema.keys) + schema.greatest ≤ 4077 → SlotShape
 closed_shape schema order fits = record {
   stamps = 8 * count_by has_duplicates (drop 1 schema.keys);
   least = schema.least;
@@ -128,7 +128,7 @@ closed_shape schema order fits = record {
 }
 
 module _ (schema : Schema) (order : schema.least ≤ schema.greatest) (fits : 8 * count_by has_duplicates (drop 1 schema.keys) + schema.greatest ≤ 4077) (pages : PageMap) where
-  abbrev shape : Shape
+  abbrev shape : SlotShape
   shape = closed_shape schema order fits
 
   abbrev used : Slots

@@ -16,7 +16,7 @@ use Rattle.open_file.specs.declared.first_page.TreeNumbers.{TreeNumbers}
 use Rattle.open_file.specs.Bounds.{AreTreeNumbers, IsHeader}
 use Rattle.pages.specs.PageMap.{PageMap}
 use Rattle.pages.specs.Owners.{AreApart}
-use Rattle.tree_node.specs.declared.shape.Shape.{Shape}
+use Rattle.tree_node.specs.declared.shape.NodeShape.{NodeShape}
 use Rattle.tree_search.specs.Tree.{page_of, entries_of, pages_of}
 use Rattle.bplus_tree.specs.declared.tree.Tree.{Tree}
 use Rattle.bplus_tree.specs.Fields.{tree_shape, tree_root, tree_levels, tree_count, tree_with}
@@ -26,7 +26,7 @@ use Rattle.key_index.specs.declared.alt_index.AltIndex.{AltIndex}
 use Rattle.key_index.specs.Stored.{prime_bytes, alt_bytes, IsPrimeEntry, IsAltEntry}
 use Rattle.key_index.specs.Standing.{AltStands, alt_key}
 use Rattle.record_heap.specs.declared.shape.Place.{Place}
-use Rattle.record_heap.specs.declared.shape.Shape.{Shape as SlotShape}
+use Rattle.record_heap.specs.declared.shape.SlotShape.{SlotShape}
 use Rattle.record_heap.specs.Slot.{room}
 use Rattle.record_heap.specs.Calls.{used_at, behind_at}
 use Rattle.record_heap.specs.Chain.{Slots, IsPlaceOf, KeepsSlots}
@@ -241,10 +241,10 @@ module _ (header : Header) (pages : PageMap) (file : File) (allowed : IsHeader h
   height : (k : ℕ) → k < length header.schema.keys → (tree_at header k).height - 1 + 1 ≡ (tree_at header k).height
   height k inside = let tree = numbers k inside in let some = tree.some in omega arith
 
-  abbrev tree_of : (k : ℕ) → k < length header.schema.keys → Shape → Tree
+  abbrev tree_of : (k : ℕ) → k < length header.schema.keys → NodeShape → Tree
   tree_of k inside shape = tree_with shape (tree_at header k).root ((tree_at header k).height - 1) header.records (low k inside)
 
-  abbrev prime_shape : Shape
+  abbrev prime_shape : NodeShape
   prime_shape =
       let part = key 0 some in
       let many = part.some in
@@ -269,7 +269,7 @@ module _ (header : Header) (pages : PageMap) (file : File) (allowed : IsHeader h
     number = refl;
   }
 
-  abbrev alt_shape : (j : ℕ) → j + 1 < length header.schema.keys → Shape
+  abbrev alt_shape : (j : ℕ) → j + 1 < length header.schema.keys → NodeShape
   alt_shape j inside =
       let part = key (j + 1) inside in
       let few = part.short in
@@ -383,7 +383,7 @@ module _ (header : Header) (pages : PageMap) (file : File) (allowed : IsHeader h
     no_path = refl;
   }
 
-  tree_stands : (k : ℕ) (inside : k < length header.schema.keys) (made : Shape) (entries : List (List ℕ)) (own : List ℕ) → length file.rows ≡ length entries → AreApart own
+  tree_stands : (k : ℕ) (inside : k < length header.schema.keys) (made : NodeShape) (entries : List (List ℕ)) (own : List ℕ) → length file.rows ≡ length entries → AreApart own
       → made.key ≡ k → HoldsTree header k made.width made.entry pages entries own → TreeStands (tree_of k inside made) pages entries own
   tree_stands k inside made entries own all apart key_is held =
       let nodes = subst (λ k. HoldsNodes k made.width made.entry pages (λ room. min held.levels 1) None None held.levels held.root entries own) (sym key_is) held.nodes in

@@ -10,7 +10,7 @@ use Rattle.pages.specs.Each.{Each}
 use Rattle.pages.specs.Chunks.{chunks}
 use Rattle.pages.proofs.ChunkLemmas.{length-chunks}
 use Rattle.pages.specs.PageMap.{PageMap}
-use Rattle.tree_node.specs.declared.shape.Shape.{Shape}
+use Rattle.tree_node.specs.declared.shape.NodeShape.{NodeShape}
 use Rattle.tree_node.specs.Table.{count_of, table}
 use Rattle.tree_node.specs.Leaf.{leaf_room}
 use Rattle.tree_node.specs.Inner.{inner_room, branches, separators}
@@ -91,7 +91,7 @@ rises w xs all = from_pairs (λ x y. less (take w x) (take w y) ≡ true) (Ascen
 abbrev Child : Type 0
 Child = ℕ × List (List ℕ) × List ℕ
 
-module _ (shape : Shape) (pages : PageMap) where
+module _ (shape : NodeShape) (pages : PageMap) where
   abbrev Nodes : (ℕ → ℕ) → Bound → Bound → ℕ → Child → Type 0
   Nodes least low high h b = HoldsNodes shape.key shape.width shape.entry pages least low high h b.0 b.1 b.2
 

@@ -5,7 +5,7 @@ use Rattle.std.proofs.lemmas.List.{length-map}
 use Rattle.std.proofs.Math.Nat.{pow-succ'}
 use Rattle.indexed_file.specs.File.{File}
 use Rattle.pages.specs.PageMap.{PageMap}
-use Rattle.tree_node.specs.declared.shape.Shape.{Shape}
+use Rattle.tree_node.specs.declared.shape.NodeShape.{NodeShape}
 use Rattle.bplus_tree.specs.declared.tree.Tree.{Tree}
 use Rattle.tree_search.specs.Tree.{TreeOf, entries_of}
 use Rattle.tree_search.specs.Calls.{IsWhole}
@@ -33,7 +33,7 @@ fewest_many (suc h) =
     let power : 4 ^ (suc (suc h)) ≡ 4 * 4 ^ (suc h) = pow-succ' 4 (suc h) in
     omega (arith, rest, power)
 
-whole_filled : (shape : Shape) (pages : PageMap) (levels page : ℕ) (t : TreeOf levels) → IsWhole shape pages levels page None None t → 2 ≤ levels + 1 → 2 * 4 ^ (levels + 1 - 1) ≤ length (entries_of levels t)
+whole_filled : (shape : NodeShape) (pages : PageMap) (levels page : ℕ) (t : TreeOf levels) → IsWhole shape pages levels page None None t → 2 ≤ levels + 1 → 2 * 4 ^ (levels + 1 - 1) ≤ length (entries_of levels t)
 whole_filled shape pages zero page t whole high = absurd (omega (arith, high))
 whole_filled shape pages (suc h) page t whole high =
     let e : suc h + 1 - 1 ≡ suc h = omega arith in

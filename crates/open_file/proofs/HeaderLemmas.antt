@@ -9,7 +9,7 @@ use Rattle.record_layout.specs.Schema.{Schema, key_at}
 use Rattle.indexed_file.specs.File.{Row}
 use Rattle.indexed_file.specs.Sound.{is_file}
 use Rattle.pages.specs.PageMap.{PageMap}
-use Rattle.tree_node.specs.declared.shape.Shape.{Shape}
+use Rattle.tree_node.specs.declared.shape.NodeShape.{NodeShape}
 use Rattle.bplus_tree.specs.declared.tree.Tree.{Tree}
 use Rattle.tree_search.specs.Tree.{TreeOf, entries_of, pages_of}
 use Rattle.tree_search.specs.Calls.{IsWhole}
@@ -24,7 +24,7 @@ use Rattle.key_index.specs.Standing.{AltStands, PrimeStands, alt_key}
 use Rattle.pages.specs.Each.{Each}
 use Rattle.record_heap.specs.declared.heap.Heap.{Heap}
 use Rattle.record_heap.specs.declared.shape.Place.{Place}
-use Rattle.record_heap.specs.declared.shape.Shape.{Shape as SlotShape}
+use Rattle.record_heap.specs.declared.shape.SlotShape.{SlotShape}
 use Rattle.record_heap.specs.Chain.{Slots}
 use Rattle.record_heap.specs.Standing.{HeapStands, slot_shape, first_heap_page, first_free_slot, heap_with}
 use Rattle.open_file.specs.InOrder.{put_row, in_order, alt_entries, prime_entries}
@@ -36,7 +36,7 @@ use Rattle.open_file.proofs.PartsLemmas.{found_at}
 
 -- ---- shapes of the same numbers are one
 
-same_shape : (a b : Shape) → a.key ≡ b.key → a.width ≡ b.width → a.entry ≡ b.entry → a ≡ b
+same_shape : (a b : NodeShape) → a.key ≡ b.key → a.width ≡ b.width → a.entry ≡ b.entry → a ≡ b
 same_shape a b k w e = λ i. record {
   key = k i;
   width = w i;
@@ -58,7 +58,7 @@ same_slots a b s l g = λ i. record {
 
 -- ---- the same numbers stand alike
 
-record TreeAt (shape : Shape) (levels root count : ℕ) (pages : PageMap) (entries : List (List ℕ)) (own : List ℕ) : Type 0 where
+record TreeAt (shape : NodeShape) (levels root count : ℕ) (pages : PageMap) (entries : List (List ℕ)) (own : List ℕ) : Type 0 where
   pub value : TreeOf levels
   pub whole : IsWhole shape pages levels root None None value
   pub has : entries_of levels value ≡ entries

@@ -12,7 +12,7 @@ use arrayvec::ArrayVec;
 use io_state::Fault;
 use key_index::{AltIndex, PrimeIndex};
 use pages::Pages;
-use record_heap::{Heap, Shape};
+use record_heap::{Heap, SlotShape};
 use record_layout::Schema;
 
 impl OpenFile {
@@ -60,7 +60,7 @@ fn new_alternates<P: Pages>(pages: &mut P, schema: &Schema) -> Result<ArrayVec<A
 
 /// What the slots of a file's heap have in common: each has a stamp for each alternate key that may
 /// have duplicates.
-pub(crate) fn heap_shape(schema: &Schema) -> Shape
+pub(crate) fn heap_shape(schema: &Schema) -> SlotShape
     ensures stamps { result.stamps ≡ stamps_length (drop 1 schema.now.keys) }
     ensures least { result.least ≡ schema.now.least }
     ensures greatest { result.greatest ≡ schema.now.greatest }
@@ -72,7 +72,7 @@ pub(crate) fn heap_shape(schema: &Schema) -> Shape
         .iter()
         .filter(|part| part.has_duplicates())
         .count();
-    Shape {
+    SlotShape {
         stamps: 8 * stamped as u16,
         least,
         greatest: schema.greatest(),

@@ -7,7 +7,7 @@ use Rattle.std.proofs.Math.Seq.{take-suc}
 use Rattle.std.proofs.lemmas.List.{length-append, length-map, length-take-le, append_assoc, map-append, append-nil, take-append-drop, take_all}
 use Rattle.std.proofs.lemmas.Grind.{flat_map-append}
 use Rattle.std.proofs.lemmas.Slice.Eq.{bytes_eq-Decides}
-use Rattle.tree_node.specs.declared.shape.Shape.{Shape}
+use Rattle.tree_node.specs.declared.shape.NodeShape.{NodeShape}
 use Rattle.tree_node.specs.Leaf.{leaf_entries}
 use Rattle.tree_search.specs.Calls.{last_of}
 use Rattle.tree_search.proofs.SearchLemmas.{last_index}
@@ -256,7 +256,7 @@ run_none run none zero' = record {
   longest = record { most = λ v. omega arith; some = ([], sym zero') };
 }
 
-module _ (width : ℕ) (shape : Shape) (list : List (List ℕ)) (row : List ℕ) where
+module _ (width : ℕ) (shape : NodeShape) (list : List (List ℕ)) (row : List ℕ) where
   leaf_values : (k m : ℕ) → m ≡ suc k → k < length row
       → values_of width (entries_in_row shape list (take m row)) ≡ values_of width (entries_in_row shape list (take k row)) ++ values_of width (leaf_entries shape (page_at list (slice_index_or row k 0)))
   leaf_values k m e inside =

@@ -6,7 +6,7 @@ use Rattle.std.proofs.Math.Seq.{drop-cons}
 use Rattle.pages.specs.Each.{Each}
 use Rattle.pages.specs.Owners.{IsOutside, AreApart}
 use Rattle.pages.specs.PageMap.{PageMap}
-use Rattle.tree_node.specs.declared.shape.Shape.{Shape}
+use Rattle.tree_node.specs.declared.shape.NodeShape.{NodeShape}
 use Rattle.tree_node.specs.Leaf.{leaf_entries}
 use Rattle.tree_node.specs.Inner.{separators, children}
 use Rattle.tree_node.specs.Fill.{least_entries}
@@ -26,7 +26,7 @@ use Rattle.pages.specs.declared.walk_fault.WalkFault.{WalkFault}
 use Rattle.pages.specs.declared.walk_fault.WalkFault.TheVariants.{Memory}
 use Rattle.pages.specs.Refused.{RefusesRightly}
 use Rattle.pages.proofs.RefusedLemmas.{for_memory, still_unmarked}
-use Rattle.page_walks.specs.declared.spot.Spot.{Spot}
+use Rattle.page_walks.specs.declared.spot.LeafSpot.{LeafSpot}
 use Rattle.page_walks.specs.Order.{AreBetween}
 use Rattle.page_walks.specs.declared.leaf.Leaf.{Leaf}
 use Rattle.page_walks.specs.Spots.{IsLeafThere, entry_at_spot}
@@ -36,7 +36,7 @@ use Rattle.page_walks.proofs.WalkLemmas.{there}
 
 -- ---- what a page reads as is a function of its bytes
 
-rows_same : (shape : Shape) (pages : PageMap) (h : ℕ) → ((t u : TreeOf h) → page_of h t ≡ page_of h u → Holds shape pages h t → Holds shape pages h u → pages_of h t ≡ pages_of h u)
+rows_same : (shape : NodeShape) (pages : PageMap) (h : ℕ) → ((t u : TreeOf h) → page_of h t ≡ page_of h u → Holds shape pages h t → Holds shape pages h u → pages_of h t ≡ pages_of h u)
     → (ts us : List (TreeOf h)) → map (page_of h) ts ≡ map (page_of h) us → Each (Holds shape pages h) ts → Each (Holds shape pages h) us → flat_map (pages_of h) ts ≡ flat_map (pages_of h) us
 rows_same shape pages h one [] [] same a b = refl
 rows_same shape pages h one [] (u ∷ us) same a b = absurd (cc)
@@ -47,7 +47,7 @@ rows_same shape pages h one (t ∷ ts) (u ∷ us) same a b =
     ap (λ (l : List ℕ). l ++ flat_map (pages_of h) ts) (one t u head a.0 b.0) ∙ ap (λ (l : List ℕ). pages_of h u ++ l) (rows_same shape pages h one ts us tail a.1 b.1)
 
 -- two trees below one page have the same pages
-pub same_pages : (shape : Shape) (pages : PageMap) (h : ℕ) (t u : TreeOf h) → page_of h t ≡ page_of h u → Holds shape pages h t → Holds shape pages h u → pages_of h t ≡ pages_of h u
+pub same_pages : (shape : NodeShape) (pages : PageMap) (h : ℕ) (t u : TreeOf h) → page_of h t ≡ page_of h u → Holds shape pages h t → Holds shape pages h u → pages_of h t ≡ pages_of h u
 same_pages shape pages zero t u same a b = ap (λ (n : ℕ). n ∷ []) same
 same_pages shape pages (suc h) t u same a b =
     let there : Some a.0.bytes ≡ Some b.0.bytes = sym a.0.there ∙ ap pages same ∙ b.0.there in
@@ -64,7 +64,7 @@ page_inside list n some = go (nat_lt n (length list)) refl
     go true e = ltb-true n (length list) e
     go false e = absurd (let f : false ≡ true = rw e at some in false≢true f)
 
-module _ (shape : Shape) (list : List (List ℕ)) (page floor : ℕ) (low high : Bound) (reached : List Bool) where
+module _ (shape : NodeShape) (list : List (List ℕ)) (page floor : ℕ) (low high : Bound) (reached : List Bool) where
   pub ahead_there : (h : ℕ) → TreeAhead shape (pages_in list) h page floor low high reached → page < length list
   ahead_there h a = page_inside list page (subst (λ (n : ℕ). IsSome (pages_in list n)) a.stands.root (root_there shape (pages_in list) h a.tree a.stands.holds))
 
@@ -131,7 +131,7 @@ module _ (shape : Shape) (list : List (List ℕ)) (page floor : ℕ) (low high :
             (outside_symm (page ∷ []) kids (subst (λ (n : ℕ). IsOutside kids n) a.stands.root a.apart.0, tt)) a.unmarked.1;
       }))
 
-module _ (shape : Shape) (pages : PageMap) (k : ℕ) where
+module _ (shape : NodeShape) (pages : PageMap) (k : ℕ) where
   -- the first of several children, and those behind it
   pub row_first : (low : Bound) (s : List ℕ) (ss : List (List ℕ)) (n : ℕ) (ns : List ℕ) (high : Bound) (reached : List Bool) → RowAhead shape pages k low (s ∷ ss) (n ∷ ns) high reached
       → TreeAhead shape pages k n (least_entries shape k) low (Some s) reached
@@ -215,7 +215,7 @@ whole_ahead tree list floor reached is a = record {
 }
 
 -- a tree has as many entries as the walk found
-pub whole_count : (tree : Tree) (list : List (List ℕ)) (floor : ℕ) (reached : List Bool) (before after : Reach) (spots : List Spot)
+pub whole_count : (tree : Tree) (list : List (List ℕ)) (floor : ℕ) (reached : List Bool) (before after : Reach) (spots : List LeafSpot)
     → before.entries ≡ [] → after.entries ≡ map (entry_at_spot (tree_shape tree) list) spots
     → Walked (tree_shape tree) (pages_in list) (tree_levels tree) (tree_root tree) floor None None before after → TreeUnmarked tree list reached → length spots ≡ tree_count tree
 whole_count tree list floor reached before after spots none are walked a =
@@ -229,7 +229,7 @@ whole_count tree list floor reached before after spots none are walked a =
     sym (length-map spots (entry_at_spot shape list)) ∙ ap (λ (l : List (List ℕ)). length l) all ∙ sym a.stands.count
 
 -- the same trees, by other names for the page, what it must have, and the bounds
-pub ahead_as : (shape : Shape) (pages : PageMap) (k p q floor floor' : ℕ) (low low' high high' : Bound) (reached : List Bool) → p ≡ q → floor ≡ floor' → low ≡ low' → high ≡ high'
+pub ahead_as : (shape : NodeShape) (pages : PageMap) (k p q floor floor' : ℕ) (low low' high high' : Bound) (reached : List Bool) → p ≡ q → floor ≡ floor' → low ≡ low' → high ≡ high'
     → TreeAhead shape pages k q floor' low' high' reached → TreeAhead shape pages k p floor low high reached
 ahead_as shape pages k p q floor floor' low low' high high' reached a b c d ahead =
     subst (λ (x : ℕ). TreeAhead shape pages k x floor low high reached) (sym a)
@@ -248,13 +248,13 @@ pub none_added : (xs ys : List (List ℕ)) → length ys ≡ 0 → xs ≡ xs ++ 
 none_added xs [] none = sym (append-nil xs)
 none_added xs (y ∷ ys) none = absurd (omega arith)
 
-pub leaf_added : (shape : Shape) (list : List (List ℕ)) (old new : List Leaf) (leaf : Leaf) → new ≡ old ++ leaf ∷ [] → IsLeafThere shape list leaf
+pub leaf_added : (shape : NodeShape) (list : List (List ℕ)) (old new : List Leaf) (leaf : Leaf) → new ≡ old ++ leaf ∷ [] → IsLeafThere shape list leaf
     → Each (IsLeafThere shape list) old → Each (IsLeafThere shape list) new
 leaf_added shape list old new leaf grown here all = subst (Each (IsLeafThere shape list)) (sym grown) (each_join (IsLeafThere shape list) old (leaf ∷ []) all (here, tt))
 
 -- ---- the children from number i on
 
-module _ (shape : Shape) (pages : PageMap) (k : ℕ) (low : Bound) (ss : List (List ℕ)) (below : List ℕ) (i : ℕ) (high : Bound) (reached : List Bool) where
+module _ (shape : NodeShape) (pages : PageMap) (k : ℕ) (low : Bound) (ss : List (List ℕ)) (below : List ℕ) (i : ℕ) (high : Bound) (reached : List Bool) where
   pub row_split : i < length ss → i < length below → RowAhead shape pages k low (drop i ss) (drop i below) high reached
       → RowAhead shape pages k low (get_or ss i [] ∷ drop (suc i) ss) (get_or below i 0 ∷ drop (suc i) below) high reached
   row_split few inside row =

@@ -9,13 +9,13 @@ use Rattle.pages.specs.declared.page_fault.PageFault.{PageFault}
 use Rattle.pages.specs.declared.page_fault.PageFault.TheVariants.{Shared, Node, Order, Chain, Count}
 use Rattle.pages.specs.Marks.{IsUnmarked, Marks, marked_in}
 use Rattle.pages.specs.PageList.{pages_in}
-use Rattle.tree_node.specs.declared.shape.Shape.{Shape}
+use Rattle.tree_node.specs.declared.shape.NodeShape.{NodeShape}
 use Rattle.tree_node.specs.Inner.{separators, children}
 use Rattle.tree_node.specs.Fill.{least_entries}
 use Rattle.tree_search.specs.Tree.{Bound}
 use Rattle.bplus_tree.specs.declared.tree.Tree.{Tree}
 use Rattle.bplus_tree.specs.Fields.{tree_shape, tree_root, tree_levels, tree_count}
-use Rattle.page_walks.specs.declared.spot.Spot.{Spot}
+use Rattle.page_walks.specs.declared.spot.LeafSpot.{LeafSpot}
 use Rattle.page_walks.specs.declared.tree_walk.Limits.{Limits}
 use Rattle.page_walks.specs.Spots.{entry_at_spot}
 use Rattle.page_walks.specs.TreeFaults.{HasChild, HasOtherCount, IsEarlier, IsNodeFault, IsSomewhereBelow, IsTreeFault, LeadsDown, LeadsEarlier, LeadsThereToo, MarksBelow, MarksFront, NodePlace, bound_behind, bytes_there, child_place, node_place, place_below, root_place}
@@ -38,7 +38,7 @@ behind_last (s ∷ ss) (suc i) high end = behind_last ss i high (omega arith)
 abbrev pub place_with : (levels page parent least : ℕ) → (low high : Bound) → NodePlace
 place_with levels page parent least low high = record { levels = levels; page = page; parent = parent; least = least; low = low; high = high }
 
-pub child_is : (shape : Shape) (list : List (List ℕ)) (at : NodePlace) (i page floor : ℕ) (low high : Bound) → page ≡ get_or (children shape (bytes_there list at)) i 0 → floor ≡ least_entries shape (at.levels - 1)
+pub child_is : (shape : NodeShape) (list : List (List ℕ)) (at : NodePlace) (i page floor : ℕ) (low high : Bound) → page ≡ get_or (children shape (bytes_there list at)) i 0 → floor ≡ least_entries shape (at.levels - 1)
     → low ≡ bound_at at.low (separators shape (bytes_there list at)) i → high ≡ bound_behind (separators shape (bytes_there list at)) i at.high
     → place_with (at.levels - 1) page at.page floor low high ≡ child_place shape list at i
 child_is shape list at i page floor low high a b c d =
@@ -48,7 +48,7 @@ child_is shape list at i page floor low high a b c d =
     ∙ ap (λ (l : Bound). place_with (at.levels - 1) child.page at.page child.least l high) c
     ∙ ap (λ (h : Bound). place_with (at.levels - 1) child.page at.page child.least child.low h) d
 
-module _ (shape : Shape) (list : List (List ℕ)) (at : NodePlace) where
+module _ (shape : NodeShape) (list : List (List ℕ)) (at : NodePlace) where
   -- ---- what is wrong with the node itself
 
   pub beyond_the_list : (marks : List Bool) → length list ≤ at.page → IsSomewhereBelow shape list at marks Node (Page at.parent)
@@ -135,11 +135,11 @@ module _ (shape : Shape) (list : List (List ℕ)) (at : NodePlace) where
 
 -- ---- leaves and inner nodes
 
-pub leaf_there : (shape : Shape) (bytes : List ℕ) (levels page : ℕ) (limits : Limits) → levels ≡ 0 → (fault : PageFault) (place : FaultPlace)
+pub leaf_there : (shape : NodeShape) (bytes : List ℕ) (levels page : ℕ) (limits : Limits) → levels ≡ 0 → (fault : PageFault) (place : FaultPlace)
     → IsNodeFault shape bytes (node_place 0 page limits) fault place → IsNodeFault shape bytes (node_place levels page limits) fault place
 leaf_there shape bytes levels page limits none fault place h = subst (λ (k : ℕ). IsNodeFault shape bytes (node_place k page limits) fault place) (sym none) h
 
-pub inner_there : (shape : Shape) (bytes : List ℕ) (levels page : ℕ) (limits : Limits) → 1 ≤ levels → (fault : PageFault) (place : FaultPlace)
+pub inner_there : (shape : NodeShape) (bytes : List ℕ) (levels page : ℕ) (limits : Limits) → 1 ≤ levels → (fault : PageFault) (place : FaultPlace)
     → IsNodeFault shape bytes (node_place 1 page limits) fault place → IsNodeFault shape bytes (node_place levels page limits) fault place
 inner_there shape bytes zero page limits some fault place h = absurd (omega arith)
 inner_there shape bytes (suc k) page limits some Shared place h = h
@@ -158,7 +158,7 @@ in_tree tree list marks Order place h = h
 in_tree tree list marks Chain place h = absurd h.2
 in_tree tree list marks Count place h = absurd h.2
 
-pub other_count : (tree : Tree) (list : List (List ℕ)) (floor : ℕ) (before after : List Bool) (spots : List Spot) → (1 ≤ tree_levels tree → 1 ≤ floor)
+pub other_count : (tree : Tree) (list : List (List ℕ)) (floor : ℕ) (before after : List Bool) (spots : List LeafSpot) → (1 ≤ tree_levels tree → 1 ≤ floor)
     → Walked (tree_shape tree) (pages_in list) (tree_levels tree) (tree_root tree) floor None None (reach_of (tree_shape tree) list before []) (reach_of (tree_shape tree) list after spots)
     → length spots ≢ tree_count tree → HasOtherCount tree list
 other_count tree list floor before after spots some walked differ = record {

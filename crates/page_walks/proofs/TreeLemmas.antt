@@ -5,7 +5,7 @@ use Rattle.std.proofs.lemmas.Grind.{flat_map-append}
 use Rattle.pages.specs.Each.{Each}
 use Rattle.pages.proofs.EachLemmas.{each_join}
 use Rattle.pages.specs.PageMap.{PageMap}
-use Rattle.tree_node.specs.declared.shape.Shape.{Shape}
+use Rattle.tree_node.specs.declared.shape.NodeShape.{NodeShape}
 use Rattle.tree_node.specs.Leaf.{IsLeaf, leaf_entries}
 use Rattle.tree_node.specs.Inner.{IsInner, separators, children}
 use Rattle.tree_search.specs.Tree.{TreeOf, page_of, pages_of, entries_of}
@@ -14,7 +14,7 @@ use Rattle.page_walks.specs.declared.level.TreeCounts.{TreeCounts}
 use Rattle.page_walks.specs.Rows.{page_at, IsLeafIn, IsInnerIn, AreNodes, children_in, separators_in, entries_in_row, leaves_in, levels_in}
 use Rattle.page_walks.specs.Levels.{levels_of, all_pages, AreShown, IsTreeIn, AreCounts, LevelsHaveAllPages}
 
-module _ (shape : Shape) (pages : PageMap) (list : List (List ℕ)) (shown : AreShown pages list) where
+module _ (shape : NodeShape) (pages : PageMap) (list : List (List ℕ)) (shown : AreShown pages list) where
   leaf_in : (t : TreeOf 0) → Holds shape pages 0 t → IsLeafIn shape list t.0
   leaf_in t holds =
       let at = shown t.0 holds.bytes holds.there in
@@ -107,7 +107,7 @@ single_pages : (ts : List (TreeOf 0)) → length (flat_map (pages_of 0) ts) ≡ 
 single_pages [] = refl
 single_pages (t ∷ ts) = ap suc (single_pages ts)
 
-levels_have : (shape : Shape) (h : ℕ) (ts : List (TreeOf h)) → all_pages (levels_of shape h ts) ≡ length (flat_map (pages_of h) ts)
+levels_have : (shape : NodeShape) (h : ℕ) (ts : List (TreeOf h)) → all_pages (levels_of shape h ts) ≡ length (flat_map (pages_of h) ts)
 levels_have shape zero ts = omega (arith, single_pages ts)
 levels_have shape (suc h) ts = omega (arith, pages_below h ts, levels_have shape h (flat_map (λ (t : TreeOf (suc h)). t.2) ts))
 
@@ -115,20 +115,20 @@ pub levels_have_all_pages : LevelsHaveAllPages
 levels_have_all_pages shape h tree = levels_have shape h (tree ∷ []) ∙ ap length (append-nil (pages_of h tree))
 
 -- the rows from the root of a tree down are those of its levels
-pub tree_rows : (shape : Shape) (list : List (List ℕ)) (h root : ℕ) (tree : TreeOf h) → (is : IsTreeIn shape list h root tree)
+pub tree_rows : (shape : NodeShape) (list : List (List ℕ)) (h root : ℕ) (tree : TreeOf h) → (is : IsTreeIn shape list h root tree)
     → RowsAre shape is.pages list is.shown h (tree ∷ []) (root ∷ [])
 tree_rows shape list h root tree is =
     subst (λ (n : ℕ). RowsAre shape is.pages list is.shown h (tree ∷ []) (n ∷ [])) is.root_is
     (rows_are shape is.pages list is.shown h (tree ∷ []) (is.holds, tt))
 
-pub tree_few : (shape : Shape) (list : List (List ℕ)) (h root : ℕ) (tree : TreeOf h) → IsTreeIn shape list h root tree
+pub tree_few : (shape : NodeShape) (list : List (List ℕ)) (h root : ℕ) (tree : TreeOf h) → IsTreeIn shape list h root tree
     → length (entries_in_row shape list (leaves_in shape list h (root ∷ []))) < 2 ^ 64
 tree_few shape list h root tree is =
     let rows = tree_rows shape list h root tree is in
     let same : length (entries_in_row shape list (leaves_in shape list h (root ∷ []))) ≡ length (entries_of h tree) = ap length (rows.entries ∙ append-nil (entries_of h tree)) in
     omega (arith, same, is.few)
 
-pub counts_are : (shape : Shape) (list : List (List ℕ)) (h root : ℕ) (tree : TreeOf h) (counts : TreeCounts) → IsTreeIn shape list h root tree
+pub counts_are : (shape : NodeShape) (list : List (List ℕ)) (h root : ℕ) (tree : TreeOf h) (counts : TreeCounts) → IsTreeIn shape list h root tree
     → counts.levels.items ≡ levels_in shape list h (root ∷ []) → counts.leaves.items ≡ leaves_in shape list h (root ∷ []) → AreCounts shape list h tree counts
 counts_are shape list h root tree counts is levels leaves =
     let rows = tree_rows shape list h root tree is in

@@ -6,7 +6,7 @@ use Rattle.std.proofs.Math.Seq.{take-suc}
 use Rattle.std.proofs.lemmas.Bool.{lt-ltb}
 use Rattle.pages.specs.Each.{Each}
 use Rattle.pages.specs.PageMap.{PageMap}
-use Rattle.tree_node.specs.declared.shape.Shape.{Shape}
+use Rattle.tree_node.specs.declared.shape.NodeShape.{NodeShape}
 use Rattle.tree_node.specs.Leaf.{leaf_entries}
 use Rattle.tree_node.specs.Inner.{separators, children}
 use Rattle.tree_node.specs.Fill.{least_entries}
@@ -20,7 +20,7 @@ use Rattle.pages.proofs.MarksLemmas.{marks_none, marks_on}
 use Rattle.page_walks.specs.Order.{AreBetween}
 use Rattle.bplus_tree.specs.declared.tree.Tree.{Tree}
 use Rattle.bplus_tree.specs.Fields.{tree_shape, tree_root, tree_levels, tree_count}
-use Rattle.page_walks.specs.declared.spot.Spot.{Spot}
+use Rattle.page_walks.specs.declared.spot.LeafSpot.{LeafSpot}
 use Rattle.page_walks.specs.Spots.{entry_at_spot}
 use Rattle.page_walks.specs.TreeWalk.{Reach, TreeWalked, reach_of, Walked, LeafFits, InnerFits, WalkedFront, AreFirstMembers, bound_at}
 
@@ -42,7 +42,7 @@ module _ {X : Type 0} (P : Bound → Bound → X → Type 0) where
   row_done low high (s ∷ ss) (y ∷ ys) x keys front same p = (keys.0, keys.1, front.0, row_done (Some s) high ss ys x keys.2 front.1 (omega arith) p)
 
 -- a leaf is a tree
-pub leaf_walked : (shape : Shape) (list : List (List ℕ)) (h page floor : ℕ) (low high : Bound) (before after : Reach)
+pub leaf_walked : (shape : NodeShape) (list : List (List ℕ)) (h page floor : ℕ) (low high : Bound) (before after : Reach)
     → h ≡ 0 → page < length list → Marks before.marks after.marks (page ∷ []) → LeafFits shape (slice_index_or list page []) floor low high
     → after.entries ≡ before.entries ++ leaf_entries shape (slice_index_or list page []) → Walked shape (pages_in list) h page floor low high before after
 leaf_walked shape list zero page floor low high before after none inside marks leaf adds = record {
@@ -59,7 +59,7 @@ leaf_walked shape list zero page floor low high before after none inside marks l
 }
 leaf_walked shape list (suc h) page floor low high before after none inside marks leaf adds = absurd (omega arith)
 
-module _ (shape : Shape) (pages : PageMap) (k : ℕ) (low : Bound) (ss : List (List ℕ)) (below : List ℕ) where
+module _ (shape : NodeShape) (pages : PageMap) (k : ℕ) (low : Bound) (ss : List (List ℕ)) (below : List ℕ) where
   -- no child was walked yet
   pub front_none : (at : Reach) → WalkedFront shape pages k low ss below 0 at at
   front_none at = record { trees = []; as_many = refl; leads = refl; holds = tt; ordered = tt; filled = tt; marks = marks_none at.marks; adds = sym (append-nil at.entries) }
@@ -108,7 +108,7 @@ module _ (shape : Shape) (pages : PageMap) (k : ℕ) (low : Bound) (ss : List (L
       }
 
 -- the children of a node but the last, the last one, and the node
-pub node_walked : (shape : Shape) (list : List (List ℕ)) (h k page floor : ℕ) (low high : Bound) (start before between after : Reach)
+pub node_walked : (shape : NodeShape) (list : List (List ℕ)) (h k page floor : ℕ) (low high : Bound) (start before between after : Reach)
     → h ≡ suc k → page < length list → InnerFits shape (slice_index_or list page []) floor low high
     → length (children shape (slice_index_or list page [])) ≡ suc (length (separators shape (slice_index_or list page [])))
     → Marks start.marks before.marks (page ∷ []) → before.entries ≡ start.entries
@@ -156,7 +156,7 @@ bound_next low (s ∷ ss) zero few = refl
 bound_next low (s ∷ ss) (suc i) few = bound_next (Some s) ss i (omega arith)
 
 -- the same walk, with other names for the page, what it must have, and the bounds
-pub walked_as : (shape : Shape) (pages : PageMap) (k p q floor floor' : ℕ) (low low' high high' : Bound) (before after : Reach)
+pub walked_as : (shape : NodeShape) (pages : PageMap) (k p q floor floor' : ℕ) (low low' high high' : Bound) (before after : Reach)
     → p ≡ q → floor ≡ floor' → low ≡ low' → high ≡ high' → Walked shape pages k p floor low high before after → Walked shape pages k q floor' low' high' before after
 walked_as shape pages k p q floor floor' low low' high high' before after a b c d walked =
     subst (λ (x : ℕ). Walked shape pages k x floor' low' high' before after) a
@@ -170,7 +170,7 @@ rooted zero t floor some large = tt
 rooted (suc h) t floor some large = let one : 1 ≤ floor = some (omega arith) in omega arith
 
 -- a whole tree stands
-pub whole_tree : (tree : Tree) (list : List (List ℕ)) (floor : ℕ) (before after : List Bool) (spots : List Spot) → (1 ≤ tree_levels tree → 1 ≤ floor)
+pub whole_tree : (tree : Tree) (list : List (List ℕ)) (floor : ℕ) (before after : List Bool) (spots : List LeafSpot) → (1 ≤ tree_levels tree → 1 ≤ floor)
     → Walked (tree_shape tree) (pages_in list) (tree_levels tree) (tree_root tree) floor None None (reach_of (tree_shape tree) list before []) (reach_of (tree_shape tree) list after spots)
     → length spots ≡ tree_count tree → TreeWalked tree list (marked_in before) (marked_in after) spots
 whole_tree tree list floor before after spots some walked many = record {

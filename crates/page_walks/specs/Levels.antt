@@ -3,7 +3,7 @@ use Rattle.std.specs.Prelude.{◌≡◌, ℕ, zero, suc, ◌+◌, ◌<◌, ◌^�
 use Rattle.std.specs.Prelude.{IfOk}
 use Rattle.pages.specs.Each.{Each}
 use Rattle.pages.specs.PageMap.{PageMap}
-use Rattle.tree_node.specs.declared.shape.Shape.{Shape}
+use Rattle.tree_node.specs.declared.shape.NodeShape.{NodeShape}
 use Rattle.tree_node.specs.Leaf.{leaf_room}
 use Rattle.tree_node.specs.Inner.{inner_room}
 use Rattle.tree_search.specs.Tree.{TreeOf, page_of, pages_of, entries_of}
@@ -15,7 +15,7 @@ use Rattle.page_walks.specs.Rows.{page_at, IsLeafIn, entries_in_row}
 -- What each level has of these trees, their roots' first, and the leaves' last: a page for each
 -- node; the separators of inner nodes, and the entries of leaves; and for how many of them a page
 -- has room.
-abbrev pub levels_of : Shape → (h : ℕ) → List (TreeOf h) → List Level
+abbrev pub levels_of : NodeShape → (h : ℕ) → List (TreeOf h) → List Level
 levels_of shape zero trees = record {
   pages = length trees;
   entries = length (flat_map (λ (t : TreeOf zero). t.1) trees);
@@ -40,29 +40,29 @@ AreShown pages list = (n : ℕ) (bytes : List ℕ) → pages n ≡ Some bytes �
     × (page_at list n ≡ bytes)
 
 -- a tree with h levels above its leaves stands below this page, in pages in use that are those of the list
-pub record IsTreeIn (shape : Shape) (list : List (List ℕ)) (h root : ℕ) (tree : TreeOf h) : Type 0 where
+pub record IsTreeIn (shape : NodeShape) (list : List (List ℕ)) (h root : ℕ) (tree : TreeOf h) : Type 0 where
   pub pages : PageMap
   pub shown : AreShown pages list
   pub holds : Holds shape pages h tree
   pub root_is : page_of h tree ≡ root
   pub few : length (entries_of h tree) < 2 ^ 64
 
-abbrev pub HasTreeBelow : Shape → List (List ℕ) → ℕ → ℕ → Type 0
+abbrev pub HasTreeBelow : NodeShape → List (List ℕ) → ℕ → ℕ → Type 0
 HasTreeBelow shape list h root = (tree : TreeOf h) × IsTreeIn shape list h root tree
 
 -- these are the counts of the tree, and its leaves from left to right
-pub record AreCounts (shape : Shape) (list : List (List ℕ)) (h : ℕ) (tree : TreeOf h)
+pub record AreCounts (shape : NodeShape) (list : List (List ℕ)) (h : ℕ) (tree : TreeOf h)
     (counts : TreeCounts) : Type 0 where
   pub levels : counts.levels.items ≡ levels_of shape h (tree ∷ [])
   pub leaves : Each (IsLeafIn shape list) counts.leaves.items
   pub entries : entries_in_row shape list counts.leaves.items ≡ entries_of h tree
 
 -- so, of whichever tree stands below this page
-abbrev pub CountsTree : {X : Type 0} → Shape → List (List ℕ) → (h root : ℕ) → Result TreeCounts X → Type 0
+abbrev pub CountsTree : {X : Type 0} → NodeShape → List (List ℕ) → (h root : ℕ) → Result TreeCounts X → Type 0
 CountsTree shape list h root result = (tree : TreeOf h) → IsTreeIn shape list h root tree
     → IfOk result (AreCounts shape list h tree)
 
 -- the levels have all pages of the tree
 abbrev pub LevelsHaveAllPages : Type 0
-LevelsHaveAllPages = (shape : Shape) (h : ℕ) (tree : TreeOf h)
+LevelsHaveAllPages = (shape : NodeShape) (h : ℕ) (tree : TreeOf h)
     → all_pages (levels_of shape h (tree ∷ [])) ≡ length (pages_of h tree)

@@ -4,7 +4,7 @@ use Rattle.std.specs.Prelude.{Option, Some, ⊤}
 use Rattle.std.specs.Option.{option_copied}
 use Rattle.std.specs.Borrow.{Bor}
 use Rattle.pages.specs.Each.{Each}
-use Rattle.tree_node.specs.declared.shape.Shape.{Shape}
+use Rattle.tree_node.specs.declared.shape.NodeShape.{NodeShape}
 use Rattle.tree_node.specs.Leaf.{leaf_entries}
 use Rattle.tree_node.specs.Inner.{separators}
 use Rattle.tree_node.specs.Order.{Ascends}
@@ -16,7 +16,7 @@ AreBetween low [] high = ⊤
 AreBetween low (s ∷ ss) high = Above low s × Below high s × AreBetween (Some s) ss high
 
 -- so are those of an inner node's page
-abbrev pub AreSeparatorsBetween : Shape → List ℕ → (low high : Option (Bor (List ℕ))) → Type 0
+abbrev pub AreSeparatorsBetween : NodeShape → List ℕ → (low high : Option (Bor (List ℕ))) → Type 0
 AreSeparatorsBetween shape page low high =
     AreBetween (option_copied low) (separators shape page) (option_copied high)
 
@@ -25,7 +25,7 @@ abbrev pub AreKeysInside : ℕ → Bound → Bound → List (List ℕ) → Type 
 AreKeysInside width low high = Each (λ e. NotBelow low (take width e) × Below high (take width e))
 
 -- so do those of a leaf's page
-abbrev pub AreLeafKeysInside : Shape → List ℕ → (low high : Option (Bor (List ℕ))) → Type 0
+abbrev pub AreLeafKeysInside : NodeShape → List ℕ → (low high : Option (Bor (List ℕ))) → Type 0
 AreLeafKeysInside shape page low high =
     AreKeysInside shape.width (option_copied low) (option_copied high) (leaf_entries shape page)
 
@@ -49,11 +49,11 @@ IsAstray Stands width low high es i = (i < length es)
     ⊎ ((i ≡ 0) × (Stands low (take width (slice_index_or es i [])) → ⊥)))
 
 -- so is key i of a leaf's page
-abbrev pub IsLeafKeyAstray : Shape → List ℕ → (low high : Option (Bor (List ℕ))) → ℕ → Type 0
+abbrev pub IsLeafKeyAstray : NodeShape → List ℕ → (low high : Option (Bor (List ℕ))) → ℕ → Type 0
 IsLeafKeyAstray shape page low high i =
     IsAstray NotBelow shape.width (option_copied low) (option_copied high) (leaf_entries shape page) i
 
 -- so is separator i of an inner node's page
-abbrev pub IsSeparatorAstray : Shape → List ℕ → (low high : Option (Bor (List ℕ))) → ℕ → Type 0
+abbrev pub IsSeparatorAstray : NodeShape → List ℕ → (low high : Option (Bor (List ℕ))) → ℕ → Type 0
 IsSeparatorAstray shape page low high i =
     IsAstray Above shape.width (option_copied low) (option_copied high) (separators shape page) i

@@ -2,7 +2,7 @@
 -- next. A row has the pages of one level, from left to right.
 use Rattle.std.specs.Prelude.{ℕ, zero, suc, ◌<◌, ◌^◌, List, [], ◌∷◌, length, flat_map, slice_index_or}
 use Rattle.pages.specs.Each.{Each}
-use Rattle.tree_node.specs.declared.shape.Shape.{Shape}
+use Rattle.tree_node.specs.declared.shape.NodeShape.{NodeShape}
 use Rattle.tree_node.specs.Leaf.{IsLeaf, leaf_entries, leaf_room}
 use Rattle.tree_node.specs.Inner.{IsInner, separators, children, inner_room}
 use Rattle.page_walks.specs.declared.level.Level.{Level}
@@ -12,44 +12,44 @@ abbrev pub page_at : List (List ℕ) → ℕ → List ℕ
 page_at list n = slice_index_or list n []
 
 -- page n is there, and is a leaf
-pub record IsLeafIn (shape : Shape) (list : List (List ℕ)) (n : ℕ) : Type 0 where
+pub record IsLeafIn (shape : NodeShape) (list : List (List ℕ)) (n : ℕ) : Type 0 where
   pub there : n < length list
   pub leaf : IsLeaf shape (page_at list n)
 
 -- page n is there, and is an inner node
-pub record IsInnerIn (shape : Shape) (list : List (List ℕ)) (n : ℕ) : Type 0 where
+pub record IsInnerIn (shape : NodeShape) (list : List (List ℕ)) (n : ℕ) : Type 0 where
   pub there : n < length list
   pub inner : IsInner shape (page_at list n)
 
 -- the children of the nodes of a row
-abbrev pub children_in : Shape → List (List ℕ) → List ℕ → List ℕ
+abbrev pub children_in : NodeShape → List (List ℕ) → List ℕ → List ℕ
 children_in shape list row = flat_map (λ n. children shape (page_at list n)) row
 
-abbrev pub separators_in : Shape → List (List ℕ) → List ℕ → List (List ℕ)
+abbrev pub separators_in : NodeShape → List (List ℕ) → List ℕ → List (List ℕ)
 separators_in shape list row = flat_map (λ n. separators shape (page_at list n)) row
 
 -- the entries of the leaves of a row
-abbrev pub entries_in_row : Shape → List (List ℕ) → List ℕ → List (List ℕ)
+abbrev pub entries_in_row : NodeShape → List (List ℕ) → List ℕ → List (List ℕ)
 entries_in_row shape list row = flat_map (λ n. leaf_entries shape (page_at list n)) row
 
 -- these pages are leaves, whose entries can be counted
-pub record AreFewLeaves (shape : Shape) (list : List (List ℕ)) (row : List ℕ) : Type 0 where
+pub record AreFewLeaves (shape : NodeShape) (list : List (List ℕ)) (row : List ℕ) : Type 0 where
   pub leaves : Each (IsLeafIn shape list) row
   pub few : length (entries_in_row shape list row) < 2 ^ 64
 
 -- a row with h levels below it leads to nodes, down to leaves
-abbrev pub AreNodes : Shape → List (List ℕ) → ℕ → List ℕ → Type 0
+abbrev pub AreNodes : NodeShape → List (List ℕ) → ℕ → List ℕ → Type 0
 AreNodes shape list zero row = Each (IsLeafIn shape list) row
 AreNodes shape list (suc h) row = Each (IsInnerIn shape list) row
     × AreNodes shape list h (children_in shape list row)
 
 -- the leaves that it leads to
-abbrev pub leaves_in : Shape → List (List ℕ) → ℕ → List ℕ → List ℕ
+abbrev pub leaves_in : NodeShape → List (List ℕ) → ℕ → List ℕ → List ℕ
 leaves_in shape list zero row = row
 leaves_in shape list (suc h) row = leaves_in shape list h (children_in shape list row)
 
 -- what a row of leaves has
-abbrev pub leaf_level : Shape → List (List ℕ) → List ℕ → Level
+abbrev pub leaf_level : NodeShape → List (List ℕ) → List ℕ → Level
 leaf_level shape list row = record {
   pages = length row;
   entries = length (entries_in_row shape list row);
@@ -57,7 +57,7 @@ leaf_level shape list row = record {
 }
 
 -- what a row of inner nodes has
-abbrev pub inner_level : Shape → List (List ℕ) → List ℕ → Level
+abbrev pub inner_level : NodeShape → List (List ℕ) → List ℕ → Level
 inner_level shape list row = record {
   pages = length row;
   entries = length (separators_in shape list row);
@@ -65,7 +65,7 @@ inner_level shape list row = record {
 }
 
 -- what each row has that it leads to, from itself on
-abbrev pub levels_in : Shape → List (List ℕ) → ℕ → List ℕ → List Level
+abbrev pub levels_in : NodeShape → List (List ℕ) → ℕ → List ℕ → List Level
 levels_in shape list zero row = leaf_level shape list row ∷ []
 levels_in shape list (suc h) row = inner_level shape list row ∷ levels_in shape list h
     (children_in shape list row)

@@ -2,7 +2,7 @@
 use Rattle.std.specs.Prelude.{◌≡◌, ℕ, ◌≤◌, ◌<◌, ◌^◌, List, [], ◌++◌, length, map, take, filter, bytes_eq}
 use Rattle.std.specs.Prelude.{slice_index_or, Some}
 use Rattle.std.specs.Option.{option_copied}
-use Rattle.tree_node.specs.declared.shape.Shape.{Shape}
+use Rattle.tree_node.specs.declared.shape.NodeShape.{NodeShape}
 use Rattle.tree_node.specs.Leaf.{IsLeaf, leaf_entries}
 use Rattle.tree_search.specs.Calls.{last_of}
 use Rattle.tree_search.specs.Tree.{TreeOf, Bound, IsOrdered, entries_of}
@@ -46,7 +46,7 @@ pub record CanGoOn (run : Run) (more : List (List ℕ)) : Type 0 where
   pub few : length (values ++ more) < 2 ^ 64
 
 -- so can those of a leaf's entries, each of which has as many bytes as a value
-pub record CanGoThrough (run : Run) (width : ℕ) (shape : Shape) (page : List ℕ) : Type 0 where
+pub record CanGoThrough (run : Run) (width : ℕ) (shape : NodeShape) (page : List ℕ) : Type 0 where
   pub leaf : IsLeaf shape page
   pub narrow : width ≤ shape.entry
   pub go : CanGoOn run (values_of width (leaf_entries shape page))

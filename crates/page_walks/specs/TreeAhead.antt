@@ -4,7 +4,7 @@ use Rattle.std.specs.Option.{option_copied}
 use Rattle.pages.specs.Each.{Each}
 use Rattle.pages.specs.Owners.{AreApart}
 use Rattle.pages.specs.PageMap.{PageMap}
-use Rattle.tree_node.specs.declared.shape.Shape.{Shape}
+use Rattle.tree_node.specs.declared.shape.NodeShape.{NodeShape}
 use Rattle.tree_node.specs.Fill.{least_entries}
 use Rattle.tree_search.specs.Tree.{TreeOf, page_of, pages_of, Bound, IsRow, IsOrdered}
 use Rattle.tree_search.specs.Calls.{size_of, IsHalfFull, IsTree}
@@ -24,7 +24,7 @@ pub record TreeUnmarked (tree : Tree) (list : List (List ℕ)) (reached : List B
 
 -- A tree with h levels above its leaves stands below the page, within these bounds, its root with
 -- so many entries or separators at least; none of its pages was reached.
-pub record TreeAhead (shape : Shape) (pages : PageMap) (h page floor : ℕ) (low high : Bound)
+pub record TreeAhead (shape : NodeShape) (pages : PageMap) (h page floor : ℕ) (low high : Bound)
     (reached : List Bool) : Type 0 where
   pub tree : TreeOf h
   pub stands : IsTree shape pages h page low high tree
@@ -34,13 +34,13 @@ pub record TreeAhead (shape : Shape) (pages : PageMap) (h page floor : ℕ) (low
   pub unmarked : Each (IsUnmarked reached) (pages_of h tree)
 
 -- so, within the limits of its place
-abbrev pub AwaitsBelow : Shape → List (List ℕ) → (levels page : ℕ) → Limits → List Bool → Type 0
+abbrev pub AwaitsBelow : NodeShape → List (List ℕ) → (levels page : ℕ) → Limits → List Bool → Type 0
 AwaitsBelow shape list levels page limits reached =
     TreeAhead shape (pages_in list) levels page limits.least (option_copied limits.low)
     (option_copied limits.high) reached
 
 -- trees stand below these pages, with these separators between them; none of their pages was reached
-pub record RowAhead (shape : Shape) (pages : PageMap) (k : ℕ) (low : Bound) (ss : List (List ℕ))
+pub record RowAhead (shape : NodeShape) (pages : PageMap) (k : ℕ) (low : Bound) (ss : List (List ℕ))
     (below : List ℕ) (high : Bound) (reached : List Bool) : Type 0 where
   pub trees : List (TreeOf k)
   pub leads : map (page_of k) trees ≡ below

@@ -8,7 +8,7 @@ use Rattle.pages.specs.declared.page_fault.PageFault.{PageFault}
 use Rattle.pages.specs.declared.page_fault.PageFault.TheVariants.{Shared, Node, Order, Chain, Count}
 use Rattle.pages.specs.Marks.{IsUnmarked}
 use Rattle.pages.specs.PageList.{pages_in}
-use Rattle.tree_node.specs.declared.shape.Shape.{Shape}
+use Rattle.tree_node.specs.declared.shape.NodeShape.{NodeShape}
 use Rattle.tree_node.specs.Leaf.{IsLeaf, leaf_entries}
 use Rattle.tree_node.specs.Inner.{IsInner, separators, children}
 use Rattle.tree_node.specs.Fill.{least_entries}
@@ -61,7 +61,7 @@ abbrev pub bytes_there : List (List ℕ) → NodePlace → List ℕ
 bytes_there list at = slice_index_or list at.page []
 
 -- the place of child i
-abbrev pub child_place : Shape → List (List ℕ) → NodePlace → ℕ → NodePlace
+abbrev pub child_place : NodeShape → List (List ℕ) → NodePlace → ℕ → NodePlace
 child_place shape list at i = record {
   levels = at.levels - 1;
   page = slice_index_or (children shape (bytes_there list at)) i 0;
@@ -72,30 +72,30 @@ child_place shape list at i = record {
 }
 
 -- an inner node is there, and has a child i
-pub record HasChild (shape : Shape) (list : List (List ℕ)) (at : NodePlace) (i : ℕ) : Type 0 where
+pub record HasChild (shape : NodeShape) (list : List (List ℕ)) (at : NodePlace) (i : ℕ) : Type 0 where
   pub above : 1 ≤ at.levels
   pub there : at.page < length list
   pub inner : IsInner shape (bytes_there list at)
   pub within : i ≤ length (separators shape (bytes_there list at))
 
 -- the place to which these children lead, each the child of the one before it
-abbrev pub place_below : Shape → List (List ℕ) → NodePlace → List ℕ → NodePlace
+abbrev pub place_below : NodeShape → List (List ℕ) → NodePlace → List ℕ → NodePlace
 place_below shape list at [] = at
 place_below shape list at (i ∷ is) = place_below shape list (child_place shape list at i) is
 
-abbrev pub AreChildren : Shape → List (List ℕ) → NodePlace → List ℕ → Type 0
+abbrev pub AreChildren : NodeShape → List (List ℕ) → NodePlace → List ℕ → Type 0
 AreChildren shape list at [] = ⊤
 AreChildren shape list at (i ∷ is) =
     HasChild shape list at i × AreChildren shape list (child_place shape list at i) is
 
 -- they lead to page n
-pub record LeadsDown (shape : Shape) (list : List (List ℕ)) (at : NodePlace) (is : List ℕ)
+pub record LeadsDown (shape : NodeShape) (list : List (List ℕ)) (at : NodePlace) (is : List ℕ)
     (n : ℕ) : Type 0 where
   pub children : AreChildren shape list at is
   pub page : (place_below shape list at is).page ≡ n
 
 -- each page that was marked now is one to which children lead
-abbrev pub MarksBelow : Shape → List (List ℕ) → NodePlace → (before after : List Bool) → Type 0
+abbrev pub MarksBelow : NodeShape → List (List ℕ) → NodePlace → (before after : List Bool) → Type 0
 MarksBelow shape list at before after = (n : ℕ) → IsUnmarked before n
     → IsUnmarked after n ⊎ ((is : List ℕ) × LeadsDown shape list at is n)
 
@@ -104,27 +104,27 @@ abbrev pub IsEarlier : (i : ℕ) → List ℕ → Type 0
 IsEarlier i [] = ⊤
 IsEarlier i (j ∷ js) = j < i
 
-abbrev pub LeadsEarlier : Shape → List (List ℕ) → NodePlace → (i n : ℕ) → Type 0
+abbrev pub LeadsEarlier : NodeShape → List (List ℕ) → NodePlace → (i n : ℕ) → Type 0
 LeadsEarlier shape list at i n = (is : List ℕ) × IsEarlier i is × LeadsDown shape list at is n
 
 -- each page that was marked now is one to which children before child i lead
-abbrev pub MarksFront : Shape → List (List ℕ) → NodePlace → ℕ → (before after : List Bool) → Type 0
+abbrev pub MarksFront : NodeShape → List (List ℕ) → NodePlace → ℕ → (before after : List Bool) → Type 0
 MarksFront shape list at i before after = (n : ℕ) → IsUnmarked before n
     → IsUnmarked after n ⊎ LeadsEarlier shape list at i n
 
 -- the bytes are a leaf or an inner node, with so many entries or separators at least
-abbrev pub IsNodeOf : Shape → List ℕ → (levels least : ℕ) → Type 0
+abbrev pub IsNodeOf : NodeShape → List ℕ → (levels least : ℕ) → Type 0
 IsNodeOf shape bytes zero least = IsLeaf shape bytes × (least ≤ length (leaf_entries shape bytes))
 IsNodeOf shape bytes (suc k) least = IsInner shape bytes × (least ≤ length (separators shape bytes))
 
 -- key i of the node is not where it should be
-abbrev pub IsKeyAstray : Shape → List ℕ → (levels : ℕ) → (low high : Bound) → ℕ → Type 0
+abbrev pub IsKeyAstray : NodeShape → List ℕ → (levels : ℕ) → (low high : Bound) → ℕ → Type 0
 IsKeyAstray shape bytes zero low high i = IsAstray NotBelow shape.width low high (leaf_entries shape bytes) i
 IsKeyAstray shape bytes (suc k) low high i = IsAstray Above shape.width low high (separators shape bytes) i
 
 -- This is wrong with the bytes at a place: they are no such node, or one of its keys is not where it
 -- should be.
-abbrev pub IsNodeFault : Shape → List ℕ → NodePlace → PageFault → FaultPlace → Type 0
+abbrev pub IsNodeFault : NodeShape → List ℕ → NodePlace → PageFault → FaultPlace → Type 0
 IsNodeFault shape bytes at Node place =
     (place ≡ Page at.page) × (IsNodeOf shape bytes at.levels at.least → ⊥)
 IsNodeFault shape bytes at Order place = IsNodeOf shape bytes at.levels at.least
@@ -134,12 +134,12 @@ IsNodeFault shape bytes at Chain place = ⊥
 IsNodeFault shape bytes at Count place = ⊥
 
 -- other children lead to page n, too
-abbrev pub LeadsThereToo : Shape → List (List ℕ) → NodePlace → List ℕ → ℕ → Type 0
+abbrev pub LeadsThereToo : NodeShape → List (List ℕ) → NodePlace → List ℕ → ℕ → Type 0
 LeadsThereToo shape list at is n = (others : List ℕ) × (others ≢ is) × LeadsDown shape list at others n
 
 -- This is wrong where these children lead: the page is none of the list, or has another fault; or it
 -- had its mark before, or other children lead there, too.
-abbrev pub IsFaultBelow : Shape → List (List ℕ) → NodePlace → List Bool → List ℕ → PageFault → FaultPlace → Type 0
+abbrev pub IsFaultBelow : NodeShape → List (List ℕ) → NodePlace → List Bool → List ℕ → PageFault → FaultPlace → Type 0
 IsFaultBelow shape list at marks is Shared place =
     let n = (place_below shape list at is).page in
     (place ≡ Page n) × (n < length list) × (IsUnmarked marks n → LeadsThereToo shape list at is n)
@@ -154,7 +154,7 @@ IsFaultBelow shape list at marks is Chain place = ⊥
 IsFaultBelow shape list at marks is Count place = ⊥
 
 -- so it is somewhere below a place
-abbrev pub IsSomewhereBelow : Shape → List (List ℕ) → NodePlace → List Bool → PageFault → FaultPlace → Type 0
+abbrev pub IsSomewhereBelow : NodeShape → List (List ℕ) → NodePlace → List Bool → PageFault → FaultPlace → Type 0
 IsSomewhereBelow shape list at marks fault place = (is : List ℕ) × AreChildren shape list at is
     × IsFaultBelow shape list at marks is fault place
 

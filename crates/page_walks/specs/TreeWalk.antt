@@ -4,7 +4,7 @@ use Rattle.std.specs.Prelude.{slice_index_or, Some, ⊤}
 use Rattle.std.specs.Option.{option_copied}
 use Rattle.pages.specs.Each.{Each}
 use Rattle.pages.specs.PageMap.{PageMap}
-use Rattle.tree_node.specs.declared.shape.Shape.{Shape}
+use Rattle.tree_node.specs.declared.shape.NodeShape.{NodeShape}
 use Rattle.tree_node.specs.Order.{Ascends}
 use Rattle.tree_node.specs.Leaf.{IsLeaf, leaf_entries}
 use Rattle.tree_node.specs.Inner.{IsInner, separators}
@@ -18,7 +18,7 @@ use Rattle.bplus_tree.specs.Standing.{TreeStands}
 use Rattle.bplus_tree.specs.Fields.{tree_shape}
 use Rattle.pages.specs.Marks.{Marks, marked_in}
 use Rattle.pages.specs.PageList.{pages_in}
-use Rattle.page_walks.specs.declared.spot.Spot.{Spot}
+use Rattle.page_walks.specs.declared.spot.LeafSpot.{LeafSpot}
 use Rattle.page_walks.specs.declared.leaf.Leaf.{Leaf}
 use Rattle.page_walks.specs.declared.tree_walk.Limits.{Limits}
 use Rattle.page_walks.specs.Order.{AreBetween, AreKeysInside}
@@ -27,7 +27,7 @@ use Rattle.page_walks.specs.Spots.{entries_at, spots_in}
 -- The tree stands in the pages that were reached now, each of which was not reached before, and
 -- these are the places of its entries.
 pub record TreeWalked (tree : Tree) (list : List (List ℕ)) (before after : ℕ → Bool)
-    (spots : List Spot) : Type 0 where
+    (spots : List LeafSpot) : Type 0 where
   pub own : List ℕ
   pub stands : TreeStands tree (pages_in list) (entries_at (tree_shape tree) list spots) own
   pub marks : Marks before after own
@@ -38,26 +38,26 @@ WalksTree tree list before after leaves =
     TreeWalked tree list (marked_in before) (marked_in after) (spots_in leaves)
 
 -- the page is a leaf with so many entries at least, whose keys rise within these bounds
-pub record LeafFits (shape : Shape) (page : List ℕ) (floor : ℕ) (low high : Bound) : Type 0 where
+pub record LeafFits (shape : NodeShape) (page : List ℕ) (floor : ℕ) (low high : Bound) : Type 0 where
   pub leaf : IsLeaf shape page
   pub large : floor ≤ length (leaf_entries shape page)
   pub rises : Ascends shape.width (leaf_entries shape page)
   pub inside : AreKeysInside shape.width low high (leaf_entries shape page)
 
 -- so, within the limits of its place
-abbrev pub IsLeafWithin : Shape → List ℕ → Limits → Type 0
+abbrev pub IsLeafWithin : NodeShape → List ℕ → Limits → Type 0
 IsLeafWithin shape page limits =
     LeafFits shape page limits.least (option_copied limits.low) (option_copied limits.high)
 
 -- the page is an inner node with so many separators at least, which rise between these bounds
-pub record InnerFits (shape : Shape) (page : List ℕ) (floor : ℕ) (low high : Bound) : Type 0 where
+pub record InnerFits (shape : NodeShape) (page : List ℕ) (floor : ℕ) (low high : Bound) : Type 0 where
   pub inner : IsInner shape page
   pub large : floor ≤ length (separators shape page)
   pub rises : Ascends shape.width (separators shape page)
   pub between : AreBetween low (separators shape page) high
 
 -- so, within the limits of its place
-abbrev pub IsInnerWithin : Shape → List ℕ → Limits → Type 0
+abbrev pub IsInnerWithin : NodeShape → List ℕ → Limits → Type 0
 IsInnerWithin shape page limits =
     InnerFits shape page limits.least (option_copied limits.low) (option_copied limits.high)
 
@@ -66,7 +66,7 @@ pub record Reach : Type 0 where
   pub marks : ℕ → Bool
   pub entries : List (List ℕ)
 
-abbrev pub reach_of : Shape → List (List ℕ) → List Bool → List Spot → Reach
+abbrev pub reach_of : NodeShape → List (List ℕ) → List Bool → List LeafSpot → Reach
 reach_of shape list reached spots = record {
   marks = marked_in reached;
   entries = entries_at shape list spots;
@@ -75,7 +75,7 @@ reach_of shape list reached spots = record {
 -- A tree with h levels above its leaves stands below the page, within these bounds, its root with
 -- so many entries or separators at least; its pages were reached now, and its entries come behind
 -- those that were known.
-pub record Walked (shape : Shape) (pages : PageMap) (h page floor : ℕ) (low high : Bound)
+pub record Walked (shape : NodeShape) (pages : PageMap) (h page floor : ℕ) (low high : Bound)
     (before after : Reach) : Type 0 where
   pub tree : TreeOf h
   pub stands : IsTree shape pages h page low high tree
@@ -85,7 +85,7 @@ pub record Walked (shape : Shape) (pages : PageMap) (h page floor : ℕ) (low hi
   pub adds : after.entries ≡ before.entries ++ entries_of h tree
 
 -- so, within the limits of its place, where the walk had come so far and has come so far now
-abbrev pub WalksBelow : Shape → List (List ℕ) → (levels page : ℕ) → Limits
+abbrev pub WalksBelow : NodeShape → List (List ℕ) → (levels page : ℕ) → Limits
     → (before after : List Bool × List Leaf) → Type 0
 WalksBelow shape list levels page limits before after =
     Walked shape (pages_in list) levels page limits.least (option_copied limits.low)
@@ -93,7 +93,7 @@ WalksBelow shape list levels page limits before after =
     (reach_of shape list after.0 (spots_in after.1))
 
 -- the entries of the leaf on this page come behind those of the leaves so far
-abbrev pub AddsLeaf : Shape → List (List ℕ) → (page : ℕ) → (old new : List Leaf) → Type 0
+abbrev pub AddsLeaf : NodeShape → List (List ℕ) → (page : ℕ) → (old new : List Leaf) → Type 0
 AddsLeaf shape list page old new = entries_at shape list (spots_in new)
     ≡ entries_at shape list (spots_in old) ++ leaf_entries shape (slice_index_or list page [])
 
@@ -112,7 +112,7 @@ AreFirstMembers Between low (s ∷ ss) (x ∷ xs) = Between low (Some s) x
     × AreFirstMembers Between (Some s) ss xs
 
 -- so many children of a node with these separators were walked, from the first one on
-pub record WalkedFront (shape : Shape) (pages : PageMap) (k : ℕ) (low : Bound) (ss : List (List ℕ))
+pub record WalkedFront (shape : NodeShape) (pages : PageMap) (k : ℕ) (low : Bound) (ss : List (List ℕ))
     (below : List ℕ) (i : ℕ) (before after : Reach) : Type 0 where
   pub trees : List (TreeOf k)
   pub as_many : length trees ≡ i

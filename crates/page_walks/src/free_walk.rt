@@ -1,11 +1,11 @@
-//! The free pages, over the pages of a file that were read.
+//! The free pages of a file.
 //!
 //! | Bytes | Content |
 //! |---|---|
 //! | 0 to 3 | `F`, and zero |
 //! | 4 to 7 | next free page, 0 at the end of the chain |
 
-ghost use Rattle.std.specs.Prelude.{◌≡◌, IfErr, IfOk, OnOk};
+ghost use Rattle.std.specs.Prelude.{◌≡◌, IfErr, IfOk, OnOk, List, ℕ};
 ghost use Rattle.pages.specs.Marks.{marked_in};
 ghost use Rattle.pages.specs.Refused.{RefusesRightly};
 ghost use Rattle.page_walks.specs.FreeWalk.{FreeAhead, FreeWalked, IsFreeFault, IsFreePage, IsFreePageAt};
@@ -13,7 +13,7 @@ ghost use Rattle.page_walks.specs.FreeWalk.{TellsOfNext};
 ghost use Rattle.pages.specs.Told.{TellsOfFault};
 
 use byteorder::{BigEndian, ByteOrder};
-use pages::{PAGE_SIZE, PageFault, WalkFault, mark};
+use pages::{PageFault, PageSource, WalkFault, mark};
 
 /// The first four bytes, as a number.
 const FREE: u32 = 0x4600_0000;
@@ -24,38 +24,45 @@ const NEXT: usize = 4;
 const NEXT_END: usize = 8;
 
 /// The page behind a free page, to which another page leads.
-fn behind(pages: &[[u8; PAGE_SIZE]], from: u32, n: u32) -> Result<u32, WalkFault>
-    ensures leads { IfOk result (λ next. IsFreePageAt pages.now n next) }
-    ensures refused { IfErr result (RefusesRightly (IsFreePage pages.now n)) }
-    ensures told { IfErr result (TellsOfNext pages.now from n) }
+fn behind<P: PageSource>(pages: &mut P, from: u32, n: u32) -> Result<u32, WalkFault>
+    ensures leads { (list : List (List ℕ)) → P.has pages.new list
+        → IfOk result (λ next. IsFreePageAt list n next) }
+    ensures refused { (list : List (List ℕ)) → P.has pages.new list
+        → IfErr result (RefusesRightly (IsFreePage list n)) }
+    ensures told { (list : List (List ℕ)) → P.has pages.new list
+        → IfErr result (TellsOfNext list from n) }
+    ensures before { (list : List (List ℕ)) → P.has pages.new list → P.has pages.old list }
 {
-    if n == 0 || n as usize >= pages.len() {
+    if n == 0 {
         return Err(WalkFault::of_page(PageFault::Chain, from));
     }
-    let page = &pages[n as usize];
+    let Some(page) = pages.page(n) else {
+        return Err(WalkFault::of_page(PageFault::Chain, from));
+    };
     if BigEndian::read_u32(&page[..NEXT]) != FREE {
         return Err(WalkFault::of_page(PageFault::Chain, n));
     }
     Ok(BigEndian::read_u32(&page[NEXT..NEXT_END]))
 }
 
-/// Walks the chain of free pages, of which there are so many, over the pages of a file, as they
-/// were read, and marks them as reached.
+/// Walks the chain of free pages of a file, of which there are so many, and marks them as reached.
 ///
 /// Shared where one of them was reached before; Chain where the pages are no such chain: at a page
 /// that is not free, or at the page that leads nowhere or too far, which is page 0 for the first.
 /// At a fault some of its pages may be marked.
-pub fn walk_free(
-    pages: &[[u8; PAGE_SIZE]],
+pub fn walk_free<P: PageSource>(
+    pages: &mut P,
     first: u32,
     count: u32,
     reached: &mut [bool],
 ) -> Result<(), WalkFault>
-    ensures walked { OnOk result (FreeWalked pages.now first count
-        (marked_in reached.old) (marked_in reached.new)) }
-    ensures refused { IfErr result (RefusesRightly (FreeAhead pages.now first count reached.old)) }
-    ensures told { IfErr result
-        (TellsOfFault (IsFreeFault pages.now first count reached.old)) }
+    ensures walked { (list : List (List ℕ)) → P.has pages.new list
+        → OnOk result (FreeWalked list first count (marked_in reached.old) (marked_in reached.new)) }
+    ensures refused { (list : List (List ℕ)) → P.has pages.new list
+        → IfErr result (RefusesRightly (FreeAhead list first count reached.old)) }
+    ensures told { (list : List (List ℕ)) → P.has pages.new list
+        → IfErr result (TellsOfFault (IsFreeFault list first count reached.old)) }
+    ensures before { (list : List (List ℕ)) → P.has pages.new list → P.has pages.old list }
 {
     let mut from = 0;
     let mut at = first;

@@ -10,7 +10,7 @@ ghost use Rattle.page_walks.specs.Rows.{leaves_in, levels_in, leaf_level, inner_
 use crate::level::{Level, TreeCounts};
 use pages::PAGE_SIZE;
 use std::alloc::{AllocError, Global};
-use tree_node::{InnerView, LeafView, Shape};
+use tree_node::{InnerView, LeafView, NodeShape};
 
 /// Adds a page.
 fn push_page(row: &mut Vec<u32>, n: u32) -> Result<(), AllocError>
@@ -22,7 +22,7 @@ fn push_page(row: &mut Vec<u32>, n: u32) -> Result<(), AllocError>
 /// Adds the children of an inner node.
 fn add_children(
     page: &[u8; PAGE_SIZE],
-    shape: Shape,
+    shape: NodeShape,
     below: &mut Vec<u32>,
 ) -> Result<(), AllocError>
     requires { IsInner shape page.now }
@@ -39,7 +39,7 @@ fn add_children(
 fn children_of(
     alloc: Global,
     pages: &[[u8; PAGE_SIZE]],
-    shape: Shape,
+    shape: NodeShape,
     row: &[u32],
 ) -> Result<Vec<u32>, AllocError>
     requires { Each (IsInnerIn shape pages.now) row.now }
@@ -53,7 +53,7 @@ fn children_of(
 }
 
 /// How many entries these leaves have.
-fn count_entries(pages: &[[u8; PAGE_SIZE]], shape: Shape, leaves: &[u32]) -> u64
+fn count_entries(pages: &[[u8; PAGE_SIZE]], shape: NodeShape, leaves: &[u32]) -> u64
     requires { AreFewLeaves shape pages.now leaves.now }
     ensures { result ≡ length (entries_in_row shape pages.now leaves.now) }
 {
@@ -66,7 +66,7 @@ fn count_entries(pages: &[[u8; PAGE_SIZE]], shape: Shape, leaves: &[u32]) -> u64
 }
 
 /// What a row of inner nodes has, whose children these are: a node has one child more than separators.
-fn inner_counts(pages: &[[u8; PAGE_SIZE]], shape: Shape, row: &[u32], below: &[u32]) -> Level
+fn inner_counts(pages: &[[u8; PAGE_SIZE]], shape: NodeShape, row: &[u32], below: &[u32]) -> Level
     requires { below.now ≡ children_in shape pages.now row.now }
     ensures { result ≡ inner_level shape pages.now row.now }
 {
@@ -78,7 +78,7 @@ fn inner_counts(pages: &[[u8; PAGE_SIZE]], shape: Shape, row: &[u32], below: &[u
 }
 
 /// What a row of leaves has.
-fn leaf_counts(pages: &[[u8; PAGE_SIZE]], shape: Shape, row: &[u32]) -> Level
+fn leaf_counts(pages: &[[u8; PAGE_SIZE]], shape: NodeShape, row: &[u32]) -> Level
     requires { AreFewLeaves shape pages.now row.now }
     ensures { result ≡ leaf_level shape pages.now row.now }
 {
@@ -100,7 +100,7 @@ fn push_level(levels: &mut Vec<Level>, level: Level) -> Result<(), AllocError>
 fn add_rows(
     alloc: Global,
     pages: &[[u8; PAGE_SIZE]],
-    shape: Shape,
+    shape: NodeShape,
     height: u8,
     row: Vec<u32>,
     levels: &mut Vec<Level>,
@@ -125,7 +125,7 @@ fn add_rows(
 fn add_tree(
     alloc: Global,
     pages: &[[u8; PAGE_SIZE]],
-    shape: Shape,
+    shape: NodeShape,
     height: u8,
     root: u32,
     levels: &mut Vec<Level>,
@@ -150,7 +150,7 @@ fn add_tree(
 pub fn count_tree(
     alloc: Global,
     pages: &[[u8; PAGE_SIZE]],
-    shape: Shape,
+    shape: NodeShape,
     height: u8,
     root: u32,
 ) -> Result<TreeCounts, AllocError>

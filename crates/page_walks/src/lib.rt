@@ -1,7 +1,8 @@
-//! Walks over the pages of a file that was read into a list: of a tree, and of the free pages; and
-//! counts over the pages of a tree that a walk has found.
+//! Walks over the pages of a file: of a tree, and of the free pages; and counts over the pages of a
+//! tree that a walk has found.
 //!
-//! A walk finds that a part of the file stands as its calls keep it, and marks the pages of the
+//! A walk asks a `PageSource` for each page when it wants it: a list in memory, or whatever reads
+//! them. It finds that a part of the file stands as its calls keep it, and marks the pages of the
 //! part, or says why it does not stand. Nothing is asked of what the pages hold. What an entry says
 //! besides its key is not known here. A count tells the pages and entries of each level of a tree,
 //! and how many entries have one value at most.
@@ -25,5 +26,5 @@ pub use leaf::Leaf;
 pub use level::{Level, TreeCounts};
 pub use levels::{count_tree, level_laws};
 pub use runs::{longest_run, run_laws};
-pub use spot::Spot;
+pub use spot::LeafSpot;
 pub use tree_walk::walk_tree;

@@ -10,7 +10,7 @@ ghost use Rattle.page_walks.specs.Order.{AreSeparatorsBetween, AreLeafKeysInside
 ghost use Rattle.page_walks.specs.Order.{IsLeafKeyAstray, IsSeparatorAstray};
 
 use pages::PAGE_SIZE;
-use tree_node::{InnerView, LeafView, Shape};
+use tree_node::{InnerView, LeafView, NodeShape};
 
 /// The bytes `a` come before the bytes `b`.
 fn is_below(a: &[u8], b: &[u8]) -> bool
@@ -54,7 +54,7 @@ fn is_from(key: &[u8], low: Option<&[u8]>) -> bool
 /// is below the low bound.
 pub fn check_keys(
     page: &[u8; PAGE_SIZE],
-    shape: Shape,
+    shape: NodeShape,
     low: Option<&[u8]>,
     high: Option<&[u8]>,
 ) -> Result<(), u32>
@@ -90,7 +90,7 @@ pub fn check_keys(
 /// bound.
 pub fn check_separators(
     page: &[u8; PAGE_SIZE],
-    shape: Shape,
+    shape: NodeShape,
     low: Option<&[u8]>,
     high: Option<&[u8]>,
 ) -> Result<(), u32>

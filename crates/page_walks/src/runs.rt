@@ -9,7 +9,7 @@ ghost use Rattle.page_walks.specs.Runs.{values_of, AreTogether, IsGreatestCount,
 ghost use Rattle.page_walks.specs.Runs.{CanGoThrough, TreesKeepTogether};
 
 use pages::PAGE_SIZE;
-use tree_node::{LeafView, Shape};
+use tree_node::{LeafView, NodeShape};
 
 /// The values so far: the last one, how many of them are equal to it, and how many are equal to one
 /// another at most.
@@ -48,7 +48,7 @@ fn with_value<'a>(run: Run<'a>, value: &'a [u8]) -> Run<'a>
 }
 
 /// The values so far with those of a leaf's entries, so many bytes of each.
-fn with_leaf<'a>(run: Run<'a>, page: &'a [u8; PAGE_SIZE], shape: Shape, width: u16) -> Run<'a>
+fn with_leaf<'a>(run: Run<'a>, page: &'a [u8; PAGE_SIZE], shape: NodeShape, width: u16) -> Run<'a>
     requires { CanGoThrough run width shape page.now }
     ensures { TakesValues (values_of width (leaf_entries shape page.now)) run.entry result }
 {
@@ -62,7 +62,7 @@ fn with_leaf<'a>(run: Run<'a>, page: &'a [u8; PAGE_SIZE], shape: Shape, width: u
 
 /// How many entries of these leaves have one value at most. A value has so many bytes, with which
 /// an entry begins.
-pub fn longest_run(pages: &[[u8; PAGE_SIZE]], shape: Shape, width: u16, leaves: &[u32]) -> u64
+pub fn longest_run(pages: &[[u8; PAGE_SIZE]], shape: NodeShape, width: u16, leaves: &[u32]) -> u64
     requires leaves { Each (IsLeafIn shape pages.now) leaves.now }
     requires narrow { width ≤ shape.entry }
     requires few { length (entries_in_row shape pages.now leaves.now) < 2 ^ 64 }

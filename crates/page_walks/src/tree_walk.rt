@@ -1,10 +1,11 @@
-//! A tree over the pages of a file that were read.
+//! A tree over the pages of a file.
 
-ghost use Rattle.std.specs.Prelude.{◌≡◌, ◌<◌, min, IfErr, IfOk, OnOk, length, slice_index_or, []};
+ghost use Rattle.std.specs.Prelude.{◌≡◌, min, IfErr, IfOk, OnOk, Some, List, ℕ};
 ghost use Rattle.pages.specs.Each.{Each};
 ghost use Rattle.bplus_tree.specs.Fields.{tree_shape};
 ghost use Rattle.tree_node.specs.Leaf.{IsLeaf, leaf_room};
 ghost use Rattle.tree_node.specs.Fill.{least_entries};
+ghost use Rattle.pages.specs.PageList.{pages_in};
 ghost use Rattle.pages.specs.Refused.{RefusesRightly};
 ghost use Rattle.page_walks.specs.Spots.{IsLeafThere};
 ghost use Rattle.pages.specs.Told.{TellsOfFault};
@@ -16,9 +17,9 @@ ghost use Rattle.page_walks.specs.TreeWalk.{IsInnerWithin, IsLeafWithin, AddsLea
 use crate::leaf::{Leaf, have_entries, push};
 use crate::order::{check_keys, check_separators};
 use bplus_tree::Tree;
-use pages::{PAGE_SIZE, PageFault, WalkFault, mark};
+use pages::{PAGE_SIZE, PageFault, PageSource, WalkFault, mark};
 use std::alloc::Global;
-use tree_node::{InnerView, LeafView, Shape, is_inner, is_leaf};
+use tree_node::{InnerView, LeafView, NodeShape, is_inner, is_leaf};
 
 /// What the place of a node requires: how many entries or separators it has at least, and between
 /// which keys its own lie; and the page that leads there.
@@ -31,7 +32,12 @@ struct Limits<'a> {
 }
 
 /// Page n is a leaf within the limits, whose keys rise.
-fn check_leaf(page: &[u8; PAGE_SIZE], n: u32, shape: Shape, limits: Limits) -> Result<(), WalkFault>
+fn check_leaf(
+    page: &[u8; PAGE_SIZE],
+    n: u32,
+    shape: NodeShape,
+    limits: Limits,
+) -> Result<(), WalkFault>
     ensures fits { OnOk result (IsLeafWithin shape page.now limits.entry) }
     ensures refused { IfErr result (RefusesRightly (IsLeafWithin shape page.now limits.entry)) }
     ensures told { IfErr result
@@ -54,7 +60,7 @@ fn check_leaf(page: &[u8; PAGE_SIZE], n: u32, shape: Shape, limits: Limits) -> R
 fn check_inner(
     page: &[u8; PAGE_SIZE],
     n: u32,
-    shape: Shape,
+    shape: NodeShape,
     limits: Limits,
 ) -> Result<(), WalkFault>
     ensures fits { OnOk result (IsInnerWithin shape page.now limits.entry) }
@@ -76,7 +82,7 @@ fn check_inner(
 }
 
 /// How many entries or separators a node must have that is not the root, with so many levels below it.
-fn least_in(shape: Shape, levels: u8) -> usize
+fn least_in(shape: NodeShape, levels: u8) -> usize
     ensures { result ≡ least_entries shape levels }
 {
     if levels == 0 {
@@ -93,21 +99,21 @@ fn least_in_root(levels: u8) -> usize
     levels.min(1) as usize
 }
 
-/// Adds a leaf, where it has entries.
+/// Adds the leaf of a page that has these bytes, where it has entries.
 fn push_leaf(
-    pages: &[[u8; PAGE_SIZE]],
-    shape: Shape,
+    bytes: &[u8; PAGE_SIZE],
+    shape: NodeShape,
     page: u32,
     leaves: &mut Vec<Leaf>,
 ) -> Result<(), WalkFault>
-    requires page { page < length pages.now }
-    requires leaf { IsLeaf shape (slice_index_or pages.now page []) }
-    ensures adds { OnOk result (AddsLeaf shape pages.now page leaves.old.items leaves.new.items) }
-    ensures there { OnOk result (Each (IsLeafThere shape pages.now) leaves.old.items
-        → Each (IsLeafThere shape pages.now) leaves.new.items) }
+    requires leaf { IsLeaf shape bytes.now }
+    ensures adds { (list : List (List ℕ)) → pages_in list page ≡ Some bytes.now
+        → OnOk result (AddsLeaf shape list page leaves.old.items leaves.new.items) }
+    ensures there { (list : List (List ℕ)) → pages_in list page ≡ Some bytes.now
+        → OnOk result (Each (IsLeafThere shape list) leaves.old.items
+        → Each (IsLeafThere shape list) leaves.new.items) }
     ensures memory { IfErr result (λ fault. fault ≡ WalkFault.Memory) }
 {
-    let bytes = &pages[page as usize];
     let count = LeafView { page: bytes, shape }.count() as u16;
     if count == 0 {
         return Ok(());
@@ -116,37 +122,43 @@ fn push_leaf(
 }
 
 /// Walks what is below a page, with so many levels: marks its pages, and adds its leaves.
-fn walk_below(
-    pages: &[[u8; PAGE_SIZE]],
-    shape: Shape,
+fn walk_below<P: PageSource>(
+    pages: &mut P,
+    shape: NodeShape,
     page: u32,
     levels: u8,
     limits: Limits,
     reached: &mut [bool],
     leaves: &mut Vec<Leaf>,
 ) -> Result<(), WalkFault>
-    ensures walked { OnOk result (WalksBelow shape pages.now levels page limits.entry
+    ensures walked { (list : List (List ℕ)) → P.has pages.new list
+        → OnOk result (WalksBelow shape list levels page limits.entry
         (reached.old, leaves.old.items) (reached.new, leaves.new.items)) }
-    ensures there { OnOk result (Each (IsLeafThere shape pages.now) leaves.old.items
-        → Each (IsLeafThere shape pages.now) leaves.new.items) }
-    ensures marks { OnOk result (MarksBelow shape pages.now (node_place levels page limits.entry)
+    ensures there { (list : List (List ℕ)) → P.has pages.new list
+        → OnOk result (Each (IsLeafThere shape list) leaves.old.items
+        → Each (IsLeafThere shape list) leaves.new.items) }
+    ensures marks { (list : List (List ℕ)) → P.has pages.new list
+        → OnOk result (MarksBelow shape list (node_place levels page limits.entry)
         reached.old reached.new) }
-    ensures refused { IfErr result
-        (RefusesRightly (AwaitsBelow shape pages.now levels page limits.entry reached.old)) }
-    ensures told { IfErr result (TellsOfFault (IsSomewhereBelow shape pages.now
-        (node_place levels page limits.entry) reached.old)) }
+    ensures refused { (list : List (List ℕ)) → P.has pages.new list → IfErr result
+        (RefusesRightly (AwaitsBelow shape list levels page limits.entry reached.old)) }
+    ensures told { (list : List (List ℕ)) → P.has pages.new list → IfErr result
+        (TellsOfFault (IsSomewhereBelow shape list (node_place levels page limits.entry) reached.old)) }
+    ensures before { (list : List (List ℕ)) → P.has pages.new list → P.has pages.old list }
 {
-    if page as usize >= pages.len() {
+    let Some(bytes) = pages.page(page) else {
         return Err(WalkFault::of_page(PageFault::Node, limits.parent));
-    }
+    };
     mark(reached, page)?;
-    let bytes = &pages[page as usize];
     if levels == 0 {
-        check_leaf(bytes, page, shape, limits)?;
-        return push_leaf(pages, shape, page, leaves);
+        check_leaf(&bytes, page, shape, limits)?;
+        return push_leaf(&bytes, shape, page, leaves);
     }
-    check_inner(bytes, page, shape, limits)?;
-    let node = InnerView { page: bytes, shape };
+    check_inner(&bytes, page, shape, limits)?;
+    let node = InnerView {
+        page: &bytes,
+        shape,
+    };
     let count = node.count();
     let least = least_in(shape, levels - 1);
     let mut low = limits.low;
@@ -188,26 +200,29 @@ fn walk_below(
     )
 }
 
-/// Walks a tree over the pages of a file, as they were read. Answers its leaves that have entries,
-/// in order, and marks its pages as reached.
+/// Walks a tree over the pages of a file. Answers its leaves that have entries, in order, and marks
+/// its pages as reached. Each level of the tree keeps one page while it is walked.
 ///
 /// Memory; Shared where a page of the tree was reached before; Node, Order or Count where the pages
 /// are no such tree. A root that is not there is told at page 0, a child at its parent, and the
 /// count at the root. At a fault some of its pages may be marked.
-pub fn walk_tree(
+pub fn walk_tree<P: PageSource>(
     alloc: Global,
-    pages: &[[u8; PAGE_SIZE]],
+    pages: &mut P,
     tree: &Tree,
     reached: &mut [bool],
 ) -> Result<Vec<Leaf>, WalkFault>
-    ensures walked { IfOk result
-        (λ leaves. WalksTree tree.now pages.now reached.old reached.new leaves.items) }
-    ensures there { IfOk result
-        (λ leaves. Each (IsLeafThere (tree_shape tree.now) pages.now) leaves.items) }
-    ensures marks { OnOk result (MarksBelow (tree_shape tree.now) pages.now (root_place tree.now)
-        reached.old reached.new) }
-    ensures refused { IfErr result (RefusesRightly (TreeUnmarked tree.now pages.now reached.old)) }
-    ensures told { IfErr result (TellsOfFault (IsTreeFault tree.now pages.now reached.old)) }
+    ensures walked { (list : List (List ℕ)) → P.has pages.new list → IfOk result
+        (λ leaves. WalksTree tree.now list reached.old reached.new leaves.items) }
+    ensures there { (list : List (List ℕ)) → P.has pages.new list → IfOk result
+        (λ leaves. Each (IsLeafThere (tree_shape tree.now) list) leaves.items) }
+    ensures marks { (list : List (List ℕ)) → P.has pages.new list
+        → OnOk result (MarksBelow (tree_shape tree.now) list (root_place tree.now) reached.old reached.new) }
+    ensures refused { (list : List (List ℕ)) → P.has pages.new list
+        → IfErr result (RefusesRightly (TreeUnmarked tree.now list reached.old)) }
+    ensures told { (list : List (List ℕ)) → P.has pages.new list
+        → IfErr result (TellsOfFault (IsTreeFault tree.now list reached.old)) }
+    ensures before { (list : List (List ℕ)) → P.has pages.new list → P.has pages.old list }
 {
     let mut leaves = Vec::new(alloc);
     let limits = Limits {

@@ -6,3 +6,4 @@ pub mod MarksLemmas
 pub mod PartLemmas
 pub mod RefusedLemmas
 pub mod ToldLemmas
+pub mod SourceLemmas

@@ -18,6 +18,7 @@ mod law;
 mod marks;
 mod page_fault;
 mod pages;
+mod source;
 mod walk_fault;
 
 pub use copies::{copy, store};
@@ -26,6 +27,7 @@ pub use law::marks_part_the_pages;
 pub use marks::{all_marked, mark};
 pub use page_fault::PageFault;
 pub use pages::Pages;
+pub use source::{PageList, PageSource};
 pub use walk_fault::WalkFault;
 
 /// The bytes of a page.

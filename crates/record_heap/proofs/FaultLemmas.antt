@@ -16,7 +16,7 @@ use Rattle.pages.specs.PageList.{pages_in}
 use Rattle.pages.specs.Refused.{RefusesRightly}
 use Rattle.pages.specs.Told.{TellsOfFault}
 use Rattle.record_heap.specs.declared.heap.Heap.{Heap}
-use Rattle.record_heap.specs.declared.shape.Shape.{Shape}
+use Rattle.record_heap.specs.declared.shape.SlotShape.{SlotShape}
 use Rattle.record_heap.specs.declared.shape.Place.{Place}
 use Rattle.record_heap.specs.declared.slot_marks.SlotMarks.{SlotMarks}
 use Rattle.record_heap.specs.Slot.{room}
@@ -80,7 +80,7 @@ module _ (list : List (List ℕ)) (first from at : ℕ) (marks now : List Bool) 
 -- ---- the slots of pages
 
 -- a slot of a page that is neither free nor in use
-pub wrong_of_page : (shape : Shape) (page : List ℕ) (n : ℕ) (marks now : SlotMarks) (place : Place) (fault : WalkFault) → place.page ≡ n → place.slot < room shape → SameSlots marks now
+pub wrong_of_page : (shape : SlotShape) (page : List ℕ) (n : ℕ) (marks now : SlotMarks) (place : Place) (fault : WalkFault) → place.page ≡ n → place.slot < room shape → SameSlots marks now
     → fault ≡ At Chain (slot_place place) → RefusesRightly (HasMark now place × IsFreeOrUsed shape (slot_at shape page place.slot)) fault → TellsOfChain (IsWrongOfPage shape page n marks) fault
 wrong_of_page shape page n marks now place fault on within same is never = subst (TellsOfChain (IsWrongOfPage shape page n marks)) (sym is) (
   refl,
@@ -94,7 +94,7 @@ wrong_of_page shape page n marks now place fault on within same is never = subst
 )
 
 -- so a slot of one of these pages is
-pub wrong_of_own : (shape : Shape) (list : List (List ℕ)) (own : List ℕ) (n : ℕ) (marks now : SlotMarks) (fault : WalkFault) → IsOneOf own n → n < length list → SameSlots marks now
+pub wrong_of_own : (shape : SlotShape) (list : List (List ℕ)) (own : List ℕ) (n : ℕ) (marks now : SlotMarks) (fault : WalkFault) → IsOneOf own n → n < length list → SameSlots marks now
     → ((p : Place) → IsOneOf own p.page → p.slot < room shape → HasMark marks p) → TellsOfChain (IsWrongOfPage shape (get_or list n []) n now) fault → TellsOfChain (IsWrongSlot shape list own) fault
 wrong_of_own shape list own n marks now Memory of inside same has h = tt
 wrong_of_own shape list own n marks now (At what place) of inside same has h =
@@ -118,7 +118,7 @@ last_slot_more [] p = refl
 last_slot_more (q ∷ []) p = refl
 last_slot_more (q ∷ r ∷ ps) p = last_slot_more (r ∷ ps) p
 
-module _ (shape : Shape) (list : List (List ℕ)) (first : Place) (marks now : SlotMarks) (free : List Place) (at : Place) (from : FaultPlace) (walked : SlotsWalked shape (pages_in list) first at marks now free)
+module _ (shape : SlotShape) (list : List (List ℕ)) (first : Place) (marks now : SlotMarks) (free : List Place) (at : Place) (from : FaultPlace) (walked : SlotsWalked shape (pages_in list) first at marks now free)
     (some : at.page ≢ 0) (last : last_slot_place free ≡ from) where
   link : (place : FaultPlace) → IsFaultBehindSlots shape list marks free at place → IsLinkFault shape list first marks place
   link place wrong = record {

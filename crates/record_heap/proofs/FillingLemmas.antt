@@ -9,7 +9,7 @@ use Rattle.io_state.specs.declared.fault.Fault.TheVariants.{Damage}
 use Rattle.pages.specs.Each.{Each}
 use Rattle.pages.specs.PageMap.{PageMap, Takes, Writes}
 use Rattle.pages.specs.PagesState.{PagesState}
-use Rattle.record_heap.specs.declared.shape.Shape.{Shape}
+use Rattle.record_heap.specs.declared.shape.SlotShape.{SlotShape}
 use Rattle.record_heap.specs.declared.shape.Place.{Place}
 use Rattle.record_heap.specs.declared.heap.Heap.{Heap}
 use Rattle.record_heap.specs.declared.builder.HeapBuilder.{HeapBuilder}
@@ -123,10 +123,10 @@ append_end : {X : Type 0} (xs : List X) → xs ++ [] ≡ xs
 append_end [] = refl
 append_end (x ∷ xs) = ap (λ l. x ∷ l) (append_end xs)
 
-no_next : (shape : Shape) (page used : ℕ) → room shape ≤ used → (next_slot shape page used).page ≡ 0
+no_next : (shape : SlotShape) (page used : ℕ) → room shape ≤ used → (next_slot shape page used).page ≡ 0
 no_next shape page used full = let more : nat_lt used (room shape) ≡ false = le-ltb used (room shape) full in rw more refl
 
-next_is : (shape : Shape) (page used : ℕ) → used < room shape → next_slot shape page used ≡ record { page = page; slot = used }
+next_is : (shape : SlotShape) (page used : ℕ) → used < room shape → next_slot shape page used ≡ record { page = page; slot = used }
 next_is shape page used less = let more : nat_lt used (room shape) ≡ true = lt-ltb used (room shape) less in rw more refl
 
 pub page_turned : (old new : HeapBuilder) (before mid after : PagesState) (slots : Slots) (own : List ℕ) (places : List Place) (n : ℕ) (bytes : List ℕ)
@@ -146,7 +146,7 @@ page_turned old new before mid after slots own places n bytes f w full within so
     let stands' : HeapStands (heap_with shape n (next_slot shape n new.used)) now slots (n ∷ own) =
     subst (λ (u : ℕ). HeapStands (heap_with shape n (next_slot shape n u)) now slots (n ∷ own)) (sym used_is) stands in
     let stands'' : HeapStands (built_heap new) (with_page after.live new.first new.page) slots (n ∷ own) =
-    subst (λ (s : Shape). HeapStands (heap_with s new.first (next_slot s new.first new.used)) (with_page after.live new.first new.page) slots (n ∷ own)) (sym shape_is)
+    subst (λ (s : SlotShape). HeapStands (heap_with s new.first (next_slot s new.first new.used)) (with_page after.live new.first new.page) slots (n ∷ own)) (sym shape_is)
     (subst (λ (k : ℕ). HeapStands (heap_with shape k (next_slot shape k new.used)) (with_page after.live k new.page) slots (n ∷ own)) (sym first_is) stands') in
     let outside = free_outside mid.live own n takes.free w.live in
     let live = each_pairs (λ m. IsSome (mid.live m)) (λ m. n ≢ m) (λ m. IsSome (after.live m))
@@ -161,7 +161,7 @@ page_turned old new before mid after slots own places n bytes f w full within so
         begun = λ less. rw first_is some;
         order = f.order ∙ ap (λ (u : ℕ). places_filled (room shape) u own) all_used ∙ sym (append_end (places_filled (room shape) (room shape) own))
             ∙ ap (λ (u : ℕ). places_filled (room shape) (room shape) own ++ rising n 0 u) (sym used_is)
-            ∙ ap (λ (s : Shape). places_filled (room s) new.used (n ∷ own)) (sym shape_is);
+            ∙ ap (λ (s : SlotShape). places_filled (room s) new.used (n ∷ own)) (sym shape_is);
       };
       changes = changes_on before.live mid.live after.live own own (n ∷ own) w.changes (changes_grown mid.live after.live own bytes n w.live f.stands.apart takes);
       taken = omega arith;
@@ -206,7 +206,7 @@ places_more pages wide first used (n ∷ ns) some chain =
         rising_last n 0 used ∙ ap (λ (m : ℕ). let q : Place = record { page = n; slot = m } in rising n 0 used ++ q ∷ []) here
 
 -- the slots behind the written one are linked still
-pub linked_behind : (shape : Shape) (n used : ℕ) (old new : List ℕ) (P : List ℕ → Type 0) → AreLinkedFrom shape n used old → Edits shape old new used P → AreLinkedFrom shape n (used + 1) new
+pub linked_behind : (shape : SlotShape) (n used : ℕ) (old new : List ℕ) (P : List ℕ → Type 0) → AreLinkedFrom shape n used old → Edits shape old new used P → AreLinkedFrom shape n (used + 1) new
 linked_behind shape n used old new P linked e i low high =
     let other : i ≢ used = λ same. (omega (arith, same)) in
     ap behind_in (edited_there shape old new used i P e other) ∙ linked i (omega arith) high
@@ -242,7 +242,7 @@ record_put old new pages slots own places bytes f less linked e shape_is first_i
     let stands' : HeapStands (heap_with shape old.first (next_slot shape old.first new.used)) after (put_slot slots place (Some bytes)) own =
     subst (λ (u : ℕ). HeapStands (heap_with shape old.first (next_slot shape old.first u)) after (put_slot slots place (Some bytes)) own) (sym used_is) stands in
     let stands'' : HeapStands (built_heap new) (with_page pages new.first new.page) (put_slot slots place (Some bytes)) own =
-    subst (λ (s : Shape). HeapStands (heap_with s new.first (next_slot s new.first new.used)) (with_page pages new.first new.page) (put_slot slots place (Some bytes)) own) (sym shape_is)
+    subst (λ (s : SlotShape). HeapStands (heap_with s new.first (next_slot s new.first new.used)) (with_page pages new.first new.page) (put_slot slots place (Some bytes)) own) (sym shape_is)
     (subst (λ (k : ℕ). HeapStands (heap_with shape k (next_slot shape k new.used)) (with_page pages k new.page) (put_slot slots place (Some bytes)) own) (sym first_is) stands') in (
       t.0.none,
       record {
@@ -251,7 +251,7 @@ record_put old new pages slots own places bytes f less linked e shape_is first_i
         some = f.some;
         begun = λ more. rw first_is some;
         order = ap (λ (l : List Place). l ++ place ∷ []) f.order ∙ places_more before (room shape) old.first old.used own some f.stands.chain
-            ∙ ap (λ (u : ℕ). places_filled (room shape) u own) (sym used_is) ∙ ap (λ (s : Shape). places_filled (room s) new.used own) (sym shape_is);
+            ∙ ap (λ (u : ℕ). places_filled (room shape) u own) (sym used_is) ∙ ap (λ (s : SlotShape). places_filled (room s) new.used own) (sym shape_is);
       },
     )
 

@@ -12,7 +12,7 @@ use Rattle.pages.specs.PageList.{pages_in}
 use Rattle.pages.proofs.EachLemmas.{each_weaker, outside_symm}
 use Rattle.pages.proofs.RefusedLemmas.{still_unmarked}
 use Rattle.record_heap.specs.declared.heap.Heap.{Heap}
-use Rattle.record_heap.specs.declared.shape.Shape.{Shape}
+use Rattle.record_heap.specs.declared.shape.SlotShape.{SlotShape}
 use Rattle.record_heap.specs.declared.shape.Place.{Place}
 use Rattle.record_heap.specs.declared.slot_marks.SlotMarks.{SlotMarks}
 use Rattle.record_heap.specs.Slot.{room}
@@ -221,7 +221,7 @@ module _ (heap : Heap) (list : List (List ℕ)) (own : List ℕ) (stands : OwnSt
 
 -- ---- the chain of free slots
 
-module _ (shape : Shape) (list : List (List ℕ)) where
+module _ (shape : SlotShape) (list : List (List ℕ)) where
   record FreeOpened (at : Place) (most : ℕ) (marks : SlotMarks) : Type 0 where
     pub here : IsMarkedFree shape list marks at
     pub next : Place

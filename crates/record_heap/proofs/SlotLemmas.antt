@@ -6,7 +6,7 @@ use Rattle.std.proofs.lemmas.List.{append-nil, take_at, drop_at, drop-drop}
 use borrow.Rule.Slice.PartMut.{put_mid}
 use Rattle.byteorder.specs.Endian.{big_number, big_bytes}
 use Rattle.byteorder.specs.Numbers.{big_number-reads_back}
-use Rattle.record_heap.specs.declared.shape.Shape.{Shape}
+use Rattle.record_heap.specs.declared.shape.SlotShape.{SlotShape}
 use Rattle.record_heap.specs.declared.shape.Place.{Place}
 use Rattle.record_heap.specs.Slot.{head, is_varying, length_in_slot, used_in, behind_in}
 
@@ -33,21 +33,21 @@ behind_is slot b4 b2 rest next is first second small small' =
     let tag : (slice_index slot 0 == 0) ≡ true = ap (λ (l : List ℕ). slice_index l 0 == 0) is in
     rw tag (ap Some (ap (λ (n : ℕ). let it : Place = record { page = n; slot = big_number 2 (drop 5 slot) } in it) p ∙ ap (λ (n : ℕ). let it : Place = record { page = next.page; slot = n } in it) s))
 
-used_when : (shape : Shape) (slot bytes : List ℕ) (n : ℕ) → (slice_index slot 0 == 1) ≡ true → length_in_slot shape slot ≡ n → shape.least ≤ n → n ≤ shape.greatest
+used_when : (shape : SlotShape) (slot bytes : List ℕ) (n : ℕ) → (slice_index slot 0 == 1) ≡ true → length_in_slot shape slot ≡ n → shape.least ≤ n → n ≤ shape.greatest
     → take (shape.stamps + n) (drop (head shape) slot) ≡ bytes → used_in shape slot ≡ Some bytes
 used_when shape slot bytes n tag long low high is =
     let a : nat_le shape.least (length_in_slot shape slot) ≡ true = ap (nat_le shape.least) long ∙ le-leb shape.least n low in
     let b : nat_le (length_in_slot shape slot) shape.greatest ≡ true = ap (λ (k : ℕ). nat_le k shape.greatest) long ∙ le-leb n shape.greatest high in
     rw (tag, a, b) (ap Some (ap (λ (k : ℕ). take (shape.stamps + k) (drop (head shape) slot)) long ∙ is))
 
-pub used_fixed : (shape : Shape) (slot bytes rest : List ℕ) → slot ≡ 1 ∷ (bytes ++ rest) → shape.least ≡ shape.greatest → length bytes ≡ shape.stamps + shape.greatest
+pub used_fixed : (shape : SlotShape) (slot bytes rest : List ℕ) → slot ≡ 1 ∷ (bytes ++ rest) → shape.least ≡ shape.greatest → length bytes ≡ shape.stamps + shape.greatest
     → used_in shape slot ≡ Some bytes
 used_fixed shape slot bytes rest is same long =
     let fixed : is_varying shape ≡ false = le-ltb shape.least shape.greatest (omega arith) in
     used_when shape slot bytes shape.greatest (ap (λ (l : List ℕ). slice_index l 0 == 1) is) (rw fixed refl) (omega arith) (omega arith)
     (rw fixed (ap (λ (l : List ℕ). take (shape.stamps + shape.greatest) (drop 1 l)) is ∙ take_at bytes rest (shape.stamps + shape.greatest) long))
 
-pub used_varying : (shape : Shape) (slot b2 bytes rest : List ℕ) (n : ℕ) → slot ≡ 1 ∷ (b2 ++ (bytes ++ rest)) → shape.least < shape.greatest → b2 ≡ big_bytes 2 n → n < 256 ^ 2
+pub used_varying : (shape : SlotShape) (slot b2 bytes rest : List ℕ) (n : ℕ) → slot ≡ 1 ∷ (b2 ++ (bytes ++ rest)) → shape.least < shape.greatest → b2 ≡ big_bytes 2 n → n < 256 ^ 2
     → length bytes ≡ shape.stamps + n → shape.least ≤ n → n ≤ shape.greatest → used_in shape slot ≡ Some bytes
 used_varying shape slot b2 bytes rest n is varies second small long low high =
     let varying : is_varying shape ≡ true = lt-ltb shape.least shape.greatest varies in

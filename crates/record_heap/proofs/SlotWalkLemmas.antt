@@ -6,7 +6,7 @@ use Rattle.std.proofs.lemmas.Bool.Decides.{eqb_tells}
 use Rattle.std.proofs.Math.Dec.{eqb}
 use Rattle.pages.specs.Each.{Each}
 use Rattle.pages.specs.PageMap.{PageMap}
-use Rattle.record_heap.specs.declared.shape.Shape.{Shape}
+use Rattle.record_heap.specs.declared.shape.SlotShape.{SlotShape}
 use Rattle.record_heap.specs.declared.shape.Place.{Place}
 use Rattle.record_heap.specs.Slot.{room, head, length_in_slot, used_in, behind_in, is_used}
 use Rattle.record_heap.specs.Slots.{slot_at}
@@ -41,7 +41,7 @@ one_before (z ∷ zs) x y (inr of) = go (one_before zs x y of)
     go (inr b) = inr b
 
 -- one slot more of a page
-pub page_more : (shape : Shape) (page : List ℕ) (n i : ℕ) (m0 m m' : SlotMarks) (place : Place) → place.page ≡ n → place.slot ≡ i
+pub page_more : (shape : SlotShape) (page : List ℕ) (n i : ℕ) (m0 m m' : SlotMarks) (place : Place) → place.page ≡ n → place.slot ≡ i
     → PageMarked shape page n i m0 m → SlotMarked shape (slot_at shape page i) place m m' → PageMarked shape page n (i + 1) m0 m'
 page_more shape page n i m0 m m' place here_page here_slot marked (inl a) = record {
   free = λ p on below mark. at_place ((marked_slot m0 p ≡ true) ⊎ ((next : Place) × (behind_in (slot_at shape page p.slot) ≡ Some next))) place p
@@ -89,7 +89,7 @@ page_more shape page n i m0 m m' place here_page here_slot marked (inr b) = subs
     wider p (inr high) = inr (omega (arith, high))
 
 -- one page more
-pub marked_more : (shape : Shape) (pages : PageMap) (page own : List ℕ) (n : ℕ) (m m' : SlotMarks) → AreMarked shape pages own m → pages n ≡ Some page
+pub marked_more : (shape : SlotShape) (pages : PageMap) (page own : List ℕ) (n : ℕ) (m m' : SlotMarks) → AreMarked shape pages own m → pages n ≡ Some page
     → PageMarked shape page n (room shape) m m' → AreMarked shape pages (own ++ n ∷ []) m'
 marked_more shape pages page own n m m' marked there one = record {
   free = λ p below mark. free p below mark (eqb_tells p.page n);
@@ -123,7 +123,7 @@ marked_more shape pages page own n m m' marked there one = record {
         kept (inr found) = inr found
 
 -- one slot more of the chain
-pub slots_more : (shape : Shape) (pages : PageMap) (first at next : Place) (m0 m m' : SlotMarks) (free : List Place) → SlotsWalked shape pages first at m0 m free
+pub slots_more : (shape : SlotShape) (pages : PageMap) (first at next : Place) (m0 m m' : SlotMarks) (free : List Place) → SlotsWalked shape pages first at m0 m free
     → TakesMark shape pages at next m m' → SlotsWalked shape pages first next m0 m' (free ++ at ∷ [])
 slots_more shape pages first at next m0 m m' free walked takes =
     let off = each_weaker (λ q. (q.slot < room shape) × ((marked_slot m0 q ≡ true) × (marked_slot m q ≡ false))) (λ q. q ≢ at)
@@ -185,7 +185,7 @@ nothing_in true false o one two is = absurd (clash false two refl)
 nothing_in false d o one two is = absurd (clash false one refl)
 
 -- a free slot is not in use
-pub free_not_used : (shape : Shape) (slot : List ℕ) (next : Place) → behind_in slot ≡ Some next → used_in shape slot ≡ None
+pub free_not_used : (shape : SlotShape) (slot : List ℕ) (next : Place) → behind_in slot ≡ Some next → used_in shape slot ≡ None
 free_not_used shape slot next is = go (eqb_tells (slice_index slot 0) 0) (eqb_tells (slice_index slot 0) 1)
   where
     go : ((eqb (slice_index slot 0) 0 ≡ true) × (slice_index slot 0 ≡ 0)) ⊎ ((eqb (slice_index slot 0) 0 ≡ false) × (slice_index slot 0 ≢ 0))
@@ -195,7 +195,7 @@ free_not_used shape slot next is = go (eqb_tells (slice_index slot 0) 0) (eqb_te
     go (inl a) (inr e) = rw e.0 refl
 
 -- all slots are marked, all marks are found and taken: each is in use or in the chain
-pub slots_kept : (shape : Shape) (pages : PageMap) (own : List ℕ) (first at : Place) (m m' : SlotMarks) (free : List Place) → AreMarked shape pages own m → SlotsWalked shape pages first at m m' free
+pub slots_kept : (shape : SlotShape) (pages : PageMap) (own : List ℕ) (first at : Place) (m m' : SlotMarks) (free : List Place) → AreMarked shape pages own m → SlotsWalked shape pages first at m m' free
     → at.page ≡ 0 → ((p : Place) → marked_slot m' p ≡ false) → Each (λ n. 1 ≤ n) own → KeepsSlots (room shape) own (used_at shape pages) (behind_at shape pages) (slots_of shape pages own) first
 slots_kept shape pages own first at m m' free marked walked end none some = record {
   free = free;
@@ -224,7 +224,7 @@ slots_kept shape pages own first at m m' free marked walked end none some = reco
     found p of nothing (inr used) = absurd (some_none used.0 (sym used.1 ∙ unused p of nothing))
 
 -- a slot that is tested has what it holds
-pub used_found : (shape : Shape) (slot : List ℕ) → is_used shape slot ≡ true → (found : List ℕ) × (used_in shape slot ≡ Some found)
+pub used_found : (shape : SlotShape) (slot : List ℕ) → is_used shape slot ≡ true → (found : List ℕ) × (used_in shape slot ≡ Some found)
 used_found shape slot is = (take (shape.stamps + length_in_slot shape slot) (drop (head shape) slot), rw is refl)
 
 -- a page of the list

@@ -6,7 +6,7 @@ use Rattle.std.specs.Prelude.{true, false}
 use Rattle.pages.specs.Each.{Each}
 use Rattle.pages.specs.PageMap.{PageMap}
 use Rattle.pages.specs.Owners.{IsOutside, AreApart, ChangesPages}
-use Rattle.record_heap.specs.declared.shape.Shape.{Shape}
+use Rattle.record_heap.specs.declared.shape.SlotShape.{SlotShape}
 use Rattle.record_heap.specs.declared.shape.Place.{Place}
 use Rattle.record_heap.specs.declared.heap.Heap.{Heap}
 use Rattle.record_heap.specs.Slot.{room, used_in, behind_in}
@@ -42,14 +42,14 @@ chain_written before after first (n ∷ ns) p here there chain =
     head (inr b) = record { bytes = chain.1.1.bytes; there = there n b.1 ∙ chain.1.1.there; heap = chain.1.1.heap }
 
 -- a slot of a page that is there
-pub slot_there : (shape : Shape) (pages : PageMap) (p : Place) (n : ℕ) (bytes : List ℕ) → p.page ≡ n → pages n ≡ Some bytes → slot_of shape pages p ≡ slot_at shape bytes p.slot
+pub slot_there : (shape : SlotShape) (pages : PageMap) (p : Place) (n : ℕ) (bytes : List ℕ) → p.page ≡ n → pages n ≡ Some bytes → slot_of shape pages p ≡ slot_at shape bytes p.slot
 slot_there shape pages p n bytes e there = ap (λ (o : Option (List ℕ)). option_map_or (λ page. slot_at shape page p.slot) o []) (ap pages e ∙ there)
 
-pub slot_still : (shape : Shape) (before after : PageMap) (p : Place) → after p.page ≡ before p.page → slot_of shape after p ≡ slot_of shape before p
+pub slot_still : (shape : SlotShape) (before after : PageMap) (p : Place) → after p.page ≡ before p.page → slot_of shape after p ≡ slot_of shape before p
 slot_still shape before after p e = ap (λ (o : Option (List ℕ)). option_map_or (λ page. slot_at shape page p.slot) o []) e
 
 -- bytes alone, to pages alone: one slot of a lent page was written
-pub rewritten : (shape : Shape) (before after : PageMap) (place : Place) (old new : List ℕ) (P : List ℕ → Type 0)
+pub rewritten : (shape : SlotShape) (before after : PageMap) (place : Place) (old new : List ℕ) (P : List ℕ → Type 0)
     → before place.page ≡ Some old → after place.page ≡ Some new → ((n : ℕ) → n ≢ place.page → after n ≡ before n) → Edits shape old new place.slot P → place.slot < room shape
     → RewritesSlot shape before after place P
 rewritten shape before after place old new P lent there others e within =
@@ -68,7 +68,7 @@ rewritten shape before after place old new P lent there others e within =
         slot_there shape after q place.page new a.1 there ∙ edited_there shape old new place.slot q.slot P e b.1 ∙ sym (slot_there shape before q place.page old a.1 lent)
 
 -- a free slot was written, and the one behind it is known
-pub refills : (shape : Shape) (before after : PageMap) (place : Place) (bytes : List ℕ) (answer behind : Place) → answer ≡ behind
+pub refills : (shape : SlotShape) (before after : PageMap) (place : Place) (bytes : List ℕ) (answer behind : Place) → answer ≡ behind
     → RewritesSlot shape before after place (λ slot. used_in shape slot ≡ Some bytes) → RewritesSlot shape before after place (λ slot. (answer ≡ behind) × (used_in shape slot ≡ Some bytes))
 refills shape before after place bytes answer behind same w = record { is = (same, w.is); heap = w.heap; others = w.others; pages = w.pages }
 

@@ -10,7 +10,7 @@ use Rattle.pages.specs.declared.walk_fault.WalkFault.TheVariants.{Memory, At}
 use Rattle.pages.specs.Marks.{IsUnmarked}
 use Rattle.pages.specs.PageList.{pages_in}
 use Rattle.pages.specs.Owners.{AreApart}
-use Rattle.record_heap.specs.declared.shape.Shape.{Shape}
+use Rattle.record_heap.specs.declared.shape.SlotShape.{SlotShape}
 use Rattle.record_heap.specs.declared.shape.Place.{Place}
 use Rattle.record_heap.specs.declared.heap.Heap.{Heap}
 use Rattle.record_heap.specs.declared.slot_marks.SlotMarks.{SlotMarks}
@@ -65,7 +65,7 @@ TellsOfChain Holds Memory = ⊤
 TellsOfChain Holds (At fault place) = (fault ≡ Chain) × Holds place
 
 -- slot p is neither free nor in use, where it has its mark, and is one of page n
-pub record IsWrongOfPage (shape : Shape) (page : List ℕ) (n : ℕ) (marks : SlotMarks)
+pub record IsWrongOfPage (shape : SlotShape) (page : List ℕ) (n : ℕ) (marks : SlotMarks)
     (place : FaultPlace) : Type 0 where
   pub slot : Place
   pub on : slot.page ≡ n
@@ -74,7 +74,7 @@ pub record IsWrongOfPage (shape : Shape) (page : List ℕ) (n : ℕ) (marks : Sl
   pub wrong : HasMark marks slot → IsFreeOrUsed shape (slot_at shape page slot.slot) → ⊥
 
 -- a slot of these pages is neither free nor in use
-pub record IsWrongSlot (shape : Shape) (list : List (List ℕ)) (own : List ℕ)
+pub record IsWrongSlot (shape : SlotShape) (list : List (List ℕ)) (own : List ℕ)
     (place : FaultPlace) : Type 0 where
   pub slot : Place
   pub page : IsOneOf own slot.page
@@ -83,14 +83,14 @@ pub record IsWrongSlot (shape : Shape) (list : List (List ℕ)) (own : List ℕ)
   pub wrong : IsFreeOrUsed shape (slot_of shape (pages_in list) slot) → ⊥
 
 -- the place that leads to a slot is told; or the slot is, where it has a mark and is not free
-abbrev pub TellsOfSlot : Shape → List (List ℕ) → SlotMarks → FaultPlace → Place → WalkFault → Type 0
+abbrev pub TellsOfSlot : SlotShape → List (List ℕ) → SlotMarks → FaultPlace → Place → WalkFault → Type 0
 TellsOfSlot shape list marks from at fault = (fault ≡ At Chain from)
     ⊎ ((fault ≡ At Chain (slot_place at)) × (at.slot < room shape) × (marked_slot marks at ≡ true)
     × (IsFreeAt shape (pages_in list) at → ⊥))
 
 -- This is wrong with a slot behind marked slots of a chain: it has no mark, or is one of them; or they
 -- are as many as there are marks; or it has a mark, and is not free.
-abbrev pub IsFaultBehindSlots : Shape → List (List ℕ) → SlotMarks → List Place → Place → FaultPlace → Type 0
+abbrev pub IsFaultBehindSlots : SlotShape → List (List ℕ) → SlotMarks → List Place → Place → FaultPlace → Type 0
 IsFaultBehindSlots shape list marks free at place =
     ((place ≡ last_slot_place free) × (IsMarkedFree shape list marks at → IsOneOf free at))
     ⊎ (((place ≡ last_slot_place free) × (length free ≡ marks.slots))
@@ -98,7 +98,7 @@ IsFaultBehindSlots shape list marks free at place =
     × (IsFreeAt shape (pages_in list) at → ⊥)))
 
 -- so it is with the chain of slots from the first one on
-pub record IsLinkFault (shape : Shape) (list : List (List ℕ)) (first : Place) (marks : SlotMarks)
+pub record IsLinkFault (shape : SlotShape) (list : List (List ℕ)) (first : Place) (marks : SlotMarks)
     (place : FaultPlace) : Type 0 where
   pub free : List Place
   pub at : Place
@@ -109,14 +109,14 @@ pub record IsLinkFault (shape : Shape) (list : List (List ℕ)) (first : Place) 
   pub wrong : IsFaultBehindSlots shape list marks free at place
 
 -- the slot is a free one of these pages
-pub record IsFreeSlotOf (shape : Shape) (list : List (List ℕ)) (own : List ℕ) (p : Place) : Type 0 where
+pub record IsFreeSlotOf (shape : SlotShape) (list : List (List ℕ)) (own : List ℕ) (p : Place) : Type 0 where
   pub page : IsOneOf own p.page
   pub within : p.slot < room shape
   pub free : IsFreeAt shape (pages_in list) p
 
 -- Free slots of these pages lead from the first one to a place that is no free slot of them, or is one
 -- of those that lead there. The last of these is told, or page 0 where there is none.
-pub record BreaksFreeChain (shape : Shape) (list : List (List ℕ)) (own : List ℕ) (first : Place)
+pub record BreaksFreeChain (shape : SlotShape) (list : List (List ℕ)) (own : List ℕ) (first : Place)
     (place : FaultPlace) : Type 0 where
   pub free : List Place
   pub at : Place
@@ -127,7 +127,7 @@ pub record BreaksFreeChain (shape : Shape) (list : List (List ℕ)) (own : List 
   pub wrong : IsFreeSlotOf shape list own at → IsOneOf free at
 
 -- a free slot of these pages is none of the chain of free slots
-pub record IsLeftOut (shape : Shape) (list : List (List ℕ)) (own : List ℕ) (first : Place)
+pub record IsLeftOut (shape : SlotShape) (list : List (List ℕ)) (own : List ℕ) (first : Place)
     (place : FaultPlace) : Type 0 where
   pub slot : Place
   pub is : IsFreeSlotOf shape list own slot

@@ -9,7 +9,7 @@ use Rattle.pages.specs.ShownPages.{ShownPages}
 use Rattle.pages.specs.PageCalls.{WritesPages}
 use Rattle.pages.specs.Answer.{IsAnswer}
 use Rattle.io_state.specs.declared.fault.Fault.{Fault}
-use Rattle.record_heap.specs.declared.shape.Shape.{Shape}
+use Rattle.record_heap.specs.declared.shape.SlotShape.{SlotShape}
 use Rattle.record_heap.specs.declared.shape.Place.{Place}
 use Rattle.record_heap.specs.declared.heap.Heap.{Heap}
 use Rattle.record_heap.specs.declared.builder.HeapBuilder.{HeapBuilder}
@@ -23,7 +23,7 @@ abbrev pub with_page : PageMap → ℕ → List ℕ → PageMap
 with_page pages n bytes m = if m == n then Some bytes else pages m
 
 -- the slot behind the first ones of a page, so many; in page 0 where there is none
-abbrev pub next_slot : Shape → ℕ → ℕ → Place
+abbrev pub next_slot : SlotShape → ℕ → ℕ → Place
 next_slot shape page used = if nat_lt used (room shape) then (record { page = page; slot = used })
     else (record { page = 0; slot = 0 })
 
@@ -33,7 +33,7 @@ built_heap builder =
     heap_with builder.shape builder.first (next_slot builder.shape builder.first builder.used)
 
 -- the shape of its slots
-abbrev pub built_shape : HeapBuilder → Shape
+abbrev pub built_shape : HeapBuilder → SlotShape
 built_shape builder = builder.shape
 
 -- The places of records that fill these pages one after another: all slots of each page, but of the

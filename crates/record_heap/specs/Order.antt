@@ -6,7 +6,7 @@ use Rattle.pages.specs.PagesState.{PagesState}
 use Rattle.pages.specs.ShownPages.{ShownPages}
 use Rattle.pages.specs.PageCalls.{WritesPages}
 use Rattle.io_state.specs.declared.fault.Fault.{Fault}
-use Rattle.record_heap.specs.declared.shape.Shape.{Shape}
+use Rattle.record_heap.specs.declared.shape.SlotShape.{SlotShape}
 use Rattle.record_heap.specs.declared.shape.Place.{Place}
 use Rattle.record_heap.specs.declared.heap.Heap.{Heap}
 use Rattle.record_heap.specs.Slot.{room}
@@ -27,7 +27,7 @@ pub record HasChains (heap : Heap) (pages : PageMap) (free : List Place) (own : 
   pub page_chain : IsPageChain pages heap.first own
 
 -- the free slots, or where there are none, those of the new page n
-abbrev pub free_or_new : Shape → ℕ → List Place → List Place
+abbrev pub free_or_new : SlotShape → ℕ → List Place → List Place
 free_or_new shape n [] = rising n 0 (room shape)
 free_or_new shape n (p ∷ ps) = p ∷ ps
 

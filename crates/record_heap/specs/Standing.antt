@@ -3,7 +3,7 @@ use Rattle.std.specs.Prelude.{◌≡◌, ℕ, List, [], ◌∷◌, Option, Some,
 use Rattle.pages.specs.Each.{Each}
 use Rattle.pages.specs.PageMap.{PageMap}
 use Rattle.pages.specs.Owners.{AreApart}
-use Rattle.record_heap.specs.declared.shape.Shape.{Shape}
+use Rattle.record_heap.specs.declared.shape.SlotShape.{SlotShape}
 use Rattle.record_heap.specs.declared.shape.Place.{Place}
 use Rattle.record_heap.specs.declared.heap.Heap.{Heap}
 use Rattle.record_heap.specs.Slot.{room}
@@ -11,7 +11,7 @@ use Rattle.record_heap.specs.Chain.{Slots, KeepsSlots}
 use Rattle.record_heap.specs.Calls.{used_at, behind_at, IsHeapAt}
 
 -- the shape of its slots, the first page of its chain, and its first free slot
-abbrev pub slot_shape : Heap → Shape
+abbrev pub slot_shape : Heap → SlotShape
 slot_shape heap = heap.shape
 
 abbrev pub first_heap_page : Heap → ℕ
@@ -20,7 +20,7 @@ first_heap_page heap = heap.first
 abbrev pub first_free_slot : Heap → Place
 first_free_slot heap = heap.free
 
-abbrev pub heap_with : Shape → ℕ → Place → Heap
+abbrev pub heap_with : SlotShape → ℕ → Place → Heap
 heap_with shape first free = record { shape = shape; first = first; free = free }
 
 -- the chain of heap pages from the first on; page 0 is none

@@ -5,7 +5,7 @@ use Rattle.std.specs.Global.{Vec}
 use Rattle.pages.specs.Each.{Each}
 use Rattle.pages.specs.Owners.{AreApart}
 use Rattle.pages.specs.PageMap.{PageMap}
-use Rattle.record_heap.specs.declared.shape.Shape.{Shape}
+use Rattle.record_heap.specs.declared.shape.SlotShape.{SlotShape}
 use Rattle.record_heap.specs.declared.shape.Place.{Place}
 use Rattle.record_heap.specs.declared.heap.Heap.{Heap}
 use Rattle.record_heap.specs.Slot.{room, used_in, behind_in}
@@ -37,26 +37,26 @@ is_in_list [] n = false
 is_in_list (m ∷ ms) n = if n == m then true else is_in_list ms n
 
 -- the records in the slots of these pages
-abbrev pub slots_of : Shape → PageMap → List ℕ → Slots
+abbrev pub slots_of : SlotShape → PageMap → List ℕ → Slots
 slots_of shape pages own p = if is_in_list own p.page
     && nat_lt p.slot (room shape) then used_at shape pages p else None
 
 -- the slot of a place is in use
-abbrev pub IsUsedAt : Shape → PageMap → Place → Type 0
+abbrev pub IsUsedAt : SlotShape → PageMap → Place → Type 0
 IsUsedAt shape pages p = (bytes : List ℕ) × (used_at shape pages p ≡ Some bytes)
 
 -- the slot of a place is free
-abbrev pub IsFreeAt : Shape → PageMap → Place → Type 0
+abbrev pub IsFreeAt : SlotShape → PageMap → Place → Type 0
 IsFreeAt shape pages p = (next : Place) × (behind_at shape pages p ≡ Some next)
 
 -- a slot with these bytes is free and marked now, or it is in use and nothing has changed
-abbrev pub SlotMarked : Shape → List ℕ → Place → SlotMarks → SlotMarks → Type 0
+abbrev pub SlotMarked : SlotShape → List ℕ → Place → SlotMarks → SlotMarks → Type 0
 SlotMarked shape bytes place before after =
     (((next : Place) × (behind_in bytes ≡ Some next)) × SetsMark place true before after)
     ⊎ (((found : List ℕ) × (used_in shape bytes ≡ Some found)) × (after ≡ before))
 
 -- the first slots of page n, so many, are marked where they are free, and in use else
-pub record PageMarked (shape : Shape) (page : List ℕ) (n count : ℕ) (before after : SlotMarks) : Type 0 where
+pub record PageMarked (shape : SlotShape) (page : List ℕ) (n count : ℕ) (before after : SlotMarks) : Type 0 where
   pub free : (p : Place) → p.page ≡ n → p.slot < count → marked_slot after p ≡ true
       → (marked_slot before p ≡ true) ⊎ ((next : Place)
       × (behind_in (slot_at shape page p.slot) ≡ Some next))
@@ -65,7 +65,7 @@ pub record PageMarked (shape : Shape) (page : List ℕ) (n count : ℕ) (before 
   pub others : (p : Place) → (p.page ≢ n) ⊎ (count ≤ p.slot) → marked_slot after p ≡ marked_slot before p
 
 -- the mark of a free slot was taken, and this one is behind it
-pub record TakesMark (shape : Shape) (pages : PageMap) (at next : Place)
+pub record TakesMark (shape : SlotShape) (pages : PageMap) (at next : Place)
     (before after : SlotMarks) : Type 0 where
   pub within : at.slot < room shape
   pub linked : behind_at shape pages at ≡ Some next
@@ -73,7 +73,7 @@ pub record TakesMark (shape : Shape) (pages : PageMap) (at next : Place)
   pub sets : SetsMark at false before after
 
 -- the free slots of these pages are marked, and each other slot of them is in use
-pub record AreMarked (shape : Shape) (pages : PageMap) (own : List ℕ) (marks : SlotMarks) : Type 0 where
+pub record AreMarked (shape : SlotShape) (pages : PageMap) (own : List ℕ) (marks : SlotMarks) : Type 0 where
   pub free : (p : Place) → p.slot < room shape → marked_slot marks p ≡ true → IsOneOf own p.page
       × IsFreeAt shape pages p
   pub every : (p : Place) → p.slot < room shape → IsOneOf own p.page → (marked_slot marks p ≡ true)
@@ -86,7 +86,7 @@ IsFreePath behind first (p ∷ ps) at = (first ≡ p)
     × ((next : Place) × (behind p ≡ Some next) × IsFreePath behind next ps at)
 
 -- these marked slots were reached from the first one, and their marks taken; this one is next
-pub record SlotsWalked (shape : Shape) (pages : PageMap) (first at : Place) (before after : SlotMarks)
+pub record SlotsWalked (shape : SlotShape) (pages : PageMap) (first at : Place) (before after : SlotMarks)
     (free : List Place) : Type 0 where
   pub path : IsFreePath (behind_at shape pages) first free at
   pub once : AreOnce free
@@ -102,7 +102,7 @@ WalksChain pages first before after result =
     IfOk result (λ own. PagesWalked (pages_in pages) first 0 (marked_in before) (marked_in after) own.items)
 
 -- the chain of free slots was walked from the first one to its end, and their marks taken
-pub record EmptiesChain (shape : Shape) (pages : PageMap) (first : Place)
+pub record EmptiesChain (shape : SlotShape) (pages : PageMap) (first : Place)
     (before after : SlotMarks) : Type 0 where
   pub at : Place
   pub last : at.page ≡ 0
@@ -138,24 +138,24 @@ abbrev pub IsHeapPageAt : PageMap → ℕ → Type 0
 IsHeapPageAt pages n = (next : ℕ) × (next < 2 ^ 32) × IsHeapAt pages n next
 
 -- the slot is free, or in use
-abbrev pub IsFreeOrUsed : Shape → List ℕ → Type 0
+abbrev pub IsFreeOrUsed : SlotShape → List ℕ → Type 0
 IsFreeOrUsed shape slot = ((next : Place) × (behind_in slot ≡ Some next))
     ⊎ ((found : List ℕ) × (used_in shape slot ≡ Some found))
 
 -- each of the first slots of page n, so many, has its mark, and is free or in use
-abbrev pub SlotsAhead : Shape → List ℕ → ℕ → ℕ → SlotMarks → Type 0
+abbrev pub SlotsAhead : SlotShape → List ℕ → ℕ → ℕ → SlotMarks → Type 0
 SlotsAhead shape page n count marks = (p : Place) → p.page ≡ n → p.slot < count
     → HasMark marks p × IsFreeOrUsed shape (slot_at shape page p.slot)
 
 -- so is each slot of these pages, all of which are there
-pub record OwnAhead (shape : Shape) (list : List (List ℕ)) (own : List ℕ) (marks : SlotMarks)
+pub record OwnAhead (shape : SlotShape) (list : List (List ℕ)) (own : List ℕ) (marks : SlotMarks)
     : Type 0 where
   pub there : Each (λ n. n < length list) own
   pub slots : (p : Place) → IsOneOf own p.page → p.slot < room shape
       → HasMark marks p × IsFreeOrUsed shape (slot_of shape (pages_in list) p)
 
 -- the slot is free, and marked
-pub record IsMarkedFree (shape : Shape) (list : List (List ℕ)) (marks : SlotMarks) (p : Place)
+pub record IsMarkedFree (shape : SlotShape) (list : List (List ℕ)) (marks : SlotMarks) (p : Place)
     : Type 0 where
   pub within : p.slot < room shape
   pub there : p.page < length list
@@ -164,7 +164,7 @@ pub record IsMarkedFree (shape : Shape) (list : List (List ℕ)) (marks : SlotMa
   pub free : IsFreeAt shape (pages_in list) p
 
 -- a chain of free slots from the first one on, all of them marked, no more than there are marks
-pub record FreeSlotsAhead (shape : Shape) (list : List (List ℕ)) (first : Place) (most : ℕ)
+pub record FreeSlotsAhead (shape : SlotShape) (list : List (List ℕ)) (first : Place) (most : ℕ)
     (marks : SlotMarks) : Type 0 where
   pub free : List Place
   pub chain : IsFreeChain (behind_at shape (pages_in list)) first free

@@ -5,7 +5,7 @@ ghost use Rattle.record_heap.specs.Slot.{room};
 ghost use Rattle.record_heap.specs.Slots.{AreLinkedFrom};
 
 use crate::heap::Heap;
-use crate::shape::{Place, Shape};
+use crate::shape::{Place, SlotShape};
 use crate::slots::{new_page, put_used};
 use io_state::Fault;
 use pages::{PAGE_SIZE, Pages, store};
@@ -14,7 +14,7 @@ use pages::{PAGE_SIZE, Pages, store};
 /// and how many slots of it are in use. The bytes of this page are not written yet.
 #[derive(Drop)]
 pub struct HeapBuilder {
-    pub(crate) shape: Shape,
+    pub(crate) shape: SlotShape,
     pub(crate) first: u32,
     pub(crate) used: usize,
     pub(crate) page: [u8; PAGE_SIZE],
@@ -32,7 +32,7 @@ impl HeapBuilder {
     ghost use Rattle.record_heap.specs.Filling.{PutsRecord, MakesSlot, WritesLastPage, FinishesHeap};
 
     /// A heap without records, of which no page is taken yet.
-    pub fn new(shape: Shape) -> HeapBuilder
+    pub fn new(shape: SlotShape) -> HeapBuilder
         ensures shape { built_shape result ≡ shape }
         ensures begun { (pages : PageMap) → IsFilling result pages no_slots [] [] }
     {
@@ -45,7 +45,7 @@ impl HeapBuilder {
     }
 
     /// The shape of its slots.
-    pub fn shape(&self) -> Shape
+    pub fn shape(&self) -> SlotShape
         ensures { result ≡ built_shape self.now }
     {
         self.shape

@@ -4,7 +4,7 @@ ghost use Rattle.std.specs.Prelude.{◌+◌, ◌++◌};
 ghost use Rattle.record_heap.specs.Calls.{Linking, Filling, Refilling, Gets, GetsRecord, MayChange, MayFill};
 ghost use Rattle.record_heap.specs.Calls.{MayReadTo, ReadsStamped, ReadsUnstamped, ChangesSlot};
 
-use crate::shape::{Place, Shape};
+use crate::shape::{Place, SlotShape};
 use crate::slot::{behind, fetch, fetch_record};
 use crate::slots::{put_free, put_used, slot};
 use io_state::Fault;
@@ -13,7 +13,7 @@ use pages::Pages;
 /// The stamps and the record at a place go to the front of `to`.
 pub fn read_used<P: Pages>(
     pages: &mut P,
-    shape: Shape,
+    shape: SlotShape,
     place: Place,
     to: &mut [u8],
 ) -> Result<usize, Fault>
@@ -33,7 +33,7 @@ pub fn read_used<P: Pages>(
 /// The record at a place goes to the front of `to`.
 pub fn read_record<P: Pages>(
     pages: &mut P,
-    shape: Shape,
+    shape: SlotShape,
     place: Place,
     to: &mut [u8],
 ) -> Result<usize, Fault>
@@ -52,7 +52,12 @@ pub fn read_record<P: Pages>(
 }
 
 /// Makes the slot at a place free, with another behind it.
-pub fn link<P: Pages>(pages: &mut P, shape: Shape, place: Place, next: Place) -> Result<(), Fault>
+pub fn link<P: Pages>(
+    pages: &mut P,
+    shape: SlotShape,
+    place: Place,
+    next: Place,
+) -> Result<(), Fault>
     requires { MayChange P.shown pages.old }
     ensures { ChangesSlot P.shown pages.old pages.new result (Linking shape place next) }
 {
@@ -67,7 +72,7 @@ pub fn link<P: Pages>(pages: &mut P, shape: Shape, place: Place, next: Place) ->
 /// Puts stamps and a record into the slot at a place.
 pub fn fill<P: Pages>(
     pages: &mut P,
-    shape: Shape,
+    shape: SlotShape,
     place: Place,
     stamps: &[u8],
     record: &[u8],
@@ -87,7 +92,7 @@ pub fn fill<P: Pages>(
 /// Puts stamps and a record into a free slot, and answers the place of the free slot behind it.
 pub fn refill<P: Pages>(
     pages: &mut P,
-    shape: Shape,
+    shape: SlotShape,
     place: Place,
     stamps: &[u8],
     record: &[u8],

@@ -1,7 +1,7 @@
 //! The heap.
 
 use crate::calls::{fill, link, read_record, read_used, refill};
-use crate::shape::{Place, Shape};
+use crate::shape::{Place, SlotShape};
 use crate::slots::new_page;
 use io_state::Fault;
 use pages::{PAGE_SIZE, Pages, store};
@@ -10,7 +10,7 @@ use pages::{PAGE_SIZE, Pages, store};
 /// heap pages, and `free` the first free slot; page 0 is none.
 #[derive(Clone, Copy, Debug, PartialEq, Eq)]
 pub struct Heap {
-    pub(crate) shape: Shape,
+    pub(crate) shape: SlotShape,
     pub(crate) first: u32,
     pub(crate) free: Place,
 }
@@ -26,7 +26,7 @@ impl Heap {
     ghost use Rattle.record_heap.specs.Found.{Got, GotRecord, MayGrow};
 
     /// A heap without records and without pages.
-    pub fn new(shape: Shape) -> Heap
+    pub fn new(shape: SlotShape) -> Heap
         ensures shape { slot_shape result ≡ shape }
         ensures empty { (pages : PageMap) → HeapStands result pages no_slots [] }
     {
@@ -38,14 +38,14 @@ impl Heap {
     }
 
     /// The heap whose chain of heap pages begins at `first`, and of whose free slots `free` is the first.
-    pub fn stored(shape: Shape, first: u32, free: Place) -> Heap
+    pub fn stored(shape: SlotShape, first: u32, free: Place) -> Heap
         ensures { result ≡ heap_with shape first free }
     {
         Heap { shape, first, free }
     }
 
     /// The shape of its slots.
-    pub fn shape(&self) -> Shape
+    pub fn shape(&self) -> SlotShape
         ensures { result ≡ slot_shape self.now }
     {
         self.shape

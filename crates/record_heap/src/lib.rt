@@ -23,5 +23,5 @@ mod walk;
 pub use builder::HeapBuilder;
 pub use heap::Heap;
 pub use laws::heap_laws;
-pub use shape::{Place, Shape};
+pub use shape::{Place, SlotShape};
 pub use walk::walk_heap;

@@ -12,7 +12,7 @@ pub struct Place {
 /// The bytes that the stamps of a record take, and the least and the greatest length of a record,
 /// in bytes. Where these differ, a slot holds the record's length.
 #[derive(Clone, Copy, Debug, PartialEq, Eq)]
-pub struct Shape {
+pub struct SlotShape {
     pub stamps: u16,
     pub least: u16,
     pub greatest: u16,
@@ -20,7 +20,7 @@ pub struct Shape {
     ghost fits: { stamps + greatest ≤ 4077 },
 }
 
-impl Shape {
+impl SlotShape {
     ghost use Rattle.record_heap.specs.Slot.{head, size, room};
 
     /// The bytes before the stamps: the mark of a slot in use, and the length where lengths vary.

@@ -21,7 +21,7 @@ ghost use Rattle.std.specs.Prelude.{◌≡◌, ◌≤◌, ◌<◌, ◌+◌, ◌+
 ghost use Rattle.record_heap.specs.Slot.{head, size, length_in_slot, is_used, used_in, record_in, behind_in};
 ghost use Rattle.record_heap.specs.Slot.{over_front, HoldsNow, FitsIn, FitsVarying, FitsFixed, MayFetch};
 
-use crate::shape::{Place, Shape};
+use crate::shape::{Place, SlotShape};
 use byteorder::{BigEndian, ByteOrder};
 
 /// The mark of a free slot.
@@ -45,7 +45,7 @@ const NEXT_SLOT: usize = 5;
 const NEXT_SLOT_END: usize = 7;
 
 /// The length of the record.
-fn record_length(slot: &[u8], shape: Shape) -> usize
+fn record_length(slot: &[u8], shape: SlotShape) -> usize
     requires { size shape ≤ length slot.now }
     ensures { result ≡ length_in_slot shape slot.now }
 {
@@ -57,7 +57,7 @@ fn record_length(slot: &[u8], shape: Shape) -> usize
 }
 
 /// The slot is in use, with a record of a length that the heap takes.
-pub fn is_used(slot: &[u8], shape: Shape) -> bool
+pub fn is_used(slot: &[u8], shape: SlotShape) -> bool
     requires { size shape ≤ length slot.now }
     ensures { result ≡ is_used shape slot.now }
 {
@@ -66,7 +66,7 @@ pub fn is_used(slot: &[u8], shape: Shape) -> bool
 }
 
 /// The stamps and the record of a slot in use.
-fn used(slot: &[u8], shape: Shape) -> Option<&[u8]>
+fn used(slot: &[u8], shape: SlotShape) -> Option<&[u8]>
     requires { size shape ≤ length slot.now }
     ensures value { option_map (λ bytes. bytes.now) result ≡ used_in shape slot.now }
     ensures least { IfSome result (λ bytes. shape.stamps ≤ length bytes.now) }
@@ -82,7 +82,7 @@ fn used(slot: &[u8], shape: Shape) -> Option<&[u8]>
 
 /// The stamps and the record go to the front of `to`, the rest of which stays. The answer is how
 /// many bytes they are; none where the slot is not in use.
-pub fn fetch(slot: &[u8], shape: Shape, to: &mut [u8]) -> Option<usize>
+pub fn fetch(slot: &[u8], shape: SlotShape, to: &mut [u8]) -> Option<usize>
     requires { MayFetch shape slot.now to.old (shape.stamps + shape.greatest) }
     ensures value { result ≡ option_map length (used_in shape slot.now) }
     ensures to { to.new ≡ over_front (used_in shape slot.now) to.old }
@@ -98,7 +98,7 @@ pub fn fetch(slot: &[u8], shape: Shape, to: &mut [u8]) -> Option<usize>
 
 /// The record goes to the front of `to`, the rest of which stays, and the stamps in front of it are
 /// left out. The answer is its length; none where the slot is not in use.
-pub fn fetch_record(slot: &[u8], shape: Shape, to: &mut [u8]) -> Option<usize>
+pub fn fetch_record(slot: &[u8], shape: SlotShape, to: &mut [u8]) -> Option<usize>
     requires { MayFetch shape slot.now to.old shape.greatest }
     ensures value { result ≡ option_map length (record_in shape slot.now) }
     ensures greatest { IfSome result (λ n. n ≤ shape.greatest) }
@@ -139,7 +139,7 @@ pub fn write_free(slot: &mut [u8], next: Place)
 }
 
 /// Puts stamps and a record into the slot.
-pub fn write_used(slot: &mut [u8], shape: Shape, stamps: &[u8], record: &[u8])
+pub fn write_used(slot: &mut [u8], shape: SlotShape, stamps: &[u8], record: &[u8])
     requires { FitsIn shape slot.old stamps.now «record».now }
     ensures { HoldsNow shape slot.old slot.new (stamps.now ++ «record».now) }
 {
@@ -151,7 +151,7 @@ pub fn write_used(slot: &mut [u8], shape: Shape, stamps: &[u8], record: &[u8])
 }
 
 /// The slot of a record with its length.
-fn write_varying(slot: &mut [u8], shape: Shape, stamps: &[u8], record: &[u8])
+fn write_varying(slot: &mut [u8], shape: SlotShape, stamps: &[u8], record: &[u8])
     requires { FitsVarying shape slot.old stamps.now «record».now }
     ensures { HoldsNow shape slot.old slot.new (stamps.now ++ «record».now) }
 {
@@ -162,7 +162,7 @@ fn write_varying(slot: &mut [u8], shape: Shape, stamps: &[u8], record: &[u8])
 }
 
 /// The slot of a record of the one length.
-fn write_fixed(slot: &mut [u8], shape: Shape, stamps: &[u8], record: &[u8])
+fn write_fixed(slot: &mut [u8], shape: SlotShape, stamps: &[u8], record: &[u8])
     requires { FitsFixed shape slot.old stamps.now «record».now }
     ensures { HoldsNow shape slot.old slot.new (stamps.now ++ «record».now) }
 {

@@ -13,7 +13,7 @@ ghost use Rattle.record_heap.specs.Slot.{room, size, used_in, behind_in, FitsSlo
 ghost use Rattle.record_heap.specs.Slots.{slot_at, start_of, behind_new, AreLinked, Edits, IsSlotAt};
 ghost use Rattle.record_heap.specs.Slots.{IsNewPage};
 
-use crate::shape::{Place, Shape};
+use crate::shape::{Place, SlotShape};
 use crate::slot;
 use byteorder::{BigEndian, ByteOrder};
 use pages::PAGE_SIZE;
@@ -27,7 +27,7 @@ pub const NEXT_END: usize = 8;
 pub const FIRST_SLOT: usize = 16;
 
 /// The bytes of slot `i`.
-pub fn slot(page: &[u8; PAGE_SIZE], shape: Shape, i: usize) -> &[u8]
+pub fn slot(page: &[u8; PAGE_SIZE], shape: SlotShape, i: usize) -> &[u8]
     requires { i < room shape }
     ensures { IsSlotAt shape page.now i result.now }
 {
@@ -37,7 +37,7 @@ pub fn slot(page: &[u8; PAGE_SIZE], shape: Shape, i: usize) -> &[u8]
 }
 
 /// Makes slot `i` free, with another behind it.
-pub fn put_free(page: &mut [u8; PAGE_SIZE], shape: Shape, i: usize, next: Place)
+pub fn put_free(page: &mut [u8; PAGE_SIZE], shape: SlotShape, i: usize, next: Place)
     requires { i < room shape }
     ensures { Edits shape page.old page.new i (λ slot. behind_in slot ≡ Some next) }
 {
@@ -47,7 +47,13 @@ pub fn put_free(page: &mut [u8; PAGE_SIZE], shape: Shape, i: usize, next: Place)
 }
 
 /// Puts stamps and a record into slot `i`.
-pub fn put_used(page: &mut [u8; PAGE_SIZE], shape: Shape, i: usize, stamps: &[u8], record: &[u8])
+pub fn put_used(
+    page: &mut [u8; PAGE_SIZE],
+    shape: SlotShape,
+    i: usize,
+    stamps: &[u8],
+    record: &[u8],
+)
     requires slot { i < room shape }
     requires fits { FitsSlot shape stamps.now «record».now }
     ensures { Edits shape page.old page.new i (λ slot.
@@ -59,7 +65,7 @@ pub fn put_used(page: &mut [u8; PAGE_SIZE], shape: Shape, i: usize, stamps: &[u8
 }
 
 /// Makes the page the heap page `n` before the page `next`, with all its slots free.
-pub fn new_page(page: &mut [u8; PAGE_SIZE], shape: Shape, n: u32, next: u32)
+pub fn new_page(page: &mut [u8; PAGE_SIZE], shape: SlotShape, n: u32, next: u32)
     ensures { IsNewPage shape n next page.new }
 {
     write_start(page, next);
@@ -84,7 +90,7 @@ pub fn start_of(next: u32) -> [u8; FIRST_SLOT]
 }
 
 /// Makes all slots of page `n` free, each with the one after it behind it.
-fn link_all(page: &mut [u8; PAGE_SIZE], shape: Shape, n: u32)
+fn link_all(page: &mut [u8; PAGE_SIZE], shape: SlotShape, n: u32)
     ensures linked { AreLinked shape n (room shape) page.new }
     ensures start { take 16 page.new ≡ take 16 page.old }
 {

@@ -17,7 +17,7 @@ ghost use Rattle.record_heap.specs.Walk.{IsMarkedFree, OwnAhead, OwnStands, Slot
 ghost use Rattle.record_heap.specs.SlotMarks.{HasMark, SameSlots, marked_slot};
 
 use crate::heap::Heap;
-use crate::shape::{Place, Shape};
+use crate::shape::{Place, SlotShape};
 use crate::slot::{behind, is_used};
 use crate::slot_marks::SlotMarks;
 use crate::slots::{FIRST_SLOT, NEXT, NEXT_END, slot, start_of};
@@ -89,7 +89,7 @@ fn walk_pages(
 /// Marks a slot where it is free; else it is in use.
 fn mark_slot(
     bytes: &[u8],
-    shape: Shape,
+    shape: SlotShape,
     place: Place,
     marks: &mut SlotMarks,
 ) -> Result<(), WalkFault>
@@ -118,7 +118,7 @@ fn mark_slot(
 /// Marks the free slots of a page; each other slot of it is in use.
 fn mark_page(
     page: &[u8; PAGE_SIZE],
-    shape: Shape,
+    shape: SlotShape,
     n: u32,
     marks: &mut SlotMarks,
 ) -> Result<(), WalkFault>
@@ -141,7 +141,7 @@ fn mark_page(
 /// Marks the free slots of these pages; each other slot of them is in use.
 fn mark_free(
     pages: &[[u8; PAGE_SIZE]],
-    shape: Shape,
+    shape: SlotShape,
     own: &[u32],
     marks: &mut SlotMarks,
 ) -> Result<(), WalkFault>
@@ -165,7 +165,7 @@ fn mark_free(
 /// Takes the mark of a free slot, to which another place leads, and answers the place of the one behind it.
 fn take_mark(
     pages: &[[u8; PAGE_SIZE]],
-    shape: Shape,
+    shape: SlotShape,
     from: FaultPlace,
     at: Place,
     marks: &mut SlotMarks,
@@ -190,7 +190,7 @@ fn take_mark(
 /// Walks the chain of free slots, and takes their marks.
 fn walk_slots(
     pages: &[[u8; PAGE_SIZE]],
-    shape: Shape,
+    shape: SlotShape,
     first: Place,
     marks: &mut SlotMarks,
 ) -> Result<(), WalkFault>

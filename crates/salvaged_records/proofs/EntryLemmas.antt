@@ -3,7 +3,7 @@ use Rattle.std.proofs.Common.{◌≡◌, ℕ, ◌+◌, ◌<◌, List, [], ◌∷
 use Rattle.std.specs.BTreeSet.{BTreeSet}
 use Rattle.std.proofs.lemmas.List.{take_more}
 use Rattle.std.proofs.lemmas.Grind.{flat_map-append}
-use Rattle.tree_node.specs.declared.shape.Shape.{Shape}
+use Rattle.tree_node.specs.declared.shape.NodeShape.{NodeShape}
 use Rattle.salvaged_records.specs.Leaves.{leaf_entries_in, entries_of_page}
 use Rattle.salvaged_records.specs.Values.{AddsValues, HasValues}
 use denote.Ref.{Bor}
@@ -21,7 +21,7 @@ entry_more a b c entries i entry within is one other values has =
     (other (values ++ take i entries) (one values has))
 
 -- the entries of one page more
-pub page_more : (shape : Shape) (pages : List (List ℕ)) (i : ℕ) (d : List ℕ) (set new : BTreeSet (Bor (List ℕ))) → i < length pages → HasValues set (leaf_entries_in shape (take i pages))
+pub page_more : (shape : NodeShape) (pages : List (List ℕ)) (i : ℕ) (d : List ℕ) (set new : BTreeSet (Bor (List ℕ))) → i < length pages → HasValues set (leaf_entries_in shape (take i pages))
     → AddsValues set new (entries_of_page shape (get_or pages i d)) → HasValues new (leaf_entries_in shape (take (i + 1) pages))
 page_more shape pages i d set new within has adds =
     let on : leaf_entries_in shape (take (i + 1) pages) ≡ leaf_entries_in shape (take i pages) ++ entries_of_page shape (get_or pages i d) =

@@ -3,8 +3,8 @@ use Rattle.std.specs.Prelude.{◌≡◌, ℕ, ◌^◌, Bool, not, ◌&&◌, ◌|
 use Rattle.byteorder.specs.Endian.{big_bytes}
 use Rattle.record_layout.specs.declared.schema.KeyPart.{KeyPart}
 use Rattle.record_layout.specs.Schema.{part_of, Schema, key_at}
-use Rattle.record_heap.specs.declared.shape.Shape.{Shape}
-use Rattle.tree_node.specs.declared.shape.Shape.{Shape as NodeShape}
+use Rattle.record_heap.specs.declared.shape.SlotShape.{SlotShape}
+use Rattle.tree_node.specs.declared.shape.NodeShape.{NodeShape}
 use Rattle.salvaged_records.specs.declared.sorting.SortedOut.{SortedOut}
 use Rattle.salvaged_records.specs.Leaves.{leaf_entries_in, IsPrimeShape}
 use Rattle.salvaged_records.specs.Slots.{FoundSlot, found_slot, used_slots_in}
@@ -47,7 +47,7 @@ abbrev pub told_slots : KeyPart → List FoundSlot → List FoundSlot
 told_slots prime slots = filter (is_doubled prime slots) slots
 
 -- the slots in use of pages of this schema were told apart, by the entries in all leaves
-pub record AreSortedOut (schema : Schema) (shape : Shape) (pages : List (List ℕ)) (sorted : SortedOut)
+pub record AreSortedOut (schema : Schema) (shape : SlotShape) (pages : List (List ℕ)) (sorted : SortedOut)
     : Type 0 where
   pub nodes : NodeShape
   pub is_prime : IsPrimeShape (key_at schema 0) nodes

@@ -2,7 +2,7 @@
 use Rattle.std.specs.Prelude.{◌≡◌, ◌⊎◌, ◌<◌, ℕ, ◌-◌, ◌^◌, Bool, true, false, List, [], length, map, slice_set}
 use Rattle.std.specs.Prelude.{Option, Some, None, Result, Ok, Err, ⊤}
 use Rattle.page_store.specs.DeviceFile.{page_of_bytes}
-use Rattle.record_heap.specs.declared.shape.Shape.{Shape}
+use Rattle.record_heap.specs.declared.shape.SlotShape.{SlotShape}
 use Rattle.record_layout.specs.Schema.{Schema}
 use Rattle.open_file.specs.declared.first_page.Header.{Header}
 use Rattle.open_file.specs.FirstPage.{IsFirstPage}
@@ -96,7 +96,7 @@ ListsSorted sorted asked o = WritesSorted sorted asked.form.now asked.places o
 -- key lead, if they lead to one.
 pub record WritesSlots (schema : Schema) (bytes : List ℕ) (form : Form) (places : Bool) (o : Outputs)
     (listed told : ℕ) : Type 0 where
-  pub shape : Shape
+  pub shape : SlotShape
   pub shape_is : IsShapeOf schema shape
   pub pages : List (List ℕ)
   pub all_pages : AreAllPages bytes pages

@@ -7,14 +7,14 @@ ghost use Rattle.salvaged_records.specs.Slots.{used_slots_in, with_slot};
 use crate::slots::{is_heap_page, record_at};
 use crate::used_slot::UsedSlot;
 use pages::PAGE_SIZE;
-use record_heap::Shape;
+use record_heap::SlotShape;
 use std::alloc::{AllocError, Global};
 
 /// Adds slot `i` of page `n`, where it is in use.
 fn add_slot<'a>(
     found: &mut Vec<UsedSlot<'a>>,
     page: &'a [u8; PAGE_SIZE],
-    shape: Shape,
+    shape: SlotShape,
     n: usize,
     i: usize,
 ) -> Result<(), AllocError>
@@ -40,7 +40,7 @@ fn add_slot<'a>(
 fn add_slots<'a>(
     found: &mut Vec<UsedSlot<'a>>,
     page: &'a [u8; PAGE_SIZE],
-    shape: Shape,
+    shape: SlotShape,
     n: usize,
 ) -> Result<(), AllocError>
     ensures { OnOk result (AddsSlots found.old.items found.new.items (slots_to shape page.now n (room shape))) }
@@ -55,7 +55,7 @@ fn add_slots<'a>(
 fn add_page<'a>(
     found: &mut Vec<UsedSlot<'a>>,
     page: &'a [u8; PAGE_SIZE],
-    shape: Shape,
+    shape: SlotShape,
     n: usize,
 ) -> Result<(), AllocError>
     ensures { OnOk result (AddsSlots found.old.items found.new.items (slots_of_page shape page.now n)) }
@@ -71,7 +71,7 @@ fn add_page<'a>(
 pub fn used_slots<'a>(
     alloc: Global,
     pages: &'a [[u8; PAGE_SIZE]],
-    shape: Shape,
+    shape: SlotShape,
 ) -> Result<Vec<UsedSlot<'a>>, AllocError>
     ensures { IfOk result (λ found. map found_slot found.items ≡ used_slots_in shape pages.now) }
 {

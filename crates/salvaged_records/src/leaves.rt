@@ -9,17 +9,17 @@ use crate::values::{ValuesInOrder, add_value, no_values};
 use pages::PAGE_SIZE;
 use record_layout::KeyPart;
 use std::alloc::{AllocError, Global};
-use tree_node::{LeafView, Shape, is_leaf};
+use tree_node::{LeafView, NodeShape, is_leaf};
 
 /// The bytes of a place in an entry: page and slot.
 const PLACE: u16 = 6;
 
 /// What the nodes of the tree of the prime key have in common.
-pub fn prime_shape(prime: KeyPart, least: u16) -> Shape
+pub fn prime_shape(prime: KeyPart, least: u16) -> NodeShape
     requires { IsKey least prime }
     ensures { IsPrimeShape prime result }
 {
-    Shape {
+    NodeShape {
         key: 0,
         width: prime.length,
         entry: prime.length + PLACE,
@@ -27,7 +27,7 @@ pub fn prime_shape(prime: KeyPart, least: u16) -> Shape
 }
 
 /// Whether a page is a leaf.
-fn is_leaf_page(page: &[u8; PAGE_SIZE], shape: Shape) -> bool
+fn is_leaf_page(page: &[u8; PAGE_SIZE], shape: NodeShape) -> bool
     ensures { result ≡ is_leaf_page shape page.now }
 {
     is_leaf(page, shape)
@@ -49,7 +49,7 @@ fn add_entries<'a>(entries: &mut ValuesInOrder<'a>, leaf: LeafView<'a>) -> Resul
 fn add_page<'a>(
     entries: &mut ValuesInOrder<'a>,
     page: &'a [u8; PAGE_SIZE],
-    shape: Shape,
+    shape: NodeShape,
 ) -> Result<(), AllocError>
     ensures { OnOk result (AddsValues entries.old entries.new (entries_of_page shape page.now)) }
 {
@@ -63,7 +63,7 @@ fn add_page<'a>(
 pub fn leaf_entries<'a>(
     alloc: Global,
     pages: &'a [[u8; PAGE_SIZE]],
-    shape: Shape,
+    shape: NodeShape,
 ) -> Result<ValuesInOrder<'a>, AllocError>
     ensures { IfOk result (λ set. HasValues set (leaf_entries_in shape pages.now)) }
 {

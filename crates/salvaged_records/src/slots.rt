@@ -15,7 +15,7 @@ ghost use Rattle.salvaged_records.specs.Slots.{is_heap_page, record_at};
 
 use byteorder::{BigEndian, ByteOrder};
 use pages::PAGE_SIZE;
-use record_heap::Shape;
+use record_heap::SlotShape;
 
 /// The mark of a slot in use.
 const USED: u8 = 1;
@@ -50,7 +50,7 @@ pub fn is_heap_page(page: &[u8; PAGE_SIZE]) -> bool
 }
 
 /// The length of the record in a slot in use.
-fn record_length(slot: &[u8], shape: Shape) -> usize
+fn record_length(slot: &[u8], shape: SlotShape) -> usize
     requires { size shape ≤ length slot.now }
     ensures { result ≡ length_in_slot shape slot.now }
 {
@@ -62,7 +62,7 @@ fn record_length(slot: &[u8], shape: Shape) -> usize
 }
 
 /// The stamps and the record in a slot, where it is in use.
-fn stored_in<'a>(slot: &'a [u8], shape: Shape) -> Option<&'a [u8]>
+fn stored_in<'a>(slot: &'a [u8], shape: SlotShape) -> Option<&'a [u8]>
     requires { size shape ≤ length slot.now }
     ensures value { option_copied result ≡ used_in shape slot.now }
     ensures least { IfSome result (λ stored. shape.stamps ≤ length stored.now) }
@@ -78,7 +78,7 @@ fn stored_in<'a>(slot: &'a [u8], shape: Shape) -> Option<&'a [u8]>
 }
 
 /// The record in a slot, where it is in use.
-fn record_in<'a>(slot: &'a [u8], shape: Shape) -> Option<&'a [u8]>
+fn record_in<'a>(slot: &'a [u8], shape: SlotShape) -> Option<&'a [u8]>
     requires { size shape ≤ length slot.now }
     ensures value { option_copied result ≡ record_in shape slot.now }
     ensures most { IfSome result (λ bytes. length bytes.now ≤ shape.greatest) }
@@ -90,7 +90,7 @@ fn record_in<'a>(slot: &'a [u8], shape: Shape) -> Option<&'a [u8]>
 }
 
 /// The bytes of slot `i`.
-fn slot(page: &[u8; PAGE_SIZE], shape: Shape, i: usize) -> &[u8]
+fn slot(page: &[u8; PAGE_SIZE], shape: SlotShape, i: usize) -> &[u8]
     requires { i < room shape }
     ensures value { result.now ≡ slot_at shape page.now i }
     ensures len { length result.now ≡ size shape }
@@ -101,7 +101,7 @@ fn slot(page: &[u8; PAGE_SIZE], shape: Shape, i: usize) -> &[u8]
 }
 
 /// The record in slot `i`, where it is in use.
-pub fn record_at(page: &[u8; PAGE_SIZE], shape: Shape, i: usize) -> Option<&[u8]>
+pub fn record_at(page: &[u8; PAGE_SIZE], shape: SlotShape, i: usize) -> Option<&[u8]>
     requires { i < room shape }
     ensures value { option_copied result ≡ record_at shape page.now i }
     ensures most { IfSome result (λ bytes. length bytes.now ≤ shape.greatest) }

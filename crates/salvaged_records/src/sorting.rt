@@ -15,10 +15,10 @@ use crate::used_slot::UsedSlot;
 use crate::values::{ValuesInOrder, doubled_values, no_values};
 use key_index::PrimeEntry;
 use pages::PAGE_SIZE;
-use record_heap::{Place, Shape};
+use record_heap::{Place, SlotShape};
 use record_layout::{KeyPart, Schema};
 use std::alloc::{AllocError, Global};
-use tree_node::{Entry, Shape as NodeShape};
+use tree_node::{Entry, NodeShape};
 
 /// The slots that are kept, and those that are told since others have their prime value.
 #[derive(Drop)]
@@ -187,7 +187,7 @@ pub fn sort_out<'a>(
     alloc: Global,
     pages: &'a [[u8; PAGE_SIZE]],
     schema: &Schema,
-    shape: Shape,
+    shape: SlotShape,
 ) -> Result<SortedOut<'a>, AllocError>
     ensures { IfOk result (AreSortedOut schema.now shape pages.now) }
 {

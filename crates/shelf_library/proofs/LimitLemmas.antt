@@ -1,7 +1,7 @@
 -- What a call leaves of the limits of a library's open files.
 use Rattle.std.proofs.Common.{◌≡◌, ◌==◌, ℕ, ◌<◌, List, [], length, IfOk, Result, Ok, Err, sym, ap, subst, ◌∙◌}
 use Rattle.std.specs.Prelude.{slice_set}
-use Rattle.shelf_library.proofs.Terms.{eqb-false, eqb-true, Fault, Schema, either, counts_of, Header, HasLimits, pages_behind, Look}
+use Rattle.shelf_library.proofs.Terms.{eqb-false, eqb-true, Fault, Schema, either, counts_of, Header, HasLimits, pages_behind, HeaderLook}
 use Rattle.shelf_library.proofs.Terms.{ShelfFile, Attaches, MovesAt, ClosesUnitAt, LooksAt, MakesAt, OpensAt, ReadsAt, AreLimited}
 use Rattle.shelf_library.proofs.Terms.{LibraryState, held_at, held_after, held_open, Held, Nothing, Opened}
 use Rattle.shelf_library.proofs.WorldLemmas.{same_open, set_here, set_aside}
@@ -55,7 +55,7 @@ limits_made u schema r old new call are =
     (limits_set new.limit new.frames old.held u call.attached are (held_open r) (open_has new.limit new.frames r call.make.limits))
 
 -- no file is open in a unit that was looked at, shut or attached
-pub limits_looked : (u : ℕ) (look : Result Look Fault) (old new : LibraryState) → LooksAt u look old new → (limit frames : ℕ)
+pub limits_looked : (u : ℕ) (look : Result HeaderLook Fault) (old new : LibraryState) → LooksAt u look old new → (limit frames : ℕ)
     → AreLimited limit frames old.held → AreLimited limit frames new.held
 limits_looked u look old new call limit frames are =
     subst (λ (held : List Held). AreLimited limit frames held) (sym call.holds)

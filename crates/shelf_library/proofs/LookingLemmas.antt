@@ -5,7 +5,7 @@ use Rattle.shelf_library.specs.Shelves.{HasHeader}
 use Rattle.shelf_library.specs.Told.{held_by, seen_by, seen_after}
 use Rattle.shelf_library.proofs.Terms.{Fault, Damage, Device, Memory, looked_at, seen_of, MayFail, untouched, OpensUnit, Shut, holding_at}
 use Rattle.shelf_library.proofs.Terms.{is_broken, named_at, Seen, DeviceFile, ShelfState, unit_file, unit_name, Header, look_of, named_by}
-use Rattle.shelf_library.proofs.Terms.{named_of, Look, Accepted, NoFile, Refused, ShelfFile, shown_by, LooksAt, AreUnits, ChangesAt}
+use Rattle.shelf_library.proofs.Terms.{named_of, HeaderLook, Accepted, NoFile, Refused, ShelfFile, shown_by, LooksAt, AreUnits, ChangesAt}
 use Rattle.shelf_library.proofs.Terms.{FitsItsFile, IsTrulyHeld, LibraryState, held_at, held_after, IsTrulyClosed, holding_of, world_of}
 use Rattle.shelf_library.proofs.Terms.{Looked, Opened}
 use Rattle.shelf_library.proofs.AsideLemmas.{only_here, holding_after, named_before, named_after, are_after, images_aside}
@@ -17,38 +17,38 @@ seen_named : (c : Option (List ℕ)) → seen_by (look_of c) ≡ seen_of (named_
 seen_named None = refl
 seen_named (Some bytes) = by_look (look_of (Some bytes))
   where
-    by_look : (look : Look) → seen_by look ≡ seen_of (named_by bytes look)
+    by_look : (look : HeaderLook) → seen_by look ≡ seen_of (named_by bytes look)
     by_look NoFile = refl
     by_look Refused = refl
     by_look (Accepted header) = refl
 
 -- what is held then is what was told
-held_told : (shelf : ShelfState) (look : Look) → holding_of shelf (held_by look) ≡ looked_at (seen_by look)
+held_told : (shelf : ShelfState) (look : HeaderLook) → holding_of shelf (held_by look) ≡ looked_at (seen_by look)
 held_told shelf NoFile = refl
 held_told shelf Refused = refl
 held_told shelf (Accepted header) = refl
 
-pub no_file : (look : Result Look Fault) (file : ShelfFile) → held_after look ≡ Opened file → ⊥
+pub no_file : (look : Result HeaderLook Fault) (file : ShelfFile) → held_after look ≡ Opened file → ⊥
 no_file (Ok NoFile) file is = cc
 no_file (Ok Refused) file is = cc
 no_file (Ok (Accepted header)) file is = cc
 no_file (Err fault) file is = cc
 
 -- the look of a unit that holds a header
-looked_by : (look : Result Look Fault) (header : Header) → held_after look ≡ Looked header → look ≡ Ok (Accepted header)
+looked_by : (look : Result HeaderLook Fault) (header : Header) → held_after look ≡ Looked header → look ≡ Ok (Accepted header)
 looked_by (Ok NoFile) header is = absurd (cc)
 looked_by (Ok Refused) header is = absurd (cc)
 looked_by (Ok (Accepted other)) header is = let same : other ≡ header = cc in ap (λ h. Ok (Accepted h)) same
 looked_by (Err fault) header is = absurd (cc)
 
 -- a fault that the shelf may answer
-look_fault : (is_honest : Bool) (truly : Type 0) (old new : ℕ) (look : Result Look Fault) → FaultHasCause old new look → IfErr (seen_after look) (MayFail true false is_honest truly old new)
+look_fault : (is_honest : Bool) (truly : Type 0) (old new : ℕ) (look : Result HeaderLook Fault) → FaultHasCause old new look → IfErr (seen_after look) (MayFail true false is_honest truly old new)
 look_fault is_honest truly old new (Ok found) cause = tt
 look_fault is_honest truly old new (Err fault) cause =
     let same : fault ≡ Device = cause.device in
     subst (MayFail true false is_honest truly old new) (sym same) (has_risen old new cause.counted)
 
-module _ (u : ℕ) (look : Result Look Fault) (old new : LibraryState) (call : LooksAt u look old new) where
+module _ (u : ℕ) (look : Result HeaderLook Fault) (old new : LibraryState) (call : LooksAt u look old new) where
   look_changes : ChangesAt u (held_after look) old.shelf new.shelf old.held new.held
   look_changes = record {
     attached = call.attached;
@@ -91,7 +91,7 @@ module _ (u : ℕ) (look : Result Look Fault) (old new : LibraryState) (call : L
   pub look_seen : IsTrue new.shelf.is_honest → IfOk (seen_after look) (λ seen. seen ≡ seen_of (named_at (world_of old.shelf old.held) u))
   look_seen honest = by_found look (call.looks.found honest)
     where
-      by_found : (l : Result Look Fault) → IfOk l (λ look. look ≡ look_of (unit_file old.shelf u).seen) → IfOk (seen_after l) (λ seen. seen ≡ seen_of (named_at (world_of old.shelf old.held) u))
+      by_found : (l : Result HeaderLook Fault) → IfOk l (λ look. look ≡ look_of (unit_file old.shelf u).seen) → IfOk (seen_after l) (λ seen. seen ≡ seen_of (named_at (world_of old.shelf old.held) u))
       by_found (Ok found) is =
           ap seen_by is ∙ seen_named (unit_file old.shelf u).seen
           ∙ ap seen_of (sym (named_before u (held_after look) old.shelf new.shelf old.held new.held call.units look_changes))
@@ -100,26 +100,26 @@ module _ (u : ℕ) (look : Result Look Fault) (old new : LibraryState) (call : L
   pub look_holding : IfOk (seen_after look) (λ seen. holding_at (world_of new.shelf new.held) u ≡ looked_at seen)
   look_holding = by_told look holds_now
     where
-      by_told : (l : Result Look Fault) → holding_at (world_of new.shelf new.held) u ≡ holding_of new.shelf (held_after l) → IfOk (seen_after l) (λ seen. holding_at (world_of new.shelf new.held) u ≡ looked_at seen)
+      by_told : (l : Result HeaderLook Fault) → holding_at (world_of new.shelf new.held) u ≡ holding_of new.shelf (held_after l) → IfOk (seen_after l) (λ seen. holding_at (world_of new.shelf new.held) u ≡ looked_at seen)
       by_told (Ok found) is = is ∙ held_told new.shelf found
       by_told (Err fault) is = tt
 
-look_spares : (old new : ℕ) (look : Result Look Fault) → FaultHasCause old new look → IfErr (seen_after look) (λ fault. fault ≢ Damage)
+look_spares : (old new : ℕ) (look : Result HeaderLook Fault) → FaultHasCause old new look → IfErr (seen_after look) (λ fault. fault ≢ Damage)
 look_spares old new (Ok found) cause = tt
 look_spares old new (Err fault) cause = λ damage. let same : fault ≡ Device = cause.device in cc
 
 -- it takes no memory
-look_needs_none : (old new : ℕ) (look : Result Look Fault) → FaultHasCause old new look → IfErr (seen_after look) (λ fault. fault ≢ Memory)
+look_needs_none : (old new : ℕ) (look : Result HeaderLook Fault) → FaultHasCause old new look → IfErr (seen_after look) (λ fault. fault ≢ Memory)
 look_needs_none old new (Ok found) cause = tt
 look_needs_none old new (Err fault) cause = λ memory. let same : fault ≡ Device = cause.device in cc
 
-pub look_not_memory : (u : ℕ) (look : Result Look Fault) (old new : LibraryState) → LooksAt u look old new
+pub look_not_memory : (u : ℕ) (look : Result HeaderLook Fault) (old new : LibraryState) → LooksAt u look old new
     → (told : Result Seen Fault) → told ≡ seen_after look → IfErr told (λ fault. fault ≢ Memory)
 look_not_memory u look old new call told is =
     subst (λ (r : Result Seen Fault). IfErr r (λ fault. fault ≢ Memory)) (sym is) (look_needs_none old.faults new.faults look call.looks.cause)
 
 -- what a look promises
-pub look_opens : {S : Type 0} (state : S → LibraryState) (u : ℕ) (look : Result Look Fault) (old new : S) → LooksAt u look (state old) (state new)
+pub look_opens : {S : Type 0} (state : S → LibraryState) (u : ℕ) (look : Result HeaderLook Fault) (old new : S) → LooksAt u look (state old) (state new)
     → (told : Result Seen Fault) → told ≡ seen_after look → OpensUnit (shown_by state) u untouched old new told
 look_opens {S} state u look old new call told is =
     let changes = look_changes u look (state old) (state new) call in
@@ -138,12 +138,12 @@ look_opens {S} state u look old new call told is =
       keeps = keeps_at state u one old new call.units changes call.limit call.frames call.looks.cause.no_fewer (λ honest truly. still_true u look (state old) (state new) call truly);
     })
   where
-    shut : (l : Result Look Fault) → holding_at (world_of (state new).shelf (state new).held) u ≡ holding_of (state new).shelf (held_after l)
+    shut : (l : Result HeaderLook Fault) → holding_at (world_of (state new).shelf (state new).held) u ≡ holding_of (state new).shelf (held_after l)
         → OnErr (seen_after l) (holding_at (world_of (state new).shelf (state new).held) u ≡ Shut)
     shut (Ok found) is = tt
     shut (Err fault) is = is
 
-    unbroken : (l : Result Look Fault) → holding_at (world_of (state new).shelf (state new).held) u ≡ holding_of (state new).shelf (held_after l)
+    unbroken : (l : Result HeaderLook Fault) → holding_at (world_of (state new).shelf (state new).held) u ≡ holding_of (state new).shelf (held_after l)
         → OnOk (seen_after l) (IsFalse (is_broken (holding_at (world_of (state new).shelf (state new).held) u)))
     unbroken (Ok NoFile) is = ap is_broken is
     unbroken (Ok Refused) is = ap is_broken is

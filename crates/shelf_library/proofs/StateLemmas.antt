@@ -3,7 +3,7 @@ use Rattle.std.proofs.Common.{◌≡◌, ℕ, ◌<◌, List, length, bytes_eq, I
 use Rattle.std.specs.Prelude.{slice_set, replicate, vec_len}
 use Rattle.std.specs.List.{IsDistinct}
 use Rattle.shelf_library.specs.FileOpening.{LooksOnShelf, MakesOnShelf, OpensByHeader, ClosesOnShelf, CountedShelf, counted_shelf}
-use Rattle.shelf_library.proofs.Terms.{non_zero_usize_get, Fault, Schema, Leaves, unit_name, Ghosts, Header, Look, ShelfFile, Attaches}
+use Rattle.shelf_library.proofs.Terms.{non_zero_usize_get, Fault, Schema, Leaves, unit_name, Ghosts, Header, HeaderLook, ShelfFile, Attaches}
 use Rattle.shelf_library.proofs.Terms.{ClosesUnitAt, LooksAt, MakesAt, OpensAt, LibraryState, held_at, held_after, held_open, world_of}
 use Rattle.shelf_library.proofs.Terms.{Held, Looked, Nothing, Opened, ShelfLibrary}
 use Rattle.shelf_library.proofs.WorldLemmas.{is_held, set_twice}
@@ -90,7 +90,7 @@ module _ {S : Type 0} (shelf : Ghosts S) where
       image_after = image now (unit_name (shelf.state now) u);
     }
 
-    pub looks_at : (look : Result Look Fault) (now : S) (one : Held) → one ≡ held_after look
+    pub looks_at : (look : Result HeaderLook Fault) (now : S) (one : Held) → one ≡ held_after look
         → LooksOnShelf u (at_shelf s.shelf) (at_shelf now) look
         → LooksAt u look (library_state s) (state_left s now (slice_set s.units.items u one))
     looks_at look now one is looks = record {

@@ -45,8 +45,8 @@ pub use Rattle.shelf_library.specs.FileOpening.{MayFailToMake}
 pub use Rattle.shelf_library.specs.Shelves.{ClosedFileOrRefused, Closes}
 pub use Rattle.shelf_library.specs.Standing.{HasLimits, IsReady, StandsFor, file_read_off, is_broken_file}
 pub use Rattle.shelf_library.specs.Standing.{live_of, pages_behind, parts_of, room_in, schema_behind}
-pub use Rattle.shelf_library.specs.declared.look.Look.{Look}
-pub use Rattle.shelf_library.specs.declared.look.Look.TheVariants.{Accepted, NoFile, Refused}
+pub use Rattle.shelf_library.specs.declared.look.HeaderLook.{HeaderLook}
+pub use Rattle.shelf_library.specs.declared.look.HeaderLook.TheVariants.{Accepted, NoFile, Refused}
 pub use Rattle.shelf_library.specs.declared.shelf_file.ShelfFile.{ShelfFile}
 pub use Rattle.shelf_library.specs.Attaching.{Attaches}
 pub use Rattle.shelf_library.specs.Changing.{ChangesFile, MovesAt}

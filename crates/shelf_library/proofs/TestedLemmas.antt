@@ -2,7 +2,7 @@
 use Rattle.std.proofs.Common.{◌≡◌, ℕ, suc, ◌+◌, Bool, List, [], ◌∷◌, ◌++◌, length, take, Option, None, Some, IsTrue, refl, sym, ap, subst, ◌∙◌}
 use Rattle.std.proofs.Math.Seq.{take-append-add}
 use Rattle.shelf_library.proofs.Terms.{File, Absent, Closed, Named, Unsound, throughout_weaker, DeviceFile, Throughout, ShelfState, Header}
-use Rattle.shelf_library.proofs.Terms.{reads_back, StandsIn, look_of, named_by, named_of, Look, Accepted, NoFile, Refused, IsSoundImage}
+use Rattle.shelf_library.proofs.Terms.{reads_back, StandsIn, look_of, named_by, named_of, HeaderLook, Accepted, NoFile, Refused, IsSoundImage}
 use Rattle.shelf_library.proofs.Terms.{each_read}
 use Rattle.indexed_file.proofs.ImageLemmas.{AllPassTest}
 use Rattle.page_store.specs.DeviceFile.{FileStep}
@@ -33,7 +33,7 @@ module _ (test : Named → Bool) where
     pub stands : StandsIn header bytes rows
     pub passes : IsTrue (test (Closed header.schema rows))
 
-  abbrev pub PassesBy : List ℕ → Look → Type 0
+  abbrev pub PassesBy : List ℕ → HeaderLook → Type 0
   PassesBy bytes NoFile = IsTrue (test Absent)
   PassesBy bytes Refused = IsTrue (test Unsound)
   PassesBy bytes (Accepted header) = PassesClosed header bytes
@@ -44,7 +44,7 @@ module _ (test : Named → Bool) where
   Passes (Some bytes) = PassesBy bytes (look_of (Some bytes))
 
   -- what is sound and reads as something that passes does so
-  passes_by : (bytes : List ℕ) (look : Look) → look_of (Some bytes) ≡ look → IsSoundImage (Some bytes) → IsTrue (test (named_by bytes look)) → PassesBy bytes look
+  passes_by : (bytes : List ℕ) (look : HeaderLook) → look_of (Some bytes) ≡ look → IsSoundImage (Some bytes) → IsTrue (test (named_by bytes look)) → PassesBy bytes look
   passes_by bytes NoFile is sound passes = passes
   passes_by bytes Refused is sound passes = passes
   passes_by bytes (Accepted header) is sound passes =
@@ -56,7 +56,7 @@ module _ (test : Named → Bool) where
   sound_passes (Some bytes) sound passes = passes_by bytes (look_of (Some bytes)) refl sound passes
 
   -- and the other way round
-  sound_by : (bytes : List ℕ) (look : Look) → look_of (Some bytes) ≡ look → PassesBy bytes look → IsSoundImage (Some bytes) × IsTrue (test (named_by bytes look))
+  sound_by : (bytes : List ℕ) (look : HeaderLook) → look_of (Some bytes) ≡ look → PassesBy bytes look → IsSoundImage (Some bytes) × IsTrue (test (named_by bytes look))
   sound_by bytes NoFile is passes = (λ header accepted. let e : NoFile ≡ Accepted header = sym is ∙ accepted in absurd (cc), passes)
   sound_by bytes Refused is passes = (λ header accepted. let e : Refused ≡ Accepted header = sym is ∙ accepted in absurd (cc), passes)
   sound_by bytes (Accepted header) is passes = (

@@ -8,7 +8,7 @@ use Rattle.page_store.specs.Images.{durable, MayLeave}
 use Rattle.page_store.specs.Moments.{Throughout}
 use Rattle.page_store.specs.ShelfState.{ShelfState}
 use Rattle.open_file.specs.declared.first_page.Header.{Header}
-use Rattle.shelf_library.specs.declared.look.Look.TheVariants.{Accepted}
+use Rattle.shelf_library.specs.declared.look.HeaderLook.TheVariants.{Accepted}
 use Rattle.shelf_library.specs.ClosedFile.{StandsIn}
 use Rattle.shelf_library.specs.Named.{look_of, named_of}
 

@@ -8,7 +8,7 @@ use Rattle.open_file.specs.declared.first_page.Header.{Header}
 use Rattle.open_file.specs.FirstPageReading.{header_in}
 use Rattle.open_file.specs.Bounds.{IsHeader}
 use Rattle.open_file.proofs.PageReadLemmas.{first_read, read_first}
-use Rattle.shelf_library.specs.declared.look.Look.TheVariants.{Refused, Accepted}
+use Rattle.shelf_library.specs.declared.look.HeaderLook.TheVariants.{Refused, Accepted}
 use Rattle.shelf_library.specs.ClosedFile.{IsAcceptedBy, live_in, StandsIn}
 use Rattle.shelf_library.specs.Named.{look_of, look_by, named_of, named_by}
 use Rattle.shelf_library.specs.ReadOff.{file_by}

@@ -15,7 +15,7 @@ use Rattle.open_file.specs.declared.first_page.Header.{Header}
 use Rattle.open_file.specs.Fields.{has_broken, file_schema}
 use Rattle.open_file.specs.Faults.{IsCausedIn}
 use Rattle.open_file.specs.Headers.{Counts}
-use Rattle.shelf_library.specs.declared.look.Look.{Look}
+use Rattle.shelf_library.specs.declared.look.HeaderLook.{HeaderLook}
 use Rattle.shelf_library.specs.declared.shelf_file.ShelfFile.{ShelfFile}
 use Rattle.shelf_library.specs.Named.{look_of}
 use Rattle.shelf_library.specs.Standing.{StandsFor, HasLimits}
@@ -35,7 +35,7 @@ abbrev pub counted_shelf : ShelfState → ℕ → CountedShelf
 counted_shelf shelf faults = record { shelf = shelf; faults = faults }
 
 -- a unit's file was looked at, and nothing was written
-pub record LooksOnShelf (unit : ℕ) (old new : CountedShelf) (result : Result Look Fault) : Type 0 where
+pub record LooksOnShelf (unit : ℕ) (old new : CountedShelf) (result : Result HeaderLook Fault) : Type 0 where
   pub found : IsTrue new.shelf.is_honest
       → IfOk result (λ look. look ≡ look_of (unit_file old.shelf unit).seen)
   pub header : IfOk result HasHeader
@@ -91,7 +91,7 @@ pub record ClosesOnShelf (held : ShelfFile) (old new : CountedShelf)
 -- the same, of shelves that show this state and count their faults so
 module _ {H : Type 0} (state : H → ShelfState) (count : H → ℕ) where
   -- a unit's file was looked at
-  abbrev pub LooksAtUnit : ℕ → H → H → Result Look Fault → Type 0
+  abbrev pub LooksAtUnit : ℕ → H → H → Result HeaderLook Fault → Type 0
   LooksAtUnit unit old new result = LooksOnShelf unit (counted_shelf (state old) (count old))
       (counted_shelf (state new) (count new)) result
 

@@ -16,8 +16,8 @@ use Rattle.page_store.specs.ShelfState.{ShelfState, unit_name, unit_file}
 use Rattle.page_alloc.specs.Joining.{available_of, pages_counted, pages_free}
 use Rattle.page_alloc.specs.PagedFile.{counts_of}
 use Rattle.open_file.specs.declared.first_page.Header.{Header}
-use Rattle.shelf_library.specs.declared.look.Look.{Look}
-use Rattle.shelf_library.specs.declared.look.Look.TheVariants.{NoFile, Refused, Accepted}
+use Rattle.shelf_library.specs.declared.look.HeaderLook.{HeaderLook}
+use Rattle.shelf_library.specs.declared.look.HeaderLook.TheVariants.{NoFile, Refused, Accepted}
 use Rattle.shelf_library.specs.declared.shelf_file.ShelfFile.{ShelfFile}
 use Rattle.shelf_library.specs.Named.{look_of, named_of, named_by}
 use Rattle.shelf_library.specs.Standing.{file_read_off, live_of, room_in}
@@ -47,7 +47,7 @@ named_files : (bytes : DeviceFile) → ((header : Header) → look_of bytes.seen
     → IsTrulyClosed bytes header) → IsTrue (is_sound_named (named_of bytes.seen))
 named_files bytes truly = go bytes.seen refl
   where
-    by_look : (seen : List ℕ) (look : Look) → look_of (Some seen) ≡ look → bytes.seen ≡ Some seen
+    by_look : (seen : List ℕ) (look : HeaderLook) → look_of (Some seen) ≡ look → bytes.seen ≡ Some seen
         → IsTrue (is_sound_named (named_by seen look))
     by_look seen NoFile is there = refl
     by_look seen Refused is there = refl

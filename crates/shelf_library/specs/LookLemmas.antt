@@ -7,8 +7,8 @@ use Rattle.page_store.specs.ShelfState.{ShelfState, OnlyAnswers, unit_file}
 use Rattle.open_file.specs.declared.first_page.Header.{Header}
 use Rattle.open_file.specs.FirstPageReading.{header_in}
 use Rattle.open_file.specs.Bounds.{IsHeader}
-use Rattle.shelf_library.specs.declared.look.Look.{Look}
-use Rattle.shelf_library.specs.declared.look.Look.TheVariants.{Accepted}
+use Rattle.shelf_library.specs.declared.look.HeaderLook.{HeaderLook}
+use Rattle.shelf_library.specs.declared.look.HeaderLook.TheVariants.{Accepted}
 use Rattle.shelf_library.specs.Named.{look_of, look_by}
 
 -- a call that only answers leaves the unit's file
@@ -16,7 +16,7 @@ pub same_file : (old new : ShelfState) (unit : ℕ) → OnlyAnswers old new → 
 same_file old new unit only = rw (only.names, only.file) refl
 
 -- its first page was read
-pub read_look : (seen : Option (List ℕ)) (there : Bool) (size : ℕ) (page : List ℕ) (header : Option Header) (look : Look)
+pub read_look : (seen : Option (List ℕ)) (there : Bool) (size : ℕ) (page : List ℕ) (header : Option Header) (look : HeaderLook)
     → there ≡ is_some seen → there ≡ true → size ≡ length (bytes_or_none seen) → 4096 ≤ size
     → page ≡ take (length page) (drop 0 (bytes_or_none seen)) → length page ≡ 4096 → header ≡ header_in page
     → ((bytes : List ℕ) → size ≡ length bytes → look ≡ look_by bytes header) → look ≡ look_of seen

@@ -4,7 +4,7 @@ use Rattle.std.specs.Prelude.{◌≡◌, ℕ, ◌<◌, List, length, slice_set, 
 use Rattle.std.specs.List.{IsDistinct}
 use Rattle.page_store.specs.ShelfState.{ShelfState, KeepsOthers, unit_file}
 use Rattle.open_file.specs.declared.first_page.Header.{Header}
-use Rattle.shelf_library.specs.declared.look.Look.TheVariants.{Accepted}
+use Rattle.shelf_library.specs.declared.look.HeaderLook.TheVariants.{Accepted}
 use Rattle.shelf_library.specs.declared.shelf_file.ShelfFile.{ShelfFile}
 use Rattle.shelf_library.specs.Named.{look_of}
 use Rattle.shelf_library.specs.Standing.{is_broken_file}

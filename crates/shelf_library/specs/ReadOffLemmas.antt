@@ -9,14 +9,14 @@ use Rattle.record_layout.specs.Schema.{Schema, key_at, has_duplicates, no_key}
 use Rattle.pages.specs.PageMap.{PageMap}
 use Rattle.open_file.specs.declared.first_page.Header.{Header}
 use Rattle.open_file.specs.Bounds.{IsHeader}
-use Rattle.tree_node.specs.declared.shape.Shape.{Shape as TreeShape}
+use Rattle.tree_node.specs.declared.shape.NodeShape.{NodeShape}
 use Rattle.key_index.specs.declared.prime_index.PrimeIndex.{PrimeIndex}
 use Rattle.key_index.specs.declared.entry.PrimeEntry.{PrimeEntry}
 use Rattle.key_index.specs.Stored.{prime_entry_in}
 use Rattle.key_index.specs.Standing.{prime_off}
 use Rattle.bplus_tree.specs.ReadOff.{entries_in}
 use Rattle.bplus_tree.specs.Fields.{tree_shape, tree_root, tree_levels}
-use Rattle.record_heap.specs.declared.shape.Shape.{Shape}
+use Rattle.record_heap.specs.declared.shape.SlotShape.{SlotShape}
 use Rattle.record_heap.specs.declared.heap.Heap.{Heap}
 use Rattle.record_heap.specs.Calls.{used_at}
 use Rattle.record_heap.specs.Standing.{slot_shape}
@@ -29,7 +29,7 @@ use Rattle.shelf_library.specs.ReadOff.{prime_by, heap_by, file_by}
 
 -- ---- shapes of the same numbers are one
 
-same_shape : (a b : TreeShape) → a.key ≡ b.key → a.width ≡ b.width → a.entry ≡ b.entry → a ≡ b
+same_shape : (a b : NodeShape) → a.key ≡ b.key → a.width ≡ b.width → a.entry ≡ b.entry → a ≡ b
 same_shape a b k w e = λ i. record {
   key = k i;
   width = w i;
@@ -40,7 +40,7 @@ same_shape a b k w e = λ i. record {
   short = is_prop→PathP (λ j. e j ≤ 508) (λ j. le_prop) a.short b.short i;
 }
 
-same_slots : (a b : Shape) → a.stamps ≡ b.stamps → a.least ≡ b.least → a.greatest ≡ b.greatest → a ≡ b
+same_slots : (a b : SlotShape) → a.stamps ≡ b.stamps → a.least ≡ b.least → a.greatest ≡ b.greatest → a ≡ b
 same_slots a b s l g = λ i. record {
   stamps = s i;
   least = l i;

@@ -10,8 +10,8 @@ use Rattle.page_store.specs.Gate.{IsRefused}
 use Rattle.page_store.specs.ShelfState.{ShelfState, HasUnit, unit_file}
 use Rattle.open_file.specs.declared.first_page.Header.{Header}
 use Rattle.open_file.specs.Bounds.{IsHeader}
-use Rattle.shelf_library.specs.declared.look.Look.{Look}
-use Rattle.shelf_library.specs.declared.look.Look.TheVariants.{NoFile, Refused, Accepted}
+use Rattle.shelf_library.specs.declared.look.HeaderLook.{HeaderLook}
+use Rattle.shelf_library.specs.declared.look.HeaderLook.TheVariants.{NoFile, Refused, Accepted}
 use Rattle.shelf_library.specs.declared.shelf_file.ShelfFile.{ShelfFile}
 use Rattle.shelf_library.specs.ClosedFile.{live_in, StandsIn, AreClosed}
 use Rattle.shelf_library.specs.Named.{look_of}
@@ -21,7 +21,7 @@ use Rattle.page_alloc.specs.PagedFile.{is_begun, times_asked, unit_of_pages}
 use Rattle.open_file.specs.Fields.{has_broken, file_schema}
 
 -- a header that was accepted is one that a file may have
-abbrev pub HasHeader : Look → Type 0
+abbrev pub HasHeader : HeaderLook → Type 0
 HasHeader NoFile = Unit {0}
 HasHeader Refused = Unit {0}
 HasHeader (Accepted header) = IsHeader header

@@ -4,7 +4,7 @@ use Rattle.indexed_file.specs.File.{File}
 use Rattle.page_store.specs.DeviceFile.{DeviceFile, content}
 use Rattle.page_store.specs.ShelfState.{ShelfState, unit_name}
 use Rattle.open_file.specs.declared.first_page.Header.{Header}
-use Rattle.shelf_library.specs.declared.look.Look.TheVariants.{Accepted}
+use Rattle.shelf_library.specs.declared.look.HeaderLook.TheVariants.{Accepted}
 use Rattle.shelf_library.specs.declared.shelf_file.ShelfFile.{ShelfFile}
 use Rattle.shelf_library.specs.ClosedFile.{StandsIn, AreClosed}
 use Rattle.shelf_library.specs.Named.{look_of}

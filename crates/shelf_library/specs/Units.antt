@@ -9,8 +9,8 @@ use Rattle.page_store.specs.ShelfState.{ShelfState}
 use Rattle.page_alloc.specs.declared.pager.Pager.{Pager}
 use Rattle.page_alloc.specs.PagedFile.{counts_of, most_held, times_asked}
 use Rattle.page_alloc.specs.Joining.{pages_counted, pages_free}
-use Rattle.shelf_library.specs.declared.look.Look.{Look}
-use Rattle.shelf_library.specs.declared.look.Look.TheVariants.{NoFile, Refused, Accepted}
+use Rattle.shelf_library.specs.declared.look.HeaderLook.{HeaderLook}
+use Rattle.shelf_library.specs.declared.look.HeaderLook.TheVariants.{NoFile, Refused, Accepted}
 use Rattle.shelf_library.specs.Named.{look_of, named_of}
 use Rattle.shelf_library.specs.Standing.{file_read_off, room_in, is_broken_file, pages_behind, schema_behind}
 use Rattle.shelf_library.specs.declared.held.Held.{Held}
@@ -58,7 +58,7 @@ pages_asked_of (Opened file) = times_asked (pages_behind file)
 abbrev pub counts_of_pager : Pager → PageCounts
 counts_of_pager pager = record { count = pages_counted pager; free = pages_free pager }
 
-abbrev pub counts_by : Look → PageCounts
+abbrev pub counts_by : HeaderLook → PageCounts
 counts_by NoFile = record { count = 0; free = 0 }
 counts_by Refused = record { count = 0; free = 0 }
 counts_by (Accepted header) = record { count = header.pages; free = header.free }

@@ -20,5 +20,5 @@ mod reading;
 mod shelf_file;
 
 pub use library::ShelfLibrary;
-pub use look::{Look, look_at};
+pub use look::{HeaderLook, look_at};
 pub use shelf_file::ShelfFile;

@@ -14,7 +14,7 @@ ghost use Rattle.shelf_library.specs.Units.{room_of_held};
 ghost use Rattle.shelf_library.specs.Told.{held_after, seen_after, held_open, answer_open};
 
 use crate::held::Held;
-use crate::look::{Look, look_at};
+use crate::look::{HeaderLook, look_at};
 use crate::shelf_file::ShelfFile;
 use indexed_file::{Added, Found, GrowingLibrary, Library, Replaced, Seen};
 use io_state::{Fault, FileName, Key, Position, Relation};
@@ -41,15 +41,15 @@ pub struct ShelfLibrary<S: Shelf> {
 }
 
 /// What a unit holds after a look, and what is answered.
-fn held_and_seen(look: Result<Look, Fault>) -> (Held, Result<Seen, Fault>)
+fn held_and_seen(look: Result<HeaderLook, Fault>) -> (Held, Result<Seen, Fault>)
     ensures held { result.0 ≡ held_after look }
     ensures seen { result.1 ≡ seen_after look }
 {
     match look {
         Err(fault) => (Held::Nothing, Err(fault)),
-        Ok(Look::NoFile) => (Held::Nothing, Ok(Seen::Absent)),
-        Ok(Look::Refused) => (Held::Nothing, Ok(Seen::Unsound)),
-        Ok(Look::Accepted(header)) => {
+        Ok(HeaderLook::NoFile) => (Held::Nothing, Ok(Seen::Absent)),
+        Ok(HeaderLook::Refused) => (Held::Nothing, Ok(Seen::Unsound)),
+        Ok(HeaderLook::Accepted(header)) => {
             let schema = header.schema.copy();
             (Held::Looked(header), Ok(Seen::Sound(schema)))
         }

@@ -15,7 +15,7 @@ use pages::PAGE_SIZE;
 /// What a look at a file finds: no file; one whose first page is refused, or that is shorter than
 /// it counts; or one that can be opened.
 #[derive(Drop)]
-pub enum Look {
+pub enum HeaderLook {
     NoFile,
     Refused,
     Accepted(Header),
@@ -24,16 +24,16 @@ pub enum Look {
 /// Looks at the first page of a unit's file. Nothing is written.
 ///
 /// Device.
-pub fn look_at<S: Shelf>(shelf: &mut S, unit: usize) -> Result<Look, Fault>
+pub fn look_at<S: Shelf>(shelf: &mut S, unit: usize) -> Result<HeaderLook, Fault>
     requires unit { HasUnit (S.state shelf.old) unit }
     ensures { LooksAtUnit S.state S.fault_count unit shelf.old shelf.new result }
 {
     if !shelf.exists(unit)? {
-        return Ok(Look::NoFile);
+        return Ok(HeaderLook::NoFile);
     }
     let size = shelf.size(unit)?;
     if size < PAGE {
-        return Ok(Look::Refused);
+        return Ok(HeaderLook::Refused);
     }
     let mut page = [0; PAGE_SIZE];
     shelf.read_at(unit, 0, &mut page)?;
@@ -41,12 +41,12 @@ pub fn look_at<S: Shelf>(shelf: &mut S, unit: usize) -> Result<Look, Fault>
 }
 
 /// What is found in a file of so many bytes, by its header.
-fn judged(size: u64, header: Option<Header>) -> Look
+fn judged(size: u64, header: Option<Header>) -> HeaderLook
     ensures found { (bytes : List ℕ) → size ≡ length bytes → result ≡ look_by bytes header }
     ensures header { IfSome header IsHeader → HasHeader result }
 {
     match header {
-        Some(header) if size >= PAGE * u64::from(header.pages) => Look::Accepted(header),
-        _ => Look::Refused,
+        Some(header) if size >= PAGE * u64::from(header.pages) => HeaderLook::Accepted(header),
+        _ => HeaderLook::Refused,
     }
 }

@@ -11,8 +11,8 @@ use Rattle.page_store.specs.ShelfState.{ShelfState}
 use Rattle.file_control.specs.Description.{file_names}
 use Rattle.deck_reader.specs.declared.deck.Deck.{Deck}
 use Rattle.open_file.specs.declared.first_page.Header.{Header}
-use Rattle.shelf_library.specs.declared.look.Look.{Look}
-use Rattle.shelf_library.specs.declared.look.Look.TheVariants.{NoFile, Refused, Accepted}
+use Rattle.shelf_library.specs.declared.look.HeaderLook.{HeaderLook}
+use Rattle.shelf_library.specs.declared.look.HeaderLook.TheVariants.{NoFile, Refused, Accepted}
 use Rattle.shelf_library.specs.ClosedFile.{IsAcceptedBy, StandsIn}
 use Rattle.shelf_library.specs.Named.{look_of, look_by, named_of, named_by}
 use Rattle.shelf_library.specs.FileAcceptedLemmas.{looks_accepted, accepted_looks, reads_back, named_by_header}
@@ -70,7 +70,7 @@ file_there bytes is =
     (λ long. look_there bytes (header_in (page_of_bytes bytes 0)) (rw long at is))
 
 -- bytes that begin with the first page of no closed file are refused
-refused_by : (bytes : List ℕ) (look : Look) → look_of (Some bytes) ≡ look → ((header : Header) → IsAcceptedBy header bytes → ⊥) → look ≡ Refused
+refused_by : (bytes : List ℕ) (look : HeaderLook) → look_of (Some bytes) ≡ look → ((header : Header) → IsAcceptedBy header bytes → ⊥) → look ≡ Refused
 refused_by bytes NoFile is none = absurd (file_there bytes is)
 refused_by bytes Refused is none = refl
 refused_by bytes (Accepted header) is none = absurd (none header (accepted_looks bytes header is))
@@ -106,7 +106,7 @@ sound_of c (Closed schema file) is = λ header accepted.
     )
 sound_of c Unsound is = λ header accepted. let e : Refused ≡ Accepted header = sym (refused_look c is) ∙ accepted in absurd (cc)
 
-represents_look : (bytes : List ℕ) (look : Look) → look_of (Some bytes) ≡ look → IsSoundImage (Some bytes) → Represents (Some bytes) (named_by bytes look)
+represents_look : (bytes : List ℕ) (look : HeaderLook) → look_of (Some bytes) ≡ look → IsSoundImage (Some bytes) → Represents (Some bytes) (named_by bytes look)
 represents_look bytes NoFile is sound = absurd (file_there bytes is)
 represents_look bytes Refused is sound = (
   bytes,

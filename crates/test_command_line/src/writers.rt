@@ -2,7 +2,7 @@
 
 use crate::checks::{assert_equal, assert_equal_for, assert_that};
 use command_line::program;
-use command_support::Fault;
+use command_support::CommandFault;
 use folder_shelf::{CallRecord, EmptyDisk, RecordedSystem};
 use record_loading::RejectedLines;
 use std::fs;
@@ -249,7 +249,7 @@ fn a_copy_is_told_on_standard_error(rt: HostRuntime) -> Result<(), Fail> {
     Ok(())
 }
 
-fn reported(rt: &HostRuntime, fault: Fault) -> (u8, Vec<u8>) {
+fn reported(rt: &HostRuntime, fault: CommandFault) -> (u8, Vec<u8>) {
     let mut err = Vec::new(rt.alloc());
     let status = fault.report(&mut err);
     (status, err)
@@ -257,7 +257,7 @@ fn reported(rt: &HostRuntime, fault: Fault) -> (u8, Vec<u8>) {
 
 #[test]
 fn want_of_memory_is_told(rt: HostRuntime) {
-    let (status, err) = reported(&rt, Fault::of_input(ErrorKind::OutOfMemory.into()));
+    let (status, err) = reported(&rt, CommandFault::of_input(ErrorKind::OutOfMemory.into()));
     assert_equal(&rt, status, 4);
     assert_equal(&rt, err.as_slice(), b"cobix: memory\n");
 }

@@ -7,7 +7,7 @@ use io_state::{Fault, FileName};
 use memory_shelf::{FuseShelf, Kind, MemShelf};
 use page_store::Shelf;
 use record_layout::{KeyKind, KeyPart, Schema};
-use shelf_library::{Look, look_at};
+use shelf_library::{HeaderLook, look_at};
 use std::alloc::Global;
 use std::num::NonZeroUsize;
 use std::process::Abort;
@@ -87,7 +87,7 @@ fn builds<S: Shelf>(
 }
 
 /// What is found of the file.
-fn look<S: Shelf>(rt: &impl Abort, shelf: &mut S) -> Look {
+fn look<S: Shelf>(rt: &impl Abort, shelf: &mut S) -> HeaderLook {
     let name = FileName::from("FILE").expect(rt, "a name");
     shelf.attach(&[name]).expect(rt, "attached");
     look_at(shelf, 0).expect(rt, "a look")
@@ -103,7 +103,7 @@ fn a_file_has_the_records_of_which_it_was_built(rt: HostRuntime) {
         let records = u64::from(count);
         assert_equal_for(&rt, count, built, Ok(FileBuilt::Closed { records }));
         match look(&rt, &mut shelf) {
-            Look::Accepted(header) => assert_equal_for(&rt, count, header.records, records),
+            HeaderLook::Accepted(header) => assert_equal_for(&rt, count, header.records, records),
             _ => panic!(&rt; "the file is refused"),
         }
     }
@@ -118,7 +118,11 @@ fn refused(
 ) -> Result<FileBuilt, Fault> {
     let mut shelf = MemShelf::new(alloc);
     let built = builds(rt, alloc, &mut shelf, bytes, memory);
-    assert_equal(rt, matches!(look(rt, &mut shelf), Look::Refused), true);
+    assert_equal(
+        rt,
+        matches!(look(rt, &mut shelf), HeaderLook::Refused),
+        true,
+    );
     built
 }
 
@@ -167,9 +171,9 @@ fn fails_at(rt: &impl Abort, alloc: Global, bytes: &[u8], at: u64) {
     assert_equal_for(rt, at, told, true);
     let mut shelf = shelf.into_inner();
     match look(rt, &mut shelf) {
-        Look::NoFile => assert_equal(rt, at, 1),
-        Look::Refused => assert_equal_for(rt, at, at < CHANGES, true),
-        Look::Accepted(header) => {
+        HeaderLook::NoFile => assert_equal(rt, at, 1),
+        HeaderLook::Refused => assert_equal_for(rt, at, at < CHANGES, true),
+        HeaderLook::Accepted(header) => {
             assert_equal(rt, at, CHANGES);
             assert_equal(rt, header.records, 40);
         }

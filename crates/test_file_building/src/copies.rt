@@ -9,7 +9,7 @@ use io_state::{Fault, FileName};
 use memory_shelf::MemShelf;
 use page_store::Shelf;
 use record_layout::{KeyKind, KeyPart, Schema};
-use shelf_library::{Look, ShelfFile, look_at};
+use shelf_library::{HeaderLook, ShelfFile, look_at};
 use std::alloc::Global;
 use std::num::NonZeroUsize;
 use std::process::Abort;
@@ -87,13 +87,13 @@ fn made(rt: &impl Abort, alloc: Global, count: u32) -> (MemShelf, u32) {
     fills(rt, &mut held, &mut shelf, count);
     held.close(&mut shelf).expect(rt, "closed");
     match look(rt, &mut shelf) {
-        Look::Accepted(header) => (shelf, header.pages),
+        HeaderLook::Accepted(header) => (shelf, header.pages),
         _ => panic!(rt; "the file is refused"),
     }
 }
 
 /// What is found of the file of a shelf.
-fn look(rt: &impl Abort, shelf: &mut MemShelf) -> Look {
+fn look(rt: &impl Abort, shelf: &mut MemShelf) -> HeaderLook {
     shelf.attach(&[name(rt)]).expect(rt, "attached");
     look_at(shelf, 0).expect(rt, "a look")
 }
@@ -121,7 +121,7 @@ fn is_copied(rt: &impl Abort, alloc: Global, key: u8, count: u32) {
     assert_equal_for(rt, count, copied.records, u64::from(count));
     assert_equal_for(rt, count, copied.pages <= pages, true);
     match look(rt, &mut to) {
-        Look::Accepted(header) => assert_equal_for(rt, count, header.pages, copied.pages),
+        HeaderLook::Accepted(header) => assert_equal_for(rt, count, header.pages, copied.pages),
         _ => panic!(rt; "the copy is refused"),
     }
     let again = copies(rt, alloc, &mut from, &mut to, key, 10_000);
@@ -144,7 +144,7 @@ fn a_copy_of_too_many_pages_is_refused(rt: HostRuntime) {
     let mut to = MemShelf::new(alloc);
     let copied = copies(&rt, alloc, &mut from, &mut to, 0, 16);
     assert_equal(&rt, copied, Err(CopyingFault::Writing(Fault::Full)));
-    assert_equal(&rt, matches!(look(&rt, &mut to), Look::Refused), true);
+    assert_equal(&rt, matches!(look(&rt, &mut to), HeaderLook::Refused), true);
 }
 
 #[test]
@@ -154,7 +154,7 @@ fn a_key_that_the_file_has_not_is_refused(rt: HostRuntime) {
     let mut to = MemShelf::new(alloc);
     let copied = copies(&rt, alloc, &mut from, &mut to, 3, 16);
     assert_equal(&rt, copied, Err(CopyingFault::NoKey));
-    assert_equal(&rt, matches!(look(&rt, &mut to), Look::NoFile), true);
+    assert_equal(&rt, matches!(look(&rt, &mut to), HeaderLook::NoFile), true);
 }
 
 #[test]
@@ -163,5 +163,5 @@ fn where_there_is_no_file_nothing_is_copied(rt: HostRuntime) {
     let (mut from, mut to) = (MemShelf::new(alloc), MemShelf::new(alloc));
     let copied = copies(&rt, alloc, &mut from, &mut to, 0, 16);
     assert_equal(&rt, copied, Err(CopyingFault::NoneToCopy));
-    assert_equal(&rt, matches!(look(&rt, &mut to), Look::NoFile), true);
+    assert_equal(&rt, matches!(look(&rt, &mut to), HeaderLook::NoFile), true);
 }

@@ -6,7 +6,7 @@ use io_state::FileName;
 use memory_shelf::MemShelf;
 use page_store::Shelf;
 use record_layout::{KeyKind, KeyPart, Schema};
-use shelf_library::{Look, ShelfFile, look_at};
+use shelf_library::{HeaderLook, ShelfFile, look_at};
 use std::alloc::Global;
 use std::num::NonZeroUsize;
 use std::process::Abort;
@@ -39,7 +39,7 @@ fn opens(rt: &impl Abort, alloc: Global, shelf: &mut MemShelf) {
     let name = FileName::from("FILE").expect(rt, "a name");
     shelf.attach(&[name]).expect(rt, "attached");
     match look_at(shelf, 0).expect(rt, "a look") {
-        Look::Accepted(header) => {
+        HeaderLook::Accepted(header) => {
             let parts = FileParts::open(alloc, 0, NonZeroUsize::MIN, 100, &header).expect(
                 rt,
                 "an open file",

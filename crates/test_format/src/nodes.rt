@@ -3,15 +3,15 @@
 use crate::checks::{assert_equal, assert_equal_for, assert_that};
 use pages::PAGE_SIZE;
 use std::process::Abort;
-use tree_node::{InnerView, LeafView, Shape, is_inner, is_leaf, is_node};
+use tree_node::{InnerView, LeafView, NodeShape, is_inner, is_leaf, is_node};
 
-const PRIME: Shape = Shape {
+const PRIME: NodeShape = NodeShape {
     key: 0,
     width: 4,
     entry: 10,
 };
 
-const WIDE: Shape = Shape {
+const WIDE: NodeShape = NodeShape {
     key: 2,
     width: 258,
     entry: 508,
@@ -25,20 +25,20 @@ fn page_of(rt: &impl Abort, bytes: &[u8]) -> [u8; PAGE_SIZE] {
     page
 }
 
-const STAMPED: Shape = Shape {
+const STAMPED: NodeShape = NodeShape {
     key: 1,
     width: 12,
     entry: 18,
 };
 
-const LONG: Shape = Shape {
+const LONG: NodeShape = NodeShape {
     key: 1,
     width: 128,
     entry: 248,
 };
 
 // The greatest number of entries in a leaf, and of separators in an inner node.
-const ROOMS: [(Shape, usize, usize); 4] = [
+const ROOMS: [(NodeShape, usize, usize); 4] = [
     (PRIME, 408, 509),
     (STAMPED, 226, 254),
     (LONG, 16, 30),

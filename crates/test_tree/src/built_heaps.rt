@@ -4,12 +4,12 @@
 use crate::checks::{assert_equal, assert_equal_for};
 use crate::memory_pages::{MemoryPages, new_pages};
 use io_state::Fault;
-use record_heap::{Heap, HeapBuilder, Place, Shape};
+use record_heap::{Heap, HeapBuilder, Place, SlotShape};
 use std::alloc::Global;
 use std::process::Abort;
 
 // A page has 240 slots.
-const FIXED: Shape = Shape {
+const FIXED: SlotShape = SlotShape {
     stamps: 0,
     least: 16,
     greatest: 16,

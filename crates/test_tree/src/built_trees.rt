@@ -7,10 +7,10 @@ use bplus_tree::Tree;
 use std::alloc::Global;
 use std::process::Abort;
 use tree_building::TreeBuilder;
-use tree_node::Shape;
+use tree_node::NodeShape;
 
 // A leaf has room for 32 entries, and an inner node for 32 separators.
-const NARROW: Shape = Shape {
+const NARROW: NodeShape = NodeShape {
     key: 0,
     width: 120,
     entry: 127,

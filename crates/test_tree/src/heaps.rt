@@ -5,23 +5,23 @@ use crate::checks::{assert_equal, assert_equal_for};
 use crate::memory_pages::{MemoryPages, new_pages, page_of, put_byte};
 use io_state::Fault;
 use pages::{FaultPlace, PageFault, WalkFault};
-use record_heap::{Heap, Place, Shape, heap_laws, walk_heap};
+use record_heap::{Heap, Place, SlotShape, heap_laws, walk_heap};
 use std::alloc::Global;
 use std::process::Abort;
 
-const FIXED: Shape = Shape {
+const FIXED: SlotShape = SlotShape {
     stamps: 0,
     least: 16,
     greatest: 16,
 };
 
-const VARYING: Shape = Shape {
+const VARYING: SlotShape = SlotShape {
     stamps: 0,
     least: 10,
     greatest: 16,
 };
 
-const STAMPED: Shape = Shape {
+const STAMPED: SlotShape = SlotShape {
     stamps: 8,
     least: 10,
     greatest: 16,
@@ -105,32 +105,32 @@ fn add_numbered(
     places
 }
 
-const TEN: Shape = Shape {
+const TEN: SlotShape = SlotShape {
     stamps: 0,
     least: 10,
     greatest: 10,
 };
 
-const ONE: Shape = Shape {
+const ONE: SlotShape = SlotShape {
     stamps: 0,
     least: 1,
     greatest: 1,
 };
 
-const LARGEST: Shape = Shape {
+const LARGEST: SlotShape = SlotShape {
     stamps: 64,
     least: 4000,
     greatest: 4000,
 };
 
-const LARGEST_VARYING: Shape = Shape {
+const LARGEST_VARYING: SlotShape = SlotShape {
     stamps: 64,
     least: 1,
     greatest: 4000,
 };
 
 // The bytes of a slot of each shape, and the slots of a page.
-const SLOTS: [(Shape, usize, usize); 6] = [
+const SLOTS: [(SlotShape, usize, usize); 6] = [
     (FIXED, 17, 240),
     (VARYING, 19, 214),
     (TEN, 11, 370),
@@ -240,14 +240,14 @@ const STAMPEDS: &[(usize, &[u8])] = &[
 ];
 
 // The shape of a heap, the pages before it, what is added to it, and the parts of its page then.
-const FIRST_PAGES: [(Shape, usize, &[u8], &[(usize, &[u8])]); 3] = [
+const FIRST_PAGES: [(SlotShape, usize, &[u8], &[(usize, &[u8])]); 3] = [
     (TEN, 1, b"0001SMITH ", TENS),
     (VARYING, 2, b"0001SMITH ", VARYINGS),
     (STAMPED, 2, b"\0\0\0\0\0\0\x02\x050001SMITH ", STAMPEDS),
 ];
 
 // These parts stand in a page.
-fn has_parts(rt: &impl Abort, page: &[u8; 4096], shape: Shape, parts: &[(usize, &[u8])]) {
+fn has_parts(rt: &impl Abort, page: &[u8; 4096], shape: SlotShape, parts: &[(usize, &[u8])]) {
     for &(at, bytes) in parts {
         let found = page.get(at..at.saturating_add(bytes.len()));
         assert_equal_for(rt, (shape, at), found, Some(bytes));

@@ -7,28 +7,28 @@ use bplus_tree::{Cursor, Tree, have_many_entries, reads_its_entries};
 use io_state::Fault;
 use std::alloc::Global;
 use std::process::Abort;
-use tree_node::{Entry, InnerView, LeafView, Shape, is_inner, is_leaf};
+use tree_node::{Entry, InnerView, LeafView, NodeShape, is_inner, is_leaf};
 
-const SHORT: Shape = Shape {
+const SHORT: NodeShape = NodeShape {
     key: 0,
     width: 120,
     entry: 126,
 };
 
-const LONG: Shape = Shape {
+const LONG: NodeShape = NodeShape {
     key: 1,
     width: 250,
     entry: 256,
 };
 
-const LONGEST: Shape = Shape {
+const LONGEST: NodeShape = NodeShape {
     key: 2,
     width: 258,
     entry: 508,
 };
 
 // An entry whose key ends in a number, the last byte of which stands behind the key too.
-fn entry_of(shape: Shape, number: u64) -> [u8; 508] {
+fn entry_of(shape: NodeShape, number: u64) -> [u8; 508] {
     let mut entry = [b' '; 508];
     let end = shape.width as usize;
     let start = end.saturating_sub(8);
@@ -40,7 +40,7 @@ fn entry_of(shape: Shape, number: u64) -> [u8; 508] {
 }
 
 // The number of an entry.
-fn number_of(entry: &Entry, shape: Shape) -> u64 {
+fn number_of(entry: &Entry, shape: NodeShape) -> u64 {
     entry
         .iter()
         .take(shape.width as usize)
@@ -66,7 +66,11 @@ fn take(rt: &impl Abort, tree: &mut Tree, pages: &mut MemoryPages, number: u64) 
 }
 
 // The number of what was found.
-fn number_found(rt: &impl Abort, found: Result<Option<Entry>, Fault>, shape: Shape) -> Option<u64> {
+fn number_found(
+    rt: &impl Abort,
+    found: Result<Option<Entry>, Fault>,
+    shape: NodeShape,
+) -> Option<u64> {
     match found.expect(rt, "the tree is read") {
         None => None,
         Some(entry) => Some(number_of(&entry, shape)),
@@ -164,7 +168,7 @@ fn last(rt: &impl Abort, tree: &Tree, pages: &mut MemoryPages) -> Option<u64> {
 fn add_children(
     rt: &impl Abort,
     page: &[u8; 4096],
-    shape: Shape,
+    shape: NodeShape,
     least: usize,
     below: &mut Vec<u32>,
 ) {
@@ -182,7 +186,7 @@ fn children(
     rt: &impl Abort,
     alloc: Global,
     pages: &MemoryPages,
-    shape: Shape,
+    shape: NodeShape,
     row: &[u32],
     least: usize,
 ) -> Vec<u32> {
@@ -194,7 +198,7 @@ fn children(
 }
 
 // How many entries a leaf has, which are so many at least.
-fn count_leaf(rt: &impl Abort, page: &[u8; 4096], shape: Shape, least: usize) -> usize {
+fn count_leaf(rt: &impl Abort, page: &[u8; 4096], shape: NodeShape, least: usize) -> usize {
     assert!(rt; is_leaf(page, shape));
     let leaf = LeafView { page, shape };
     let count = leaf.count();
@@ -206,7 +210,7 @@ fn count_leaf(rt: &impl Abort, page: &[u8; 4096], shape: Shape, least: usize) ->
 fn count_leaves(
     rt: &impl Abort,
     pages: &MemoryPages,
-    shape: Shape,
+    shape: NodeShape,
     row: &[u32],
     least: usize,
 ) -> usize {
@@ -283,7 +287,13 @@ fn empty(rt: &impl Abort, tree: &mut Tree, pages: &mut MemoryPages, leaving: Ord
     }
 }
 
-fn fill_and_empty(rt: &impl Abort, alloc: Global, shape: Shape, entering: Order, leaving: Order) {
+fn fill_and_empty(
+    rt: &impl Abort,
+    alloc: Global,
+    shape: NodeShape,
+    entering: Order,
+    leaving: Order,
+) {
     let mut pages = new_pages(rt, alloc, 0, 1000);
     let mut tree = Tree::empty(&mut pages, shape).expect(rt, "a tree");
     fill(rt, &mut tree, &mut pages, entering);
@@ -317,35 +327,35 @@ fn long_entries_that_come_in_mixed_order_leave_in_it(rt: HostRuntime) {
     fill_and_empty(&rt, rt.alloc(), LONG, Order::Mixed, Order::Mixed);
 }
 
-const NARROWEST: Shape = Shape {
+const NARROWEST: NodeShape = NodeShape {
     key: 0,
     width: 8,
     entry: 10,
 };
 
-const NARROW: Shape = Shape {
+const NARROW: NodeShape = NodeShape {
     key: 0,
     width: 12,
     entry: 18,
 };
 
-const WIDE: Shape = Shape {
+const WIDE: NodeShape = NodeShape {
     key: 0,
     width: 240,
     entry: 255,
 };
 
-const WIDEST: Shape = Shape {
+const WIDEST: NodeShape = NodeShape {
     key: 0,
     width: 258,
     entry: 508,
 };
 
 // How many entries a leaf has room for.
-const ROOMS: [(Shape, u64); 4] = [(NARROWEST, 408), (NARROW, 226), (WIDE, 16), (WIDEST, 8)];
+const ROOMS: [(NodeShape, u64); 4] = [(NARROWEST, 408), (NARROW, 226), (WIDE, 16), (WIDEST, 8)];
 
 // The numbers below `room` fill one leaf, and the next number splits it.
-fn room_fills_a_leaf(rt: &impl Abort, alloc: Global, shape: Shape, room: u64) {
+fn room_fills_a_leaf(rt: &impl Abort, alloc: Global, shape: NodeShape, room: u64) {
     let mut pages = new_pages(rt, alloc, 0, 3);
     let mut tree = Tree::empty(&mut pages, shape).expect(rt, "a tree");
     for i in 0..room {

@@ -4,14 +4,14 @@
 use crate::checks::{assert_equal, assert_equal_for, assert_that};
 use crate::memory_pages::{new_pages, put_byte};
 use bplus_tree::Tree;
-use page_walks::{Leaf, Spot, trees_stay, walk_free, walk_tree, walks_part_the_file};
-use pages::{FaultPlace, PageFault, WalkFault, all_marked, mark};
+use page_walks::{Leaf, LeafSpot, trees_stay, walk_free, walk_tree, walks_part_the_file};
+use pages::{FaultPlace, PageFault, PageList, WalkFault, all_marked, mark};
 use std::alloc::Global;
 use std::process::Abort;
-use tree_node::Shape;
+use tree_node::NodeShape;
 
 // A leaf has 4 to 8 entries, and an inner node 7 to 15 separators.
-const LONGEST: Shape = Shape {
+const LONGEST: NodeShape = NodeShape {
     key: 2,
     width: 258,
     entry: 508,
@@ -68,7 +68,7 @@ fn tree(rt: &impl Abort, root: u32, levels: u8, count: u64) -> Tree {
 const LEAVES: &[Leaf] = &[Leaf { page: 2, count: 4 }, Leaf { page: 3, count: 4 }];
 
 // The first byte of an entry, which has 508.
-fn first_byte(rt: &impl Abort, pages: &[[u8; 4096]], spot: Spot) -> u8 {
+fn first_byte(rt: &impl Abort, pages: &[[u8; 4096]], spot: LeafSpot) -> u8 {
     let entry = spot.entry(pages, LONGEST).expect(rt, "an entry");
     assert!(rt; entry.len() == 508);
     entry[0]
@@ -77,7 +77,7 @@ fn first_byte(rt: &impl Abort, pages: &[[u8; 4096]], spot: Spot) -> u8 {
 // The first bytes of the entries of a leaf, behind others.
 fn add_keys(rt: &impl Abort, pages: &[[u8; 4096]], leaf: Leaf, keys: &mut Vec<u8>) {
     for place in 0..leaf.count {
-        let spot = Spot {
+        let spot = LeafSpot {
             page: leaf.page,
             place,
         };
@@ -87,11 +87,11 @@ fn add_keys(rt: &impl Abort, pages: &[[u8; 4096]], leaf: Leaf, keys: &mut Vec<u8
 }
 
 // Places where no entry is.
-const NO_SPOTS: [Spot; 4] = [
-    Spot { page: 0, place: 0 },
-    Spot { page: 1, place: 0 },
-    Spot { page: 2, place: 4 },
-    Spot { page: 4, place: 0 },
+const NO_SPOTS: [LeafSpot; 4] = [
+    LeafSpot { page: 0, place: 0 },
+    LeafSpot { page: 1, place: 0 },
+    LeafSpot { page: 2, place: 4 },
+    LeafSpot { page: 4, place: 0 },
 ];
 
 #[test]
@@ -100,7 +100,13 @@ fn the_entries_of_a_tree_are_found_in_order(rt: HostRuntime) {
     let pages = two_leaves(&rt, rt.alloc());
     let mut reached = [false; 4];
     let tree = tree(&rt, 1, 1, 8);
-    let leaves = walk_tree(rt.alloc(), &pages, &tree, &mut reached).expect(&rt, "the leaves");
+    let leaves = walk_tree(
+        rt.alloc(),
+        &mut PageList { pages: &pages },
+        &tree,
+        &mut reached,
+    )
+    .expect(&rt, "the leaves");
     assert_equal(&rt, reached, [false, true, true, true]);
     assert_equal(&rt, leaves.as_slice(), LEAVES);
     let mut keys = Vec::new(rt.alloc());
@@ -156,7 +162,13 @@ fn fault_of_three_levels(
     pages: &[[u8; 4096]],
     count: u64,
 ) -> Option<WalkFault> {
-    walk_tree(alloc, pages, &tree(rt, 1, 2, count), &mut [false; 20]).err()
+    walk_tree(
+        alloc,
+        &mut PageList { pages },
+        &tree(rt, 1, 2, count),
+        &mut [false; 20],
+    )
+    .err()
 }
 
 // A byte of an inner node that is changed, the separator that is told then, and what is wrong.
@@ -178,7 +190,13 @@ fn a_tree_of_three_levels_is_walked(rt: HostRuntime) {
     let mut reached = [false; 20];
     assert_equal(&rt, mark(&mut reached, 0), Ok(()));
     let tree = tree(&rt, 1, 2, 64);
-    let leaves = walk_tree(rt.alloc(), &pages, &tree, &mut reached).expect(&rt, "the leaves");
+    let leaves = walk_tree(
+        rt.alloc(),
+        &mut PageList { pages: &pages },
+        &tree,
+        &mut reached,
+    )
+    .expect(&rt, "the leaves");
     let ninth = leaves.get(8).copied();
     assert_equal(&rt, ninth, Some(Leaf { page: 12, count: 4 }));
     assert_that(&rt, all_marked(&reached));
@@ -329,7 +347,12 @@ fn each_damage_of_a_tree_has_its_fault(rt: HostRuntime) {
     let tree = tree(&rt, 1, 1, 8);
     for &(n, at, byte, fault, place, what) in &DAMAGES {
         let was = put_byte(&rt, &mut pages, n, at, byte);
-        let found = walk_tree(rt.alloc(), &pages, &tree, &mut [false; 4]);
+        let found = walk_tree(
+            rt.alloc(),
+            &mut PageList { pages: &pages },
+            &tree,
+            &mut [false; 4],
+        );
         assert_equal_for(&rt, what, found.err(), Some(WalkFault::At(fault, place)));
         put_byte(&rt, &mut pages, n, at, was);
     }
@@ -340,7 +363,12 @@ fn each_wrong_root_of_a_tree_has_its_fault(rt: HostRuntime) {
     let pages = two_leaves(&rt, rt.alloc());
     for &(root, levels, count, fault, page) in &WRONG_ROOTS {
         let tree = tree(&rt, root, levels, count);
-        let found = walk_tree(rt.alloc(), &pages, &tree, &mut [false; 4]);
+        let found = walk_tree(
+            rt.alloc(),
+            &mut PageList { pages: &pages },
+            &tree,
+            &mut [false; 4],
+        );
         let fault = WalkFault::of_page(fault, page);
         assert_equal_for(&rt, (root, levels, count), found.err(), Some(fault));
     }
@@ -371,13 +399,26 @@ fn the_free_pages_are_walked(rt: HostRuntime) {
     walks_part_the_file();
     let pages = two_free(&rt, rt.alloc());
     let mut reached = [false; 4];
-    assert_equal(&rt, walk_free(&pages, 3, 2, &mut reached), Ok(()));
+    assert_equal(
+        &rt,
+        walk_free(&mut PageList { pages: &pages }, 3, 2, &mut reached),
+        Ok(()),
+    );
     assert_equal(&rt, reached, [false, true, false, true]);
-    let again = walk_free(&pages, 3, 2, &mut reached);
+    let again = walk_free(&mut PageList { pages: &pages }, 3, 2, &mut reached);
     assert_equal(&rt, again, Err(WalkFault::of_page(PageFault::Shared, 3)));
-    assert_equal(&rt, walk_free(&pages, 0, 0, &mut reached), Ok(()));
+    assert_equal(
+        &rt,
+        walk_free(&mut PageList { pages: &pages }, 0, 0, &mut reached),
+        Ok(()),
+    );
     for &(first, count, page) in &WRONG_CHAINS {
-        let found = walk_free(&pages, first, count, &mut [false; 4]);
+        let found = walk_free(
+            &mut PageList { pages: &pages },
+            first,
+            count,
+            &mut [false; 4],
+        );
         let fault = WalkFault::of_page(PageFault::Chain, page);
         assert_equal_for(&rt, (first, count), found, Err(fault));
     }
@@ -398,7 +439,7 @@ fn each_damage_of_the_free_pages_has_its_fault(rt: HostRuntime) {
     let mut pages = two_free(&rt, rt.alloc());
     for &(n, at, byte, fault, page, what) in &FREE_DAMAGES {
         let was = put_byte(&rt, &mut pages, n, at, byte);
-        let found = walk_free(&pages, 3, 2, &mut [false; 4]);
+        let found = walk_free(&mut PageList { pages: &pages }, 3, 2, &mut [false; 4]);
         let fault = WalkFault::of_page(fault, page);
         assert_equal_for(&rt, what, found, Err(fault));
         put_byte(&rt, &mut pages, n, at, was);

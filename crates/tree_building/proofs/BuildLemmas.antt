@@ -2,7 +2,7 @@
 use Rattle.std.proofs.Common.{◌≡◌, ℕ, ◌+◌, ◌≤◌, List, [], ◌∷◌, ◌++◌, length, map, None, IsSome, refl, ap, sym, subst, ◌∙◌, arith, flat_map, append_assoc}
 use Rattle.std.proofs.lemmas.Grind.{flat_map-append}
 use Rattle.std.proofs.lemmas.List.{map-append, length-append}
-use Rattle.tree_node.specs.declared.shape.Shape.{Shape}
+use Rattle.tree_node.specs.declared.shape.NodeShape.{NodeShape}
 use Rattle.tree_node.specs.Leaf.{IsLeaf, leaf_entries, leaf_room}
 use Rattle.tree_node.proofs.OrderLemmas.{Each-weaker}
 use Rattle.tree_node.specs.declared.separator.Separator.{Separator}
@@ -16,7 +16,7 @@ use Rattle.tree_search.specs.Calls.{IsWhole}
 use Rattle.tree_node.specs.Order.{Ascends}
 use Rattle.bplus_tree.specs.declared.tree.Tree.{Tree}
 use Rattle.bplus_tree.proofs.RemoveLemmas.{changes_trans}
-use Rattle.tree_building.specs.declared.rising.Base.{Base}
+use Rattle.tree_building.specs.declared.rising.BuiltRoot.{BuiltRoot}
 use Rattle.tree_building.specs.Rising.{HasRootOver}
 use Rattle.std.specs.Prelude.{Result, Ok}
 use Rattle.io_state.specs.declared.fault.Fault.{Fault}
@@ -36,7 +36,7 @@ use Rattle.tree_building.proofs.CountLemmas.{append_none}
 use Rattle.tree_building.proofs.RisingLemmas.{kids_live, leaf_pages, level_length}
 
 -- one leaf more is written
-pub written_more : (shape : Shape) (before after : PageMap) (nodes now : List Separator) (entries : List (List ℕ)) (own leaf : List ℕ)
+pub written_more : (shape : NodeShape) (before after : PageMap) (nodes now : List Separator) (entries : List (List ℕ)) (own leaf : List ℕ)
     → (w : AreInLeaves shape before nodes entries own) → IsLeaf shape leaf → least_entries shape 0 ≤ length (leaf_entries shape leaf)
     → HasNextLeaf shape leaf before after nodes now
     → HasWritten shape before after now (entries ++ leaf_entries shape leaf) own (entry_counts w.leaves ++ length (leaf_entries shape leaf) ∷ [])
@@ -70,11 +70,11 @@ written_more shape before after nodes now entries own leaf w is large added =
     }
 
 -- each leaf has its page
-pub leaves_many : (shape : Shape) (pages : PageMap) (nodes : List Separator) (entries : List (List ℕ)) (own : List ℕ) → AreInLeaves shape pages nodes entries own → length own ≡ length nodes
+pub leaves_many : (shape : NodeShape) (pages : PageMap) (nodes : List Separator) (entries : List (List ℕ)) (own : List ℕ) → AreInLeaves shape pages nodes entries own → length own ≡ length nodes
 leaves_many shape pages nodes entries own w = sym (ap length w.own_are) ∙ leaf_pages w.leaves ∙ level_length shape pages 0 nodes w.leaves w.level
 
 -- a full leaf more is written
-full_more : (shape : Shape) (before after : PageMap) (nodes now : List Separator) (entries : List (List ℕ)) (own leaf : List ℕ) → (f : AreInFullLeaves shape before nodes entries own)
+full_more : (shape : NodeShape) (before after : PageMap) (nodes now : List Separator) (entries : List (List ℕ)) (own leaf : List ℕ) → (f : AreInFullLeaves shape before nodes entries own)
     → IsLeaf shape leaf → leaf_room shape ≡ length (leaf_entries shape leaf) → HasNextLeaf shape leaf before after nodes now
     → (own_now : List ℕ) × AreInFullLeaves shape after now (entries ++ leaf_entries shape leaf) own_now × ChangesPages before after own own_now
 full_more shape before after nodes now entries own leaf f is full added =
@@ -99,13 +99,13 @@ room_made before after old new now entries own b added is full shape_is leaves_a
     let lower = leaf_entries shape old.lower in
     let upper = leaf_entries shape old.upper in
     let w = full_more shape before after old.leaves.items now b.front own old.lower b.written is full added in
-    let first : leaf_entries new.shape new.lower ≡ upper = ap (λ (s : Shape). leaf_entries s new.lower) shape_is ∙ ap (leaf_entries shape) lower_is in
-    let second : leaf_entries new.shape new.upper ≡ [] = ap (λ (s : Shape). leaf_entries s new.upper) shape_is ∙ none in
+    let first : leaf_entries new.shape new.lower ≡ upper = ap (λ (s : NodeShape). leaf_entries s new.lower) shape_is ∙ ap (leaf_entries shape) lower_is in
+    let second : leaf_entries new.shape new.upper ≡ [] = ap (λ (s : NodeShape). leaf_entries s new.upper) shape_is ∙ none in
     record {
       own_now = w.0;
       building = record {
         front = b.front ++ lower;
-        written = subst (λ (s : Shape). AreInFullLeaves s after new.leaves.items (b.front ++ lower) w.0) (sym shape_is)
+        written = subst (λ (s : NodeShape). AreInFullLeaves s after new.leaves.items (b.front ++ lower) w.0) (sym shape_is)
             (subst (λ (l : List Separator). AreInFullLeaves shape after l (b.front ++ lower) w.0) (sym leaves_are) w.1);
         has = ap (λ l. (b.front ++ lower) ++ (l ++ leaf_entries new.shape new.upper)) first ∙ ap (λ l. (b.front ++ lower) ++ (upper ++ l)) second
             ∙ ap (λ l. (b.front ++ lower) ++ l) (append_none upper) ∙ append_assoc b.front lower upper ∙ b.has;
@@ -131,16 +131,16 @@ entry_pushed before after mid new entry own entries goes takes shape_is leaves_a
       own_now = goes.own_now;
       building = record {
         front = b.front;
-        written = subst (λ (s : Shape). AreInFullLeaves s after new.leaves.items b.front goes.own_now) (sym shape_is)
+        written = subst (λ (s : NodeShape). AreInFullLeaves s after new.leaves.items b.front goes.own_now) (sym shape_is)
             (subst (λ (l : List Separator). AreInFullLeaves mid.shape after l b.front goes.own_now) (sym leaves_are) b.written);
-        has = ap (λ l. b.front ++ l) (ap (λ (s : Shape). leaf_entries s new.lower ++ leaf_entries s new.upper) shape_is ∙ takes.has ∙ sym (append_assoc lower upper (entry ∷ [])))
+        has = ap (λ l. b.front ++ l) (ap (λ (s : NodeShape). leaf_entries s new.lower ++ leaf_entries s new.upper) shape_is ∙ takes.has ∙ sym (append_assoc lower upper (entry ∷ [])))
             ∙ sym (append_assoc b.front (lower ++ upper) (entry ∷ [])) ∙ ap (λ l. l ++ entry ∷ []) b.has;
         count = omega (arith, length-append entries (entry ∷ []));
       };
       changes = goes.changes;
     }
 
-pub none_written : (shape : Shape) (pages : PageMap) → AreInFullLeaves shape pages [] [] []
+pub none_written : (shape : NodeShape) (pages : PageMap) → AreInFullLeaves shape pages [] [] []
 none_written shape pages = record {
   in_leaves = record { leaves = []; level = record { holds = tt; below = tt; keys = refl; leads = refl }; own_are = refl; apart = tt; has = refl };
   full = tt;
@@ -148,7 +148,7 @@ none_written shape pages = record {
 }
 
 -- two leaves are written, one behind the other
-pub two_written : (shape : Shape) (before mid after : PageMap) (first second : List Separator) (entries lower upper all : List (List ℕ)) (own had : List ℕ) (m n : ℕ)
+pub two_written : (shape : NodeShape) (before mid after : PageMap) (first second : List Separator) (entries lower upper all : List (List ℕ)) (own had : List ℕ) (m n : ℕ)
     → (one : HasWritten shape before mid first (entries ++ lower) own (had ++ m ∷ []))
     → HasWritten shape mid after second ((entries ++ lower) ++ upper) one.own_now (entry_counts one.written.leaves ++ n ∷ []) → lower ++ upper ≡ all
     → HasWritten shape before after second (entries ++ all) own (had ++ m ∷ n ∷ [])
@@ -163,7 +163,7 @@ two_written shape before mid after first second entries lower upper all own had 
 
 -- ---- the whole tree
 
-stands_of : (tree : Tree) (pages : PageMap) (entries : List (List ℕ)) (own : List ℕ) (shape : Shape) (root levels : ℕ) → tree.shape ≡ shape → tree.root ≡ root → tree.levels ≡ levels
+stands_of : (tree : Tree) (pages : PageMap) (entries : List (List ℕ)) (own : List ℕ) (shape : NodeShape) (root levels : ℕ) → tree.shape ≡ shape → tree.root ≡ root → tree.levels ≡ levels
     → tree.count ≡ length entries → (value : TreeOf levels) → IsWhole shape pages levels root None None value → entries_of levels value ≡ entries → pages_of levels value ≡ own
     → AreFilled shape levels (value ∷ []) → StandsFilled tree pages entries own
 stands_of tree pages entries own shape root levels shape_is root_is levels_are count value whole has own_are filled =
@@ -172,16 +172,16 @@ stands_of tree pages entries own shape root levels shape_is root_is levels_are c
     (λ v whole has own_are filled. record {
       stands = record {
         value = v;
-        whole = subst (λ (s : Shape). IsWhole s pages tree.levels tree.root None None v) (sym shape_is)
+        whole = subst (λ (s : NodeShape). IsWhole s pages tree.levels tree.root None None v) (sym shape_is)
             (subst (λ (r : ℕ). IsWhole shape pages tree.levels r None None v) (sym root_is) whole);
         has = has;
         pages_are = own_are;
         count = count;
       };
-      filled = subst (λ (s : Shape). AreFilled s tree.levels (v ∷ [])) (sym shape_is) filled;
+      filled = subst (λ (s : NodeShape). AreFilled s tree.levels (v ∷ [])) (sym shape_is) filled;
     }) value whole has own_are filled
 
-pub stands_over : (shape : Shape) (before after : PageMap) (nodes : List Separator) (entries : List (List ℕ)) (own : List ℕ) (base : Base) (tree : Tree) (count : ℕ)
+pub stands_over : (shape : NodeShape) (before after : PageMap) (nodes : List Separator) (entries : List (List ℕ)) (own : List ℕ) (base : BuiltRoot) (tree : Tree) (count : ℕ)
     → (left left_now : ℕ) → (w : AreInLeaves shape before nodes entries own) → HasRootOver shape left left_now before after 0 w.leaves base → Ascends shape.width (entries ++ [])
     → count ≡ length (entries ++ []) → AllBut 2 (leaf_room shape) (entry_counts w.leaves ++ [])
     → tree.shape ≡ shape → tree.root ≡ base.root → tree.levels ≡ base.levels → tree.count ≡ count → HasBuilt left left_now before after tree own (entries ++ [])
@@ -200,7 +200,7 @@ no_leaves : (leaves : List (TreeOf 0)) → [] ≡ map (page_of 0) leaves → lea
 no_leaves [] e = refl
 no_leaves (t ∷ ts) e = cc e
 
-pub stands_alone : (shape : Shape) (before after : PageMap) (entries : List (List ℕ)) (own leaf : List ℕ) (root count : ℕ) (tree : Tree) → AreInLeaves shape before [] entries own
+pub stands_alone : (shape : NodeShape) (before after : PageMap) (entries : List (List ℕ)) (own leaf : List ℕ) (root count : ℕ) (tree : Tree) → AreInLeaves shape before [] entries own
     → Takes before after root leaf → IsLeaf shape leaf → Ascends shape.width (entries ++ leaf_entries shape leaf) → count ≡ length (entries ++ leaf_entries shape leaf)
     → tree.shape ≡ shape → tree.root ≡ root → tree.levels ≡ 0 → tree.count ≡ count → (left left_now : ℕ) → left_now + 1 ≡ left
     → HasBuilt left left_now before after tree own (entries ++ leaf_entries shape leaf)
@@ -229,7 +229,7 @@ stands_alone shape before after entries own leaf root count tree w takes is rise
     }
 
 -- what stands over more leaves stands over those before, with the entries of the others
-pub more_stands : (shape : Shape) (before mid after : PageMap) (old new : List Separator) (more : List (List ℕ)) (counts : List ℕ) (count : ℕ) (result : Result Tree Fault)
+pub more_stands : (shape : NodeShape) (before mid after : PageMap) (old new : List Separator) (more : List (List ℕ)) (counts : List ℕ) (count : ℕ) (result : Result Tree Fault)
     (left left_mid left_now : ℕ) {still is_sound : Type 0} → left_mid + length counts ≡ left → length new ≡ length old + length counts
     → WritesMore shape old new more counts (Ok tt) before mid still → StandsOver shape new [] [] count result left_mid left_now mid after is_sound
     → StandsOver shape old more counts count result left left_now before after is_sound

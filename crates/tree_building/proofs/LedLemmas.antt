@@ -1,7 +1,7 @@
 -- A tree whose separators are the first keys behind them is in order where its entries are.
 use Rattle.std.proofs.Common.{◌≡◌, ℕ, zero, suc, ◌≤◌, true, false, List, [], ◌∷◌, ◌++◌, length, take, drop, get_or, map, Some, None, ap, sym, subst, ◌∙◌, arith, flat_map}
 use Rattle.std.proofs.lemmas.List.{length-append}
-use Rattle.tree_node.specs.declared.shape.Shape.{Shape}
+use Rattle.tree_node.specs.declared.shape.NodeShape.{NodeShape}
 use Rattle.tree_node.specs.Order.{less, Ascends}
 use Rattle.tree_node.proofs.OrderLemmas.{less_itself, less-trans, not_less, compared, Each-weaker, Each-get_or}
 use Rattle.tree_node.specs.Fill.{least_entries}
@@ -47,7 +47,7 @@ above_from (Some l) x s a b =
 
 -- ---- trees that can stand below a root have entries
 
-pub below_kids : (shape : Shape) (h : ℕ) (kids : List (TreeOf h)) → Each (λ c. (least_entries shape h ≤ size_of h c) × IsHalfFull shape h c) kids
+pub below_kids : (shape : NodeShape) (h : ℕ) (kids : List (TreeOf h)) → Each (λ c. (least_entries shape h ≤ size_of h c) × IsHalfFull shape h c) kids
     → Each (IsLed shape.width h) kids → Each (IsBelow shape h) kids
 below_kids shape h kids filled led =
     each_both (λ c. (least_entries shape h ≤ size_of h c) × IsHalfFull shape h c) (IsLed shape.width h) (IsBelow shape h)
@@ -61,7 +61,7 @@ some_flat : (h : ℕ) (kids : List (TreeOf h)) → 1 ≤ length kids → Each (�
 some_flat h [] some each = absurd (omega arith)
 some_flat h (k ∷ ks) some each = let one = each.0 in omega (arith, length-append (entries_of h k) (flat_map (entries_of h) ks))
 
-pub some_entries : (shape : Shape) (h : ℕ) (t : TreeOf h) → IsBelow shape h t → 1 ≤ length (entries_of h t)
+pub some_entries : (shape : NodeShape) (h : ℕ) (t : TreeOf h) → IsBelow shape h t → 1 ≤ length (entries_of h t)
 some_entries shape zero t b = full_some shape zero (length t.1) b.large
 some_entries shape (suc h) t b =
     some_flat h t.2 (some_kids shape.width h t.1 t.2 (full_some shape (suc h) (length t.1) b.large) b.led.0)
@@ -127,7 +127,7 @@ module _ (width h : ℕ) (Good : TreeOf h → Type 0)
       subst (λ (l : List (List ℕ)). Ascends width l × IsRow (IsOrdered width h) low l (k ∷ ks) high) (sym e)
       ((leads_rise (k ∷ ks) good rises).1, row low high k ks good rises inside)
 
-pub led_ordered : (shape : Shape) (h : ℕ) (low high : Bound) (t : TreeOf h) → IsHalfFull shape h t → IsLed shape.width h t → IsRooted h t
+pub led_ordered : (shape : NodeShape) (h : ℕ) (low high : Bound) (t : TreeOf h) → IsHalfFull shape h t → IsLed shape.width h t → IsRooted h t
     → Ascends shape.width (entries_of h t) → Each (Inside shape.width low high) (entries_of h t) → IsOrdered shape.width h low high t
 led_ordered shape zero low high t filled led rooted rises inside = (rises, inside)
 led_ordered shape (suc h) low high t filled led rooted rises inside =

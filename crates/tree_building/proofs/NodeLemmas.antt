@@ -3,7 +3,7 @@ use Rattle.std.proofs.Common.{◌≡◌, ◌<◌, ℕ, suc, List, [], ◌∷◌,
 use Rattle.std.specs.Prelude.{OnOk}
 use Rattle.io_state.specs.declared.fault.Fault.{Fault}
 use Rattle.pages.specs.Each.{Each}
-use Rattle.tree_node.specs.declared.shape.Shape.{Shape}
+use Rattle.tree_node.specs.declared.shape.NodeShape.{NodeShape}
 use Rattle.tree_search.proofs.RowLemmas.{Each-append}
 use Rattle.tree_node.specs.declared.separator.Separator.{Separator}
 use Rattle.tree_building.specs.Level.{keys_of, HaveWidth, AreWide}
@@ -21,7 +21,7 @@ to_keys : (width : ℕ) (nodes : List Separator) → Each (λ (n : Separator). l
 to_keys width [] h = tt
 to_keys width (n ∷ ns) h = (h.0, to_keys width ns h.1)
 
-pub wide_still : (shape : Shape) (old new : List Separator) (key : List ℕ) → length key ≡ shape.width → keys_of new ≡ keys_of old ++ key ∷ []
+pub wide_still : (shape : NodeShape) (old new : List Separator) (key : List ℕ) → length key ≡ shape.width → keys_of new ≡ keys_of old ++ key ∷ []
     → HaveWidth shape old → HaveWidth shape new
 wide_still shape old new key wide keys had =
     of_keys shape.width new
@@ -33,5 +33,5 @@ pub all_wide : (width : ℕ) (nodes : List Separator) → ((i : ℕ) (d : Separa
 all_wide width [] h = tt
 all_wide width (n ∷ ns) h = (h 0 n (omega arith), all_wide width ns (λ i d within. h (suc i) d (omega arith)))
 
-pub each_wide : (shape : Shape) (nodes : List Separator) → HaveWidth shape nodes → AreWide shape nodes
+pub each_wide : (shape : NodeShape) (nodes : List Separator) → HaveWidth shape nodes → AreWide shape nodes
 each_wide shape nodes all i d within = Each-get_or (λ (n : Separator). length n.key.items ≡ shape.width) nodes i d within all

@@ -4,7 +4,7 @@ use Rattle.std.specs.List.{slice_range}
 use Rattle.std.proofs.Math.Seq.{take-add}
 use Rattle.std.proofs.lemmas.Grind.{flat_map-append}
 use Rattle.std.proofs.lemmas.List.{map-append, length-append, length-map, length-drop, take-map, drop-map, length-take-le, take-append-drop}
-use Rattle.tree_node.specs.declared.shape.Shape.{Shape}
+use Rattle.tree_node.specs.declared.shape.NodeShape.{NodeShape}
 use Rattle.tree_node.specs.Inner.{inner_room}
 use Rattle.tree_node.proofs.OrderLemmas.{Each-weaker}
 use Rattle.tree_node.specs.declared.separator.Separator.{Separator}
@@ -51,7 +51,7 @@ flat_flat f g (x ∷ xs) = flat_map-append f (g x) (flat_map g xs) ∙ ap (λ l.
 
 -- ---- parts of a level
 
-pub level_slice : (shape : Shape) (pages : PageMap) (h : ℕ) (nodes : List Separator) (trees : List (TreeOf h)) (a e : ℕ) → IsLevel shape pages h nodes trees
+pub level_slice : (shape : NodeShape) (pages : PageMap) (h : ℕ) (nodes : List Separator) (trees : List (TreeOf h)) (a e : ℕ) → IsLevel shape pages h nodes trees
     → IsLevel shape pages h (slice_range nodes a e) (slice_range trees a e)
 level_slice shape pages h nodes trees a e level = record {
   holds = each_slice (Holds shape pages h) trees a e level.holds;
@@ -60,7 +60,7 @@ level_slice shape pages h nodes trees a e level = record {
   leads = map_slice (λ (n : Separator). n.child) (page_of h) nodes trees a (e - a) level.leads;
 }
 
-pub level_length : (shape : Shape) (pages : PageMap) (h : ℕ) (nodes : List Separator) (trees : List (TreeOf h)) → IsLevel shape pages h nodes trees → length trees ≡ length nodes
+pub level_length : (shape : NodeShape) (pages : PageMap) (h : ℕ) (nodes : List Separator) (trees : List (TreeOf h)) → IsLevel shape pages h nodes trees → length trees ≡ length nodes
 level_length shape pages h nodes trees level =
     sym (length-map trees (page_of h)) ∙ sym (ap length level.leads) ∙ length-map nodes (λ (n : Separator). n.child)
 
@@ -68,7 +68,7 @@ first_of : (xs ys : List (List ℕ)) → 1 ≤ length xs → get_or (xs ++ ys) 0
 first_of [] ys some = absurd (omega arith)
 first_of (x ∷ xs) ys some = refl
 
-lead_first : (shape : Shape) (h : ℕ) (kids : List (TreeOf h)) → Each (IsBelow shape h) kids → 1 ≤ length kids
+lead_first : (shape : NodeShape) (h : ℕ) (kids : List (TreeOf h)) → Each (IsBelow shape h) kids → 1 ≤ length kids
     → take 1 (map (lead_of shape.width h) kids) ≡ take shape.width (get_or (flat_map (entries_of h) kids) 0 []) ∷ []
 lead_first shape h [] below some = absurd (omega arith)
 lead_first shape h (k ∷ ks) below some =
@@ -80,10 +80,10 @@ lead_first shape h (k ∷ ks) below some =
 abbrev pub tree_over : (h : ℕ) → ℕ → List (List ℕ) → List (TreeOf h) → TreeOf (suc h)
 tree_over h page keys kids = (page, drop 1 keys, kids)
 
-pub kids_live : (shape : Shape) (pages : PageMap) (h : ℕ) (kids : List (TreeOf h)) → Each (Holds shape pages h) kids → Each (λ n. IsSome (pages n)) (flat_map (pages_of h) kids)
+pub kids_live : (shape : NodeShape) (pages : PageMap) (h : ℕ) (kids : List (TreeOf h)) → Each (Holds shape pages h) kids → Each (λ n. IsSome (pages n)) (flat_map (pages_of h) kids)
 kids_live shape pages h kids holds = each_pages (λ n. IsSome (pages n)) (Holds shape pages h) (pages_of h) (pages_live shape pages h) kids holds
 
-pub node_holds : (shape : Shape) (before mid after : PageMap) (h : ℕ) (kids : List (TreeOf h)) (done new : List ℕ) (group old now : List Separator)
+pub node_holds : (shape : NodeShape) (before mid after : PageMap) (h : ℕ) (kids : List (TreeOf h)) (done new : List ℕ) (group old now : List Separator)
     → IsLevel shape before h group kids → ChangesPages before mid done new → AreApart (done ++ flat_map (pages_of h) kids)
     → (added : HasAdded shape group mid after old now) → Holds shape after (suc h) (tree_over h added.page (keys_of group) kids)
 node_holds shape before mid after h kids done new group old now level changes apart added =
@@ -97,20 +97,20 @@ node_holds shape before mid after h kids done new group old now level changes ap
       rows_still shape before after h kids level.holds same,
     )
 
-pub kids_filled : (shape : Shape) (h : ℕ) (kids : List (TreeOf h)) → Each (IsBelow shape h) kids → Each (λ c. (least_entries shape h ≤ size_of h c) × IsHalfFull shape h c) kids
+pub kids_filled : (shape : NodeShape) (h : ℕ) (kids : List (TreeOf h)) → Each (IsBelow shape h) kids → Each (λ c. (least_entries shape h ≤ size_of h c) × IsHalfFull shape h c) kids
 kids_filled shape h kids below = Each-weaker (IsBelow shape h) (λ c. (least_entries shape h ≤ size_of h c) × IsHalfFull shape h c) (λ c b. (b.large, b.filled)) kids below
 
-pub kids_led : (shape : Shape) (pages : PageMap) (h : ℕ) (group : List Separator) (kids : List (TreeOf h)) → IsLevel shape pages h group kids
+pub kids_led : (shape : NodeShape) (pages : PageMap) (h : ℕ) (group : List Separator) (kids : List (TreeOf h)) → IsLevel shape pages h group kids
     → (drop 1 (keys_of group) ≡ map (lead_of shape.width h) (drop 1 kids)) × Each (IsLed shape.width h) kids
 kids_led shape pages h group kids level =
     (ap (drop 1) level.keys ∙ drop-map (lead_of shape.width h) 1 kids, Each-weaker (IsBelow shape h) (IsLed shape.width h) (λ c b. b.led) kids level.below)
 
 -- the nodes over the first `at` of `total` nodes
-pub record RisesSoFar (shape : Shape) (before after : PageMap) (h total at : ℕ) (below : List (TreeOf h)) (above : List Separator) : Type 0 where
+pub record RisesSoFar (shape : NodeShape) (before after : PageMap) (h total at : ℕ) (below : List (TreeOf h)) (above : List Separator) : Type 0 where
   pub risen : HasNextLevel shape before after h below above
   pub full : AreFull total (inner_room shape + 1) at (child_counts h risen.trees)
 
-pub none_risen : (shape : Shape) (before : PageMap) (h total : ℕ) (below : List (TreeOf h)) (above : List Separator) → below ≡ [] → above ≡ [] → RisesSoFar shape before before h total 0 below above
+pub none_risen : (shape : NodeShape) (before : PageMap) (h total : ℕ) (below : List (TreeOf h)) (above : List Separator) → below ≡ [] → above ≡ [] → RisesSoFar shape before before h total 0 below above
 none_risen shape before h total below above none none' =
     subst (λ (l : List (TreeOf h)). RisesSoFar shape before before h total 0 l above) (sym none)
     (subst (λ (l : List Separator). RisesSoFar shape before before h total 0 [] l) (sym none') (record {
@@ -124,7 +124,7 @@ none_risen shape before h total below above none none' =
       full = none_full total (inner_room shape + 1);
     }))
 
-pub risen_more : (shape : Shape) (before mid after : PageMap) (h total at n : ℕ) (done kids : List (TreeOf h)) (group old now : List Separator)
+pub risen_more : (shape : NodeShape) (before mid after : PageMap) (h total at n : ℕ) (done kids : List (TreeOf h)) (group old now : List Separator)
     → RisesSoFar shape before mid h total at done old → IsLevel shape before h group kids → inner_room shape / 2 + 1 ≤ length group → length group ≡ n
     → at < total → 16 ≤ inner_room shape + 1 → IsShare (inner_room shape + 1) (total - at) n
     → AreApart (flat_map (pages_of h) (done ++ kids)) → HasAdded shape group mid after old now
@@ -167,7 +167,7 @@ risen_more shape before mid after h total at n done kids group old now had level
     record { risen = next; full = full }
 
 -- the entries of a level are those of the level below
-pub entries_over : (shape : Shape) (before after : PageMap) (h : ℕ) (below : List (TreeOf h)) (above : List Separator) → (risen : HasNextLevel shape before after h below above)
+pub entries_over : (shape : NodeShape) (before after : PageMap) (h : ℕ) (below : List (TreeOf h)) (above : List Separator) → (risen : HasNextLevel shape before after h below above)
     → flat_map (entries_of (suc h)) risen.trees ≡ flat_map (entries_of h) below
 entries_over shape before after h below above risen =
     sym (flat_flat (entries_of h) (λ (t : TreeOf (suc h)). t.2) risen.trees) ∙ ap (flat_map (entries_of h)) risen.over
@@ -194,7 +194,7 @@ apart_front h trees i apart =
     (subst AreApart (ap (flat_map (pages_of h)) (sym (take-append-drop i trees)) ∙ flat_map-append (pages_of h) (take i trees) (drop i trees)) apart)
 
 -- the next node of a level
-pub level_more : (shape : Shape) (before mid after : PageMap) (h : ℕ) (trees : List (TreeOf h)) (nodes old now : List Separator) (at n : ℕ)
+pub level_more : (shape : NodeShape) (before mid after : PageMap) (h : ℕ) (trees : List (TreeOf h)) (nodes old now : List Separator) (at n : ℕ)
     → IsLevel shape before h nodes trees → AreApart (flat_map (pages_of h) trees) → at + n ≤ length nodes → inner_room shape / 2 + 1 ≤ n
     → at < length nodes → 16 ≤ inner_room shape + 1 → IsShare (inner_room shape + 1) (length nodes - at) n
     → RisesSoFar shape before mid h (length nodes) at (take at trees) old → HasAdded shape (slice_range nodes at (at + n)) mid after old now

@@ -2,7 +2,7 @@
 use Rattle.std.proofs.Common.{◌≡◌, ℕ, suc, ◌+◌, ◌-◌, ◌*◌, ◌^◌, ◌<◌, ◌≤◌, List, [], ◌∷◌, length, drop, get_or, None, refl, ap, sym, subst, ◌∙◌, arith, flat_map}
 use Rattle.std.proofs.lemmas.Nat.{pow-add}
 use Rattle.std.proofs.lemmas.List.{length-map, length-drop}
-use Rattle.tree_node.specs.declared.shape.Shape.{Shape}
+use Rattle.tree_node.specs.declared.shape.NodeShape.{NodeShape}
 use Rattle.tree_node.specs.Order.{Ascends}
 use Rattle.tree_node.specs.declared.separator.Separator.{Separator}
 use Rattle.pages.specs.PageMap.{PageMap}
@@ -10,7 +10,7 @@ use Rattle.pages.specs.Owners.{AreApart, ChangesPages}
 use Rattle.tree_search.specs.Tree.{TreeOf, entries_of, pages_of}
 use Rattle.tree_search.specs.Stored.{Holds}
 use Rattle.bplus_tree.proofs.RemoveLemmas.{changes_trans}
-use Rattle.tree_building.specs.declared.rising.Base.{Base}
+use Rattle.tree_building.specs.declared.rising.BuiltRoot.{BuiltRoot}
 use Rattle.tree_building.specs.Level.{keys_of, leads_to, IsLevel}
 use Rattle.std.specs.Global.{Vec}
 use Rattle.std.specs.Prelude.{Result, Ok, Err}
@@ -29,7 +29,7 @@ first_lead [] page d e = cc e
 first_lead (n ∷ ns) page d e = cc e
 
 -- one node over all
-pub rooted_over : (shape : Shape) (before after : PageMap) (h : ℕ) (kids : List (TreeOf h)) (nodes now : List Separator) (root levels : ℕ)
+pub rooted_over : (shape : NodeShape) (before after : PageMap) (h : ℕ) (kids : List (TreeOf h)) (nodes now : List Separator) (root levels : ℕ)
     → IsLevel shape before h nodes kids → 2 ≤ length nodes → AreApart (flat_map (pages_of h) kids) → (added : HasAdded shape nodes before after [] now)
     → root ≡ added.page → levels ≡ suc h → (left left_now : ℕ) → left_now + 1 ≡ left
     → HasRootOver shape left left_now before after h kids (record { root = root; levels = levels })
@@ -65,7 +65,7 @@ rooted_over shape before after h kids nodes now root levels level several apart 
     (subst (λ (l : ℕ). HasRootOver shape left left_now before after h kids (record { root = added.page; levels = l })) (sym levels_are) at)
 
 -- a root over the level that was added
-pub rooted_on : (shape : Shape) (before mid after : PageMap) (h : ℕ) (trees : List (TreeOf h)) (above : List Separator) (base : Base)
+pub rooted_on : (shape : NodeShape) (before mid after : PageMap) (h : ℕ) (trees : List (TreeOf h)) (above : List Separator) (base : BuiltRoot)
     → (left left_mid left_now : ℕ) → left_mid + length above ≡ left
     → (risen : HasNextLevel shape before mid h trees above) → HasRootOver shape left_mid left_now mid after (suc h) risen.trees base
     → HasRootOver shape left left_now before after h trees base
@@ -90,7 +90,7 @@ pub answer_map : {X : Type 0} {r : Result X Fault} {P Q : X → Type 0} → IsAn
 answer_map {r = Ok x} is f = record { answer = f x is.answer; no_damage = tt }
 answer_map {r = Err e} is f = record { answer = tt; no_damage = is.no_damage }
 
-pub roots_on : (shape : Shape) (before mid after : PageMap) (nodes : List Separator) (levels : ℕ) (above : Vec Separator) (result : Result Base Fault) (left left_mid left_now : ℕ)
+pub roots_on : (shape : NodeShape) (before mid after : PageMap) (nodes : List Separator) (levels : ℕ) (above : Vec Separator) (result : Result BuiltRoot Fault) (left left_mid left_now : ℕ)
     {is_sound still : Type 0} → left_mid + length above.items ≡ left
     → Rises shape nodes (Ok above) before mid is_sound → Roots shape above.items (levels + 1) result left_mid left_now mid after still
     → Roots shape nodes levels result left left_now before after still
@@ -103,7 +103,7 @@ roots_on shape before mid after nodes levels above result left left_mid left_now
   sound = roots.sound;
 }
 
-pub root_is_over : (shape : Shape) (before after : PageMap) (is_sound : Type 0) (nodes none now : List Separator) (levels : ℕ) (first : Separator) → 2 ≤ length nodes → none ≡ []
+pub root_is_over : (shape : NodeShape) (before after : PageMap) (is_sound : Type 0) (nodes none now : List Separator) (levels : ℕ) (first : Separator) → 2 ≤ length nodes → none ≡ []
     → first ≡ get_or now 0 first → (left left_now : ℕ) → left_now + 1 ≡ left → AddsNode shape nodes none now (Ok tt) before after is_sound
     → Roots shape nodes levels (Ok (record { root = first.child; levels = levels + 1 })) left left_now before after is_sound
 root_is_over shape before after is_sound nodes none now levels first several is_none is left left_now one adds =

@@ -2,7 +2,7 @@
 use Rattle.std.specs.Prelude.{◌≡◌, ◌≤◌, ◌+◌, ℕ, List, [], ◌∷◌, ◌++◌, flat_map, length, Result}
 use Rattle.std.specs.Global.{Vec}
 use Rattle.io_state.specs.declared.fault.Fault.{Fault}
-use Rattle.tree_node.specs.declared.shape.Shape.{Shape}
+use Rattle.tree_node.specs.declared.shape.NodeShape.{NodeShape}
 use Rattle.tree_node.specs.Leaf.{leaf_entries, leaf_room, IsLeaf}
 use Rattle.tree_node.specs.Fill.{least_entries}
 use Rattle.tree_node.specs.Order.{Ascends}
@@ -20,7 +20,7 @@ use Rattle.tree_building.specs.Filled.{AllBut, AreFilled, entry_counts}
 use Rattle.tree_building.specs.Fresh.{KeepsInUse}
 
 -- these entries stand in these pages, in leaves that nodes head
-pub record AreInLeaves (shape : Shape) (pages : PageMap) (nodes : List Separator) (entries : List (List ℕ))
+pub record AreInLeaves (shape : NodeShape) (pages : PageMap) (nodes : List Separator) (entries : List (List ℕ))
     (own : List ℕ) : Type 0 where
   pub leaves : List (TreeOf 0)
   pub level : IsLevel shape pages 0 nodes leaves
@@ -29,7 +29,7 @@ pub record AreInLeaves (shape : Shape) (pages : PageMap) (nodes : List Separator
   pub has : flat_map (entries_of 0) leaves ≡ entries
 
 -- so they stand in leaves that are full, each in a page
-pub record AreInFullLeaves (shape : Shape) (pages : PageMap) (nodes : List Separator)
+pub record AreInFullLeaves (shape : NodeShape) (pages : PageMap) (nodes : List Separator)
     (entries : List (List ℕ)) (own : List ℕ) : Type 0 where
   pub in_leaves : AreInLeaves shape pages nodes entries own
   pub full : Each (λ n. n ≡ leaf_room shape) (entry_counts in_leaves.leaves)
@@ -92,7 +92,7 @@ pub record FinishesTree (old : TreeBuilder) (result : Result Tree Fault) (left l
   pub sound : is_sound
 
 -- of its nodes
-abbrev pub builder_shape : TreeBuilder → Shape
+abbrev pub builder_shape : TreeBuilder → NodeShape
 builder_shape builder = builder.shape
 
 -- how many of its leaves are written
@@ -105,7 +105,7 @@ entry_count builder = builder.count
 
 -- these entries are written, in these pages and in those that were not in use, in leaves that have so
 -- many each
-pub record HasWritten (shape : Shape) (before after : PageMap) (nodes : List Separator)
+pub record HasWritten (shape : NodeShape) (before after : PageMap) (nodes : List Separator)
     (entries : List (List ℕ)) (own counts : List ℕ) : Type 0 where
   pub own_now : List ℕ
   pub written : AreInLeaves shape after nodes entries own_now
@@ -113,7 +113,7 @@ pub record HasWritten (shape : Shape) (before after : PageMap) (nodes : List Sep
   pub changes : ChangesPages before after own own_now
 
 -- these entries more are written, behind those before, in leaves that have so many each
-pub record WritesMore (shape : Shape) (old new : List Separator) (more : List (List ℕ))
+pub record WritesMore (shape : NodeShape) (old new : List Separator) (more : List (List ℕ))
     (counts : List ℕ) (result : Result Unit Fault) (before after : PageMap) (is_sound : Type 0)
     : Type 0 where
   pub writes : (entries : List (List ℕ)) (own : List ℕ)
@@ -125,7 +125,7 @@ pub record WritesMore (shape : Shape) (old new : List Separator) (more : List (L
 
 -- A tree stands over the leaves, and over leaves behind them that have so many entries each, for so
 -- many entries whose keys rise. All leaves but the last two are full.
-pub record StandsOver (shape : Shape) (nodes : List Separator) (more : List (List ℕ))
+pub record StandsOver (shape : NodeShape) (nodes : List Separator) (more : List (List ℕ))
     (counts : List ℕ) (count : ℕ) (result : Result Tree Fault) (left left_now : ℕ)
     (before after : PageMap) (is_sound : Type 0) : Type 0 where
   pub stands : (entries : List (List ℕ)) (own : List ℕ)
@@ -137,12 +137,12 @@ pub record StandsOver (shape : Shape) (nodes : List Separator) (more : List (Lis
   pub sound : is_sound
 
 -- a leaf with as many entries as one must have that is no root
-pub record IsLargeLeaf (shape : Shape) (page : List ℕ) : Type 0 where
+pub record IsLargeLeaf (shape : NodeShape) (page : List ℕ) : Type 0 where
   pub leaf : IsLeaf shape page
   pub large : least_entries shape 0 ≤ length (leaf_entries shape page)
 
 -- one leaf more is written
-abbrev pub WritesLeaf : Shape → (old new : List Separator) → (leaf : List ℕ) → Result Unit Fault
+abbrev pub WritesLeaf : NodeShape → (old new : List Separator) → (leaf : List ℕ) → Result Unit Fault
     → PageMap → PageMap → Type 0 → Type 0
 WritesLeaf shape old new leaf result =
     WritesMore shape old new (leaf_entries shape leaf) (length (leaf_entries shape leaf) ∷ []) result
@@ -159,27 +159,27 @@ two_leaves lower upper lower_now upper_now =
     record { lower = lower; upper = upper; lower_now = lower_now; upper_now = upper_now }
 
 -- the entries of both, and how many the leaves have that share them
-abbrev pub shared_entries : Shape → TwoLeaves → List (List ℕ)
+abbrev pub shared_entries : NodeShape → TwoLeaves → List (List ℕ)
 shared_entries shape leaves = leaf_entries shape leaves.lower ++ leaf_entries shape leaves.upper
 
-abbrev pub shared_counts : Shape → TwoLeaves → List ℕ
+abbrev pub shared_counts : NodeShape → TwoLeaves → List ℕ
 shared_counts shape leaves =
     length (leaf_entries shape leaves.lower_now) ∷ length (leaf_entries shape leaves.upper_now) ∷ []
 
 -- two leaves more are written, which share what they had
-abbrev pub WritesTwo : Shape → (old new : Vec Separator) → TwoLeaves → Result Unit Fault
+abbrev pub WritesTwo : NodeShape → (old new : Vec Separator) → TwoLeaves → Result Unit Fault
     → PageMap → PageMap → Type 0 → Type 0
 WritesTwo shape old new two result =
     WritesMore shape old.items new.items (shared_entries shape two) (shared_counts shape two) result
 
 -- a tree stands over the leaves and one more
-abbrev pub StandsOverLeaf : Shape → List Separator → (leaf : List ℕ) → (count : ℕ) → Result Tree Fault
+abbrev pub StandsOverLeaf : NodeShape → List Separator → (leaf : List ℕ) → (count : ℕ) → Result Tree Fault
     → (left left_now : ℕ) → PageMap → PageMap → Type 0 → Type 0
 StandsOverLeaf shape nodes leaf count result =
     StandsOver shape nodes (leaf_entries shape leaf) (length (leaf_entries shape leaf) ∷ []) count result
 
 -- a tree stands over the leaves and two more, which share what they had
-abbrev pub StandsOverTwo : Shape → Vec Separator → TwoLeaves → (count : ℕ) → Result Tree Fault
+abbrev pub StandsOverTwo : NodeShape → Vec Separator → TwoLeaves → (count : ℕ) → Result Tree Fault
     → (left left_now : ℕ) → PageMap → PageMap → Type 0 → Type 0
 StandsOverTwo shape nodes two count result =
     StandsOver shape nodes.items (shared_entries shape two) (shared_counts shape two) count result

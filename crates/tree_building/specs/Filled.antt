@@ -1,6 +1,6 @@
 -- How full the nodes of a tree are that was built.
 use Rattle.std.specs.Prelude.{◌≡◌, ◌≤◌, ◌+◌, ℕ, zero, suc, List, ◌++◌, map, flat_map, length}
-use Rattle.tree_node.specs.declared.shape.Shape.{Shape}
+use Rattle.tree_node.specs.declared.shape.NodeShape.{NodeShape}
 use Rattle.tree_node.specs.Leaf.{leaf_room}
 use Rattle.tree_node.specs.Inner.{inner_room}
 use Rattle.pages.specs.Each.{Each}
@@ -24,7 +24,7 @@ child_counts h nodes = map (λ (t : TreeOf (suc h)). length t.2) nodes
 
 -- In each level of these trees, side by side, all nodes but the last two have as many entries, or
 -- children, as there is room for.
-abbrev pub AreFilled : Shape → (h : ℕ) → List (TreeOf h) → Type 0
+abbrev pub AreFilled : NodeShape → (h : ℕ) → List (TreeOf h) → Type 0
 AreFilled shape zero trees = AllBut 2 (leaf_room shape) (entry_counts trees)
 AreFilled shape (suc h) trees = AllBut 2 (inner_room shape + 1) (child_counts h trees)
     × AreFilled shape h (flat_map (λ (t : TreeOf (suc h)). t.2) trees)

@@ -2,7 +2,7 @@
 use Rattle.std.specs.Prelude.{◌≡◌, ◌≤◌, ◌+◌, ◌-◌, ◌*◌, ◌^◌, ℕ, suc, List, [], ◌∷◌, flat_map, length, None, Result}
 use Rattle.std.specs.Global.{Vec}
 use Rattle.io_state.specs.declared.fault.Fault.{Fault}
-use Rattle.tree_node.specs.declared.shape.Shape.{Shape}
+use Rattle.tree_node.specs.declared.shape.NodeShape.{NodeShape}
 use Rattle.tree_node.specs.declared.separator.Separator.{Separator}
 use Rattle.tree_node.specs.Order.{Ascends}
 use Rattle.pages.specs.PageMap.{PageMap}
@@ -10,14 +10,14 @@ use Rattle.pages.specs.Owners.{AreApart, ChangesPages}
 use Rattle.pages.specs.Answer.{IsAnswer}
 use Rattle.tree_search.specs.Tree.{TreeOf, pages_of, entries_of}
 use Rattle.tree_search.specs.Calls.{IsWhole}
-use Rattle.tree_building.specs.declared.rising.Base.{Base}
+use Rattle.tree_building.specs.declared.rising.BuiltRoot.{BuiltRoot}
 use Rattle.tree_node.specs.Inner.{inner_room}
 use Rattle.tree_building.specs.Level.{IsLevel}
 use Rattle.tree_building.specs.Filled.{AllBut, AreFilled, child_counts}
 use Rattle.tree_building.specs.Fresh.{KeepsInUse}
 
 -- these nodes stand over these trees now, in pages that were not in use
-pub record HasNextLevel (shape : Shape) (before after : PageMap) (h : ℕ) (below : List (TreeOf h))
+pub record HasNextLevel (shape : NodeShape) (before after : PageMap) (h : ℕ) (below : List (TreeOf h))
     (above : List Separator) : Type 0 where
   pub trees : List (TreeOf (suc h))
   pub level : IsLevel shape after (suc h) above trees
@@ -26,7 +26,7 @@ pub record HasNextLevel (shape : Shape) (before after : PageMap) (h : ℕ) (belo
   pub changes : ChangesPages before after (flat_map (pages_of h) below) (flat_map (pages_of (suc h)) trees)
 
 -- a level was added over these nodes, where they head trees that have no page in common
-pub record Rises (shape : Shape) (nodes : List Separator) (result : Result (Vec Separator) Fault)
+pub record Rises (shape : NodeShape) (nodes : List Separator) (result : Result (Vec Separator) Fault)
     (before after : PageMap) (is_sound : Type 0) : Type 0 where
   pub risen : (h : ℕ) (trees : List (TreeOf h)) → IsLevel shape before h nodes trees
       → AreApart (flat_map (pages_of h) trees)
@@ -36,8 +36,8 @@ pub record Rises (shape : Shape) (nodes : List Separator) (result : Result (Vec 
 
 -- one tree stands over all, whole where the entries rise, and filled where they are; no page was
 -- taken but those of its nodes
-pub record HasRootOver (shape : Shape) (left left_now : ℕ) (before after : PageMap) (h : ℕ)
-    (below : List (TreeOf h)) (base : Base) : Type 0 where
+pub record HasRootOver (shape : NodeShape) (left left_now : ℕ) (before after : PageMap) (h : ℕ)
+    (below : List (TreeOf h)) (base : BuiltRoot) : Type 0 where
   pub tree : TreeOf base.levels
   pub whole : Ascends shape.width (flat_map (entries_of h) below)
       → IsWhole shape after base.levels base.root None None tree
@@ -48,7 +48,7 @@ pub record HasRootOver (shape : Shape) (left left_now : ℕ) (before after : Pag
   pub changes : ChangesPages before after (flat_map (pages_of h) below) (pages_of base.levels tree)
 
 -- the levels were added over these nodes, which have so many levels below them
-pub record Roots (shape : Shape) (nodes : List Separator) (levels : ℕ) (result : Result Base Fault)
+pub record Roots (shape : NodeShape) (nodes : List Separator) (levels : ℕ) (result : Result BuiltRoot Fault)
     (left left_now : ℕ) (before after : PageMap) (is_sound : Type 0) : Type 0 where
   pub rooted : (h : ℕ) (trees : List (TreeOf h)) → levels ≡ h → IsLevel shape before h nodes trees
       → AreApart (flat_map (pages_of h) trees)

@@ -8,7 +8,7 @@ use io_state::Fault;
 use key_index::{AltEntry, AltIndex};
 use pages::Pages;
 use std::alloc::Global;
-use tree_node::Shape;
+use tree_node::NodeShape;
 
 /// An index of an alternate key that is being built.
 #[derive(Drop)]
@@ -41,7 +41,7 @@ impl AltBuilder {
         ensures of { IsAltBuilderOf key width prime result }
         ensures begun { (pages : PageMap) → IsBuildingAlt result pages [] [] }
     {
-        let shape = Shape {
+        let shape = NodeShape {
             key,
             width: width + 8,
             entry: width + 8 + prime,

@@ -16,13 +16,13 @@ use bplus_tree::Tree;
 use io_state::Fault;
 use pages::{PAGE_SIZE, Pages};
 use std::alloc::Global;
-use tree_node::{LeafView, Separator, Shape, write_leaf};
+use tree_node::{LeafView, NodeShape, Separator, write_leaf};
 
 /// A tree that is being built: its leaves so far, by their first keys and their pages, but for the
 /// last two, which are not written yet.
 #[derive(Drop)]
 pub struct TreeBuilder {
-    pub(crate) shape: Shape,
+    pub(crate) shape: NodeShape,
     pub(crate) leaves: Vec<Separator>,
     pub(crate) lower: [u8; PAGE_SIZE],
     pub(crate) upper: [u8; PAGE_SIZE],
@@ -37,7 +37,7 @@ impl TreeBuilder {
     ghost use Rattle.tree_building.specs.Building.{builder_shape, entry_count, leaves_written};
 
     /// A tree without entries, of which no page is taken yet.
-    pub fn new(alloc: Global, shape: Shape) -> TreeBuilder
+    pub fn new(alloc: Global, shape: NodeShape) -> TreeBuilder
         ensures shape { builder_shape result ≡ shape }
         ensures begun { (pages : PageMap) → IsBuilding result pages [] [] }
     {

@@ -18,12 +18,12 @@ use bplus_tree::Tree;
 use io_state::Fault;
 use pages::{PAGE_SIZE, Pages};
 use std::alloc::Global;
-use tree_node::{Separator, Shape};
+use tree_node::{NodeShape, Separator};
 
 /// Writes a leaf behind those before.
 pub fn write_one<P: Pages>(
     pages: &mut P,
-    shape: Shape,
+    shape: NodeShape,
     leaves: &mut Vec<Separator>,
     leaf: &[u8; PAGE_SIZE],
 ) -> Result<(), Fault>
@@ -42,7 +42,7 @@ pub fn write_one<P: Pages>(
 /// Writes the last two leaves, which share what they have.
 pub fn write_two<P: Pages>(
     pages: &mut P,
-    shape: Shape,
+    shape: NodeShape,
     leaves: &mut Vec<Separator>,
     lower: &mut [u8; PAGE_SIZE],
     upper: &mut [u8; PAGE_SIZE],
@@ -65,7 +65,7 @@ pub fn write_two<P: Pages>(
 pub fn stand_over<P: Pages>(
     alloc: Global,
     pages: &mut P,
-    shape: Shape,
+    shape: NodeShape,
     leaves: &[Separator],
     count: u64,
 ) -> Result<Tree, Fault>
@@ -84,7 +84,7 @@ pub fn stand_over<P: Pages>(
 /// Writes a leaf that is the whole tree, which has so many entries.
 pub fn stand_alone<P: Pages>(
     pages: &mut P,
-    shape: Shape,
+    shape: NodeShape,
     leaf: &[u8; PAGE_SIZE],
     count: u64,
 ) -> Result<Tree, Fault>
@@ -103,7 +103,7 @@ pub fn stand_alone<P: Pages>(
 pub fn end_with_two<P: Pages>(
     alloc: Global,
     pages: &mut P,
-    shape: Shape,
+    shape: NodeShape,
     leaves: &mut Vec<Separator>,
     lower: &mut [u8; PAGE_SIZE],
     upper: &mut [u8; PAGE_SIZE],
@@ -126,7 +126,7 @@ pub fn end_with_two<P: Pages>(
 pub fn end_with_one<P: Pages>(
     alloc: Global,
     pages: &mut P,
-    shape: Shape,
+    shape: NodeShape,
     leaves: &mut Vec<Separator>,
     leaf: &[u8; PAGE_SIZE],
     count: u64,

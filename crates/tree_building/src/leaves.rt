@@ -11,10 +11,10 @@ use crate::fresh_page::put_page;
 use crate::nodes::push_node;
 use io_state::Fault;
 use pages::{PAGE_SIZE, Pages};
-use tree_node::{LeafView, LeafViewMut, Separator, Shape};
+use tree_node::{LeafView, LeafViewMut, NodeShape, Separator};
 
 /// Puts an entry behind those of a leaf.
-pub fn push_entry(page: &mut [u8; PAGE_SIZE], shape: Shape, entry: &[u8])
+pub fn push_entry(page: &mut [u8; PAGE_SIZE], shape: NodeShape, entry: &[u8])
     requires { CanTakeEntry shape entry.now page.old }
     ensures { LeafHas shape page.new (leaf_entries shape page.old ++ entry.now ∷ []) }
 {
@@ -27,7 +27,7 @@ pub fn push_entry(page: &mut [u8; PAGE_SIZE], shape: Shape, entry: &[u8])
 /// Full where no page is available, and Memory.
 pub fn add_leaf<P: Pages>(
     pages: &mut P,
-    shape: Shape,
+    shape: NodeShape,
     leaf: &[u8; PAGE_SIZE],
     before: &mut Vec<Separator>,
 ) -> Result<(), Fault>

@@ -10,10 +10,10 @@ ghost use Rattle.tree_building.specs.Nodes.{CanStandBelow, IsNodeOver, AddsNode,
 use crate::fresh_page::put_page;
 use io_state::Fault;
 use pages::{PAGE_SIZE, Pages};
-use tree_node::{InnerView, InnerViewMut, Separator, Shape, TreeKey, write_inner};
+use tree_node::{InnerView, InnerViewMut, NodeShape, Separator, TreeKey, write_inner};
 
 /// Puts a separator behind those of an inner node, and the child to its right.
-fn push_child(page: &mut [u8; PAGE_SIZE], shape: Shape, node: &Separator)
+fn push_child(page: &mut [u8; PAGE_SIZE], shape: NodeShape, node: &Separator)
     requires { CanStandBehind shape node.now page.old }
     ensures { InnerHas shape page.new (separators shape page.old ++ node.now.key.items ∷ [])
         (children shape page.old ++ node.now.child ∷ []) }
@@ -23,7 +23,7 @@ fn push_child(page: &mut [u8; PAGE_SIZE], shape: Shape, node: &Separator)
 }
 
 /// Makes the page an inner node with this first child and these nodes behind it.
-fn write_over(page: &mut [u8; PAGE_SIZE], shape: Shape, first: u32, rest: &[Separator])
+fn write_over(page: &mut [u8; PAGE_SIZE], shape: NodeShape, first: u32, rest: &[Separator])
     requires { CanStandInOne shape rest.now }
     ensures { InnerHas shape page.new (keys_of rest.now) (first ∷ leads_to rest.now) }
 {
@@ -63,7 +63,7 @@ pub fn push_node(nodes: &mut Vec<Separator>, key: &[u8], child: u32) -> Result<(
 /// Full where no page is available, and Memory.
 pub fn add_node<P: Pages>(
     pages: &mut P,
-    shape: Shape,
+    shape: NodeShape,
     group: &[Separator],
     beside: &mut Vec<Separator>,
 ) -> Result<(), Fault>

@@ -7,13 +7,13 @@ ghost use Rattle.tree_building.specs.Pending.{ArePending, TakesEntryBehind, AreU
 
 use crate::leaves::push_entry;
 use pages::PAGE_SIZE;
-use tree_node::{LeafView, LeafViewMut, Shape};
+use tree_node::{LeafView, LeafViewMut, NodeShape};
 
 /// Puts an entry behind those of two leaves, the second of which has room for it.
 pub fn push_pending(
     lower: &mut [u8; PAGE_SIZE],
     upper: &mut [u8; PAGE_SIZE],
-    shape: Shape,
+    shape: NodeShape,
     entry: &[u8],
 )
     requires pending { ArePending shape lower.old upper.old }
@@ -29,7 +29,12 @@ pub fn push_pending(
 }
 
 /// The last `moved` entries of a leaf go over to the one behind it.
-fn move_back(lower: &mut [u8; PAGE_SIZE], upper: &mut [u8; PAGE_SIZE], shape: Shape, moved: usize)
+fn move_back(
+    lower: &mut [u8; PAGE_SIZE],
+    upper: &mut [u8; PAGE_SIZE],
+    shape: NodeShape,
+    moved: usize,
+)
     requires { CanTake shape moved upper.old lower.old }
     ensures { FillsRightLeaf shape moved lower.old upper.old lower.new upper.new }
 {
@@ -39,7 +44,7 @@ fn move_back(lower: &mut [u8; PAGE_SIZE], upper: &mut [u8; PAGE_SIZE], shape: Sh
 }
 
 /// Shares the entries of a full leaf with the one behind it, so that it has as many, or one more.
-pub fn even_out(lower: &mut [u8; PAGE_SIZE], upper: &mut [u8; PAGE_SIZE], shape: Shape)
+pub fn even_out(lower: &mut [u8; PAGE_SIZE], upper: &mut [u8; PAGE_SIZE], shape: NodeShape)
     requires { AreUneven shape lower.old upper.old }
     ensures { AreEven shape lower.old upper.old lower.new upper.new }
 {

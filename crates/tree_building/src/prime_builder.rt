@@ -9,7 +9,7 @@ use key_index::{PrimeEntry, PrimeIndex};
 use pages::Pages;
 use record_heap::Place;
 use std::alloc::Global;
-use tree_node::Shape;
+use tree_node::NodeShape;
 
 /// An index of the prime key that is being built.
 #[derive(Drop)]
@@ -40,7 +40,7 @@ impl PrimeBuilder {
         ensures width { result.width ≡ width }
         ensures begun { (pages : PageMap) → IsBuildingPrime result pages [] [] }
     {
-        let shape = Shape {
+        let shape = NodeShape {
             key: 0,
             width,
             entry: width + 6,

@@ -12,11 +12,11 @@ use crate::sharing::share;
 use io_state::Fault;
 use pages::Pages;
 use std::alloc::Global;
-use tree_node::{Separator, Shape};
+use tree_node::{NodeShape, Separator};
 
 /// The root of a tree, and how many levels are above its leaves.
 #[derive(Clone, Copy)]
-pub struct Base {
+pub struct BuiltRoot {
     pub root: u32,
     pub levels: u8,
 }
@@ -25,7 +25,7 @@ pub struct Base {
 fn add_level<P: Pages>(
     alloc: Global,
     pages: &mut P,
-    shape: Shape,
+    shape: NodeShape,
     nodes: &[Separator],
 ) -> Result<Vec<Separator>, Fault>
     requires pages { CanWrite P.shown pages.old }
@@ -54,10 +54,10 @@ fn add_level<P: Pages>(
 pub fn add_root<P: Pages>(
     alloc: Global,
     pages: &mut P,
-    shape: Shape,
+    shape: NodeShape,
     levels: u8,
     nodes: &[Separator],
-) -> Result<Base, Fault>
+) -> Result<BuiltRoot, Fault>
     requires pages { CanWrite P.shown pages.old }
     requires several { 2 ≤ length nodes.now }
     requires low { levels ≤ 16 }
@@ -73,7 +73,7 @@ pub fn add_root<P: Pages>(
     }
     let mut top = Vec::new(alloc);
     add_node(pages, shape, nodes, &mut top)?;
-    Ok(Base {
+    Ok(BuiltRoot {
         root: top[0].child,
         levels: levels + 1,
     })

@@ -2,7 +2,7 @@
 use Rattle.std.specs.Prelude.{◌≡◌, ℕ, ◌+◌, ◌≤◌, List, [], take, length, insert, slice_index_or, Some, None}
 use Rattle.std.specs.Prelude.{Option}
 use Rattle.arrayvec.specs.ArrayVec.{ArrayVec}
-use Rattle.tree_node.specs.declared.shape.Shape.{Shape}
+use Rattle.tree_node.specs.declared.shape.NodeShape.{NodeShape}
 use Rattle.tree_node.specs.Leaf.{IsLeaf, leaf_entries, LeafHas}
 use Rattle.tree_node.specs.Inner.{IsInner, separators, children, InnerHas}
 use Rattle.tree_node.specs.Split.{IsCut, IsSplit}
@@ -10,7 +10,7 @@ use Rattle.tree_node.specs.declared.separator.Separator.{Separator}
 use Rattle.tree_node.specs.Fill.{least_entries}
 
 -- two leaves have these entries, both at least half full, and the key is the first of the second one
-pub record LeavesHave (shape : Shape) (page upper : List ℕ) (entries : List (List ℕ))
+pub record LeavesHave (shape : NodeShape) (page upper : List ℕ) (entries : List (List ℕ))
     (key : List ℕ) : Type 0 where
   pub leaf : IsLeaf shape page
   pub upper_leaf : IsLeaf shape upper
@@ -22,12 +22,12 @@ pub record LeavesHave (shape : Shape) (page upper : List ℕ) (entries : List (L
   pub width : length key ≡ shape.width
 
 -- the leaf has these entries; or, where a key is answered, two leaves have them
-abbrev pub PutInLeaf : Shape → (page upper : List ℕ) → List (List ℕ) → Option (ArrayVec ℕ) → Type 0
+abbrev pub PutInLeaf : NodeShape → (page upper : List ℕ) → List (List ℕ) → Option (ArrayVec ℕ) → Type 0
 PutInLeaf shape page upper entries None = LeafHas shape page entries
 PutInLeaf shape page upper entries (Some key) = LeavesHave shape page upper entries key.items
 
 -- two nodes have them, both at least half full, but for the separator between the two
-pub record InnersHave (shape : Shape) (page upper : List ℕ) (seps : List (List ℕ)) (below : List ℕ)
+pub record InnersHave (shape : NodeShape) (page upper : List ℕ) (seps : List (List ℕ)) (below : List ℕ)
     (key : List ℕ) : Type 0 where
   pub inner : IsInner shape page
   pub upper_inner : IsInner shape upper
@@ -39,13 +39,13 @@ pub record InnersHave (shape : Shape) (page upper : List ℕ) (seps : List (List
   pub width : length key ≡ shape.width
 
 -- the node has these separators and children; or, where a key is answered, two nodes have them
-abbrev pub PutInInner : Shape → (page upper : List ℕ) → List (List ℕ) → List ℕ → Option (ArrayVec ℕ) → Type 0
+abbrev pub PutInInner : NodeShape → (page upper : List ℕ) → List (List ℕ) → List ℕ → Option (ArrayVec ℕ) → Type 0
 PutInInner shape page upper seps below None = InnerHas shape page seps below
 PutInInner shape page upper seps below (Some key) = InnersHave shape page upper seps below key.items
 
 -- a separator stands at this place of an inner node, with the child to its right; or, where a key
 -- is answered, two nodes have what is there then
-abbrev pub PutsSeparator : Shape → (place : ℕ) → Separator → (page page_now upper : List ℕ)
+abbrev pub PutsSeparator : NodeShape → (place : ℕ) → Separator → (page page_now upper : List ℕ)
     → Option (ArrayVec ℕ) → Type 0
 PutsSeparator shape place separator page page_now upper key =
     PutInInner shape page_now upper (insert (separators shape page) place separator.key.items)

@@ -13,11 +13,11 @@ use crate::inner::{InnerView, is_inner};
 use crate::inner_mut::InnerViewMut;
 use crate::leaf::{LeafView, is_leaf};
 use crate::leaf_mut::LeafViewMut;
-use crate::shape::{Shape, TreeKey};
+use crate::shape::{NodeShape, TreeKey};
 use pages::PAGE_SIZE;
 
 /// Takes a separator out, and the child to its right.
-fn lose(node: &mut [u8; PAGE_SIZE], shape: Shape, at: usize)
+fn lose(node: &mut [u8; PAGE_SIZE], shape: NodeShape, at: usize)
     requires { HasSeparatorAt shape at node.old }
     ensures { LosesSeparator shape at node.old node.new }
 {
@@ -25,7 +25,7 @@ fn lose(node: &mut [u8; PAGE_SIZE], shape: Shape, at: usize)
 }
 
 /// Puts the first key of a leaf between that leaf and the one before it.
-fn lead(node: &mut [u8; PAGE_SIZE], shape: Shape, at: usize, right: &[u8; PAGE_SIZE])
+fn lead(node: &mut [u8; PAGE_SIZE], shape: NodeShape, at: usize, right: &[u8; PAGE_SIZE])
     requires place { HasSeparatorAt shape at node.old }
     requires first { HasEntryAt shape 0 right.now }
     ensures { ChangesSeparator shape at (first_key shape right.now) node.old node.new }
@@ -34,7 +34,7 @@ fn lead(node: &mut [u8; PAGE_SIZE], shape: Shape, at: usize, right: &[u8; PAGE_S
     InnerViewMut { page: node, shape }.set_separator(at, right.key(0));
 }
 
-fn join_leaves(left: &mut [u8; PAGE_SIZE], right: &[u8; PAGE_SIZE], shape: Shape)
+fn join_leaves(left: &mut [u8; PAGE_SIZE], right: &[u8; PAGE_SIZE], shape: NodeShape)
     requires { CanMergeLeaf shape left.old right.now }
     ensures { LeavesJoined shape left.old right.now left.new }
 {
@@ -46,7 +46,7 @@ fn join_leaves(left: &mut [u8; PAGE_SIZE], right: &[u8; PAGE_SIZE], shape: Shape
 fn fill_left_leaf(
     left: &mut [u8; PAGE_SIZE],
     right: &mut [u8; PAGE_SIZE],
-    shape: Shape,
+    shape: NodeShape,
     moved: usize,
 )
     requires { CanTake shape moved left.old right.old }
@@ -61,7 +61,7 @@ fn fill_left_leaf(
 fn fill_right_leaf(
     left: &mut [u8; PAGE_SIZE],
     right: &mut [u8; PAGE_SIZE],
-    shape: Shape,
+    shape: NodeShape,
     moved: usize,
 )
     requires { CanTake shape moved right.old left.old }
@@ -77,7 +77,7 @@ fn balance_leaves(
     node: &mut [u8; PAGE_SIZE],
     left: &mut [u8; PAGE_SIZE],
     right: &mut [u8; PAGE_SIZE],
-    shape: Shape,
+    shape: NodeShape,
     at: usize,
 ) -> Option<bool>
     requires { HasSeparatorAt shape at node.old }
@@ -107,7 +107,7 @@ fn balance_leaves(
 }
 
 /// A separator that outlives its page.
-fn separator_at(node: &[u8; PAGE_SIZE], shape: Shape, at: usize) -> TreeKey
+fn separator_at(node: &[u8; PAGE_SIZE], shape: NodeShape, at: usize) -> TreeKey
     requires { HasSeparatorAt shape at node.now }
     ensures { IsOfSize shape.width (slice_index_or (separators shape node.now) at []) result.items }
 {
@@ -116,7 +116,12 @@ fn separator_at(node: &[u8; PAGE_SIZE], shape: Shape, at: usize) -> TreeKey
     key
 }
 
-fn join_inners(between: &[u8], left: &mut [u8; PAGE_SIZE], right: &[u8; PAGE_SIZE], shape: Shape)
+fn join_inners(
+    between: &[u8],
+    left: &mut [u8; PAGE_SIZE],
+    right: &[u8; PAGE_SIZE],
+    shape: NodeShape,
+)
     requires { CanMergeInner shape between.now left.old right.now }
     ensures { InnersJoined shape between.now left.old right.now left.new }
 {
@@ -129,7 +134,7 @@ fn fill_left_inner(
     between: &[u8],
     left: &mut [u8; PAGE_SIZE],
     right: &mut [u8; PAGE_SIZE],
-    shape: Shape,
+    shape: NodeShape,
 ) -> TreeKey
     requires { CanBorrowChild shape between.now left.old right.old }
     ensures { FillsLeftInner shape between.now result.items left.old right.old left.new right.new }
@@ -143,7 +148,7 @@ fn fill_right_inner(
     between: &[u8],
     left: &mut [u8; PAGE_SIZE],
     right: &mut [u8; PAGE_SIZE],
-    shape: Shape,
+    shape: NodeShape,
 ) -> TreeKey
     requires { CanBorrowChild shape between.now right.old left.old }
     ensures { FillsRightInner shape between.now result.items left.old right.old left.new right.new }
@@ -152,7 +157,7 @@ fn fill_right_inner(
 }
 
 /// Puts a separator in the place of another one.
-fn set(node: &mut [u8; PAGE_SIZE], shape: Shape, at: usize, key: &[u8])
+fn set(node: &mut [u8; PAGE_SIZE], shape: NodeShape, at: usize, key: &[u8])
     requires { CanChangeKey shape at key.now node.old }
     ensures { ChangesSeparator shape at key.now node.old node.new }
 {
@@ -164,7 +169,7 @@ fn balance_inners(
     node: &mut [u8; PAGE_SIZE],
     left: &mut [u8; PAGE_SIZE],
     right: &mut [u8; PAGE_SIZE],
-    shape: Shape,
+    shape: NodeShape,
     at: usize,
 ) -> Option<bool>
     requires { HasSeparatorAt shape at node.old }
@@ -201,7 +206,7 @@ pub fn balance(
     node: &mut [u8; PAGE_SIZE],
     left: &mut [u8; PAGE_SIZE],
     right: &mut [u8; PAGE_SIZE],
-    shape: Shape,
+    shape: NodeShape,
     at: usize,
 ) -> Option<bool>
     requires { HasSeparatorAt shape at node.old }

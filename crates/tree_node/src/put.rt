@@ -12,7 +12,7 @@ use crate::inner_mut::InnerViewMut;
 use crate::leaf::LeafView;
 use crate::leaf_mut::LeafViewMut;
 use crate::separator::Separator;
-use crate::shape::{Shape, TreeKey};
+use crate::shape::{NodeShape, TreeKey};
 use pages::PAGE_SIZE;
 
 /// Puts an entry before entry `place` of a leaf. Where the leaf is full, its upper half goes to
@@ -20,7 +20,7 @@ use pages::PAGE_SIZE;
 pub fn put_in_leaf(
     page: &mut [u8; PAGE_SIZE],
     upper: &mut [u8; PAGE_SIZE],
-    shape: Shape,
+    shape: NodeShape,
     place: usize,
     entry: &[u8],
 ) -> Option<TreeKey>
@@ -38,7 +38,7 @@ pub fn put_in_leaf(
 }
 
 /// The first key of a leaf.
-fn first_key(page: &[u8; PAGE_SIZE], shape: Shape) -> TreeKey
+fn first_key(page: &[u8; PAGE_SIZE], shape: NodeShape) -> TreeKey
     requires { HasEntryAt shape 0 page.now }
     ensures { IsOfSize shape.width (first_key shape page.now) result.items }
 {
@@ -53,7 +53,7 @@ fn first_key(page: &[u8; PAGE_SIZE], shape: Shape) -> TreeKey
 pub fn put_in_inner(
     page: &mut [u8; PAGE_SIZE],
     upper: &mut [u8; PAGE_SIZE],
-    shape: Shape,
+    shape: NodeShape,
     place: usize,
     separator: &Separator,
 ) -> Option<TreeKey>

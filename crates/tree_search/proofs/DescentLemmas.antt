@@ -4,7 +4,7 @@ use Rattle.std.proofs.lemmas.List.{map-append, append-nil, get_or_at, length-map
 use Rattle.tree_node.specs.Inner.{branches}
 use Rattle.std.proofs.lemmas.Grind.{flat_map-append}
 use Rattle.io_state.specs.declared.fault.Fault.{Fault}
-use Rattle.tree_node.specs.declared.shape.Shape.{Shape}
+use Rattle.tree_node.specs.declared.shape.NodeShape.{NodeShape}
 use Rattle.pages.specs.Each.{Each}
 use Rattle.tree_node.specs.Order.{less, Ascends, AreUpTo, AreAbove}
 use Rattle.tree_node.proofs.OrderLemmas.{Each-weaker}
@@ -24,7 +24,7 @@ bounded width zero low high t ordered = ordered.1
 bounded width (suc h) low high t ordered = row_bounded width (IsOrdered width h) (entries_of h) (bounded width h) low t.1 t.2 high ordered.1
 
 -- the root of a standing tree is in use
-pub root_there : (shape : Shape) (pages : PageMap) (h : ℕ) (t : TreeOf h) → Holds shape pages h t → IsSome (pages (page_of h t))
+pub root_there : (shape : NodeShape) (pages : PageMap) (h : ℕ) (t : TreeOf h) → Holds shape pages h t → IsSome (pages (page_of h t))
 root_there shape pages zero t holds = rw holds.there refl
 root_there shape pages (suc h) t holds = rw holds.0.there refl
 
@@ -47,7 +47,7 @@ pub whole_keys : (width : ℕ) (xs : List (List ℕ)) → Each (λ s. take width
 whole_keys width [] = tt
 whole_keys width (x ∷ xs) = (take-take width width x (omega arith), whole_keys width xs)
 
-pub node_whole : (shape : Shape) (pages : PageMap) (page : ℕ) (ss : List (List ℕ)) (below : List ℕ) → IsInnerAt shape pages page ss below → Each (λ s. take shape.width s ≡ s) ss
+pub node_whole : (shape : NodeShape) (pages : PageMap) (page : ℕ) (ss : List (List ℕ)) (below : List ℕ) → IsInnerAt shape pages page ss below → Each (λ s. take shape.width s ≡ s) ss
 node_whole shape pages page ss below at = subst (Each (λ (s : List ℕ). take shape.width s ≡ s)) at.rises (whole_keys shape.width (branches shape at.bytes))
 
 upto_whole : (width : ℕ) (key : List ℕ) (xs : List (List ℕ)) → Each (λ s. take width s ≡ s) xs → AreUpTo width key xs → Each (λ s. less key s ≡ false) xs
@@ -59,11 +59,11 @@ above_whole width key [] w h = tt
 above_whole width key (x ∷ xs) w h = (ap (less key) (sym w.0) ∙ h.0, above_whole width key xs w.1 h.1)
 
 -- the node and the child below which a key belongs
-pub record Below_ (shape : Shape) (pages : PageMap) (k page : ℕ) (low high : Bound) (key : List ℕ) (t : TreeOf (suc k)) (step : StepDown) : Type 0 where
+pub record Below_ (shape : NodeShape) (pages : PageMap) (k page : ℕ) (low high : Bound) (key : List ℕ) (t : TreeOf (suc k)) (step : StepDown) : Type 0 where
   pub row : RowAt shape.width (TreeOf k) (IsOrdered shape.width k) (entries_of k) low t.1 t.2 high key step.place
   pub child : IsTree shape pages k step.child row.from row.to row.here
 
-pub below : (shape : Shape) (pages : PageMap) (k page : ℕ) (low high : Bound) (key : List ℕ) (t : TreeOf (suc k)) (step : StepDown)
+pub below : (shape : NodeShape) (pages : PageMap) (k page : ℕ) (low high : Bound) (key : List ℕ) (t : TreeOf (suc k)) (step : StepDown)
     → IsTree shape pages (suc k) page low high t → IsDescentStep shape.width key t.1 (map (page_of k) t.2) step → Below_ shape pages k page low high key t step
 below shape pages k page low high key t step tree is =
     let found = is.rank tree.ordered.0 in
@@ -94,7 +94,7 @@ entry_below width k key low high ss xs i row =
     ∙ find_before test (entries_of k row.here) (flat_map (entries_of k) row.back)
     (Each-weaker (λ e. less key (take width e) ≡ true) (λ e. test e ≡ false) (λ e b. differs_back (take width e) key b) (flat_map (entries_of k) row.back) row.above)
 
-pub step_of : (shape : Shape) (before : PageMap) (k page : ℕ) (low high : Bound) (key : List ℕ) (t : TreeOf (suc k)) (r : Result StepDown Fault) → IsTree shape before (suc k) page low high t → Steps shape before page key r
+pub step_of : (shape : NodeShape) (before : PageMap) (k page : ℕ) (low high : Bound) (key : List ℕ) (t : TreeOf (suc k)) (r : Result StepDown Fault) → IsTree shape before (suc k) page low high t → Steps shape before page key r
     → IsAnswer r (IsDescentStep shape.width key t.1 (map (page_of k) t.2))
 step_of shape before k page low high key t r tree steps =
     steps t.1 (map (page_of k) t.2) (subst (λ (n : ℕ). IsInnerAt shape before n t.1 (map (page_of k) t.2)) tree.root tree.holds.0)

@@ -6,7 +6,7 @@ use Rattle.std.proofs.lemmas.List.Elements.{filter-append}
 use Rattle.std.proofs.lemmas.Grind.{flat_map-append}
 use Rattle.arrayvec.specs.ArrayVec.{ArrayVec}
 use Rattle.io_state.specs.declared.fault.Fault.{Fault}
-use Rattle.tree_node.specs.declared.shape.Shape.{Shape}
+use Rattle.tree_node.specs.declared.shape.NodeShape.{NodeShape}
 use Rattle.pages.specs.Each.{Each}
 use Rattle.tree_node.specs.Leaf.{IsLeaf, leaf_entries}
 use Rattle.tree_node.specs.Order.{less, IsRank}
@@ -58,44 +58,44 @@ pub same_some : (entry : ArrayVec ℕ) (found : Option Bool) → is_some found �
 same_some entry None = refl
 same_some entry (Some followed) = refl
 
-pub has_front_fails : (shape : Shape) (pages : PageMap) (h page : ℕ) (to : List ℕ) (fault : Fault) (out : Result Bool Fault) → Fronts shape pages h page to (Err fault) → IsErrAnd out (λ e. e ≡ fault) → HasFront shape pages h page to out
+pub has_front_fails : (shape : NodeShape) (pages : PageMap) (h page : ℕ) (to : List ℕ) (fault : Fault) (out : Result Bool Fault) → Fronts shape pages h page to (Err fault) → IsErrAnd out (λ e. e ≡ fault) → HasFront shape pages h page to out
 has_front_fails shape pages h page to fault (Ok told) fronts was = absurd was
 has_front_fails shape pages h page to fault (Err e) fronts was = subst (λ (f : Fault). Fronts shape pages h page to (Err f)) (sym was) fronts
 
 -- ---- in a leaf
 
 -- the bytes that a leaf's page shows have its entries
-pub shown : (shape : Shape) (pages : PageMap) (page : ℕ) (entries : List (List ℕ)) (bytes : List ℕ) → IsLeafAt shape pages page entries → (IsSome (pages page) → pages page ≡ Some bytes) → leaf_entries shape bytes ≡ entries
+pub shown : (shape : NodeShape) (pages : PageMap) (page : ℕ) (entries : List (List ℕ)) (bytes : List ℕ) → IsLeafAt shape pages page entries → (IsSome (pages page) → pages page ≡ Some bytes) → leaf_entries shape bytes ≡ entries
 shown shape pages page entries bytes at shows =
     ap (leaf_entries shape) (same bytes at.bytes (sym (shows (rw at.there refl)) ∙ at.there)) ∙ at.holds
   where
     same : (a b : List ℕ) → Some a ≡ Some b → a ≡ b
     same a b e = cc
 
-pub is_there : (shape : Shape) (pages : PageMap) (page : ℕ) (entries : List (List ℕ)) → IsLeafAt shape pages page entries → IsSome (pages page)
+pub is_there : (shape : NodeShape) (pages : PageMap) (page : ℕ) (entries : List (List ℕ)) → IsLeafAt shape pages page entries → IsSome (pages page)
 is_there shape pages page entries at = rw at.there refl
 
-pub is_leaf_there : (shape : Shape) (pages : PageMap) (page : ℕ) (entries : List (List ℕ)) (bytes : List ℕ) → IsLeafAt shape pages page entries → (IsSome (pages page) → pages page ≡ Some bytes) → IsLeaf shape bytes
+pub is_leaf_there : (shape : NodeShape) (pages : PageMap) (page : ℕ) (entries : List (List ℕ)) (bytes : List ℕ) → IsLeafAt shape pages page entries → (IsSome (pages page) → pages page ≡ Some bytes) → IsLeaf shape bytes
 is_leaf_there shape pages page entries bytes at shows = subst (IsLeaf shape) (same at.bytes bytes (sym at.there ∙ shows (rw at.there refl))) at.leaf
   where
     same : (a b : List ℕ) → Some a ≡ Some b → a ≡ b
     same a b e = cc
 
 -- a leaf that is no root has two entries at least
-pub leaf_large : (shape : Shape) (n : ℕ) → least_entries shape 0 ≤ n → 2 ≤ n
+pub leaf_large : (shape : NodeShape) (n : ℕ) → least_entries shape 0 ≤ n → 2 ≤ n
 leaf_large shape n h = let room = leaf_room_some shape in omega arith
 
 -- nothing comes before the first place
 pub rank_none : (width : ℕ) (from : List ℕ) (es : List (List ℕ)) → Each (λ e. less (take width e) from ≡ false) es → IsRank width from es 0
 rank_none width from es start = record { within = omega arith; below = tt; above = start }
 
-pub sights_leaf : (shape : Shape) (pages : PageMap) (h page : ℕ) (from to : List ℕ) (out : Result Seen Fault) → h ≡ 0 → SightsInLeaf shape pages page from to out → Sights shape pages h page from to out
+pub sights_leaf : (shape : NodeShape) (pages : PageMap) (h page : ℕ) (from to : List ℕ) (out : Result Seen Fault) → h ≡ 0 → SightsInLeaf shape pages page from to out → Sights shape pages h page from to out
 sights_leaf shape pages zero page from to out none sights t low high tree filled =
     sights t.1 high (subst (λ (n : ℕ). IsLeafAt shape pages n t.1) tree.root tree.holds) tree.ordered.0
     (Each-weaker _ _ (λ e b. b.1) t.1 tree.ordered.1)
 sights_leaf shape pages (suc h) page from to out none sights t low high tree filled = absurd (omega arith)
 
-pub fronts_leaf : (shape : Shape) (pages : PageMap) (h page : ℕ) (to : List ℕ) (out : Result (Option First) Fault) → h ≡ 0 → FrontsInLeaf shape pages page to out → Fronts shape pages h page to out
+pub fronts_leaf : (shape : NodeShape) (pages : PageMap) (h page : ℕ) (to : List ℕ) (out : Result (Option First) Fault) → h ≡ 0 → FrontsInLeaf shape pages page to out → Fronts shape pages h page to out
 fronts_leaf shape pages zero page to out none fronts from t low high tree filled large start =
     fronts from t.1 high (subst (λ (n : ℕ). IsLeafAt shape pages n t.1) tree.root tree.holds) tree.ordered.0
     (Each-weaker _ _ (λ e b. b.1) t.1 tree.ordered.1) large start
@@ -103,7 +103,7 @@ fronts_leaf shape pages (suc h) page to out none fronts from t low high tree fil
 
 -- ---- the front of a row
 
-module _ (shape : Shape) (k : ℕ) (from to : List ℕ) where
+module _ (shape : NodeShape) (k : ℕ) (from to : List ℕ) where
   front_row : (late : PageMap) (low high : Bound) (ss : List (List ℕ)) (xs : List (TreeOf k)) (child : ℕ) (r : Result (Option First) Fault) → IsRow (IsOrdered shape.width k) low ss xs high → 0 < length xs
       → Each (Holds shape late k) xs → Each (λ c. (least_entries shape k ≤ size_of k c) × IsHalfFull shape k c) xs → child ≡ slice_index (map (page_of k) xs) 0
       → Each (λ e. less (take shape.width e) from ≡ false) (flat_map (entries_of k) xs) → Fronts shape late k child to r
@@ -119,7 +119,7 @@ module _ (shape : Shape) (k : ℕ) (from to : List ℕ) where
       (fronts from x low head.to (record { holds = holds.0; root = sym is; ordered = head.between }) filled.0.1 filled.0.0
       (each_left (λ e. less (take shape.width e) from ≡ false) (entries_of k x) (flat_map (entries_of k) xs) start))
 
-module _ (shape : Shape) (pages : PageMap) (h k page : ℕ) (to : List ℕ) (one : h ≡ suc k) where
+module _ (shape : NodeShape) (pages : PageMap) (h k page : ℕ) (to : List ℕ) (one : h ≡ suc k) where
   pub fronts_fail : (fault : Fault) (out : Result (Option First) Fault) → FirstChild shape pages page (Err fault) → IsErrAnd out (λ e. e ≡ fault) → Fronts shape pages h page to out
   fronts_fail fault out child was = subst (λ (n : ℕ). Fronts shape pages n page to out) (sym one) (λ from t low high tree filled large start.
       fails out fault (λ found. IsSight shape.width from to high (entries_of (suc k) t) (Settled found)) was
@@ -134,7 +134,7 @@ module _ (shape : Shape) (pages : PageMap) (h k page : ℕ) (to : List ℕ) (one
 
 -- ---- below an inner node
 
-module _ (shape : Shape) (pages : PageMap) (h k page : ℕ) (from to : List ℕ) (one : h ≡ suc k) where
+module _ (shape : NodeShape) (pages : PageMap) (h k page : ℕ) (from to : List ℕ) (one : h ≡ suc k) where
   fork_of : (low high : Bound) (t : TreeOf (suc k)) (r : Result Fork Fault) → IsTree shape pages (suc k) page low high t → Forks shape pages page from to r → IsAnswer r (IsFork shape.width from to t.1 (map (page_of k) t.2))
   fork_of low high t r tree forks = forks t.1 (map (page_of k) t.2) (subst (λ (n : ℕ). IsInnerAt shape pages n t.1 (map (page_of k) t.2)) tree.root tree.holds.0)
 
@@ -264,7 +264,7 @@ module _ (shape : Shape) (pages : PageMap) (h k page : ℕ) (from to : List ℕ)
 
 -- ---- in a whole tree
 
-module _ (shape : Shape) (pages : PageMap) (h page : ℕ) (from to : List ℕ) (t : TreeOf h) (tree : IsTree shape pages h page None None t) (filled : IsHalfFull shape h t) where
+module _ (shape : NodeShape) (pages : PageMap) (h page : ℕ) (from to : List ℕ) (t : TreeOf h) (tree : IsTree shape pages h page None None t) (filled : IsHalfFull shape h t) where
   whole_first : (found : Option First) → Begin (within shape.width from to (entries_of h t)) found → IsAnswer (Ok found) (IsFirst shape.width from to (entries_of h t))
   whole_first found begin = record { answer = is_first shape.width from to (entries_of h t) found (tree_ascends shape.width h None None t tree.ordered) begin; no_damage = tt }
 

@@ -8,7 +8,7 @@ use Rattle.std.proofs.lemmas.List.Folds.{find-append}
 use Rattle.std.proofs.lemmas.Grind.{flat_map-append}
 use Rattle.arrayvec.specs.ArrayVec.{ArrayVec}
 use Rattle.io_state.specs.declared.fault.Fault.{Fault}
-use Rattle.tree_node.specs.declared.shape.Shape.{Shape}
+use Rattle.tree_node.specs.declared.shape.NodeShape.{NodeShape}
 use Rattle.pages.specs.Each.{Each}
 use Rattle.tree_node.specs.Order.{less, IsRank, IsRankAfter}
 use Rattle.tree_node.proofs.OrderLemmas.{less_itself, not_less, Each-weaker}
@@ -93,7 +93,7 @@ module _ (width : ℕ) (key : List ℕ) where
 
 -- ---- first entries
 
-pub full_some : (shape : Shape) (k n : ℕ) → least_entries shape k ≤ n → 1 ≤ n
+pub full_some : (shape : NodeShape) (k n : ℕ) → least_entries shape k ≤ n → 1 ≤ n
 full_some shape zero n h = let room = leaf_room_some shape in omega arith
 full_some shape (suc k) n h = let room = inner_room_some shape in omega arith
 
@@ -111,24 +111,24 @@ pub if_ok : {X : Type 0} (r : Result X Fault) (P Q : X → Type 0) → ((x : X) 
 if_ok (Ok x) P Q f h = record { answer = f x h.answer; no_damage = tt }
 if_ok (Err e) P Q f h = record { answer = tt; no_damage = h.no_damage }
 
-pub first_leaf : (shape : Shape) (pages : PageMap) (h page : ℕ) (result : Result (ArrayVec ℕ) Fault) → h ≡ 0 → FirstOfLeaf shape pages page result → FindsFirstEntry shape pages h page result
+pub first_leaf : (shape : NodeShape) (pages : PageMap) (h page : ℕ) (result : Result (ArrayVec ℕ) Fault) → h ≡ 0 → FirstOfLeaf shape pages page result → FindsFirstEntry shape pages h page result
 first_leaf shape pages zero page result none first t holds is filled some = first t.1 (subst (λ (n : ℕ). IsLeafAt shape pages n t.1) is holds) some
 first_leaf shape pages (suc h) page result none first t holds is filled some = absurd (omega arith)
 
-cons_first : (shape : Shape) (mid : PageMap) (k child : ℕ) (xs : List (TreeOf k)) (result : Result (ArrayVec ℕ) Fault) → 0 < length xs → Each (Holds shape mid k) xs → child ≡ slice_index (map (page_of k) xs) 0
+cons_first : (shape : NodeShape) (mid : PageMap) (k child : ℕ) (xs : List (TreeOf k)) (result : Result (ArrayVec ℕ) Fault) → 0 < length xs → Each (Holds shape mid k) xs → child ≡ slice_index (map (page_of k) xs) 0
     → Each (λ c. (least_entries shape k ≤ size_of k c) × IsHalfFull shape k c) xs → FindsFirstEntry shape mid k child result → IsAnswer result (λ e. head_of (flat_map (entries_of k) xs) ≡ Some e.items)
 cons_first shape mid k child [] result some holds is filled first = absurd (omega arith)
 cons_first shape mid k child (x ∷ xs) result some holds is filled first =
     if_ok result (λ e. head_of (entries_of k x) ≡ Some e.items) (λ e. head_of (flat_map (entries_of k) (x ∷ xs)) ≡ Some e.items) (λ e h. head_append (entries_of k x) (flat_map (entries_of k) xs) e.items h)
     (first x holds.0 (sym is) filled.0.1 (full_some shape k (size_of k x) filled.0.0))
 
-pub kids_some : (shape : Shape) (pages : PageMap) (k page : ℕ) (ss : List (List ℕ)) (xs : List (TreeOf k)) → IsInnerAt shape pages page ss (map (page_of k) xs) → 0 < length xs
+pub kids_some : (shape : NodeShape) (pages : PageMap) (k page : ℕ) (ss : List (List ℕ)) (xs : List (TreeOf k)) → IsInnerAt shape pages page ss (map (page_of k) xs) → 0 < length xs
 kids_some shape pages k page ss xs at = some_of (map (page_of k) xs) at.leads (length-map xs (page_of k))
   where
     some_of : (ys : List ℕ) {n : ℕ} {m : ℕ} {zs : List ℕ} → (n ∷ zs) ≡ ys → length ys ≡ m → 0 < m
     some_of ys e l = let c = ap length e in omega arith
 
-module _ (shape : Shape) (pages : PageMap) (h k page : ℕ) (one : h ≡ suc k) where
+module _ (shape : NodeShape) (pages : PageMap) (h k page : ℕ) (one : h ≡ suc k) where
   pub first_down_fails : (fault : Fault) (out : Result (ArrayVec ℕ) Fault) → FirstChild shape pages page (Err fault) → IsErrAnd out (λ e. e ≡ fault) → FindsFirstEntry shape pages h page out
   first_down_fails fault out child was = subst (λ (n : ℕ). FindsFirstEntry shape pages n page out) (sym one) (λ t holds is filled some.
       fails out fault (λ e. head_of (entries_of (suc k) t) ≡ Some e.items) was (child t.1 (map (page_of k) t.2) (subst (λ (n : ℕ). IsInnerAt shape pages n t.1 (map (page_of k) t.2)) is holds.0)).no_damage)
@@ -141,7 +141,7 @@ module _ (shape : Shape) (pages : PageMap) (h k page : ℕ) (one : h ≡ suc k) 
 
 -- ---- the entry of a key
 
-pub lead_leaf : (shape : Shape) (pages : PageMap) (h page : ℕ) (key : List ℕ) → h ≡ 0 → LeadsToLeaf shape pages h page key (Ok page)
+pub lead_leaf : (shape : NodeShape) (pages : PageMap) (h page : ℕ) (key : List ℕ) → h ≡ 0 → LeadsToLeaf shape pages h page key (Ok page)
 lead_leaf shape pages zero page key none t low high tree =
     record {
       answer = record { entries = t.1; at = subst (λ (n : ℕ). IsLeafAt shape pages n t.1) tree.root tree.holds; rises = tree.ordered.0; same = refl };
@@ -149,7 +149,7 @@ lead_leaf shape pages zero page key none t low high tree =
     }
 lead_leaf shape pages (suc h) page key none t low high tree = absurd (omega arith)
 
-module _ (shape : Shape) (pages : PageMap) (h k page : ℕ) (key : List ℕ) (one : h ≡ suc k) where
+module _ (shape : NodeShape) (pages : PageMap) (h k page : ℕ) (key : List ℕ) (one : h ≡ suc k) where
   pub lead_fails : (fault : Fault) (out : Result ℕ Fault) → Steps shape pages page key (Err fault) → IsErrAnd out (λ e. e ≡ fault) → LeadsToLeaf shape pages h page key out
   lead_fails fault out steps was = subst (λ (n : ℕ). LeadsToLeaf shape pages n page key out) (sym one) (λ t low high tree.
       fails out fault (IsLeafFor shape pages (suc k) key t) was (step_of shape pages k page low high key t (Err fault) tree steps).no_damage)
@@ -166,7 +166,7 @@ module _ (shape : Shape) (pages : PageMap) (h k page : ℕ) (key : List ℕ) (on
         same = entry_below shape.width k key low high t.1 t.2 step.place b.row ∙ is.same;
       }) (leads b.row.here b.row.from b.row.to child))
 
-module _ (shape : Shape) (pages mid : PageMap) (h page : ℕ) (key : List ℕ) where
+module _ (shape : NodeShape) (pages mid : PageMap) (h page : ℕ) (key : List ℕ) where
   pub find_fails : (fault : Fault) (out : Result (Option (ArrayVec ℕ)) Fault) → LeadsToLeaf shape pages h page key (Err fault) → IsErrAnd out (λ e. e ≡ fault) → Finds shape pages h page (entry_of shape.width key) out
   find_fails fault out leads was t low high tree = fails out fault (IsFound (entry_of shape.width key) (entries_of h t)) was (leads t low high tree).no_damage
 
@@ -187,17 +187,17 @@ module _ (shape : Shape) (pages mid : PageMap) (h page : ℕ) (key : List ℕ) w
 
 -- ---- the first entry at a key or behind it
 
-pub next_leaf : (shape : Shape) (pages : PageMap) (h page : ℕ) (look : List (List ℕ) → Option (List ℕ)) (out : Result (Option (ArrayVec ℕ)) Fault) → h ≡ 0 → FindsInLeaf shape pages page look out → FindsFilled shape pages h page look out
+pub next_leaf : (shape : NodeShape) (pages : PageMap) (h page : ℕ) (look : List (List ℕ) → Option (List ℕ)) (out : Result (Option (ArrayVec ℕ)) Fault) → h ≡ 0 → FindsInLeaf shape pages page look out → FindsFilled shape pages h page look out
 next_leaf shape pages zero page look out none finds t low high tree filled = finds t.1 (subst (λ (n : ℕ). IsLeafAt shape pages n t.1) tree.root tree.holds) tree.ordered.0
 next_leaf shape pages (suc h) page look out none finds t low high tree filled = absurd (omega arith)
 
 -- behind the child
-pub record Behind (shape : Shape) (pages : PageMap) (k : ℕ) (below : List ℕ) (i : ℕ) (back : List (TreeOf k)) : Type 0 where
+pub record Behind (shape : NodeShape) (pages : PageMap) (k : ℕ) (below : List ℕ) (i : ℕ) (back : List (TreeOf k)) : Type 0 where
   pub holds : Each (Holds shape pages k) back
   pub filled : Each (λ c. (least_entries shape k ≤ size_of k c) × IsHalfFull shape k c) back
   pub first : 0 < length back → slice_index below (i + 1) ≡ slice_index (map (page_of k) back) 0
 
-pub behind : (shape : Shape) (pages : PageMap) (k page : ℕ) (low high : Bound) (key : List ℕ) (t : TreeOf (suc k)) (step : StepDown) → IsTree shape pages (suc k) page low high t → IsHalfFull shape (suc k) t
+pub behind : (shape : NodeShape) (pages : PageMap) (k page : ℕ) (low high : Bound) (key : List ℕ) (t : TreeOf (suc k)) (step : StepDown) → IsTree shape pages (suc k) page low high t → IsHalfFull shape (suc k) t
     → (b : Below_ shape pages k page low high key t step) → Behind shape pages k (map (page_of k) t.2) step.place b.row.back
 behind shape pages k page low high key t step tree filled b =
     let row = b.row in
@@ -214,7 +214,7 @@ behind shape pages k page low high key t step tree filled b =
         let long : length (map (page_of k) front ++ page_of k here ∷ []) ≡ step.place + 1 = length-append (map (page_of k) front) (page_of k here ∷ []) ∙ ap (λ (n : ℕ). n + 1) (length-map front (page_of k) ∙ at) in
         ap (λ (l : List ℕ). slice_index l (step.place + 1)) split ∙ get_or_at (map (page_of k) front ++ page_of k here ∷ []) (page_of k y) (map (page_of k) back) 0 (step.place + 1) long
 
-pub back_length : (shape : Shape) (pages : PageMap) (k page : ℕ) (low high : Bound) (key : List ℕ) (t : TreeOf (suc k)) (step : StepDown) → IsTree shape pages (suc k) page low high t
+pub back_length : (shape : NodeShape) (pages : PageMap) (k page : ℕ) (low high : Bound) (key : List ℕ) (t : TreeOf (suc k)) (step : StepDown) → IsTree shape pages (suc k) page low high t
     → (b : Below_ shape pages k page low high key t step) → step.place + length b.row.back ≡ length t.1
 back_length shape pages k page low high key t step tree b =
     let row = b.row in
@@ -226,7 +226,7 @@ back_length shape pages k page low high key t step tree b =
 or_head : (o : Option (List ℕ)) (h : Option (List ℕ)) → o ≡ None → option_or o h ≡ h
 or_head o h none = ap (λ (x : Option (List ℕ)). option_or x h) none
 
-module _ (shape : Shape) (pages : PageMap) (h k page : ℕ) (key : List ℕ) (past : Bool) (one : h ≡ suc k) where
+module _ (shape : NodeShape) (pages : PageMap) (h k page : ℕ) (key : List ℕ) (past : Bool) (one : h ≡ suc k) where
   pub next_down_fails : (fault : Fault) (out : Result (Option (ArrayVec ℕ)) Fault) → Steps shape pages page key (Err fault) → IsErrAnd out (λ e. e ≡ fault) → FindsFilled shape pages h page (first_of past shape.width key) out
   next_down_fails fault out steps was = subst (λ (n : ℕ). FindsFilled shape pages n page (first_of past shape.width key) out) (sym one) (λ t low high tree filled.
       fails out fault (IsFound (first_of past shape.width key) (entries_of (suc k) t)) was (step_of shape pages k page low high key t (Err fault) tree steps).no_damage)
@@ -336,7 +336,7 @@ last_of_row P low (s ∷ ss) (x ∷ xs) high row =
     let rec = last_of_row P (Some s) ss xs high row.3 in
     record { front = x ∷ rec.front; here = rec.here; from = rec.from; is = ap (λ (l : List _). x ∷ l) rec.is; at = ap suc rec.at; between = rec.between }
 
-tree_last : (shape : Shape) (h : ℕ) (low high : Bound) (t : TreeOf h) → IsOrdered shape.width h low high t → IsHalfFull shape h t → 1 ≤ size_of h t → HasLast (entries_of h t)
+tree_last : (shape : NodeShape) (h : ℕ) (low high : Bound) (t : TreeOf h) → IsOrdered shape.width h low high t → IsHalfFull shape h t → 1 ≤ size_of h t → HasLast (entries_of h t)
 tree_last shape zero low high t ordered filled some = some_last t.1 some
 tree_last shape (suc k) low high t ordered filled some =
     let l = last_of_row (IsOrdered shape.width k) low t.1 t.2 high ordered.1 in
@@ -348,11 +348,11 @@ tree_last shape (suc k) low high t ordered filled some =
           ∙ last_append (flat_map (entries_of k) l.front) (entries_of k l.here) below.entry below.is;
     }
 
-pub last_leaf : (shape : Shape) (pages : PageMap) (h page : ℕ) (out : Result (Option (ArrayVec ℕ)) Fault) → h ≡ 0 → LastOfLeaf shape pages page out → FindsLast shape pages h page out
+pub last_leaf : (shape : NodeShape) (pages : PageMap) (h page : ℕ) (out : Result (Option (ArrayVec ℕ)) Fault) → h ≡ 0 → LastOfLeaf shape pages page out → FindsLast shape pages h page out
 last_leaf shape pages zero page out none last t low high tree filled = last t.1 (subst (λ (n : ℕ). IsLeafAt shape pages n t.1) tree.root tree.holds)
 last_leaf shape pages (suc h) page out none last t low high tree filled = absurd (omega arith)
 
-module _ (shape : Shape) (pages : PageMap) (h k page : ℕ) (one : h ≡ suc k) where
+module _ (shape : NodeShape) (pages : PageMap) (h k page : ℕ) (one : h ≡ suc k) where
   pub last_down_fails : (fault : Fault) (out : Result (Option (ArrayVec ℕ)) Fault) → LastChild shape pages page (Err fault) → IsErrAnd out (λ e. e ≡ fault) → FindsLast shape pages h page out
   last_down_fails fault out child was = subst (λ (n : ℕ). FindsLast shape pages n page out) (sym one) (λ t low high tree filled.
       fails out fault (IsFound last_of (entries_of (suc k) t)) was (child t.1 (map (page_of k) t.2) (subst (λ (n : ℕ). IsInnerAt shape pages n t.1 (map (page_of k) t.2)) tree.root tree.holds.0)).no_damage)

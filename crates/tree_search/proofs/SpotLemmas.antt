@@ -5,7 +5,7 @@ use Rattle.std.proofs.lemmas.List.{append-nil}
 use Rattle.std.proofs.lemmas.Grind.{flat_map-append}
 use Rattle.arrayvec.specs.ArrayVec.{ArrayVec}
 use Rattle.io_state.specs.declared.fault.Fault.{Fault}
-use Rattle.tree_node.specs.declared.shape.Shape.{Shape}
+use Rattle.tree_node.specs.declared.shape.NodeShape.{NodeShape}
 use Rattle.pages.specs.Each.{Each}
 use Rattle.pages.specs.PageMap.{PageMap}
 use Rattle.pages.specs.Owners.{IsOutside}
@@ -41,7 +41,7 @@ in_leaf leaf place es spot None at = tt
 in_leaf leaf place es spot (Some e) at = at.1
 
 -- an entry of a tree that is one leaf
-pub whole_leaf : (shape : Shape) (pages : PageMap) (page : ℕ) (es : List (List ℕ)) (spot : Spot) (entry : List ℕ) → IsLeafAt shape pages page es → IsInLeaf page es spot entry → IsAtSpot shape pages (page ∷ []) es spot entry
+pub whole_leaf : (shape : NodeShape) (pages : PageMap) (page : ℕ) (es : List (List ℕ)) (spot : Spot) (entry : List ℕ) → IsLeafAt shape pages page es → IsInLeaf page es spot entry → IsAtSpot shape pages (page ∷ []) es spot entry
 whole_leaf shape pages page es spot entry at is = record {
   before = [];
   here = es;
@@ -54,14 +54,14 @@ whole_leaf shape pages page es spot entry at is = record {
   entry_is = is.entry_is;
 }
 
-whole_leaf_if : (shape : Shape) (pages : PageMap) (page : ℕ) (es : List (List ℕ)) (spot : Spot) (found : Option (ArrayVec ℕ)) → IsLeafAt shape pages page es → IsInLeafIf page es spot found
+whole_leaf_if : (shape : NodeShape) (pages : PageMap) (page : ℕ) (es : List (List ℕ)) (spot : Spot) (found : Option (ArrayVec ℕ)) → IsLeafAt shape pages page es → IsInLeafIf page es spot found
     → FoundAt shape pages (page ∷ []) es spot found
 whole_leaf_if shape pages page es spot None at is = tt
 whole_leaf_if shape pages page es spot (Some e) at is = whole_leaf shape pages page es spot e.items at is
 
 -- ---- below an inner node
 
-in_row : (shape : Shape) (pages : PageMap) (k page : ℕ) (xs : List (TreeOf k)) (front : List (TreeOf k)) (here : TreeOf k) (back : List (TreeOf k)) (spot : Spot) (entry : List ℕ) → xs ≡ front ++ here ∷ back
+in_row : (shape : NodeShape) (pages : PageMap) (k page : ℕ) (xs : List (TreeOf k)) (front : List (TreeOf k)) (here : TreeOf k) (back : List (TreeOf k)) (spot : Spot) (entry : List ℕ) → xs ≡ front ++ here ∷ back
     → IsAtSpot shape pages (pages_of k here) (entries_of k here) spot entry → IsAtSpot shape pages (page ∷ flat_map (pages_of k) xs) (flat_map (entries_of k) xs) spot entry
 in_row shape pages k page xs front here back spot entry is at =
     let f = flat_map (entries_of k) front in
@@ -88,14 +88,14 @@ in_row shape pages k page xs front here back spot entry is at =
 pub first_entry : (leaf : ℕ) (es : List (List ℕ)) (spot : Spot) (e : ArrayVec ℕ) → 1 ≤ length es → IsEntryAt leaf 0 es spot (Some e) → head_of es ≡ Some e.items
 first_entry leaf es spot e some at = head_at es some ∙ ap Some (sym (at.1.entry_is ∙ ap (λ (n : ℕ). get_or es n []) at.0))
 
-pub spots_first_leaf : (shape : Shape) (pages : PageMap) (h page : ℕ) (spot : Spot) (out : Result (ArrayVec ℕ) Fault) → h ≡ 0 → SpotsFirstInLeaf shape pages page spot out → SpotsFirst shape pages h page spot out
+pub spots_first_leaf : (shape : NodeShape) (pages : PageMap) (h page : ℕ) (spot : Spot) (out : Result (ArrayVec ℕ) Fault) → h ≡ 0 → SpotsFirstInLeaf shape pages page spot out → SpotsFirst shape pages h page spot out
 spots_first_leaf shape pages zero page spot (Ok e) none first t holds is filled some =
     let at = subst (λ (n : ℕ). IsLeafAt shape pages n t.1) is holds in
     subst (λ (n : ℕ). IsAtSpot shape pages (n ∷ []) t.1 spot e.items) (sym is) (whole_leaf shape pages page t.1 spot e.items at (first t.1 at))
 spots_first_leaf shape pages zero page spot (Err e) none first t holds is filled some = tt
 spots_first_leaf shape pages (suc h) page spot out none first t holds is filled some = absurd (omega arith)
 
-first_in_row : (shape : Shape) (pages : PageMap) (k child : ℕ) (xs : List (TreeOf k)) (spot : Spot) (out : Result (ArrayVec ℕ) Fault) → 0 < length xs → Each (Holds shape pages k) xs
+first_in_row : (shape : NodeShape) (pages : PageMap) (k child : ℕ) (xs : List (TreeOf k)) (spot : Spot) (out : Result (ArrayVec ℕ) Fault) → 0 < length xs → Each (Holds shape pages k) xs
     → child ≡ slice_index (map (page_of k) xs) 0 → Each (λ c. (least_entries shape k ≤ size_of k c) × IsHalfFull shape k c) xs → SpotsFirst shape pages k child spot out
     → (page : ℕ) (front all : List (TreeOf k)) → all ≡ front ++ xs → IfOk out (λ e. IsAtSpot shape pages (page ∷ flat_map (pages_of k) all) (flat_map (entries_of k) all) spot e.items)
 first_in_row shape pages k child [] spot out some holds is filled first page front all split = absurd (omega arith)
@@ -103,31 +103,31 @@ first_in_row shape pages k child (x ∷ xs) spot (Err e) some holds is filled fi
 first_in_row shape pages k child (x ∷ xs) spot (Ok e) some holds is filled first page front all split =
     in_row shape pages k page all front x xs spot e.items split (first x holds.0 (sym is) filled.0.1 (full_some shape k (size_of k x) filled.0.0))
 
-pub spots_first_inner : (shape : Shape) (pages : PageMap) (h k page : ℕ) (spot : Spot) (one : h ≡ suc k) (mid : PageMap) (child : ℕ) (out : Result (ArrayVec ℕ) Fault) → mid ≡ pages → FirstChild shape pages page (Ok child)
+pub spots_first_inner : (shape : NodeShape) (pages : PageMap) (h k page : ℕ) (spot : Spot) (one : h ≡ suc k) (mid : PageMap) (child : ℕ) (out : Result (ArrayVec ℕ) Fault) → mid ≡ pages → FirstChild shape pages page (Ok child)
     → SpotsFirst shape mid k child spot out → SpotsFirst shape pages h page spot out
 spots_first_inner shape pages h k page spot one mid child out same answer first = subst (λ (n : ℕ). SpotsFirst shape pages n page spot out) (sym one) (λ t holds is filled some.
     let at = subst (λ (n : ℕ). IsInnerAt shape pages n t.1 (map (page_of k) t.2)) is holds.0 in
     let is_child = (answer t.1 (map (page_of k) t.2) at).answer in
     first_in_row shape pages k child t.2 spot out (kids_some shape pages k page t.1 t.2 at) holds.1 is_child filled (subst (λ (m : PageMap). SpotsFirst shape m k child spot out) same first) t.0 [] t.2 refl)
 
-pub spots_first_fails : (shape : Shape) (pages : PageMap) (h page : ℕ) (spot : Spot) (fault : Fault) (out : Result (ArrayVec ℕ) Fault) → IsErrAnd out (λ e. e ≡ fault) → SpotsFirst shape pages h page spot out
+pub spots_first_fails : (shape : NodeShape) (pages : PageMap) (h page : ℕ) (spot : Spot) (fault : Fault) (out : Result (ArrayVec ℕ) Fault) → IsErrAnd out (λ e. e ≡ fault) → SpotsFirst shape pages h page spot out
 spots_first_fails shape pages h page spot fault (Ok e) was t holds is filled some = absurd was
 spots_first_fails shape pages h page spot fault (Err e) was t holds is filled some = tt
 
 -- ---- the first entry at a key or behind it
 
-pub spots_leaf : (shape : Shape) (pages : PageMap) (h page : ℕ) (spot : Spot) (out : Result (Option (ArrayVec ℕ)) Fault) → h ≡ 0 → SpotsInLeaf shape pages page spot out → Spots shape pages h page spot out
+pub spots_leaf : (shape : NodeShape) (pages : PageMap) (h page : ℕ) (spot : Spot) (out : Result (Option (ArrayVec ℕ)) Fault) → h ≡ 0 → SpotsInLeaf shape pages page spot out → Spots shape pages h page spot out
 spots_leaf shape pages zero page spot (Ok found) none spots t low high tree filled =
     let at = subst (λ (n : ℕ). IsLeafAt shape pages n t.1) tree.root tree.holds in
     subst (λ (n : ℕ). FoundAt shape pages (n ∷ []) t.1 spot found) (sym tree.root) (whole_leaf_if shape pages page t.1 spot found at (spots t.1 at))
 spots_leaf shape pages zero page spot (Err e) none spots t low high tree filled = tt
 spots_leaf shape pages (suc h) page spot out none spots t low high tree filled = absurd (omega arith)
 
-pub spots_fails : (shape : Shape) (pages : PageMap) (h page : ℕ) (spot : Spot) (fault : Fault) (out : Result (Option (ArrayVec ℕ)) Fault) → IsErrAnd out (λ e. e ≡ fault) → Spots shape pages h page spot out
+pub spots_fails : (shape : NodeShape) (pages : PageMap) (h page : ℕ) (spot : Spot) (fault : Fault) (out : Result (Option (ArrayVec ℕ)) Fault) → IsErrAnd out (λ e. e ≡ fault) → Spots shape pages h page spot out
 spots_fails shape pages h page spot fault (Ok found) was t low high tree filled = absurd was
 spots_fails shape pages h page spot fault (Err e) was t low high tree filled = tt
 
-module _ (shape : Shape) (pages : PageMap) (h k page : ℕ) (key : List ℕ) (one : h ≡ suc k) (step : StepDown) (steps : Steps shape pages page key (Ok step)) (spot : Spot) where
+module _ (shape : NodeShape) (pages : PageMap) (h k page : ℕ) (key : List ℕ) (one : h ≡ suc k) (step : StepDown) (steps : Steps shape pages page key (Ok step)) (spot : Spot) where
   pub spots_below : (mid : PageMap) (found : ArrayVec ℕ) → mid ≡ pages → Spots shape mid k step.child spot (Ok (Some found)) → Spots shape pages h page spot (Ok (Some found))
   spots_below mid found same spots = subst (λ (n : ℕ). Spots shape pages n page spot (Ok (Some found))) (sym one) (λ t low high tree filled.
       let b = below shape pages k page low high key t step tree (step_of shape pages k page low high key t (Ok step) tree steps).answer in

@@ -2,7 +2,7 @@
 use Rattle.std.proofs.Common.{◌≡◌, ℕ, Bool, List, Option, Ok, Err, Result, sym, subst}
 use Rattle.std.specs.Prelude.{IsErrAnd}
 use Rattle.io_state.specs.declared.fault.Fault.{Fault}
-use Rattle.tree_node.specs.declared.shape.Shape.{Shape}
+use Rattle.tree_node.specs.declared.shape.NodeShape.{NodeShape}
 use Rattle.pages.specs.PageMap.{PageMap}
 use Rattle.tree_search.specs.Tree.{entries_of}
 use Rattle.tree_search.specs.Stored.{IsLeafAt}
@@ -12,7 +12,7 @@ use Rattle.tree_search.specs.Tail.{TellsBelow, TellsInLeaf}
 use Rattle.tree_search.proofs.AnswerLemmas.{fails}
 use Rattle.tree_search.proofs.SearchLemmas.{if_ok}
 
-module _ (Says : Option (List ℕ) → Bool → Type 0) (shape : Shape) (pages : PageMap) (h page : ℕ) (key : List ℕ) (out : Result Bool Fault) where
+module _ (Says : Option (List ℕ) → Bool → Type 0) (shape : NodeShape) (pages : PageMap) (h page : ℕ) (key : List ℕ) (out : Result Bool Fault) where
   pub lead_missed : (fault : Fault) → LeadsToLeaf shape pages h page key (Err fault) → IsErrAnd out (λ e. e ≡ fault) → TellsBelow Says shape pages h page key out
   lead_missed fault leads was t low high tree = fails out fault (Says (entry_of shape.width key (entries_of h t))) was (leads t low high tree).no_damage
 

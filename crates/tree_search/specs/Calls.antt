@@ -1,7 +1,7 @@
 -- What look-ups ensure.
 use Rattle.std.specs.Prelude.{◌≡◌, ℕ, not, List, [], ◌∷◌, Some, None, take, find, bytes_eq, Option, zero, suc}
 use Rattle.std.specs.Prelude.{◌≤◌, length, ⊤}
-use Rattle.tree_node.specs.declared.shape.Shape.{Shape}
+use Rattle.tree_node.specs.declared.shape.NodeShape.{NodeShape}
 use Rattle.tree_node.specs.Order.{less}
 use Rattle.pages.specs.PageMap.{PageMap}
 use Rattle.tree_search.specs.Tree.{TreeOf, page_of, pages_of, Bound, IsOrdered}
@@ -16,7 +16,7 @@ size_of zero t = length t.1
 size_of (suc h) t = length t.1
 
 -- every node below the root is at least half full
-abbrev pub IsHalfFull : Shape → (h : ℕ) → TreeOf h → Type 0
+abbrev pub IsHalfFull : NodeShape → (h : ℕ) → TreeOf h → Type 0
 IsHalfFull shape zero t = ⊤
 IsHalfFull shape (suc h) t = Each (λ c. (least_entries shape h ≤ size_of h c) × IsHalfFull shape h c) t.2
 
@@ -44,14 +44,14 @@ last_of (x ∷ []) = Some x
 last_of (x ∷ (y ∷ ys)) = last_of (y ∷ ys)
 
 -- a tree with h levels above its leaves stands below this page, within these bounds
-pub record IsTree (shape : Shape) (pages : PageMap) (h page : ℕ) (low high : Bound)
+pub record IsTree (shape : NodeShape) (pages : PageMap) (h page : ℕ) (low high : Bound)
     (t : TreeOf h) : Type 0 where
   pub holds : Holds shape pages h t
   pub root : page_of h t ≡ page
   pub ordered : IsOrdered shape.width h low high t
 
 -- no page stands twice in it, and its nodes are filled
-pub record IsWhole (shape : Shape) (pages : PageMap) (h page : ℕ) (low high : Bound)
+pub record IsWhole (shape : NodeShape) (pages : PageMap) (h page : ℕ) (low high : Bound)
     (t : TreeOf h) : Type 0 where
   pub stands : IsTree shape pages h page low high t
   pub apart : AreApart (pages_of h t)

@@ -2,11 +2,11 @@
 use Rattle.std.specs.Prelude.{◌≡◌, ℕ, ◌+◌, ◌<◌, ◌≤◌, Bool, true, false, List, [], length, slice_index}
 use Rattle.std.specs.Prelude.{slice_index_or, Some, None, Result, option_map}
 use Rattle.io_state.specs.declared.fault.Fault.{Fault}
-use Rattle.tree_node.specs.declared.shape.Shape.{Shape}
+use Rattle.tree_node.specs.declared.shape.NodeShape.{NodeShape}
 use Rattle.tree_node.specs.Order.{Ascends, IsRank, IsRankAfter}
 use Rattle.pages.specs.PageMap.{PageMap}
 use Rattle.tree_search.specs.declared.descent.StepDown.{StepDown}
-use Rattle.tree_search.specs.declared.descent.Look.{Look}
+use Rattle.tree_search.specs.declared.descent.LeafLook.{LeafLook}
 use Rattle.tree_search.specs.Stored.{IsLeafAt, IsInnerAt, WhereRising}
 use Rattle.pages.specs.Answer.{IsAnswer}
 use Rattle.tree_search.specs.Calls.{entry_of}
@@ -20,17 +20,17 @@ pub record IsDescentStep (width : ℕ) (key : List ℕ) (separators : List (List
   pub next : step.place < length separators → step.next ≡ slice_index below (step.place + 1)
   pub count : step.count ≡ length separators
 
-abbrev pub Steps : Shape → PageMap → ℕ → List ℕ → Result StepDown Fault → Type 0
+abbrev pub Steps : NodeShape → PageMap → ℕ → List ℕ → Result StepDown Fault → Type 0
 Steps shape pages page key result =
     (separators : List (List ℕ)) (below : List ℕ) → IsInnerAt shape pages page separators below
     → IsAnswer result (IsDescentStep shape.width key separators below)
 
 -- the place of the key among the entries, and its entry
-pub record IsLook (width : ℕ) (key : List ℕ) (entries : List (List ℕ)) (look : Look) : Type 0 where
+pub record IsLook (width : ℕ) (key : List ℕ) (entries : List (List ℕ)) (look : LeafLook) : Type 0 where
   pub rank : IsRank width key entries look.place
   pub found : option_map (λ e. e.items) look.found ≡ entry_of width key entries
 
-abbrev pub Looks : Shape → PageMap → ℕ → List ℕ → Result Look Fault → Type 0
+abbrev pub Looks : NodeShape → PageMap → ℕ → List ℕ → Result LeafLook Fault → Type 0
 Looks shape pages page key result =
     (entries : List (List ℕ)) → IsLeafAt shape pages page entries → Ascends shape.width entries
     → IsAnswer result (IsLook shape.width key entries)
@@ -42,6 +42,6 @@ pub record IsKeyAt (width : ℕ) (key : List ℕ) (entries : List (List ℕ)) (p
   pub absent : has ≡ false → entry_of width key entries ≡ None
 
 -- the same of the bytes of a leaf whose entries rise, where the place is that of the key
-abbrev pub TellsKeyAt : Shape → List ℕ → ℕ → List ℕ → Bool → Type 0
+abbrev pub TellsKeyAt : NodeShape → List ℕ → ℕ → List ℕ → Bool → Type 0
 TellsKeyAt shape key place page has = WhereRising shape page
     (λ entries. IsRank shape.width key entries place → IsKeyAt shape.width key entries place has)

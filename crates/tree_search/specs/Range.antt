@@ -5,7 +5,7 @@ use Rattle.std.specs.Prelude.{IfOk, is_some, ◌+◌, ⊤}
 use Rattle.std.specs.Option.{option_map_or}
 use Rattle.arrayvec.specs.ArrayVec.{ArrayVec}
 use Rattle.io_state.specs.declared.fault.Fault.{Fault}
-use Rattle.tree_node.specs.declared.shape.Shape.{Shape}
+use Rattle.tree_node.specs.declared.shape.NodeShape.{NodeShape}
 use Rattle.tree_node.specs.Order.{less, Ascends, IsRank}
 use Rattle.pages.specs.Each.{Each}
 use Rattle.pages.specs.PageMap.{PageMap}
@@ -34,7 +34,7 @@ IsFirst width from to entries (Some first) =
     × (first.followed ≡ option_map_or (is_within width from to)
     (first_after width (take width first.entry.items) entries) false)
 
-abbrev pub FindsBelow : Shape → (h page : ℕ) → List ℕ → List ℕ → PageMap → Result (Option First) Fault
+abbrev pub FindsBelow : NodeShape → (h page : ℕ) → List ℕ → List ℕ → PageMap → Result (Option First) Fault
     → Type 0
 FindsBelow shape h page from to pages result =
     (t : TreeOf h) → IsTree shape pages h page None None t → IsHalfFull shape h t
@@ -108,13 +108,13 @@ IsSight width from to high entries (Settled found) =
     → Begin (within width from to (entries ++ others)) found
 IsSight width from to high entries (Open last) = within width from to entries ≡ only last
 
-abbrev pub Sights : Shape → PageMap → (h page : ℕ) → List ℕ → List ℕ → Result Seen Fault → Type 0
+abbrev pub Sights : NodeShape → PageMap → (h page : ℕ) → List ℕ → List ℕ → Result Seen Fault → Type 0
 Sights shape pages h page from to result =
     (t : TreeOf h) (low high : Bound) → IsTree shape pages h page low high t → IsHalfFull shape h t
     → IsAnswer result (IsSight shape.width from to high (entries_of h t))
 
 -- the same of a leaf alone
-abbrev pub SightsInLeaf : Shape → PageMap → (page : ℕ) → List ℕ → List ℕ → Result Seen Fault → Type 0
+abbrev pub SightsInLeaf : NodeShape → PageMap → (page : ℕ) → List ℕ → List ℕ → Result Seen Fault → Type 0
 SightsInLeaf shape pages page from to result =
     (entries : List (List ℕ)) (high : Bound) → IsLeafAt shape pages page entries → Ascends shape.width entries
     → Each (λ e. Below high (take shape.width e)) entries
@@ -127,14 +127,14 @@ IsSightFrom width place to entries sight =
     → Each (λ e. Below high (take width e)) entries → IsSight width from to high entries sight
 
 -- the answer of a tree that is no root and has no entry below the range
-abbrev pub Fronts : Shape → PageMap → (h page : ℕ) → List ℕ → Result (Option First) Fault → Type 0
+abbrev pub Fronts : NodeShape → PageMap → (h page : ℕ) → List ℕ → Result (Option First) Fault → Type 0
 Fronts shape pages h page to result =
     (from : List ℕ) (t : TreeOf h) (low high : Bound) → IsTree shape pages h page low high t
     → IsHalfFull shape h t → least_entries shape h ≤ size_of h t
     → Each (λ e. less (take shape.width e) from ≡ false) (entries_of h t)
     → IsAnswer result (λ found. IsSight shape.width from to high (entries_of h t) (Settled found))
 
-abbrev pub FrontsInLeaf : Shape → PageMap → (page : ℕ) → List ℕ → Result (Option First) Fault → Type 0
+abbrev pub FrontsInLeaf : NodeShape → PageMap → (page : ℕ) → List ℕ → Result (Option First) Fault → Type 0
 FrontsInLeaf shape pages page to result =
     (from : List ℕ) (entries : List (List ℕ)) (high : Bound) → IsLeafAt shape pages page entries
     → Ascends shape.width entries
@@ -143,7 +143,7 @@ FrontsInLeaf shape pages page to result =
     → IsAnswer result (λ found. IsSight shape.width from to high entries (Settled found))
 
 -- whether such a tree has an entry of the range
-abbrev pub HasFront : Shape → PageMap → (h page : ℕ) → List ℕ → Result Bool Fault → Type 0
+abbrev pub HasFront : NodeShape → PageMap → (h page : ℕ) → List ℕ → Result Bool Fault → Type 0
 HasFront shape pages h page to (Ok told) = (front : Option First)
     × (Fronts shape pages h page to (Ok front) × (told ≡ is_some front))
 HasFront shape pages h page to (Err fault) = Fronts shape pages h page to (Err fault)
@@ -155,31 +155,31 @@ pub record IsFork (width : ℕ) (from to : List ℕ) (separators : List (List �
   pub inside : IsTrue fork.past → fork.step.place < length separators
   pub above : IsTrue fork.past → less to (slice_index_or separators fork.step.place []) ≡ true
 
-abbrev pub Forks : Shape → PageMap → (page : ℕ) → List ℕ → List ℕ → Result Fork Fault → Type 0
+abbrev pub Forks : NodeShape → PageMap → (page : ℕ) → List ℕ → List ℕ → Result Fork Fault → Type 0
 Forks shape pages page from to result =
     (separators : List (List ℕ)) (below : List ℕ) → IsInnerAt shape pages page separators below
     → IsAnswer result (IsFork shape.width from to separators below)
 
 -- the same of looks that fill an entry
-abbrev pub FillsBelow : Shape → (h page : ℕ) → List ℕ → List ℕ → ArrayVec ℕ → PageMap
+abbrev pub FillsBelow : NodeShape → (h page : ℕ) → List ℕ → List ℕ → ArrayVec ℕ → PageMap
     → Result (Option Bool) Fault → Type 0
 FillsBelow shape h page from to entry pages result =
     FindsBelow shape h page from to pages (told_first entry result)
 
-abbrev pub SeesBelow : Shape → (h page : ℕ) → List ℕ → List ℕ → ArrayVec ℕ → Result Sight Fault → PageMap
+abbrev pub SeesBelow : NodeShape → (h page : ℕ) → List ℕ → List ℕ → ArrayVec ℕ → Result Sight Fault → PageMap
     → Type 0
 SeesBelow shape h page from to entry result pages =
     Sights shape pages h page from to (told_seen entry result)
 
-abbrev pub SeesInLeaf : Shape → ℕ → List ℕ → List ℕ → ArrayVec ℕ → PageMap → Result Sight Fault → Type 0
+abbrev pub SeesInLeaf : NodeShape → ℕ → List ℕ → List ℕ → ArrayVec ℕ → PageMap → Result Sight Fault → Type 0
 SeesInLeaf shape page from to entry pages result =
     SightsInLeaf shape pages page from to (told_seen entry result)
 
-abbrev pub FillsFrontBelow : Shape → (h page : ℕ) → List ℕ → ArrayVec ℕ → PageMap → Result (Option Bool) Fault
+abbrev pub FillsFrontBelow : NodeShape → (h page : ℕ) → List ℕ → ArrayVec ℕ → PageMap → Result (Option Bool) Fault
     → Type 0
 FillsFrontBelow shape h page to entry pages result = Fronts shape pages h page to (told_first entry result)
 
-abbrev pub FillsFrontOfLeaf : Shape → ℕ → List ℕ → ArrayVec ℕ → PageMap → Result (Option Bool) Fault → Type 0
+abbrev pub FillsFrontOfLeaf : NodeShape → ℕ → List ℕ → ArrayVec ℕ → PageMap → Result (Option Bool) Fault → Type 0
 FillsFrontOfLeaf shape page to entry pages result =
     FrontsInLeaf shape pages page to (told_first entry result)
 

@@ -3,7 +3,7 @@ use Rattle.std.specs.Prelude.{◌≡◌, ℕ, ◌<◌, ◌≤◌, Bool, true, fa
 use Rattle.std.specs.Prelude.{slice_index_or, bytes_eq, Option, Some, None, Result, IfOk, ⊤}
 use Rattle.arrayvec.specs.ArrayVec.{ArrayVec}
 use Rattle.io_state.specs.declared.fault.Fault.{Fault}
-use Rattle.tree_node.specs.declared.shape.Shape.{Shape}
+use Rattle.tree_node.specs.declared.shape.NodeShape.{NodeShape}
 use Rattle.pages.specs.PageMap.{PageMap}
 use Rattle.pages.specs.Owners.{IsOutside}
 use Rattle.tree_search.specs.declared.spot.Spot.{Spot}
@@ -28,7 +28,7 @@ abbrev pub IsEntryAt : ℕ → ℕ → List (List ℕ) → Spot → Option (Arra
 IsEntryAt leaf place entries spot None = length entries ≤ place
 IsEntryAt leaf place entries spot (Some entry) = (spot.place ≡ place) × IsInLeaf leaf entries spot entry.items
 
-abbrev pub EntryAt : Shape → PageMap → (page place : ℕ) → Spot → Result (Option (ArrayVec ℕ)) Fault → Type 0
+abbrev pub EntryAt : NodeShape → PageMap → (page place : ℕ) → Spot → Result (Option (ArrayVec ℕ)) Fault → Type 0
 EntryAt shape pages page place spot result =
     (entries : List (List ℕ)) → IsLeafAt shape pages page entries
     → IsAnswer result (IsEntryAt page place entries spot)
@@ -38,7 +38,7 @@ abbrev pub IsCopyAt : ℕ → List (List ℕ) → List ℕ → Bool → Type 0
 IsCopyAt place entries entry true = (place < length entries) × (entry ≡ slice_index_or entries place [])
 IsCopyAt place entries entry false = length entries ≤ place
 
-abbrev pub CopiesEntry : Shape → PageMap → (page place : ℕ) → List ℕ → Result Bool Fault → Type 0
+abbrev pub CopiesEntry : NodeShape → PageMap → (page place : ℕ) → List ℕ → Result Bool Fault → Type 0
 CopiesEntry shape pages page place entry result =
     (entries : List (List ℕ)) → IsLeafAt shape pages page entries
     → IsAnswer result (IsCopyAt place entries entry)
@@ -48,13 +48,13 @@ abbrev pub begins_with : List ℕ → List ℕ → Bool
 begins_with start entry = bytes_eq (take (length start) entry) start
 
 -- whether the entry at a place of a leaf, which has so many, begins so
-abbrev pub TellsStart : Shape → PageMap → (page place : ℕ) → List ℕ → Result Bool Fault → Type 0
+abbrev pub TellsStart : NodeShape → PageMap → (page place : ℕ) → List ℕ → Result Bool Fault → Type 0
 TellsStart shape pages page place start result =
     (entries : List (List ℕ)) → IsLeafAt shape pages page entries → place < length entries
     → IsAnswer result (λ told. told ≡ begins_with start (slice_index_or entries place []))
 
 -- the entry stands at this place of this leaf of these pages, between these of the entries
-pub record IsAtSpot (shape : Shape) (pages : PageMap) (own : List ℕ) (entries : List (List ℕ))
+pub record IsAtSpot (shape : NodeShape) (pages : PageMap) (own : List ℕ) (entries : List (List ℕ))
     (spot : Spot) (entry : List ℕ) : Type 0 where
   pub before : List (List ℕ)
   pub here : List (List ℕ)
@@ -67,26 +67,26 @@ pub record IsAtSpot (shape : Shape) (pages : PageMap) (own : List ℕ) (entries 
   pub entry_is : entry ≡ slice_index_or here spot.place []
 
 -- where the entry that was found stands
-abbrev pub FoundAt : Shape → PageMap → List ℕ → List (List ℕ) → Spot → Option (ArrayVec ℕ) → Type 0
+abbrev pub FoundAt : NodeShape → PageMap → List ℕ → List (List ℕ) → Spot → Option (ArrayVec ℕ) → Type 0
 FoundAt shape pages own entries spot None = ⊤
 FoundAt shape pages own entries spot (Some entry) = IsAtSpot shape pages own entries spot entry.items
 
-abbrev pub Spots : Shape → PageMap → (h page : ℕ) → Spot → Result (Option (ArrayVec ℕ)) Fault → Type 0
+abbrev pub Spots : NodeShape → PageMap → (h page : ℕ) → Spot → Result (Option (ArrayVec ℕ)) Fault → Type 0
 Spots shape pages h page spot result =
     (t : TreeOf h) (low high : Bound) → IsTree shape pages h page low high t → IsHalfFull shape h t
     → IfOk result (FoundAt shape pages (pages_of h t) (entries_of h t) spot)
 
-abbrev pub SpotsFirst : Shape → PageMap → (h page : ℕ) → Spot → Result (ArrayVec ℕ) Fault → Type 0
+abbrev pub SpotsFirst : NodeShape → PageMap → (h page : ℕ) → Spot → Result (ArrayVec ℕ) Fault → Type 0
 SpotsFirst shape pages h page spot result =
     (t : TreeOf h) → Holds shape pages h t → page_of h t ≡ page → IsHalfFull shape h t → 1 ≤ size_of h t
     → IfOk result (λ e. IsAtSpot shape pages (pages_of h t) (entries_of h t) spot e.items)
 
 -- the same of a leaf alone
-abbrev pub SpotsInLeaf : Shape → PageMap → ℕ → Spot → Result (Option (ArrayVec ℕ)) Fault → Type 0
+abbrev pub SpotsInLeaf : NodeShape → PageMap → ℕ → Spot → Result (Option (ArrayVec ℕ)) Fault → Type 0
 SpotsInLeaf shape pages page spot result =
     (entries : List (List ℕ)) → IsLeafAt shape pages page entries → IfOk result (IsInLeafIf page entries spot)
 
-abbrev pub SpotsFirstInLeaf : Shape → PageMap → ℕ → Spot → Result (ArrayVec ℕ) Fault → Type 0
+abbrev pub SpotsFirstInLeaf : NodeShape → PageMap → ℕ → Spot → Result (ArrayVec ℕ) Fault → Type 0
 SpotsFirstInLeaf shape pages page spot result =
     (entries : List (List ℕ)) → IsLeafAt shape pages page entries
     → IfOk result (λ e. IsInLeaf page entries spot e.items)

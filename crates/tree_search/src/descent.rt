@@ -10,7 +10,7 @@ ghost use Rattle.tree_search.specs.Stored.{WhereRising};
 use crate::spot::entry_with;
 use io_state::Fault;
 use pages::{PAGE_SIZE, Pages};
-use tree_node::{Entry, InnerView, LeafView, Shape, is_inner, is_leaf};
+use tree_node::{Entry, InnerView, LeafView, NodeShape, is_inner, is_leaf};
 
 /// The child of an inner node below which a key belongs: its place, its page, the page of the next
 /// one (or its own, where it is the last), and how many separators the node has.
@@ -24,7 +24,7 @@ pub struct StepDown {
 
 /// The place of a key in a leaf: how many entries have keys below it. And its entry, where it has one.
 #[derive(Drop)]
-pub struct Look {
+pub struct LeafLook {
     pub place: usize,
     pub found: Option<Entry>,
 }
@@ -32,7 +32,7 @@ pub struct Look {
 /// One step down, to where a key belongs.
 pub fn descend<P: Pages>(
     pages: &mut P,
-    shape: Shape,
+    shape: NodeShape,
     page: u32,
     key: &[u8],
 ) -> Result<StepDown, Fault>
@@ -47,7 +47,7 @@ pub fn descend<P: Pages>(
 }
 
 /// One step down from the bytes of an inner node.
-pub fn step_in(page: &[u8; PAGE_SIZE], shape: Shape, key: &[u8]) -> StepDown
+pub fn step_in(page: &[u8; PAGE_SIZE], shape: NodeShape, key: &[u8]) -> StepDown
     requires inner { IsInner shape page.now }
     ensures { IsDescentStep shape.width key.now (separators shape page.now) (children shape page.now) result }
 {
@@ -63,7 +63,12 @@ pub fn step_in(page: &[u8; PAGE_SIZE], shape: Shape, key: &[u8]) -> StepDown
 }
 
 /// Looks for a key in a leaf.
-pub fn seek<P: Pages>(pages: &mut P, shape: Shape, page: u32, key: &[u8]) -> Result<Look, Fault>
+pub fn seek<P: Pages>(
+    pages: &mut P,
+    shape: NodeShape,
+    page: u32,
+    key: &[u8],
+) -> Result<LeafLook, Fault>
     requires ready { P.shown.IsReady pages.old }
     ensures { LooksUp P.shown 1 (λ live. Looks shape live page key.now) pages.old pages.new result }
 {
@@ -75,21 +80,21 @@ pub fn seek<P: Pages>(pages: &mut P, shape: Shape, page: u32, key: &[u8]) -> Res
 }
 
 /// Looks for a key in the bytes of a leaf.
-fn find_in(page: &[u8; PAGE_SIZE], shape: Shape, key: &[u8]) -> Look
+fn find_in(page: &[u8; PAGE_SIZE], shape: NodeShape, key: &[u8]) -> LeafLook
     requires leaf { IsLeaf shape page.now }
     ensures { WhereRising shape page.now (λ entries. IsLook shape.width key.now entries result) }
 {
     let leaf = LeafView { page, shape };
     let place = leaf.rank(key);
     if !has_key(page, shape, place, key) {
-        return Look { place, found: None };
+        return LeafLook { place, found: None };
     }
     let found = Some(entry_with(leaf.entry(place)));
-    Look { place, found }
+    LeafLook { place, found }
 }
 
 /// An entry of the key stands at this place of a leaf, where the place is the key's.
-pub fn has_key(page: &[u8; PAGE_SIZE], shape: Shape, place: usize, key: &[u8]) -> bool
+pub fn has_key(page: &[u8; PAGE_SIZE], shape: NodeShape, place: usize, key: &[u8]) -> bool
     requires leaf { IsLeaf shape page.now }
     ensures within { result ≡ true → place < length (leaf_entries shape page.now) }
     ensures key { TellsKeyAt shape key.now place page.now result }

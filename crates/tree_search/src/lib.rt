@@ -14,7 +14,7 @@ mod search;
 mod spot;
 mod tail;
 
-pub use descent::{Look, StepDown, descend, has_key, seek};
+pub use descent::{LeafLook, StepDown, descend, has_key, seek};
 pub use range::{First, first_within};
 pub use search::{find_below, last_below, next_below};
 pub use spot::{Spot, begins_with, copy_entry, entry_begins_with, fill};

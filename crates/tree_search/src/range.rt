@@ -15,7 +15,7 @@ use crate::search::first_child;
 use crate::spot::fill;
 use io_state::Fault;
 use pages::{PAGE_SIZE, Pages};
-use tree_node::{Entry, InnerView, LeafView, Shape, is_inner, is_leaf};
+use tree_node::{Entry, InnerView, LeafView, NodeShape, is_inner, is_leaf};
 
 /// The first entry of a range, and whether the next entry of the tree is one of the range too.
 #[derive(Drop)]
@@ -44,7 +44,7 @@ pub struct Fork {
 /// above its leaves, and whether the next entry is such a one too. The keys may have any length.
 pub fn first_within<P: Pages>(
     pages: &mut P,
-    shape: Shape,
+    shape: NodeShape,
     page: u32,
     levels: u8,
     from: &[u8],
@@ -65,7 +65,7 @@ pub fn first_within<P: Pages>(
 /// too, or none where no entry is.
 fn fill_within<P: Pages>(
     pages: &mut P,
-    shape: Shape,
+    shape: NodeShape,
     page: u32,
     levels: u8,
     from: &[u8],
@@ -85,7 +85,7 @@ fn fill_within<P: Pages>(
 /// Looks for a range in a tree with `levels` levels above its leaves.
 fn look_below<P: Pages>(
     pages: &mut P,
-    shape: Shape,
+    shape: NodeShape,
     page: u32,
     levels: u8,
     from: &[u8],
@@ -123,7 +123,7 @@ fn look_below<P: Pages>(
 /// Looks for a range in a leaf.
 fn look_in_leaf<P: Pages>(
     pages: &mut P,
-    shape: Shape,
+    shape: NodeShape,
     page: u32,
     from: &[u8],
     to: &[u8],
@@ -143,7 +143,7 @@ fn look_in_leaf<P: Pages>(
 /// Looks at the entries of a leaf from a place on, those in front of which come before the range.
 fn look_from(
     page: &[u8; PAGE_SIZE],
-    shape: Shape,
+    shape: NodeShape,
     place: usize,
     to: &[u8],
     entry: &mut Entry,
@@ -172,7 +172,7 @@ fn look_from(
 /// One step down to where a range begins.
 fn fork_at<P: Pages>(
     pages: &mut P,
-    shape: Shape,
+    shape: NodeShape,
     page: u32,
     from: &[u8],
     to: &[u8],
@@ -188,7 +188,7 @@ fn fork_at<P: Pages>(
 }
 
 /// The same step from the bytes of an inner node.
-fn fork_in(page: &[u8; PAGE_SIZE], shape: Shape, from: &[u8], to: &[u8]) -> Fork
+fn fork_in(page: &[u8; PAGE_SIZE], shape: NodeShape, from: &[u8], to: &[u8]) -> Fork
     requires inner { IsInner shape page.now }
     ensures { IsFork shape.width from.now to.now (separators shape page.now)
         (children shape page.now) result }
@@ -203,7 +203,7 @@ fn fork_in(page: &[u8; PAGE_SIZE], shape: Shape, from: &[u8], to: &[u8]) -> Fork
 /// entry goes to `entry`.
 fn front_below<P: Pages>(
     pages: &mut P,
-    shape: Shape,
+    shape: NodeShape,
     page: u32,
     levels: u8,
     to: &[u8],
@@ -223,7 +223,7 @@ fn front_below<P: Pages>(
 /// Whether such a tree has an entry of the range.
 fn has_front<P: Pages>(
     pages: &mut P,
-    shape: Shape,
+    shape: NodeShape,
     page: u32,
     levels: u8,
     to: &[u8],
@@ -240,7 +240,7 @@ fn has_front<P: Pages>(
 /// The range in the front of a leaf, which has two entries at least.
 fn front_of_leaf<P: Pages>(
     pages: &mut P,
-    shape: Shape,
+    shape: NodeShape,
     page: u32,
     to: &[u8],
     entry: &mut Entry,

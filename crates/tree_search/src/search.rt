@@ -1,4 +1,4 @@
-//! Look-ups by descent.
+//! LeafLook-ups by descent.
 
 ghost use Rattle.std.specs.Prelude.{◌≡◌, ◌+◌, ◌<◌, ◌≤◌, IsTrue, length};
 ghost use Rattle.tree_node.specs.Leaf.{IsLeaf, leaf_entries};
@@ -16,12 +16,12 @@ use crate::descent::{descend, has_key};
 use crate::spot::{Spot, entry_at, entry_in_leaf, entry_with, fill};
 use io_state::Fault;
 use pages::{PAGE_SIZE, Pages};
-use tree_node::{Entry, InnerView, LeafView, Shape, is_inner, is_leaf};
+use tree_node::{Entry, InnerView, LeafView, NodeShape, is_inner, is_leaf};
 
 /// The entry of a key in a tree with `levels` levels above its leaves.
 pub fn find_below<P: Pages>(
     pages: &mut P,
-    shape: Shape,
+    shape: NodeShape,
     page: u32,
     levels: u8,
     key: &[u8],
@@ -40,7 +40,7 @@ pub fn find_below<P: Pages>(
 /// The leaf in which the entry of a key stands, where a tree with `levels` levels above its leaves has one.
 pub fn leaf_below<P: Pages>(
     pages: &mut P,
-    shape: Shape,
+    shape: NodeShape,
     page: u32,
     levels: u8,
     key: &[u8],
@@ -60,7 +60,7 @@ pub fn leaf_below<P: Pages>(
 /// The entry of a key in a leaf goes to `to`. The answer is whether there is one.
 fn find_in_leaf<P: Pages>(
     pages: &mut P,
-    shape: Shape,
+    shape: NodeShape,
     page: u32,
     key: &[u8],
     to: &mut Entry,
@@ -76,7 +76,7 @@ fn find_in_leaf<P: Pages>(
 }
 
 /// The same in the bytes of a leaf.
-fn find_entry(bytes: &[u8; PAGE_SIZE], shape: Shape, key: &[u8], to: &mut Entry) -> bool
+fn find_entry(bytes: &[u8; PAGE_SIZE], shape: NodeShape, key: &[u8], to: &mut Entry) -> bool
     requires leaf { IsLeaf shape bytes.now }
     ensures { FillsFromBytes shape bytes.now key.now to.new result }
 {
@@ -93,7 +93,7 @@ fn find_entry(bytes: &[u8; PAGE_SIZE], shape: Shape, key: &[u8], to: &mut Entry)
 /// is where it stands.
 pub fn next_below<P: Pages>(
     pages: &mut P,
-    shape: Shape,
+    shape: NodeShape,
     page: u32,
     levels: u8,
     key: &[u8],
@@ -123,7 +123,7 @@ pub fn next_below<P: Pages>(
 
 fn next_in_leaf<P: Pages>(
     pages: &mut P,
-    shape: Shape,
+    shape: NodeShape,
     page: u32,
     key: &[u8],
     past: bool,
@@ -144,7 +144,7 @@ fn next_in_leaf<P: Pages>(
 /// The first entry of leaf `page` at a key or behind it, and where `past`, behind it.
 fn next_in(
     bytes: &[u8; PAGE_SIZE],
-    shape: Shape,
+    shape: NodeShape,
     page: u32,
     key: &[u8],
     past: bool,
@@ -161,7 +161,7 @@ fn next_in(
 
 /// How many entries of a leaf come before those at a key or behind it, and where `past`, before
 /// those behind it.
-fn place_in(bytes: &[u8; PAGE_SIZE], shape: Shape, key: &[u8], past: bool) -> usize
+fn place_in(bytes: &[u8; PAGE_SIZE], shape: NodeShape, key: &[u8], past: bool) -> usize
     requires leaf { IsLeaf shape bytes.now }
     ensures { WhereRising shape bytes.now (λ entries. IsPlace past shape.width key.now entries result) }
 {
@@ -176,7 +176,7 @@ fn place_in(bytes: &[u8; PAGE_SIZE], shape: Shape, key: &[u8], past: bool) -> us
 /// The first entry of a tree that has one; `spot` is then where it stands.
 pub fn first_below<P: Pages>(
     pages: &mut P,
-    shape: Shape,
+    shape: NodeShape,
     page: u32,
     levels: u8,
     spot: &mut Spot,
@@ -197,7 +197,7 @@ pub fn first_below<P: Pages>(
 
 fn first_of_leaf<P: Pages>(
     pages: &mut P,
-    shape: Shape,
+    shape: NodeShape,
     page: u32,
     spot: &mut Spot,
 ) -> Result<Entry, Fault>
@@ -212,7 +212,7 @@ fn first_of_leaf<P: Pages>(
     }
 }
 
-pub fn first_child<P: Pages>(pages: &mut P, shape: Shape, page: u32) -> Result<u32, Fault>
+pub fn first_child<P: Pages>(pages: &mut P, shape: NodeShape, page: u32) -> Result<u32, Fault>
     requires ready { P.shown.IsReady pages.old }
     ensures { LooksUp P.shown 1 (λ live. FirstChild shape live page) pages.old pages.new result }
 {
@@ -226,7 +226,7 @@ pub fn first_child<P: Pages>(pages: &mut P, shape: Shape, page: u32) -> Result<u
 /// The last entry of a tree.
 pub fn last_below<P: Pages>(
     pages: &mut P,
-    shape: Shape,
+    shape: NodeShape,
     page: u32,
     levels: u8,
 ) -> Result<Option<Entry>, Fault>
@@ -241,7 +241,11 @@ pub fn last_below<P: Pages>(
     last_below(pages, shape, child, levels - 1)
 }
 
-fn last_of_leaf<P: Pages>(pages: &mut P, shape: Shape, page: u32) -> Result<Option<Entry>, Fault>
+fn last_of_leaf<P: Pages>(
+    pages: &mut P,
+    shape: NodeShape,
+    page: u32,
+) -> Result<Option<Entry>, Fault>
     requires ready { P.shown.IsReady pages.old }
     ensures { LooksUp P.shown 1 (λ live. LastOfLeaf shape live page) pages.old pages.new result }
 {
@@ -252,7 +256,7 @@ fn last_of_leaf<P: Pages>(pages: &mut P, shape: Shape, page: u32) -> Result<Opti
     Ok(last_in(bytes, shape))
 }
 
-fn last_in(page: &[u8; PAGE_SIZE], shape: Shape) -> Option<Entry>
+fn last_in(page: &[u8; PAGE_SIZE], shape: NodeShape) -> Option<Entry>
     requires leaf { IsLeaf shape page.now }
     ensures { IsFound last_of (leaf_entries shape page.now) result }
 {
@@ -264,7 +268,7 @@ fn last_in(page: &[u8; PAGE_SIZE], shape: Shape) -> Option<Entry>
     Some(entry_with(leaf.entry(count - 1)))
 }
 
-fn last_child<P: Pages>(pages: &mut P, shape: Shape, page: u32) -> Result<u32, Fault>
+fn last_child<P: Pages>(pages: &mut P, shape: NodeShape, page: u32) -> Result<u32, Fault>
     requires ready { P.shown.IsReady pages.old }
     ensures { LooksUp P.shown 1 (λ live. LastChild shape live page) pages.old pages.new result }
 {

@@ -6,7 +6,7 @@ ghost use Rattle.tree_search.specs.LookUps.{LooksUp};
 
 use io_state::Fault;
 use pages::{PAGE_SIZE, Pages};
-use tree_node::{Entry, LeafView, Shape, is_leaf};
+use tree_node::{Entry, LeafView, NodeShape, is_leaf};
 
 /// The leaf of an entry, its place there, and how many entries the leaf has. Nowhere, where it has none.
 #[derive(Clone, Copy)]
@@ -34,7 +34,7 @@ ghost use Rattle.tree_search.specs.Spot.{IsEntryAt, EntryAt, CopiesEntry, TellsS
 /// Entry `place` of the leaf on a page, where it has so many; `spot` is then where that is.
 pub fn entry_in_leaf<P: Pages>(
     pages: &mut P,
-    shape: Shape,
+    shape: NodeShape,
     page: u32,
     place: usize,
     spot: &mut Spot,
@@ -52,7 +52,7 @@ pub fn entry_in_leaf<P: Pages>(
 /// Entry `place` of a leaf, where it has so many; `spot` is then where that is.
 pub fn entry_at(
     bytes: &[u8; PAGE_SIZE],
-    shape: Shape,
+    shape: NodeShape,
     leaf: u32,
     place: usize,
     spot: &mut Spot,
@@ -76,7 +76,7 @@ pub fn entry_at(
 /// Entry `place` of the leaf on a page goes to `to`. The answer is whether the leaf has so many.
 pub fn copy_entry<P: Pages>(
     pages: &mut P,
-    shape: Shape,
+    shape: NodeShape,
     page: u32,
     place: usize,
     to: &mut Entry,
@@ -101,7 +101,7 @@ pub fn copy_entry<P: Pages>(
 /// no such entry.
 pub fn entry_begins_with<P: Pages>(
     pages: &mut P,
-    shape: Shape,
+    shape: NodeShape,
     page: u32,
     place: usize,
     start: &[u8],

@@ -12,13 +12,13 @@ use crate::descent::has_key;
 use crate::search::leaf_below;
 use io_state::Fault;
 use pages::{PAGE_SIZE, Pages};
-use tree_node::{LeafView, Shape, is_leaf};
+use tree_node::{LeafView, NodeShape, is_leaf};
 
 /// The bytes behind the key of an entry go to `tail`, in a tree with `levels` levels above its
 /// leaves. The answer is whether the key has an entry.
 pub fn find_tail<P: Pages>(
     pages: &mut P,
-    shape: Shape,
+    shape: NodeShape,
     page: u32,
     levels: u8,
     key: &[u8],
@@ -35,7 +35,7 @@ pub fn find_tail<P: Pages>(
 /// The same in a leaf.
 fn tail_in_leaf<P: Pages>(
     pages: &mut P,
-    shape: Shape,
+    shape: NodeShape,
     page: u32,
     key: &[u8],
     tail: &mut [u8],
@@ -51,7 +51,7 @@ fn tail_in_leaf<P: Pages>(
 }
 
 /// The same in the bytes of a leaf.
-fn copy_tail(bytes: &[u8; PAGE_SIZE], shape: Shape, key: &[u8], tail: &mut [u8]) -> bool
+fn copy_tail(bytes: &[u8; PAGE_SIZE], shape: NodeShape, key: &[u8], tail: &mut [u8]) -> bool
     requires { CanFillFromLeaf shape tail.old bytes.now }
     ensures { TellsTailOfBytes shape bytes.now key.now tail.new result }
 {
@@ -68,7 +68,7 @@ fn copy_tail(bytes: &[u8; PAGE_SIZE], shape: Shape, key: &[u8], tail: &mut [u8])
 /// Whether a key has an entry in a tree with `levels` levels above its leaves.
 pub fn has_below<P: Pages>(
     pages: &mut P,
-    shape: Shape,
+    shape: NodeShape,
     page: u32,
     levels: u8,
     key: &[u8],
@@ -81,7 +81,12 @@ pub fn has_below<P: Pages>(
 }
 
 /// The same in a leaf.
-fn is_in_leaf<P: Pages>(pages: &mut P, shape: Shape, page: u32, key: &[u8]) -> Result<bool, Fault>
+fn is_in_leaf<P: Pages>(
+    pages: &mut P,
+    shape: NodeShape,
+    page: u32,
+    key: &[u8],
+) -> Result<bool, Fault>
     requires ready { P.shown.IsReady pages.old }
     ensures { LooksUp P.shown 1
         (λ live. TellsInLeaf TellsPresence shape live page key.now) pages.old pages.new result }
@@ -94,7 +99,7 @@ fn is_in_leaf<P: Pages>(pages: &mut P, shape: Shape, page: u32, key: &[u8]) -> R
 }
 
 /// The same in the bytes of a leaf.
-fn is_among(bytes: &[u8; PAGE_SIZE], shape: Shape, key: &[u8]) -> bool
+fn is_among(bytes: &[u8; PAGE_SIZE], shape: NodeShape, key: &[u8]) -> bool
     requires leaf { IsLeaf shape bytes.now }
     ensures { WhereRising shape bytes.now (λ entries.
         TellsPresence (entry_of shape.width key.now entries) result) }

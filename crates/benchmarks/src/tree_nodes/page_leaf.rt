@@ -6,18 +6,18 @@ ghost use Rattle.tree_node.specs.Leaf.{IsLeaf};
 use super::leaf::Leaf;
 use pages::PAGE_SIZE;
 use std::alloc::AllocError;
-use tree_node::{LeafView, LeafViewMut, Shape, write_leaf};
+use tree_node::{LeafView, LeafViewMut, NodeShape, write_leaf};
 
 #[derive(Drop)]
 pub struct PageLeaf<const ENTRY: usize> {
     page: [u8; PAGE_SIZE],
-    shape: Shape,
+    shape: NodeShape,
     ghost leaf: { IsLeaf shape page },
     ghost size: { shape.entry ≡ ENTRY },
 }
 
 impl<const ENTRY: usize> PageLeaf<ENTRY> {
-    pub fn new(shape: Shape) -> Self
+    pub fn new(shape: NodeShape) -> Self
         requires { shape.entry ≡ ENTRY }
     {
         let mut page = [0; PAGE_SIZE];

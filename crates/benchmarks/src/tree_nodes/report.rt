@@ -9,7 +9,7 @@ use super::vec_leaf::VecLeaf;
 use std::alloc::Global;
 use std::io;
 use std::time::Clock;
-use tree_node::Shape;
+use tree_node::NodeShape;
 
 /// How many entries are looked up and put in by each round.
 const ENTRIES: usize = 4096;
@@ -19,7 +19,7 @@ const ENTRIES: usize = 4096;
 pub fn compare<const WIDTH: usize, const ENTRY: usize>(
     rt: &(impl Print + Clock),
     alloc: Global,
-    shape: Shape,
+    shape: NodeShape,
     steps: Option<u64>,
 ) -> io::Result<()>
     requires number { 8 ≤ WIDTH }

@@ -1,10 +1,10 @@
 //! The entries that a tree is filled with.
 
 use std::alloc::{AllocError, Global};
-use tree_node::Shape;
+use tree_node::NodeShape;
 
 /// A key of 18 bytes, and six bytes more.
-pub const SHAPE: Shape = Shape {
+pub const SHAPE: NodeShape = NodeShape {
     key: 0,
     width: 18,
     entry: 24,

@@ -2,7 +2,7 @@ use Rattle.std.proofs.Common.{◌≡◌, ℕ, List, [], find, Some, Ok, Err, str
 use Rattle.std.proofs.Common.{Result}
 use Rattle.std.proofs.lemmas.Result.{IfErr-at_err}
 use Rattle.record_loading.specs.declared.shelf_end.ShelfEnd.{ShelfEnd}
-use Rattle.command_support.specs.declared.fault.Fault.{Fault}
+use Rattle.command_support.specs.declared.fault.CommandFault.{CommandFault}
 use Rattle.file_control.specs.Description.{FileDesc}
 use Rattle.record_layout.specs.Schema.{Schema}
 use Rattle.folder_shelf.specs.SystemState.{file_path}
@@ -39,7 +39,7 @@ returns-in-Ok-end g c =
     sym (subst (λ (files : List FileDesc). Some file ≡ find (is_named_in_deck c.args.asked.file.now) files) c.as_slice.ensures c.in-Some.ensures) in
     let loads_as : Load → List ℕ → Type 0 = λ load text. LoadsFolder g.D.Disk.unseen (string_bytes c.args.folder) file.file file.schema load (load_source c.in-Ok-form_of.form text c.args.asked.lines) system (Ok end) in
     let loads : loads_as (load_of c.args.asked.into) c.in-Ok-read_encoded.text.list.items =
-    subst (loads_as (load_of c.args.asked.into)) c.as_slice-3.ensures.value (subst (λ (load : Load). loads_as load c.as_slice-3.result.now) c.load_of.ensures (subst (λ (r : Result ShelfEnd Fault). LoadsFolder g.D.Disk.unseen (string_bytes c.args.folder) file.file file.schema c.load_of.result (load_source c.in-Ok-form_of.form c.as_slice-3.result.now c.args.asked.lines) system r) c.in-Ok-end.is c.load_over_folder-system.ensures.loads)) in
+    subst (loads_as (load_of c.args.asked.into)) c.as_slice-3.ensures.value (subst (λ (load : Load). loads_as load c.as_slice-3.result.now) c.load_of.ensures (subst (λ (r : Result ShelfEnd CommandFault). LoadsFolder g.D.Disk.unseen (string_bytes c.args.folder) file.file file.schema c.load_of.result (load_source c.in-Ok-form_of.form c.as_slice-3.result.now c.args.asked.lines) system r) c.in-Ok-end.is c.load_over_folder-system.ensures.loads)) in
     let path = file_path (string_bytes c.args.folder) file.file in
     let calls = c.tell_end-told.ensures.calls in
     let told_at : List ℕ → Schema → Type 0 = λ at schema. TellsLoad at schema (Ok end) calls before behind c.tell_end-told.result in
@@ -83,7 +83,7 @@ returns g c =
     sym (subst (λ (files : List FileDesc). Some file ≡ find (is_named_in_deck c.args.asked.file.now) files) c.as_slice.ensures c.in-Some.ensures) in
     let loads_as : Load → List ℕ → Type 0 = λ load text. LoadsFolder g.D.Disk.unseen (string_bytes c.args.folder) file.file file.schema load (load_source c.in-Ok-form_of.form text c.args.asked.lines) system (Err fault) in
     let loads : loads_as (load_of c.args.asked.into) c.in-Ok-read_encoded.text.list.items =
-    subst (loads_as (load_of c.args.asked.into)) c.as_slice-3.ensures.value (subst (λ (load : Load). loads_as load c.as_slice-3.result.now) c.load_of.ensures (subst (λ (r : Result ShelfEnd Fault). LoadsFolder g.D.Disk.unseen (string_bytes c.args.folder) file.file file.schema c.load_of.result (load_source c.in-Ok-form_of.form c.as_slice-3.result.now c.args.asked.lines) system r) c.in-Err-end.is c.load_over_folder-system.ensures.loads)) in
+    subst (loads_as (load_of c.args.asked.into)) c.as_slice-3.ensures.value (subst (λ (load : Load). loads_as load c.as_slice-3.result.now) c.load_of.ensures (subst (λ (r : Result ShelfEnd CommandFault). LoadsFolder g.D.Disk.unseen (string_bytes c.args.folder) file.file file.schema c.load_of.result (load_source c.in-Ok-form_of.form c.as_slice-3.result.now c.args.asked.lines) system r) c.in-Err-end.is c.load_over_folder-system.ensures.loads)) in
     let path = file_path (string_bytes c.args.folder) file.file in
     let told : TellsLoad path file.schema (Err fault) [] before before (Err fault) = (refl, IfErr-at_err IsShelfFault c.in-Err-end.is c.load_over_folder-system.ensures.fault, refl, refl) in
     let failed = told_fault path file.schema (Err fault) [] before before (Err fault) told in record {

@@ -2,7 +2,7 @@ use Rattle.std.proofs.Common.{◌≡◌, Bool, Some, string_bytes, refl, rules, 
 use Rattle.folder_shelf.specs.Calls.{asked_of_folder}
 use Rattle.folder_shelf.specs.SystemState.{with_call, if_told}
 use Rattle.command_line.proofs.InputLemmas.{folder_given, folder_refused}
-use Rattle.command_support.specs.declared.fault.Fault.TheVariants.{Input, Memory}
+use Rattle.command_support.specs.declared.fault.CommandFault.TheVariants.{Input, Memory}
 use Rattle.command_line.proofs.performing.folder_at.Goals as goal
 
 pub returns-in-Ok : goal.returns-in-Ok

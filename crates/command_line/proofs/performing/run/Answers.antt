@@ -2,7 +2,7 @@ use Rattle.std.proofs.Common.{◌≡◌, ◌≢◌, ℕ, List, refl, ap, ◌∙�
 use Rattle.std.proofs.lemmas.Result.{IfErr-weaker}
 use Rattle.command_line.specs.Performed.{CameTo, begun, outcome_of}
 use Rattle.command_line.proofs.PerformedLemmas.{came_to, run_outcome, unwritten}
-use Rattle.command_support.specs.declared.fault.Fault.TheVariants.{Output}
+use Rattle.command_support.specs.declared.fault.CommandFault.TheVariants.{Output}
 use Rattle.command_line.proofs.performing.run.Goals as goal
 
 pub write_transcript-system-requires : goal.write_transcript-system-requires

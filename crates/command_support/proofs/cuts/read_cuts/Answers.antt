@@ -1,5 +1,5 @@
 use Rattle.std.proofs.Common.{rules, ◌≡◌, [], Err, ap, ◌∙◌}
-use Rattle.command_support.specs.declared.fault.Fault.TheVariants.{Form}
+use Rattle.command_support.specs.declared.fault.CommandFault.TheVariants.{Form}
 use Rattle.command_support.specs.declared.form_fault.FormFault.TheVariants.{Cuts}
 use Rattle.command_support.specs.Cuts.{between_commas}
 use Rattle.command_support.proofs.CutLemmas.{cut_off, not_cut, read_on, read_all, not_read}

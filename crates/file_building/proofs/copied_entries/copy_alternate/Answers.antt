@@ -1,6 +1,6 @@
 use Rattle.std.proofs.Common.{◌≡◌, ◌+◌, ◌-◌, ℕ, suc, false, ap, sym, subst, ◌∙◌, arith}
 use Rattle.pages.specs.PageMap.{PageMap}
-use Rattle.tree_node.specs.declared.shape.Shape.{Shape}
+use Rattle.tree_node.specs.declared.shape.NodeShape.{NodeShape}
 use Rattle.file_building.specs.CopiedEntries.{HasCopiedEntries}
 use Rattle.tree_building.specs.IndexBuilding.{AltEntriesRise}
 use Rattle.tree_building.proofs.RankLemmas.{alts_rise}
@@ -19,7 +19,7 @@ loop-init g c =
       fits = record {
         tree_is = c.new-walk.ensures.tree_is;
         builder_is = record {
-          key_is = c.new-builder.ensures.of.key_is ∙ ap (λ (s : Shape). s.key) c.shape-key.ensures;
+          key_is = c.new-builder.ensures.of.key_is ∙ ap (λ (s : NodeShape). s.key) c.shape-key.ensures;
           width_is = c.new-builder.ensures.of.width_is;
           prime_is = c.new-builder.ensures.of.prime_is;
         };

@@ -1,6 +1,6 @@
 use Rattle.std.proofs.Common.{◌≡◌, ◌+◌, ◌-◌, suc, false, ap, sym, subst, ◌∙◌, arith}
 use Rattle.pages.specs.PageMap.{PageMap}
-use Rattle.record_heap.specs.declared.shape.Shape.{Shape}
+use Rattle.record_heap.specs.declared.shape.SlotShape.{SlotShape}
 use Rattle.record_heap.specs.Slot.{room}
 use Rattle.record_heap.specs.Standing.{slot_shape}
 use Rattle.key_index.specs.declared.prime_index.PrimeIndex.{PrimeIndex}
@@ -131,7 +131,7 @@ returns-clause-moves g c =
           let here = subst (λ (m : PageMap). HasMovedEntries c.alternate-index.result c.loop.walk c.loop.mover m start (g.Q.Pages.shown.state c.loop.to).live stands.slots primes entries 0) (sym same) had.0 in
           let ended = c.end_moving.ensures.ends.ended hf ht had.1 c.alternate-index.result stands.slots primes entries start here in
           copy_ok c.end_moving.result _ _
-          (λ records is. (subst (λ (s : Shape). HasMovedAll s stands.slots primes entries start (g.Q.Pages.shown.state c.end_moving.new.to).live records) inv.fits.is_mover.slots_are is.0, is.1)) ended;
+          (λ records is. (subst (λ (s : SlotShape). HasMovedAll s stands.slots primes entries start (g.Q.Pages.shown.state c.end_moving.new.to).live records) inv.fits.is_mover.slots_are is.0, is.1)) ended;
     }
 
 pub returns-clause-keeps : goal.returns-clause-keeps

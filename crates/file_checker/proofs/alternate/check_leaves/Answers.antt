@@ -13,23 +13,27 @@ use Rattle.file_checker.proofs.RowFaultLemmas.{entry_more, handed_on, one_of_lea
 use Rattle.file_checker.proofs.alternate.check_leaves.Goals as goal
 
 pub loop-leaf-init : goal.loop-leaf-init
-loop-leaf-init c = λ k d below. absurd (omega (arith, below))
+loop-leaf-init g c = record { each = λ list has k d below. absurd (omega (arith, below)); back = λ list has. has }
 
 pub loop-leaf-preserved : goal.loop-leaf-preserved
-loop-leaf-preserved c =
-    each_more (HasRow c.args.file.now c.args.pages.now (spots_in c.args.primes.now) c.args.index) c.args.leaves.now c.loop-leaf.leaf-index (record { page = 0; count = 0 }) c.loop-leaf-test.true c.loop-leaf.invariant c.in_ok-check_leaf.ensures.stands
+loop-leaf-preserved g c = record {
+  each = λ list has.
+      each_more (HasRow c.args.file.now list (spots_in c.args.primes.now) c.args.index) c.args.leaves.now c.loop-leaf.leaf-index (record { page = 0; count = 0 }) c.loop-leaf-test.true
+      (c.loop-leaf.invariant.each list (c.check_leaf.ensures.before list has)) (c.in_ok-check_leaf.ensures.checks list has).stands;
+  back = λ list has. c.loop-leaf.invariant.back list (c.check_leaf.ensures.before list has);
+}
 
-pub returns : goal.returns
-returns c = record { stands = λ k d within. c.loop-leaf.invariant k d (let end = c.loop-leaf-test.false in omega (arith, end, within)); refused = tt; told = tt }
+pub returns-clause-checks : goal.returns-clause-checks
+returns-clause-checks g c = λ list has. record { stands = λ k d within. c.loop-leaf.invariant.each list has k d (let end = c.loop-leaf-test.false in omega (arith, end, within)); refused = tt; told = tt }
 
-pub returns-in_err-check_leaf : goal.returns-in_err-check_leaf
-returns-in_err-check_leaf c =
+pub returns-in_err-check_leaf-clause-checks : goal.returns-in_err-check_leaf-clause-checks
+returns-in_err-check_leaf-clause-checks g c = λ list has.
     let leaves = c.args.leaves.now in
     let i = c.loop-leaf.leaf-index in
     let none : Leaf = record { page = 0; count = 0 } in
     let leaf = slice_index_or leaves i none in
-    let Ahead = HasRowAhead c.args.file.now c.args.pages.now (spots_in c.args.primes.now) c.args.index in
-    handed_on (pages_read c.args.file.now c.args.pages.now c.args.primes.now) c.from_residual.result _ c.from_residual.ensures.1
-    (λ lead all. c.in_err-check_leaf.ensures.refused lead (each_of_leaf Ahead leaves i none c.loop-leaf-test.true all))
+    let Ahead = HasRowAhead c.args.file.now list (spots_in c.args.primes.now) c.args.index in
+    handed_on (pages_read c.args.file.now list c.args.primes.now) c.from_residual.result _ c.from_residual.ensures.1
+    (λ lead all. (c.in_err-check_leaf.ensures.checks list has).refused lead (each_of_leaf Ahead leaves i none c.loop-leaf-test.true all))
     (λ lead. rows_more (IsEntryFault (spots_below leaf.page leaf.count) Ahead) (IsEntryFault (spots_in leaves) Ahead) _
-    (entry_more (spots_below leaf.page leaf.count) (spots_in leaves) Ahead Ahead (one_of_leaf leaves i none c.loop-leaf-test.true) (λ spot a. a)) (c.in_err-check_leaf.ensures.told lead))
+    (entry_more (spots_below leaf.page leaf.count) (spots_in leaves) Ahead Ahead (one_of_leaf leaves i none c.loop-leaf-test.true) (λ spot a. a)) ((c.in_err-check_leaf.ensures.checks list has).told lead))

@@ -17,15 +17,14 @@ use Rattle.file_checker.proofs.alternate.is_of_row.Goals.{then-eq, else-eq}
 use Rattle.file_checker.proofs.alternate.is_of_row.Goals as goal
 
 pub returns-then-read_u64-stamp-clause-entry : goal.returns-then-read_u64-stamp-clause-entry
-returns-then-read_u64-stamp-clause-entry c = λ yes. elim c.if-eq.branch [
+returns-then-read_u64-stamp-clause-entry g c = λ list has yes. elim c.if-eq.branch [
   | then-eq w ↦
       let file = c.args.file.now in
-      let list = c.args.pages.now in
       let e = c.args.entry_bytes.now in
       let width = c.args.index.width in
-      let place : place_at file list c.args.leader ≡ c.place_in.result = ap (λ (x : List ℕ). (prime_entry_in (prime_index_of file).width x).place) (sym (rw c.prime.ensures at (rw c.shape.ensures at c.in-Some.ensures.value))) ∙ sym (rw c.prime-2.ensures at c.place_in.ensures) in
+      let place : place_at file list c.args.leader ≡ c.place_in.result = ap (λ (x : List ℕ). (prime_entry_in (prime_index_of file).width x).place) (sym (rw c.prime.ensures at (rw c.shape.ensures at (c.in-Some.ensures.value list (c.stored_at.ensures.before list has))))) ∙ sym (rw c.prime-2.ensures at c.place_in.ensures) in
       let there : slot_off (heap_of file) (pages_in list) (place_at file list c.args.leader) ≡ Some c.in-Some-stored_at.stored.now =
-      ap (slot_off (heap_of file) (pages_in list)) place ∙ sym c.stored_at.ensures.value ∙ ap (λ (o : Option (Bor (List ℕ))). option_copied o) c.in-Some-stored_at.is in
+      ap (slot_off (heap_of file) (pages_in list)) place ∙ sym (c.stored_at.ensures.value list has) ∙ ap (λ (o : Option (Bor (List ℕ))). option_copied o) c.in-Some-stored_at.is in
       let value = (bytes_eq-Decides (take width e) c.value.result.now).0 (sym c.eq.ensures ∙ w.if-eq.true) in
       let number = ap (big_number 8) (sym (rest_from width e)) ∙ sym w.read_u64.ensures in
       let stamp = from_eq w.read_u64.result w.stamp.result (sym w.value-is ∙ c.if-read_u64-stamp.true) in
@@ -37,27 +36,25 @@ returns-then-read_u64-stamp-clause-entry c = λ yes. elim c.if-eq.branch [
 ]
 
 pub returns-then-read_u64-stamp-clause-refused : goal.returns-then-read_u64-stamp-clause-refused
-returns-then-read_u64-stamp-clause-refused c = λ its is.
+returns-then-read_u64-stamp-clause-refused g c = λ list has its is.
     let file = c.args.file.now in
-    let list = c.args.pages.now in
     let e = c.args.entry_bytes.now in
     let width = c.args.index.width in
-    let place : place_at file list c.args.leader ≡ c.place_in.result = ap (λ (x : List ℕ). (prime_entry_in (prime_index_of file).width x).place) (sym (rw c.prime.ensures at (rw c.shape.ensures at c.in-Some.ensures.value))) ∙ sym (rw c.prime-2.ensures at c.place_in.ensures) in
+    let place : place_at file list c.args.leader ≡ c.place_in.result = ap (λ (x : List ℕ). (prime_entry_in (prime_index_of file).width x).place) (sym (rw c.prime.ensures at (rw c.shape.ensures at (c.in-Some.ensures.value list (c.stored_at.ensures.before list has))))) ∙ sym (rw c.prime-2.ensures at c.place_in.ensures) in
     let there : slot_off (heap_of file) (pages_in list) (place_at file list c.args.leader) ≡ Some c.in-Some-stored_at.stored.now =
-    ap (slot_off (heap_of file) (pages_in list)) place ∙ sym c.stored_at.ensures.value ∙ ap (λ (o : Option (Bor (List ℕ))). option_copied o) c.in-Some-stored_at.is in
+    ap (slot_off (heap_of file) (pages_in list)) place ∙ sym (c.stored_at.ensures.value list has) ∙ ap (λ (o : Option (Bor (List ℕ))). option_copied o) c.in-Some-stored_at.is in
     let parts = entry_parts file list c.args.index c.args.leader e c.in-Some-stored_at.stored.now there is in
     let prime = rest_from (width + 8) e ∙ parts.prime ∙ sym c.value-then-read_u64-stamp.ensures in
     c.eq-then-read_u64-stamp.ensures ∙ (bytes_eq-Decides _ _).1 prime
 
 pub returns-else-read_u64-stamp-clause-refused : goal.returns-else-read_u64-stamp-clause-refused
-returns-else-read_u64-stamp-clause-refused c = λ its is.
+returns-else-read_u64-stamp-clause-refused g c = λ list has its is.
     let file = c.args.file.now in
-    let list = c.args.pages.now in
     let e = c.args.entry_bytes.now in
     let width = c.args.index.width in
-    let place : place_at file list c.args.leader ≡ c.place_in.result = ap (λ (x : List ℕ). (prime_entry_in (prime_index_of file).width x).place) (sym (rw c.prime.ensures at (rw c.shape.ensures at c.in-Some.ensures.value))) ∙ sym (rw c.prime-2.ensures at c.place_in.ensures) in
+    let place : place_at file list c.args.leader ≡ c.place_in.result = ap (λ (x : List ℕ). (prime_entry_in (prime_index_of file).width x).place) (sym (rw c.prime.ensures at (rw c.shape.ensures at (c.in-Some.ensures.value list (c.stored_at.ensures.before list has))))) ∙ sym (rw c.prime-2.ensures at c.place_in.ensures) in
     let there : slot_off (heap_of file) (pages_in list) (place_at file list c.args.leader) ≡ Some c.in-Some-stored_at.stored.now =
-    ap (slot_off (heap_of file) (pages_in list)) place ∙ sym c.stored_at.ensures.value ∙ ap (λ (o : Option (Bor (List ℕ))). option_copied o) c.in-Some-stored_at.is in
+    ap (slot_off (heap_of file) (pages_in list)) place ∙ sym (c.stored_at.ensures.value list has) ∙ ap (λ (o : Option (Bor (List ℕ))). option_copied o) c.in-Some-stored_at.is in
     let parts = entry_parts file list c.args.index c.args.leader e c.in-Some-stored_at.stored.now there is in
     elim c.if-eq.branch [
       | then-eq w ↦

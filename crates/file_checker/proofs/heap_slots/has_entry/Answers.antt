@@ -10,21 +10,25 @@ use Rattle.file_checker.proofs.SlotLemmas.{found_one}
 use Rattle.file_checker.proofs.heap_slots.has_entry.Goals as goal
 
 pub returns-in-Some-entry_near-clause-entry : goal.returns-in-Some-entry_near-clause-entry
-returns-in-Some-entry_near-clause-entry c = λ yes used.
-    found_one (place_at c.args.file.now c.args.pages.now) (spots_in c.args.primes.now) c.in-Some-entry_near.spot c.args.place c.in-Some-entry_near.ensures.one (c.leads_to.ensures.leads yes)
+returns-in-Some-entry_near-clause-entry g c = λ list has yes used.
+    found_one (place_at c.args.file.now list) (spots_in c.args.primes.now) c.in-Some-entry_near.spot c.args.place c.in-Some-entry_near.ensures.one (c.leads_to.ensures.leads list has yes)
 
 pub returns-in-Some-entry_near-clause-refused : goal.returns-in-Some-entry_near-clause-refused
-returns-in-Some-entry_near-clause-refused c = λ lead has.
-    let used : slot_off (heap_of c.args.file.now) (pages_in c.args.pages.now) c.args.place ≡ Some c.in-Some.stored.now =
-    sym c.stored_at.ensures.value ∙ ap (λ (o : Option (Bor (List ℕ))). option_copied o) c.in-Some.is in
-    let found = slot_found c.args.file.now c.args.pages.now c.args.primes.now c.args.place c.in-Some.stored.now c.value.result.now c.entry_near.result used c.value.ensures c.entry_near.ensures.found lead has in
-    let at = slot_is c.args.file.now c.args.pages.now c.entry_near.result c.args.place c.in-Some-entry_near.spot c.in-Some-entry_near.is found in
-    c.leads_to.ensures.refused at.0 at.1
+returns-in-Some-entry_near-clause-refused g c = λ list source lead has.
+    let near = c.leads_to.ensures.before list source in
+    let read = c.entry_near.ensures.before list near in
+    let used : slot_off (heap_of c.args.file.now) (pages_in list) c.args.place ≡ Some c.in-Some.stored.now =
+    sym (c.stored_at.ensures.value list read) ∙ ap (λ (o : Option (Bor (List ℕ))). option_copied o) c.in-Some.is in
+    let found = slot_found c.args.file.now list c.args.primes.now c.args.place c.in-Some.stored.now c.value.result.now c.entry_near.result used c.value.ensures (c.entry_near.ensures.found list near) lead has in
+    let at = slot_is c.args.file.now list c.entry_near.result c.args.place c.in-Some-entry_near.spot c.in-Some-entry_near.is found in
+    c.leads_to.ensures.refused list source at.0 at.1
 
 pub returns-in-None-clause-refused : goal.returns-in-None-clause-refused
-returns-in-None-clause-refused c = λ lead has.
-    let used : slot_off (heap_of c.args.file.now) (pages_in c.args.pages.now) c.args.place ≡ Some c.in-Some.stored.now =
-    sym c.stored_at.ensures.value ∙ ap (λ (o : Option (Bor (List ℕ))). option_copied o) c.in-Some.is in
-    let found = slot_found c.args.file.now c.args.pages.now c.args.primes.now c.args.place c.in-Some.stored.now c.value.result.now c.entry_near.result used c.value.ensures c.entry_near.ensures.found lead has in
+returns-in-None-clause-refused g c = λ list source lead has.
+    let near = source in
+    let read = c.entry_near.ensures.before list near in
+    let used : slot_off (heap_of c.args.file.now) (pages_in list) c.args.place ≡ Some c.in-Some.stored.now =
+    sym (c.stored_at.ensures.value list read) ∙ ap (λ (o : Option (Bor (List ℕ))). option_copied o) c.in-Some.is in
+    let found = slot_found c.args.file.now list c.args.primes.now c.args.place c.in-Some.stored.now c.value.result.now c.entry_near.result used c.value.ensures (c.entry_near.ensures.found list near) lead has in
     let bad : None ≡ Some found.0 = sym c.in-None.is ∙ found.1 in
     absurd (cc)

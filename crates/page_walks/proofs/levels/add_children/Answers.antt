@@ -1,11 +1,11 @@
 use Rattle.std.proofs.Common.{◌≡◌, ◌+◌, ◌<◌, ◌++◌, ◌∷◌, [], List, ℕ, take, length, get_or, ap, sym, ◌∙◌, arith, append_assoc}
 use Rattle.std.proofs.lemmas.List.{take_more, take_all}
-use Rattle.tree_node.specs.declared.shape.Shape.{Shape}
+use Rattle.tree_node.specs.declared.shape.NodeShape.{NodeShape}
 use Rattle.tree_node.specs.Inner.{separators, children}
 use Rattle.tree_node.proofs.InnerLemmas.{length_separators, length_children}
 use Rattle.page_walks.proofs.levels.add_children.Goals as goal
 
-many : (shape : Shape) (page : List ℕ) (n : ℕ) → n ≡ length (separators shape page) → length (children shape page) ≡ n + 1
+many : (shape : NodeShape) (page : List ℕ) (n : ℕ) → n ≡ length (separators shape page) → length (children shape page) ≡ n + 1
 many shape page n is = omega (arith, length_separators shape page, length_children shape page)
 
 one_more : (old kids row new : List ℕ) (i child : ℕ) → i < length kids → child ≡ get_or kids i 0

@@ -1,6 +1,6 @@
 use Rattle.std.proofs.Common.{refl, ap, ◌∙◌}
 use Rattle.record_layout.specs.declared.schema.KeyPart.{KeyPart}
-use Rattle.record_heap.specs.declared.shape.Shape.{Shape}
+use Rattle.record_heap.specs.declared.shape.SlotShape.{SlotShape}
 use Rattle.key_index.proofs.LookLemmas.{fails}
 use Rattle.open_file.proofs.CreatingLemmas.{first_parts, low_heights, new_stands}
 use Rattle.open_file.proofs.open_file.OpenFile.create.Goals as goal
@@ -39,9 +39,9 @@ returns-clause-made g c =
         prime_width = width.0 ∙ ap (λ (part : KeyPart). part.length) c.part.ensures.part;
         widths = λ j index within is. let one = each j index within is in (one.width, one.prime);
         numbers = λ j index within is. (each j index within is).number;
-        stamps = ap (λ (s : Shape). s.stamps) c.new-heap.ensures.shape ∙ c.heap_shape.ensures.stamps;
-        least = ap (λ (s : Shape). s.least) c.new-heap.ensures.shape ∙ c.heap_shape.ensures.least;
-        greatest = ap (λ (s : Shape). s.greatest) c.new-heap.ensures.shape ∙ c.heap_shape.ensures.greatest;
+        stamps = ap (λ (s : SlotShape). s.stamps) c.new-heap.ensures.shape ∙ c.heap_shape.ensures.stamps;
+        least = ap (λ (s : SlotShape). s.least) c.new-heap.ensures.shape ∙ c.heap_shape.ensures.least;
+        greatest = ap (λ (s : SlotShape). s.greatest) c.new-heap.ensures.shape ∙ c.heap_shape.ensures.greatest;
       });
       unbroken = refl;
       heights = low_heights c.args.schema.now c.in_ok-prime.prime c.in_ok-alternates.alternates.items width.1 each many;
