@@ -1,11 +1,12 @@
 //! The entries of an alternate key, and the rows.
 
-ghost use Rattle.std.specs.Prelude.{◌≡◌, IsTrue, length, List, ℕ};
+ghost use Rattle.std.specs.Prelude.{◌≡◌, IsTrue, length};
 ghost use Rattle.page_walks.specs.Spots.{spots_in};
 ghost use Rattle.file_checker.specs.Alternate.{IsIndexFor, IsEntryFor, EntriesAscend};
 ghost use Rattle.file_checker.specs.Leading.{HasRow, IsEntryOf};
 ghost use Rattle.file_checker.specs.RowsAhead.{HasItsRow, HasRowAhead, PrimesLead};
 ghost use Rattle.file_checker.specs.Comparing.{pages_read, ChecksLeaf, ChecksLeaves, ComparesIndex};
+ghost use Rattle.pages.specs.Source.{KeepsItsPages, OfItsPages};
 
 use crate::entry::{entry, entry_near, place_in};
 use crate::record::stored_at;
@@ -29,12 +30,11 @@ fn is_of_row<P: PageSource>(
     leader: LeafSpot,
 ) -> bool
     requires { IsEntryFor file.now index entry_bytes.now }
-    ensures entry { (list : List (List ℕ)) → P.has pages.new list
-        → IsTrue result → IsEntryOf file.now list index entry_bytes.now leader }
-    ensures refused { (list : List (List ℕ)) → P.has pages.new list
-        → HasItsRow file.now list leader
-        → IsEntryOf file.now list index entry_bytes.now leader → IsTrue result }
-    ensures before { (list : List (List ℕ)) → P.has pages.new list → P.has pages.old list }
+    ensures entry { OfItsPages P.has pages.new
+        (λ list. IsTrue result → IsEntryOf file.now list index entry_bytes.now leader) }
+    ensures refused { OfItsPages P.has pages.new (λ list. HasItsRow file.now list leader
+        → IsEntryOf file.now list index entry_bytes.now leader → IsTrue result) }
+    ensures before { KeepsItsPages P.has pages.old pages.new }
 {
     let mut prime_frame = [0; PAGE_SIZE];
     let mut frame = [0; PAGE_SIZE];
@@ -65,12 +65,11 @@ fn has_row<P: PageSource>(
     spot: LeafSpot,
 ) -> bool
     requires { IsIndexFor file.now index }
-    ensures row { (list : List (List ℕ)) → P.has pages.new list
-        → IsTrue result → HasRow file.now list (spots_in primes.now) index spot }
-    ensures refused { (list : List (List ℕ)) → P.has pages.new list
-        → PrimesLead file.now list primes.now
-        → HasRowAhead file.now list (spots_in primes.now) index spot → IsTrue result }
-    ensures before { (list : List (List ℕ)) → P.has pages.new list → P.has pages.old list }
+    ensures row { OfItsPages P.has pages.new
+        (λ list. IsTrue result → HasRow file.now list (spots_in primes.now) index spot) }
+    ensures refused { OfItsPages P.has pages.new (λ list. PrimesLead file.now list primes.now
+        → HasRowAhead file.now list (spots_in primes.now) index spot → IsTrue result) }
+    ensures before { KeepsItsPages P.has pages.old pages.new }
 {
     let mut frame = [0; PAGE_SIZE];
     let Some(entry) = entry(pages, index.tree.shape(), spot, &mut frame) else {
@@ -91,9 +90,9 @@ fn check_leaf<P: PageSource>(
     leaf: Leaf,
 ) -> Result<(), RowFault>
     requires { IsIndexFor file.now index }
-    ensures checks { (list : List (List ℕ)) → P.has pages.new list
-        → ChecksLeaf (pages_read file.now list primes.now) index leaf result }
-    ensures before { (list : List (List ℕ)) → P.has pages.new list → P.has pages.old list }
+    ensures checks { OfItsPages P.has pages.new
+        (λ list. ChecksLeaf (pages_read file.now list primes.now) index leaf result) }
+    ensures before { KeepsItsPages P.has pages.old pages.new }
 {
     for place in 0..leaf.count {
         let spot = LeafSpot {
@@ -116,9 +115,9 @@ fn check_leaves<P: PageSource>(
     leaves: &[Leaf],
 ) -> Result<(), RowFault>
     requires { IsIndexFor file.now index }
-    ensures checks { (list : List (List ℕ)) → P.has pages.new list
-        → ChecksLeaves (pages_read file.now list primes.now) index leaves.now result }
-    ensures before { (list : List (List ℕ)) → P.has pages.new list → P.has pages.old list }
+    ensures checks { OfItsPages P.has pages.new
+        (λ list. ChecksLeaves (pages_read file.now list primes.now) index leaves.now result) }
+    ensures before { KeepsItsPages P.has pages.old pages.new }
 {
     for &leaf in leaves {
         check_leaf(pages, file, primes, index, leaf)?;
@@ -139,10 +138,11 @@ pub fn check_alternate<P: PageSource>(
 ) -> Result<(), RowFault>
     requires index { IsIndexFor file.now index }
     requires many { length (spots_in leaves.now) ≡ length (spots_in primes.now) }
-    requires rises { (list : List (List ℕ)) → P.has pages.old list → EntriesAscend index list (spots_in leaves.now) }
-    ensures compares { (list : List (List ℕ)) → P.has pages.new list
-        → ComparesIndex (pages_read file.now list primes.now) index leaves.now result }
-    ensures before { (list : List (List ℕ)) → P.has pages.new list → P.has pages.old list }
+    requires rises { OfItsPages P.has pages.old
+        (λ list. EntriesAscend index list (spots_in leaves.now)) }
+    ensures compares { OfItsPages P.has pages.new
+        (λ list. ComparesIndex (pages_read file.now list primes.now) index leaves.now result) }
+    ensures before { KeepsItsPages P.has pages.old pages.new }
 {
     check_leaves(pages, file, primes, index, leaves)?;
     Ok(())

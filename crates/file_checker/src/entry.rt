@@ -1,7 +1,7 @@
 //! An entry of an index, in the pages of a file.
 
 ghost use Rattle.std.specs.Prelude.{◌≡◌, ◌+◌, ◌<◌, ◌≤◌, ◌↔◌, IfSome, IsSome, length, true, false, slice_index_or};
-ghost use Rattle.std.specs.Prelude.{List, ℕ, []};
+ghost use Rattle.std.specs.Prelude.{[]};
 ghost use Rattle.tree_node.specs.Leaf.{IsLeaf, leaf_entries};
 ghost use Rattle.pages.specs.Each.{Each};
 ghost use Rattle.page_walks.specs.Spots.{IsSpotThere, entry_at_spot, spots_in};
@@ -9,6 +9,7 @@ ghost use Rattle.tree_node.specs.Order.{less};
 ghost use Rattle.record_heap.specs.Chain.{IsOneOf};
 ghost use Rattle.key_index.specs.Stored.{prime_entry_in};
 ghost use Rattle.file_checker.specs.Search.{EndsBefore, EndsFrom, FindsEntry, FindsKeyInLeaf, IsNear};
+ghost use Rattle.pages.specs.Source.{KeepsItsPages, OfItsPages};
 
 use byteorder::{BigEndian, ByteOrder};
 use open_file::OpenFile;
@@ -45,12 +46,13 @@ pub fn entry<'a, P: PageSource>(
     spot: LeafSpot,
     frame: &'a mut [u8; PAGE_SIZE],
 ) -> Option<&'a [u8]>
-    ensures value { (list : List (List ℕ)) → P.has pages.new list
-        → IfSome result (λ entry. entry.now ≡ entry_at_spot shape list spot) }
+    ensures value { OfItsPages P.has pages.new
+        (λ list. IfSome result (λ entry. entry.now ≡ entry_at_spot shape list spot)) }
     ensures long { IfSome result (λ entry. length entry.now ≡ shape.entry) }
     ensures bytes { IfSome result (λ entry. Each (λ b. b < 256) entry.now) }
-    ensures there { (list : List (List ℕ)) → P.has pages.new list → IsSpotThere shape list spot → IsSome result }
-    ensures before { (list : List (List ℕ)) → P.has pages.new list → P.has pages.old list }
+    ensures there { OfItsPages P.has pages.new
+        (λ list. IsSpotThere shape list spot → IsSome result) }
+    ensures before { KeepsItsPages P.has pages.old pages.new }
 {
     *frame = pages.page(spot.page)?;
     let entry = entry_on(frame, shape, spot.place)?;
@@ -78,11 +80,11 @@ fn is_below(a: &[u8], b: &[u8]) -> bool
 
 /// The last entry of a leaf of the prime index has a value below this one.
 fn ends_before<P: PageSource>(pages: &mut P, file: &OpenFile, leaf: Leaf, value: &[u8]) -> bool
-    ensures ends { (list : List (List ℕ)) → P.has pages.new list
-        → result ≡ true → EndsBefore file.now list value.now leaf }
-    ensures from { (list : List (List ℕ)) → P.has pages.new list
-        → result ≡ false → EndsFrom file.now list value.now leaf }
-    ensures before { (list : List (List ℕ)) → P.has pages.new list → P.has pages.old list }
+    ensures ends { OfItsPages P.has pages.new
+        (λ list. result ≡ true → EndsBefore file.now list value.now leaf) }
+    ensures from { OfItsPages P.has pages.new
+        (λ list. result ≡ false → EndsFrom file.now list value.now leaf) }
+    ensures before { KeepsItsPages P.has pages.old pages.new }
 {
     let mut frame = [0; PAGE_SIZE];
     let last = LeafSpot {
@@ -104,9 +106,9 @@ fn entry_in<P: PageSource>(
 ) -> Option<LeafSpot>
     ensures page { IfSome result (λ spot. spot.page ≡ leaf.page) }
     ensures place { IfSome result (λ spot. spot.place < leaf.count) }
-    ensures found { (list : List (List ℕ)) → P.has pages.new list
-        → FindsKeyInLeaf shape list leaf key.now result }
-    ensures before { (list : List (List ℕ)) → P.has pages.new list → P.has pages.old list }
+    ensures found { OfItsPages P.has pages.new
+        (λ list. FindsKeyInLeaf shape list leaf key.now result) }
+    ensures before { KeepsItsPages P.has pages.old pages.new }
 {
     let page = pages.page(leaf.page)?;
     if !is_leaf(&page, shape) {
@@ -130,9 +132,9 @@ fn leaves_before<P: PageSource>(
     value: &[u8],
 ) -> usize
     ensures within { result ≤ length primes.now }
-    ensures near { (list : List (List ℕ)) → P.has pages.new list
-        → IsNear file.now list primes.now value.now result }
-    ensures before { (list : List (List ℕ)) → P.has pages.new list → P.has pages.old list }
+    ensures near { OfItsPages P.has pages.new
+        (λ list. IsNear file.now list primes.now value.now result) }
+    ensures before { KeepsItsPages P.has pages.old pages.new }
 {
     let mut low = 0;
     let mut high = primes.len();
@@ -155,9 +157,9 @@ pub fn entry_near<P: PageSource>(
     value: &[u8],
 ) -> Option<LeafSpot>
     ensures one { IfSome result (λ spot. IsOneOf (spots_in primes.now) spot) }
-    ensures found { (list : List (List ℕ)) → P.has pages.new list
-        → FindsEntry file.now list primes.now value.now result }
-    ensures before { (list : List (List ℕ)) → P.has pages.new list → P.has pages.old list }
+    ensures found { OfItsPages P.has pages.new
+        (λ list. FindsEntry file.now list primes.now value.now result) }
+    ensures before { KeepsItsPages P.has pages.old pages.new }
 {
     let i = leaves_before(pages, file, primes, value);
     if i == primes.len() {

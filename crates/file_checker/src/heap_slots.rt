@@ -1,6 +1,6 @@
 //! The slots of the heap, each of which an entry of the prime index leads to, if it is in use.
 
-ghost use Rattle.std.specs.Prelude.{◌≡◌, IsTrue, List, ℕ};
+ghost use Rattle.std.specs.Prelude.{◌≡◌, IsTrue};
 ghost use Rattle.page_walks.specs.Spots.{IsSpotThere, spots_in};
 ghost use Rattle.open_file.specs.Stands.{IsShaped};
 ghost use Rattle.open_file.specs.Fields.{prime_index_of};
@@ -9,6 +9,7 @@ ghost use Rattle.file_checker.specs.Rows.{place_at};
 ghost use Rattle.file_checker.specs.Leading.{HasEntry};
 ghost use Rattle.file_checker.specs.RowsAhead.{PrimesLead};
 ghost use Rattle.file_checker.specs.Comparing.{pages_read, ChecksPage, ChecksSlots};
+ghost use Rattle.pages.specs.Source.{KeepsItsPages, OfItsPages};
 
 use crate::entry::{entry, entry_near, place_in};
 use crate::record::stored_at;
@@ -22,12 +23,11 @@ use record_heap::Place;
 /// The slot is not in use, or an entry of the prime index leads to it.
 fn has_entry<P: PageSource>(pages: &mut P, file: &OpenFile, primes: &[Leaf], place: Place) -> bool
     requires { IsShaped file.now }
-    ensures entry { (list : List (List ℕ)) → P.has pages.new list
-        → IsTrue result → HasEntry file.now list (spots_in primes.now) place }
-    ensures refused { (list : List (List ℕ)) → P.has pages.new list
-        → PrimesLead file.now list primes.now
-        → HasEntry file.now list (spots_in primes.now) place → IsTrue result }
-    ensures before { (list : List (List ℕ)) → P.has pages.new list → P.has pages.old list }
+    ensures entry { OfItsPages P.has pages.new
+        (λ list. IsTrue result → HasEntry file.now list (spots_in primes.now) place) }
+    ensures refused { OfItsPages P.has pages.new (λ list. PrimesLead file.now list primes.now
+        → HasEntry file.now list (spots_in primes.now) place → IsTrue result) }
+    ensures before { KeepsItsPages P.has pages.old pages.new }
 {
     let mut frame = [0; PAGE_SIZE];
     let Some(stored) = stored_at(pages, file, place, &mut frame) else {
@@ -41,12 +41,12 @@ fn has_entry<P: PageSource>(pages: &mut P, file: &OpenFile, primes: &[Leaf], pla
 
 /// The entry of the prime index leads to this place.
 fn leads_to<P: PageSource>(pages: &mut P, file: &OpenFile, spot: LeafSpot, place: Place) -> bool
-    ensures leads { (list : List (List ℕ)) → P.has pages.new list
-        → IsTrue result → place ≡ place_at file.now list spot }
-    ensures refused { (list : List (List ℕ)) → P.has pages.new list
-        → IsSpotThere (tree_shape (prime_index_of file.now).tree) list spot
-        → place ≡ place_at file.now list spot → IsTrue result }
-    ensures before { (list : List (List ℕ)) → P.has pages.new list → P.has pages.old list }
+    ensures leads { OfItsPages P.has pages.new
+        (λ list. IsTrue result → place ≡ place_at file.now list spot) }
+    ensures refused { OfItsPages P.has pages.new
+        (λ list. IsSpotThere (tree_shape (prime_index_of file.now).tree) list spot
+        → place ≡ place_at file.now list spot → IsTrue result) }
+    ensures before { KeepsItsPages P.has pages.old pages.new }
 {
     let mut frame = [0; PAGE_SIZE];
     match entry(pages, file.prime().tree.shape(), spot, &mut frame) {
@@ -63,9 +63,9 @@ fn check_page<P: PageSource>(
     n: u32,
 ) -> Result<(), RowFault>
     requires { IsShaped file.now }
-    ensures checks { (list : List (List ℕ)) → P.has pages.new list
-        → ChecksPage (pages_read file.now list primes.now) n result }
-    ensures before { (list : List (List ℕ)) → P.has pages.new list → P.has pages.old list }
+    ensures checks { OfItsPages P.has pages.new
+        (λ list. ChecksPage (pages_read file.now list primes.now) n result) }
+    ensures before { KeepsItsPages P.has pages.old pages.new }
 {
     for i in 0..file.heap().shape().room() {
         let place = Place {
@@ -87,9 +87,9 @@ pub fn check_slots<P: PageSource>(
     own: &[u32],
 ) -> Result<(), RowFault>
     requires { IsShaped file.now }
-    ensures checks { (list : List (List ℕ)) → P.has pages.new list
-        → ChecksSlots (pages_read file.now list primes.now) own.now result }
-    ensures before { (list : List (List ℕ)) → P.has pages.new list → P.has pages.old list }
+    ensures checks { OfItsPages P.has pages.new
+        (λ list. ChecksSlots (pages_read file.now list primes.now) own.now result) }
+    ensures before { KeepsItsPages P.has pages.old pages.new }
 {
     for &n in own {
         check_page(pages, file, primes, n)?;

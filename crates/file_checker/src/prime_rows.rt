@@ -1,7 +1,7 @@
 //! The rows that the prime index leads to.
 
 ghost use Rattle.std.specs.Prelude.{◌≡◌, ◌≢◌, ◌<◌, ◌↔◌, ℕ, true, false, All, IfOk, IfErr, OnOk};
-ghost use Rattle.std.specs.Prelude.{OnErr, IsTrue, length, List};
+ghost use Rattle.std.specs.Prelude.{OnErr, IsTrue, length};
 ghost use Rattle.pages.specs.Each.{Each};
 ghost use Rattle.pages.specs.Marks.{marked_in};
 ghost use Rattle.page_walks.specs.Spots.{spots_below, spots_in};
@@ -12,6 +12,7 @@ ghost use Rattle.file_checker.specs.Leading.{LeadsToRow, OfEachEntry};
 ghost use Rattle.file_checker.specs.RowsAhead.{LeadsAhead, RefusesRows, RowsAhead};
 ghost use Rattle.file_checker.specs.RowFaults.{IsEntryFault, IsRowFault, TellsOfRows};
 ghost use Rattle.file_checker.specs.Search.{IsPrimeLeaf};
+ghost use Rattle.pages.specs.Source.{KeepsItsPages, OfItsPages};
 
 use crate::entry::{entry, place_in};
 use crate::heap_slots::check_slots;
@@ -71,11 +72,11 @@ fn leads_to_row<P: PageSource>(
     spot: LeafSpot,
 ) -> bool
     requires { IsShaped file.now }
-    ensures leads { (list : List (List ℕ)) → P.has pages.new list
-        → IsTrue result → LeadsToRow file.now list marks.now spot }
-    ensures refused { (list : List (List ℕ)) → P.has pages.new list
-        → LeadsAhead file.now list marks.now spot → IsTrue result }
-    ensures before { (list : List (List ℕ)) → P.has pages.new list → P.has pages.old list }
+    ensures leads { OfItsPages P.has pages.new
+        (λ list. IsTrue result → LeadsToRow file.now list marks.now spot) }
+    ensures refused { OfItsPages P.has pages.new
+        (λ list. LeadsAhead file.now list marks.now spot → IsTrue result) }
+    ensures before { KeepsItsPages P.has pages.old pages.new }
 {
     let mut prime_frame = [0; PAGE_SIZE];
     let mut frame = [0; PAGE_SIZE];
@@ -100,14 +101,14 @@ fn check_leaf<P: PageSource>(
     leaf: Leaf,
 ) -> Result<(), RowFault>
     requires { IsShaped file.now }
-    ensures lead { (list : List (List ℕ)) → P.has pages.new list
-        → OnOk result (OfEachEntry (LeadsToRow file.now list marks.now) leaf) }
-    ensures refused { (list : List (List ℕ)) → P.has pages.new list
-        → OnErr result (OfEachEntry (LeadsAhead file.now list marks.now) leaf → ⊥) }
-    ensures told { (list : List (List ℕ)) → P.has pages.new list
-        → IfErr result (TellsOfRows (IsEntryFault (spots_below leaf.page leaf.count)
-        (LeadsAhead file.now list marks.now))) }
-    ensures before { (list : List (List ℕ)) → P.has pages.new list → P.has pages.old list }
+    ensures lead { OfItsPages P.has pages.new
+        (λ list. OnOk result (OfEachEntry (LeadsToRow file.now list marks.now) leaf)) }
+    ensures refused { OfItsPages P.has pages.new
+        (λ list. OnErr result (OfEachEntry (LeadsAhead file.now list marks.now) leaf → ⊥)) }
+    ensures told { OfItsPages P.has pages.new
+        (λ list. IfErr result (TellsOfRows (IsEntryFault (spots_below leaf.page leaf.count)
+        (LeadsAhead file.now list marks.now)))) }
+    ensures before { KeepsItsPages P.has pages.old pages.new }
 {
     for place in 0..leaf.count {
         let spot = LeafSpot {
@@ -130,14 +131,14 @@ fn check_leaves<P: PageSource>(
     primes: &[Leaf],
 ) -> Result<(), RowFault>
     requires { IsShaped file.now }
-    ensures lead { (list : List (List ℕ)) → P.has pages.new list
-        → OnOk result (All (OfEachEntry (LeadsToRow file.now list marks.now)) primes.now) }
-    ensures refused { (list : List (List ℕ)) → P.has pages.new list
-        → OnErr result (Each (LeadsAhead file.now list marks.now) (spots_in primes.now) → ⊥) }
-    ensures told { (list : List (List ℕ)) → P.has pages.new list
-        → IfErr result (TellsOfRows (IsEntryFault (spots_in primes.now)
-        (LeadsAhead file.now list marks.now))) }
-    ensures before { (list : List (List ℕ)) → P.has pages.new list → P.has pages.old list }
+    ensures lead { OfItsPages P.has pages.new
+        (λ list. OnOk result (All (OfEachEntry (LeadsToRow file.now list marks.now)) primes.now)) }
+    ensures refused { OfItsPages P.has pages.new
+        (λ list. OnErr result (Each (LeadsAhead file.now list marks.now) (spots_in primes.now) → ⊥)) }
+    ensures told { OfItsPages P.has pages.new
+        (λ list. IfErr result (TellsOfRows (IsEntryFault (spots_in primes.now)
+        (LeadsAhead file.now list marks.now)))) }
+    ensures before { KeepsItsPages P.has pages.old pages.new }
 {
     for &leaf in primes {
         check_leaf(pages, file, marks, leaf)?;
@@ -155,16 +156,16 @@ fn compare<P: PageSource>(
 ) -> Result<(), RowFault>
     requires shaped { IsShaped file.now }
     requires none { (n : ℕ) → marked_in marks.old n ≡ false }
-    requires may { (list : List (List ℕ)) → P.has pages.old list
-        → MayCompareRows file.now list (spots_in primes.now) marks.old }
-    ensures stand { (list : List (List ℕ)) → P.has pages.new list
-        → OnOk result (RowsStand file.now list own.now (spots_in primes.now)) }
-    ensures refused { (list : List (List ℕ)) → P.has pages.new list
-        → OnErr result (RowsAhead file.now list own.now primes.now → ⊥) }
-    ensures told { (list : List (List ℕ)) → P.has pages.new list
-        → IfErr result (λ fault. Each (IsPrimeLeaf file.now list) primes.now
-        → TellsOfRows (IsRowFault file.now list own.now primes.now) fault) }
-    ensures before { (list : List (List ℕ)) → P.has pages.new list → P.has pages.old list }
+    requires may { OfItsPages P.has pages.old
+        (λ list. MayCompareRows file.now list (spots_in primes.now) marks.old) }
+    ensures stand { OfItsPages P.has pages.new
+        (λ list. OnOk result (RowsStand file.now list own.now (spots_in primes.now))) }
+    ensures refused { OfItsPages P.has pages.new
+        (λ list. OnErr result (RowsAhead file.now list own.now primes.now → ⊥)) }
+    ensures told { OfItsPages P.has pages.new
+        (λ list. IfErr result (λ fault. Each (IsPrimeLeaf file.now list) primes.now
+        → TellsOfRows (IsRowFault file.now list own.now primes.now) fault)) }
+    ensures before { KeepsItsPages P.has pages.old pages.new }
 {
     mark_all(marks, own);
     check_leaves(pages, file, marks, primes)?;
@@ -187,17 +188,17 @@ pub fn check_rows<P: PageSource>(
     primes: &[Leaf],
 ) -> Result<(), RowFault>
     requires shaped { IsShaped file.now }
-    requires counted { (list : List (List ℕ)) → P.has pages.old list → count ≡ length list }
-    requires rises { (list : List (List ℕ)) → P.has pages.old list
-        → EntriesRise file.now list (spots_in primes.now) }
-    ensures stand { (list : List (List ℕ)) → P.has pages.new list
-        → OnOk result (RowsStand file.now list own.now (spots_in primes.now)) }
-    ensures refused { (list : List (List ℕ)) → P.has pages.new list
-        → IfErr result (RefusesRows (RowsAhead file.now list own.now primes.now)) }
-    ensures told { (list : List (List ℕ)) → P.has pages.new list
-        → IfErr result (λ fault. Each (IsPrimeLeaf file.now list) primes.now
-        → TellsOfRows (IsRowFault file.now list own.now primes.now) fault) }
-    ensures before { (list : List (List ℕ)) → P.has pages.new list → P.has pages.old list }
+    requires counted { OfItsPages P.has pages.old (λ list. count ≡ length list) }
+    requires rises { OfItsPages P.has pages.old
+        (λ list. EntriesRise file.now list (spots_in primes.now)) }
+    ensures stand { OfItsPages P.has pages.new
+        (λ list. OnOk result (RowsStand file.now list own.now (spots_in primes.now))) }
+    ensures refused { OfItsPages P.has pages.new
+        (λ list. IfErr result (RefusesRows (RowsAhead file.now list own.now primes.now))) }
+    ensures told { OfItsPages P.has pages.new
+        (λ list. IfErr result (λ fault. Each (IsPrimeLeaf file.now list) primes.now
+        → TellsOfRows (IsRowFault file.now list own.now primes.now) fault)) }
+    ensures before { KeepsItsPages P.has pages.old pages.new }
 {
     let mut marks = no_marks(alloc, count)?;
     compare(pages, file, own, primes, &mut marks)

@@ -1,8 +1,7 @@
 //! What a slot holds, in the pages of a file.
 
-ghost use Rattle.std.specs.Prelude.{◌≡◌, ◌+◌, ◌≤◌, ◌<◌, IfSome, length, List, ℕ};
+ghost use Rattle.std.specs.Prelude.{◌≡◌, ◌+◌, ◌≤◌, ◌<◌, IfSome, length};
 ghost use Rattle.std.specs.Option.{option_copied};
-ghost use Rattle.pages.specs.Each.{Each};
 ghost use Rattle.record_heap.specs.Slot.{room, size, length_in_slot, used_in};
 ghost use Rattle.record_heap.specs.Slots.{slot_at};
 ghost use Rattle.record_heap.specs.Standing.{slot_shape, slot_off};
@@ -10,6 +9,7 @@ ghost use Rattle.pages.specs.PageList.{pages_in};
 ghost use Rattle.open_file.specs.Stands.{IsShaped};
 ghost use Rattle.open_file.specs.Fields.{heap_of};
 ghost use Rattle.file_checker.specs.Leading.{IsStoredRecord};
+ghost use Rattle.pages.specs.Source.{KeepsItsPages, OfItsPages};
 
 use crate::entry::bytes_fit;
 use byteorder::{BigEndian, ByteOrder};
@@ -73,11 +73,11 @@ pub fn stored_at<'a, P: PageSource>(
     frame: &'a mut [u8; PAGE_SIZE],
 ) -> Option<&'a [u8]>
     requires { IsShaped file.now }
-    ensures value { (list : List (List ℕ)) → P.has pages.new list
-        → option_copied result ≡ slot_off (heap_of file.now) (pages_in list) place }
+    ensures value { OfItsPages P.has pages.new
+        (λ list. option_copied result ≡ slot_off (heap_of file.now) (pages_in list) place) }
     ensures within { IfSome result (λ stored. place.slot < room (slot_shape (heap_of file.now))) }
     ensures fits { IfSome result (λ stored. IsStoredRecord file.now stored.now) }
-    ensures before { (list : List (List ℕ)) → P.has pages.new list → P.has pages.old list }
+    ensures before { KeepsItsPages P.has pages.old pages.new }
 {
     let shape = file.heap().shape();
     let i = place.slot as usize;

@@ -5,12 +5,13 @@
 //! | 0 to 3 | `F`, and zero |
 //! | 4 to 7 | next free page, 0 at the end of the chain |
 
-ghost use Rattle.std.specs.Prelude.{◌≡◌, IfErr, IfOk, OnOk, List, ℕ};
+ghost use Rattle.std.specs.Prelude.{IfErr, IfOk, OnOk};
 ghost use Rattle.pages.specs.Marks.{marked_in};
 ghost use Rattle.pages.specs.Refused.{RefusesRightly};
 ghost use Rattle.page_walks.specs.FreeWalk.{FreeAhead, FreeWalked, IsFreeFault, IsFreePage, IsFreePageAt};
 ghost use Rattle.page_walks.specs.FreeWalk.{TellsOfNext};
 ghost use Rattle.pages.specs.Told.{TellsOfFault};
+ghost use Rattle.pages.specs.Source.{KeepsItsPages, OfItsPages};
 
 use byteorder::{BigEndian, ByteOrder};
 use pages::{PageFault, PageSource, WalkFault, mark};
@@ -25,13 +26,12 @@ const NEXT_END: usize = 8;
 
 /// The page behind a free page, to which another page leads.
 fn behind<P: PageSource>(pages: &mut P, from: u32, n: u32) -> Result<u32, WalkFault>
-    ensures leads { (list : List (List ℕ)) → P.has pages.new list
-        → IfOk result (λ next. IsFreePageAt list n next) }
-    ensures refused { (list : List (List ℕ)) → P.has pages.new list
-        → IfErr result (RefusesRightly (IsFreePage list n)) }
-    ensures told { (list : List (List ℕ)) → P.has pages.new list
-        → IfErr result (TellsOfNext list from n) }
-    ensures before { (list : List (List ℕ)) → P.has pages.new list → P.has pages.old list }
+    ensures leads { OfItsPages P.has pages.new
+        (λ list. IfOk result (λ next. IsFreePageAt list n next)) }
+    ensures refused { OfItsPages P.has pages.new
+        (λ list. IfErr result (RefusesRightly (IsFreePage list n))) }
+    ensures told { OfItsPages P.has pages.new (λ list. IfErr result (TellsOfNext list from n)) }
+    ensures before { KeepsItsPages P.has pages.old pages.new }
 {
     if n == 0 {
         return Err(WalkFault::of_page(PageFault::Chain, from));
@@ -56,13 +56,13 @@ pub fn walk_free<P: PageSource>(
     count: u32,
     reached: &mut [bool],
 ) -> Result<(), WalkFault>
-    ensures walked { (list : List (List ℕ)) → P.has pages.new list
-        → OnOk result (FreeWalked list first count (marked_in reached.old) (marked_in reached.new)) }
-    ensures refused { (list : List (List ℕ)) → P.has pages.new list
-        → IfErr result (RefusesRightly (FreeAhead list first count reached.old)) }
-    ensures told { (list : List (List ℕ)) → P.has pages.new list
-        → IfErr result (TellsOfFault (IsFreeFault list first count reached.old)) }
-    ensures before { (list : List (List ℕ)) → P.has pages.new list → P.has pages.old list }
+    ensures walked { OfItsPages P.has pages.new
+        (λ list. OnOk result (FreeWalked list first count (marked_in reached.old) (marked_in reached.new))) }
+    ensures refused { OfItsPages P.has pages.new
+        (λ list. IfErr result (RefusesRightly (FreeAhead list first count reached.old))) }
+    ensures told { OfItsPages P.has pages.new
+        (λ list. IfErr result (TellsOfFault (IsFreeFault list first count reached.old))) }
+    ensures before { KeepsItsPages P.has pages.old pages.new }
 {
     let mut from = 0;
     let mut at = first;

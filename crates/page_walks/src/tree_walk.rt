@@ -13,6 +13,7 @@ ghost use Rattle.page_walks.specs.TreeAhead.{AwaitsBelow, TreeUnmarked};
 ghost use Rattle.page_walks.specs.TreeFaults.{IsNodeFault, IsSomewhereBelow, IsTreeFault, MarksBelow};
 ghost use Rattle.page_walks.specs.TreeFaults.{node_place, root_place};
 ghost use Rattle.page_walks.specs.TreeWalk.{IsInnerWithin, IsLeafWithin, AddsLeaf, WalksBelow, WalksTree};
+ghost use Rattle.pages.specs.Source.{KeepsItsPages, OfItsPages};
 
 use crate::leaf::{Leaf, have_entries, push};
 use crate::order::{check_keys, check_separators};
@@ -131,20 +132,20 @@ fn walk_below<P: PageSource>(
     reached: &mut [bool],
     leaves: &mut Vec<Leaf>,
 ) -> Result<(), WalkFault>
-    ensures walked { (list : List (List ℕ)) → P.has pages.new list
-        → OnOk result (WalksBelow shape list levels page limits.entry
-        (reached.old, leaves.old.items) (reached.new, leaves.new.items)) }
-    ensures there { (list : List (List ℕ)) → P.has pages.new list
-        → OnOk result (Each (IsLeafThere shape list) leaves.old.items
-        → Each (IsLeafThere shape list) leaves.new.items) }
-    ensures marks { (list : List (List ℕ)) → P.has pages.new list
-        → OnOk result (MarksBelow shape list (node_place levels page limits.entry)
-        reached.old reached.new) }
-    ensures refused { (list : List (List ℕ)) → P.has pages.new list → IfErr result
-        (RefusesRightly (AwaitsBelow shape list levels page limits.entry reached.old)) }
-    ensures told { (list : List (List ℕ)) → P.has pages.new list → IfErr result
-        (TellsOfFault (IsSomewhereBelow shape list (node_place levels page limits.entry) reached.old)) }
-    ensures before { (list : List (List ℕ)) → P.has pages.new list → P.has pages.old list }
+    ensures walked { OfItsPages P.has pages.new
+        (λ list. OnOk result (WalksBelow shape list levels page limits.entry
+        (reached.old, leaves.old.items) (reached.new, leaves.new.items))) }
+    ensures there { OfItsPages P.has pages.new
+        (λ list. OnOk result (Each (IsLeafThere shape list) leaves.old.items
+        → Each (IsLeafThere shape list) leaves.new.items)) }
+    ensures marks { OfItsPages P.has pages.new
+        (λ list. OnOk result (MarksBelow shape list (node_place levels page limits.entry)
+        reached.old reached.new)) }
+    ensures refused { OfItsPages P.has pages.new (λ list. IfErr result
+        (RefusesRightly (AwaitsBelow shape list levels page limits.entry reached.old))) }
+    ensures told { OfItsPages P.has pages.new (λ list. IfErr result
+        (TellsOfFault (IsSomewhereBelow shape list (node_place levels page limits.entry) reached.old))) }
+    ensures before { KeepsItsPages P.has pages.old pages.new }
 {
     let Some(bytes) = pages.page(page) else {
         return Err(WalkFault::of_page(PageFault::Node, limits.parent));
@@ -212,17 +213,17 @@ pub fn walk_tree<P: PageSource>(
     tree: &Tree,
     reached: &mut [bool],
 ) -> Result<Vec<Leaf>, WalkFault>
-    ensures walked { (list : List (List ℕ)) → P.has pages.new list → IfOk result
-        (λ leaves. WalksTree tree.now list reached.old reached.new leaves.items) }
-    ensures there { (list : List (List ℕ)) → P.has pages.new list → IfOk result
-        (λ leaves. Each (IsLeafThere (tree_shape tree.now) list) leaves.items) }
-    ensures marks { (list : List (List ℕ)) → P.has pages.new list
-        → OnOk result (MarksBelow (tree_shape tree.now) list (root_place tree.now) reached.old reached.new) }
-    ensures refused { (list : List (List ℕ)) → P.has pages.new list
-        → IfErr result (RefusesRightly (TreeUnmarked tree.now list reached.old)) }
-    ensures told { (list : List (List ℕ)) → P.has pages.new list
-        → IfErr result (TellsOfFault (IsTreeFault tree.now list reached.old)) }
-    ensures before { (list : List (List ℕ)) → P.has pages.new list → P.has pages.old list }
+    ensures walked { OfItsPages P.has pages.new (λ list. IfOk result
+        (λ leaves. WalksTree tree.now list reached.old reached.new leaves.items)) }
+    ensures there { OfItsPages P.has pages.new (λ list. IfOk result
+        (λ leaves. Each (IsLeafThere (tree_shape tree.now) list) leaves.items)) }
+    ensures marks { OfItsPages P.has pages.new
+        (λ list. OnOk result (MarksBelow (tree_shape tree.now) list (root_place tree.now) reached.old reached.new)) }
+    ensures refused { OfItsPages P.has pages.new
+        (λ list. IfErr result (RefusesRightly (TreeUnmarked tree.now list reached.old))) }
+    ensures told { OfItsPages P.has pages.new
+        (λ list. IfErr result (TellsOfFault (IsTreeFault tree.now list reached.old))) }
+    ensures before { KeepsItsPages P.has pages.old pages.new }
 {
     let mut leaves = Vec::new(alloc);
     let limits = Limits {

@@ -13,5 +13,6 @@ pub mod Marks
 pub mod Refused
 pub mod Told
 pub mod PageList
+pub mod Source
 pub mod Parted
 pub mod PartLaw

@@ -2,6 +2,7 @@
 
 ghost use Rattle.std.specs.Prelude.{◌≡◌, ℕ, List};
 ghost use Rattle.pages.specs.PageList.{pages_in};
+ghost use Rattle.pages.specs.Source.{KeepsItsPages, OfItsPages};
 
 use crate::PAGE_SIZE;
 
@@ -20,8 +21,8 @@ pub trait PageSource {
     /// None also where the device has failed, at this call or before: then the source has no list
     /// of pages any more.
     fn page(&mut self, n: u32) -> Option<[u8; PAGE_SIZE]>
-        ensures page { (list : List (List ℕ)) → has self.new list → result ≡ pages_in list n }
-        ensures before { (list : List (List ℕ)) → has self.new list → has self.old list };
+        ensures page { OfItsPages has self.new (λ list. result ≡ pages_in list n) }
+        ensures before { KeepsItsPages has self.old self.new };
 }
 
 /// The pages of a file in memory.
