@@ -66,34 +66,41 @@ most_lines deck (UpToStop statements) = length statements
 most_lines deck (CloseOf u) = 1
 most_lines deck AllCloses = length deck.files.items
 
--- a stage of a run: its library and its deck in memory, the text that is held, and what the writer
--- has, if that is known
-pub record RunStage (S : Type 0) : Type 0 where
-  pub state : State S
-  pub held : List ℕ
-  pub written : Option (List ℕ)
+-- a stage of a run: its library and its deck in memory, the text that is held, and the writer
+abbrev pub Stage : Type 0 → Type 0 → Type 0
+Stage S W = S × RunningDeck × List ℕ × W
 
-abbrev pub stage : {S : Type 0} → S → RunningDeck → (held : List ℕ) → (written : Option (List ℕ)) → RunStage S
-stage library deck held written = record { state = state library deck; held = held; written = written }
+-- of writers that have these contents, if they are known, and of a library that shows this
+module _ {S W : Type 0} (shown : Shown S) (contents : W → Option (List ℕ)) where
+  abbrev pub state_at : Stage S W → State S
+  state_at at = state at.0 at.1
 
--- a part of a run, from a stage to the one that it leaves. It keeps what every part keeps. Where it
--- came to its end, lines came that are those of its steps. Where the writer refused one, they are
--- those of some of its steps
-pub record RunsPart {S : Type 0} (shown : Shown S) (part : RunPart) (before after : RunStage S)
-    (result : Result RunEnd Refused) : Type 0 where
-  pub goes : GoesOn shown before.state after.state
-  pub few : IfOk result (λ end. end.lines ≤ most_lines before.state.deck part)
-  pub done : IfOk result (λ end. Come (so_far before.written before.held) (so_far after.written after.held)
-      end (Leads shown before.state after.state (StepsOf shown part)))
-  pub refused : OnErr result (ComeInPart (so_far before.written before.held) after.written
-      (Leads shown before.state after.state (StepsBefore shown part)))
+  -- the text that is held
+  abbrev pub held_at : Stage S W → List ℕ
+  held_at at = at.2
 
--- a whole run, which begins with no text held: the text of its lines was written, or of some of
--- them, and then a proper front of one
-pub record RunsAll {S : Type 0} (shown : Shown S) (statements : List Statement) (before after : RunStage S)
-    (result : Result RunEnd Refused) : Type 0 where
-  pub goes : GoesOn shown before.state after.state
-  pub done : IfOk result (λ end. TellsLines before.written after.written end
-      (Leads shown before.state after.state (IsRunOver shown statements)))
-  pub refused : OnErr result (ToldInPart before.written after.written
-      (Leads shown before.state after.state (IsBrokenOff shown statements)))
+  -- what the writer has
+  abbrev pub written_at : Stage S W → Option (List ℕ)
+  written_at at = contents at.3
+
+  -- a part of a run, from a stage to the one that it leaves. It keeps what every part keeps. Where it
+  -- came to its end, lines came that are those of its steps. Where the writer refused one, they are
+  -- those of some of its steps
+  pub record RunsPart (part : RunPart) (before after : Stage S W) (result : Result RunEnd Refused) : Type 0 where
+    pub goes : GoesOn shown (state_at before) (state_at after)
+    pub few : IfOk result (λ end. end.lines ≤ most_lines before.1 part)
+    pub done : IfOk result (λ end. Come (so_far (written_at before) (held_at before))
+        (so_far (written_at after) (held_at after))
+        end (Leads shown (state_at before) (state_at after) (StepsOf shown part)))
+    pub refused : OnErr result (ComeInPart (so_far (written_at before) (held_at before)) (written_at after)
+        (Leads shown (state_at before) (state_at after) (StepsBefore shown part)))
+
+  -- a whole run, which begins with no text held: the text of its lines was written, or of some of
+  -- them, and then a proper front of one
+  pub record RunsAll (statements : List Statement) (before after : Stage S W)
+      (result : Result RunEnd Refused) : Type 0 where
+    pub goes : GoesOn shown (state_at before) (state_at after)
+    pub done : IfOk result (λ end. TellsLines (written_at before) (written_at after) end
+        (Leads shown (state_at before) (state_at after) (IsRunOver shown statements)))
+    pub refused : OnErr result (ToldInPart (written_at before) (written_at after)
+        (Leads shown (state_at before) (state_at after) (IsBrokenOff shown statements)))

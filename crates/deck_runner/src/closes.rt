@@ -1,7 +1,7 @@
 //! The closes at the end of a run.
 ghost use Rattle.std.specs.Prelude.{◌<◌};
 ghost use Rattle.deck_runner.specs.State.{state};
-ghost use Rattle.deck_runner.specs.Parts.{CanRun, stage, RunsPart, CloseOf, AllCloses};
+ghost use Rattle.deck_runner.specs.Parts.{CanRun, RunsPart, CloseOf, AllCloses};
 
 use crate::run_end::RunEnd;
 use crate::running_deck::RunningDeck;
@@ -20,9 +20,9 @@ impl RunningDeck {
         out: &mut W,
     ) -> Result<RunEnd, Refused>
         requires { CanRun L.shown (CloseOf u) (state library.old self.old) }
-        ensures { RunsPart L.shown (CloseOf u)
-            (stage library.old self.old held.old (W.contents out.old))
-            (stage library.new self.new held.new (W.contents out.new)) result }
+        ensures { RunsPart L.shown W.contents (CloseOf u)
+            (library.old, self.old, held.old, out.old)
+            (library.new, self.new, held.new, out.new) result }
     {
         let file = &self.files[u];
         let open = file.is_open();
@@ -41,9 +41,9 @@ impl RunningDeck {
         out: &mut W,
     ) -> Result<RunEnd, Refused>
         requires { CanRun L.shown AllCloses (state library.old self.old) }
-        ensures { RunsPart L.shown AllCloses
-            (stage library.old self.old held.old (W.contents out.old))
-            (stage library.new self.new held.new (W.contents out.new)) result }
+        ensures { RunsPart L.shown W.contents AllCloses
+            (library.old, self.old, held.old, out.old)
+            (library.new, self.new, held.new, out.new) result }
     {
         let mut end = RunEnd::none();
         for u in 0..self.files.len() {

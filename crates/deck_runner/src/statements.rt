@@ -2,7 +2,7 @@
 ghost use Rattle.std.specs.Prelude.{◌≡◌};
 ghost use Rattle.deck_runner.specs.Steps.{is_stop};
 ghost use Rattle.deck_runner.specs.State.{state};
-ghost use Rattle.deck_runner.specs.Parts.{CanRun, stage, RunsPart, VerbOn, OneStatement, UpToStop};
+ghost use Rattle.deck_runner.specs.Parts.{CanRun, RunsPart, VerbOn, OneStatement, UpToStop};
 
 use crate::held_lines::make_way;
 use crate::run_end::RunEnd;
@@ -33,9 +33,9 @@ impl RunningDeck {
         out: &mut W,
     ) -> Result<RunEnd, Refused>
         requires { CanRun L.shown (VerbOn u statement.now) (state library.old self.old) }
-        ensures { RunsPart L.shown (VerbOn u statement.now)
-            (stage library.old self.old held.old (W.contents out.old))
-            (stage library.new self.new held.new (W.contents out.new)) result }
+        ensures { RunsPart L.shown W.contents (VerbOn u statement.now)
+            (library.old, self.old, held.old, out.old)
+            (library.new, self.new, held.new, out.new) result }
     {
         make_way(held, statement, out)?;
         let clean = self.perform_on(u, statement, library);
@@ -52,9 +52,9 @@ impl RunningDeck {
         out: &mut W,
     ) -> Result<RunEnd, Refused>
         requires { CanRun L.shown (OneStatement statement.now) (state library.old self.old) }
-        ensures { RunsPart L.shown (OneStatement statement.now)
-            (stage library.old self.old held.old (W.contents out.old))
-            (stage library.new self.new held.new (W.contents out.new)) result }
+        ensures { RunsPart L.shown W.contents (OneStatement statement.now)
+            (library.old, self.old, held.old, out.old)
+            (library.new, self.new, held.new, out.new) result }
     {
         match statement {
             Statement::Perform { file, statement } => self.run_verb(
@@ -87,9 +87,9 @@ impl RunningDeck {
         out: &mut W,
     ) -> Result<RunEnd, Refused>
         requires { CanRun L.shown (UpToStop statements.now) (state library.old self.old) }
-        ensures { RunsPart L.shown (UpToStop statements.now)
-            (stage library.old self.old held.old (W.contents out.old))
-            (stage library.new self.new held.new (W.contents out.new)) result }
+        ensures { RunsPart L.shown W.contents (UpToStop statements.now)
+            (library.old, self.old, held.old, out.old)
+            (library.new, self.new, held.new, out.new) result }
     {
         let mut end = RunEnd::none();
         for statement in statements {

@@ -4,7 +4,7 @@ ghost use Rattle.deck_runner.specs.Steps.{CleanRunsAreExact};
 ghost use Rattle.deck_runner.specs.Stretches.{CleanFrontsAreExact};
 ghost use Rattle.deck_runner.specs.NoFalseFile.{NoFalseFile, ImagesAreOfLedger};
 ghost use Rattle.deck_runner.specs.State.{state};
-ghost use Rattle.deck_runner.specs.Parts.{CanRun, stage, RunsAll, UpToStop};
+ghost use Rattle.deck_runner.specs.Parts.{CanRun, RunsAll, UpToStop};
 ghost use Rattle.deck_runner.specs.Reads.{ReadsChangeNoFile};
 
 use crate::run_end::RunEnd;
@@ -28,9 +28,9 @@ impl RunningDeck {
     ) -> Result<RunEnd, Refused>
         requires run { CanRun L.shown (UpToStop statements.now) (state library.old self.old) }
         requires none_held { held.old ≡ [] }
-        ensures { RunsAll L.shown statements.now
-            (stage library.old self.old held.old (W.contents out.old))
-            (stage library.new self.new held.new (W.contents out.new)) result }
+        ensures { RunsAll L.shown W.contents statements.now
+            (library.old, self.old, held.old, out.old)
+            (library.new, self.new, held.new, out.new) result }
     {
         let stopped = self.run_to_stop(statements, library, held, out)?;
         let closed = self.close_all(library, held, out)?;

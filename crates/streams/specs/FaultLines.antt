@@ -1,7 +1,8 @@
 -- Which line of a transcript is the first one by which a file answers 30, by the bytes that were
 -- written. All of this is ours.
-use Rattle.std.specs.Prelude.{◌≡◌, ℕ, ◌+◌, ◌-◌, true, ◌==◌, List, ◌∷◌, ◌++◌, length, take, min, codes}
+use Rattle.std.specs.Prelude.{◌≡◌, ℕ, ◌+◌, ◌-◌, true, ◌==◌, List, [], ◌∷◌, ◌++◌, length, take, min, codes, Option}
 use Rattle.std.specs.List.{All, count_by}
+use Rattle.std.specs.Option.{IfSome}
 use Rattle.streams.specs.declared.fault_lines.FaultLine.{FaultLine}
 use Rattle.streams.specs.declared.fault_lines.FaultLines.{FaultLines}
 
@@ -36,3 +37,8 @@ pub record AreFaultsOf (bytes : List ℕ) (faults : FaultLines) : Type 0 where
   pub counted : faults.lines ≡ lines_in bytes
   pub line : faults.fits ≡ true → EndIn bytes faults.line.items
   pub firsts : AreFaultLines bytes faults.firsts.items
+
+-- what is told of the line of this number, which ends now, is such a line
+abbrev pub TellsLine : FaultLines → (number : ℕ) → Option FaultLine → Type 0
+TellsLine faults number told = (before : List ℕ) → AreFaultsOf before faults → number ≡ line_number before
+    → IfSome told (λ first. IsFaultLine (before ++ 10 ∷ []) first.name.items first.number)

@@ -1,7 +1,8 @@
 //! The first line of a transcript by which each file answers 30.
 ghost use Rattle.std.specs.Prelude.{◌≡◌, ◌<◌, ℕ, List, [], ◌∷◌, ◌++◌, get_or, length, codes, true};
 ghost use Rattle.std.specs.Option.{IfSome};
-ghost use Rattle.streams.specs.FaultLines.{AreFaultsOf, AreFaultLines, IsFaultLine, line_number};
+ghost use Rattle.streams.specs.FaultLines.{AreFaultsOf, AreFaultLines, IsFaultLine, TellsLine};
+ghost use Rattle.streams.specs.FaultLines.{line_number};
 ghost use Rattle.streams.specs.LinesIn.{IsWithinLine};
 
 use arrayvec::ArrayVec;
@@ -120,8 +121,7 @@ impl FaultLines {
 
     /// The line that is being written, of this number, if a file answers 30 by it.
     fn ended(&self, number: u64) -> Option<FaultLine>
-        ensures { (before : List ℕ) → AreFaultsOf before self.now → number ≡ line_number before
-            → IfSome result (λ first. IsFaultLine (before ++ 10 ∷ []) first.name.items first.number) }
+        ensures { TellsLine self.now number result }
     {
         if self.fits {
             fault_line(self.line.as_slice(), number)
