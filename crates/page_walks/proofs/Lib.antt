@@ -12,3 +12,9 @@ pub mod RowLemmas
 pub mod TreeLemmas
 pub mod RunLemmas
 pub mod TogetherLemmas
+pub mod SlotMarkLemmas
+pub mod PigeonLemmas
+pub mod SlotWalkLemmas
+pub mod MarkAheadLemmas
+pub mod HeapAheadLemmas
+pub mod FaultLemmas

@@ -9,3 +9,7 @@ pub mod Rows
 pub mod Levels
 pub mod Fill
 pub mod Runs
+pub mod Bits
+pub mod SlotMarks
+pub mod SlotWalk
+pub mod SlotFaults

@@ -7,9 +7,3 @@ pub mod HeapLemmas
 pub mod OrderLemmas
 pub mod FillingLemmas
 pub mod WalkLemmas
-pub mod SlotMarkLemmas
-pub mod SlotWalkLemmas
-pub mod PigeonLemmas
-pub mod MarkAheadLemmas
-pub mod HeapAheadLemmas
-pub mod FaultLemmas

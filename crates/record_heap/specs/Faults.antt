@@ -1,5 +1,5 @@
 -- What is wrong with a heap, and where.
-use Rattle.std.specs.Prelude.{◌≡◌, ◌≢◌, ◌⊎◌, ℕ, ◌<◌, ◌≤◌, Bool, true, List, [], ◌∷◌, length, ⊤}
+use Rattle.std.specs.Prelude.{◌≡◌, ◌≢◌, ◌⊎◌, ℕ, ◌<◌, ◌≤◌, Bool, List, [], ◌∷◌, length, ⊤}
 use Rattle.pages.specs.Each.{Each}
 use Rattle.pages.specs.declared.fault_place.FaultPlace.{FaultPlace}
 use Rattle.pages.specs.declared.fault_place.FaultPlace.TheVariants.{Page, Entry}
@@ -13,14 +13,11 @@ use Rattle.pages.specs.Owners.{AreApart}
 use Rattle.record_heap.specs.declared.shape.SlotShape.{SlotShape}
 use Rattle.record_heap.specs.declared.shape.Place.{Place}
 use Rattle.record_heap.specs.declared.heap.Heap.{Heap}
-use Rattle.record_heap.specs.declared.slot_marks.SlotMarks.{SlotMarks}
 use Rattle.record_heap.specs.Slot.{room}
-use Rattle.record_heap.specs.Slots.{slot_at}
-use Rattle.record_heap.specs.Chain.{AreOnce, IsOneOf, IsFreeChain}
+use Rattle.record_heap.specs.Chain.{IsOneOf, IsFreeChain}
 use Rattle.record_heap.specs.Calls.{behind_at, slot_of}
-use Rattle.record_heap.specs.SlotMarks.{HasMark, marked_slot}
 use Rattle.record_heap.specs.Standing.{IsPageChain}
-use Rattle.record_heap.specs.Walk.{IsFreeAt, IsFreeOrUsed, IsFreePath, IsHeapPageAt, IsMarkedFree, IsPagePath}
+use Rattle.record_heap.specs.Walk.{IsFreeAt, IsFreeOrUsed, IsFreePath, IsHeapPageAt, IsPagePath}
 
 -- where a slot is told
 abbrev pub slot_place : Place → FaultPlace
@@ -64,15 +61,6 @@ abbrev pub TellsOfChain : (FaultPlace → Type 0) → WalkFault → Type 0
 TellsOfChain Holds Memory = ⊤
 TellsOfChain Holds (At fault place) = (fault ≡ Chain) × Holds place
 
--- slot p is neither free nor in use, where it has its mark, and is one of page n
-pub record IsWrongOfPage (shape : SlotShape) (page : List ℕ) (n : ℕ) (marks : SlotMarks)
-    (place : FaultPlace) : Type 0 where
-  pub slot : Place
-  pub on : slot.page ≡ n
-  pub within : slot.slot < room shape
-  pub told : place ≡ slot_place slot
-  pub wrong : HasMark marks slot → IsFreeOrUsed shape (slot_at shape page slot.slot) → ⊥
-
 -- a slot of these pages is neither free nor in use
 pub record IsWrongSlot (shape : SlotShape) (list : List (List ℕ)) (own : List ℕ)
     (place : FaultPlace) : Type 0 where
@@ -81,32 +69,6 @@ pub record IsWrongSlot (shape : SlotShape) (list : List (List ℕ)) (own : List 
   pub within : slot.slot < room shape
   pub told : place ≡ slot_place slot
   pub wrong : IsFreeOrUsed shape (slot_of shape (pages_in list) slot) → ⊥
-
--- the place that leads to a slot is told; or the slot is, where it has a mark and is not free
-abbrev pub TellsOfSlot : SlotShape → List (List ℕ) → SlotMarks → FaultPlace → Place → WalkFault → Type 0
-TellsOfSlot shape list marks from at fault = (fault ≡ At Chain from)
-    ⊎ ((fault ≡ At Chain (slot_place at)) × (at.slot < room shape) × (marked_slot marks at ≡ true)
-    × (IsFreeAt shape (pages_in list) at → ⊥))
-
--- This is wrong with a slot behind marked slots of a chain: it has no mark, or is one of them; or they
--- are as many as there are marks; or it has a mark, and is not free.
-abbrev pub IsFaultBehindSlots : SlotShape → List (List ℕ) → SlotMarks → List Place → Place → FaultPlace → Type 0
-IsFaultBehindSlots shape list marks free at place =
-    ((place ≡ last_slot_place free) × (IsMarkedFree shape list marks at → IsOneOf free at))
-    ⊎ (((place ≡ last_slot_place free) × (length free ≡ marks.slots))
-    ⊎ ((place ≡ slot_place at) × (at.slot < room shape) × (marked_slot marks at ≡ true)
-    × (IsFreeAt shape (pages_in list) at → ⊥)))
-
--- so it is with the chain of slots from the first one on
-pub record IsLinkFault (shape : SlotShape) (list : List (List ℕ)) (first : Place) (marks : SlotMarks)
-    (place : FaultPlace) : Type 0 where
-  pub free : List Place
-  pub at : Place
-  pub path : IsFreePath (behind_at shape (pages_in list)) first free at
-  pub once : AreOnce free
-  pub were : Each (λ p. (p.slot < room shape) × (marked_slot marks p ≡ true)) free
-  pub some : at.page ≢ 0
-  pub wrong : IsFaultBehindSlots shape list marks free at place
 
 -- the slot is a free one of these pages
 pub record IsFreeSlotOf (shape : SlotShape) (list : List (List ℕ)) (own : List ℕ) (p : Place) : Type 0 where

@@ -5,23 +5,19 @@
 //! Which record lies where is not known here.
 //!
 //! Read `shape` (the size of a slot), `slot` (the bytes of one), `slots` (those of a page), `calls`
-//! (one call on one page), then `heap`; `walk` is for whoever checks a file whose pages were all
-//! read.
+//! (one call on one page), then `heap`. What stands is said in `specs/Standing.antt`; `specs/Walk.antt`
+//! and `specs/Faults.antt` are for whoever walks a heap.
 #![tactic(auto)]
 
-mod bits;
 mod builder;
 mod calls;
 mod heap;
 mod laws;
 mod shape;
-mod slot;
-mod slot_marks;
-mod slots;
-mod walk;
+pub mod slot;
+pub mod slots;
 
 pub use builder::HeapBuilder;
 pub use heap::Heap;
 pub use laws::heap_laws;
 pub use shape::{Place, SlotShape};
-pub use walk::walk_heap;

@@ -1,8 +1,0 @@
-use Rattle.std.proofs.Common.{◌≡◌, false, take}
-use Rattle.record_heap.specs.declared.shape.Place.{Place}
-use Rattle.record_heap.specs.Chain.{IsOneOf}
-use Rattle.record_heap.specs.SlotMarks.{marked_slot}
-use Rattle.record_heap.proofs.slot_marks.SlotMarks.first.Given as goal
-
-abbrev pub invariant-loop-page : goal.invariant-loop-page
-invariant-loop-page l = (p : Place) → IsOneOf (take l.page-index l.self.own.now) p.page → marked_slot l.self p ≡ false

@@ -1,9 +1,0 @@
-use Rattle.record_heap.specs.SlotMarks.{SameSlots}
-use Rattle.record_heap.specs.Walk.{PageMarked}
-use Rattle.record_heap.proofs.walk.mark_page.Given as goal
-
-abbrev pub invariant-loop-i : goal.invariant-loop-i
-invariant-loop-i l = record {
-  marked : PageMarked l.shape l.page l.n l.i l.initial.marks l.marks;
-  same : SameSlots l.initial.marks l.marks;
-}

@@ -1,6 +1,0 @@
-use Rattle.std.proofs.Common.{inr, refl, sym, ◌∙◌}
-use Rattle.record_heap.proofs.SlotWalkLemmas.{used_found}
-use Rattle.record_heap.proofs.walk.mark_slot.Goals as goal
-
-pub returns-else-not-is_used-clause-marked : goal.returns-else-not-is_used-clause-marked
-returns-else-not-is_used-clause-marked c = inr (used_found c.args.shape c.args.bytes.now (sym c.is_used.ensures ∙ c.if-not-is_used.false), refl)
