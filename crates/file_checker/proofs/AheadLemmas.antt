@@ -30,7 +30,7 @@ use Rattle.record_heap.specs.Chain.{IsPlaceOf, Slots}
 use Rattle.record_heap.specs.Slot.{room}
 use Rattle.record_heap.specs.Standing.{HeapStands, first_heap_page, slot_shape}
 use Rattle.record_heap.specs.Walk.{HeapAhead, slots_of}
-use Rattle.record_heap.proofs.HeapAheadLemmas.{chains_same}
+use Rattle.page_walks.proofs.HeapAheadLemmas.{chains_same}
 use Rattle.record_heap.proofs.StandLemmas.{chain_live, heap_kept}
 use Rattle.bplus_tree.specs.declared.tree.Tree.{Tree}
 use Rattle.bplus_tree.specs.Fields.{tree_levels, tree_shape}

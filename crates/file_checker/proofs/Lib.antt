@@ -1,3 +1,4 @@
+pub mod PageLemmas
 pub mod EntryLemmas
 pub mod SpotLemmas
 pub mod StampLemmas
@@ -20,3 +21,5 @@ pub mod AlternatesAheadLemmas
 pub mod SoundLemmas
 pub mod ToldLemmas
 pub mod HeldLemmas
+pub mod UnitLemmas
+pub mod LentLemmas

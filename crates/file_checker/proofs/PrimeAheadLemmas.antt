@@ -20,7 +20,7 @@ use Rattle.record_heap.specs.Chain.{IsOneOf}
 use Rattle.record_heap.specs.Standing.{slot_off, slot_shape}
 use Rattle.record_heap.specs.Walk.{is_in_list, slots_of}
 use Rattle.record_heap.proofs.ChainLemmas.{place_made}
-use Rattle.record_heap.proofs.HeapAheadLemmas.{each_one}
+use Rattle.page_walks.proofs.HeapAheadLemmas.{each_one}
 use Rattle.key_index.specs.declared.alt_index.AltIndex.{AltIndex}
 use Rattle.key_index.specs.declared.entry.AltEntry.{AltEntry}
 use Rattle.key_index.specs.Standing.{alt_key}

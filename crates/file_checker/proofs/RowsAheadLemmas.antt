@@ -21,7 +21,7 @@ use Rattle.record_heap.specs.Chain.{IsFreeChain, IsOneOf, IsPlaceOf, Slots}
 use Rattle.record_heap.specs.Slot.{room}
 use Rattle.record_heap.specs.Standing.{HeapStands, first_free_slot, slot_off, slot_shape}
 use Rattle.record_heap.specs.Walk.{is_in_list, slots_of}
-use Rattle.record_heap.proofs.SlotWalkLemmas.{free_not_used}
+use Rattle.page_walks.proofs.SlotWalkLemmas.{free_not_used}
 use Rattle.pages.specs.PageMap.{PageMap}
 use Rattle.key_index.specs.Stored.{IsPrimeEntry, prime_bytes, prime_entry_in}
 use Rattle.key_index.proofs.StoredLemmas.{prime_back}

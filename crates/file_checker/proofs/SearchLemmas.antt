@@ -12,7 +12,7 @@ use Rattle.page_walks.specs.declared.leaf.Leaf.{Leaf}
 use Rattle.page_walks.specs.Spots.{IsLeafThere, IsSpotThere, entry_at_spot, entries_at, spots_below, spots_in}
 use Rattle.page_walks.proofs.SpotLemmas.{entries_more}
 use Rattle.record_heap.specs.Chain.{IsOneOf}
-use Rattle.record_heap.proofs.HeapAheadLemmas.{each_one}
+use Rattle.page_walks.proofs.HeapAheadLemmas.{each_one}
 use Rattle.open_file.specs.Fields.{prime_index_of}
 use Rattle.open_file.specs.declared.open_file.OpenFile.{OpenFile}
 use Rattle.bplus_tree.specs.Fields.{tree_shape}

@@ -1,3 +1,6 @@
+pub mod Asked
+pub mod Frames
+pub mod Lending
 pub mod Rows
 pub mod Leading
 pub mod Alternate
@@ -16,4 +19,6 @@ pub mod Later
 pub mod Findings
 pub mod Sound
 pub mod Laws
-pub mod UnitPages
+pub mod FirstLook
+pub mod UnitExamining
+pub mod Lent

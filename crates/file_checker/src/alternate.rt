@@ -8,7 +8,8 @@ ghost use Rattle.file_checker.specs.RowsAhead.{HasItsRow, HasRowAhead, PrimesLea
 ghost use Rattle.file_checker.specs.Comparing.{pages_read, ChecksLeaf, ChecksLeaves, ComparesIndex};
 ghost use Rattle.pages.specs.Source.{KeepsItsPages, OfItsPages};
 
-use crate::entry::{entry, entry_near, place_in};
+use crate::entry::{entry_copied, entry_near, place_led_to};
+use crate::lent_pages::LentPages;
 use crate::record::stored_at;
 use crate::row::{stamp, value};
 use crate::row_fault::RowFault;
@@ -16,13 +17,12 @@ use byteorder::{BigEndian, ByteOrder};
 use key_index::AltIndex;
 use open_file::OpenFile;
 use page_walks::{Leaf, LeafSpot};
-use pages::{PAGE_SIZE, PageSource};
 
 /// The bytes of a stamp.
 const STAMP: usize = 8;
 
 /// The entry is what the index has of the row that an entry of the prime index leads to.
-fn is_of_row<P: PageSource>(
+fn is_of_row<P: LentPages>(
     pages: &mut P,
     file: &OpenFile,
     index: AltIndex,
@@ -36,17 +36,10 @@ fn is_of_row<P: PageSource>(
         → IsEntryOf file.now list index entry_bytes.now leader → IsTrue result) }
     ensures before { KeepsItsPages P.has pages.old pages.new }
 {
-    let mut prime_frame = [0; PAGE_SIZE];
-    let mut frame = [0; PAGE_SIZE];
-    let Some(prime) = entry(pages, file.prime().tree.shape(), leader, &mut prime_frame) else {
+    let Some(place) = place_led_to(pages, file, leader) else {
         return false;
     };
-    let Some(stored) = stored_at(
-        pages,
-        file,
-        place_in(prime, file.prime().width as usize),
-        &mut frame,
-    ) else {
+    let Some(stored) = stored_at(pages, file, place) else {
         return false;
     };
     let width = index.width as usize;
@@ -57,7 +50,7 @@ fn is_of_row<P: PageSource>(
 }
 
 /// The entry is what the index has of a row that the prime index leads to.
-fn has_row<P: PageSource>(
+fn has_row<P: LentPages>(
     pages: &mut P,
     file: &OpenFile,
     primes: &[Leaf],
@@ -71,18 +64,17 @@ fn has_row<P: PageSource>(
         → HasRowAhead file.now list (spots_in primes.now) index spot → IsTrue result) }
     ensures before { KeepsItsPages P.has pages.old pages.new }
 {
-    let mut frame = [0; PAGE_SIZE];
-    let Some(entry) = entry(pages, index.tree.shape(), spot, &mut frame) else {
+    let Some(entry) = entry_copied(pages, index.tree.shape(), spot) else {
         return false;
     };
     match entry_near(pages, file, primes, &entry[index.width as usize + STAMP..]) {
-        Some(leader) => is_of_row(pages, file, index, entry, leader),
+        Some(leader) => is_of_row(pages, file, index, &entry, leader),
         None => false,
     }
 }
 
 /// Each entry of the leaf is what the index has of a row that the prime index leads to.
-fn check_leaf<P: PageSource>(
+fn check_leaf<P: LentPages>(
     pages: &mut P,
     file: &OpenFile,
     primes: &[Leaf],
@@ -107,7 +99,7 @@ fn check_leaf<P: PageSource>(
 }
 
 /// Each entry of these leaves is what the index has of a row that the prime index leads to.
-fn check_leaves<P: PageSource>(
+fn check_leaves<P: LentPages>(
     pages: &mut P,
     file: &OpenFile,
     primes: &[Leaf],
@@ -129,7 +121,7 @@ fn check_leaves<P: PageSource>(
 /// leaves of the prime index and of this one, each in their order, in the pages of the file.
 ///
 /// Index, where they do not agree, at an entry that is that of no row.
-pub fn check_alternate<P: PageSource>(
+pub fn check_alternate<P: LentPages>(
     pages: &mut P,
     file: &OpenFile,
     primes: &[Leaf],
@@ -137,7 +129,8 @@ pub fn check_alternate<P: PageSource>(
     leaves: &[Leaf],
 ) -> Result<(), RowFault>
     requires index { IsIndexFor file.now index }
-    requires many { length (spots_in leaves.now) ≡ length (spots_in primes.now) }
+    requires many { OfItsPages P.has pages.old
+        (λ list. length (spots_in leaves.now) ≡ length (spots_in primes.now)) }
     requires rises { OfItsPages P.has pages.old
         (λ list. EntriesAscend index list (spots_in leaves.now)) }
     ensures compares { OfItsPages P.has pages.new

@@ -8,7 +8,7 @@ ghost use Rattle.file_checker.specs.Sound.{Examines, ExaminesBehind, IsRight, Is
 ghost use Rattle.file_checker.specs.Sound.{RefusesBehind};
 
 use crate::finding::Finding;
-use crate::parts::check_pages;
+use crate::parts::check_listed;
 use crate::parts_fault::PartsFault;
 use crate::reading::{push_page, read_page, read_pages, skip_pages};
 use crate::verdict::{CheckFault, Reason, Verdict};
@@ -57,7 +57,7 @@ fn examine_accepted<R: Read>(
     if !read_pages(reader, header.pages, &mut pages)? {
         return Ok(Finding::Unsound(Reason::Short, FaultPlace::File));
     }
-    match check_pages(alloc, &pages, header) {
+    match check_listed(alloc, &pages, header) {
         Ok(()) => Ok(Finding::Sound {
             records: header.records,
             pages: header.pages,

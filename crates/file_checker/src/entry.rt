@@ -8,15 +8,23 @@ ghost use Rattle.page_walks.specs.Spots.{IsSpotThere, entry_at_spot, spots_in};
 ghost use Rattle.tree_node.specs.Order.{less};
 ghost use Rattle.record_heap.specs.Chain.{IsOneOf};
 ghost use Rattle.key_index.specs.Stored.{prime_entry_in};
+ghost use Rattle.std.specs.Borrow.{sem};
+ghost use Rattle.bplus_tree.specs.Fields.{tree_shape};
+ghost use Rattle.open_file.specs.Fields.{prime_index_of};
+ghost use Rattle.file_checker.specs.Lending.{LendsOfItsPages};
+ghost use Rattle.file_checker.specs.Lent.{IsLentEntry};
+ghost use Rattle.file_checker.specs.Rows.{place_at};
 ghost use Rattle.file_checker.specs.Search.{EndsBefore, EndsFrom, FindsEntry, FindsKeyInLeaf, IsNear};
 ghost use Rattle.pages.specs.Source.{KeepsItsPages, OfItsPages};
 
+use crate::lent_pages::LentPages;
 use byteorder::{BigEndian, ByteOrder};
 use open_file::OpenFile;
 use page_walks::{Leaf, LeafSpot};
-use pages::{PAGE_SIZE, PageSource};
+use pages::PAGE_SIZE;
 use record_heap::Place;
-use tree_node::{LeafView, NodeShape, is_leaf};
+use tree_node::{Entry, LeafView, NodeShape, is_leaf};
+use tree_search::fill;
 
 /// Bytes are below 256. It does nothing.
 pub fn bytes_fit(bytes: &[u8])
@@ -39,25 +47,35 @@ fn entry_on(page: &[u8; PAGE_SIZE], shape: NodeShape, place: u16) -> Option<&[u8
     Some(leaf.entry(place))
 }
 
-/// The entry that stands there. Its page is read into `frame`.
-pub fn entry<'a, P: PageSource>(
-    pages: &mut P,
+/// The entry that stands there, in its page, which is lent.
+pub fn entry<'a, P: LentPages>(
+    pages: &'a mut P,
     shape: NodeShape,
     spot: LeafSpot,
-    frame: &'a mut [u8; PAGE_SIZE],
 ) -> Option<&'a [u8]>
-    ensures value { OfItsPages P.has pages.new
-        (λ list. IfSome result (λ entry. entry.now ≡ entry_at_spot shape list spot)) }
+    ensures* lends { sem 𝓛 (LendsOfItsPages P.row P.has pages.entry (IsLentEntry shape spot result)) }
     ensures long { IfSome result (λ entry. length entry.now ≡ shape.entry) }
     ensures bytes { IfSome result (λ entry. Each (λ b. b < 256) entry.now) }
+{
+    let page = pages.lend(spot.page)?;
+    let entry = entry_on(page, shape, spot.place)?;
+    bytes_fit(entry);
+    Some(entry)
+}
+
+/// The entry that stands there, copied: it outlives the loan of its page.
+pub fn entry_copied<P: LentPages>(pages: &mut P, shape: NodeShape, spot: LeafSpot) -> Option<Entry>
+    ensures value { OfItsPages P.has pages.new
+        (λ list. IfSome result (λ entry. entry.items ≡ entry_at_spot shape list spot)) }
+    ensures long { IfSome result (λ entry. length entry.items ≡ shape.entry) }
+    ensures bytes { IfSome result (λ entry. Each (λ b. b < 256) entry.items) }
     ensures there { OfItsPages P.has pages.new
         (λ list. IsSpotThere shape list spot → IsSome result) }
     ensures before { KeepsItsPages P.has pages.old pages.new }
 {
-    *frame = pages.page(spot.page)?;
-    let entry = entry_on(frame, shape, spot.place)?;
-    bytes_fit(entry);
-    Some(entry)
+    let mut copied = Entry::new();
+    fill(&mut copied, entry(pages, shape, spot)?);
+    Some(copied)
 }
 
 /// The place in an entry of a prime index, behind a value of so many bytes.
@@ -71,6 +89,18 @@ pub fn place_in(entry: &[u8], width: usize) -> Place
     }
 }
 
+/// The place to which the entry of the prime index leads that stands there.
+pub fn place_led_to<P: LentPages>(pages: &mut P, file: &OpenFile, spot: LeafSpot) -> Option<Place>
+    ensures place { OfItsPages P.has pages.new
+        (λ list. IfSome result (λ place. place ≡ place_at file.now list spot)) }
+    ensures there { OfItsPages P.has pages.new
+        (λ list. IsSpotThere (tree_shape (prime_index_of file.now).tree) list spot → IsSome result) }
+    ensures before { KeepsItsPages P.has pages.old pages.new }
+{
+    let entry = entry(pages, file.prime().tree.shape(), spot)?;
+    Some(place_in(entry, file.prime().width as usize))
+}
+
 /// The bytes `a` come before the bytes `b`.
 fn is_below(a: &[u8], b: &[u8]) -> bool
     ensures { result ≡ less a.now b.now }
@@ -79,26 +109,25 @@ fn is_below(a: &[u8], b: &[u8]) -> bool
 }
 
 /// The last entry of a leaf of the prime index has a value below this one.
-fn ends_before<P: PageSource>(pages: &mut P, file: &OpenFile, leaf: Leaf, value: &[u8]) -> bool
+fn ends_before<P: LentPages>(pages: &mut P, file: &OpenFile, leaf: Leaf, value: &[u8]) -> bool
     ensures ends { OfItsPages P.has pages.new
         (λ list. result ≡ true → EndsBefore file.now list value.now leaf) }
     ensures from { OfItsPages P.has pages.new
         (λ list. result ≡ false → EndsFrom file.now list value.now leaf) }
     ensures before { KeepsItsPages P.has pages.old pages.new }
 {
-    let mut frame = [0; PAGE_SIZE];
     let last = LeafSpot {
         page: leaf.page,
         place: leaf.count.saturating_sub(1),
     };
-    match entry(pages, file.prime().tree.shape(), last, &mut frame) {
+    match entry(pages, file.prime().tree.shape(), last) {
         Some(entry) => is_below(&entry[..file.prime().width as usize], value),
         None => false,
     }
 }
 
 /// An entry of a leaf; where they are in order, the first whose tree key is not below this one.
-fn entry_in<P: PageSource>(
+fn entry_in<P: LentPages>(
     pages: &mut P,
     shape: NodeShape,
     leaf: Leaf,
@@ -110,11 +139,11 @@ fn entry_in<P: PageSource>(
         (λ list. FindsKeyInLeaf shape list leaf key.now result) }
     ensures before { KeepsItsPages P.has pages.old pages.new }
 {
-    let page = pages.page(leaf.page)?;
-    if !is_leaf(&page, shape) {
+    let page = pages.lend(leaf.page)?;
+    if !is_leaf(page, shape) {
         return None;
     }
-    let place = LeafView { page: &page, shape }.rank(key);
+    let place = LeafView { page, shape }.rank(key);
     if place >= leaf.count as usize {
         return None;
     }
@@ -125,7 +154,7 @@ fn entry_in<P: PageSource>(
 }
 
 /// How many leaves of the prime index end before this value, where they are in order.
-fn leaves_before<P: PageSource>(
+fn leaves_before<P: LentPages>(
     pages: &mut P,
     file: &OpenFile,
     primes: &[Leaf],
@@ -150,7 +179,7 @@ fn leaves_before<P: PageSource>(
 }
 
 /// An entry of the prime index; where they are in order, the first whose value is not below this one.
-pub fn entry_near<P: PageSource>(
+pub fn entry_near<P: LentPages>(
     pages: &mut P,
     file: &OpenFile,
     primes: &[Leaf],

@@ -11,17 +11,16 @@ ghost use Rattle.file_checker.specs.RowsAhead.{PrimesLead};
 ghost use Rattle.file_checker.specs.Comparing.{pages_read, ChecksPage, ChecksSlots};
 ghost use Rattle.pages.specs.Source.{KeepsItsPages, OfItsPages};
 
-use crate::entry::{entry, entry_near, place_in};
-use crate::record::stored_at;
-use crate::row::value;
+use crate::entry::{entry_near, place_led_to};
+use crate::lent_pages::LentPages;
+use crate::record::prime_value_at;
 use crate::row_fault::RowFault;
 use open_file::OpenFile;
 use page_walks::{Leaf, LeafSpot};
-use pages::{PAGE_SIZE, PageSource};
 use record_heap::Place;
 
 /// The slot is not in use, or an entry of the prime index leads to it.
-fn has_entry<P: PageSource>(pages: &mut P, file: &OpenFile, primes: &[Leaf], place: Place) -> bool
+fn has_entry<P: LentPages>(pages: &mut P, file: &OpenFile, primes: &[Leaf], place: Place) -> bool
     requires { IsShaped file.now }
     ensures entry { OfItsPages P.has pages.new
         (λ list. IsTrue result → HasEntry file.now list (spots_in primes.now) place) }
@@ -29,18 +28,17 @@ fn has_entry<P: PageSource>(pages: &mut P, file: &OpenFile, primes: &[Leaf], pla
         → HasEntry file.now list (spots_in primes.now) place → IsTrue result) }
     ensures before { KeepsItsPages P.has pages.old pages.new }
 {
-    let mut frame = [0; PAGE_SIZE];
-    let Some(stored) = stored_at(pages, file, place, &mut frame) else {
+    let Some(value) = prime_value_at(pages, file, place) else {
         return true;
     };
-    match entry_near(pages, file, primes, value(file, stored, 0)) {
+    match entry_near(pages, file, primes, &value) {
         Some(spot) => leads_to(pages, file, spot, place),
         None => false,
     }
 }
 
 /// The entry of the prime index leads to this place.
-fn leads_to<P: PageSource>(pages: &mut P, file: &OpenFile, spot: LeafSpot, place: Place) -> bool
+fn leads_to<P: LentPages>(pages: &mut P, file: &OpenFile, spot: LeafSpot, place: Place) -> bool
     ensures leads { OfItsPages P.has pages.new
         (λ list. IsTrue result → place ≡ place_at file.now list spot) }
     ensures refused { OfItsPages P.has pages.new
@@ -48,15 +46,14 @@ fn leads_to<P: PageSource>(pages: &mut P, file: &OpenFile, spot: LeafSpot, place
         → place ≡ place_at file.now list spot → IsTrue result) }
     ensures before { KeepsItsPages P.has pages.old pages.new }
 {
-    let mut frame = [0; PAGE_SIZE];
-    match entry(pages, file.prime().tree.shape(), spot, &mut frame) {
-        Some(entry) => place_in(entry, file.prime().width as usize) == place,
+    match place_led_to(pages, file, spot) {
+        Some(led_to) => led_to == place,
         None => false,
     }
 }
 
 /// Each slot of page n that is in use has its entry in the prime index.
-fn check_page<P: PageSource>(
+fn check_page<P: LentPages>(
     pages: &mut P,
     file: &OpenFile,
     primes: &[Leaf],
@@ -80,7 +77,7 @@ fn check_page<P: PageSource>(
 }
 
 /// Each slot of the heap's own pages that is in use has its entry in the prime index.
-pub fn check_slots<P: PageSource>(
+pub fn check_slots<P: LentPages>(
     pages: &mut P,
     file: &OpenFile,
     primes: &[Leaf],

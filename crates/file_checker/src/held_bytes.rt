@@ -10,7 +10,7 @@ ghost use Rattle.file_checker.specs.Sound.{IsRight, IsRightFinding, IsRightOfPag
 ghost use Rattle.file_checker.specs.Bytes.{AreAllPages, AreFrontOf};
 
 use crate::finding::Finding;
-use crate::parts::check_pages;
+use crate::parts::check_listed;
 use crate::parts_fault::PartsFault;
 use crate::verdict::{Reason, Verdict};
 use byteorder::{BigEndian, ByteOrder};
@@ -69,7 +69,7 @@ fn examine_counted(
     requires counted { length pages.now ≡ header.now.pages }
     ensures { IfOk result (IsRightOfPages header.now pages.now) }
 {
-    match check_pages(alloc, pages, header) {
+    match check_listed(alloc, pages, header) {
         Ok(()) => Ok(Finding::Sound {
             records: header.records,
             pages: header.pages,

@@ -14,14 +14,14 @@ ghost use Rattle.file_checker.specs.RowFaults.{IsEntryFault, IsRowFault, TellsOf
 ghost use Rattle.file_checker.specs.Search.{IsPrimeLeaf};
 ghost use Rattle.pages.specs.Source.{KeepsItsPages, OfItsPages};
 
-use crate::entry::{entry, place_in};
+use crate::entry::{entry_copied, place_in};
 use crate::heap_slots::check_slots;
+use crate::lent_pages::LentPages;
 use crate::record::stored_at;
 use crate::row::{is_row, value};
 use crate::row_fault::RowFault;
 use open_file::OpenFile;
 use page_walks::{Leaf, LeafSpot};
-use pages::{PAGE_SIZE, PageSource};
 use std::alloc::Global;
 
 /// No marks, for so many pages.
@@ -65,7 +65,7 @@ fn is_marked(marks: &[bool], n: u32) -> bool
 }
 
 /// The entry of the prime index leads to a row that has its value, in one of the marked pages.
-fn leads_to_row<P: PageSource>(
+fn leads_to_row<P: LentPages>(
     pages: &mut P,
     file: &OpenFile,
     marks: &[bool],
@@ -78,14 +78,12 @@ fn leads_to_row<P: PageSource>(
         (λ list. LeadsAhead file.now list marks.now spot → IsTrue result) }
     ensures before { KeepsItsPages P.has pages.old pages.new }
 {
-    let mut prime_frame = [0; PAGE_SIZE];
-    let mut frame = [0; PAGE_SIZE];
     let width = file.prime().width as usize;
-    let Some(entry) = entry(pages, file.prime().tree.shape(), spot, &mut prime_frame) else {
+    let Some(entry) = entry_copied(pages, file.prime().tree.shape(), spot) else {
         return false;
     };
-    let place = place_in(entry, width);
-    let Some(stored) = stored_at(pages, file, place, &mut frame) else {
+    let place = place_in(&entry, width);
+    let Some(stored) = stored_at(pages, file, place) else {
         return false;
     };
     is_marked(marks, place.page)
@@ -94,7 +92,7 @@ fn leads_to_row<P: PageSource>(
 }
 
 /// Each entry of the leaf of the prime index leads to a row that has its value, in one of the marked pages.
-fn check_leaf<P: PageSource>(
+fn check_leaf<P: LentPages>(
     pages: &mut P,
     file: &OpenFile,
     marks: &[bool],
@@ -124,7 +122,7 @@ fn check_leaf<P: PageSource>(
 
 /// Each entry of these leaves of the prime index leads to a row that has its value, in one of the
 /// marked pages.
-fn check_leaves<P: PageSource>(
+fn check_leaves<P: LentPages>(
     pages: &mut P,
     file: &OpenFile,
     marks: &[bool],
@@ -147,7 +145,7 @@ fn check_leaves<P: PageSource>(
 }
 
 /// Compares the prime index with the records, by marks on the heap's own pages.
-fn compare<P: PageSource>(
+fn compare<P: LentPages>(
     pages: &mut P,
     file: &OpenFile,
     own: &[u32],
@@ -179,7 +177,7 @@ fn compare<P: PageSource>(
 ///
 /// Memory; Index, where they do not agree, at an entry that does not lead to a row that has its
 /// value, or at a slot in use that has no entry.
-pub fn check_rows<P: PageSource>(
+pub fn check_rows<P: LentPages>(
     alloc: Global,
     pages: &mut P,
     count: usize,

@@ -1,21 +1,27 @@
 //! What a slot holds, in the pages of a file.
 
-ghost use Rattle.std.specs.Prelude.{◌≡◌, ◌+◌, ◌≤◌, ◌<◌, IfSome, length};
+ghost use Rattle.std.specs.Prelude.{◌≡◌, ◌+◌, ◌≤◌, ◌<◌, IfSome, length, option_map};
 ghost use Rattle.std.specs.Option.{option_copied};
+ghost use Rattle.std.specs.Borrow.{sem};
 ghost use Rattle.record_heap.specs.Slot.{room, size, length_in_slot, used_in};
 ghost use Rattle.record_heap.specs.Slots.{slot_at};
-ghost use Rattle.record_heap.specs.Standing.{slot_shape, slot_off};
-ghost use Rattle.pages.specs.PageList.{pages_in};
+ghost use Rattle.record_heap.specs.Standing.{slot_shape};
 ghost use Rattle.open_file.specs.Stands.{IsShaped};
 ghost use Rattle.open_file.specs.Fields.{heap_of};
 ghost use Rattle.file_checker.specs.Leading.{IsStoredRecord};
+ghost use Rattle.file_checker.specs.Lent.{IsLentSlot, prime_value_off};
+ghost use Rattle.file_checker.specs.Lending.{LendsOfItsPages};
 ghost use Rattle.pages.specs.Source.{KeepsItsPages, OfItsPages};
 
 use crate::entry::bytes_fit;
+use crate::lent_pages::LentPages;
+use crate::row::value;
 use byteorder::{BigEndian, ByteOrder};
 use open_file::OpenFile;
-use pages::{PAGE_SIZE, PageSource};
+use pages::PAGE_SIZE;
 use record_heap::{Place, SlotShape};
+use tree_node::Entry;
+use tree_search::fill;
 
 /// The mark of a slot in use.
 const USED: u8 = 1;
@@ -65,30 +71,37 @@ fn slot(page: &[u8; PAGE_SIZE], shape: SlotShape, i: usize) -> &[u8]
     &page[at..at + size]
 }
 
-/// The stamps and the record at a place, where it is in use. Its page is read into `frame`.
-pub fn stored_at<'a, P: PageSource>(
-    pages: &mut P,
+/// The stamps and the record at a place, where it is in use, in its page, which is lent.
+pub fn stored_at<'a, P: LentPages>(
+    pages: &'a mut P,
     file: &OpenFile,
     place: Place,
-    frame: &'a mut [u8; PAGE_SIZE],
 ) -> Option<&'a [u8]>
     requires { IsShaped file.now }
-    ensures value { OfItsPages P.has pages.new
-        (λ list. option_copied result ≡ slot_off (heap_of file.now) (pages_in list) place) }
+    ensures* lends { sem 𝓛 (LendsOfItsPages P.row P.has pages.entry (IsLentSlot file.now place result)) }
     ensures within { IfSome result (λ stored. place.slot < room (slot_shape (heap_of file.now))) }
     ensures fits { IfSome result (λ stored. IsStoredRecord file.now stored.now) }
-    ensures before { KeepsItsPages P.has pages.old pages.new }
 {
     let shape = file.heap().shape();
     let i = place.slot as usize;
     if i >= shape.room() {
         return None;
     }
-    let Some(page) = pages.page(place.page) else {
-        return None;
-    };
-    *frame = page;
-    let stored = stored_in(slot(frame, shape, i), shape)?;
+    let page = pages.lend(place.page)?;
+    let stored = stored_in(slot(page, shape, i), shape)?;
     bytes_fit(stored);
     Some(stored)
+}
+
+/// The value of the prime key of the record at a place, where it is in use, copied.
+pub fn prime_value_at<P: LentPages>(pages: &mut P, file: &OpenFile, place: Place) -> Option<Entry>
+    requires { IsShaped file.now }
+    ensures value { OfItsPages P.has pages.new (λ list. option_map (λ value. value.items) result
+        ≡ prime_value_off file.now list place) }
+    ensures before { KeepsItsPages P.has pages.old pages.new }
+{
+    let stored = stored_at(pages, file, place)?;
+    let mut copied = Entry::new();
+    fill(&mut copied, value(file, stored, 0));
+    Some(copied)
 }

@@ -128,11 +128,17 @@ fn makes(
     held.close(shelf).expect(rt, "closed");
 }
 
-/// The bytes of a file that was closed with records of so many numbers, but for the first ones, which were
+/// A shelf with a file that was closed with records of so many numbers, but for the first ones, which were
 /// removed.
-pub fn made(rt: &impl Abort, alloc: Global, count: u32, removed: u32) -> Vec<u8> {
+pub fn made_shelf(rt: &impl Abort, alloc: Global, count: u32, removed: u32) -> MemShelf {
     let schema = Schema::from_parts(LENGTH, LENGTH, &KEYS).expect(rt, "a schema");
     let mut shelf = MemShelf::new(alloc);
     makes(rt, alloc, &mut shelf, &schema, count, removed);
+    shelf
+}
+
+/// The bytes of such a file.
+pub fn made(rt: &impl Abort, alloc: Global, count: u32, removed: u32) -> Vec<u8> {
+    let mut shelf = made_shelf(rt, alloc, count, removed);
     bytes_of(rt, alloc, &mut shelf)
 }

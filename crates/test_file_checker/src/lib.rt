@@ -26,3 +26,5 @@ mod made;
 mod readers;
 #[cfg(test)]
 mod second_reader;
+#[cfg(test)]
+mod units;

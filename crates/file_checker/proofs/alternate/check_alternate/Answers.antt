@@ -16,7 +16,7 @@ returns-clause-compares g c = λ list has.
     let primes = spots_in c.args.primes.now in
     let spots = spots_in c.args.leaves.now in
     record {
-      stands = alternate_stands file list primes c.args.index spots (each_in (HasRow file list primes c.args.index) c.args.leaves.now (c.in_ok-check_leaves.ensures.checks list has).stands) c.requires.many (c.requires.rises list (c.check_leaves.ensures.before list has));
+      stands = alternate_stands file list primes c.args.index spots (each_in (HasRow file list primes c.args.index) c.args.leaves.now (c.in_ok-check_leaves.ensures.checks list has).stands) (c.requires.many list (c.check_leaves.ensures.before list has)) (c.requires.rises list (c.check_leaves.ensures.before list has));
       refused = tt;
       told = tt;
     }

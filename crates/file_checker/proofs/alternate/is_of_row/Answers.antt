@@ -5,8 +5,7 @@ use Rattle.std.proofs.lemmas.Slice.Eq.{bytes_eq-Decides}
 use Rattle.byteorder.specs.Endian.{big_number}
 use Rattle.pages.specs.PageList.{pages_in}
 use Rattle.record_heap.specs.Standing.{slot_off}
-use Rattle.key_index.specs.Stored.{prime_entry_in}
-use Rattle.open_file.specs.Fields.{heap_of, prime_index_of}
+use Rattle.open_file.specs.Fields.{heap_of}
 use Rattle.open_file.proofs.PartsLemmas.{from_eq}
 use Rattle.bplus_tree.specs.Fields.{tree_shape}
 use Rattle.file_checker.specs.Rows.{place_at}
@@ -22,9 +21,9 @@ returns-then-read_u64-stamp-clause-entry g c = λ list has yes. elim c.if-eq.bra
       let file = c.args.file.now in
       let e = c.args.entry_bytes.now in
       let width = c.args.index.width in
-      let place : place_at file list c.args.leader ≡ c.place_in.result = ap (λ (x : List ℕ). (prime_entry_in (prime_index_of file).width x).place) (sym (rw c.prime.ensures at (rw c.shape.ensures at (c.in-Some.ensures.value list (c.stored_at.ensures.before list has))))) ∙ sym (rw c.prime-2.ensures at c.place_in.ensures) in
+      let place : place_at file list c.args.leader ≡ c.in-Some.place = sym (c.in-Some.ensures.place list (c.stored_at.follows.holds-at-none.1 list has)) in
       let there : slot_off (heap_of file) (pages_in list) (place_at file list c.args.leader) ≡ Some c.in-Some-stored_at.stored.now =
-      ap (slot_off (heap_of file) (pages_in list)) place ∙ sym (c.stored_at.ensures.value list has) ∙ ap (λ (o : Option (Bor (List ℕ))). option_copied o) c.in-Some-stored_at.is in
+      ap (slot_off (heap_of file) (pages_in list)) place ∙ sym (c.stored_at.follows.holds-at-none.0 list has) ∙ ap (λ (o : Option (Bor (List ℕ))). option_copied o) c.in-Some-stored_at.is in
       let value = (bytes_eq-Decides (take width e) c.value.result.now).0 (sym c.eq.ensures ∙ w.if-eq.true) in
       let number = ap (big_number 8) (sym (rest_from width e)) ∙ sym w.read_u64.ensures in
       let stamp = from_eq w.read_u64.result w.stamp.result (sym w.value-is ∙ c.if-read_u64-stamp.true) in
@@ -40,9 +39,9 @@ returns-then-read_u64-stamp-clause-refused g c = λ list has its is.
     let file = c.args.file.now in
     let e = c.args.entry_bytes.now in
     let width = c.args.index.width in
-    let place : place_at file list c.args.leader ≡ c.place_in.result = ap (λ (x : List ℕ). (prime_entry_in (prime_index_of file).width x).place) (sym (rw c.prime.ensures at (rw c.shape.ensures at (c.in-Some.ensures.value list (c.stored_at.ensures.before list has))))) ∙ sym (rw c.prime-2.ensures at c.place_in.ensures) in
+    let place : place_at file list c.args.leader ≡ c.in-Some.place = sym (c.in-Some.ensures.place list (c.stored_at.follows.holds-at-none.1 list has)) in
     let there : slot_off (heap_of file) (pages_in list) (place_at file list c.args.leader) ≡ Some c.in-Some-stored_at.stored.now =
-    ap (slot_off (heap_of file) (pages_in list)) place ∙ sym (c.stored_at.ensures.value list has) ∙ ap (λ (o : Option (Bor (List ℕ))). option_copied o) c.in-Some-stored_at.is in
+    ap (slot_off (heap_of file) (pages_in list)) place ∙ sym (c.stored_at.follows.holds-at-none.0 list has) ∙ ap (λ (o : Option (Bor (List ℕ))). option_copied o) c.in-Some-stored_at.is in
     let parts = entry_parts file list c.args.index c.args.leader e c.in-Some-stored_at.stored.now there is in
     let prime = rest_from (width + 8) e ∙ parts.prime ∙ sym c.value-then-read_u64-stamp.ensures in
     c.eq-then-read_u64-stamp.ensures ∙ (bytes_eq-Decides _ _).1 prime
@@ -52,9 +51,9 @@ returns-else-read_u64-stamp-clause-refused g c = λ list has its is.
     let file = c.args.file.now in
     let e = c.args.entry_bytes.now in
     let width = c.args.index.width in
-    let place : place_at file list c.args.leader ≡ c.place_in.result = ap (λ (x : List ℕ). (prime_entry_in (prime_index_of file).width x).place) (sym (rw c.prime.ensures at (rw c.shape.ensures at (c.in-Some.ensures.value list (c.stored_at.ensures.before list has))))) ∙ sym (rw c.prime-2.ensures at c.place_in.ensures) in
+    let place : place_at file list c.args.leader ≡ c.in-Some.place = sym (c.in-Some.ensures.place list (c.stored_at.follows.holds-at-none.1 list has)) in
     let there : slot_off (heap_of file) (pages_in list) (place_at file list c.args.leader) ≡ Some c.in-Some-stored_at.stored.now =
-    ap (slot_off (heap_of file) (pages_in list)) place ∙ sym (c.stored_at.ensures.value list has) ∙ ap (λ (o : Option (Bor (List ℕ))). option_copied o) c.in-Some-stored_at.is in
+    ap (slot_off (heap_of file) (pages_in list)) place ∙ sym (c.stored_at.follows.holds-at-none.0 list has) ∙ ap (λ (o : Option (Bor (List ℕ))). option_copied o) c.in-Some-stored_at.is in
     let parts = entry_parts file list c.args.index c.args.leader e c.in-Some-stored_at.stored.now there is in
     elim c.if-eq.branch [
       | then-eq w ↦
