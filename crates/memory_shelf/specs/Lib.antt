@@ -5,3 +5,4 @@ pub mod MemFiles
 pub mod MemShelves
 pub mod Fuses
 pub mod FusedCalls
+pub mod MemoryPages

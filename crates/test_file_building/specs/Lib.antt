@@ -1,2 +1,1 @@
-pub mod MemoryPages
 pub mod Records

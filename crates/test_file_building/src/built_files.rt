@@ -1,8 +1,8 @@
 //! Files built from records, and records of which none is built.
 
 use crate::checks::assert_equal;
-use crate::memory_pages::{MemoryPages, new_pages};
 use file_building::{Built, FileBuilder, Pushed};
+use memory_shelf::MemoryPages;
 use record_layout::{KeyKind, KeyPart, Schema};
 use std::alloc::Global;
 use std::process::Abort;
@@ -45,7 +45,7 @@ fn pushes(
 
 /// How many records the file has that is built from these; None where two of them clash.
 fn built(rt: &impl Abort, alloc: Global, records: &[[u8; 5]]) -> Option<u64> {
-    let mut pages = new_pages(rt, alloc, 0, 1_000);
+    let mut pages = MemoryPages::new(alloc, 0, 1_000).expect(rt, "memory");
     let mut builder = FileBuilder::new(alloc, &schema(rt));
     for record in records {
         let pushed = pushes(rt, &mut builder, &mut pages, record);
@@ -74,7 +74,7 @@ fn values_that_are_to_be_unique_clash(rt: HostRuntime) {
 #[test]
 fn a_record_out_of_order_is_told(rt: HostRuntime) {
     let alloc = rt.alloc();
-    let mut pages = new_pages(&rt, alloc, 0, 1_000);
+    let mut pages = MemoryPages::new(alloc, 0, 1_000).expect(&rt, "memory");
     let mut builder = FileBuilder::new(alloc, &schema(&rt));
     let first = pushes(&rt, &mut builder, &mut pages, b"02AAx");
     assert_equal(&rt, first, Pushed::Done);

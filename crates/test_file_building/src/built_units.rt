@@ -166,7 +166,11 @@ fn fails_at(rt: &impl Abort, alloc: Global, bytes: &[u8], at: u64) {
     let built = builds(rt, alloc, &mut shelf, bytes, ENOUGH);
     let told = matches!(
         built,
-        Err(Fault::Device) | Ok(FileBuilt::Unclosed { records: 40 })
+        Err(Fault::Device)
+            | Ok(FileBuilt::Unclosed {
+                records: 40,
+                fault: Fault::Device
+            })
     );
     assert_equal_for(rt, at, told, true);
     let mut shelf = shelf.into_inner();

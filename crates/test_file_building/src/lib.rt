@@ -14,8 +14,6 @@ mod checks;
 #[cfg(test)]
 mod copies;
 #[cfg(test)]
-mod memory_pages;
-#[cfg(test)]
 mod parts;
 #[cfg(test)]
 mod records;

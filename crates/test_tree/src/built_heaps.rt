@@ -2,8 +2,9 @@
 //! that are full and the last one, and the heap that comes out is one like any other.
 
 use crate::checks::{assert_equal, assert_equal_for};
-use crate::memory_pages::{MemoryPages, new_pages};
+use crate::memory::new_pages;
 use io_state::Fault;
+use memory_shelf::MemoryPages;
 use record_heap::{Heap, HeapBuilder, Place, SlotShape};
 use std::alloc::Global;
 use std::process::Abort;

@@ -2,9 +2,10 @@
 //! that it came with, and none beside them.
 
 use crate::checks::{assert_equal, assert_equal_for};
-use crate::memory_pages::{MemoryPages, new_pages};
+use crate::memory::new_pages;
 use io_state::Fault;
 use key_index::{AltEntry, AltIndex, PrimeIndex};
+use memory_shelf::MemoryPages;
 use record_heap::Place;
 use std::alloc::Global;
 use std::process::Abort;

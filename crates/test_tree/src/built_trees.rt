@@ -2,8 +2,9 @@
 //! nodes.
 
 use crate::checks::{assert_equal, assert_equal_for};
-use crate::memory_pages::{MemoryPages, new_pages};
+use crate::memory::new_pages;
 use bplus_tree::Tree;
+use memory_shelf::MemoryPages;
 use std::alloc::Global;
 use std::process::Abort;
 use tree_building::TreeBuilder;

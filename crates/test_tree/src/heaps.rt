@@ -2,10 +2,12 @@
 //! succeed.
 
 use crate::checks::{assert_equal, assert_equal_for};
-use crate::memory_pages::{MemoryPages, new_pages, page_of, put_byte};
+use crate::memory::{new_pages, page_of, put_byte};
 use io_state::Fault;
-use pages::{FaultPlace, PageFault, WalkFault};
-use record_heap::{Heap, Place, SlotShape, heap_laws, walk_heap};
+use memory_shelf::MemoryPages;
+use page_walks::walk_heap;
+use pages::{FaultPlace, PageFault, PageList, WalkFault};
+use record_heap::{Heap, Place, SlotShape, heap_laws};
 use std::alloc::Global;
 use std::process::Abort;
 
@@ -357,10 +359,13 @@ fn a_walk_finds_the_pages_of_a_heap(rt: HostRuntime) {
     let mut pages = new_pages(&rt, rt.alloc(), 0, 2);
     let heap = two_pages(&rt, rt.alloc(), &mut pages);
     let mut reached = [false; 3];
-    let own = walk_heap(rt.alloc(), &pages.pages, &heap, &mut reached).expect(&rt, "its pages");
+    let mut list = PageList {
+        pages: &pages.pages,
+    };
+    let own = walk_heap(rt.alloc(), &mut list, &heap, &mut reached).expect(&rt, "its pages");
     assert_equal(&rt, own.as_slice(), [2, 1].as_slice());
     assert_equal(&rt, reached, [false, true, true]);
-    let again = walk_heap(rt.alloc(), &pages.pages, &heap, &mut reached).err();
+    let again = walk_heap(rt.alloc(), &mut list, &heap, &mut reached).err();
     let fault = WalkFault::of_page(PageFault::Shared, 2);
     assert_equal(&rt, again, Some(fault));
 }
@@ -371,7 +376,10 @@ fn a_walk_finds_what_is_lost(rt: HostRuntime) {
     let heap = two_pages(&rt, rt.alloc(), &mut pages);
     for &(n, at, byte, fault, place, what) in &DAMAGES {
         let was = put_byte(&rt, &mut pages.pages, n, at, byte);
-        let found = walk_heap(rt.alloc(), &pages.pages, &heap, &mut [false; 3]);
+        let mut list = PageList {
+            pages: &pages.pages,
+        };
+        let found = walk_heap(rt.alloc(), &mut list, &heap, &mut [false; 3]);
         assert_equal_for(&rt, what, found.err(), Some(WalkFault::At(fault, place)));
         put_byte(&rt, &mut pages.pages, n, at, was);
     }
@@ -379,7 +387,10 @@ fn a_walk_finds_what_is_lost(rt: HostRuntime) {
 
 // What the header tells of a heap of one page is told at page 0.
 fn begins_wrongly(rt: &impl Abort, alloc: Global, pages: &MemoryPages, heap: Heap) {
-    let found = walk_heap(alloc, &pages.pages, &heap, &mut [false; 2]).err();
+    let mut list = PageList {
+        pages: &pages.pages,
+    };
+    let found = walk_heap(alloc, &mut list, &heap, &mut [false; 2]).err();
     let fault = WalkFault::of_page(PageFault::Chain, 0);
     assert_equal_for(rt, heap, found, Some(fault));
 }

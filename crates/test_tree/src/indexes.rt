@@ -2,12 +2,13 @@
 //! call can succeed.
 
 use crate::checks::{assert_equal, assert_that};
-use crate::memory_pages::{MemoryPages, new_pages, page_of};
+use crate::memory::{new_pages, page_of};
 use io_state::Fault;
 use key_index::{
     AltCursor, AltEntry, AltFirst, AltIndex, PrimeCursor, PrimeEntry, PrimeIndex, alt_laws,
     prime_laws,
 };
+use memory_shelf::MemoryPages;
 use record_heap::Place;
 use std::process::Abort;
 

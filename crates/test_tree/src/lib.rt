@@ -4,7 +4,7 @@
 //! long series beside a list in order, pages are compared with the bytes that the format gives, and
 //! each damage of a page is told by its fault.
 //!
-//! Read `memory_pages` for the pages, then `trees`.
+//! Read `memory` for the pages, then `trees`.
 #![tactic(auto)]
 
 #[cfg(test)]
@@ -22,7 +22,7 @@ mod indexes;
 #[cfg(test)]
 mod marks;
 #[cfg(test)]
-mod memory_pages;
+mod memory;
 #[cfg(test)]
 mod trees;
 #[cfg(test)]

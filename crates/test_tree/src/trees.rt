@@ -2,9 +2,10 @@
 //! beside a list in order.
 
 use crate::checks::{assert_equal, assert_equal_for, assert_that};
-use crate::memory_pages::{MemoryPages, new_pages, page_of};
+use crate::memory::{new_pages, page_of};
 use bplus_tree::{Cursor, Tree, have_many_entries, reads_its_entries};
 use io_state::Fault;
+use memory_shelf::MemoryPages;
 use std::alloc::Global;
 use std::process::Abort;
 use tree_node::{Entry, InnerView, LeafView, NodeShape, is_inner, is_leaf};

@@ -2,7 +2,7 @@
 //! byte by byte, as the format says.
 
 use crate::checks::{assert_equal, assert_equal_for, assert_that};
-use crate::memory_pages::{new_pages, put_byte};
+use crate::memory::{new_pages, put_byte};
 use bplus_tree::Tree;
 use page_walks::{Leaf, LeafSpot, trees_stay, walk_free, walk_tree, walks_part_the_file};
 use pages::{FaultPlace, PageFault, PageList, WalkFault, all_marked, mark};

@@ -2,8 +2,7 @@
 
 use io_state::Fault;
 use pages::Pages;
-use std::alloc::Global;
-use std::process::Abort;
+use std::alloc::{AllocError, Global};
 
 /// Pages by number, the free ones among them, and how many can be taken yet. Page 0 is never taken.
 #[derive(Drop)]
@@ -14,6 +13,16 @@ pub struct MemoryPages {
 }
 
 impl MemoryPages {
+    /// Page 0 and so many others, which are all taken, and room for so many more.
+    pub fn new(alloc: Global, others: usize, left: u64) -> Result<MemoryPages, AllocError> {
+        let pages = vec![in alloc; [0; 4096]; others.saturating_add(1)]?;
+        Ok(MemoryPages {
+            pages,
+            free: Vec::new(alloc),
+            left,
+        })
+    }
+
     /// How many pages are taken.
     pub fn taken(&self) -> usize {
         self.pages
@@ -23,38 +32,12 @@ impl MemoryPages {
     }
 }
 
-/// Page 0 and so many others, which are all taken, and room for so many more.
-pub fn new_pages(rt: &impl Abort, alloc: Global, others: usize, left: u64) -> MemoryPages {
-    let mut pages = Vec::new(alloc);
-    for _ in 0..others.saturating_add(1) {
-        pages.push([0; 4096]).expect(rt, "memory");
-    }
-    MemoryPages {
-        pages,
-        free: Vec::new(alloc),
-        left,
-    }
-}
-
-/// The bytes of a page.
-pub fn page_of<'a>(rt: &impl Abort, pages: &'a MemoryPages, n: u32) -> &'a [u8; 4096] {
-    pages.pages.get(n as usize).expect(rt, "a page")
-}
-
-/// Puts another byte into a page, and answers the one that stood there.
-pub fn put_byte(rt: &impl Abort, pages: &mut [[u8; 4096]], n: usize, at: usize, byte: u8) -> u8 {
-    assert!(rt; n < pages.len() && at < 4096);
-    let was = pages[n][at];
-    pages[n][at] = byte;
-    was
-}
-
 // Nothing is claimed of what the pages hold: honesty is never true here, and what a test sees is what
 // it asks. Where memory for a page lacks, the device has failed.
 impl Pages for MemoryPages {
     ghost use Rattle.std.specs.Prelude.{◌≡◌, ⊤, refl};
     ghost use Rattle.std.proofs.Common.{◌∙◌, le_refl};
-    ghost use Rattle.test_tree.specs.MemoryPages.{unclaimed};
+    ghost use Rattle.memory_shelf.specs.MemoryPages.{unclaimed};
 
     ghost shown = { record {
       state = λ p. unclaimed p.left;
